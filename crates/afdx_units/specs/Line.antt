@@ -1,0 +1,18 @@
+-- Sizes of frames, and the time that they take on a line.
+use Rattle.std.specs.Prelude.{ℕ, ◌+◌, ◌*◌}
+use Rattle.afdx_units.specs.declared.line.Speed.{Speed}
+use Rattle.afdx_units.specs.declared.line.Speed.TheVariants.{Ten, Hundred}
+
+-- profile: a capture leaves out the 4 bytes of the frame check sequence, which a frame's size counts
+abbrev pub size_of : ℕ → ℕ
+size_of captured = captured + 4
+
+-- IEEE 802.3: nanoseconds that the 8 bits of a byte take, at 10 and at 100 Mbit/s
+abbrev pub tick_of : Speed → ℕ
+tick_of Ten = 800
+tick_of Hundred = 80
+
+-- IEEE 802.3: nanoseconds for which a frame occupies a line; 7 bytes of preamble, 1 of start
+-- delimiter and 12 of gap to the next frame go with each
+abbrev pub cost_of : Speed → ℕ → ℕ
+cost_of speed size = (size + 20) * tick_of speed

@@ -1,0 +1,15 @@
+//! The units of the switch: instants, bandwidth allocation gaps, line speeds, sizes and line times.
+//!
+//! Every call here is O(1), takes no memory and always answers.
+#![tactic(auto)]
+
+mod bag;
+mod line;
+mod stamp;
+
+pub use bag::Bag;
+pub use line::{Priority, Speed, cost, size};
+pub use stamp::Stamp;
+
+#[cfg(test)]
+mod tests;
