@@ -92,6 +92,6 @@ impl Stamp {
     pub fn late(self) -> bool
         ensures { IsTrue result ↔ (last_second ≤ self) }
     {
-        self.ns >= LAST_SECOND
+        LAST_SECOND <= self.ns
     }
 }

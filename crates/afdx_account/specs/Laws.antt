@@ -1,0 +1,28 @@
+-- The laws of policing, over the definitions alone.
+use Rattle.std.specs.Prelude.{◌≡◌, ◌↔◌, ℕ, List, [], ◌∷◌, ◌++◌, map, IsTrue, if◌then◌else◌}
+use Rattle.afdx_account.specs.declared.frame.Frame.{Frame}
+use Rattle.afdx_account.specs.Policing.{Terms, Conforms, conforms, passed_of, passed_frames}
+use Rattle.afdx_account.specs.Level.{InOrder, stepped}
+
+-- a full account that goes step by step passes exactly the frames that keep to their allowances in all windows
+abbrev pub StepsPassWhatConforms : Type 0
+StepsPassWhatConforms = (t : Terms) (frames : List Frame) → InOrder 0 frames
+    → stepped t t.cap 0 frames ≡ passed_frames t frames
+
+-- the test says whether a frame conforms
+abbrev pub ConformingIsTested : Type 0
+ConformingIsTested = (t : Terms) (passed : List Frame) (f : Frame) → IsTrue (conforms t passed f) ↔ Conforms t passed f
+
+-- of a list of things that carry frames, the next one joins those passed so far exactly where its frame
+-- conforms to theirs
+abbrev pub NextJoinsWhereItConforms : Type 0 → Type 0
+NextJoinsWhereItConforms A = (frame_of : A → Frame) (t : Terms) (xs : List A) (x : A)
+    → passed_of frame_of t (xs ++ x ∷ [])
+    ≡ (if conforms t (map frame_of (passed_of frame_of t xs)) (frame_of x)
+    then passed_of frame_of t xs ++ x ∷ []
+    else passed_of frame_of t xs)
+
+-- the frames of what is passed of a list are the frames passed of its frames
+abbrev pub PassedByTheirFrames : Type 0 → Type 0
+PassedByTheirFrames A = (frame_of : A → Frame) (t : Terms) (xs : List A)
+    → map frame_of (passed_of frame_of t xs) ≡ passed_frames t (map frame_of xs)

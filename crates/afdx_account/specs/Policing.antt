@@ -1,0 +1,63 @@
+-- Which frames of a link its policing passes: an arrival curve over all windows of the frames that were passed.
+use Rattle.std.specs.Prelude.{◌≡◌, ℕ, ◌+◌, ◌*◌, ◌-◌, ◌/◌, ◌≤◌, List, [], ◌∷◌, ◌++◌, Bool, ◌&&◌, nat_le, if◌then◌else◌}
+use Rattle.afdx_units.specs.declared.bag.Bag.{Bag}
+use Rattle.afdx_units.specs.declared.line.Speed.{Speed}
+use Rattle.afdx_units.specs.Time.{bag_ms, bag_ns}
+use Rattle.afdx_units.specs.Line.{tick_of}
+use Rattle.afdx_account.specs.declared.frame.Frame.{Frame}
+
+-- profile: what a link may send, in units: at most `cap` at once, `rate` more in each ns, and a price for each size
+pub record Terms : Type 0 where
+  pub cap : ℕ
+  pub rate : ℕ
+  pub price : ℕ → ℕ
+
+-- profile: policing by bytes, where a byte is as many units as the gap has ns;
+-- Smax units are credited in each ns, and at most Smax * (BAG + J) units are held
+abbrev pub byte_terms : ℕ → Bag → ℕ → Terms
+byte_terms max_size bag jitter = record {
+  cap = max_size * (bag_ns bag + jitter);
+  rate = max_size;
+  price = λ size. size * bag_ns bag;
+}
+
+-- profile: line time that a unit stands for, in the 2,048,000,000th part of a ns; the factor 21 / 16 is there because
+-- size + 20 <= size * 21 / 16 for sizes of at least 64
+abbrev pub byte_weight : Bag → Speed → ℕ
+byte_weight bag speed = 21 * tick_of speed * (128 / bag_ms bag)
+
+-- the units that these frames cost together
+abbrev pub paid : Terms → List Frame → ℕ
+paid t [] = 0
+paid t (f ∷ fs) = t.price f.size + paid t fs
+
+-- the units that may be sent within a window of so many ns
+abbrev pub allowance : Terms → ℕ → ℕ
+allowance t window = t.cap + t.rate * window
+
+-- a frame conforms to the frames passed before it where each window that ends with it, and begins
+-- with any of them or with itself, keeps to its allowance
+abbrev pub Conforms : Terms → List Frame → Frame → Type 0
+Conforms t passed f = (before : List Frame) (first : Frame) (after : List Frame)
+    → passed ++ f ∷ [] ≡ before ++ first ∷ after
+    → paid t (first ∷ after) ≤ allowance t (f.stamp - first.stamp)
+
+-- the same as a test
+abbrev pub conforms : Terms → List Frame → Frame → Bool
+conforms t [] f = nat_le (t.price f.size) (allowance t 0)
+conforms t (g ∷ gs) f = nat_le (paid t (g ∷ gs) + t.price f.size) (allowance t (f.stamp - g.stamp)) && conforms t gs f
+
+-- those of a list, taken in order, whose frames conform to the frames passed before them; some were passed already
+abbrev pub passed_after : {A : Type 0} → (A → Frame) → Terms → List Frame → List A → List A
+passed_after frame_of t passed [] = []
+passed_after frame_of t passed (x ∷ xs) =
+    let joins = conforms t passed (frame_of x) in
+    (if joins then x ∷ [] else []) ++ passed_after frame_of t (if joins then passed ++ frame_of x ∷ [] else passed) xs
+
+-- those of a list, in order, whose frames are passed
+abbrev pub passed_of : {A : Type 0} → (A → Frame) → Terms → List A → List A
+passed_of frame_of t xs = passed_after frame_of t [] xs
+
+-- the frames that are passed
+abbrev pub passed_frames : Terms → List Frame → List Frame
+passed_frames t frames = passed_of (λ f. f) t frames

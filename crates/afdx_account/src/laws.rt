@@ -1,0 +1,25 @@
+//! Laws over the definitions: functions that do nothing, whose contracts are the laws.
+
+ghost use Rattle.afdx_account.specs.Laws.{StepsPassWhatConforms, ConformingIsTested, NextJoinsWhereItConforms, PassedByTheirFrames};
+
+/// A full account that goes step by step, over frames whose stamps don't fall, passes exactly the frames
+/// that keep to their allowances in all windows.
+pub fn steps_pass_what_conforms()
+    ensures { StepsPassWhatConforms }
+{}
+
+/// The test that the definitions compute with says whether a frame conforms: whether each window that
+/// ends with it keeps to its allowance.
+pub fn conforming_is_tested()
+    ensures { ConformingIsTested }
+{}
+
+/// Of things that carry frames, the next one joins those passed so far exactly where its frame conforms.
+pub fn next_joins_where_it_conforms<T>()
+    ensures { NextJoinsWhereItConforms T }
+{}
+
+/// The frames of what is passed of a list are the frames passed of its frames.
+pub fn passed_by_their_frames<T>()
+    ensures { PassedByTheirFrames T }
+{}

@@ -1,0 +1,18 @@
+//! Policing accounts: which frames of a virtual link are passed (ARINC 664 Part 7's policing; the account
+//! itself is this project's profile).
+//!
+//! `specs/Policing.antt` defines the passed frames by the windows over one link's own frames. An account
+//! keeps one level; its `offer` is proved to answer by that definition. Every call is O(1) and takes no memory.
+#![tactic(auto)]
+
+mod byte;
+mod frame;
+pub mod laws;
+mod meter;
+
+pub use byte::ByteAccount;
+pub use frame::Frame;
+pub use meter::Meter;
+
+#[cfg(test)]
+mod tests;

@@ -1,0 +1,78 @@
+//! What every account does.
+
+ghost use Rattle.std.specs.Prelude.{◌≡◌, ◌↔◌, ℕ, ◌*◌, ◌-◌, ◌≤◌, List, [], ◌∷◌, ◌++◌, IsTrue, if◌then◌else◌};
+ghost use Rattle.afdx_units.specs.declared.line.Speed.{Speed};
+ghost use Rattle.afdx_units.specs.Line.{cost_of};
+ghost use Rattle.afdx_account.specs.declared.frame.Frame.{Frame};
+ghost use Rattle.afdx_account.specs.Policing.{Terms, conforms, passed_frames};
+ghost use Rattle.afdx_account.specs.Level.{Stands, credited_level};
+
+use afdx_units::{Speed, Stamp};
+
+/// The account of one virtual link: it holds units, is credited over time up to a greatest level, and passes
+/// a frame where its level is at least the frame's price (profile).
+///
+/// Every call is O(1) and takes no memory.
+pub trait Meter {
+    /// Its greatest level, its credit and what frames cost.
+    ghost terms: { Self → Terms };
+
+    /// The instant of the last offer: what was before can no longer be asked.
+    ghost since: { Self → ℕ };
+
+    /// Its level at an instant.
+    ghost level: { Self → ℕ → ℕ };
+
+    /// Line time that a unit stands for, in the 2,048,000,000th part of a nanosecond.
+    ghost weight_of: { Self → Speed → ℕ };
+
+    /// The greatest level, in units.
+    fn cap(&self) -> u64
+        ensures { result ≡ (terms self.now).cap };
+
+    /// Units that are credited in each nanosecond.
+    fn rate(&self) -> u64
+        ensures { result ≡ (terms self.now).rate };
+
+    /// Units that a frame of this size in bytes costs.
+    fn price(&self, size: u32) -> u64
+        ensures { result ≡ (terms self.now).price size };
+
+    /// The level, in units, at an instant that isn't before the last offer.
+    fn level_at(&self, at: Stamp) -> u64
+        requires { since self.now ≤ at }
+        ensures { result ≡ level self.now at };
+
+    /// Line time that a unit stands for, in the 2,048,000,000th part of a nanosecond.
+    fn weight(&self, speed: Speed) -> u64
+        ensures { result ≡ weight_of self.now speed };
+
+    /// Passes a frame of this size in bytes where the level is at least its price, and debits the price;
+    /// otherwise leaves the level alone. Stamps of offers don't go back.
+    fn offer(&mut self, at: Stamp, size: u32) -> bool
+        requires { since self.old ≤ at }
+
+        // The level decides, and is debited where the frame is passed.
+        ensures passed { IsTrue result ↔ ((terms self.old).price size ≤ level self.old at) }
+        ensures level { level self.new at ≡ (if result then level self.old at - (terms self.old).price size else level self.old at) }
+        ensures since { since self.new ≡ at }
+        ensures terms { terms self.new ≡ terms self.old }
+        ensures weight { weight_of self.new ≡ weight_of self.old }
+
+        // Whatever frames were offered to a full account before, the frame is passed exactly where it
+        // conforms to those that were passed.
+        ensures conforming { (frames : List Frame) → Stands (terms self.old) (since self.old) (level self.old (since self.old)) frames
+            → (result ≡ conforms (terms self.old) (passed_frames (terms self.old) frames) (record { stamp = at; size = size }))
+            × Stands (terms self.new) at (level self.new at) (frames ++ record { stamp = at; size = size } ∷ []) };
+
+    /// The level never passes the greatest one.
+    ghost capped: { (m : Self) (at : ℕ) → level m at ≤ (terms m).cap };
+
+    /// Over a gap it is credited, up to the greatest level.
+    ghost credited: { (m : Self) (at later : ℕ) → since m ≤ at → at ≤ later
+        → level m later ≡ credited_level (terms m) (level m at) (later - at) };
+
+    /// What a frame costs pays for its line time.
+    ghost pays: { (m : Self) (speed : Speed) (size : ℕ) → 64 ≤ size
+        → 2048000000 * cost_of speed size ≤ weight_of m speed * (terms m).price size };
+}

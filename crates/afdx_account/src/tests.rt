@@ -1,0 +1,45 @@
+//! Frames of one link and the answers of its account, worked out by hand from the windows.
+
+use super::*;
+use afdx_units::{Bag, Stamp};
+use std::test::Fail;
+
+/// An account of BAG 1 ms, no jitter and frames of at most 1518 bytes.
+fn account() -> ByteAccount
+    ensures { ⟦<ByteAccount as Meter>⟧.since result ≡ 0 }
+{
+    ByteAccount::new(1518, Bag::Ms1, 0)
+}
+
+#[test]
+fn a_nanosecond_early_is_policed(rt: HostRuntime) -> Result<(), Fail> {
+    let mut account = account();
+    let early = Stamp::from_ns(999_999).ok_or("an instant")?;
+    let in_time = Stamp::from_ns(1_000_000).ok_or("an instant")?;
+    assert!(rt; account.offer(Stamp::ZERO, 1518));
+    assert!(rt; !account.offer(early, 1518));
+    assert!(rt; account.offer(in_time, 1518));
+    Ok(())
+}
+
+#[test]
+fn a_full_account_passes_23_small_frames(rt: HostRuntime) {
+    let mut account = account();
+    for number in 1..=24 {
+        assert_eq!(rt;
+            account.offer(Stamp::ZERO, 64),
+            number <= 23,
+            "frame {number}"
+        );
+    }
+}
+
+#[test]
+fn a_long_silence_fills_the_account(rt: HostRuntime) -> Result<(), Fail> {
+    let mut account = account();
+    let late = Stamp::new(4_000_000_000, 0).ok_or("an instant")?;
+    assert!(rt; account.offer(Stamp::ZERO, 1518));
+    assert!(rt; account.offer(late, 1518));
+    assert_eq!(rt; account.level_at(late), 0);
+    Ok(())
+}
