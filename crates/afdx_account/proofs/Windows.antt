@@ -6,9 +6,9 @@ use Rattle.std.proofs.lemmas.List.{append-nil, map-id}
 use Rattle.std.proofs.lemmas.Bool.{cases_Bool, cond_both, leb-true, and_parts}
 use Rattle.std.proofs.lemmas.Bool.Decides.{nat_tests}
 use Rattle.afdx_account.specs.declared.frame.Frame.{Frame}
-use Rattle.afdx_account.specs.Policing.{Terms, paid, allowance, conforms, passed_after, passed_of, passed_frames}
+use Rattle.afdx_account.specs.Policing.{Terms, paid, allowance, conforms, passed_after, passed_frames}
 use Rattle.afdx_account.specs.ByteLaws.{fills}
-use Rattle.afdx_account.specs.Level.{headroom, Stands, credited_level, stepped, InOrder}
+use Rattle.afdx_account.specs.Level.{headroom, Stands, PassesWhatConforms, credited_level, stepped, InOrder}
 
 -- each window from one of these frames up to an instant keeps to its allowance
 abbrev pub Sound : Terms → List Frame → ℕ → Type 0
@@ -220,17 +220,20 @@ steps_on t ps (f ∷ fs) since level k order =
 pub steps_pass : (t : Terms) (fs : List Frame) → InOrder 0 fs → stepped t t.cap 0 fs ≡ passed_frames t fs
 steps_pass t fs order = steps_on t [] fs 0 t.cap (record { early = tt; sound = tt; level_is = refl }) order
 
--- an offer by the numbers that the code has
-pub offered : (t : Terms) (since level : ℕ) (frames : List Frame) (f : Frame) (price now left : ℕ) → since ≤ f.stamp
-    → price ≡ t.price f.size → now ≡ min t.cap (level + t.rate * (f.stamp - since)) → left ≡ cond (nat_le price now) (now - price) now
-    → Stands t since (min t.cap (level + t.rate * (since - since))) frames
-    → (nat_le price now ≡ conforms t (passed_frames t frames) f) × Stands t f.stamp (min t.cap (left + t.rate * (f.stamp - f.stamp))) (frames ++ f ∷ [])
-offered t since level frames f price now left le price-is now-is left-is s =
-    let start = min t.cap (level + t.rate * (since - since)) in
-    let same : now ≡ min t.cap (start + t.rate * (f.stamp - since)) = now-is ∙ fills t.cap t.rate level since since f.stamp (omega arith) le in
-    let test : nat_le price now ≡ nat_le (t.price f.size) (min t.cap (start + t.rate * (f.stamp - since))) = rw (price-is, same) refl in
-    let kept : left ≡ cond (nat_le (t.price f.size) (min t.cap (start + t.rate * (f.stamp - since)))) (min t.cap (start + t.rate * (f.stamp - since)) - t.price f.size) (min t.cap (start + t.rate * (f.stamp - since))) = left-is ∙ rw (price-is, same) refl in
-    let low : left ≤ t.cap = rw left-is (cond_both (nat_le price now) (now - price) now (λ (n : ℕ). n ≤ t.cap) (λ h. omega (arith, now-is)) (λ h. omega (arith, now-is))) in
-    let none : t.rate * (f.stamp - f.stamp) ≡ 0 = ap (λ (n : ℕ). t.rate * n) (let z : f.stamp - f.stamp ≡ 0 = omega arith in z) ∙ omega arith in
-    let still : min t.cap (left + t.rate * (f.stamp - f.stamp)) ≡ left = omega (arith, none, low) in
+-- an offer that answers by the level, and leaves it less the price where it passes
+pub passes_what_conforms : (t : Terms) (since level at size : ℕ) (passes : Bool) (left : ℕ) → since ≤ at
+    → passes ≡ nat_le (t.price size) (credited_level t level (at - since))
+    → left ≡ cond passes (credited_level t level (at - since) - t.price size) (credited_level t level (at - since))
+    → PassesWhatConforms t since (credited_level t level (since - since)) at size passes (credited_level t left (at - at))
+passes_what_conforms t since level at size passes left le passes-is left-is frames s =
+    let f : Frame = record { stamp = at; size = size } in
+    let now = credited_level t level (at - since) in
+    let start = credited_level t level (since - since) in
+    let same : now ≡ credited_level t start (at - since) = fills t.cap t.rate level since since at (omega arith) le in
+    let low : left ≤ t.cap = rw left-is (cond_both passes (now - t.price size) now (λ (n : ℕ). n ≤ t.cap) (λ h. omega arith) (λ h. omega arith)) in
+    let none : t.rate * (at - at) ≡ 0 = ap (λ (n : ℕ). t.rate * n) (let z : at - at ≡ 0 = omega arith in z) ∙ omega arith in
+    let still : credited_level t left (at - at) ≡ left = omega (arith, none, low) in
+    let test : passes ≡ nat_le (t.price size) (credited_level t start (at - since)) = passes-is ∙ ap (nat_le (t.price size)) same in
+    let kept : left ≡ (let there = credited_level t start (at - since) in cond (nat_le (t.price size) there) (there - t.price size) there) =
+    left-is ∙ rw (test, same) refl in
     (test ∙ decides t since start frames f le s, rw (still, kept) (stands_on t since start frames f le s))

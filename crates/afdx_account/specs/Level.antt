@@ -1,8 +1,8 @@
 -- The level of an account, and what it is after a list of frames.
-use Rattle.std.specs.Prelude.{◌≡◌, ℕ, ◌+◌, ◌*◌, ◌-◌, ◌≤◌, List, [], ◌∷◌, min, nat_le, if◌then◌else◌}
+use Rattle.std.specs.Prelude.{◌≡◌, ℕ, ◌+◌, ◌*◌, ◌-◌, ◌≤◌, List, [], ◌∷◌, ◌++◌, Bool, min, nat_le, if◌then◌else◌}
 use Rattle.std.specs.List.{AllByRecursion}
 use Rattle.afdx_account.specs.declared.frame.Frame.{Frame}
-use Rattle.afdx_account.specs.Policing.{Terms, paid, allowance, passed_frames}
+use Rattle.afdx_account.specs.Policing.{Terms, paid, allowance, conforms, passed_frames}
 
 -- the most that can be sent at an instant after these frames: of each window that begins with one of
 -- them, what is left of its allowance
@@ -14,6 +14,13 @@ headroom t (g ∷ gs) now = min (headroom t gs now) (allowance t (now - g.stamp)
 pub record Stands (t : Terms) (since level : ℕ) (frames : List Frame) : Type 0 where
   pub latest : AllByRecursion (λ f. f.stamp ≤ since) frames
   pub level_is : level ≡ headroom t (passed_frames t frames) since
+
+-- an offer at an instant, of a frame of this size, that gives this answer and leaves this level: whatever frames
+-- were offered before, the frame is passed exactly where it conforms to those that were passed
+abbrev pub PassesWhatConforms : Terms → (since level at size : ℕ) → Bool → ℕ → Type 0
+PassesWhatConforms t since level at size passes left = (frames : List Frame) → Stands t since level frames
+    → (passes ≡ conforms t (passed_frames t frames) (record { stamp = at; size = size }))
+    × Stands t at left (frames ++ record { stamp = at; size = size } ∷ [])
 
 -- a level after a gap without frames: credited, up to the cap
 abbrev pub credited_level : Terms → ℕ → ℕ → ℕ

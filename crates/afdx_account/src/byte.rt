@@ -89,10 +89,9 @@ impl Meter for ByteAccount {
 
     fn offer(&mut self, at: Stamp, size: u32) -> bool {
         let level = self.level_at(at);
-        let price = self.price(size);
-        let passes = price <= level;
-        self.level = if passes { level - price } else { level };
+        let left = level.checked_sub(self.price(size));
+        self.level = left.unwrap_or(level);
         self.since = at;
-        passes
+        left.is_some()
     }
 }

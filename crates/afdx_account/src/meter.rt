@@ -1,11 +1,10 @@
 //! What every account does.
 
-ghost use Rattle.std.specs.Prelude.{◌≡◌, ◌↔◌, ℕ, ◌*◌, ◌-◌, ◌≤◌, List, [], ◌∷◌, ◌++◌, IsTrue, if◌then◌else◌};
+ghost use Rattle.std.specs.Prelude.{◌≡◌, ◌↔◌, ℕ, ◌*◌, ◌-◌, ◌≤◌, IsTrue, if◌then◌else◌};
 ghost use Rattle.afdx_units.specs.declared.line.Speed.{Speed};
 ghost use Rattle.afdx_units.specs.Line.{cost_of};
-ghost use Rattle.afdx_account.specs.declared.frame.Frame.{Frame};
-ghost use Rattle.afdx_account.specs.Policing.{Terms, conforms, passed_frames};
-ghost use Rattle.afdx_account.specs.Level.{Stands, credited_level};
+ghost use Rattle.afdx_account.specs.Policing.{Terms};
+ghost use Rattle.afdx_account.specs.Level.{PassesWhatConforms, credited_level};
 
 use afdx_units::{Speed, Stamp};
 
@@ -61,9 +60,7 @@ pub trait Meter {
 
         // Whatever frames were offered to a full account before, the frame is passed exactly where it
         // conforms to those that were passed.
-        ensures conforming { (frames : List Frame) → Stands (terms self.old) (since self.old) (level self.old (since self.old)) frames
-            → (result ≡ conforms (terms self.old) (passed_frames (terms self.old) frames) (record { stamp = at; size = size }))
-            × Stands (terms self.new) at (level self.new at) (frames ++ record { stamp = at; size = size } ∷ []) };
+        ensures conforming { PassesWhatConforms (terms self.old) (since self.old) (level self.old (since self.old)) at size result (level self.new at) };
 
     /// The level never passes the greatest one.
     ghost capped: { (m : Self) (at : ℕ) → level m at ≤ (terms m).cap };

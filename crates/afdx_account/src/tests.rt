@@ -1,5 +1,7 @@
 //! Frames of one link and the answers of its account, worked out by hand from the windows.
 
+ghost use Rattle.std.specs.Prelude.{◌≡◌};
+
 use super::*;
 use afdx_units::{Bag, Stamp};
 use std::test::Fail;
