@@ -1,0 +1,56 @@
+# Functions of the end-to-end scripts: what each needs, and how a check is counted.
+set -u
+
+top=$(cd "$(dirname "${BASH_SOURCE[0]}")/.." && pwd)
+room=$(mktemp -d)
+trap 'rm -rf "$room"' EXIT
+passed=0
+failed=0
+
+# install WORD..: has each Debian package whose command is missing installed; words are COMMAND=PACKAGE.
+install() {
+    local word missing=()
+    for word in "$@"; do
+        command -v "${word%%=*}" >/dev/null || missing+=("${word#*=}")
+    done
+    [ "${#missing[@]}" -eq 0 ] && return
+    local as_root=()
+    [ "$(id -u)" -eq 0 ] || as_root=(sudo)
+    "${as_root[@]}" apt-get update -q >/dev/null &&
+        "${as_root[@]}" env DEBIAN_FRONTEND=noninteractive apt-get install -qy --no-install-recommends "${missing[@]}" >/dev/null ||
+        { echo "cannot install: ${missing[*]}"; exit 1; }
+}
+
+# check NAME COMMAND..: counts whether the command succeeds.
+check() {
+    local name=$1
+    shift
+    if "$@" >"$room/said" 2>&1; then
+        passed=$((passed + 1))
+        echo "ok      $name"
+    else
+        failed=$((failed + 1))
+        echo "FAILED  $name"
+        sed 's/^/        /' "$room/said" | head -20
+    fi
+}
+
+# finish: the last line, and the status.
+finish() {
+    echo "$passed passed, $failed failed"
+    [ "$failed" -eq 0 ]
+}
+
+# frames FILE WORD..: a nanosecond capture of these frames (see frames.py), written by text2pcap.
+frames() {
+    local file=$1
+    shift
+    python3 "$top/end_to_end/frames.py" "$@" >"$room/frames.txt" &&
+        text2pcap -q -F nsecpcap -t '%s.%f' "$room/frames.txt" "$file"
+}
+
+# shown FILE: what tshark sees of a capture, to the nanosecond and the byte; arguments after FILE go to tshark.
+shown() {
+    tshark -r "$@" -T fields -e frame.time_epoch -e frame.cap_len 2>/dev/null &&
+        tshark -r "$@" -x 2>/dev/null
+}
