@@ -41,6 +41,6 @@ check "tcpdump's capture in nanoseconds is kept" is_kept nanos.pcap
 check "editcap's capture in nanoseconds is kept" is_kept edited.pcap
 check "mergecap's capture is kept" is_kept merged.pcap
 check "a capture of cut frames is kept" is_kept snapped.pcap
-check "pcapng is refused by its magic" is_refused "recapture: P3 Magic" next.pcapng
-check "a capture cut in its second record is refused" is_refused "recapture: P11 CutData, record 2" cut.pcap
+check "pcapng is refused by its magic" is_refused "recapture: Magic" next.pcapng
+check "a capture cut in its second record is refused" is_refused "recapture: CutData(2)" cut.pcap
 finish

@@ -1,0 +1,47 @@
+//! An AFDX switch (ARINC 664 Part 7) over captured traffic.
+//!
+//! `afdx alone` reads a capture of one ingress port on standard input and writes the capture of the
+//! frames that the account of one virtual link passes.
+#![tactic(auto)]
+
+mod alone;
+mod command;
+mod failure;
+mod input;
+mod link;
+mod output;
+mod own;
+mod serve;
+mod words;
+
+use crate::failure::{Failure, report};
+use crate::serve::serve;
+use std::process::ExitCode;
+use std::{env, io};
+
+/// The words of the command line, of which the first is the program's name.
+fn arguments(rt: &HostRuntime) -> Result<Vec<String>, Failure> {
+    match env::args(rt) {
+        Ok(words) => Ok(words.collect(rt.alloc())?),
+        Err(e) if e.kind() == io::ErrorKind::OutOfMemory => Err(Failure::Memory),
+        Err(_) => Err(Failure::Usage),
+    }
+}
+
+fn main(rt: HostRuntime) -> ExitCode {
+    let mut err = rt.stderr();
+    let status = match arguments(&rt) {
+        Ok(words) => serve(
+            rt.alloc(),
+            &words,
+            &mut rt.stdin(),
+            &mut rt.stdout(),
+            &mut err,
+        ),
+        Err(failure) => report(rt.alloc(), failure, &mut err),
+    };
+    ExitCode::from(status)
+}
+
+#[cfg(test)]
+mod tests;

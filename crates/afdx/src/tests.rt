@@ -1,0 +1,436 @@
+//! Values from outside: bytes of pcap 2.4 captures and of AFDX frames, printed lines, and devices that fail.
+
+use crate::serve::serve;
+use std::alloc::{AllocError, Global};
+use std::io;
+use std::io::{ErrorKind, Read, Write};
+use std::test::Fail;
+
+/// Little-endian, nanoseconds, version 2.4, Ethernet.
+const HEADER: [u8; 24] = [
+    0x4d, 0x3c, 0xb2, 0xa1, 2, 0, 4, 0, 0, 0, 0, 0, 0, 0, 0, 0, 0, 0, 4, 0, 1, 0, 0, 0,
+];
+
+/// A link with BAG 1 ms, no jitter and frames of at most 1518 bytes.
+const LINK_10: &str = "afdx alone --id 10 --bag 1 --jitter 0 --size 1518";
+
+const HELP: &str = "An AFDX switch over captured traffic
+
+Usage: afdx <COMMAND>
+
+Commands:
+  alone  Polices one virtual link of the capture on standard input
+  help   Print this message or the help of the given subcommand(s)
+
+Options:
+  -h, --help  Print help
+";
+
+const HELP_ALONE: &str = "Polices one virtual link of the capture on standard input
+
+Usage: afdx alone --id <N> --bag <MS> --jitter <US> --size <N>
+
+Options:
+      --id <N>       The link's number, 0 to 65535
+      --bag <MS>     Its BAG in ms: 1, 2, 4, 8, 16, 32, 64 or 128
+      --jitter <US>  Its greatest jitter in us, 0 to 10000
+      --size <N>     Its greatest frame size in bytes, 64 to 1518
+  -h, --help         Print help
+";
+
+/// What is told of a frame in a capture, and the first bytes of the frame.
+#[derive(Clone, Copy)]
+struct Sample {
+    seconds: u32,
+    nanos: u32,
+    captured: u32,
+    original: u32,
+    address: [u8; 6],
+}
+
+/// A frame of link 10, of which so many bytes are captured.
+fn captured(bytes: u32, seconds: u32, nanos: u32) -> Sample {
+    Sample {
+        seconds,
+        nanos,
+        captured: bytes,
+        original: bytes,
+        address: [3, 0, 0, 0, 0, 10],
+    }
+}
+
+/// The capture of these frames, whose bytes after the address are 0.
+fn capture(alloc: Global, samples: &[Sample]) -> Result<Vec<u8>, AllocError> {
+    let mut bytes = Vec::from_slice(alloc, &HEADER)?;
+    for sample in samples {
+        for number in [
+            sample.seconds,
+            sample.nanos,
+            sample.captured,
+            sample.original,
+        ] {
+            bytes.extend_from_slice(&number.to_le_bytes())?;
+        }
+        bytes.extend_from_slice(&sample.address)?;
+        let rest = vec![in alloc; 0u8; sample.captured.saturating_sub(6) as usize]?;
+        bytes.extend_from_slice(&rest)?;
+    }
+    Ok(bytes)
+}
+
+/// Gives the bytes, at most 7 at once; one call answers an error instead.
+#[derive(Drop)]
+struct Source<'a> {
+    bytes: &'a [u8],
+    calls: u64,
+    failing: u64,
+    kind: ErrorKind,
+}
+
+impl<'a> Source<'a> {
+    fn new(bytes: &'a [u8], failing: u64, kind: ErrorKind) -> Source<'a> {
+        Source {
+            bytes,
+            calls: 0,
+            failing,
+            kind,
+        }
+    }
+}
+
+impl Read for Source<'_> {
+    fn read(&mut self, buf: &mut [u8]) -> io::Result<usize> {
+        self.calls = self.calls.saturating_add(1);
+        if self.calls == self.failing {
+            return Err(io::Error::from(self.kind));
+        }
+        let count = buf.len().min(7);
+        self.bytes.read(&mut buf[..count])
+    }
+}
+
+/// A reader of which every read is interrupted.
+#[derive(Drop)]
+struct Interrupted;
+
+impl Read for Interrupted {
+    fn read(&mut self, _buf: &mut [u8]) -> io::Result<usize> {
+        Err(io::Error::from(ErrorKind::Interrupted))
+    }
+}
+
+/// Takes at most 50 bytes at once; one call takes none, or answers an error.
+#[derive(Drop)]
+struct Sink {
+    bytes: Vec<u8>,
+    calls: u64,
+    failing: u64,
+    kind: Option<ErrorKind>,
+}
+
+impl Sink {
+    fn new(alloc: Global, failing: u64, kind: Option<ErrorKind>) -> Sink {
+        Sink {
+            bytes: Vec::new(alloc),
+            calls: 0,
+            failing,
+            kind,
+        }
+    }
+}
+
+impl Write for Sink {
+    fn write(&mut self, buf: &[u8]) -> io::Result<usize> {
+        self.calls = self.calls.saturating_add(1);
+        if self.calls == self.failing {
+            return match self.kind {
+                Some(kind) => Err(io::Error::from(kind)),
+                None => Ok(0),
+            };
+        }
+        let count = buf.len().min(50);
+        self.bytes.extend_from_slice(&buf[..count])?;
+        Ok(count)
+    }
+
+    fn flush(&mut self) -> io::Result<()> {
+        Ok(())
+    }
+}
+
+/// The words of a command line.
+fn split(alloc: Global, line: &str) -> Result<Vec<String>, AllocError> {
+    let mut words = Vec::new(alloc);
+    for word in line.split_whitespace() {
+        words.push(String::from_str(alloc, word)?)?;
+    }
+    Ok(words)
+}
+
+/// What the program answers.
+#[derive(Drop)]
+struct Served {
+    status: u8,
+    out: Vec<u8>,
+    err: Vec<u8>,
+}
+
+fn answer(alloc: Global, line: &str, mut input: &[u8]) -> Result<Served, AllocError> {
+    let words = split(alloc, line)?;
+    let mut out = Vec::new(alloc);
+    let mut err = Vec::new(alloc);
+    let status = serve(alloc, &words, &mut input, &mut out, &mut err);
+    Ok(Served { status, out, err })
+}
+
+#[test]
+fn passes_what_conforms(rt: HostRuntime) -> Result<(), Fail> {
+    let alloc = rt.alloc();
+    let small = captured(60, 0, 0);
+    let full = captured(1514, 0, 0);
+    let early = captured(1514, 0, 999_999);
+    let due = captured(1514, 0, 1_000_000);
+    let far = captured(1514, 4_000_000_000, 0);
+    let foreign = Sample {
+        address: [2, 0, 0, 0, 0, 10],
+        ..small
+    };
+    let other_link = Sample {
+        address: [3, 0, 0, 0, 0, 11],
+        ..small
+    };
+    let cut = Sample {
+        original: 61,
+        ..small
+    };
+    let told_short = Sample {
+        original: 0,
+        ..small
+    };
+    for (name, given, passed) in [
+        ("no frames", [].as_slice(), [].as_slice()),
+        (
+            "a nanosecond early",
+            [full, early, due].as_slice(),
+            [full, due].as_slice(),
+        ),
+        ("far apart", [full, far].as_slice(), [full, far].as_slice()),
+        (
+            "24 small frames",
+            [small; 24].as_slice(),
+            [small; 23].as_slice(),
+        ),
+        (
+            "frames of others",
+            [
+                foreign,
+                other_link,
+                cut,
+                captured(59, 0, 0),
+                captured(1515, 0, 0),
+                full,
+            ]
+            .as_slice(),
+            [full].as_slice(),
+        ),
+        (
+            "an original below the captured length",
+            [told_short].as_slice(),
+            [small].as_slice(),
+        ),
+    ] {
+        let input = capture(alloc, given)?;
+        let want = capture(alloc, passed)?;
+        let got = answer(alloc, LINK_10, &input)?;
+        assert_eq!(rt; got.status, 0, "{name}");
+        assert_eq!(rt; got.out.as_slice(), want.as_slice(), "{name}");
+        assert_eq!(rt; got.err.as_slice(), b"".as_slice(), "{name}");
+    }
+    Ok(())
+}
+
+#[test]
+fn refuses_words(rt: HostRuntime) -> Result<(), Fail> {
+    let alloc = rt.alloc();
+    for line in [
+        "",
+        "afdx",
+        "afdx --version",
+        "afdx check t",
+        "afdx run t in out",
+        "afdx alone",
+        "afdx alone --bag 3",
+        "afdx alone --id 10 --bag 1 --jitter 0",
+        "afdx alone --id 10 --bag 3 --jitter 0 --size 64",
+        "afdx alone --id 65536 --bag 1 --jitter 0 --size 64",
+        "afdx alone --id 10 --bag 1 --jitter 10001 --size 64",
+        "afdx alone --id 10 --bag 1 --jitter 0 --size 63",
+        "afdx alone --id 10 --bag 1 --jitter 0 --size 1519",
+        "afdx alone --id=-1 --bag 1 --jitter 0 --size 64",
+        "afdx alone --id ten --bag 1 --jitter 0 --size 64",
+        "afdx alone --id 1 --id 1 --bag 1 --jitter 0 --size 64",
+        "afdx alone --id 10 --bag 1 --jitter 0 --size 64 in",
+    ] {
+        let got = answer(alloc, line, &HEADER)?;
+        assert_eq!(rt; got.status, 2, "{line}");
+        assert_eq!(rt; got.out.as_slice(), b"".as_slice(), "{line}");
+        assert_eq!(rt; got.err.as_slice(), b"afdx: usage\n".as_slice(), "{line}");
+    }
+    Ok(())
+}
+
+#[test]
+fn takes_values_at_their_limits(rt: HostRuntime) -> Result<(), Fail> {
+    let alloc = rt.alloc();
+    for line in [
+        "afdx alone --id 65535 --bag 128 --jitter 10000 --size 1518",
+        "afdx alone --size=064 --jitter=+0 --bag=1 --id=0",
+    ] {
+        let got = answer(alloc, line, &HEADER)?;
+        assert_eq!(rt; got.status, 0, "{line}");
+        assert_eq!(rt; got.out.as_slice(), HEADER.as_slice(), "{line}");
+        assert_eq!(rt; got.err.as_slice(), b"".as_slice(), "{line}");
+    }
+    Ok(())
+}
+
+#[test]
+fn tells_the_first_fault(rt: HostRuntime) -> Result<(), Fail> {
+    let alloc = rt.alloc();
+    let good = captured(60, 1, 0);
+    // The frames, how many bytes are left of their capture, a byte that is another, and the line.
+    for (samples, left, at, byte, line) in [
+        ([good].as_slice(), 23, 0, 0, "afdx: capture P2 NoHeader\n"),
+        ([good].as_slice(), 100, 0, 0, "afdx: capture P3 Magic\n"),
+        ([good].as_slice(), 100, 6, 3, "afdx: capture P4 Version\n"),
+        (
+            [good].as_slice(),
+            100,
+            20,
+            113,
+            "afdx: capture P5 LinkType 113\n",
+        ),
+        (
+            [good].as_slice(),
+            39,
+            0,
+            0x4d,
+            "afdx: capture P6 CutHeader, record 1\n",
+        ),
+        (
+            [good, good].as_slice(),
+            176,
+            111,
+            1,
+            "afdx: capture P7 Huge, record 2\n",
+        ),
+        (
+            [good].as_slice(),
+            100,
+            31,
+            0x40,
+            "afdx: capture P8 Fraction, record 1\n",
+        ),
+        (
+            [captured(60, 4_294_967_295, 0)].as_slice(),
+            100,
+            0,
+            0x4d,
+            "afdx: capture P9 Late, record 1\n",
+        ),
+        (
+            [good, captured(60, 0, 0)].as_slice(),
+            176,
+            0,
+            0x4d,
+            "afdx: capture P10 Backwards, record 2\n",
+        ),
+        (
+            [good].as_slice(),
+            99,
+            0,
+            0x4d,
+            "afdx: capture P11 CutData, record 1\n",
+        ),
+    ] {
+        let mut input = capture(alloc, samples)?;
+        input.truncate(left);
+        if let Some(place) = input.get_mut(at) {
+            *place = byte;
+        }
+        let got = answer(alloc, LINK_10, &input)?;
+        assert_eq!(rt; got.status, 3, "{line}");
+        assert_eq!(rt; got.out.as_slice(), b"".as_slice(), "{line}");
+        assert_eq!(rt; got.err.as_slice(), line.as_bytes(), "{line}");
+    }
+    Ok(())
+}
+
+#[test]
+fn stops_where_a_device_fails(rt: HostRuntime) -> Result<(), Fail> {
+    let alloc = rt.alloc();
+    let words = split(alloc, LINK_10)?;
+    let input = capture(alloc, &[captured(60, 0, 0)])?;
+    let broken = ErrorKind::BrokenPipe;
+    let again = ErrorKind::Interrupted;
+    // The read and the write that fail and how, and what is answered: the status, how many bytes of the
+    // same capture, and the line.
+    for (read, how_read, write, how_write, status, written, line) in [
+        (0, broken, 0, None, 0, 100, ""),
+        (1, again, 0, None, 0, 100, ""),
+        (16, again, 0, None, 0, 100, ""),
+        (1, broken, 0, None, 5, 0, "afdx: device read\n"),
+        (16, broken, 0, None, 5, 0, "afdx: device read\n"),
+        (0, broken, 1, Some(broken), 5, 0, "afdx: device write\n"),
+        (0, broken, 2, Some(broken), 5, 50, "afdx: device write\n"),
+        (0, broken, 2, Some(again), 5, 50, "afdx: device write\n"),
+        (0, broken, 2, None, 5, 50, "afdx: device write\n"),
+        (0, broken, 3, None, 0, 100, ""),
+    ] {
+        for failing_line in [0, 1] {
+            let mut source = Source::new(&input, read, how_read);
+            let mut out = Sink::new(alloc, write, how_write);
+            let mut err = Sink::new(alloc, failing_line, Some(broken));
+            let got = serve(alloc, &words, &mut source, &mut out, &mut err);
+            let told = if failing_line == 0 { line } else { "" };
+            assert_eq!(rt; got, status, "read {read}, write {write}");
+            assert_eq!(rt; out.bytes.len(), written, "read {read}, write {write}");
+            assert!(rt; input.starts_with(&out.bytes), "read {read}, write {write}");
+            assert_eq!(rt;
+                err.bytes.as_slice(),
+                told.as_bytes(),
+                "read {read}, write {write}"
+            );
+        }
+    }
+    Ok(())
+}
+
+#[test]
+fn gives_up_where_every_read_is_interrupted(rt: HostRuntime) -> Result<(), Fail> {
+    let alloc = rt.alloc();
+    let words = split(alloc, LINK_10)?;
+    let mut out = Vec::new(alloc);
+    let mut err = Vec::new(alloc);
+    let status = serve(alloc, &words, &mut Interrupted, &mut out, &mut err);
+    assert_eq!(rt; status, 5);
+    assert_eq!(rt; out.as_slice(), b"".as_slice());
+    assert_eq!(rt; err.as_slice(), b"afdx: device read\n".as_slice());
+    Ok(())
+}
+
+#[test]
+fn shows_help(rt: HostRuntime) -> Result<(), Fail> {
+    let alloc = rt.alloc();
+    for (line, text) in [
+        ("afdx --help", HELP),
+        ("afdx help alone", HELP_ALONE),
+        ("afdx alone --help", HELP_ALONE),
+    ] {
+        let got = answer(alloc, line, b"")?;
+        assert_eq!(rt; got.status, 0, "{line}");
+        assert_eq!(rt; got.out.as_slice(), text.as_bytes(), "{line}");
+        assert_eq!(rt; got.err.as_slice(), b"".as_slice(), "{line}");
+    }
+    Ok(())
+}

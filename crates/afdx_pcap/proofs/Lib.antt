@@ -1,0 +1,6 @@
+pub mod Splitting
+pub mod Written
+pub mod Unique
+pub mod More
+pub mod Streaming
+pub mod Taking

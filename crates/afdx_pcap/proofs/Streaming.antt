@@ -1,0 +1,151 @@
+-- A reader's place in its bytes, and what it tells of them.
+use Rattle.std.proofs.Common.{◌≡◌, ℕ, ◌+◌, ◌-◌, ◌<◌, Bool, true, false, List, [], ◌∷◌, ◌++◌, length, drop, Option, Some, None, Ok, Err, sym, ap, subst, ◌∙◌, arith, inl, inr, refl, cond, not, ◌||◌, ◌≢◌}
+use Rattle.std.proofs.lemmas.List.{length-drop, length-append, drop-append-le, drop-drop, nil_from_length}
+use Rattle.std.specs.Prelude.{IfNone}
+use Rattle.afdx_pcap.specs.declared.format.Format.{Format}
+use Rattle.afdx_pcap.specs.declared.progress.Progress.{Progress}
+use Rattle.afdx_pcap.specs.declared.fault.PcapFault.{PcapFault}
+use Rattle.afdx_pcap.specs.declared.fault.PcapFault.TheVariants.{Memory, CutHeader}
+use Rattle.afdx_pcap.specs.Entry.{Entry}
+use Rattle.afdx_pcap.specs.Capture.{header_of, Begins, after, Splits, IsCapture}
+use Rattle.afdx_pcap.specs.Fault.{record_fault, IsFault, IsEarlyFault, is_cut, Breaks, last_stamp}
+use Rattle.afdx_pcap.specs.Reading.{IsNext, NoNext, IsSound, Answers, At, RestFault, Stands, answer_of}
+use Rattle.afdx_pcap.proofs.Splitting.{Splits-push, last_stamp-push}
+use Rattle.afdx_pcap.proofs.Unique.{one_record, same_tail, begins_fine, one_fault, one_format}
+use Rattle.afdx_pcap.proofs.More.{not_cut, header-more, format_long, Splits-more}
+
+-- a record is found
+pub found_next : (bytes : List ℕ) (n : ℕ) (p : Progress) (r : Entry) → At bytes n p → Begins p.format p.last (drop p.place bytes) r → IsNext bytes n r
+found_next bytes n p r at b =
+    let begins : Begins p.format (last_stamp 0 at.given) (drop p.place bytes) r = subst (λ (l : ℕ). Begins p.format l (drop p.place bytes) r) at.latest b in
+    (at.given, after r (drop p.place bytes), record { format = p.format; header = at.header; records = Splits-push p.format 0 (drop 24 bytes) at.given (drop p.place bytes) r at.records begins }, at.count)
+
+pub goes_on : (bytes : List ℕ) (n : ℕ) (p : Progress) (r : Entry) (rest : List ℕ) (place : ℕ) → At bytes n p → Begins p.format p.last (drop p.place bytes) r
+    → rest ≡ after r (drop p.place bytes) → place ≡ length bytes - length rest → At bytes (n + 1) (record { format = p.format; place = place; last = r.stamp })
+goes_on bytes n p r rest place at b rest-is place-is =
+    let begins : Begins p.format (last_stamp 0 at.given) (drop p.place bytes) r = subst (λ (l : ℕ). Begins p.format l (drop p.place bytes) r) at.latest b in
+    let whole = b.whole in
+    let within = at.within in
+    let slow = at.slow in
+    let len : length rest ≡ length (drop p.place bytes) - (16 + length r.bytes) = ap length rest-is ∙ length-drop (16 + length r.bytes) (drop p.place bytes) in
+    let place-at : place ≡ p.place + (16 + length r.bytes) = omega (arith, len, length-drop p.place bytes, place-is, whole, within) in
+    let rest-at : after r (drop p.place bytes) ≡ drop place bytes = drop-drop (16 + length r.bytes) p.place bytes ∙ ap (λ (k : ℕ). drop k bytes) (sym place-at) in
+    record {
+      given = at.given ++ r ∷ [];
+      header = at.header;
+      records = subst (λ (t : List ℕ). Splits p.format 0 (drop 24 bytes) (at.given ++ r ∷ []) t) rest-at (Splits-push p.format 0 (drop 24 bytes) at.given (drop p.place bytes) r at.records begins);
+      count = let c = at.count in omega (arith, length-append at.given (r ∷ []), c);
+      latest = sym (last_stamp-push 0 at.given r);
+      within = omega (arith, place-at, length-drop p.place bytes, whole, within);
+      slow = omega (arith, place-at, slow);
+    }
+
+-- two lists of records, the shorter of which has a fault after it
+no_longer : (f : Format) (last n : ℕ) (bytes rest others : List ℕ) (rs qs : List Entry) (q : Entry) (e : PcapFault) → Splits f last bytes rs rest → Splits f last bytes (qs ++ q ∷ []) others
+    → length qs ≡ length rs → record_fault f (last_stamp last rs) n rest ≡ Some e → ⊥
+no_longer f last n bytes rest others [] [] q e a b same first =
+    let none = begins_fine f last n rest q (subst (λ (t : List ℕ). Begins f last t q) a b.0) in
+    cc
+no_longer f last n bytes rest others [] (p ∷ qs) q e a b same first = omega arith
+no_longer f last n bytes rest others (r ∷ rs) [] q e a b same first = omega arith
+no_longer f last n bytes rest others (r ∷ rs) (p ∷ qs) q e a b same first =
+    let one = one_record f last last bytes r p a.0 b.0 in
+    no_longer f r.stamp n (after r bytes) rest others rs qs q e a.1 (same_tail f bytes r p (qs ++ q ∷ []) others one b.1) (omega arith) first
+
+pub no_next : (bytes : List ℕ) (n : ℕ) (p : Progress) (e : PcapFault) → At bytes n p → RestFault bytes p n e → NoNext bytes n
+no_next bytes n p e at fault r next =
+    let held = next.2 in
+    let same = one_format (header_of bytes) p.format held.format at.header held.header in
+    let other : Splits p.format 0 (drop 24 bytes) (next.0 ++ r ∷ []) next.1 = subst (λ (f : Format). Splits f 0 (drop 24 bytes) (next.0 ++ r ∷ []) next.1) (sym same) held.records in
+    let first : record_fault p.format (last_stamp 0 at.given) (n + 1) (drop p.place bytes) ≡ Some e = subst (λ (l : ℕ). record_fault p.format l (n + 1) (drop p.place bytes) ≡ Some e) at.latest fault in
+    no_longer p.format 0 (n + 1) (drop 24 bytes) (drop p.place bytes) next.1 at.given next.0 r e at.records other (next.3 ∙ sym at.count) first
+
+-- the fault of the rest, numbered as one of the file's
+numbered : (bytes : List ℕ) (n : ℕ) (p : Progress) (e : PcapFault) (at : At bytes n p) → RestFault bytes p n e → record_fault p.format (last_stamp 0 at.given) (length at.given + 1) (drop p.place bytes) ≡ Some e
+numbered bytes n p e at fault =
+    subst (λ (m : ℕ). record_fault p.format (last_stamp 0 at.given) (m + 1) (drop p.place bytes) ≡ Some e) (sym at.count)
+    (subst (λ (l : ℕ). record_fault p.format l (n + 1) (drop p.place bytes) ≡ Some e) at.latest fault)
+
+pub rest_is_fault : (bytes : List ℕ) (n : ℕ) (p : Progress) (e : PcapFault) → At bytes n p → RestFault bytes p n e → (p.place ≡ length bytes → ⊥) → IsFault bytes e
+rest_is_fault bytes n p e at fault more =
+    let within = at.within in
+    let some : 0 < length (drop p.place bytes) = omega (arith, length-drop p.place bytes, within, more) in
+    inr (p.format, at.header, record { records = at.given; rest = drop p.place bytes; before = at.records; more = some; first = numbered bytes n p e at fault })
+
+pub none_early : (bytes : List ℕ) (n : ℕ) (p : Progress) (e : PcapFault) → At bytes n p → RestFault bytes p n e → is_cut e ≡ true → (d : PcapFault) → IsEarlyFault bytes d → ⊥
+none_early bytes n p e at fault cut d (inl h, kept) = let k = at.header in cc
+none_early bytes n p e at fault cut d (inr (f, h, b), kept) =
+    let same = one_format (header_of bytes) p.format f at.header h in
+    let other = subst (λ (g : Format). Breaks g (drop 24 bytes) d) (sym same) b in
+    not_cut e d cut kept (sym (one_fault p.format 0 1 (drop 24 bytes) other.records at.given other.rest (drop p.place bytes) d e other.before at.records other.first (numbered bytes n p e at fault)))
+
+pub all_given : (bytes : List ℕ) (n : ℕ) (p : Progress) → At bytes n p → p.place ≡ length bytes → (rs : List Entry) × IsCapture bytes rs × (length rs ≡ n)
+all_given bytes n p at end =
+    let nothing : drop p.place bytes ≡ [] = nil_from_length (drop p.place bytes) (omega (arith, length-drop p.place bytes, end)) in
+    (at.given, record { format = p.format; header = at.header; records = subst (λ (t : List ℕ). Splits p.format 0 (drop 24 bytes) at.given t) nothing at.records }, at.count)
+
+-- ---- no header yet
+
+pub no_header_no_next : (bytes : List ℕ) (n : ℕ) (e : PcapFault) → header_of bytes ≡ Err e → NoNext bytes n
+no_header_no_next bytes n e h r next = let k = (next.2).header in cc
+
+pub no_header_none_early : (bytes : List ℕ) (e : PcapFault) → header_of bytes ≡ Err e → is_cut e ≡ true → (d : PcapFault) → IsEarlyFault bytes d → ⊥
+no_header_none_early bytes e h cut d (inl k, kept) = let same : e ≡ d = cc in not_cut e d cut kept same
+no_header_none_early bytes e h cut d (inr (f, k, b), kept) = cc
+
+-- ---- more bytes
+
+pub stands_more : (bytes more : List ℕ) (n : ℕ) (o : Option Progress) → Stands bytes n o → Stands (bytes ++ more) n o
+stands_more bytes more n None s = s
+stands_more bytes more n (Some p) at =
+    let long = format_long bytes p.format at.header in
+    let within = at.within in
+    record {
+      given = at.given;
+      header = header-more bytes more long ∙ at.header;
+      records = rw (drop-append-le 24 bytes more long, drop-append-le p.place bytes more within) (Splits-more p.format 0 (drop 24 bytes) more at.given (drop p.place bytes) at.records);
+      count = at.count;
+      latest = at.latest;
+      within = omega (arith, length-append bytes more, within);
+      slow = at.slow;
+    }
+
+-- the same where they may have come or not
+pub fed : (b : Bool) (bytes more : List ℕ) (n : ℕ) (o : Option Progress) → Stands bytes n o → Stands (cond b (bytes ++ more) bytes) n o
+fed true bytes more n o s = stands_more bytes more n o s
+fed false bytes more n o s = s
+
+-- ---- answers
+
+-- what is wrong with no bytes at all is that the next record's header is cut
+cut_at_end : (bytes : List ℕ) (n : ℕ) (p : Progress) → p.place ≡ length bytes → RestFault bytes p n (CutHeader (n + 1))
+unfolding record_fault
+cut_at_end bytes n p end =
+    let nothing : drop p.place bytes ≡ [] = nil_from_length (drop p.place bytes) (omega (arith, length-drop p.place bytes, end)) in
+    rw nothing refl
+
+-- nothing is left, so there is no next record
+pub done_at_end : (bytes : List ℕ) (n : ℕ) (closed : Bool) (p : Progress) → At bytes n p → p.place ≡ length bytes → NoNext bytes n × IsSound bytes n closed
+done_at_end bytes n true p at end = (no_next bytes n p (CutHeader (n + 1)) at (cut_at_end bytes n p end), all_given bytes n p at end)
+done_at_end bytes n false p at end =
+    let cut = cut_at_end bytes n p end in
+    (no_next bytes n p (CutHeader (n + 1)) at cut, none_early bytes n p (CutHeader (n + 1)) at cut refl)
+
+-- a rest that is no record is a fault, or waits for more bytes
+pub rest_answer : (bytes : List ℕ) (n : ℕ) (p : Progress) (e : PcapFault) (closed cut : Bool) → At bytes n p → (e ≢ Memory → RestFault bytes p n e) → (p.place ≡ length bytes → ⊥) → is_cut e ≡ cut
+    → Answers bytes n closed (answer_of (cond (closed || not cut) (Err e) (Ok None)))
+rest_answer bytes n p e true cut at fault more is = λ real. (no_next bytes n p e at (fault real), rest_is_fault bytes n p e at (fault real) more)
+rest_answer bytes n p e false false at fault more is = λ real. (no_next bytes n p e at (fault real), (rest_is_fault bytes n p e at (fault real) more, is))
+rest_answer bytes n p e false true at fault more is =
+    let real : e ≢ Memory = λ same. not_cut e Memory is refl same in
+    (no_next bytes n p e at (fault real), none_early bytes n p e at (fault real) is)
+
+pub header_answer : (bytes : List ℕ) (n : ℕ) (e : PcapFault) (closed cut : Bool) → header_of bytes ≡ Err e → is_cut e ≡ cut → Answers bytes n closed (answer_of (cond (closed || not cut) (Err e) (Ok None)))
+header_answer bytes n e true cut h is = λ real. (no_header_no_next bytes n e h, inl h)
+header_answer bytes n e false false h is = λ real. (no_header_no_next bytes n e h, (inl h, is))
+header_answer bytes n e false true h is = (no_header_no_next bytes n e h, no_header_none_early bytes e h is)
+
+-- what holds at all holds where there is none
+pub if_none : {P : Type 0} (o : Option PcapFault) → P → IfNone o P
+if_none None h = h
+if_none (Some e) h = tt

@@ -1,0 +1,6 @@
+pub mod Entry
+pub mod Number
+pub mod Capture
+pub mod Fault
+pub mod Text
+pub mod Reading

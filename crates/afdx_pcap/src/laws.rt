@@ -1,0 +1,65 @@
+//! Laws over the definitions.
+
+ghost use Rattle.std.specs.Prelude.{◌≡◌, ◌⊎◌, ◌≤◌, ℕ, List, [], ◌∷◌, ◌++◌, length, All, true};
+ghost use Rattle.afdx_pcap.specs.declared.fault.PcapFault.{PcapFault};
+ghost use Rattle.afdx_pcap.specs.Entry.{Entry, IsWithinLimit};
+ghost use Rattle.afdx_pcap.specs.Capture.{Holds, IsCapture};
+ghost use Rattle.afdx_pcap.specs.Fault.{IsFault, IsEarlyFault, last_stamp};
+ghost use Rattle.afdx_pcap.specs.Reading.{HasTaken, IsNext, IsSound, Taking, taking_on};
+ghost use Rattle.afdx_pcap.specs.Text.{record_text, capture_text, AreReadable};
+
+/// What is written is a capture of the records that were written, where these can be read.
+pub fn what_is_written_is_a_capture()
+    ensures { (rs : List Entry) → AreReadable 0 rs → All IsWithinLimit rs
+        → IsCapture (capture_text rs) rs }
+{}
+
+/// The text of one more record is the text so far, and then the record's.
+pub fn one_more_record_is_appended()
+    ensures { (rs : List Entry) (r : Entry) → capture_text (rs ++ r ∷ []) ≡ capture_text rs ++ record_text r }
+{}
+
+/// Each file is the capture of one list of records, or has one fault.
+pub fn each_file_has_one_reading()
+    ensures one_list { (bytes : List ℕ) (rs qs : List Entry) → IsCapture bytes rs → IsCapture bytes qs
+        → rs ≡ qs }
+    ensures one_fault { (bytes : List ℕ) (d e : PcapFault) → IsFault bytes d → IsFault bytes e
+        → d ≡ e }
+    ensures not_both { (bytes : List ℕ) (rs : List Entry) (e : PcapFault) → IsCapture bytes rs
+        → IsFault bytes e → ⊥ }
+    ensures either { (bytes : List ℕ)
+        → ((rs : List Entry) × IsCapture bytes rs) ⊎ ((e : PcapFault) × IsFault bytes e) }
+{}
+
+/// An early fault stays the fault, whatever bytes come after.
+pub fn early_faults_stay()
+    ensures { (bytes more : List ℕ) (fault : PcapFault) → IsEarlyFault bytes fault
+        → IsEarlyFault (bytes ++ more) fault }
+{}
+
+/// The whole records at the front of some bytes stay where more bytes come, and so many records are only those.
+pub fn whole_records_stay()
+    ensures stay { (bytes more rest : List ℕ) (rs : List Entry) → Holds bytes rs rest
+        → Holds (bytes ++ more) rs (rest ++ more) }
+    ensures unique { (bytes rest others : List ℕ) (rs qs : List Entry) → Holds bytes rs rest
+        → Holds bytes qs others → length rs ≡ length qs → rs ≡ qs }
+{}
+
+/// The record after so many whole ones is the one that follows them: records that are given one by one are the
+/// first ones of the bytes, in order, each once.
+pub fn records_come_in_order()
+    ensures { (bytes rest : List ℕ) (rs : List Entry) (r : Entry) → Holds bytes rs rest
+        → IsNext bytes (length rs) r → (left : List ℕ) × Holds bytes (rs ++ r ∷ []) left }
+{}
+
+/// Records that are taken one by one are the first ones of the bytes; their stamps do not fall; where nothing is
+/// wrong after them, they are the capture.
+pub fn taken_records_are_the_first()
+    ensures joins { (t : Taking) (rs : List Entry) (r : Entry) → HasTaken t rs → IsNext t.bytes t.given r
+        → HasTaken (taking_on t) (rs ++ r ∷ []) }
+    ensures in_order { (t : Taking) (rs : List Entry) (r : Entry) → HasTaken t rs → IsNext t.bytes t.given r
+        → last_stamp 0 rs ≤ r.stamp }
+    ensures latest { (rs : List Entry) (r : Entry) → last_stamp 0 (rs ++ r ∷ []) ≡ r.stamp }
+    ensures ends { (t : Taking) (rs : List Entry) → HasTaken t rs → IsSound t.bytes t.given true
+        → IsCapture t.bytes rs }
+{}

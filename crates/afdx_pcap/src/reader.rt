@@ -1,0 +1,141 @@
+//! A capture that comes in pieces.
+
+ghost use Rattle.std.specs.Prelude.{◌≡◌, ◌+◌, ◌++◌, [], true, false, Err, Some, None, IfOk, IfErr, OnOk, IfSome, IfNone, is_some, if◌then◌else◌};
+ghost use Rattle.afdx_pcap.specs.declared.fault.PcapFault.TheVariants.{Memory};
+ghost use Rattle.afdx_pcap.specs.Reading.{Answers};
+
+use crate::fault::PcapFault;
+use crate::progress::{Progress, next_record};
+use crate::record::Record;
+use std::alloc::Allocator;
+use std::marker::Model;
+
+/// Reads the records of a capture that comes in pieces, each as soon as its last byte is there.
+///
+/// It keeps all bytes that it was fed. However they were cut, feeding them and taking the records is O(bytes).
+#[derive(Drop)]
+pub struct Reader<A: Allocator> {
+    alloc: A,
+    bytes: Vec<u8, A>,
+    given: usize,
+    progress: Option<Progress>,
+    closed: bool,
+    fault: Option<PcapFault>,
+}
+
+impl<A: Allocator> Model for Reader<A> {
+    ghost use Rattle.afdx_pcap.specs.Reading.{Reading, Stands};
+
+    ghost Value = { Reading };
+
+    ghost view = { λ r. record {
+      bytes = r.bytes.items;
+      given = r.given;
+      closed = r.closed;
+      fault = r.fault;
+    } };
+
+    ghost invariant = { λ r. Stands r.bytes.items r.given r.progress };
+}
+
+impl<A: Allocator + Copy> Reader<A> {
+    /// A reader of no bytes so far, open, which takes its memory from `alloc`. O(1), no memory.
+    pub fn new(alloc: A) -> Reader<A>
+        ensures { result ≡ record { bytes = []; given = 0; closed = false; fault = None } }
+    {
+        Reader {
+            alloc,
+            bytes: Vec::new(alloc),
+            given: 0,
+            progress: None,
+            closed: false,
+            fault: None,
+        }
+    }
+
+    /// Takes the next piece of the input, at the end of the bytes so far.
+    ///
+    /// Only an open reader is fed, which [`Reader::is_closed`] tells.
+    ///
+    /// # Errors
+    ///
+    /// The fault that this or `next` answered before, and for good; else `Memory` alone, and the piece is
+    /// not kept.
+    ///
+    /// Amortized O(piece).
+    pub fn feed(&mut self, piece: &[u8]) -> Result<(), PcapFault>
+        requires { self.old.closed ≡ false }
+        ensures ok { OnOk result (self.new ≡ record self.old { bytes = self.old.bytes ++ piece.now }) }
+        ensures err { IfErr result (λ fault. self.new ≡ record self.old { fault = Some fault }) }
+
+        // A fault that was answered stays the answer; else memory ran out.
+        ensures failed { IfSome self.old.fault (λ fault. result ≡ Err fault) }
+        ensures memory { IfNone self.old.fault (IfErr result (λ fault. fault ≡ Memory)) }
+    {
+        if let Some(fault) = self.fault {
+            return Err(fault);
+        }
+        if self.bytes.extend_from_slice(piece).is_err() {
+            self.fault = Some(PcapFault::Memory);
+            return Err(PcapFault::Memory);
+        }
+        Ok(())
+    }
+
+    /// The next whole record; none where the bytes so far hold neither one nor a fault.
+    ///
+    /// # Errors
+    ///
+    /// The fault of the bytes, with the record's number, after all whole records before it; while the reader
+    /// is open only one that no further bytes can mend, so not P2, P6 or P11. `Memory` where the copy of the
+    /// record's bytes was refused. The same fault is then answered for good.
+    ///
+    /// O(bytes of the record), and O(1) where there is none: no byte of an earlier record is read again.
+    pub fn next(&mut self) -> Result<Option<Record<A>>, PcapFault>
+        ensures ok { IfOk result (λ found. self.new ≡ record self.old {
+          given = (if is_some found then self.old.given + 1 else self.old.given);
+        }) }
+        ensures err { IfErr result (λ fault. self.new ≡ record self.old { fault = Some fault }) }
+
+        // A fault that was answered stays the answer; else this is what the bytes tell.
+        ensures failed { IfSome self.old.fault (λ fault. result ≡ Err fault) }
+        ensures answer { IfNone self.old.fault (Answers self.old.bytes self.old.given self.old.closed result) }
+    {
+        if let Some(fault) = self.fault {
+            return Err(fault);
+        }
+        match next_record(
+            self.alloc,
+            &self.bytes,
+            self.given,
+            self.closed,
+            self.progress,
+        ) {
+            Ok(Some((record, progress))) => {
+                self.given += 1;
+                self.progress = Some(progress);
+                Ok(Some(record))
+            }
+            Ok(None) => Ok(None),
+            Err(fault) => {
+                self.fault = Some(fault);
+                Err(fault)
+            }
+        }
+    }
+
+    /// Ends the input: a rest that is no whole record is then a fault of `next`. A second call changes
+    /// nothing. O(1).
+    pub fn close(&mut self)
+        ensures { self.new ≡ record self.old { closed = true } }
+    {
+        self.closed = true;
+    }
+
+    /// Whether the input was ended. O(1).
+    pub fn is_closed(&self) -> bool
+        ensures { result ≡ self.now.closed }
+    {
+        self.closed
+    }
+}

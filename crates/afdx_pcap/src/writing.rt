@@ -1,0 +1,98 @@
+//! Captures that are written.
+
+ghost use Rattle.std.specs.Prelude.{◌≡◌, ◌++◌, min, length, IfOk, OnOk, OnErr, IsOkUnless};
+ghost use Rattle.afdx_pcap.specs.declared.fault.PcapFault.TheVariants.{Memory};
+ghost use Rattle.afdx_pcap.specs.Entry.{IsWithinLimit};
+ghost use Rattle.afdx_pcap.specs.Capture.{IsCapture};
+ghost use Rattle.afdx_pcap.specs.Text.{header_text, head_text, record_text, capture_text, AreReadable};
+
+use crate::fault::PcapFault;
+use crate::format::{HEAD_LENGTH, HEADER_LENGTH};
+use crate::record::Record;
+use byteorder::{ByteOrder, LittleEndian};
+use std::alloc::{AllocError, Allocator};
+
+/// Little-endian, nanoseconds, version 2.4, snaplen 262,144, Ethernet.
+const HEADER: [u8; HEADER_LENGTH] = [
+    0x4d, 0x3c, 0xb2, 0xa1, 2, 0, 4, 0, 0, 0, 0, 0, 0, 0, 0, 0, 0, 0, 4, 0, 1, 0, 0, 0,
+];
+
+#[tactic(auto, unfolding(crate::specs::Text::head_text))]
+fn head_bytes<A: Allocator>(source: &Record<A>) -> [u8; HEAD_LENGTH]
+    ensures { result ≡ head_text source.now }
+{
+    let length = source.bytes().len() as u32;
+    let mut head = [0; HEAD_LENGTH];
+    LittleEndian::write_u32(&mut head, source.stamp().sec());
+    LittleEndian::write_u32(&mut head[4..], source.stamp().nanos());
+    LittleEndian::write_u32(&mut head[8..], length);
+    LittleEndian::write_u32(&mut head[12..], length);
+    head
+}
+
+/// The number of bytes of the whole text; the greatest number where it is more.
+fn text_length<A: Allocator>(records: &[Record<A>]) -> usize
+    ensures { result ≡ min (length (capture_text records.now)) usize.MAX }
+{
+    let mut total = HEADER_LENGTH;
+    for record in records {
+        total = total.saturating_add(HEAD_LENGTH + record.bytes().len());
+    }
+    total
+}
+
+/// Appends the header of a capture, which is the text of no records.
+///
+/// # Errors
+///
+/// Want of memory, with nothing appended. O(1) amortized.
+pub fn write_header<A: Allocator>(out: &mut Vec<u8, A>) -> Result<(), AllocError>
+    ensures ok { OnOk result (out.new.items ≡ out.old.items ++ header_text) }
+    ensures err { OnErr result (out.new.items ≡ out.old.items) }
+{
+    out.extend_from_slice(&HEADER)
+}
+
+/// Appends the text of a record.
+///
+/// # Errors
+///
+/// Want of memory, with nothing appended. The record's bytes are copied once: O(bytes) amortized.
+pub fn write_record<A: Allocator, B: Allocator>(
+    out: &mut Vec<u8, A>,
+    source: &Record<B>,
+) -> Result<(), AllocError>
+    ensures ok { OnOk result (out.new.items ≡ out.old.items ++ record_text source.now) }
+    ensures limit { OnOk result (IsWithinLimit source.now) }
+    ensures err { OnErr result (out.new.items ≡ out.old.items) }
+{
+    out.reserve(HEAD_LENGTH + source.bytes().len())?;
+    out.extend_from_slice(&head_bytes(source))?;
+    out.extend_from_slice(source.bytes())
+}
+
+/// The one text of these records: pcap 2.4, little-endian, nanoseconds, link type 1.
+///
+/// An original length is written as the number of bytes. The text is a capture of these records again where
+/// their stamps do not fall, none lies in the last second, and each original is the number of bytes.
+///
+/// # Errors
+///
+/// `Memory` alone.
+///
+/// Room is made once for the whole text, and each record's bytes are copied once: O(bytes).
+pub fn write_all<A: Allocator, B: Allocator>(
+    alloc: A,
+    records: &[Record<B>],
+) -> Result<Vec<u8, A>, PcapFault>
+    ensures text { IfOk result (λ v. v.items ≡ capture_text records.now) }
+    ensures again { IfOk result (λ v. AreReadable 0 records.now → IsCapture v.items records.now) }
+    ensures memory { IsOkUnless result Memory }
+{
+    let mut out = Vec::with_capacity(alloc, text_length(records))?;
+    write_header(&mut out)?;
+    for record in records {
+        write_record(&mut out, record)?;
+    }
+    Ok(out)
+}

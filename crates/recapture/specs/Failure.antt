@@ -1,0 +1,12 @@
+-- What a failure tells of the input and the output.
+use Rattle.std.specs.Prelude.{◌≢◌, ℕ, List, Option, IfSome, ⊤}
+use Rattle.std.specs.Io.KnownBytes.{Keeps}
+use Rattle.afdx_pcap.specs.declared.fault.PcapFault.TheVariants.{Memory}
+use Rattle.afdx_pcap.specs.Fault.{IsFault}
+use Rattle.recapture.specs.declared.Failure.{Failure}
+use Rattle.recapture.specs.declared.Failure.TheVariants.{Capture, Device}
+
+-- a capture that was refused has this fault, and nothing was written
+abbrev pub Tells : Option (List ℕ) → Option (List ℕ) → Option (List ℕ) → Failure → Type 0
+Tells input old new (Capture fault) = Keeps old new × (fault ≢ Memory → IfSome input (λ xs. IsFault xs fault))
+Tells input old new Device = ⊤
