@@ -1,7 +1,7 @@
 -- Which frames of a capture are a link's own.
-use Rattle.std.specs.Prelude.{ℕ, ◌==◌, ◌&&◌, Bool, nat_le, List, [], ◌∷◌, length, take, drop}
+use Rattle.std.specs.Prelude.{ℕ, ◌==◌, ◌&&◌, Bool, nat_le, List, [], ◌∷◌, length}
 use Rattle.std.specs.Str.{bytes_eq}
-use Rattle.byteorder.specs.Endian.{big_number}
+use Rattle.afdx_frame.specs.Address.{constant_of, link_of}
 use Rattle.afdx_units.specs.Line.{size_of}
 use Rattle.afdx_pcap.specs.Entry.{Entry}
 use Rattle.afdx.specs.declared.link.Alone.{Alone}
@@ -10,14 +10,7 @@ use Rattle.afdx.specs.declared.link.Alone.{Alone}
 abbrev pub constant : List ℕ
 constant = 3 ∷ 0 ∷ 0 ∷ 0 ∷ []
 
--- ARINC 664 Part 7: bytes 0 to 3 of a destination address are the constant field
-abbrev pub constant_of : List ℕ → List ℕ
-constant_of bytes = take 4 bytes
-
--- ARINC 664 Part 7: bytes 4 and 5 of a destination address are the link's number, big-endian
-abbrev pub link_of : List ℕ → ℕ
-link_of bytes = big_number 2 (drop 4 bytes)
-
+-- ARINC 664 Part 7: the destination address is that of the link of this number
 abbrev pub is_addressed : ℕ → List ℕ → Bool
 is_addressed id bytes = bytes_eq (constant_of bytes) constant && link_of bytes == id
 

@@ -5,9 +5,9 @@ ghost use Rattle.afdx_units.specs.Line.{size_of};
 ghost use Rattle.afdx.specs.Own.{is_addressed, is_own};
 
 use crate::link::Alone;
+use afdx_frame::view;
 use afdx_pcap::Record;
 use afdx_units::size;
-use byteorder::{BigEndian, ByteOrder};
 use std::alloc::Allocator;
 
 /// The constant field of every link (profile).
@@ -30,7 +30,8 @@ fn is_addressed(bytes: &[u8], id: u16) -> bool
     requires { 6 ≤ length bytes.now }
     ensures { result ≡ is_addressed id bytes.now }
 {
-    bytes.starts_with(&CONSTANT) && BigEndian::read_u16(&bytes[4..]) == id
+    let address = view(bytes).unwrap();
+    address.constant() == CONSTANT && address.link() == id
 }
 
 /// Whether a frame is the link's own: whole, of a size that frames have, addressed to the link, and not

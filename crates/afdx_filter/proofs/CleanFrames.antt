@@ -1,0 +1,74 @@
+-- A clean frame has a link.
+use Rattle.std.proofs.Common.{◌≡◌, ℕ, ◌≤◌, nat_eq, nat_lt, not, cond, Bool, true, false, List, [], ◌∷◌, length, find, Option, Some, None, refl, sym, ◌∙◌, subst, inl, inr, arith}
+use Rattle.std.specs.Str.{bytes_eq}
+use Rattle.std.proofs.lemmas.Bool.{cases_Bool, eqb-true}
+use Rattle.std.proofs.lemmas.Bool.Decides.{nat_tests}
+use Rattle.afdx_units.specs.Line.{size_of}
+use Rattle.afdx_frame.specs.Address.{constant_of, link_of}
+use Rattle.afdx_table.specs.Link.{Link}
+use Rattle.afdx_table.specs.Content.{Content, link_row}
+use Rattle.afdx_filter.specs.declared.outcome.Verdict.{Verdict}
+use Rattle.afdx_filter.specs.declared.outcome.Verdict.TheVariants.{Cut, Short, Long, Foreign, WrongPort, TooBig, Clean}
+use Rattle.afdx_filter.specs.Verdict.{link_verdict}
+use Rattle.afdx_filter.specs.Clean.{CleanFramesHaveALink}
+
+found-passes : {A : Type 0} (test : A → Bool) (xs : List A) (x : A) → find test xs ≡ Some x → test x ≡ true
+found-passes test [] x h = absurd cc
+found-passes test (y ∷ xs) x h =
+    elim (cases_Bool (test y)) [
+      | inl here ↦ let g = rw here at h in let same : y ≡ x = cc in subst (λ z. test z ≡ true) same here
+      | inr later ↦ found-passes test xs x (rw later at h)
+    ]
+
+found-number : (table : Content) (number : ℕ) (link : Link) → link_row table number ≡ Some link → number ≡ link.id
+found-number table number link h = sym (eqb-true link.id number (found-passes (λ (l : Link). nat_eq l.id number) table.links link h))
+
+-- a case that does not hold, and what the cases after it say
+record IsPast (test : Bool) (rest : Verdict) (id : ℕ) : Type 0 where
+  fails : test ≡ false
+  others : rest ≡ Clean id
+
+past : (test : Bool) (here rest : Verdict) (id : ℕ) → (here ≡ Clean id → ⊥) → cond test here rest ≡ Clean id → IsPast test rest id
+past true here rest id differs h = absurd (differs h)
+past false here rest id differs h = record { fails = refl; others = h }
+
+record CleanLink (port size id : ℕ) (o : Option Link) : Type 0 where
+  link : Link
+  is_link : o ≡ Some link
+  number : link.id ≡ id
+  from_port : link.from ≡ port
+  fits : size ≤ link.max_size
+
+link_clean : (port size id : ℕ) (o : Option Link) → link_verdict port size o ≡ Clean id → CleanLink port size id o
+link_clean port size id None h = absurd cc
+link_clean port size id (Some l) h =
+    let here = past (not (nat_eq l.from port)) WrongPort _ id (λ e. absurd cc) h in
+    let small = past (nat_lt l.max_size size) TooBig _ id (λ e. absurd cc) here.others in
+    record {
+      link = l;
+      is_link = refl;
+      number = let same : Clean l.id ≡ Clean id = small.others in cc;
+      from_port = grind (arith, nat_tests, here.fails);
+      fits = grind (arith, nat_tests, small.fails);
+    }
+
+pub clean-link : CleanFramesHaveALink
+clean-link table port frame id h =
+    let size = size_of (length frame.bytes) in
+    let number = link_of frame.bytes in
+    let whole = past (nat_lt (length frame.bytes) frame.original) Cut _ id (λ e. absurd cc) h in
+    let least = past (nat_lt size 64) Short _ id (λ e. absurd cc) whole.others in
+    let most = past (nat_lt 1518 size) Long _ id (λ e. absurd cc) least.others in
+    let own = past (not (bytes_eq (constant_of frame.bytes) table.constant)) Foreign _ id (λ e. absurd cc) most.others in
+    let l = link_clean port size id (link_row table number) own.others in
+    let numbered : number ≡ id = found-number table number l.link l.is_link ∙ l.number in
+    record {
+      link = l.link;
+      is_link = subst (λ n. link_row table n ≡ Some l.link) numbered l.is_link;
+      number = l.number;
+      address = numbered;
+      from_port = l.from_port;
+      whole = grind (arith, nat_tests, whole.fails);
+      size_least = grind (arith, nat_tests, least.fails);
+      size_most = l.fits;
+    }

@@ -1,0 +1,12 @@
+//! The filter of the switch: the verdict on a frame that arrives at a port.
+#![tactic(auto)]
+
+mod deciding;
+pub mod laws;
+mod outcome;
+
+pub use deciding::verdict;
+pub use outcome::Verdict;
+
+#[cfg(test)]
+mod tests;

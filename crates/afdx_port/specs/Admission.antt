@@ -1,0 +1,45 @@
+-- Which items a port admits to its buffer (profile).
+use Rattle.std.specs.Prelude.{ℕ, ◌+◌, ◌<◌, ◌≤◌, ◌≡◌, Bool, not, nat_lt, nat_le, if◌then◌else◌, List, [], ◌∷◌, ◌++◌, filter, sum_by}
+use Rattle.afdx_port.specs.declared.Settings.{Settings}
+use Rattle.afdx_port.specs.declared.Item.{Item}
+use Rattle.afdx_port.specs.Service.{came, Event, sending, aging, item_of, service, before}
+
+-- the item's room is free again for an arrival at t: its sending ended by t, or it was given up before t
+abbrev pub is_gone : ℕ → Event → Bool
+is_gone t (sending s) = nat_le s.end t
+is_gone t (aging a) = nat_lt a.at t
+
+-- the bytes of those admitted that are not gone at t
+abbrev pub occupied : Settings → ℕ → List Item → ℕ
+occupied s t admitted = sum_by (λ event. (item_of event).size) (filter (λ event. not (is_gone t event)) (service s 0 admitted))
+
+-- x fits beside those admitted before it
+abbrev pub fits : Settings → List Item → Item → Bool
+fits s admitted x = nat_le (x.size + occupied s (came s x) admitted) s.buffer
+
+-- x is refused: with those that are not gone it would pass the buffer
+abbrev pub IsFull : Settings → List Item → Item → Type 0
+IsFull s admitted x = s.buffer < x.size + occupied s (came s x) admitted
+
+-- the admitted items after x was offered
+abbrev pub admit : Settings → List Item → Item → List Item
+admit s admitted x = if fits s admitted x then admitted ++ x ∷ [] else admitted
+
+-- an arrival at t changes no event before t
+abbrev pub EarlierEventsStay : Type 0
+EarlierEventsStay = (s : Settings) (t free : ℕ) (items : List Item) (x : Item) → t ≤ came s x
+    → before t (service s free (items ++ x ∷ [])) ≡ before t (service s free items)
+
+-- nor does an offer at t
+abbrev pub EarlierEventsStayAdmitted : Type 0
+EarlierEventsStayAdmitted = (s : Settings) (t : ℕ) (admitted : List Item) (x : Item) → t ≤ came s x
+    → before t (service s 0 (admit s admitted x)) ≡ before t (service s 0 admitted)
+
+-- those of the feed that join, after the ones that were admitted before it
+abbrev pub admit_all : Settings → List Item → List Item → List Item
+admit_all s admitted [] = admitted
+admit_all s admitted (x ∷ feed) = admit_all s (admit s admitted x) feed
+
+-- the items of a feed that are admitted
+abbrev pub admitted : Settings → List Item → List Item
+admitted s feed = admit_all s [] feed

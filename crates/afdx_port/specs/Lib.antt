@@ -1,0 +1,12 @@
+pub mod Service
+pub mod Admission
+pub mod Content
+pub mod Progress
+pub mod Order
+pub mod Work
+pub mod Course
+pub mod Queued
+pub mod Sound
+pub mod Kept
+pub mod PlainSound
+pub mod PlainKept

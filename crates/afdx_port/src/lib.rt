@@ -1,0 +1,107 @@
+//! One output port: what waits, whose turn it is, what is sent and what is given up for its age.
+//!
+//! A port has one line, a queue for each of the two priorities and one buffer for both. The line takes
+//! high items before low ones, each priority in order of arrival, and interrupts none (ARINC 664 Part 7);
+//! an item that has waited for more than the greatest delay is given up where it would start (profile).
+//!
+//! Contracts speak of the *service* of all items that the port admitted: a list of events that is
+//! chosen anew from the whole list, with no queue and no count. The module `laws` has what holds of it.
+//!
+//! Stamps never go back. At one instant the order is: ends, then arrivals, then starts (profile).
+//! `Port::reserve` alone takes memory.
+#![tactic(auto)]
+
+ghost use Rattle.std.specs.Prelude.{◌≡◌};
+ghost use Rattle.afdx_port.specs.Service.{reach, came, is_urgent};
+
+use afdx_units::{Priority, Speed, Stamp};
+
+pub mod laws;
+mod line;
+mod plain_line;
+mod plain_port;
+mod port;
+mod queues;
+#[cfg(test)]
+mod tests;
+
+pub use port::Port;
+
+/// What a port is set to.
+#[derive(Clone, Copy, Debug, PartialEq, Eq)]
+pub struct Settings {
+    pub speed: Speed,
+    /// Bytes that may wait or be on the line: at most 16,777,216.
+    pub buffer: u32,
+    /// Nanoseconds that an item may wait for its start: at most 500,000,000.
+    pub max_delay: u64,
+}
+
+/// A copy of a frame that is offered to a port.
+#[derive(Clone, Copy, Debug, PartialEq, Eq)]
+pub struct Item {
+    /// Tells the frame from all others: each is offered with a greater number than those admitted before it.
+    pub number: usize,
+    /// The virtual link that the frame belongs to.
+    pub link: u16,
+    /// The instant at which the frame had wholly come.
+    pub stamp: Stamp,
+    /// Bytes of the frame with its check sequence: 64 to 1518.
+    pub size: u32,
+    pub priority: Priority,
+}
+
+/// An item that was sent.
+#[derive(Clone, Copy, Debug, PartialEq, Eq)]
+pub struct Sent {
+    pub item: Item,
+    /// The instant at which it starts.
+    pub begin: Stamp,
+    /// The instant at which the line is free again, gap included.
+    pub end: Stamp,
+}
+
+/// An item that was given up for its age.
+#[derive(Clone, Copy, Debug, PartialEq, Eq)]
+pub struct Aged {
+    pub item: Item,
+    /// The instant at which it would have started.
+    pub at: Stamp,
+}
+
+/// The answer to an offer.
+#[derive(Clone, Copy, Debug, PartialEq, Eq)]
+pub enum Offer {
+    /// The item joined those that wait.
+    Queued,
+    /// The buffer had no room for it.
+    Full,
+}
+
+impl Settings {
+    /// The instant by which all is queued that came by the stamp.
+    fn reach(&self, to: Stamp) -> Stamp
+        ensures { result ≡ reach self.now to }
+    {
+        to
+    }
+}
+
+impl Item {
+    /// The instant at which this is queued.
+    fn came(&self, settings: &Settings) -> Stamp
+        ensures { result ≡ came settings.now self.now }
+    {
+        settings.reach(self.stamp)
+    }
+
+    /// Whether this is a high item that is queued by the instant.
+    fn is_urgent(&self, settings: &Settings, at: Stamp) -> bool
+        ensures { result ≡ is_urgent settings.now at self.now }
+    {
+        match self.priority {
+            Priority::High => self.came(settings) <= at,
+            Priority::Low => false,
+        }
+    }
+}

@@ -1,0 +1,170 @@
+//! One output port.
+
+ghost use Rattle.std.specs.Prelude.{◌≡◌, ℕ, ◌+◌, ◌<◌, ◌≤◌, false, All, OnOk};
+ghost use Rattle.afdx_units.specs.Time.{last_second};
+ghost use Rattle.afdx_port.specs.Service.{sent_of, aged_of};
+ghost use Rattle.afdx_port.specs.Content.{Content, PortValue, done, due, fresh, answer, offered, advanced, closed};
+
+use crate::line::Line;
+use crate::{Aged, Item, Offer, Sent, Settings};
+use afdx_units::{Speed, Stamp};
+use std::alloc::{AllocError, Allocator};
+use std::marker::Model;
+
+/// One output port: a line, the items that wait for it, and one buffer for both priorities.
+///
+/// Contracts see its *content*, which is its settings, all items that it admitted, the horizon (the
+/// greatest stamp offered or advanced to, 0 where there is none) and whether it is finished; and for
+/// how many offers it has room.
+///
+/// What was carried out so far is, of the service of all items that were admitted, the events that
+/// lie before the horizon; once finished, all of them. Each call is O(1), and O(1) for each event
+/// that it carries out; an item has one event. Only `reserve` takes memory.
+#[derive(Drop)]
+pub struct Port<A: Allocator> {
+    line: Line<A>,
+    admitted: Vec<Item, A>,
+    horizon: Stamp,
+    finished: bool,
+    room: usize,
+}
+
+impl<A: Allocator> Model for Port<A> {
+    ghost use Rattle.afdx_port.specs.Content.{PortValue};
+
+    ghost Value = { PortValue };
+
+    ghost use Rattle.afdx_port.specs.Kept.{value_of, IsKept};
+
+    ghost view = { value_of };
+
+    ghost invariant = { IsKept };
+}
+
+impl<A: Allocator + Copy> Port<A> {
+    /// A port that was offered nothing yet, with a buffer of so many bytes and a greatest delay in nanoseconds.
+    ///
+    /// It keeps the allocator for `reserve`, and takes no memory. O(1).
+    pub fn new(alloc: A, speed: Speed, buffer: u32, max_delay: u64) -> Self
+        requires buffer { buffer ≤ 16777216 }
+        requires delay { max_delay ≤ 500000000 }
+        ensures { result ≡ record { content = fresh (record { speed = speed; buffer = buffer; max_delay = max_delay }); room = 0 } }
+    {
+        Port {
+            line: Line::new(
+                alloc,
+                Settings {
+                    speed,
+                    buffer,
+                    max_delay,
+                },
+            ),
+            admitted: Vec::new(alloc),
+            horizon: Stamp::ZERO,
+            finished: false,
+            room: 0,
+        }
+    }
+
+    /// Makes room for so many further offers, in the queues and in the lists of what was admitted,
+    /// sent and given up, so that no other call takes memory.
+    ///
+    /// An error says that a growth was refused; the content is as before then. O(items held) where a
+    /// list moves.
+    pub fn reserve(&mut self, n: usize) -> Result<(), AllocError>
+        ensures ok { OnOk result (n ≤ self.new.room) }
+        ensures content { self.new.content ≡ self.old.content }
+        ensures room { self.old.room ≤ self.new.room }
+    {
+        self.line.reserve(n)?;
+        self.admitted.reserve(n)?;
+        if self.room < n {
+            self.room = n;
+        }
+        Ok(())
+    }
+
+    /// How many offers still have room. Only `offer` lowers it, by at most one. O(1).
+    pub fn room(&self) -> usize
+        ensures { result ≡ self.now.room }
+    {
+        self.room
+    }
+
+    /// Whether the port is finished: no offer or advance follows then. O(1).
+    pub fn finished(&self) -> bool
+        ensures { result ≡ self.now.content.finished }
+    {
+        self.finished
+    }
+
+    /// Carries out the events before the item's stamp, and queues the item where the buffer has room.
+    ///
+    /// An item occupies its size until its end, or until the instant at which it is given up has
+    /// passed (profile). O(1), and O(1) for each event.
+    pub fn offer(&mut self, item: Item) -> Offer
+        requires room { 0 < self.old.room }
+        requires open { self.old.content.finished ≡ false }
+        requires not_late { item.stamp < last_second }
+        requires in_order { self.old.content.horizon ≤ item.stamp }
+        requires numbered { All (λ other. other.number < item.number) self.old.content.admitted }
+        requires least { 64 ≤ item.size }
+        requires largest { item.size ≤ 1518 }
+        ensures answer { result ≡ answer item self.old.content }
+        ensures content { self.new.content ≡ offered item self.old.content }
+        ensures room { self.old.room ≤ self.new.room + 1 }
+    {
+        self.line.serve_before(item.stamp);
+        self.horizon = item.stamp;
+        if !self.line.fits(&item) {
+            return Offer::Full;
+        }
+        self.line.queue(item);
+        self.admitted.push_reserved(item);
+        self.room -= 1;
+        Offer::Queued
+    }
+
+    /// Carries out the events before the instant. O(1), and O(1) for each event.
+    pub fn advance(&mut self, to: Stamp)
+        requires open { self.old.content.finished ≡ false }
+        requires in_order { self.old.content.horizon ≤ to }
+        ensures content { self.new.content ≡ advanced to self.old.content }
+        ensures room { self.old.room ≤ self.new.room }
+    {
+        self.line.serve_before(to);
+        self.horizon = to;
+    }
+
+    /// Carries out all events that are left. A second call changes nothing. O(1) for each event.
+    pub fn finish(&mut self)
+        ensures content { self.new.content ≡ closed self.old.content }
+        ensures room { self.old.room ≤ self.new.room }
+    {
+        if !self.finished {
+            self.line.serve_all();
+            self.finished = true;
+        }
+    }
+
+    /// The instant of the first event that was not carried out yet; none where no item waits. O(1).
+    pub fn due(&self) -> Option<Stamp>
+        ensures { result ≡ due self.now.content }
+    {
+        if self.finished { None } else { self.line.due() }
+    }
+
+    /// What was sent so far, in order of its start. O(1).
+    pub fn sent(&self) -> &[Sent]
+        ensures { result.now ≡ sent_of (done self.now.content) }
+    {
+        &self.line.sent
+    }
+
+    /// What was given up for its age so far, in order. O(1).
+    pub fn aged(&self) -> &[Aged]
+        ensures { result.now ≡ aged_of (done self.now.content) }
+    {
+        &self.line.aged
+    }
+}

@@ -1,0 +1,257 @@
+//! Items offered to one port, worked out by hand; and the port beside its plain program.
+
+ghost use Rattle.std.specs.Prelude.{◌≡◌, ℕ, ◌+◌, ◌<◌, ◌≤◌, false, All};
+ghost use Rattle.afdx_units.specs.Time.{last_second};
+
+use crate::plain_port::PlainPort;
+use crate::{Item, Offer, Port};
+use afdx_units::{Priority, Speed, Stamp};
+use std::alloc::{AllocError, Global};
+use std::test::Fail;
+
+/// Offers an item of this size that came at so many nanoseconds.
+fn offer(port: &mut Port<Global>, number: usize, at: u64, size: u32, priority: Priority) -> Offer
+    requires room { 0 < port.old.room }
+    requires open { port.old.content.finished ≡ false }
+    requires not_late { at < last_second }
+    requires in_order { port.old.content.horizon ≤ at }
+    requires numbered { All (λ other. other.number < number) port.old.content.admitted }
+    requires least { 64 ≤ size }
+    requires largest { size ≤ 1518 }
+    ensures room { port.old.room ≤ port.new.room + 1 }
+    ensures open { port.new.content.finished ≡ false }
+    ensures horizon { port.new.content.horizon ≡ at }
+    ensures numbered { All (λ other. other.number < number + 1) port.new.content.admitted }
+{
+    port.offer(Item {
+        number,
+        link: 10,
+        stamp: Stamp::from_ns(at).unwrap(),
+        size,
+        priority,
+    })
+}
+
+/// The number and the end of the item that was sent at this place.
+fn end_at(port: &Port<Global>, place: usize) -> Option<(usize, u64)> {
+    let sent = port.sent().get(place)?;
+    Some((sent.item.number, sent.end.ns()))
+}
+
+/// The number of the item that was given up at this place, and when.
+fn aged_at(port: &Port<Global>, place: usize) -> Option<(usize, u64)> {
+    let aged = port.aged().get(place)?;
+    Some((aged.item.number, aged.at.ns()))
+}
+
+/// A port that sent a low item of 1518 bytes that came at 0, one of 64 at 1, and a high one that came then.
+fn port_with_high_at(alloc: Global, at: u64) -> Result<Port<Global>, AllocError>
+    requires later { 1 ≤ at }
+    requires not_late { at < last_second }
+{
+    let mut port = Port::new(alloc, Speed::Hundred, 100_000, 500_000_000);
+    port.reserve(3)?;
+    offer(&mut port, 1, 0, 1518, Priority::Low);
+    offer(&mut port, 2, 1, 64, Priority::Low);
+    offer(&mut port, 3, at, 64, Priority::High);
+    port.finish();
+    Ok(port)
+}
+
+#[test]
+fn high_overtakes(rt: HostRuntime) -> Result<(), Fail> {
+    let port = port_with_high_at(rt.alloc(), 1)?;
+    assert_eq!(rt; end_at(&port, 0), Some((1, 123_040)));
+    assert_eq!(rt; end_at(&port, 1), Some((3, 129_760)));
+    assert_eq!(rt; end_at(&port, 2), Some((2, 136_480)));
+    Ok(())
+}
+
+#[test]
+fn high_at_the_instant_of_the_end(rt: HostRuntime) -> Result<(), Fail> {
+    let port = port_with_high_at(rt.alloc(), 123_040)?;
+    assert_eq!(rt; end_at(&port, 0), Some((1, 123_040)));
+    assert_eq!(rt; end_at(&port, 1), Some((3, 129_760)));
+    assert_eq!(rt; end_at(&port, 2), Some((2, 136_480)));
+    Ok(())
+}
+
+/// The answer to a second item of 1518 bytes in a buffer of 1518, and its end.
+fn second_in_buffer(alloc: Global, at: u64) -> Result<(Offer, Option<(usize, u64)>), AllocError>
+    requires { at < last_second }
+{
+    let mut port = Port::new(alloc, Speed::Hundred, 1518, 500_000_000);
+    port.reserve(2)?;
+    offer(&mut port, 1, 0, 1518, Priority::Low);
+    let answer = offer(&mut port, 2, at, 1518, Priority::Low);
+    port.finish();
+    Ok((answer, end_at(&port, 1)))
+}
+
+/// The answer to an item that comes about when another is given up, and what became of both.
+fn third_beside_aged(
+    alloc: Global,
+    at: u64,
+) -> Result<(Offer, [Option<(usize, u64)>; 2]), AllocError>
+    requires { at < last_second }
+{
+    let mut port = Port::new(alloc, Speed::Hundred, 1581, 100_000);
+    port.reserve(3)?;
+    offer(&mut port, 1, 0, 1517, Priority::Low);
+    offer(&mut port, 2, 0, 64, Priority::Low);
+    let answer = offer(&mut port, 3, at, 1518, Priority::Low);
+    port.finish();
+    Ok((answer, [aged_at(&port, 0), end_at(&port, 1)]))
+}
+
+#[test]
+fn buffer_at_the_edge(rt: HostRuntime) -> Result<(), Fail> {
+    assert_eq!(rt;
+        second_in_buffer(rt.alloc(), 123_040)?,
+        (Offer::Queued, Some((2, 246_080)))
+    );
+    assert_eq!(rt; second_in_buffer(rt.alloc(), 123_039)?, (Offer::Full, None));
+    let aged = Some((2, 122_960));
+    assert_eq!(rt;
+        third_beside_aged(rt.alloc(), 122_960)?,
+        (Offer::Full, [aged, None])
+    );
+    assert_eq!(rt;
+        third_beside_aged(rt.alloc(), 122_961)?,
+        (Offer::Queued, [aged, Some((3, 246_001))])
+    );
+    Ok(())
+}
+
+#[test]
+fn age_at_the_edge(rt: HostRuntime) -> Result<(), Fail> {
+    let mut port = Port::new(rt.alloc(), Speed::Hundred, 100_000, 100_000);
+    port.reserve(3)?;
+    offer(&mut port, 1, 0, 1518, Priority::Low);
+    offer(&mut port, 2, 0, 64, Priority::Low);
+    offer(&mut port, 3, 23_040, 64, Priority::Low);
+    port.finish();
+    assert_eq!(rt; aged_at(&port, 0), Some((2, 123_040)));
+    assert_eq!(rt; end_at(&port, 1), Some((3, 129_760)));
+    Ok(())
+}
+
+#[test]
+fn port_of_switch_by_calls(rt: HostRuntime) -> Result<(), Fail> {
+    let mut port = Port::new(rt.alloc(), Speed::Hundred, 64, 500_000);
+    port.reserve(2)?;
+    assert!(rt; port.room() >= 2);
+    assert_eq!(rt; offer(&mut port, 1, 0, 64, Priority::Low), Offer::Queued);
+    assert_eq!(rt; offer(&mut port, 2, 0, 64, Priority::Low), Offer::Full);
+    assert!(rt; !port.finished());
+    Ok(())
+}
+
+#[test]
+fn due_is_the_next_start(rt: HostRuntime) -> Result<(), Fail> {
+    let mut port = Port::new(rt.alloc(), Speed::Hundred, 100_000, 100_000);
+    port.reserve(2)?;
+    assert_eq!(rt; port.due(), None);
+    offer(&mut port, 1, 10, 1518, Priority::Low);
+    assert_eq!(rt; port.due(), Stamp::from_ns(10));
+    offer(&mut port, 2, 10, 64, Priority::Low);
+    port.advance(Stamp::from_ns(11).unwrap());
+    assert_eq!(rt; port.due(), Stamp::from_ns(123_050));
+    port.advance(Stamp::from_ns(123_050).unwrap());
+    assert_eq!(rt; port.due(), Stamp::from_ns(123_050));
+    port.advance(Stamp::from_ns(123_051).unwrap());
+    assert_eq!(rt; port.due(), None);
+    Ok(())
+}
+
+/// Advances both ports to the item's stamp if asked, and offers it to both; whether they do the same.
+fn offer_both(fast: &mut Port<Global>, plain: &mut PlainPort, item: &Item, advances: bool) -> bool
+    requires room { 0 < fast.old.room }
+    requires open { fast.old.content.finished ≡ false }
+    requires in_order { fast.old.content.horizon ≤ item.now.stamp }
+    requires numbered { All (λ other. other.number < item.now.number) fast.old.content.admitted }
+    requires plain_room { 0 < plain.old.room }
+    requires plain_open { plain.old.content.finished ≡ false }
+    requires plain_in_order { plain.old.content.horizon ≤ item.now.stamp }
+    requires plain_numbered { All (λ other. other.number < item.now.number) plain.old.content.admitted }
+    requires not_late { item.now.stamp < last_second }
+    requires least { 64 ≤ item.now.size }
+    requires largest { item.now.size ≤ 1518 }
+    ensures open { fast.new.content.finished ≡ false }
+    ensures horizon { fast.new.content.horizon ≡ item.now.stamp }
+    ensures numbered { All (λ other. other.number < item.now.number + 1) fast.new.content.admitted }
+    ensures plain_open { plain.new.content.finished ≡ false }
+    ensures plain_horizon { plain.new.content.horizon ≡ item.now.stamp }
+    ensures plain_numbered { All (λ other. other.number < item.now.number + 1) plain.new.content.admitted }
+{
+    if advances {
+        fast.advance(item.stamp);
+        plain.advance(item.stamp);
+    }
+    let one = fast.offer(*item);
+    let other = plain.offer(*item);
+    one == other && fast.sent().len() == plain.sent().len()
+}
+
+/// The next number of a linear congruential generator (Knuth's constants for 64 bits).
+fn next(seed: u64) -> u64 {
+    seed.wrapping_mul(6_364_136_223_846_793_005)
+        .wrapping_add(1_442_695_040_888_963_407)
+}
+
+/// What two bodies made of the same items.
+struct Comparison {
+    same: bool,
+    sent: usize,
+    aged: usize,
+}
+
+/// Offers 2,000 items to both bodies, all of whose times are in steps of 6,720 ns.
+fn alike(alloc: Global, start: u64) -> Result<Comparison, AllocError> {
+    let mut fast = Port::new(alloc, Speed::Hundred, 6_000, 268_800);
+    let mut plain = PlainPort::new(alloc, Speed::Hundred, 6_000, 268_800);
+    let mut seed = start;
+    let mut at: u64 = 0;
+    let mut number: usize = 0;
+    let mut same = true;
+    while number < 2_000 {
+        fast.reserve(1)?;
+        plain.reserve(1)?;
+        seed = next(seed);
+        at += (seed >> 32) % 17 * 6_720;
+        let item = Item {
+            number,
+            link: 10,
+            stamp: Stamp::from_ns(at).unwrap(),
+            size: 64 + ((seed >> 40) % 18 * 84) as u32,
+            priority: if (seed >> 50) % 3 == 0 {
+                Priority::High
+            } else {
+                Priority::Low
+            },
+        };
+        let advances = (seed >> 55) % 4 == 0;
+        same = offer_both(&mut fast, &mut plain, &item, advances) && same;
+        number += 1;
+    }
+    fast.finish();
+    plain.finish();
+    Ok(Comparison {
+        same: same && fast.sent() == plain.sent() && fast.aged() == plain.aged(),
+        sent: fast.sent().len(),
+        aged: fast.aged().len(),
+    })
+}
+
+#[test]
+fn the_plain_program_does_the_same(rt: HostRuntime) -> Result<(), Fail> {
+    for seed in 0..5 {
+        let Comparison { same, sent, aged } = alike(rt.alloc(), seed)?;
+        let gone = sent.saturating_add(aged);
+        assert!(rt; same, "seed {seed}");
+        assert!(rt; sent > 1_000, "{sent} sent");
+        assert!(rt; aged > 10, "{aged} given up");
+        assert!(rt; gone < 1_990, "{gone} queued of 2000");
+    }
+    Ok(())
+}

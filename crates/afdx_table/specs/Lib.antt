@@ -1,0 +1,10 @@
+pub mod Refusal
+pub mod Names
+pub mod Fields
+pub mod Link
+pub mod Content
+pub mod Ports
+pub mod Links
+pub mod Top
+pub mod Text
+pub mod WellFormed

@@ -1,0 +1,17 @@
+-- A virtual link (ARINC 664 Part 7), as contracts see it.
+use Rattle.std.specs.Prelude.{ℕ, List}
+use Rattle.afdx_units.specs.declared.bag.Bag.{Bag}
+use Rattle.afdx_units.specs.declared.line.Priority.{Priority}
+
+pub record Link : Type 0 where
+  pub id : ℕ
+  -- the port at which its frames come in
+  pub from : ℕ
+  -- the ports at which they leave, in the order of the table
+  pub to : List ℕ
+  pub bag : Bag
+  -- in nanoseconds
+  pub jitter : ℕ
+  -- in bytes, the frame check sequence counted and the line overhead not
+  pub max_size : ℕ
+  pub priority : Priority

@@ -1,0 +1,236 @@
+//! The fields of one TOML table.
+
+ghost use Rattle.std.specs.Prelude.{◌≡◌, ◌≤◌, Result, IfOk, [], map, option_map, string_bytes};
+ghost use Rattle.std.specs.List.{list_all};
+ghost use Rattle.std.specs.Map.{keys_of};
+ghost use Rattle.toml.specs.Data.{get_member};
+ghost use Rattle.toml.specs.View.{view, table_view};
+ghost use Rattle.afdx_table.specs.Refusal.{Gives};
+ghost use Rattle.afdx_table.specs.Names.{key_text};
+ghost use Rattle.afdx_table.specs.Fields.{bounded_natural, is_one_of, are_known, known_at, value_at, number_in, text_in, number_at, bounded, bounded_at, text_at, optional_number_at, optional_text_at, tables_at, all_bounded, numbers_at};
+
+use crate::arrays::{natural, naturals_of, tables_of};
+use crate::fault::{At, Key, TableFault};
+use crate::limits::MAX_PORT_ID;
+use std::alloc::Global;
+use toml::{Table, Value};
+
+/// Whether a text is one of these keys.
+fn is_one_of(keys: &[Key], text: &str) -> bool
+    ensures { result ≡ is_one_of keys.now text.now }
+{
+    keys.iter().any(|key| text == key.as_str())
+}
+
+/// Whether each key of a table is one of these, over the keys of the map.
+fn are_keys_known(keys: &[Key], table: &Table) -> bool
+    ensures { result ≡ list_all (λ k. is_one_of keys.now (string_bytes k)) (keys_of table.now.entries) }
+{
+    table.keys().all(|key| is_one_of(keys, key.as_str()))
+}
+
+/// Whether each key of a table is one of these.
+fn are_known(keys: &[Key], table: &Table) -> bool
+    ensures { result ≡ are_known keys.now (table_view table.now) }
+{
+    are_keys_known(keys, table)
+}
+
+/// The number that a value is.
+#[tactic(auto, unfolding(crate::specs::Fields::number_in))]
+fn number_in(at: At, key: Key, value: &Value) -> Result<u64, TableFault>
+    ensures { Gives (λ n. n) result (number_in at key (view value.now)) }
+{
+    let Some(number) = value.as_integer() else {
+        return Err(TableFault::Kind(at, key));
+    };
+    natural(number).ok_or(TableFault::Range(at, key))
+}
+
+/// The text that a value is.
+#[tactic(auto, unfolding(crate::specs::Fields::text_in))]
+fn text_in(at: At, key: Key, value: &Value) -> Result<&str, TableFault>
+    ensures { Gives (λ s. s.now) result (text_in at key (view value.now)) }
+{
+    value.as_str().ok_or(TableFault::Kind(at, key))
+}
+
+/// A number from `low` to `high`.
+#[tactic(auto, unfolding(crate::specs::Fields::bounded))]
+pub(crate) fn bounded(at: At, key: Key, low: u64, high: u64, number: u64) -> Result<u64, TableFault>
+    ensures value { result ≡ bounded at key low high number }
+    ensures within { IfOk result (λ n. n ≤ high) }
+{
+    if low <= number && number <= high {
+        Ok(number)
+    } else {
+        Err(TableFault::Range(at, key))
+    }
+}
+
+/// A whole number from `low` to `high`.
+#[tactic(auto, unfolding(crate::specs::Fields::bounded_natural))]
+fn bounded_natural(
+    at: At,
+    key: Key,
+    low: u8,
+    high: u8,
+    number: Option<u64>,
+) -> Result<u8, TableFault>
+    ensures { Gives (λ n. n) result (bounded_natural at key low high number) }
+{
+    match number {
+        Some(number) => {
+            let number = bounded(at, key, u64::from(low), u64::from(high), number)?;
+            Ok(number as u8)
+        }
+        None => Err(TableFault::Range(at, key)),
+    }
+}
+
+/// These numbers, each from `low` to `high`.
+#[tactic(auto, unfolding(crate::specs::Fields::all_bounded))]
+fn all_bounded(
+    alloc: Global,
+    at: At,
+    key: Key,
+    low: u8,
+    high: u8,
+    numbers: &[Option<u64>],
+) -> Result<Vec<u8>, TableFault>
+    ensures { Gives (λ v. v.items) result (all_bounded at key low high [] numbers.now) }
+{
+    let mut found = Vec::new(alloc);
+    for number in numbers {
+        let number = bounded_natural(at, key, low, high, *number)?;
+        found.push(number)?;
+    }
+    Ok(found)
+}
+
+/// The fields of one table, at its place.
+#[derive(Clone, Copy)]
+pub(crate) struct Fields<'a> {
+    pub(crate) at: At,
+    pub(crate) table: &'a Table,
+}
+
+impl<'a> Fields<'a> {
+    /// Refuses a key that is none of these.
+    #[tactic(auto, unfolding(crate::specs::Fields::known_at))]
+    pub(crate) fn known(&self, keys: &[Key]) -> Result<(), TableFault>
+        ensures { result ≡ known_at self.now.at keys.now (table_view self.now.table.now) }
+    {
+        if are_known(keys, self.table) {
+            Ok(())
+        } else {
+            Err(TableFault::UnknownKey(self.at))
+        }
+    }
+
+    /// The value of a key, where it is there.
+    fn find(&self, key: Key) -> Option<&'a Value>
+        ensures { option_map (λ v. view v.now) result ≡ get_member (key_text key) (table_view self.now.table.now) }
+    {
+        self.table.get(key.as_str())
+    }
+
+    /// The value of a required key.
+    #[tactic(auto, unfolding(crate::specs::Fields::value_at))]
+    fn value(&self, key: Key) -> Result<&'a Value, TableFault>
+        ensures { Gives (λ v. view v.now) result (value_at self.now.at key (table_view self.now.table.now)) }
+    {
+        self.find(key).ok_or(TableFault::MissingKey(self.at, key))
+    }
+
+    /// A required number.
+    #[tactic(auto, unfolding(crate::specs::Fields::number_at))]
+    pub(crate) fn number(&self, key: Key) -> Result<u64, TableFault>
+        ensures { Gives (λ n. n) result (number_at self.now.at key (table_view self.now.table.now)) }
+    {
+        number_in(self.at, key, self.value(key)?)
+    }
+
+    /// An optional number.
+    #[tactic(auto, unfolding(crate::specs::Fields::optional_number_at))]
+    pub(crate) fn optional_number(&self, key: Key) -> Result<Option<u64>, TableFault>
+        ensures { Gives (λ n. n) result (optional_number_at self.now.at key (table_view self.now.table.now)) }
+    {
+        let Some(value) = self.find(key) else {
+            return Ok(None);
+        };
+        Ok(Some(number_in(self.at, key, value)?))
+    }
+
+    /// A required number from `low` to `high`.
+    #[tactic(auto, unfolding(crate::specs::Fields::bounded_at))]
+    pub(crate) fn bounded(&self, key: Key, low: u64, high: u64) -> Result<u64, TableFault>
+        ensures value { Gives (λ n. n) result (bounded_at self.now.at key low high (table_view self.now.table.now)) }
+        ensures within { IfOk result (λ n. n ≤ high) }
+    {
+        let number = self.number(key)?;
+        bounded(self.at, key, low, high, number)
+    }
+
+    /// A required number of a port.
+    pub(crate) fn port_id(&self, key: Key) -> Result<u8, TableFault>
+        ensures { Gives (λ n. n) result (bounded_at self.now.at key 1 24 (table_view self.now.table.now)) }
+    {
+        let number = self.bounded(key, 1, u64::from(MAX_PORT_ID))?;
+        Ok(number as u8)
+    }
+
+    /// A required text.
+    #[tactic(auto, unfolding(crate::specs::Fields::text_at))]
+    pub(crate) fn text(&self, key: Key) -> Result<&'a str, TableFault>
+        ensures { Gives (λ s. s.now) result (text_at self.now.at key (table_view self.now.table.now)) }
+    {
+        text_in(self.at, key, self.value(key)?)
+    }
+
+    /// An optional text.
+    #[tactic(auto, unfolding(crate::specs::Fields::optional_text_at))]
+    pub(crate) fn optional_text(&self, key: Key) -> Result<Option<&'a str>, TableFault>
+        ensures { Gives (λ o. option_map (λ s. s.now) o) result (optional_text_at self.now.at key (table_view self.now.table.now)) }
+    {
+        let Some(value) = self.find(key) else {
+            return Ok(None);
+        };
+        Ok(Some(text_in(self.at, key, value)?))
+    }
+
+    /// An optional array of tables.
+    #[tactic(auto, unfolding(crate::specs::Fields::tables_at))]
+    pub(crate) fn tables(&self, alloc: Global, key: Key) -> Result<Vec<&'a Table>, TableFault>
+        ensures { Gives (λ v. map (λ t. table_view t.now) v.items) result (tables_at self.now.at key (table_view self.now.table.now)) }
+    {
+        let Some(value) = self.find(key) else {
+            return Ok(Vec::new(alloc));
+        };
+        let Some(items) = value.as_array() else {
+            return Err(TableFault::Kind(self.at, key));
+        };
+        tables_of(alloc, items)?.ok_or(TableFault::Kind(self.at, key))
+    }
+
+    /// A required array of numbers, each from `low` to `high`.
+    #[tactic(auto, unfolding(crate::specs::Fields::numbers_at))]
+    pub(crate) fn numbers(
+        &self,
+        alloc: Global,
+        key: Key,
+        low: u8,
+        high: u8,
+    ) -> Result<Vec<u8>, TableFault>
+        ensures { Gives (λ v. v.items) result (numbers_at self.now.at key low high (table_view self.now.table.now)) }
+    {
+        let value = self.value(key)?;
+        let Some(items) = value.as_array() else {
+            return Err(TableFault::Kind(self.at, key));
+        };
+        let Some(numbers) = naturals_of(alloc, items)? else {
+            return Err(TableFault::Kind(self.at, key));
+        };
+        all_bounded(alloc, self.at, key, low, high, &numbers)
+    }
+}

@@ -1,0 +1,21 @@
+//! The configuration table of the switch (profile), read from TOML.
+//!
+//! A [`Table`] is well formed: its rows lie within the limits, its numbers are distinct, and its links lead from one of
+//! its ports to others of them. [`read`] is the one way to make a table.
+#![tactic(auto)]
+
+mod arrays;
+mod fault;
+mod fields;
+pub mod laws;
+mod limits;
+mod link_map;
+mod links;
+mod ports;
+mod rows;
+mod table;
+mod top;
+
+pub use fault::{At, Key, TableFault};
+pub use rows::{LinkRow, PortRow};
+pub use table::{Table, read};

@@ -1,0 +1,28 @@
+//! The limits of a table (profile, save the numbers of links).
+
+pub(crate) const MAX_PORTS: usize = 24;
+
+/// Ports are numbered from 1 to this.
+pub(crate) const MAX_PORT_ID: u8 = 24;
+
+pub(crate) const MAX_LINKS: usize = 4096;
+
+/// The number of a link is two bytes of an address (ARINC 664 Part 7).
+pub(crate) const MAX_LINK_ID: u64 = 65_535;
+
+/// In bytes.
+pub(crate) const MAX_BUFFER: u64 = 16_777_216;
+
+/// In microseconds.
+pub(crate) const MAX_DELAY: u64 = 500_000;
+
+/// In microseconds.
+pub(crate) const MAX_JITTER: u64 = 10_000;
+
+/// The least size of a frame, in bytes (IEEE 802.3).
+pub(crate) const MIN_SIZE: u64 = 64;
+
+/// The greatest size of a frame, in bytes (IEEE 802.3).
+pub(crate) const MAX_SIZE: u64 = 1518;
+
+pub(crate) const NANOS_PER_MICROSECOND: u64 = 1000;

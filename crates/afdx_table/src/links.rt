@@ -1,0 +1,123 @@
+//! The links of a table, in file order.
+
+ghost use Rattle.std.specs.Prelude.{◌≡◌, false, [], map, IfOk};
+ghost use Rattle.toml.specs.View.{table_view};
+ghost use Rattle.afdx_table.specs.Refusal.{Gives};
+ghost use Rattle.afdx_table.specs.Links.{has_link, targets, row_at, fitting, link_at, links_from};
+
+use crate::fault::{At, Key, TableFault};
+use crate::fields::Fields;
+use crate::limits::{MAX_JITTER, MAX_LINK_ID, MAX_PORT_ID, MAX_SIZE, MIN_SIZE};
+use crate::link_map::Links;
+use crate::ports::has_port;
+use crate::rows::{LinkRow, PortRow, bag_from_ms, nanos, priority_from_text};
+use std::alloc::Global;
+use toml::Table;
+
+/// The ports that a link leads to.
+#[tactic(auto, unfolding(crate::specs::Links::targets))]
+fn check_targets(at: At, ports: &[PortRow], from: u8, to: &[u8]) -> Result<(), TableFault>
+    ensures { result ≡ targets at ports.now from [] to.now }
+{
+    for (index, port) in to.iter().enumerate() {
+        if !has_port(ports, *port) {
+            return Err(TableFault::NoSuchPort(at));
+        }
+        if *port == from {
+            return Err(TableFault::ToOwnPort(at));
+        }
+        if to[..index].contains(port) {
+            return Err(TableFault::ToTwice(at));
+        }
+    }
+    Ok(())
+}
+
+/// The row of a link's fields.
+#[tactic(auto, unfolding(crate::specs::Links::row_at))]
+fn read_row(alloc: Global, fields: &Fields<'_>) -> Result<LinkRow, TableFault>
+    ensures { Gives (λ r. r) result (row_at fields.now.at (table_view fields.now.table.now)) }
+{
+    fields.known(&[
+        Key::Id,
+        Key::From,
+        Key::To,
+        Key::Bag,
+        Key::Jitter,
+        Key::MaxSize,
+        Key::Priority,
+    ])?;
+    let id = fields.bounded(Key::Id, 0, MAX_LINK_ID)? as u16;
+    let from = fields.port_id(Key::From)?;
+    let to = fields.numbers(alloc, Key::To, 1, MAX_PORT_ID)?;
+    let bag_ms = fields.number(Key::Bag)?;
+    let bag = bag_from_ms(bag_ms).ok_or(TableFault::Range(fields.at, Key::Bag))?;
+    let jitter_us = fields.bounded(Key::Jitter, 0, MAX_JITTER)?;
+    let max_size = fields.bounded(Key::MaxSize, MIN_SIZE, MAX_SIZE)? as u32;
+    let text = fields.text(Key::Priority)?;
+    let priority = priority_from_text(text).ok_or(TableFault::Range(fields.at, Key::Priority))?;
+    Ok(LinkRow {
+        id,
+        from,
+        to,
+        bag,
+        jitter: nanos(jitter_us),
+        max_size,
+        priority,
+    })
+}
+
+/// A row beside the ports and the links before it.
+#[tactic(auto, unfolding(crate::specs::Links::fitting))]
+fn fit(at: At, ports: &[PortRow], before: &Links, row: LinkRow) -> Result<LinkRow, TableFault>
+    ensures row { Gives (λ r. r) result (fitting at ports.now before.now row) }
+    ensures fresh { IfOk result (λ r. has_link before.now r.id ≡ false) }
+{
+    if before.contains(row.id) {
+        return Err(TableFault::TwiceLink(at));
+    }
+    if !has_port(ports, row.from) {
+        return Err(TableFault::NoSuchPort(at));
+    }
+    if row.to.is_empty() {
+        return Err(TableFault::ToEmpty(at));
+    }
+    check_targets(at, ports, row.from, &row.to)?;
+    Ok(row)
+}
+
+/// A link, after the ports and the links before it.
+#[tactic(auto, unfolding(crate::specs::Links::link_at))]
+fn read_link(
+    alloc: Global,
+    fields: &Fields<'_>,
+    ports: &[PortRow],
+    before: &Links,
+) -> Result<LinkRow, TableFault>
+    ensures fresh { IfOk result (λ r. has_link before.now r.id ≡ false) }
+    ensures row { Gives (λ r. r) result (link_at fields.now.at ports.now before.now (table_view fields.now.table.now)) }
+{
+    let row = read_row(alloc, fields)?;
+    fit(fields.at, ports, before, row)
+}
+
+/// The links, in file order.
+#[tactic(auto, unfolding(crate::specs::Links::links_from))]
+pub(crate) fn read_links(
+    alloc: Global,
+    ports: &[PortRow],
+    tables: &[&Table],
+) -> Result<Links, TableFault>
+    ensures { Gives (λ v. v) result (links_from ports.now 0 [] (map (λ t. table_view t.now) tables.now)) }
+{
+    let mut links = Links::new(alloc);
+    for (index, table) in tables.iter().enumerate() {
+        let fields = Fields {
+            at: At::Link(index + 1),
+            table: *table,
+        };
+        let row = read_link(alloc, &fields, ports, &links)?;
+        links.push(row)?;
+    }
+    Ok(links)
+}

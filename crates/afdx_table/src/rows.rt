@@ -1,0 +1,97 @@
+//! The rows of a table, and what its numbers and words name.
+
+ghost use Rattle.std.specs.Prelude.{◌≡◌, ◌≤◌, ◌*◌};
+ghost use Rattle.afdx_table.specs.Names.{speed_of, bag_of, priority_of};
+
+use crate::limits::NANOS_PER_MICROSECOND;
+use afdx_units::{Bag, Priority, Speed};
+use std::marker::Model;
+
+/// A port of the switch.
+#[derive(Clone, Copy, Debug, PartialEq, Eq)]
+pub struct PortRow {
+    /// From 1 to 24.
+    pub id: u8,
+    /// The rate of its line.
+    pub speed: Speed,
+    /// Bytes of frames that may wait or be sent at its output, at most 16,777,216.
+    pub buffer: u32,
+    /// Nanoseconds for which a frame may wait at its output, from 1,000 to 500,000,000.
+    pub max_delay: u64,
+}
+
+/// A virtual link (ARINC 664 Part 7).
+///
+/// Contracts see it as a record of these fields, with the ports of `to` as a list.
+#[derive(Debug, Drop)]
+pub struct LinkRow {
+    /// The last two bytes of the destination address of its frames.
+    pub id: u16,
+    /// The port at which its frames come in.
+    pub from: u8,
+    /// The ports at which they leave, in the order of the table.
+    pub to: Vec<u8>,
+    /// The gap that its policing counts on.
+    pub bag: Bag,
+    /// Nanoseconds by which its frames may come early, at most 10,000,000.
+    pub jitter: u64,
+    /// The greatest size of its frames in bytes, from 64 to 1518.
+    pub max_size: u32,
+    /// The queue that its frames wait in.
+    pub priority: Priority,
+}
+
+impl Model for LinkRow {
+    ghost use Rattle.afdx_table.specs.Link.{Link};
+
+    ghost Value = { Link };
+
+    ghost view = { λ l. record {
+      id = l.id;
+      from = l.from;
+      to = l.to.items;
+      bag = l.bag;
+      jitter = l.jitter;
+      max_size = l.max_size;
+      priority = l.priority;
+    } };
+}
+
+/// Nanoseconds of so many microseconds.
+pub(crate) fn nanos(micros: u64) -> u64
+    requires { micros ≤ 500000 }
+    ensures { result ≡ micros * 1000 }
+{
+    micros * NANOS_PER_MICROSECOND
+}
+
+/// The speed of a line of so many Mbit/s.
+pub(crate) fn speed_from_mbit(mbit: u64) -> Option<Speed>
+    ensures { result ≡ speed_of mbit }
+{
+    match mbit {
+        10 => Some(Speed::Ten),
+        100 => Some(Speed::Hundred),
+        _ => None,
+    }
+}
+
+/// The gap of so many milliseconds.
+pub(crate) fn bag_from_ms(ms: u64) -> Option<Bag>
+    ensures { result ≡ bag_of ms }
+{
+    Bag::from_ms(ms)
+}
+
+/// The priority of a name.
+pub(crate) fn priority_from_text(text: &str) -> Option<Priority>
+    ensures { result ≡ priority_of text.now }
+{
+    if text == "high" {
+        Some(Priority::High)
+    } else if text == "low" {
+        Some(Priority::Low)
+    } else {
+        None
+    }
+}

@@ -1,0 +1,157 @@
+//! The table, and how it is read.
+
+ghost use Rattle.std.specs.Prelude.{◌≡◌, length, slice_get, option_copied, IfOk, IfSome};
+ghost use Rattle.toml.specs.View.{table_view};
+ghost use Rattle.afdx_table.specs.Refusal.{Gives};
+ghost use Rattle.afdx_table.specs.Content.{port_row, link_row, link_place};
+ghost use Rattle.afdx_table.specs.Text.{content_of, tree_of, table_of};
+ghost use Rattle.afdx_table.specs.WellFormed.{IsPort, IsLink, IsWellFormed};
+
+use crate::fault::TableFault;
+use crate::link_map::Links;
+use crate::links::read_links;
+use crate::ports::{port_of, read_ports};
+use crate::rows::{LinkRow, PortRow};
+use crate::top::read_top;
+use std::alloc::Global;
+use std::marker::Model;
+use toml::Table as Tree;
+
+/// A configuration table that was read: it is well formed.
+///
+/// Contracts see what it says: the constant field, the ports by rising number, and the links in file order.
+#[derive(Drop)]
+pub struct Table {
+    constant: [u8; 4],
+    ports: Vec<PortRow>,
+    links: Links,
+}
+
+impl Model for Table {
+    ghost use Rattle.afdx_table.specs.Content.{Content};
+    ghost use Rattle.afdx_table.specs.WellFormed.{IsWellFormed};
+
+    ghost Value = { Content };
+
+    ghost view = { λ t. record { constant = t.constant; ports = t.ports.items; links = t.links } };
+
+    ghost invariant = { λ t. IsWellFormed (record {
+      constant = t.constant;
+      ports = t.ports.items;
+      links = t.links;
+    }) };
+}
+
+impl Table {
+    /// The constant field: the first four bytes of the destination address of each link's frames (ARINC 664 Part 7).
+    pub fn constant(&self) -> [u8; 4]
+        ensures constant { result ≡ self.now.constant }
+        ensures well_formed { IsWellFormed self.now }
+    {
+        self.constant
+    }
+
+    /// The ports, by rising number. O(1).
+    pub fn ports(&self) -> &[PortRow]
+        ensures ports { result.now ≡ self.now.ports }
+        ensures well_formed { IsWellFormed self.now }
+    {
+        self.ports.as_slice()
+    }
+
+    /// The port of a number. It looks at each of the at most 24 ports.
+    pub fn port(&self, id: u8) -> Option<&PortRow>
+        ensures port { option_copied result ≡ port_row self.now id }
+        ensures limits { IfSome result (λ p. IsPort p.now) }
+        ensures well_formed { IsWellFormed self.now }
+    {
+        port_of(&self.ports, id)
+    }
+
+    /// The number of links, at most 4096. O(1).
+    pub fn link_count(&self) -> usize
+        ensures count { result ≡ length self.now.links }
+        ensures well_formed { IsWellFormed self.now }
+    {
+        self.links.len()
+    }
+
+    /// The link at a place in file order, from 0. O(1).
+    pub fn link_at(&self, index: usize) -> Option<&LinkRow>
+        ensures link { option_copied result ≡ slice_get self.now.links index }
+        ensures limits { IfSome result (λ l. IsLink self.now.ports l.now) }
+        ensures well_formed { IsWellFormed self.now }
+    {
+        self.links.at(index)
+    }
+
+    /// The link of a number. O(1).
+    pub fn link(&self, id: u16) -> Option<&LinkRow>
+        ensures link { option_copied result ≡ link_row self.now id }
+        ensures limits { IfSome result (λ l. IsLink self.now.ports l.now) }
+        ensures well_formed { IsWellFormed self.now }
+    {
+        self.links.get(id)
+    }
+
+    /// The place in file order, from 0, of the link of a number. O(1).
+    pub fn link_place(&self, id: u16) -> Option<usize>
+        ensures place { result ≡ link_place self.now id }
+        ensures well_formed { IsWellFormed self.now }
+    {
+        self.links.place(id)
+    }
+}
+
+/// The table of a tree.
+#[tactic(auto, unfolding(crate::specs::Text::content_of))]
+fn read_tree(alloc: Global, tree: &Tree) -> Result<Table, TableFault>
+    ensures table { Gives (λ t. t) result (content_of (table_view tree.now)) }
+    ensures well_formed { IfOk result (λ t. IsWellFormed t) }
+{
+    let top = read_top(alloc, tree)?;
+    let ports = read_ports(alloc, &top.ports)?;
+    let links = read_links(alloc, &ports, &top.links)?;
+    Ok(Table {
+        constant: top.constant,
+        ports,
+        links,
+    })
+}
+
+/// The tree that a text is.
+#[tactic(auto, using(crate::proofs::TextLemmas::no_tree, crate::proofs::TextLemmas::tree))]
+fn read_text(alloc: Global, bytes: &[u8]) -> Result<Tree, TableFault>
+    ensures { Gives (λ t. table_view t) result (tree_of bytes.now) }
+{
+    match toml::table_from_slice(alloc, bytes) {
+        Ok(tree) => Ok(tree),
+        Err(error) if error.is_memory() => Err(TableFault::Memory),
+        Err(_) => Err(TableFault::Toml),
+    }
+}
+
+/// Reads a configuration table, a text of TOML 1.1.
+///
+/// The first refusal in this order stands, and `Memory` at the growth that was refused, before every test that comes
+/// later:
+///
+/// 1. `Toml`: bytes that are not UTF-8, or a text that the library `toml` refuses for another cause than memory.
+/// 2. At the top: `UnknownKey`; of `version` `Kind`, `Range`; of `constant` `Kind`, `Constant`; of `port`, then of
+///    `link`, `Kind`; of `port`, then of `link`, `TooMany`.
+/// 3. At each port in array order: `UnknownKey`; of `id`, `mbit`, `buffer` and `max_delay_us`, in this order,
+///    `MissingKey`, `Kind`, `Range`; `TwicePort`.
+/// 4. At each link in array order: `UnknownKey`; of `id`, `from`, `to`, `bag_ms`, `jitter_us`, `max_size` and
+///    `priority`, in this order, `MissingKey`, `Kind`, `Range`; `TwiceLink`; `NoSuchPort` of `from`; `ToEmpty`; then, of
+///    each member of `to` from the left, `NoSuchPort`, `ToOwnPort`, `ToTwice`.
+///
+/// O(n) time and memory in the length of the text; only where a text has many keys at one place does their sorting add a
+/// factor of O(log n).
+#[tactic(auto, unfolding(crate::specs::Text::table_of))]
+pub fn read(alloc: Global, bytes: &[u8]) -> Result<Table, TableFault>
+    ensures table { Gives (λ t. t) result (table_of bytes.now) }
+    ensures well_formed { IfOk result (λ t. IsWellFormed t) }
+{
+    let tree = read_text(alloc, bytes)?;
+    read_tree(alloc, &tree)
+}

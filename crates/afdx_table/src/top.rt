@@ -1,0 +1,90 @@
+//! The top of a table.
+
+ghost use Rattle.std.specs.Prelude.{◌≡◌, map, option_map};
+ghost use Rattle.hex.specs.Hex.{decode_sized};
+ghost use Rattle.toml.specs.View.{table_view};
+ghost use Rattle.afdx_table.specs.Refusal.{Gives};
+ghost use Rattle.afdx_table.specs.Top.{at_most, version_from, group_address, constant_from, top_at};
+
+use crate::fault::{At, Key, TableFault};
+use crate::fields::{Fields, bounded};
+use crate::limits::{MAX_LINKS, MAX_PORTS};
+use hex::FromHex;
+use std::alloc::Global;
+use toml::Table as Tree;
+
+/// What the top says: the constant field, and the tables of the ports and of the links.
+#[derive(Drop)]
+pub(crate) struct Top<'a> {
+    pub(crate) constant: [u8; 4],
+    pub(crate) ports: Vec<&'a Tree>,
+    pub(crate) links: Vec<&'a Tree>,
+}
+
+/// The version that is stated; a missing one is the first.
+fn version_from(stated: Option<u64>) -> Result<u64, TableFault>
+    ensures { Gives (λ n. n) result (version_from stated) }
+{
+    match stated {
+        Some(version) => bounded(At::Top, Key::Version, 1, 1, version),
+        None => Ok(1),
+    }
+}
+
+/// The four bytes that a text is, of which the first has its two lowest bits set (ARINC 664 Part 7).
+fn group_address(text: &str) -> Result<[u8; 4], TableFault>
+    ensures { Gives (λ c. c) result (group_address (decode_sized text.now 4)) }
+{
+    match <[u8; 4] as FromHex>::from_hex(text) {
+        Ok(constant) if constant[0] % 4 == 3 => Ok(constant),
+        _ => Err(TableFault::Constant),
+    }
+}
+
+/// The constant field that is stated; a missing one is 03 00 00 00.
+fn constant_from(stated: Option<&str>) -> Result<[u8; 4], TableFault>
+    ensures { Gives (λ c. c) result (constant_from (option_map (λ s. s.now) stated.entry)) }
+{
+    match stated {
+        Some(text) => group_address(text),
+        None => Ok([3, 0, 0, 0]),
+    }
+}
+
+/// Refuses more tables than these.
+#[tactic(auto, unfolding(crate::specs::Top::at_most))]
+fn at_most(limit: usize, key: Key, tables: &[&Tree]) -> Result<(), TableFault>
+    ensures { result ≡ at_most limit key (map (λ t. table_view t.now) tables.now) }
+{
+    if tables.len() > limit {
+        return Err(TableFault::TooMany(key));
+    }
+    Ok(())
+}
+
+/// The top.
+#[tactic(auto, unfolding(crate::specs::Top::top_at))]
+pub(crate) fn read_top<'a>(alloc: Global, tree: &'a Tree) -> Result<Top<'a>, TableFault>
+    ensures { Gives (λ t. record {
+      constant = t.constant;
+      ports = map (λ p. table_view p.now) t.ports.items;
+      links = map (λ l. table_view l.now) t.links.items;
+    }) result (top_at (table_view tree.now)) }
+{
+    let fields = Fields {
+        at: At::Top,
+        table: tree,
+    };
+    fields.known(&[Key::Version, Key::Constant, Key::Port, Key::Link])?;
+    version_from(fields.optional_number(Key::Version)?)?;
+    let constant = constant_from(fields.optional_text(Key::Constant)?)?;
+    let ports = fields.tables(alloc, Key::Port)?;
+    let links = fields.tables(alloc, Key::Link)?;
+    at_most(MAX_PORTS, Key::Port, &ports)?;
+    at_most(MAX_LINKS, Key::Link, &links)?;
+    Ok(Top {
+        constant,
+        ports,
+        links,
+    })
+}
