@@ -94,6 +94,31 @@ fn read_pieces(
     Ok(records)
 }
 
+/// The records of the bytes in pieces of random lengths, 0 to 49 each, that a seed determines.
+fn read_random_pieces(
+    alloc: Global,
+    bytes: &[u8],
+    seed: u32,
+) -> Result<Vec<Record<Global>>, PcapFault> {
+    let mut records = Vec::new(alloc);
+    let mut reader = Reader::new(alloc);
+    let mut rest = bytes;
+    let mut state = seed;
+    for _ in 0..bytes.len() {
+        state = state.wrapping_mul(1_664_525).wrapping_add(1_013_904_223);
+        let length = ((state >> 16) % 50) as usize;
+        let (piece, after) = rest.split_at(length.min(rest.len()));
+        if !reader.is_closed() {
+            reader.feed(piece)?;
+        }
+        take_records(&mut reader, &mut records)?;
+        rest = after;
+    }
+    reader.close();
+    take_records(&mut reader, &mut records)?;
+    Ok(records)
+}
+
 #[test]
 fn first_capture(rt: HostRuntime) -> Result<(), Fail> {
     let bytes = one_frame(rt.alloc())?;
@@ -260,6 +285,15 @@ fn any_pieces(rt: HostRuntime) -> Result<(), Fail> {
         let records = read_pieces(rt.alloc(), &bytes, length)?;
         let written = write_all(rt.alloc(), &records)?;
         assert_eq!(rt; written.as_slice(), bytes.as_slice(), "pieces of {length}");
+    }
+    for seed in 0..20 {
+        let records = read_random_pieces(rt.alloc(), &bytes, seed)?;
+        let written = write_all(rt.alloc(), &records)?;
+        assert_eq!(rt;
+            written.as_slice(),
+            bytes.as_slice(),
+            "pieces of seed {seed}"
+        );
     }
     Ok(())
 }
