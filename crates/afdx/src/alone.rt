@@ -16,6 +16,7 @@ use thiserror::Error;
 /// Why there is no answer.
 #[derive(Clone, Copy, Debug, PartialEq, Eq, Error)]
 pub enum AloneFault {
+    /// A growth was refused.
     #[error("Memory")]
     Memory,
     /// The input is no capture, and this is its first fault.

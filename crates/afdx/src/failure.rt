@@ -15,14 +15,15 @@ use std::io::Write;
 /// Why a command was not served.
 #[derive(Clone, Copy, Debug, PartialEq, Eq)]
 pub enum Failure {
-    /// The words are no command.
+    /// The words are refused.
     Usage,
-    /// Standard input is no capture.
+    /// The input is no capture, and this is its first fault.
     Capture(PcapFault),
-    /// Standard input failed, or was not read to its end within the bounded number of turns.
+    /// The input failed, or was not read to its end within the bounded number of reads.
     Read,
-    /// Standard output failed, was interrupted or took nothing.
+    /// The output failed, was interrupted or took nothing.
     Write,
+    /// A growth was refused.
     Memory,
 }
 
@@ -74,7 +75,7 @@ impl From<AloneFault> for Failure {
     }
 }
 
-/// The line of a capture's fault.
+/// The line of a capture's fault. `Memory` is no fault of a capture, and has the line that it has elsewhere.
 fn capture_line(alloc: Global, fault: PcapFault) -> Result<String, AllocError>
     ensures { IfOk result (λ line. string_bytes line ≡ capture_line fault) }
 {

@@ -19,7 +19,7 @@ use crate::serve::serve;
 use std::process::ExitCode;
 use std::{env, io};
 
-/// The words of the command line, of which the first is the program's name.
+/// The words of the command line, of which the first is the program's name. Words that are not UTF-8 are refused.
 fn arguments(rt: &HostRuntime) -> Result<Vec<String>, Failure> {
     match env::args(rt) {
         Ok(words) => Ok(words.collect(rt.alloc())?),

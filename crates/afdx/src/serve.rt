@@ -16,7 +16,7 @@ use crate::words::{NoCommand, parse};
 use std::alloc::Global;
 use std::io::{Read, Write};
 
-/// Answers what was read, in writing.
+/// Reads the input to its end and writes what is answered to it.
 fn answer<R: Read, O: Write>(
     alloc: Global,
     link: &Alone,
@@ -33,7 +33,7 @@ fn answer<R: Read, O: Write>(
     Ok(())
 }
 
-/// Serves what the words ask for.
+/// Serves what the words ask for, help included.
 fn serve_words<R: Read, O: Write>(
     alloc: Global,
     words: &[String],
@@ -55,7 +55,18 @@ fn serve_words<R: Read, O: Write>(
     }
 }
 
-/// Serves what the words ask for, of which the first is the program's name, and gives the status.
+/// Serves what the words ask for, of which the first is the program's name, and gives the status: 0 done,
+/// 2 refused words, 3 an input that is no capture, 5 memory or a device.
+///
+/// `afdx alone` reads `input` to its end and writes its answer on `out`; `--help` writes the help of `clap`
+/// there. On another status than 0 one line goes to `err`, and a fault in writing it changes nothing. What
+/// is met before the answer is written leaves `out` as it was; where writing fails, a front of the answer
+/// was written.
+///
+/// No contract knows why a reader or a writer fails, or whether memory is left: that 5 comes only then, and
+/// that `err` holds its whole line where it takes it, is shown by tests.
+///
+/// O(words and input), with at most 16,777,216 reads.
 pub fn serve<R: Read, O: Write, E: Write>(
     alloc: Global,
     words: &[String],

@@ -15,9 +15,11 @@ use std::alloc::Global;
 /// Why the words ask for no command.
 #[derive(Debug, Drop)]
 pub(crate) enum NoCommand {
-    /// They ask for help, which this is.
+    /// They ask for help, and this is its text.
     Help(String),
+    /// They are refused.
     Usage,
+    /// A growth was refused.
     Memory,
 }
 
@@ -46,6 +48,7 @@ fn link_of(id: u64, bag: u64, jitter: u64, size: u64) -> Option<Alone>
     })
 }
 
+/// The link of the four options.
 fn alone_of(matches: &ArgMatches<'_>) -> Option<Alone>
     ensures { MatchOption result ((link : Link) → HasLink (rows_of (found_of matches.now)) link → ⊥)
         (HasLink (rows_of (found_of matches.now))) }
@@ -57,6 +60,7 @@ fn alone_of(matches: &ArgMatches<'_>) -> Option<Alone>
     link_of(id, bag, jitter, size)
 }
 
+/// The link of the subcommand that was entered.
 fn asked(matches: &ArgMatches<'_>) -> Option<Alone>
     ensures { MatchOption result ((link : Link) → AsksFor (subcommand_rows_of matches.now) link → ⊥)
         (AsksFor (subcommand_rows_of matches.now)) }
