@@ -10,7 +10,7 @@ use crate::link::Alone;
 use crate::own::{frame_size, is_own};
 use afdx_account::{ByteAccount, Meter};
 use afdx_pcap::{PcapFault, Record, Records, write_header, write_record};
-use std::alloc::{AllocError, AllocFailed, Allocator};
+use std::alloc::{AllocError, Allocator};
 use thiserror::Error;
 
 /// Why there is no answer.
@@ -30,16 +30,6 @@ impl From<AllocError> for AloneFault {
     ghost from_gives = { λ _ e. e ≡ Memory };
 
     fn from(_e: AllocError) -> AloneFault {
-        AloneFault::Memory
-    }
-}
-
-impl<T: Drop> From<AllocFailed<T>> for AloneFault {
-    ghost use Rattle.afdx.specs.declared.alone.AloneFault.TheVariants.{Memory};
-
-    ghost from_gives = { λ _ e. e ≡ Memory };
-
-    fn from(_e: AllocFailed<T>) -> AloneFault {
         AloneFault::Memory
     }
 }

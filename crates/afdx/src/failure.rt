@@ -9,7 +9,7 @@ use crate::alone::AloneFault;
 use crate::input::InputFault;
 use crate::output::{WriteFault, write_bytes};
 use afdx_pcap::PcapFault;
-use std::alloc::{AllocError, AllocFailed, Global};
+use std::alloc::{AllocError, Global};
 use std::io::Write;
 
 /// Why a command was not served.
@@ -28,13 +28,11 @@ pub enum Failure {
 }
 
 impl From<AllocError> for Failure {
-    fn from(_e: AllocError) -> Failure {
-        Failure::Memory
-    }
-}
+    ghost use Rattle.afdx.specs.declared.failure.Failure.TheVariants.{Memory};
 
-impl<T: Drop> From<AllocFailed<T>> for Failure {
-    fn from(_e: AllocFailed<T>) -> Failure {
+    ghost from_gives = { λ _ failure. failure ≡ Memory };
+
+    fn from(_e: AllocError) -> Failure {
         Failure::Memory
     }
 }

@@ -4,7 +4,7 @@ ghost use Rattle.std.specs.Prelude.{◌≡◌, ◌<◌, length, IfOk, OnOk, IfSo
 ghost use Rattle.std.specs.Io.KnownBytes.{IsAtEnd};
 ghost use Rattle.afdx.specs.Serving.{AreGiven};
 
-use std::alloc::{AllocError, AllocFailed, Global};
+use std::alloc::{AllocError, Global};
 use std::io::{ErrorKind, Read};
 
 /// How often input is read at most (profile).
@@ -22,13 +22,11 @@ pub(crate) enum InputFault {
 }
 
 impl From<AllocError> for InputFault {
-    fn from(_e: AllocError) -> InputFault {
-        InputFault::Memory
-    }
-}
+    ghost use Rattle.afdx.specs.declared.input.InputFault.TheVariants.{Memory};
 
-impl<T: Drop> From<AllocFailed<T>> for InputFault {
-    fn from(_e: AllocFailed<T>) -> InputFault {
+    ghost from_gives = { λ _ fault. fault ≡ Memory };
+
+    fn from(_e: AllocError) -> InputFault {
         InputFault::Memory
     }
 }
