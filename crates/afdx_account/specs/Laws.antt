@@ -1,8 +1,9 @@
 -- The laws of policing, over the definitions alone.
-use Rattle.std.specs.Prelude.{◌≡◌, ◌↔◌, List, [], ◌∷◌, ◌++◌, map, IsTrue, if◌then◌else◌}
+use Rattle.std.specs.Prelude.{◌≡◌, ◌↔◌, ℕ, ◌-◌, ◌≤◌, nat_le, List, [], ◌∷◌, ◌++◌, map, IsTrue, if◌then◌else◌}
+use Rattle.std.specs.List.{AllByRecursion}
 use Rattle.afdx_account.specs.declared.frame.Frame.{Frame}
 use Rattle.afdx_account.specs.Policing.{Terms, Conforms, conforms, passed_of, passed_frames}
-use Rattle.afdx_account.specs.Level.{InOrder, stepped}
+use Rattle.afdx_account.specs.Level.{InOrder, headroom, credited_level, stepped}
 
 -- a full account that goes step by step passes exactly the frames that keep to their allowances in all windows
 abbrev pub StepsPassWhatConforms : Type 0
@@ -26,3 +27,18 @@ NextJoinsWhereItConforms A = (frame_of : A → Frame) (t : Terms) (xs : List A) 
 abbrev pub PassedByTheirFrames : Type 0 → Type 0
 PassedByTheirFrames A = (frame_of : A → Frame) (t : Terms) (xs : List A)
     → map frame_of (passed_of frame_of t xs) ≡ passed_frames t (map frame_of xs)
+
+-- what an account that was full has left after these frames is credited over time, up to the cap
+abbrev pub HeadroomIsCredited : Type 0
+HeadroomIsCredited = (t : Terms) (frames : List Frame) (now later : ℕ) → now ≤ later → AllByRecursion (λ f. f.stamp ≤ now) frames
+    → headroom t (passed_frames t frames) later ≡ credited_level t (headroom t (passed_frames t frames) now) (later - now)
+
+-- a frame conforms where its price is within it
+abbrev pub HeadroomDecides : Type 0
+HeadroomDecides = (t : Terms) (frames : List Frame) (f : Frame) → AllByRecursion (λ g. g.stamp ≤ f.stamp) frames
+    → conforms t (passed_frames t frames) f ≡ nat_le (t.price f.size) (headroom t (passed_frames t frames) f.stamp)
+
+-- and takes its price away from it where it is passed
+abbrev pub HeadroomIsDebited : Type 0
+HeadroomIsDebited = (t : Terms) (passed : List Frame) (f : Frame)
+    → headroom t (passed ++ f ∷ []) f.stamp ≡ headroom t passed f.stamp - t.price f.size

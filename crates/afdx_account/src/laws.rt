@@ -1,6 +1,6 @@
 //! Laws over the definitions: functions that do nothing, whose contracts are the laws.
 
-ghost use Rattle.afdx_account.specs.Laws.{StepsPassWhatConforms, ConformingIsTested, NextJoinsWhereItConforms, PassedByTheirFrames};
+ghost use Rattle.afdx_account.specs.Laws.{StepsPassWhatConforms, ConformingIsTested, NextJoinsWhereItConforms, PassedByTheirFrames, HeadroomIsCredited, HeadroomDecides, HeadroomIsDebited};
 
 /// A full account that goes step by step, over frames whose stamps don't fall, passes exactly the frames
 /// that keep to their allowances in all windows.
@@ -22,4 +22,12 @@ pub fn next_joins_where_it_conforms<T>()
 /// The frames of what is passed of a list are the frames passed of its frames.
 pub fn passed_by_their_frames<T>()
     ensures { PassedByTheirFrames T }
+{}
+
+/// What the windows leave to send behaves as a level: it is credited over time up to the cap, it is what decides
+/// whether a frame conforms, and a frame that is passed takes its price away from it.
+pub fn headroom_is_a_level()
+    ensures credited { HeadroomIsCredited }
+    ensures decides { HeadroomDecides }
+    ensures debited { HeadroomIsDebited }
 {}

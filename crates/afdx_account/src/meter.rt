@@ -1,6 +1,6 @@
 //! What every account does.
 
-ghost use Rattle.std.specs.Prelude.{◌≡◌, ◌↔◌, ℕ, ◌*◌, ◌-◌, ◌≤◌, IsTrue, if◌then◌else◌};
+ghost use Rattle.std.specs.Prelude.{◌≡◌, ◌↔◌, ℕ, ◌+◌, ◌*◌, ◌-◌, ◌≤◌, IsTrue, if◌then◌else◌};
 ghost use Rattle.afdx_units.specs.declared.line.Speed.{Speed};
 ghost use Rattle.afdx_units.specs.Line.{cost_of};
 ghost use Rattle.afdx_account.specs.Policing.{Terms};
@@ -57,6 +57,9 @@ pub trait Meter {
         ensures since { since self.new ≡ at }
         ensures terms { terms self.new ≡ terms self.old }
         ensures weight { weight_of self.new ≡ weight_of self.old }
+
+        // A frame that is passed adds its line time to a port's work, and the level gives up at least as much.
+        ensures paid { IsTrue result → (speed : Speed) → 64 ≤ size → 2048000000 * cost_of speed size + weight_of self.new speed * level self.new at ≤ weight_of self.old speed * level self.old at }
 
         // Whatever frames were offered to a full account before, the frame is passed exactly where it
         // conforms to those that were passed.

@@ -14,3 +14,7 @@ captured_limit = 262144
 
 abbrev pub IsWithinLimit : Entry → Type 0
 IsWithinLimit r = length r.bytes ≤ captured_limit
+
+-- a record of a frame that was captured whole
+abbrev pub whole : ℕ → List ℕ → Entry
+whole stamp bytes = record { stamp = stamp; original = length bytes; bytes = bytes }

@@ -1,8 +1,8 @@
 //! Captures in the pcap file format, version 2.4, over Ethernet (link type 1).
 //!
 //! [`read_all`] reads a whole capture and [`write_all`] writes one. [`Records`] gives the records of a whole
-//! capture one by one, a [`Reader`] those of one that comes in pieces; [`write_header`] and [`write_record`]
-//! write one piece by piece. Instants are [`afdx_units::Stamp`]s, lengths are numbers of bytes.
+//! capture one by one, a [`Reader`] those of one that comes in pieces; [`write_header`], [`write_record`]
+//! and [`write_frame`] write one piece by piece. Instants are [`afdx_units::Stamp`]s, lengths are numbers of bytes.
 #![tactic(auto)]
 
 mod fault;
@@ -19,7 +19,7 @@ pub use fault::PcapFault;
 pub use reader::Reader;
 pub use record::Record;
 pub use records::{Records, read_all};
-pub use writing::{write_all, write_header, write_record};
+pub use writing::{write_all, write_frame, write_header, write_record};
 
 #[cfg(test)]
 mod tests;

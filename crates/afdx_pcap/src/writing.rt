@@ -1,14 +1,15 @@
 //! Captures that are written.
 
-ghost use Rattle.std.specs.Prelude.{◌≡◌, ◌++◌, min, length, IfOk, OnOk, OnErr, IsOkUnless};
+ghost use Rattle.std.specs.Prelude.{◌≡◌, ◌++◌, ◌≤◌, min, length, IfOk, OnOk, OnErr, IsOkUnless};
 ghost use Rattle.afdx_pcap.specs.declared.fault.PcapFault.TheVariants.{Memory};
-ghost use Rattle.afdx_pcap.specs.Entry.{IsWithinLimit};
+ghost use Rattle.afdx_pcap.specs.Entry.{IsWithinLimit, captured_limit, whole};
 ghost use Rattle.afdx_pcap.specs.Capture.{IsCapture};
 ghost use Rattle.afdx_pcap.specs.Text.{header_text, head_text, record_text, capture_text, AreReadable};
 
 use crate::fault::PcapFault;
 use crate::format::{HEAD_LENGTH, HEADER_LENGTH};
 use crate::record::Record;
+use afdx_units::Stamp;
 use byteorder::{ByteOrder, LittleEndian};
 use std::alloc::{AllocError, Allocator};
 
@@ -18,13 +19,14 @@ const HEADER: [u8; HEADER_LENGTH] = [
 ];
 
 #[tactic(auto, unfolding(crate::specs::Text::head_text))]
-fn head_bytes<A: Allocator>(source: &Record<A>) -> [u8; HEAD_LENGTH]
-    ensures { result ≡ head_text source.now }
+fn head_bytes(stamp: Stamp, bytes: &[u8]) -> [u8; HEAD_LENGTH]
+    requires { length bytes.now ≤ captured_limit }
+    ensures { result ≡ head_text (whole stamp bytes.now) }
 {
-    let length = source.bytes().len() as u32;
+    let length = bytes.len() as u32;
     let mut head = [0; HEAD_LENGTH];
-    LittleEndian::write_u32(&mut head, source.stamp().sec());
-    LittleEndian::write_u32(&mut head[4..], source.stamp().nanos());
+    LittleEndian::write_u32(&mut head, stamp.sec());
+    LittleEndian::write_u32(&mut head[4..], stamp.nanos());
     LittleEndian::write_u32(&mut head[8..], length);
     LittleEndian::write_u32(&mut head[12..], length);
     head
@@ -58,6 +60,7 @@ pub fn write_header<A: Allocator>(out: &mut Vec<u8, A>) -> Result<(), AllocError
 /// # Errors
 ///
 /// Want of memory, with nothing appended. The record's bytes are copied once: O(bytes) amortized.
+#[tactic(auto, unfolding(crate::specs::Text::head_text))]
 pub fn write_record<A: Allocator, B: Allocator>(
     out: &mut Vec<u8, A>,
     source: &Record<B>,
@@ -66,9 +69,26 @@ pub fn write_record<A: Allocator, B: Allocator>(
     ensures limit { OnOk result (IsWithinLimit source.now) }
     ensures err { OnErr result (out.new.items ≡ out.old.items) }
 {
-    out.reserve(HEAD_LENGTH + source.bytes().len())?;
-    out.extend_from_slice(&head_bytes(source))?;
-    out.extend_from_slice(source.bytes())
+    write_frame(out, source.stamp(), source.bytes())
+}
+
+/// Appends the text of a record of these bytes, of a frame that is whole.
+///
+/// # Errors
+///
+/// Want of memory, with nothing appended. The bytes are copied once: O(bytes) amortized.
+pub fn write_frame<A: Allocator>(
+    out: &mut Vec<u8, A>,
+    stamp: Stamp,
+    bytes: &[u8],
+) -> Result<(), AllocError>
+    requires { length bytes.now ≤ captured_limit }
+    ensures ok { OnOk result (out.new.items ≡ out.old.items ++ record_text (whole stamp bytes.now)) }
+    ensures err { OnErr result (out.new.items ≡ out.old.items) }
+{
+    out.reserve(HEAD_LENGTH + bytes.len())?;
+    out.extend_from_slice(&head_bytes(stamp, bytes))?;
+    out.extend_from_slice(bytes)
 }
 
 /// The one text of these records: pcap 2.4, little-endian, nanoseconds, link type 1.

@@ -16,5 +16,6 @@ pub mod Busy
 pub mod HighBusy
 pub mod Course
 pub mod Following
+pub mod AtLine
 pub mod Keeping
 pub mod Ends

@@ -1,4 +1,5 @@
 pub mod Service
+pub mod Events
 pub mod Admission
 pub mod Content
 pub mod Progress

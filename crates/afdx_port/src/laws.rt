@@ -2,6 +2,8 @@
 
 ghost use Rattle.afdx_port.specs.Admission.{EarlierEventsStay, EarlierEventsStayAdmitted};
 ghost use Rattle.afdx_port.specs.Content.{FullIsExact};
+ghost use Rattle.afdx_port.specs.Course.{LineGoesOn, ArrivalJoinsTheLine, EventsAreInParts, EventsFollowTheLine, WorkIsOfTheLine, WaitingIsOfItems, EventsAreOfItems};
+ghost use Rattle.afdx_port.specs.Events.{EachHasOneEvent};
 ghost use Rattle.afdx_port.specs.Order.{ReachesInOrder, StampsInOrder, HighGoesFirst, KeepsOrder, ServesInLine, HighUndisturbed, LowDisturbsNone};
 ghost use Rattle.afdx_port.specs.Work.{EndsWithinASecond, WorkBalances, WorkFalls, WorkGrows, WorkBoundsBytes, HighWorkFalls, WorkWithin, HighWorkWithin};
 
@@ -14,6 +16,11 @@ pub fn arrivals_change_nothing_earlier()
 /// An offer is answered `Full` exactly where the item and what is not gone would pass the buffer.
 pub fn full_is_exact()
     ensures { FullIsExact }
+{}
+
+/// Each item has one event: it is sent, or given up.
+pub fn each_has_one_event()
+    ensures { EachHasOneEvent }
 {}
 
 /// Items are queued in the order of their stamps.
@@ -85,4 +92,31 @@ pub fn high_undisturbed()
 /// A low item changes nothing of what becomes of the items before it.
 pub fn low_disturbs_none()
     ensures { LowDisturbsNone }
+{}
+
+/// Until a later instant the line serves the items that wait, one right after the other.
+pub fn line_goes_on()
+    ensures { LineGoesOn }
+{}
+
+/// An arrival stands in the line behind those of its priority.
+pub fn arrivals_join_the_line()
+    ensures { ArrivalJoinsTheLine }
+{}
+
+/// All events are those before an instant, and then those later; where all items have come by then, the later ones are those of the line.
+pub fn events_follow_the_line()
+    ensures parts { EventsAreInParts }
+    ensures line { EventsFollowTheLine }
+{}
+
+/// The work is what the line still sends, and what waits.
+pub fn work_is_of_the_line()
+    ensures { WorkIsOfTheLine }
+{}
+
+/// What waits, and what events are about, are items that came.
+pub fn service_is_of_items()
+    ensures waiting { WaitingIsOfItems }
+    ensures events { EventsAreOfItems }
 {}
