@@ -1,0 +1,130 @@
+-- The laws over loads.
+use Rattle.std.proofs.Common.{◌≡◌, ℕ, ◌+◌, ◌-◌, ◌*◌, ◌/◌, ◌<◌, ◌≤◌, Bool, true, false, ◌&&◌, cond, List, [], ◌∷◌, get_or, length, refl, sym, ap, ◌∙◌, arith, zero, suc}
+use Rattle.std.specs.Prelude.{◌↔◌, All, filter, sum_by, IfSome}
+use Rattle.std.proofs.lemmas.Bool.{lt-ltb}
+use Rattle.std.proofs.lemmas.List.Sums.{sum_by-cons, length-filter}
+use Rattle.std.proofs.lemmas.List.Filters.{sum_by-filter_both}
+use Rattle.std.proofs.lemmas.List.Elements.{All-filter, All-head}
+use Rattle.afdx_units.specs.declared.bag.Bag.{Bag}
+use Rattle.afdx_units.specs.declared.bag.Bag.TheVariants.{Ms1, Ms2, Ms4, Ms8, Ms16, Ms32, Ms64, Ms128}
+use Rattle.afdx_units.specs.declared.line.Speed.{Speed}
+use Rattle.afdx_units.specs.declared.line.Speed.TheVariants.{Ten, Hundred}
+use Rattle.afdx_units.specs.Time.{bag_ms}
+use Rattle.afdx_units.specs.Line.{tick_of}
+use Rattle.afdx_account.specs.Policing.{byte_weight}
+use Rattle.afdx_table.specs.Link.{Link}
+use Rattle.afdx_load.specs.Sums.{parts, is_high, is_low, leads_to, routed, rate_of, burst_of, time_of, Sums, sums_of, load_of}
+use Rattle.afdx_load.specs.Bounds.{high_bound, low_bound}
+use Rattle.afdx_load.specs.Accepted.{Carries}
+use Rattle.afdx_load.specs.Laws.{AsksWhatItsAccountGives, SumsTakeEachLinkOnce, LongestShowsLinks, HighLinksLeaveAPart, AcceptedMeansNoFault, AcceptedKeepsBounds}
+use Rattle.afdx_load.proofs.RowLemmas.{IsLong, all_long}
+use Rattle.afdx_load.proofs.ShareLemmas.{rate_is, burst_is}
+use Rattle.afdx_load.proofs.SumLemmas.{all_counted}
+use Rattle.afdx_load.proofs.FaultLemmas.{accepted_none, none_accepted}
+
+pub asks : AsksWhatItsAccountGives
+asks speed link = (sym (rate_is speed link), sym (burst_is speed link))
+
+sum-filter : (f : Link → ℕ) (p : Link → Bool) (links : List Link) → sum_by f (filter p links) ≡ sum_by (λ link. cond (p link) (f link) 0) links
+sum-filter f p [] = refl
+sum-filter f p (link ∷ links) =
+    sum-filter_at f p link links (p link) ∙ ap (λ (n : ℕ). cond (p link) (f link) 0 + n) (sum-filter f p links) ∙ sym (sum_by-cons (λ (l : Link). cond (p l) (f l) 0) link links)
+  where
+    sum-filter_at : (f : Link → ℕ) (p : Link → Bool) (link : Link) (links : List Link) (b : Bool)
+        → sum_by f (cond b (link ∷ filter p links) (filter p links)) ≡ cond b (f link) 0 + sum_by f (filter p links)
+    sum-filter_at f p link links true = sum_by-cons f link (filter p links)
+    sum-filter_at f p link links false = omega arith
+
+filter-filter : (p q : Link → Bool) (links : List Link) → filter q (filter p links) ≡ filter (λ link. p link && q link) links
+filter-filter p q [] = refl
+filter-filter p q (link ∷ links) = filter_at p q link links (p link) ∙ ap (λ (ls : List Link). cond (p link && q link) (link ∷ ls) ls) (filter-filter p q links)
+  where
+    filter_at : (p q : Link → Bool) (link : Link) (links : List Link) (b : Bool)
+        → filter q (cond b (link ∷ filter p links) (filter p links)) ≡ cond (b && q link) (link ∷ filter q (filter p links)) (filter q (filter p links))
+    filter_at p q link links true = refl
+    filter_at p q link links false = refl
+
+high-sum : (f : Link → ℕ) (port : ℕ) (links : List Link) → sum_by f (filter is_high (routed port links)) ≡ sum_by (λ link. cond (leads_to port link && is_high link) (f link) 0) links
+high-sum f port links = ap (sum_by f) (filter-filter (leads_to port) is_high links) ∙ sum-filter f (λ (l : Link). leads_to port l && is_high l) links
+
+pub each_once : SumsTakeEachLinkOnce
+unfolding sums_of
+each_once speed port links = (
+  sum-filter (rate_of speed) (leads_to port) links,
+  sum-filter (burst_of speed) (leads_to port) links,
+  high-sum (rate_of speed) port links,
+  high-sum (burst_of speed) port links,
+)
+
+time_above : (speed : Speed) (link : Link) → 0 < time_of speed link
+time_above Ten link = omega arith
+time_above Hundred link = omega arith
+
+links_shown : (speed : Speed) (links : List Link) → (0 < (sums_of speed links).largest) ↔ (0 < (sums_of speed links).highs + (sums_of speed links).lows)
+unfolding sums_of
+links_shown speed [] = (λ h. h, λ h. h)
+links_shown speed (link ∷ links) = (λ _. omega (arith, all_counted speed (link ∷ links)), λ _. omega (arith, time_above speed link))
+
+pub shows_links : LongestShowsLinks
+shows_links speed port links = links_shown speed (routed port links)
+
+weight_is : (bag : Bag) (speed : Speed) → 0 < 21 * tick_of speed * (128 / bag_ms bag)
+weight_is Ms1 Ten = omega arith
+weight_is Ms2 Ten = omega arith
+weight_is Ms4 Ten = omega arith
+weight_is Ms8 Ten = omega arith
+weight_is Ms16 Ten = omega arith
+weight_is Ms32 Ten = omega arith
+weight_is Ms64 Ten = omega arith
+weight_is Ms128 Ten = omega arith
+weight_is Ms1 Hundred = omega arith
+weight_is Ms2 Hundred = omega arith
+weight_is Ms4 Hundred = omega arith
+weight_is Ms8 Hundred = omega arith
+weight_is Ms16 Hundred = omega arith
+weight_is Ms32 Hundred = omega arith
+weight_is Ms64 Hundred = omega arith
+weight_is Ms128 Hundred = omega arith
+
+product_above : (a b : ℕ) → 0 < a → 0 < b → 0 < a * b
+product_above zero b h k = absurd (omega arith)
+product_above (suc a) zero h k = absurd (omega arith)
+product_above (suc a) (suc b) h k = omega arith
+
+rate_above : (speed : Speed) (link : Link) → IsLong link → 0 < rate_of speed link
+rate_above speed link long =
+    let size : 0 < link.max_size = omega (arith, long) in
+    omega (arith, rate_is speed link, product_above (byte_weight link.bag speed) link.max_size (weight_is link.bag speed) size)
+
+sum_above : (speed : Speed) (links : List Link) → All IsLong links → 0 < length links → 0 < sum_by (rate_of speed) links
+sum_above speed [] long some = absurd (omega arith)
+sum_above speed (link ∷ links) long some = omega (arith, sum_by-cons (rate_of speed) link links, rate_above speed link (All-head IsLong link links long))
+
+part_left : (speed : Speed) (links : List Link) → All IsLong links → (sums_of speed links).rate ≤ parts → 0 < (sums_of speed links).lows → (sums_of speed links).high_rate < parts
+unfolding sums_of
+part_left speed links long rate lows =
+    let low : 0 < sum_by (rate_of speed) (filter is_low links) = sum_above speed (filter is_low links) (All-filter is_low IsLong links long) (omega (arith, length-filter is_low links)) in
+    omega (arith, low, sum_by-filter_both is_high is_low (λ _. refl) (rate_of speed) links)
+
+pub leave_a_part : HighLinksLeaveAPart
+leave_a_part c speed port well rate lows = part_left speed (routed port c.links) (All-filter (leads_to port) IsLong c.links (all_long c well)) rate lows
+
+pub no_fault : AcceptedMeansNoFault
+no_fault c = (accepted_none c.links c.ports, none_accepted c.links c.ports)
+
+high_kept : (s : Sums) (most : ℕ) → IfSome (high_bound s) (λ bound. bound ≤ most) → 0 < s.highs → (s.high_burst + parts * s.low_largest) / parts ≤ most
+high_kept s most h highs = rw (lt-ltb 0 s.highs highs) at h
+
+low_kept : (s : Sums) (most : ℕ) → IfSome (low_bound s) (λ bound. bound ≤ most) → 0 < s.lows → s.high_rate < parts → s.burst / (parts - s.high_rate) ≤ most
+low_kept s most h lows rate = rw (lt-ltb 0 s.lows lows, lt-ltb s.high_rate parts rate) at h
+
+pub keeps_bounds : AcceptedKeepsBounds
+keeps_bounds c well accepted k d within =
+    let row = get_or c.ports k d in
+    let s = load_of row.speed row.id c.links in
+    let carries : 0 < s.highs + s.lows → Carries row s = accepted k d within in (
+      λ highs. high_kept s row.max_delay (carries (omega arith)).high highs,
+      λ lows. let fine : Carries row s = carries (omega arith) in
+          let part : s.high_rate < parts = leave_a_part c row.speed row.id well fine.rate lows in
+          (part, low_kept s row.max_delay fine.low lows part),
+    )

@@ -1,0 +1,46 @@
+-- Tables whose ports can give what their links ask for, and the first fault of the others (profile).
+use Rattle.std.specs.Prelude.{ℕ, ◌+◌, ◌<◌, ◌≤◌, nat_lt, List, [], ◌∷◌, Option, Some, None, IfSome, All, if◌then◌else◌}
+use Rattle.std.specs.Option.{option_or}
+use Rattle.afdx_table.specs.declared.rows.PortRow.{PortRow}
+use Rattle.afdx_table.specs.Link.{Link}
+use Rattle.afdx_table.specs.Content.{Content}
+use Rattle.afdx_load.specs.Sums.{parts, Sums, load_of}
+use Rattle.afdx_load.specs.Bounds.{high_bound, low_bound, backlog, byte_time}
+use Rattle.afdx_load.specs.declared.fault.Rule.{Rule}
+use Rattle.afdx_load.specs.declared.fault.Rule.TheVariants.{Rate, Buffer, HighDelay, LowDelay}
+use Rattle.afdx_load.specs.declared.fault.LoadFault.{LoadFault}
+
+-- the port can give this load: the links ask for no more than the line, the buffer holds what may wait, and each
+-- priority's bound is within the greatest delay
+pub record Carries (row : PortRow) (s : Sums) : Type 0 where
+  pub rate : s.rate ≤ parts
+  pub buffer : backlog s ≤ byte_time row.speed row.buffer
+  pub high : IfSome (high_bound s) (λ bound. bound ≤ row.max_delay)
+  pub low : IfSome (low_bound s) (λ bound. bound ≤ row.max_delay)
+
+-- each port with links carries their load
+abbrev pub IsAccepted : Content → Type 0
+IsAccepted c = All (λ row. let s = load_of row.speed row.id c.links in 0 < s.highs + s.lows → Carries row s) c.ports
+
+-- the fault of a need past its limit
+abbrev pub past : ℕ → Rule → ℕ → ℕ → Option LoadFault
+past port rule limit need = if nat_lt limit need then Some (record { port = port; rule = rule; need = need; limit = limit }) else None
+
+-- the same where there may be no need
+abbrev pub past_bound : ℕ → Rule → ℕ → Option ℕ → Option LoadFault
+past_bound port rule limit None = None
+past_bound port rule limit (Some need) = past port rule limit need
+
+-- the first rule that a port's load breaks
+unfoldable pub fault_at : PortRow → Sums → Option LoadFault
+fault_at row s =
+    option_or (option_or (option_or
+    (past row.id Rate parts s.rate)
+    (past row.id Buffer (byte_time row.speed row.buffer) (backlog s)))
+    (past_bound row.id HighDelay row.max_delay (high_bound s)))
+    (past_bound row.id LowDelay row.max_delay (low_bound s))
+
+-- the fault of the first port that has one; a table's ports rise, so that it is the lowest
+abbrev pub first_fault : List Link → List PortRow → Option LoadFault
+first_fault links [] = None
+first_fault links (row ∷ rows) = option_or (fault_at row (load_of row.speed row.id links)) (first_fault links rows)

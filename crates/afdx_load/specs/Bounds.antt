@@ -1,0 +1,27 @@
+-- How long a frame may stay at a port, and what its buffer must hold (profile).
+use Rattle.std.specs.Prelude.{ℕ, ◌+◌, ◌-◌, ◌*◌, ◌/◌, nat_lt, ◌&&◌, Option, Some, None, if◌then◌else◌}
+use Rattle.afdx_units.specs.declared.line.Speed.{Speed}
+use Rattle.afdx_units.specs.Line.{tick_of}
+use Rattle.afdx_load.specs.Sums.{parts, Sums}
+use Rattle.afdx_load.specs.declared.delays.Bounds.{Bounds}
+
+-- nanoseconds from the arrival of a high frame to its end on the line, rounded down: all that high links may ask for at
+-- once goes before it, and the low frame that the line had begun; where there are high links
+abbrev pub high_bound : Sums → Option ℕ
+high_bound s = if nat_lt 0 s.highs then Some ((s.high_burst + parts * s.low_largest) / parts) else None
+
+-- the same of a low frame: all that any link may ask for at once, over the part of the line that the high links leave;
+-- where there are low links and such a part
+abbrev pub low_bound : Sums → Option ℕ
+low_bound s = if nat_lt 0 s.lows && nat_lt s.high_rate parts then Some (s.burst / (parts - s.high_rate)) else None
+
+abbrev pub bounds_of : Sums → Bounds
+bounds_of s = record { high = high_bound s; low = low_bound s }
+
+-- what may wait and be on the line at once, in parts of a nanosecond
+abbrev pub backlog : Sums → ℕ
+backlog s = s.burst + parts * s.largest
+
+-- the line time of so many bytes, in parts of a nanosecond
+abbrev pub byte_time : Speed → ℕ → ℕ
+byte_time speed bytes = parts * tick_of speed * bytes

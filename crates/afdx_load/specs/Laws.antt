@@ -1,0 +1,42 @@
+-- Laws over loads.
+use Rattle.std.specs.Prelude.{◌≡◌, ◌↔◌, ℕ, ◌+◌, ◌-◌, ◌*◌, ◌/◌, ◌<◌, ◌≤◌, ◌&&◌, List, None, All, sum_by, if◌then◌else◌}
+use Rattle.afdx_units.specs.declared.line.Speed.{Speed}
+use Rattle.afdx_account.specs.Policing.{byte_weight, byte_terms}
+use Rattle.afdx_table.specs.Link.{Link}
+use Rattle.afdx_table.specs.Content.{Content}
+use Rattle.afdx_table.specs.WellFormed.{IsWellFormed}
+use Rattle.afdx_load.specs.Sums.{parts, is_high, leads_to, rate_of, burst_of, load_of}
+use Rattle.afdx_load.specs.Accepted.{IsAccepted, first_fault}
+
+-- what a link asks for is what its account gives: its credit and its greatest level, each by what a unit is worth
+abbrev pub AsksWhatItsAccountGives : Type 0
+AsksWhatItsAccountGives = (speed : Speed) (link : Link) → let terms = byte_terms link.max_size link.bag link.jitter in
+    (rate_of speed link ≡ byte_weight link.bag speed * terms.rate) × (burst_of speed link ≡ byte_weight link.bag speed * terms.cap)
+
+-- each sum takes each link of the table that leads to the port once
+abbrev pub SumsTakeEachLinkOnce : Type 0
+SumsTakeEachLinkOnce = (speed : Speed) (port : ℕ) (links : List Link) → let s = load_of speed port links in
+    (s.rate ≡ sum_by (λ link. if leads_to port link then rate_of speed link else 0) links)
+    × (s.burst ≡ sum_by (λ link. if leads_to port link then burst_of speed link else 0) links)
+    × (s.high_rate ≡ sum_by (λ link. if leads_to port link && is_high link then rate_of speed link else 0) links)
+    × (s.high_burst ≡ sum_by (λ link. if leads_to port link && is_high link then burst_of speed link else 0) links)
+
+-- a port has links exactly where its longest frame takes time
+abbrev pub LongestShowsLinks : Type 0
+LongestShowsLinks = (speed : Speed) (port : ℕ) (links : List Link) → let s = load_of speed port links in
+    (0 < s.largest) ↔ (0 < s.highs + s.lows)
+
+-- where the line can give the rate and there is a low link, the high links leave a part of the line
+abbrev pub HighLinksLeaveAPart : Type 0
+HighLinksLeaveAPart = (c : Content) (speed : Speed) (port : ℕ) → IsWellFormed c → let s = load_of speed port c.links in
+    s.rate ≤ parts → 0 < s.lows → s.high_rate < parts
+
+-- a table is accepted exactly where it has no fault
+abbrev pub AcceptedMeansNoFault : Type 0
+AcceptedMeansNoFault = (c : Content) → IsAccepted c ↔ (first_fault c.links c.ports ≡ None)
+
+-- in an accepted table each port keeps its two bounds
+abbrev pub AcceptedKeepsBounds : Type 0
+AcceptedKeepsBounds = (c : Content) → IsWellFormed c → IsAccepted c → All (λ row. let s = load_of row.speed row.id c.links in
+    (0 < s.highs → (s.high_burst + parts * s.low_largest) / parts ≤ row.max_delay)
+    × (0 < s.lows → (s.high_rate < parts) × (s.burst / (parts - s.high_rate) ≤ row.max_delay))) c.ports

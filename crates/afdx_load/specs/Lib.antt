@@ -1,0 +1,7 @@
+pub mod Sums
+pub mod Adding
+pub mod Bounds
+pub mod Accepted
+pub mod Small
+pub mod Slots
+pub mod Laws

@@ -1,0 +1,80 @@
+-- What the links of a port may ask of its line (profile: load numbers, in whole numbers).
+use Rattle.std.specs.Prelude.{ℕ, ◌+◌, ◌*◌, ◌/◌, ◌==◌, Bool, true, false, not, List, [], ◌∷◌, filter, sum_by, count_by, max}
+use Rattle.std.specs.List.{list_any}
+use Rattle.afdx_units.specs.declared.line.Speed.{Speed}
+use Rattle.afdx_units.specs.declared.line.Priority.{Priority}
+use Rattle.afdx_units.specs.declared.line.Priority.TheVariants.{High, Low}
+use Rattle.afdx_units.specs.Line.{tick_of, cost_of}
+use Rattle.afdx_units.specs.Time.{bag_ms, bag_ns}
+use Rattle.afdx_table.specs.Link.{Link}
+
+-- profile: the whole of a line, in the parts in which rates are told; they are 16 * 128,000,000, so that a byte's part
+-- is a whole number for each gap
+abbrev pub parts : ℕ
+parts = 2048000000
+
+-- ARINC 664 Part 7: the two priorities
+abbrev pub is_high_priority : Priority → Bool
+is_high_priority High = true
+is_high_priority Low = false
+
+abbrev pub is_high : Link → Bool
+is_high link = is_high_priority link.priority
+
+abbrev pub is_low : Link → Bool
+is_low link = not (is_high link)
+
+-- the link leads to the port
+abbrev pub leads_to : ℕ → Link → Bool
+leads_to port link = list_any (λ p. p == port) link.to
+
+-- the links that lead to a port, each once
+abbrev pub routed : ℕ → List Link → List Link
+routed port links = filter (leads_to port) links
+
+-- profile: the parts of a line that a link asks for in the long run. It sends Smax bytes in each gap; a frame is at
+-- least 64 bytes, so that its size and the 20 bytes that go with it on the line are at most 21/16 of its size
+abbrev pub rate_of : Speed → Link → ℕ
+rate_of speed link = 21 * tick_of speed * link.max_size * (128 / bag_ms link.bag)
+
+-- profile: what it may ask for at once, in parts of a nanosecond
+abbrev pub burst_of : Speed → Link → ℕ
+burst_of speed link = rate_of speed link * (bag_ns link.bag + link.jitter)
+
+-- the line time of its longest frame, in nanoseconds
+abbrev pub time_of : Speed → Link → ℕ
+time_of speed link = cost_of speed link.max_size
+
+-- the greatest of these, 0 where there are none
+abbrev pub greatest : (Link → ℕ) → List Link → ℕ
+greatest f [] = 0
+greatest f (link ∷ links) = max (f link) (greatest f links)
+
+-- a load: how many links of each priority; the sums over all links and over the high ones; the line times of the
+-- longest frames of all links and of the low ones
+pub record Sums : Type 0 where
+  pub highs : ℕ
+  pub lows : ℕ
+  pub rate : ℕ
+  pub high_rate : ℕ
+  pub burst : ℕ
+  pub high_burst : ℕ
+  pub largest : ℕ
+  pub low_largest : ℕ
+
+-- the load of some links
+unfoldable pub sums_of : Speed → List Link → Sums
+sums_of speed links = record {
+  highs = count_by is_high links;
+  lows = count_by is_low links;
+  rate = sum_by (rate_of speed) links;
+  high_rate = sum_by (rate_of speed) (filter is_high links);
+  burst = sum_by (burst_of speed) links;
+  high_burst = sum_by (burst_of speed) (filter is_high links);
+  largest = greatest (time_of speed) links;
+  low_largest = greatest (time_of speed) (filter is_low links);
+}
+
+-- the load of a port
+abbrev pub load_of : Speed → ℕ → List Link → Sums
+load_of speed port links = sums_of speed (routed port links)

@@ -1,0 +1,99 @@
+//! The check of a table.
+
+ghost use Rattle.std.specs.Prelude.{◌≡◌, ◌*◌, ◌≤◌, length, MatchResult, Some};
+ghost use Rattle.afdx_load.specs.Slots.{AreLoads};
+ghost use Rattle.afdx_load.specs.Accepted.{past, past_bound, fault_at, first_fault, IsAccepted};
+
+use crate::bounding::{PARTS, backlog, bounds};
+use crate::cleared::Cleared;
+use crate::fault::{LoadFault, Rule};
+use crate::loading::loads;
+use crate::sums::Load;
+use afdx_table::{PortRow, Table};
+
+/// The fault of a need past its limit.
+fn past(port: u8, rule: Rule, limit: u128, need: u128) -> Option<LoadFault>
+    ensures { result ≡ past port rule limit need }
+{
+    if need > limit {
+        Some(LoadFault {
+            port,
+            rule,
+            need,
+            limit,
+        })
+    } else {
+        None
+    }
+}
+
+/// The same where there may be no need.
+fn past_bound(port: u8, rule: Rule, limit: u128, need: Option<u128>) -> Option<LoadFault>
+    ensures { result ≡ past_bound port rule limit need }
+{
+    match need {
+        Some(need) => past(port, rule, limit, need),
+        None => None,
+    }
+}
+
+/// The first rule that a port's load breaks.
+#[tactic(auto, unfolding(crate::specs::Accepted::fault_at))]
+fn fault_at(row: &PortRow, load: &Load) -> Option<LoadFault>
+    ensures { result ≡ fault_at row.now load.now }
+{
+    let parts = u128::from(PARTS);
+    let room = parts * u128::from(row.speed.tick()) * u128::from(row.buffer);
+    let delay = u128::from(row.max_delay);
+    let bounds = bounds(load);
+    past(row.id, Rule::Rate, parts, u128::from(load.rate()))
+        .or(past(row.id, Rule::Buffer, room, backlog(load)))
+        .or(past_bound(row.id, Rule::HighDelay, delay, bounds.high))
+        .or(past_bound(row.id, Rule::LowDelay, delay, bounds.low))
+}
+
+/// The fault of the first port that has one.
+fn first_fault_in(table: &Table, loads: &[Load]) -> Option<LoadFault>
+    requires loads { AreLoads table.now.links table.now.ports loads.now }
+    requires slots { 25 ≤ length loads.now }
+    ensures { result ≡ first_fault table.now.links table.now.ports }
+{
+    for row in table.ports() {
+        let load = loads[usize::from(row.id)];
+        let fault = fault_at(row, &load);
+        if fault.is_some() {
+            return fault;
+        }
+    }
+    None
+}
+
+/// The fault of a table.
+fn first_fault(table: &Table) -> Option<LoadFault>
+    ensures { result ≡ first_fault table.now.links table.now.ports }
+{
+    let loads = loads(table);
+    first_fault_in(table, &loads)
+}
+
+/// Accepts a table exactly where each port with links carries their load. Else the table comes back unchanged, beside
+/// the fault of the lowest port that has one, at the first rule that it breaks, in this order:
+///
+/// 1. `Rate`: its links ask for more than the line.
+/// 2. `Buffer`: what may wait and be on the line at once takes more line time than the buffer holds.
+/// 3. `HighDelay`: the bound of its high frames is above the greatest delay.
+/// 4. `LowDelay`: the bound of its low frames is above the greatest delay.
+///
+/// O(p + m), where the table has p ports and its links together name m output ports: one pass over the links serves all
+/// ports. It takes no memory.
+#[tactic(auto, using(crate::proofs::FaultLemmas::accepted_of, crate::proofs::FaultLemmas::refused_of))]
+pub fn check(table: Table) -> Result<Cleared, (Table, LoadFault)>
+    ensures { MatchResult result
+        (λ cleared. (cleared ≡ table) × IsAccepted table)
+        (λ refused. (refused.0 ≡ table) × (first_fault table.links table.ports ≡ Some refused.1) × (IsAccepted table → ⊥)) }
+{
+    match first_fault(&table) {
+        Some(fault) => Err((table, fault)),
+        None => Ok(Cleared { table }),
+    }
+}

@@ -1,0 +1,33 @@
+//! Laws over the definitions: functions that do nothing, whose contracts are the laws.
+
+ghost use Rattle.afdx_load.specs.Laws.{AsksWhatItsAccountGives, SumsTakeEachLinkOnce, LongestShowsLinks, HighLinksLeaveAPart, AcceptedMeansNoFault, AcceptedKeepsBounds};
+
+/// What a link asks for is what its account gives: the weight of a unit by its credit, and by its greatest level.
+pub fn asks_what_its_account_gives()
+    ensures { AsksWhatItsAccountGives }
+{}
+
+/// Each sum takes each link that leads to the port once.
+pub fn sums_take_each_link_once()
+    ensures { SumsTakeEachLinkOnce }
+{}
+
+/// A port has links exactly where its longest frame takes time.
+pub fn longest_shows_links()
+    ensures { LongestShowsLinks }
+{}
+
+/// Where the line can give the rate and there is a low link, the high links leave a part of the line.
+pub fn high_links_leave_a_part()
+    ensures { HighLinksLeaveAPart }
+{}
+
+/// A table is accepted exactly where it has no fault.
+pub fn accepted_means_no_fault()
+    ensures { AcceptedMeansNoFault }
+{}
+
+/// In an accepted table each port keeps its two bounds.
+pub fn accepted_keeps_bounds()
+    ensures { AcceptedKeepsBounds }
+{}

@@ -1,0 +1,39 @@
+//! What one link asks of a line, by its account.
+
+ghost use Rattle.std.specs.Prelude.{◌≡◌, ◌≤◌, ◌^◌};
+ghost use Rattle.afdx_load.specs.Sums.{rate_of, burst_of, time_of};
+
+use afdx_account::{ByteAccount, Meter};
+use afdx_table::LinkRow;
+use afdx_units::{Speed, cost};
+
+/// What one link asks of a line.
+#[derive(Clone, Copy)]
+pub(crate) struct Share {
+    /// In the long run, in parts of the line.
+    pub(crate) rate: u64,
+    /// At once, in parts of a nanosecond.
+    pub(crate) burst: u128,
+    /// The line time of its longest frame, in nanoseconds.
+    pub(crate) time: u64,
+}
+
+/// What a link asks of a line of this speed: its account's credit and its greatest level, by what a unit is worth.
+pub(crate) fn share_of(speed: Speed, link: &LinkRow) -> Share
+    requires size { link.now.max_size ≤ 1518 }
+    requires jitter { link.now.jitter ≤ 10000000 }
+    ensures rate { result.rate ≡ rate_of speed link.now }
+    ensures burst { result.burst ≡ burst_of speed link.now }
+    ensures time { result.time ≡ time_of speed link.now }
+    ensures small_rate { result.rate ≤ 2 ^ 32 }
+    ensures small_burst { result.burst ≤ 2 ^ 60 }
+    ensures small_time { result.time ≤ 2 ^ 21 }
+{
+    let account = ByteAccount::new(link.max_size, link.bag, link.jitter);
+    let weight = account.weight(speed);
+    Share {
+        rate: weight * account.rate(),
+        burst: u128::from(weight) * u128::from(account.cap()),
+        time: cost(speed, link.max_size),
+    }
+}
