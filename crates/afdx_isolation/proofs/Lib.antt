@@ -1,0 +1,11 @@
+pub mod Numbers
+pub mod Sums
+pub mod Clock
+pub mod Waiting
+pub mod Ends
+pub mod Keeping
+pub mod Levels
+pub mod Offered
+pub mod Leaving
+pub mod Tables
+pub mod Examples

@@ -1,0 +1,92 @@
+-- The links that lead to one output port, what they may ask of it, and the bounds that follow (profile).
+use Rattle.std.specs.Prelude.{ℕ, ◌+◌, ◌-◌, ◌*◌, ◌/◌, ◌<◌, ◌≤◌, ◌≡◌, max, not, filter, List, [], ◌∷◌, sum_by, All, Contains}
+use Rattle.afdx_units.specs.declared.line.Priority.{Priority}
+use Rattle.afdx_units.specs.declared.line.Priority.TheVariants.{High, Low}
+use Rattle.afdx_units.specs.Line.{cost_of, tick_of}
+use Rattle.afdx_account.specs.Policing.{Terms}
+use Rattle.afdx_port.specs.declared.Settings.{Settings}
+use Rattle.afdx_port.specs.Service.{is_high}
+
+-- line time is counted in these parts of a nanosecond, so that what a link asks for is a whole number
+abbrev pub parts : ℕ
+parts = 2048000000
+
+-- a virtual link as an output port sees it: the terms by which it is policed, the line time that a unit of them stands
+-- for on this port's line, in parts of a nanosecond, and its largest frame in bytes
+pub record Flow : Type 0 where
+  pub id : ℕ
+  pub terms : Terms
+  pub weight : ℕ
+  pub largest : ℕ
+  pub priority : Priority
+
+-- the price of each frame pays for its line time, and units are credited
+pub record IsPaidFor (s : Settings) (flow : Flow) : Type 0 where
+  pub pays : (size : ℕ) → 64 ≤ size → size ≤ flow.largest → parts * cost_of s.speed size ≤ flow.weight * flow.terms.price size
+  pub credited : 0 < flow.weight * flow.terms.rate
+
+abbrev pub high_flows : List Flow → List Flow
+high_flows flows = filter (λ flow. is_high flow.priority) flows
+
+abbrev pub low_flows : List Flow → List Flow
+low_flows flows = filter (λ flow. not (is_high flow.priority)) flows
+
+-- the line time that flows may ask for in each nanosecond, and at once
+abbrev pub rates : List Flow → ℕ
+rates flows = sum_by (λ flow. flow.weight * flow.terms.rate) flows
+
+abbrev pub bursts : List Flow → ℕ
+bursts flows = sum_by (λ flow. flow.weight * flow.terms.cap) flows
+
+-- the line time in nanoseconds of their longest frame, 0 where there are none
+abbrev pub longest : Settings → List Flow → ℕ
+longest s [] = 0
+longest s (flow ∷ flows) = max (cost_of s.speed flow.largest) (longest s flows)
+
+-- the load of a port: of all its flows, and of those of one priority
+pub record Load : Type 0 where
+  pub rate : ℕ
+  pub high_rate : ℕ
+  pub burst : ℕ
+  pub high_burst : ℕ
+  pub largest : ℕ
+  pub low_largest : ℕ
+
+abbrev pub load_of : Settings → List Flow → Load
+load_of s flows = record {
+  rate = rates flows;
+  high_rate = rates (high_flows flows);
+  burst = bursts flows;
+  high_burst = bursts (high_flows flows);
+  largest = longest s flows;
+  low_largest = longest s (low_flows flows);
+}
+
+-- the most nanoseconds from a frame's arrival to its end: a high frame waits for the high bursts and one low frame that
+-- was begun before it came; a low one for all bursts, on the part of the line that the high ones leave
+abbrev pub bound : Load → Priority → ℕ
+bound load High = (load.high_burst + parts * load.low_largest) / parts
+bound load Low = load.burst / (parts - load.high_rate)
+
+-- the flows ask for no more than the line gives
+abbrev pub IsWithinRate : Settings → List Flow → Type 0
+IsWithinRate s flows = (load_of s flows).rate ≤ parts
+
+-- the buffer holds their bursts and one frame, which keeps its place until its end
+abbrev pub HasBuffer : Settings → List Flow → Type 0
+HasBuffer s flows = (load_of s flows).burst + parts * (load_of s flows).largest ≤ parts * (tick_of s.speed * s.buffer)
+
+-- the bound of a priority, where it has flows, is within the greatest delay
+abbrev pub IsWithinDelay : Settings → List Flow → Priority → Type 0
+IsWithinDelay s flows priority = All (λ flow. flow.priority ≡ priority → bound (load_of s flows) priority ≤ s.max_delay) flows
+
+-- a port that can give what its flows ask for
+pub record Carries (s : Settings) (flows : List Flow) : Type 0 where
+  pub rate : IsWithinRate s flows
+  pub buffer : HasBuffer s flows
+  pub high : IsWithinDelay s flows High
+  pub low : IsWithinDelay s flows Low
+
+-- no two flows have one number
+abbrev pub AreDistinct : List Flow → Type 0
+AreDistinct flows = (a b : Flow) → Contains flows a → Contains flows b → a.id ≡ b.id → a ≡ b
