@@ -1,0 +1,12 @@
+pub mod Lists
+pub mod Feeds
+pub mod Policed
+pub mod Examples
+pub mod Outs
+pub mod Steps
+pub mod HeldFrames
+pub mod Calls
+pub mod Agree
+pub mod MergeLemmas
+pub mod Isolating
+pub mod Runs

@@ -1,0 +1,49 @@
+-- What f gives of each element and those before it, for one more element.
+use Rattle.std.proofs.Common.{◌≡◌, ℕ, zero, suc, ◌+◌, ◌<◌, Bool, true, false, cond, List, [], ◌∷◌, ◌++◌, length, map, slice_get, Option, Some, option_map, find, All, refl, ap, sym, ◌∙◌, arith, append_assoc, length-append}
+use Rattle.std.specs.List.{AllByRecursion}
+use Rattle.std.proofs.lemmas.List.{append-nil}
+use Rattle.std.proofs.lemmas.List.Elements.{All-cons, All-nil}
+use Rattle.afdx_core.specs.Rows.{each_after}
+
+pub each-push : {X Y : Type 0} (f : List X → X → List Y) (before xs : List X) (x : X) → each_after f before (xs ++ x ∷ []) ≡ each_after f before xs ++ f (before ++ xs) x
+each-push f before [] x = append-nil (f before x) ∙ ap (λ b. f b x) (sym (append-nil before))
+each-push f before (y ∷ xs) x =
+    ap (λ r. f before y ++ r) (each-push f (before ++ y ∷ []) xs x ∙ ap (λ b. each_after f (before ++ y ∷ []) xs ++ f b x) (append_assoc before (y ∷ []) xs))
+    ∙ sym (append_assoc (f before y) (each_after f (before ++ y ∷ []) xs) (f (before ++ y ∷ xs) x))
+
+chosen : {X Y : Type 0} (f : X → Y) (b : Bool) (x : X) (ys : Option Y) (xs : Option X) → ys ≡ option_map f xs → cond b (Some (f x)) ys ≡ option_map f (cond b (Some x) xs)
+chosen f true x ys xs e = refl
+chosen f false x ys xs e = e
+
+pub find-map : {X Y : Type 0} (f : X → Y) (p : Y → Bool) (xs : List X) → find p (map f xs) ≡ option_map f (find (λ x. p (f x)) xs)
+find-map f p [] = refl
+find-map f p (x ∷ xs) = chosen f (p (f x)) x (find p (map f xs)) (find (λ x. p (f x)) xs) (find-map f p xs)
+
+pub AllByRecursion-append : {X : Type 0} (P : X → Type 0) (xs ys : List X) → AllByRecursion P xs → AllByRecursion P ys → AllByRecursion P (xs ++ ys)
+AllByRecursion-append P [] ys all more = more
+AllByRecursion-append P (x ∷ xs) ys all more = (all.0, AllByRecursion-append P xs ys all.1 more)
+
+pub AllByRecursion-weaken : {X : Type 0} (P Q : X → Type 0) (xs : List X) → ((x : X) → P x → Q x) → AllByRecursion P xs → AllByRecursion Q xs
+AllByRecursion-weaken P Q [] h all = tt
+AllByRecursion-weaken P Q (x ∷ xs) h all = (h x all.0, AllByRecursion-weaken P Q xs h all.1)
+
+pub All-from : {X : Type 0} (P : X → Type 0) (xs : List X) → AllByRecursion P xs → All P xs
+All-from P [] all = All-nil P
+All-from P (x ∷ xs) all = All-cons P x xs all.0 (All-from P xs all.1)
+
+-- one more element leaves the earlier ones
+pub slice_get-push : {X : Type 0} (xs : List X) (x : X) (n : ℕ) → n < length xs → slice_get (xs ++ x ∷ []) n ≡ slice_get xs n
+slice_get-push [] x n lt = absurd (omega arith)
+slice_get-push (y ∷ xs) x zero lt = refl
+slice_get-push (y ∷ xs) x (suc n) lt = slice_get-push xs x n (omega arith)
+
+pub slice_get-last : {X : Type 0} (xs : List X) (x : X) → slice_get (xs ++ x ∷ []) (length xs) ≡ Some x
+slice_get-last [] x = refl
+slice_get-last (y ∷ xs) x = slice_get-last xs x
+
+pub by_cond : {A : Type 0} (P : A → Type 0) (b : Bool) (x y : A) → (b ≡ true → P x) → (b ≡ false → P y) → P (cond b x y)
+by_cond P true x y first second = first refl
+by_cond P false x y first second = second refl
+
+pub length_more : {X : Type 0} (xs : List X) (x : X) → length (xs ++ x ∷ []) ≡ length xs + 1
+length_more xs x = length-append xs (x ∷ [])

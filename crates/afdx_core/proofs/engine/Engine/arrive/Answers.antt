@@ -1,0 +1,14 @@
+use Rattle.std.proofs.Common.{ap, sym, ◌∙◌, subst}
+use Rattle.afdx_core.specs.declared.kinds.Row.{Row}
+use Rattle.afdx_core.specs.Engine.{IsSized}
+use Rattle.afdx_core.proofs.Steps.{no_place}
+use Rattle.afdx_core.proofs.Calls.{sized_at}
+use Rattle.afdx_core.proofs.engine.Engine.arrive.Goals as goal
+
+pub filter-taken-requires-clause-unnamed : goal.filter-taken-requires-clause-unnamed
+filter-taken-requires-clause-unnamed g c = no_place c.args.self.now.table c.row_for-row.result.verdict (sym c.place_of.ensures ∙ c.in-None.is)
+
+pub take-taken-requires-clause-sized : goal.take-taken-requires-clause-sized
+take-taken-requires-clause-sized g c =
+    let row = c.row_for-row.ensures in
+    subst IsSized (sym row) (sized_at c.args.self.now.table c.args.in_port c.args.arrived c.row_for-row.result.verdict c.in-Some-place_of.place (ap (λ (r : Row). r.verdict) row) (sym c.place_of.ensures ∙ c.in-Some-place_of.is))

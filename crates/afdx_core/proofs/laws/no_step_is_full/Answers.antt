@@ -1,0 +1,5 @@
+use Rattle.afdx_core.proofs.Runs.{none_full}
+use Rattle.afdx_core.proofs.laws.no_step_is_full.Goals as goal
+
+pub returns : goal.returns
+returns c = none_full c.accepted_tables_isolate.ensures

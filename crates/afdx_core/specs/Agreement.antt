@@ -1,0 +1,21 @@
+-- What ports are offered of a link.
+use Rattle.std.specs.Prelude.{◌≡◌, ℕ, ◌==◌, true, List, map, filter, Some}
+use Rattle.afdx_table.specs.Link.{Link}
+use Rattle.afdx_table.specs.Content.{Content, link_row}
+use Rattle.afdx_account.specs.declared.frame.Frame.{Frame}
+use Rattle.afdx_account.specs.Policing.{passed_frames}
+use Rattle.afdx_port.specs.declared.Item.{Item}
+use Rattle.afdx_core.specs.declared.kinds.Row.{Row}
+use Rattle.afdx_core.specs.Rows.{account_frames, leads_to, terms_of, feed_of}
+
+abbrev pub frame_in : Item → Frame
+frame_in item = record { stamp = item.stamp; size = item.size }
+
+-- the frames of a link among these items
+abbrev pub part_of : ℕ → List Item → List Frame
+part_of i items = map frame_in (filter (λ item. item.link == i) items)
+
+-- a port that a link leads to is offered exactly what the link's policing passes of its own frames, in order
+abbrev pub FeedIsPassed : Type 0
+FeedIsPassed = (t : Content) (i port : ℕ) (l : Link) (rows : List Row) → link_row t i ≡ Some l → leads_to port l.to ≡ true
+    → part_of i (feed_of t port rows) ≡ passed_frames (terms_of l) (account_frames i rows)

@@ -1,0 +1,10 @@
+pub mod Handling
+pub mod Rows
+pub mod State
+pub mod Held
+pub mod Outlets
+pub mod Kept
+pub mod Engine
+pub mod Agreement
+pub mod Merge
+pub mod Isolation

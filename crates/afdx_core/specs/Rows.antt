@@ -1,0 +1,113 @@
+-- What a switch makes of the arrivals that it took: each is one row, in the order of arrival.
+use Rattle.std.specs.Prelude.{ℕ, ◌==◌, Bool, false, ◌&&◌, if◌then◌else◌, List, [], ◌∷◌, ◌++◌, length, map, filter, Option, Some, None}
+use Rattle.std.specs.List.{list_any}
+use Rattle.afdx_units.specs.Line.{size_of}
+use Rattle.afdx_pcap.specs.Entry.{Entry}
+use Rattle.afdx_table.specs.Link.{Link}
+use Rattle.afdx_table.specs.Content.{Content, link_row, link_place}
+use Rattle.afdx_filter.specs.declared.outcome.Verdict.{Verdict}
+use Rattle.afdx_filter.specs.declared.outcome.Verdict.TheVariants.{Cut, Short, Long, Foreign, NoLink, WrongPort, TooBig, Clean}
+use Rattle.afdx_filter.specs.Verdict.{verdict_of}
+use Rattle.afdx_account.specs.declared.frame.Frame.{Frame}
+use Rattle.afdx_account.specs.Policing.{Terms, byte_terms, conforms, passed_frames}
+use Rattle.afdx_port.specs.declared.Item.{Item}
+use Rattle.afdx_core.specs.declared.kinds.Row.{Row}
+use Rattle.afdx_core.specs.declared.kinds.Fate.{Fate}
+use Rattle.afdx_core.specs.declared.kinds.Fate.TheVariants.{Filtered, Policed, Passed}
+
+-- the row of a frame that came in at a port
+abbrev pub row_of : Content → ℕ → Entry → Row
+row_of t port frame = record { in_port = port; stamp = frame.stamp; size = size_of (length frame.bytes); verdict = verdict_of t port frame }
+
+-- ---- one link
+
+abbrev pub says_clean : ℕ → Verdict → Bool
+says_clean i (Clean j) = i == j
+says_clean i Cut = false
+says_clean i Short = false
+says_clean i Long = false
+says_clean i Foreign = false
+says_clean i NoLink = false
+says_clean i WrongPort = false
+says_clean i TooBig = false
+
+-- ARINC 664 Part 7: a link's own frames are the clean ones that came of it
+abbrev pub own_frames : ℕ → List Row → List Row
+own_frames i rows = filter (λ row. says_clean i row.verdict) rows
+
+abbrev pub frame_of : Row → Frame
+frame_of row = record { stamp = row.stamp; size = row.size }
+
+-- they as the link's account sees them
+unfoldable pub account_frames : ℕ → List Row → List Frame
+account_frames i rows = map frame_of (own_frames i rows)
+
+-- profile: policing is by bytes
+abbrev pub terms_of : Link → Terms
+terms_of l = byte_terms l.max_size l.bag l.jitter
+
+-- ARINC 664 Part 7: whether a link's frame is passed, after these arrivals
+unfoldable pub passes : Link → List Row → Row → Bool
+passes l before row = conforms (terms_of l) (passed_frames (terms_of l) (account_frames l.id before)) (frame_of row)
+
+-- ---- one arrival, after others
+
+-- the link of a clean frame
+abbrev pub named : Content → Verdict → Option Link
+named t (Clean i) = link_row t i
+named t Cut = None
+named t Short = None
+named t Long = None
+named t Foreign = None
+named t NoLink = None
+named t WrongPort = None
+named t TooBig = None
+
+-- the place of that link among the links
+abbrev pub place_named : Content → Verdict → Option ℕ
+place_named t (Clean i) = link_place t i
+place_named t Cut = None
+place_named t Short = None
+place_named t Long = None
+place_named t Foreign = None
+place_named t NoLink = None
+place_named t WrongPort = None
+place_named t TooBig = None
+
+-- what becomes of a frame, by its link
+abbrev pub fate_by : Option Link → List Row → Row → Fate
+fate_by None before row = Filtered row.verdict
+fate_by (Some l) before row = if passes l before row then Passed l.id else Policed l.id
+
+abbrev pub fate_of : Content → List Row → Row → Fate
+fate_of t before row = fate_by (named t row.verdict) before row
+
+-- a frame's copy, numbered by the arrivals before it
+abbrev pub item_of : Link → List Row → Row → Item
+item_of l before row = record { number = length before; link = l.id; stamp = row.stamp; size = row.size; priority = l.priority }
+
+-- whether a list of port numbers has a port
+abbrev pub leads_to : ℕ → List ℕ → Bool
+leads_to port to = list_any (λ p. p == port) to
+
+-- the copy of a frame that a port is offered, if any: that of a passed frame whose link leads there
+abbrev pub copies_by : Option Link → ℕ → List Row → Row → List Item
+copies_by None port before row = []
+copies_by (Some l) port before row = if passes l before row && leads_to port l.to then item_of l before row ∷ [] else []
+
+abbrev pub copies : Content → ℕ → List Row → Row → List Item
+copies t port before row = copies_by (named t row.verdict) port before row
+
+-- ---- all arrivals
+
+-- what f gives of each element and those before it, in order
+abbrev pub each_after : {X Y : Type 0} → (List X → X → List Y) → List X → List X → List Y
+each_after f before [] = []
+each_after f before (x ∷ xs) = f before x ++ each_after f (before ++ x ∷ []) xs
+
+unfoldable pub fates_of : Content → List Row → List Fate
+fates_of t rows = each_after (λ before row. fate_of t before row ∷ []) [] rows
+
+-- what a port is offered: the copies of the frames that are passed and whose link leads there, in order
+unfoldable pub feed_of : Content → ℕ → List Row → List Item
+feed_of t port rows = each_after (copies t port) [] rows

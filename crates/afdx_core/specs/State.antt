@@ -1,0 +1,121 @@
+-- What contracts see of a switch, and what its calls do to it.
+use Rattle.std.specs.Prelude.{ℕ, ◌+◌, ◌==◌, Bool, true, false, nat_lt, if◌then◌else◌, List, [], ◌∷◌, ◌++◌, length, map, set, position, slice_get, slice_index, Option, Some, None, is_none}
+use Rattle.afdx_pcap.specs.Entry.{Entry}
+use Rattle.afdx_table.specs.declared.rows.PortRow.{PortRow}
+use Rattle.afdx_table.specs.Link.{Link}
+use Rattle.afdx_table.specs.Content.{Content, port_row}
+use Rattle.afdx_port.specs.declared.Settings.{Settings}
+use Rattle.afdx_port.specs.declared.Item.{Item}
+use Rattle.afdx_port.specs.declared.Sent.{Sent}
+use Rattle.afdx_port.specs.declared.Aged.{Aged}
+use Rattle.afdx_port.specs.declared.Offer.{Offer}
+use Rattle.afdx_port.specs.declared.Offer.TheVariants.{Full}
+use Rattle.afdx_port.specs.Admission.{admitted}
+use Rattle.afdx_port.specs.Service.{sent_of, aged_of}
+use Rattle.afdx_port.specs.Content.{Content as PortContent, done, answer}
+use Rattle.afdx_core.specs.declared.kinds.Row.{Row}
+use Rattle.afdx_core.specs.declared.kinds.CoreFault.{CoreFault}
+use Rattle.afdx_core.specs.declared.kinds.CoreFault.TheVariants.{NoSuchPort, Earlier}
+use Rattle.afdx_core.specs.Handling.{Handling}
+use Rattle.afdx_core.specs.Rows.{named, passes, item_of, fate_of, feed_of}
+
+-- what a switch answers rests on this, and on the bytes of the frames that it holds
+pub record Run : Type 0 where
+  pub table : Content
+  -- the arrivals, in order
+  pub rows : List Row
+  -- the greatest stamp that was taken or advanced to
+  pub latest : ℕ
+  -- how many frames each port handed out, in the table's order of ports
+  pub handed : List ℕ
+  pub finished : Bool
+
+pub record State : Type 0 where
+  pub run : Run
+  -- the frame of each arrival, as far as it is kept
+  pub frames : List (Option Entry)
+  -- the table was checked, and accepted, before the switch was made
+  pub accepted : Bool
+
+-- what a switch that took nothing rests on
+abbrev pub fresh_run : Content → Run
+fresh_run t = record { table = t; rows = []; latest = 0; handed = map (λ p. 0) t.ports; finished = false }
+
+-- a switch that took nothing, over a table that was accepted or not checked
+abbrev pub fresh_state : Bool → Content → State
+fresh_state accepted t = record { run = fresh_run t; frames = []; accepted = accepted }
+
+abbrev pub settings_of : PortRow → Settings
+settings_of p = record { speed = p.speed; buffer = p.buffer; max_delay = p.max_delay }
+
+-- an output port after these arrivals: it admits from its feed, and has come to the instant
+abbrev pub port_after : Content → List Row → ℕ → Bool → PortRow → PortContent
+port_after t rows latest finished p = record { settings = settings_of p; admitted = admitted (settings_of p) (feed_of t p.id rows); horizon = latest; finished = finished }
+
+abbrev pub port_in : Run → PortRow → PortContent
+port_in r p = port_after r.table r.rows r.latest r.finished p
+
+-- what the port of a number sent so far, and what it gave up
+abbrev pub sent_in : Run → Option PortRow → List Sent
+sent_in r None = []
+sent_in r (Some p) = sent_of (done (port_in r p))
+
+abbrev pub aged_in : Run → Option PortRow → List Aged
+aged_in r None = []
+aged_in r (Some p) = aged_of (done (port_in r p))
+
+-- ---- an arrival
+
+abbrev pub after_row : Row → Run → Run
+after_row row r = record { table = r.table; rows = r.rows ++ row ∷ []; latest = row.stamp; handed = r.handed; finished = r.finished }
+
+-- the answer of a port to a copy
+abbrev pub answer_of : Run → Item → Option PortRow → Offer
+answer_of r item None = Full
+answer_of r item (Some p) = answer item (port_in r p)
+
+-- the answers of a link's ports, in its order
+abbrev pub offers_by : Run → Option Link → Row → List (ℕ × Offer)
+offers_by r None row = []
+offers_by r (Some l) row = if passes l r.rows row then map (λ port. (port, answer_of r (item_of l r.rows row) (port_row r.table port))) l.to else []
+
+abbrev pub offers_of : Run → Row → List (ℕ × Offer)
+offers_of r row = offers_by r (named r.table row.verdict) row
+
+-- what the switch does with the arrival of this row
+abbrev pub handling_of : Run → Row → Handling
+handling_of r row = record { number = length r.rows; in_port = row.in_port; fate = fate_of r.table r.rows row; offers = offers_of r row }
+
+-- the first refusal that is none of memory
+abbrev pub refusal_of : Run → ℕ → ℕ → Option CoreFault
+refusal_of r port stamp = if is_none (port_row r.table port) then Some NoSuchPort else if nat_lt stamp r.latest then Some Earlier else None
+
+-- ---- the other calls
+
+abbrev pub after_advance : ℕ → Run → Run
+after_advance to r = record { table = r.table; rows = r.rows; latest = to; handed = r.handed; finished = r.finished }
+
+abbrev pub after_finish : Run → Run
+after_finish r = record { table = r.table; rows = r.rows; latest = r.latest; handed = r.handed; finished = true }
+
+-- one more frame of the port at this place was handed out
+abbrev pub after_handing : ℕ → Run → Run
+after_handing place r = record { table = r.table; rows = r.rows; latest = r.latest; handed = set r.handed place (slice_index r.handed place + 1); finished = r.finished }
+
+-- the next sent frame of the port at a place, if it has one that was not handed out
+abbrev pub next_at : Run → ℕ → Option Sent
+next_at r place = slice_get (sent_in r (slice_get r.table.ports place)) (slice_index r.handed place)
+
+abbrev pub next_by : Run → Option ℕ → Option Sent
+next_by r None = None
+next_by r (Some place) = next_at r place
+
+-- the place of a port among the table's ports
+abbrev pub place_of : Run → ℕ → Option ℕ
+place_of r port = position (λ p. p.id == port) r.table.ports
+
+-- a sent frame: its end as stamp, its length as original, and the bytes that came
+abbrev pub out_of : Option (Option Entry) → Sent → Option Entry
+out_of (Some (Some frame)) s = Some (record { stamp = s.end; original = length frame.bytes; bytes = frame.bytes })
+out_of (Some None) s = None
+out_of None s = None

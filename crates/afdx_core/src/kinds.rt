@@ -1,0 +1,70 @@
+//! What the switch answers.
+
+use afdx_filter::Verdict;
+use afdx_port::Offer;
+use afdx_units::Stamp;
+use std::alloc::Allocator;
+use std::marker::Model;
+
+/// Why an arrival or an advance was refused.
+#[derive(Clone, Copy, Debug, PartialEq, Eq)]
+pub enum CoreFault {
+    /// Memory refused a growth.
+    Memory,
+    /// The stamp is below that of an earlier arrival or advance.
+    Earlier,
+    /// The table has no port of this number.
+    NoSuchPort,
+}
+
+/// What the switch did with a frame.
+#[derive(Clone, Copy, Debug, PartialEq, Eq)]
+pub enum Fate {
+    /// The filter dropped it, for this verdict.
+    Filtered(Verdict),
+    /// The account of this link did not pass it.
+    Policed(u16),
+    /// The account of this link passed it, and it was offered to the link's ports.
+    Passed(u16),
+}
+
+/// An arrival that was taken, as contracts see it.
+#[derive(Clone, Copy, Debug, PartialEq, Eq)]
+pub struct Row {
+    /// The port at which it came in.
+    pub in_port: u8,
+    /// The instant at which it had wholly come.
+    pub stamp: Stamp,
+    /// Its size in bytes, check sequence included.
+    pub size: u32,
+    /// What the filter says of it.
+    pub verdict: Verdict,
+}
+
+/// What became of an arrival.
+///
+/// Contracts see it as a record of these fields, with the offers as a list of pairs.
+#[derive(Debug, Drop)]
+pub struct Step<A: Allocator> {
+    /// The number of arrivals that were taken before it.
+    pub number: usize,
+    /// The port at which it came in.
+    pub in_port: u8,
+    pub fate: Fate,
+    /// The ports that its link leads to, in the link's order, with the answer of each; none where
+    /// it was not passed.
+    pub offers: Vec<(u8, Offer), A>,
+}
+
+impl<A: Allocator> Model for Step<A> {
+    ghost use Rattle.afdx_core.specs.Handling.{Handling};
+
+    ghost Value = { Handling };
+
+    ghost view = { λ s. record {
+      number = s.number;
+      in_port = s.in_port;
+      fate = s.fate;
+      offers = s.offers.items;
+    } };
+}

@@ -1,0 +1,67 @@
+//! Laws over the definitions.
+
+ghost use Rattle.afdx_core.specs.Agreement.{FeedIsPassed};
+ghost use Rattle.afdx_core.specs.Isolation.{PassedCopiesArePassedFrames, AcceptedTablesIsolate, NoStepIsFull, OthersChangeNothing, RunsBegin, RunsTakeArrivals, RunsAdvance, RunsHandOut, RunsFinish};
+ghost use Rattle.afdx_core.specs.Merge.{MergedIsAMerge, MergedIsByStampAndPort};
+
+use afdx_account::laws::passed_by_their_frames;
+use afdx_filter::laws::clean_frames_have_a_link;
+use afdx_isolation::laws as isolation;
+use afdx_isolation::laws::offers_what_the_policing_passes;
+use afdx_port::Item;
+
+/// A port that a link leads to is offered exactly what the link's policing passes of its own frames.
+pub fn feed_is_passed()
+    ensures { FeedIsPassed }
+{}
+
+/// Where no port's stamps fall, the program's merge is a merge.
+pub fn merged_is_a_merge()
+    ensures { MergedIsAMerge }
+{}
+
+/// Where the captures are by rising port number, the program's merge is by stamp, then by port number.
+pub fn merged_is_by_stamp_and_port()
+    ensures { MergedIsByStampAndPort }
+{}
+
+/// What ports may be offered of a link that its policing passes are its passed frames.
+pub fn passed_copies_are_passed_frames()
+    ensures { PassedCopiesArePassedFrames }
+{
+    passed_by_their_frames::<Item>();
+}
+
+/// The headline: a switch over an accepted table loses no copy to a full buffer or to age, sends each within its
+/// port's bound, and of each link, at each of its ports, a front of its passed frames, all of them once it is
+/// finished, whatever the other links send.
+pub fn accepted_tables_isolate()
+    ensures { AcceptedTablesIsolate }
+{
+    clean_frames_have_a_link();
+    offers_what_the_policing_passes();
+    isolation::accepted_tables_isolate();
+}
+
+/// Whatever calls a switch takes, in any order, its rows are those of arrivals whose stamps did not fall.
+pub fn calls_make_runs()
+    ensures begin { RunsBegin }
+    ensures arrivals { RunsTakeArrivals }
+    ensures advance { RunsAdvance }
+    ensures handing { RunsHandOut }
+    ensures finish { RunsFinish }
+{}
+
+/// A switch over an accepted table answers no arrival with Full.
+pub fn no_step_is_full()
+    ensures { NoStepIsFull }
+{
+    accepted_tables_isolate();
+}
+
+/// What leaves for a link is the same, in bytes and in order, whatever the other links are and send.
+pub fn others_change_nothing()
+    ensures { OthersChangeNothing }
+{
+    accepted_tables_isolate();
+}

@@ -1,0 +1,11 @@
+//! Tests of the switch, by its calls.
+//!
+//! They stand in a crate of their own, since a crate with tests is proved twice.
+#![tactic(auto)]
+
+#[cfg(test)]
+mod calls;
+#[cfg(test)]
+mod merges;
+#[cfg(test)]
+mod traffic;
