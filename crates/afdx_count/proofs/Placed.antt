@@ -1,0 +1,151 @@
+-- Elements under their numbers, where the numbers are different.
+use Rattle.std.proofs.Common.{◌≡◌, ℕ, zero, suc, ◌<◌, nat_eq, true, false, cond, List, [], ◌∷◌, set, get_or, length, map, take, find, slice_get, position, Option, Some, None, refl, sym, ap, ◌∙◌, arith, inl, inr, ◌||◌}
+use Rattle.std.specs.Prelude.{IfSome, IfNone}
+use Rattle.std.specs.List.{AllByRecursion, IsDistinct, list_any}
+use Rattle.std.proofs.lemmas.Option.{slice_get_within, slice_get-get_or}
+use Rattle.std.proofs.lemmas.List.{length-map}
+use Rattle.std.proofs.lemmas.List.Quantifiers.{position-Some}
+use Rattle.std.proofs.lemmas.Bool.{cases_Bool}
+use Rattle.std.proofs.lemmas.Bool.Decides.{nat_tests}
+use Rattle.afdx_count.specs.Places.{IsPlaceOf, changed_at}
+
+pub equal : (a b : ℕ) → nat_eq a b ≡ true → a ≡ b
+equal a b e = grind (arith, nat_tests)
+
+pub itself : (a : ℕ) → nat_eq a a ≡ true
+itself a = grind (arith, nat_tests)
+
+pub turned : (a b : ℕ) → nat_eq a b ≡ false → nat_eq b a ≡ false
+turned a b e = grind (arith, nat_tests)
+
+some_none : {X : Type 0} (x : X) → None ≡ Some x → ⊥
+some_none x h = cc
+
+same : {X : Type 0} (x y : X) → Some x ≡ Some y → x ≡ y
+same x y h = cc
+
+pub at_place : (n : ℕ) (ks : List ℕ) (o : Option ℕ) → o ≡ position (nat_eq n) ks → IfSome o (λ place. slice_get ks place ≡ Some n)
+at_place n ks None is = tt
+at_place n ks (Some i) is =
+    let s = position-Some (nat_eq n) ks i 0 (sym is) in
+    slice_get-get_or ks i 0 s.0 ∙ ap Some (sym (equal n (get_or ks i 0) s.1))
+
+all_at : {X : Type 0} (P : X → Type 0) (xs : List X) (i : ℕ) (x : X) → AllByRecursion P xs → slice_get xs i ≡ Some x → P x
+all_at P [] i x all at = absurd (some_none x at)
+all_at P (y ∷ ys) zero x all at = rw (sym (same y x at)) all.0
+all_at P (y ∷ ys) (suc i) x all at = all_at P ys i x all.1 at
+
+module _ {X : Type 0} (number : X → ℕ) where
+  pub any_number : (n : ℕ) (xs : List X) → list_any (nat_eq n) (map number xs) ≡ list_any (λ x. nat_eq n (number x)) xs
+  any_number n [] = refl
+  any_number n (x ∷ xs) = ap (λ b. nat_eq n (number x) || b) (any_number n xs)
+
+  pub within : (n : ℕ) (xs : List X) (o : Option ℕ) → IfSome o (IsPlaceOf number n xs) → IfSome o (λ place. place < length xs)
+  within n xs None at = tt
+  within n xs (Some i) at = let lt = slice_get_within (map number xs) i n at in omega (arith, lt, length-map xs number)
+
+  -- the element at the place of a number is the one that a search by the number finds
+  pub found : (n : ℕ) (xs : List X) (i : ℕ) (x : X) → IsDistinct nat_eq (map number xs) → IsPlaceOf number n xs i → x ≡ get_or xs i x → Some x ≡ find (λ y. nat_eq (number y) n) xs
+  unfolding IsDistinct
+  found n [] i x d at is = absurd (some_none n at)
+  found n (y ∷ ys) zero x d at is =
+      let e : nat_eq (number y) n ≡ true = ap (nat_eq (number y)) (sym (same (number y) n at)) ∙ itself (number y) in
+      ap Some is ∙ ap (λ b. cond b (Some y) (find (λ y. nat_eq (number y) n) ys)) (sym e)
+  found n (y ∷ ys) (suc i) x d at is =
+      let e : nat_eq (number y) n ≡ false = all_at (λ k. nat_eq (number y) k ≡ false) (map number ys) i n d.0 at in
+      found n ys i x d.1 at is ∙ ap (λ b. cond b (Some y) (find (λ y. nat_eq (number y) n) ys)) (sym e)
+
+  pub not_found : (n : ℕ) (xs : List X) → list_any (λ x. nat_eq n (number x)) xs ≡ false → None ≡ find (λ y. nat_eq (number y) n) xs
+  not_found n [] h = refl
+  not_found n (x ∷ xs) h =
+      elim (cases_Bool (nat_eq n (number x))) [
+        | inl hit ↦ absurd (true_false (ap (λ b. b || list_any (λ x. nat_eq n (number x)) xs) (sym hit) ∙ h))
+        | inr miss ↦ not_found n xs (ap (λ b. b || list_any (λ x. nat_eq n (number x)) xs) (sym miss) ∙ h) ∙ ap (λ b. cond b (Some x) (find (λ y. nat_eq (number y) n) xs)) (sym (turned n (number x) miss))
+      ] where
+        true_false : true ≡ false → ⊥
+        true_false e = cc
+
+  -- elements of other numbers stay
+  stay : (n : ℕ) (f : X → X) (xs : List X) → AllByRecursion (λ k. nat_eq n k ≡ false) (map number xs) → xs ≡ changed_at number n f xs
+  stay n f [] all = refl
+  stay n f (x ∷ xs) all = ap (λ ys. x ∷ ys) (stay n f xs all.1) ∙ ap (λ b. cond b (f x) x ∷ changed_at number n f xs) (sym (turned n (number x) all.0))
+
+  pub changed : (n : ℕ) (f : X → X) (xs : List X) (i : ℕ) (x : X) → IsDistinct nat_eq (map number xs) → IsPlaceOf number n xs i → x ≡ get_or xs i x → set xs i (f x) ≡ changed_at number n f xs
+  unfolding IsDistinct
+  changed n f [] i x d at is = absurd (some_none n at)
+  changed n f (y ∷ ys) zero x d at is =
+      let e : number y ≡ n = same (number y) n at in
+      let hit : nat_eq (number y) n ≡ true = ap (nat_eq (number y)) (sym e) ∙ itself (number y) in
+      ap (λ z. f z ∷ ys) is
+      ∙ ap (λ zs. f y ∷ zs) (stay n f ys (rw e at d.0))
+      ∙ ap (λ b. cond b (f y) y ∷ changed_at number n f ys) (sym hit)
+  changed n f (y ∷ ys) (suc i) x d at is =
+      let miss : nat_eq (number y) n ≡ false = all_at (λ k. nat_eq (number y) k ≡ false) (map number ys) i n d.0 at in
+      ap (λ zs. y ∷ zs) (changed n f ys i x d.1 at is) ∙ ap (λ b. cond b (f y) y ∷ changed_at number n f ys) (sym miss)
+
+  any_false : (n : ℕ) (xs : List X) → list_any (λ x. nat_eq n (number x)) xs ≡ false → AllByRecursion (λ k. nat_eq n k ≡ false) (map number xs)
+  any_false n [] h = tt
+  any_false n (x ∷ xs) h =
+      elim (cases_Bool (nat_eq n (number x))) [
+        | inl hit ↦ absurd (true_false (ap (λ b. b || list_any (λ x. nat_eq n (number x)) xs) (sym hit) ∙ h))
+        | inr miss ↦ (miss, any_false n xs (ap (λ b. b || list_any (λ x. nat_eq n (number x)) xs) (sym miss) ∙ h))
+      ] where
+        true_false : true ≡ false → ⊥
+        true_false e = cc
+
+  -- where none has the number, all stay
+  pub unchanged : (n : ℕ) (f : X → X) (xs : List X) → list_any (λ x. nat_eq n (number x)) xs ≡ false → xs ≡ changed_at number n f xs
+  unchanged n f xs h = stay n f xs (any_false n xs h)
+
+  pub numbers-set : (xs : List X) (i : ℕ) (x y : X) → number y ≡ number (get_or xs i x) → map number (set xs i y) ≡ map number xs
+  numbers-set [] i x y h = refl
+  numbers-set (z ∷ zs) zero x y h = ap (λ n. n ∷ map number zs) h
+  numbers-set (z ∷ zs) (suc i) x y h = ap (λ ns. number z ∷ ns) (numbers-set zs i x y h)
+
+  -- an element has another number than those before it
+  pub new_number : (xs : List X) (i : ℕ) (x : X) → IsDistinct nat_eq (map number xs) → slice_get xs i ≡ Some x → list_any (λ y. nat_eq (number x) (number y)) (take i xs) ≡ false
+  unfolding IsDistinct
+  new_number [] i x d at = absurd (some_none x at)
+  new_number (y ∷ ys) zero x d at = refl
+  new_number (y ∷ ys) (suc i) x d at =
+      let miss : nat_eq (number y) (number x) ≡ false = all_at (λ k. nat_eq (number y) k ≡ false) (map number ys) i (number x) d.0 (mapped ys i at) in
+      rw (turned (number y) (number x) miss) (new_number ys i x d.1 at) where
+        mapped : (zs : List X) (k : ℕ) → slice_get zs k ≡ Some x → slice_get (map number zs) k ≡ Some (number x)
+        mapped [] k e = absurd (some_none x e)
+        mapped (z ∷ zs) zero e = ap (λ (o : Option X). map_option o) e where
+          map_option : Option X → Option ℕ
+          map_option None = None
+          map_option (Some z) = Some (number z)
+        mapped (z ∷ zs) (suc k) e = mapped zs k e
+
+  -- ---- the same of a list as it is seen
+
+  pub found_in : (n : ℕ) (xs seen : List X) (i : ℕ) (x : X) → xs ≡ seen → IsDistinct nat_eq (map number seen) → IsPlaceOf number n seen i → x ≡ get_or xs i x → Some x ≡ find (λ y. nat_eq (number y) n) seen
+  found_in n xs seen i x view d at is = found n seen i x d at (is ∙ ap (λ (ys : List X). get_or ys i x) view)
+
+  pub changed_in : (n : ℕ) (f : X → X) (xs seen : List X) (i : ℕ) (x y : X) → xs ≡ seen → IsDistinct nat_eq (map number seen) → IsPlaceOf number n seen i → x ≡ get_or xs i x → y ≡ f x
+      → set xs i y ≡ changed_at number n f seen
+  changed_in n f xs seen i x y view d at is y-is =
+      ap (λ (zs : List X). set zs i y) view ∙ ap (λ (z : X). set seen i z) y-is ∙ changed n f seen i x d at (is ∙ ap (λ (ys : List X). get_or ys i x) view)
+
+  pub numbers_kept : (ns : List ℕ) (xs : List X) (i : ℕ) (x y : X) → ns ≡ map number xs → number y ≡ number x → x ≡ get_or xs i x → ns ≡ map number (set xs i y)
+  numbers_kept ns xs i x y ns-is same-number is = ns-is ∙ sym (numbers-set xs i x y (same-number ∙ ap number is))
+
+  pub none_listed : (n : ℕ) (ns : List ℕ) (xs seen : List X) → ns ≡ map number xs → xs ≡ seen → list_any (λ x. nat_eq n (number x)) seen ≡ false → list_any (nat_eq n) ns ≡ false
+  none_listed n ns xs seen ns-is view none = ap (list_any (nat_eq n)) (ns-is ∙ ap (map number) view) ∙ any_number n seen ∙ none
+
+  pub absent_in : (n : ℕ) (ns : List ℕ) (xs seen : List X) (o : Option ℕ) → ns ≡ map number xs → xs ≡ seen → IfNone o (list_any (nat_eq n) ns ≡ false) → IfNone o (list_any (λ x. nat_eq n (number x)) seen ≡ false)
+  absent_in n ns xs seen None ns-is view none = sym (any_number n seen) ∙ sym (ap (list_any (nat_eq n)) (ns-is ∙ ap (map number) view)) ∙ none
+  absent_in n ns xs seen (Some i) ns-is view none = tt
+
+  pub within_in : (n : ℕ) (ns : List ℕ) (xs seen : List X) (o : Option ℕ) → ns ≡ map number xs → xs ≡ seen → IfSome o (λ place. slice_get ns place ≡ Some n) → IfSome o (λ place. place < length seen)
+  within_in n ns xs seen None ns-is view at = tt
+  within_in n ns xs seen (Some i) ns-is view at =
+      within n seen (Some i) (ap (λ ks. slice_get ks i) (sym (ns-is ∙ ap (map number) view)) ∙ at)
+
+  pub number_at : (n : ℕ) (xs seen : List X) (i : ℕ) (x : X) → xs ≡ seen → IsPlaceOf number n seen i → x ≡ get_or xs i x → number x ≡ n
+  number_at n xs seen i x view at is = ap number (is ∙ ap (λ (ys : List X). get_or ys i x) view) ∙ by_place seen i at where
+    by_place : (ys : List X) (k : ℕ) → slice_get (map number ys) k ≡ Some n → number (get_or ys k x) ≡ n
+    by_place [] k e = absurd (some_none n e)
+    by_place (y ∷ ys) zero e = same (number y) n e
+    by_place (y ∷ ys) (suc k) e = by_place ys k e

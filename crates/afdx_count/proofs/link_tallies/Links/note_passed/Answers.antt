@@ -1,0 +1,18 @@
+use Rattle.afdx_count.specs.declared.link_tallies.LinkTally.{LinkTally}
+use Rattle.std.proofs.Common.{ap}
+use Rattle.afdx_count.specs.Tally.{one_passed}
+use Rattle.afdx_count.proofs.Placed.{changed_in, unchanged, numbers_kept}
+use Rattle.afdx_count.proofs.link_tallies.Links.note_passed.Goals as goal
+
+pub returns-in-Some : goal.returns-in-Some
+returns-in-Some g c =
+    changed_in (λ (x : LinkTally). x.id) c.args.id one_passed c.self.inside.tallies.items c.args.self.now c.in-Some.place c.index.result.now c.with_passed.result c.self.view_is
+    c.in-Some.ensures.distinct c.in-Some.ensures.at c.index.ensures c.with_passed.ensures
+
+pub returns-in_default : goal.returns-in_default
+returns-in_default g c = unchanged (λ (x : LinkTally). x.id) c.args.id one_passed c.args.self.now c.in_default.ensures.absent
+
+pub invariant_of-self : goal.invariant_of-self
+invariant_of-self g c =
+    numbers_kept (λ (x : LinkTally). x.id) c.self.inside.numbers c.self.inside.tallies.items c.in-Some.place c.index.result.now c.with_passed.result c.self.invariant
+    (ap (λ (x : LinkTally). x.id) c.with_passed.ensures) c.index.ensures

@@ -1,0 +1,6 @@
+pub mod Counting
+pub mod Tally
+pub mod Places
+pub mod Report
+pub mod Run
+pub mod Laws

@@ -1,0 +1,183 @@
+//! Counters, each of which stays at its greatest value.
+
+ghost use Rattle.std.specs.Prelude.{◌≡◌, [], ◌∷◌};
+ghost use Rattle.afdx_count.specs.Counting.{up, no_input, no_link, no_output, with_verdict, with_fate, with_answers, with_ended, is_of, more_sent, more_aged};
+
+use afdx_core::Fate;
+use afdx_filter::Verdict;
+use afdx_port::{Aged, Offer, Sent};
+use afdx_units::Priority;
+
+/// The arrivals at a port: all, those with each refusal of the filter, and the clean ones.
+#[derive(Clone, Copy, Debug, PartialEq, Eq)]
+pub struct InCount {
+    /// All arrivals.
+    pub seen: u64,
+    pub cut: u64,
+    pub short: u64,
+    pub long: u64,
+    pub foreign: u64,
+    pub no_link: u64,
+    pub wrong_port: u64,
+    pub too_big: u64,
+    /// Those that are frames of a link, whether its account passed them or not.
+    pub clean: u64,
+}
+
+/// The clean frames of a link.
+#[derive(Clone, Copy, Debug, PartialEq, Eq)]
+pub struct LinkCount {
+    /// Those that the link's account passed.
+    pub passed: u64,
+    /// Those that it did not pass.
+    pub policed: u64,
+}
+
+/// The copies of a priority at an output port.
+#[derive(Clone, Copy, Debug, PartialEq, Eq)]
+pub struct OutCount {
+    /// All that were offered to the port.
+    pub offered: u64,
+    /// Those that the buffer had no room for.
+    pub full: u64,
+    /// Those that were given up for their age.
+    pub aged: u64,
+    /// Those that were sent.
+    pub sent: u64,
+}
+
+/// One more, and no more than the greatest value.
+pub(crate) fn up(count: u64) -> u64
+    ensures { result ≡ up count }
+{
+    count.saturating_add(1)
+}
+
+impl InCount {
+    pub(crate) fn none() -> InCount
+        ensures { result ≡ no_input }
+    {
+        InCount {
+            seen: 0,
+            cut: 0,
+            short: 0,
+            long: 0,
+            foreign: 0,
+            no_link: 0,
+            wrong_port: 0,
+            too_big: 0,
+            clean: 0,
+        }
+    }
+
+    fn with_verdict(self, verdict: Verdict) -> InCount
+        ensures { result ≡ with_verdict verdict self }
+    {
+        let mut count = self;
+        match verdict {
+            Verdict::Cut => count.cut = up(count.cut),
+            Verdict::Short => count.short = up(count.short),
+            Verdict::Long => count.long = up(count.long),
+            Verdict::Foreign => count.foreign = up(count.foreign),
+            Verdict::NoLink => count.no_link = up(count.no_link),
+            Verdict::WrongPort => count.wrong_port = up(count.wrong_port),
+            Verdict::TooBig => count.too_big = up(count.too_big),
+            Verdict::Clean(_) => count.clean = up(count.clean),
+        }
+        count
+    }
+
+    /// Counts an arrival.
+    pub(crate) fn with_fate(self, fate: Fate) -> InCount
+        ensures { result ≡ with_fate fate self }
+    {
+        let mut count = self;
+        count.seen = up(count.seen);
+        match fate {
+            Fate::Filtered(verdict) => count.with_verdict(verdict),
+            Fate::Policed(link) => count.with_verdict(Verdict::Clean(link)),
+            Fate::Passed(link) => count.with_verdict(Verdict::Clean(link)),
+        }
+    }
+}
+
+impl LinkCount {
+    pub(crate) fn none() -> LinkCount
+        ensures { result ≡ no_link }
+    {
+        LinkCount {
+            passed: 0,
+            policed: 0,
+        }
+    }
+}
+
+fn is_of(priority: Priority, other: Priority) -> bool
+    ensures { result ≡ is_of priority other }
+{
+    priority == other
+}
+
+impl OutCount {
+    pub(crate) fn none() -> OutCount
+        ensures { result ≡ no_output }
+    {
+        OutCount {
+            offered: 0,
+            full: 0,
+            aged: 0,
+            sent: 0,
+        }
+    }
+
+    /// Counts a copy that was offered.
+    pub(crate) fn with_offer(self, offer: Offer) -> OutCount
+        ensures { result ≡ with_answers (offer ∷ []) self }
+    {
+        let mut count = self;
+        count.offered = up(count.offered);
+        match offer {
+            Offer::Full => count.full = up(count.full),
+            Offer::Queued => {}
+        }
+        count
+    }
+
+    /// Counts the copies of a priority that were sent and given up.
+    pub(crate) fn with_ended(self, priority: Priority, sent: &[Sent], aged: &[Aged]) -> OutCount
+        ensures { result ≡ with_ended priority sent.now aged.now self }
+    {
+        OutCount {
+            offered: self.offered,
+            full: self.full,
+            aged: more_aged(self.aged, priority, aged),
+            sent: more_sent(self.sent, priority, sent),
+        }
+    }
+}
+
+/// The counter, with those of a priority that were sent.
+fn more_sent(start: u64, priority: Priority, sent: &[Sent]) -> u64
+    ensures { result ≡ more_sent start priority sent.now }
+{
+    let mut count = start;
+    for one in sent {
+        if is_of(priority, one.item.priority) {
+            count = up(count);
+        }
+    }
+    count
+}
+
+/// The counter, with those of a priority that were given up.
+fn more_aged(start: u64, priority: Priority, aged: &[Aged]) -> u64
+    ensures { result ≡ more_aged start priority aged.now }
+{
+    let mut count = start;
+    for one in aged {
+        if is_of(priority, one.item.priority) {
+            count = up(count);
+        }
+    }
+    count
+}

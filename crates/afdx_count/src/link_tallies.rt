@@ -1,0 +1,168 @@
+//! The counters of links.
+
+ghost use Rattle.std.specs.Prelude.{◌≡◌, ◌==◌, ◌<◌, nat_eq, [], ◌∷◌, ◌++◌, false, length, map, IfSome, IfOk, IfNone, OnOk, find, slice_get};
+ghost use Rattle.std.specs.List.{list_any, IsDistinct};
+ghost use Rattle.afdx_count.specs.Tally.{new_link, one_passed, one_policed, link_in, noted_link, class_of};
+ghost use Rattle.afdx_count.specs.Places.{IsPlaceOf, changed_at};
+
+use crate::counters::{LinkCount, up};
+use crate::numbers::Numbers;
+use afdx_core::Fate;
+use afdx_table::{LinkRow, Table};
+use afdx_units::Priority;
+use std::alloc::{AllocError, Allocator};
+use std::marker::Model;
+
+/// The counters of a link.
+#[derive(Clone, Copy, Debug, PartialEq, Eq)]
+pub(crate) struct LinkTally {
+    pub(crate) id: u16,
+    pub(crate) priority: Priority,
+    pub(crate) count: LinkCount,
+}
+
+impl LinkTally {
+    fn new(row: &LinkRow) -> LinkTally
+        ensures { result ≡ new_link row.now }
+    {
+        LinkTally {
+            id: row.id,
+            priority: row.priority,
+            count: LinkCount::none(),
+        }
+    }
+
+    fn with_passed(self) -> LinkTally
+        ensures { result ≡ one_passed self }
+    {
+        let mut tally = self;
+        tally.count.passed = up(tally.count.passed);
+        tally
+    }
+
+    fn with_policed(self) -> LinkTally
+        ensures { result ≡ one_policed self }
+    {
+        let mut tally = self;
+        tally.count.policed = up(tally.count.policed);
+        tally
+    }
+}
+
+/// The counters of links of different numbers. Contracts see their list in order.
+#[derive(Drop)]
+pub(crate) struct Links<A: Allocator> {
+    numbers: Numbers<A>,
+    tallies: Vec<LinkTally, A>,
+}
+
+impl<A: Allocator> Model for Links<A> {
+    ghost use Rattle.std.specs.Prelude.{◌≡◌, List, map};
+    ghost use Rattle.afdx_count.specs.declared.link_tallies.LinkTally.{LinkTally as Seen};
+
+    ghost Value = { List Seen };
+
+    ghost view = { λ l. l.tallies.items };
+
+    ghost invariant = { λ l. l.numbers ≡ map (λ t. t.id) l.tallies.items };
+}
+
+impl<A: Allocator + Copy> Links<A> {
+    fn empty(alloc: A) -> Self
+        ensures { result ≡ [] }
+    {
+        Links {
+            numbers: Numbers::new(alloc),
+            tallies: Vec::new(alloc),
+        }
+    }
+
+    /// Adds the counters of a link of a new number at the end.
+    fn push(&mut self, tally: LinkTally) -> Result<(), AllocError>
+        requires { list_any (λ l. tally.id == l.id) self.old ≡ false }
+        ensures { OnOk result (self.new ≡ self.old ++ tally ∷ []) }
+    {
+        self.tallies.reserve(1)?;
+        self.numbers.push(tally.id)?;
+        self.tallies.push_reserved(tally);
+        Ok(())
+    }
+
+    /// The counters of a table's links, in the file's order.
+    pub(crate) fn new(alloc: A, table: &Table) -> Result<Self, AllocError>
+        ensures { IfOk result (λ links. links ≡ map new_link table.now.links) }
+    {
+        let mut links = Links::empty(alloc);
+        for index in 0..table.link_count() {
+            links.push(LinkTally::new(table.link_at(index).unwrap()))?;
+        }
+        Ok(links)
+    }
+
+    pub(crate) fn as_slice(&self) -> &[LinkTally]
+        ensures { result.now ≡ self.now }
+    {
+        self.tallies.as_slice()
+    }
+
+    /// The place of the link of a number, from 0.
+    fn place(&self, id: u16) -> Option<usize>
+        ensures at { IfSome result (IsPlaceOf (λ l. l.id) id self.now) }
+        ensures absent { IfNone result (list_any (λ l. id == l.id) self.now ≡ false) }
+        ensures within { IfSome result (λ place. place < length self.now) }
+        ensures distinct { IsDistinct nat_eq (map (λ l. l.id) self.now) }
+    {
+        self.numbers.place(id)
+    }
+
+    /// The counters of the link of a number.
+    pub(crate) fn get(&self, id: u16) -> Option<LinkTally>
+        ensures { result ≡ link_in id self.now }
+    {
+        match self.place(id) {
+            Some(place) => Some(self.tallies[place]),
+            None => None,
+        }
+    }
+
+    /// The priority of the copies of a passed frame.
+    pub(crate) fn class_of(&self, fate: Fate) -> Option<Priority>
+        ensures { result ≡ class_of fate self.now }
+    {
+        match fate {
+            Fate::Passed(id) => match self.get(id) {
+                Some(link) => Some(link.priority),
+                None => None,
+            },
+            Fate::Filtered(_) => None,
+            Fate::Policed(_) => None,
+        }
+    }
+
+    fn note_passed(&mut self, id: u16)
+        ensures { self.new ≡ changed_at (λ l. l.id) id one_passed self.old }
+    {
+        if let Some(place) = self.place(id) {
+            self.tallies[place] = self.tallies[place].with_passed();
+        }
+    }
+
+    fn note_policed(&mut self, id: u16)
+        ensures { self.new ≡ changed_at (λ l. l.id) id one_policed self.old }
+    {
+        if let Some(place) = self.place(id) {
+            self.tallies[place] = self.tallies[place].with_policed();
+        }
+    }
+
+    /// Counts an arrival at its link.
+    pub(crate) fn note(&mut self, fate: Fate)
+        ensures { self.new ≡ map (noted_link fate) self.old }
+    {
+        match fate {
+            Fate::Passed(id) => self.note_passed(id),
+            Fate::Policed(id) => self.note_policed(id),
+            Fate::Filtered(_) => {}
+        }
+    }
+}
