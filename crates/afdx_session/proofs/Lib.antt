@@ -1,0 +1,11 @@
+pub mod Examples
+pub mod Joining
+pub mod Gathering
+pub mod Replaying
+pub mod Numbered
+pub mod Draining
+pub mod Handing
+pub mod Ports
+pub mod Isolated
+pub mod Leaving
+pub mod Worlds

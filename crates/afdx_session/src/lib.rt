@@ -1,0 +1,19 @@
+//! A switch over whole captures: one text for each port comes in, one for each port goes out.
+//!
+//! [`run`] reads the captures, merges their records by stamp and then by port number, puts them through the
+//! switch and writes what each port sends. Contracts see its answer as a function of the bytes that came in:
+//! each capture that goes out is the one text of the frames that the definitions of the crates below let
+//! leave at its port.
+#![tactic(auto)]
+
+mod arrival;
+pub mod laws;
+mod merge;
+mod output;
+mod plan;
+mod read;
+mod replay;
+mod session;
+
+pub use plan::{Outcome, Plan, RunFault};
+pub use session::run;

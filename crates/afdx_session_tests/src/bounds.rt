@@ -1,0 +1,106 @@
+//! Ports as busy as an accepted table lets them be.
+
+use crate::tables::{LinkText, PortText, link, port, table};
+use crate::traffic::{HEADER, capture, large, leave, outcome, small};
+use afdx_load::{Bounds, bounds, load};
+use afdx_table::read;
+use std::alloc::Global;
+use std::test::*;
+
+/// The delay bounds at a port of a table.
+fn bounds_at(alloc: Global, table: &str, port: u8) -> Result<Bounds, Fail> {
+    let table = read(alloc, table.as_bytes())?;
+    let load = load(&table, port).ok_or("a port of the table")?;
+    Ok(bounds(&load))
+}
+
+/// Six links, and a buffer that holds exactly what they may ask for.
+fn six_links(alloc: Global) -> Result<String, Fail> {
+    let tight = PortText {
+        buffer: 13_493,
+        ..port(2)
+    };
+    let to = "[2]";
+    let links = [
+        link(1, 1, to),
+        link(2, 1, to),
+        link(3, 1, to),
+        link(4, 1, to),
+        link(5, 1, to),
+        link(6, 1, to),
+    ];
+    table(alloc, &[port(1), tight], &links)
+}
+
+/// One of the largest frames of each link at once: each leaves within the low bound.
+#[test]
+fn six_links_fit(rt: HostRuntime) -> Result<(), Fail> {
+    let alloc = rt.alloc();
+    let text = six_links(alloc)?;
+    let frames = [
+        large(1, 0),
+        large(2, 0),
+        large(3, 0),
+        large(4, 0),
+        large(5, 0),
+        large(6, 0),
+    ];
+    let came = capture(alloc, &frames)?;
+    let done = outcome(alloc, &text, &[&came, &HEADER])?;
+    let ends = [
+        (123_040, 1514, 1),
+        (246_080, 1514, 2),
+        (369_120, 1514, 3),
+        (492_160, 1514, 4),
+        (615_200, 1514, 5),
+        (738_240, 1514, 6),
+    ];
+    assert!(rt; leave(alloc, &done, 2, &ends)?);
+    assert_eq!(rt; bounds_at(alloc, &text, 2)?.low, Some(956_340));
+    Ok(())
+}
+
+/// A low frame starts a nanosecond before the high account is emptied at once, in the frames that take most line time for
+/// their bytes: the last one, which came at 1 ns, leaves a nanosecond before its bound.
+#[test]
+fn high_bound_but_a_nanosecond(rt: HostRuntime) -> Result<(), Fail> {
+    let alloc = rt.alloc();
+    let high = LinkText {
+        max_size: 128,
+        priority: "high",
+        ..link(12, 1, "[2]")
+    };
+    let text = table(alloc, &[port(1), port(2)], &[link(10, 1, "[2]"), high])?;
+    let came = capture(alloc, &[large(10, 0), small(12, 1), small(12, 1)])?;
+    let done = outcome(alloc, &text, &[&came, &HEADER])?;
+    let ends = [(123_040, 1514, 10), (129_760, 60, 12), (136_480, 60, 12)];
+    assert!(rt; leave(alloc, &done, 2, &ends)?);
+    assert_eq!(rt; bounds_at(alloc, &text, 2)?.high, Some(136_480));
+    Ok(())
+}
+
+/// Both low accounts are emptied at once in the smallest frames: the last one leaves exactly at its bound.
+#[test]
+fn low_bound_exactly(rt: HostRuntime) -> Result<(), Fail> {
+    let alloc = rt.alloc();
+    let one = LinkText {
+        max_size: 128,
+        ..link(10, 1, "[2]")
+    };
+    let other = LinkText { id: 11, ..one };
+    let text = table(alloc, &[port(1), port(2)], &[one, other])?;
+    let came = capture(
+        alloc,
+        &[small(10, 0), small(10, 0), small(11, 0), small(11, 0)],
+    )?;
+    let done = outcome(alloc, &text, &[&came, &HEADER])?;
+    let ends = [
+        (6_720, 60, 10),
+        (13_440, 60, 10),
+        (20_160, 60, 11),
+        (26_880, 60, 11),
+    ];
+    assert!(rt; leave(alloc, &done, 2, &ends)?);
+    assert_eq!(rt; bounds_at(alloc, &text, 2)?.low, Some(26_880));
+    Ok(())
+}

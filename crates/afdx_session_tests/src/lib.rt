@@ -1,0 +1,19 @@
+//! Tests of runs: captures in, captures out, with bytes and ends worked out by hand.
+//!
+//! They stand in a crate of their own, since a crate with tests is proved twice.
+#![tactic(auto)]
+
+#[cfg(test)]
+mod bounds;
+#[cfg(test)]
+mod formats;
+#[cfg(test)]
+mod ports;
+#[cfg(test)]
+mod refused;
+#[cfg(test)]
+mod single;
+#[cfg(test)]
+mod tables;
+#[cfg(test)]
+mod traffic;

@@ -1,0 +1,120 @@
+//! Links from two ports to a third.
+
+use crate::tables::{LinkText, PortText, double, link, port, table};
+use crate::traffic::{
+    HEADER, Sample, capture, frame, large, leave, outcome, outcome_unchecked, small, tells,
+};
+use std::test::*;
+
+#[test]
+fn buffer_at_the_edge(rt: HostRuntime) -> Result<(), Fail> {
+    let alloc = rt.alloc();
+    let narrow = PortText {
+        buffer: 1518,
+        ..port(3)
+    };
+    let text = double(alloc, narrow)?;
+    let first = capture(alloc, &[large(10, 0)])?;
+    let at_end = capture(alloc, &[large(20, 123_040)])?;
+    let done = outcome_unchecked(alloc, &text, &[&first, &at_end, &HEADER])?;
+    assert!(rt; leave(alloc, &done, 3, &[(123_040, 1514, 10), (246_080, 1514, 20)])?);
+    let before_end = capture(alloc, &[large(20, 123_039)])?;
+    let done = outcome_unchecked(alloc, &text, &[&first, &before_end, &HEADER])?;
+    assert!(rt; leave(alloc, &done, 3, &[(123_040, 1514, 10)])?);
+    Ok(())
+}
+
+#[test]
+fn buffer_beside_an_aged_frame(rt: HostRuntime) -> Result<(), Fail> {
+    let alloc = rt.alloc();
+    let hasty = PortText {
+        buffer: 1581,
+        delay: 100,
+        ..port(3)
+    };
+    let text = double(alloc, hasty)?;
+    let first = capture(alloc, &[frame(10, 1513, 0)])?;
+    let at_once = capture(alloc, &[small(20, 0), large(20, 122_960)])?;
+    let done = outcome_unchecked(alloc, &text, &[&first, &at_once, &HEADER])?;
+    assert!(rt; leave(alloc, &done, 3, &[(122_960, 1513, 10)])?);
+    let later = capture(alloc, &[small(20, 0), large(20, 122_961)])?;
+    let done = outcome_unchecked(alloc, &text, &[&first, &later, &HEADER])?;
+    assert!(rt; leave(alloc, &done, 3, &[(122_960, 1513, 10), (246_001, 1514, 20)])?);
+    Ok(())
+}
+
+#[test]
+fn age_at_the_edge(rt: HostRuntime) -> Result<(), Fail> {
+    let alloc = rt.alloc();
+    let hasty = PortText {
+        delay: 100,
+        ..port(3)
+    };
+    let text = double(alloc, hasty)?;
+    let first = capture(alloc, &[large(10, 0)])?;
+    let second = capture(alloc, &[small(20, 0), small(20, 23_040)])?;
+    let done = outcome_unchecked(alloc, &text, &[&first, &second, &HEADER])?;
+    assert!(rt; leave(alloc, &done, 3, &[(123_040, 1514, 10), (129_760, 60, 20)])?);
+    Ok(())
+}
+
+#[test]
+fn every_verdict(rt: HostRuntime) -> Result<(), Fail> {
+    let alloc = rt.alloc();
+    let narrow = LinkText {
+        max_size: 500,
+        ..link(10, 1, "[3]")
+    };
+    let text = table(
+        alloc,
+        &[port(1), port(2), port(3)],
+        &[narrow, link(20, 2, "[3]")],
+    )?;
+    let cut = Sample {
+        original: 61,
+        ..small(10, 0)
+    };
+    let foreign = Sample {
+        first: 2,
+        ..small(10, 0)
+    };
+    let short_and_foreign = Sample {
+        first: 2,
+        ..frame(10, 59, 0)
+    };
+    let first = capture(
+        alloc,
+        &[
+            cut,
+            frame(10, 59, 0),
+            frame(10, 1515, 0),
+            foreign,
+            small(11, 0),
+            small(20, 0),
+            frame(10, 497, 0),
+            short_and_foreign,
+            small(10, 0),
+        ],
+    )?;
+    let second = capture(alloc, &[small(10, 0)])?;
+    let done = outcome(alloc, &text, &[&first, &second, &HEADER])?;
+    assert!(rt; leave(alloc, &done, 3, &[(6_720, 60, 10)])?);
+    let line =
+        "in 1 seen 9 cut 1 short 2 long 1 foreign 1 no-link 1 wrong-port 1 too-big 1 clean 1\n";
+    assert!(rt; tells(alloc, &done, line)?);
+    Ok(())
+}
+
+#[test]
+fn babbler_beside_a_quiet_link(rt: HostRuntime) -> Result<(), Fail> {
+    let alloc = rt.alloc();
+    let text = double(alloc, port(3))?;
+    let quiet = capture(alloc, &[small(10, 0)])?;
+    let babble = capture(alloc, &[large(20, 0); 1000])?;
+    let done = outcome(alloc, &text, &[&quiet, &babble, &HEADER])?;
+    assert!(rt; leave(alloc, &done, 3, &[(6_720, 60, 10), (129_760, 1514, 20)])?);
+    assert!(rt; tells(alloc, &done, "link 20 passed 1 policed 999\n")?);
+    let done = outcome(alloc, &text, &[&quiet, &HEADER, &HEADER])?;
+    assert!(rt; leave(alloc, &done, 3, &[(6_720, 60, 10)])?);
+    Ok(())
+}
