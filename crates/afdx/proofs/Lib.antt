@@ -1,3 +1,0 @@
-pub mod Progress
-pub mod WordLemmas
-pub mod ServingLemmas

@@ -1,21 +1,11 @@
 //! An AFDX switch (ARINC 664 Part 7) over captured traffic.
 //!
 //! `afdx alone` reads a capture of one ingress port on standard input and writes the capture of the
-//! frames that the account of one virtual link passes.
+//! frames that the account of one virtual link passes. `afdx run` gets a configuration table and one capture
+//! for each port, and puts one capture for each port.
 #![tactic(auto)]
 
-mod alone;
-mod command;
-mod failure;
-mod input;
-mod link;
-mod output;
-mod own;
-mod serve;
-mod words;
-
-use crate::failure::{Failure, report};
-use crate::serve::serve;
+use afdx_serve::{Disk, Failure, report, serve};
 use std::process::ExitCode;
 use std::{env, io};
 
@@ -37,11 +27,18 @@ fn main(rt: HostRuntime) -> ExitCode {
             &mut rt.stdin(),
             &mut rt.stdout(),
             &mut err,
+            &mut Disk::new(&rt),
         ),
-        Err(failure) => report(rt.alloc(), failure, &mut err),
+        Err(failure) => report(rt.alloc(), &failure, &mut err),
     };
     ExitCode::from(status)
 }
 
+#[cfg(test)]
+mod fixtures;
+#[cfg(test)]
+mod memory_folder;
+#[cfg(test)]
+mod run_tests;
 #[cfg(test)]
 mod tests;

@@ -1,15 +1,13 @@
-//! Values from outside: bytes of pcap 2.4 captures and of AFDX frames, printed lines, and devices that fail.
+//! `afdx alone`, the words and the devices that fail. Values from outside: bytes of pcap 2.4 captures and of AFDX frames,
+//! printed lines.
 
-use crate::serve::serve;
-use std::alloc::{AllocError, Global};
-use std::io;
-use std::io::{ErrorKind, Read, Write};
+use crate::fixtures::{
+    HEADER, Interrupted, Sample, Sink, Source, answer, capture, captured, split,
+};
+use crate::memory_folder::MemoryFolder;
+use afdx_serve::serve;
+use std::io::ErrorKind;
 use std::test::Fail;
-
-/// Little-endian, nanoseconds, version 2.4, Ethernet.
-const HEADER: [u8; 24] = [
-    0x4d, 0x3c, 0xb2, 0xa1, 2, 0, 4, 0, 0, 0, 0, 0, 0, 0, 0, 0, 0, 0, 4, 0, 1, 0, 0, 0,
-];
 
 /// A link with BAG 1 ms, no jitter and frames of at most 1518 bytes.
 const LINK_10: &str = "afdx alone --id 10 --bag 1 --jitter 0 --size 1518";
@@ -20,10 +18,26 @@ Usage: afdx <COMMAND>
 
 Commands:
   alone  Polices one virtual link of the capture on standard input
+  check  Checks the load of a configuration table
+  run    Runs the switch over one capture for each port
   help   Print this message or the help of the given subcommand(s)
 
 Options:
   -h, --help  Print help
+";
+
+const HELP_RUN: &str = "Runs the switch over one capture for each port
+
+Usage: afdx run [OPTIONS] <TABLE> <IN> <OUT>
+
+Arguments:
+  <TABLE>  The configuration table
+  <IN>     The folder of port-1.pcap and so on
+  <OUT>    The folder for the captures of the output ports
+
+Options:
+      --unchecked  Runs a table whatever its load
+  -h, --help       Print help
 ";
 
 const HELP_ALONE: &str = "Polices one virtual link of the capture on standard input
@@ -37,151 +51,6 @@ Options:
       --size <N>     Its greatest frame size in bytes, 64 to 1518
   -h, --help         Print help
 ";
-
-/// What is told of a frame in a capture, and the first bytes of the frame.
-#[derive(Clone, Copy)]
-struct Sample {
-    seconds: u32,
-    nanos: u32,
-    captured: u32,
-    original: u32,
-    address: [u8; 6],
-}
-
-/// A frame of link 10, of which so many bytes are captured.
-fn captured(bytes: u32, seconds: u32, nanos: u32) -> Sample {
-    Sample {
-        seconds,
-        nanos,
-        captured: bytes,
-        original: bytes,
-        address: [3, 0, 0, 0, 0, 10],
-    }
-}
-
-/// The capture of these frames, whose bytes after the address are 0.
-fn capture(alloc: Global, samples: &[Sample]) -> Result<Vec<u8>, AllocError> {
-    let mut bytes = Vec::from_slice(alloc, &HEADER)?;
-    for sample in samples {
-        for number in [
-            sample.seconds,
-            sample.nanos,
-            sample.captured,
-            sample.original,
-        ] {
-            bytes.extend_from_slice(&number.to_le_bytes())?;
-        }
-        bytes.extend_from_slice(&sample.address)?;
-        let rest = vec![in alloc; 0u8; sample.captured.saturating_sub(6) as usize]?;
-        bytes.extend_from_slice(&rest)?;
-    }
-    Ok(bytes)
-}
-
-/// Gives the bytes, at most 7 at once; one call answers an error instead.
-#[derive(Drop)]
-struct Source<'a> {
-    bytes: &'a [u8],
-    calls: u64,
-    failing: u64,
-    kind: ErrorKind,
-}
-
-impl<'a> Source<'a> {
-    fn new(bytes: &'a [u8], failing: u64, kind: ErrorKind) -> Source<'a> {
-        Source {
-            bytes,
-            calls: 0,
-            failing,
-            kind,
-        }
-    }
-}
-
-impl Read for Source<'_> {
-    fn read(&mut self, buf: &mut [u8]) -> io::Result<usize> {
-        self.calls = self.calls.saturating_add(1);
-        if self.calls == self.failing {
-            return Err(io::Error::from(self.kind));
-        }
-        let count = buf.len().min(7);
-        self.bytes.read(&mut buf[..count])
-    }
-}
-
-/// A reader of which every read is interrupted.
-#[derive(Drop)]
-struct Interrupted;
-
-impl Read for Interrupted {
-    fn read(&mut self, _buf: &mut [u8]) -> io::Result<usize> {
-        Err(io::Error::from(ErrorKind::Interrupted))
-    }
-}
-
-/// Takes at most 50 bytes at once; one call takes none, or answers an error.
-#[derive(Drop)]
-struct Sink {
-    bytes: Vec<u8>,
-    calls: u64,
-    failing: u64,
-    kind: Option<ErrorKind>,
-}
-
-impl Sink {
-    fn new(alloc: Global, failing: u64, kind: Option<ErrorKind>) -> Sink {
-        Sink {
-            bytes: Vec::new(alloc),
-            calls: 0,
-            failing,
-            kind,
-        }
-    }
-}
-
-impl Write for Sink {
-    fn write(&mut self, buf: &[u8]) -> io::Result<usize> {
-        self.calls = self.calls.saturating_add(1);
-        if self.calls == self.failing {
-            return match self.kind {
-                Some(kind) => Err(io::Error::from(kind)),
-                None => Ok(0),
-            };
-        }
-        let count = buf.len().min(50);
-        self.bytes.extend_from_slice(&buf[..count])?;
-        Ok(count)
-    }
-
-    fn flush(&mut self) -> io::Result<()> {
-        Ok(())
-    }
-}
-
-/// The words of a command line.
-fn split(alloc: Global, line: &str) -> Result<Vec<String>, AllocError> {
-    let mut words = Vec::new(alloc);
-    for word in line.split_whitespace() {
-        words.push(String::from_str(alloc, word)?)?;
-    }
-    Ok(words)
-}
-
-/// What the program answers.
-#[derive(Drop)]
-struct Served {
-    status: u8,
-    out: Vec<u8>,
-    err: Vec<u8>,
-}
-
-fn answer(alloc: Global, line: &str, mut input: &[u8]) -> Result<Served, AllocError> {
-    let words = split(alloc, line)?;
-    let mut out = Vec::new(alloc);
-    let mut err = Vec::new(alloc);
-    let status = serve(alloc, &words, &mut input, &mut out, &mut err);
-    Ok(Served { status, out, err })
-}
 
 #[test]
 fn passes_what_conforms(rt: HostRuntime) -> Result<(), Fail> {
@@ -256,8 +125,11 @@ fn refuses_words(rt: HostRuntime) -> Result<(), Fail> {
         "",
         "afdx",
         "afdx --version",
-        "afdx check t",
-        "afdx run t in out",
+        "afdx check",
+        "afdx check t in",
+        "afdx run t in --unchecked",
+        "afdx run t in out more --unchecked",
+        "afdx run t in out --unchecked --unchecked",
         "afdx alone",
         "afdx alone --bag 3",
         "afdx alone --id 10 --bag 1 --jitter 0",
@@ -391,7 +263,8 @@ fn stops_where_a_device_fails(rt: HostRuntime) -> Result<(), Fail> {
             let mut source = Source::new(&input, read, how_read);
             let mut out = Sink::new(alloc, write, how_write);
             let mut err = Sink::new(alloc, failing_line, Some(broken));
-            let got = serve(alloc, &words, &mut source, &mut out, &mut err);
+            let mut folder = MemoryFolder::new(alloc, 0);
+            let got = serve(alloc, &words, &mut source, &mut out, &mut err, &mut folder);
             let told = if failing_line == 0 { line } else { "" };
             assert_eq!(rt; got, status, "read {read}, write {write}");
             assert_eq!(rt; out.bytes.len(), written, "read {read}, write {write}");
@@ -412,7 +285,15 @@ fn gives_up_where_every_read_is_interrupted(rt: HostRuntime) -> Result<(), Fail>
     let words = split(alloc, LINK_10)?;
     let mut out = Vec::new(alloc);
     let mut err = Vec::new(alloc);
-    let status = serve(alloc, &words, &mut Interrupted, &mut out, &mut err);
+    let mut folder = MemoryFolder::new(alloc, 0);
+    let status = serve(
+        alloc,
+        &words,
+        &mut Interrupted,
+        &mut out,
+        &mut err,
+        &mut folder,
+    );
     assert_eq!(rt; status, 5);
     assert_eq!(rt; out.as_slice(), b"".as_slice());
     assert_eq!(rt; err.as_slice(), b"afdx: device read\n".as_slice());
@@ -426,6 +307,7 @@ fn shows_help(rt: HostRuntime) -> Result<(), Fail> {
         ("afdx --help", HELP),
         ("afdx help alone", HELP_ALONE),
         ("afdx alone --help", HELP_ALONE),
+        ("afdx run --help", HELP_RUN),
     ] {
         let got = answer(alloc, line, b"")?;
         assert_eq!(rt; got.status, 0, "{line}");

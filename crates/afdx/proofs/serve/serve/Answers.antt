@@ -1,7 +1,0 @@
-use Rattle.afdx.proofs.ServingLemmas.{told}
-use Rattle.afdx.proofs.serve.serve.Goals as goal
-
-pub returns-in-Err-clause-failed : goal.returns-in-Err-clause-failed
-returns-in-Err-clause-failed g c = λ nonzero.
-    let line = c.report.ensures.told in
-    (line.0, line.2, told _ _ _ _ c.in-Err.failure line.0 line.1 c.in-Err.ensures, line.3)

@@ -1,0 +1,56 @@
+-- The lines of ports, one after the other.
+use Rattle.std.proofs.Common.{◌≡◌, ℕ, zero, suc, ◌+◌, ◌<◌, ◌==◌, Bool, true, false, cond, List, [], ◌∷◌, ◌++◌, length, get_or, drop, Some, refl, sym, ap, subst, ◌∙◌, arith, append_assoc, append-nil, ◌≤◌}
+use Rattle.std.specs.Prelude.{find}
+use Rattle.std.specs.List.{AllByRecursion}
+use Rattle.std.proofs.lemmas.Bool.Decides.{nat_tests}
+use Rattle.afdx_table.specs.declared.rows.PortRow.{PortRow}
+use Rattle.afdx_table.specs.Link.{Link}
+use Rattle.afdx_table.specs.WellFormed.{Rises}
+use Rattle.afdx_load.specs.Sums.{load_of}
+use Rattle.afdx_serve.specs.Checks.{IsLineOf, AreLinesOf}
+
+same : (a : ℕ) → (a == a) ≡ true
+same a = grind (arith, nat_tests)
+
+below : (a b : ℕ) → a < b → (a == b) ≡ false
+below a b lt = grind (arith, nat_tests)
+
+above_at : (n : ℕ) (ports : List PortRow) (i : ℕ) (d : PortRow) → AllByRecursion (λ (q : PortRow). n < q.id) ports → i < length ports → n < (get_or ports i d).id
+above_at n [] i d all lt = absurd (omega (arith, lt))
+above_at n (q ∷ qs) zero d all lt = all.0
+above_at n (q ∷ qs) (suc i) d all lt = above_at n qs i d all.1 (omega (arith, lt))
+
+-- a port is found by its number
+pub found : (ports : List PortRow) (i : ℕ) (d : PortRow) → Rises ports → i < length ports → find (λ (p : PortRow). p.id == (get_or ports i d).id) ports ≡ Some (get_or ports i d)
+found [] i d rises lt = absurd (omega (arith, lt))
+found (p ∷ ps) zero d rises lt = ap (λ (b : Bool). cond b (Some p) (find (λ (x : PortRow). x.id == p.id) ps)) (same p.id)
+found (p ∷ ps) (suc i) d rises lt =
+    ap (λ (b : Bool). cond b (Some p) (find (λ (x : PortRow). x.id == (get_or ps i d).id) ps)) (below p.id (get_or ps i d).id (above_at p.id ps i d rises.0 (omega (arith, lt))))
+    ∙ found ps i d rises.1 (omega (arith, lt))
+
+from_place : (ports : List PortRow) (i : ℕ) (d : PortRow) → i < length ports → drop i ports ≡ get_or ports i d ∷ drop (i + 1) ports
+from_place [] i d lt = absurd (omega (arith, lt))
+from_place (p ∷ ps) zero d lt = refl
+from_place (p ∷ ps) (suc i) d lt =
+    let further : suc (i + 1) ≡ suc i + 1 = omega arith in
+    from_place ps i d (omega (arith, lt)) ∙ ap (λ (k : ℕ). get_or ps i d ∷ drop k (p ∷ ps)) further
+
+none_left : (ports : List PortRow) (i : ℕ) → length ports ≤ i → drop i ports ≡ []
+none_left [] zero le = refl
+none_left [] (suc i) le = refl
+none_left (p ∷ ps) zero le = absurd (omega (arith, le))
+none_left (p ∷ ps) (suc i) le = none_left ps i (omega (arith, le))
+
+-- one more line
+pub one_more_line : (links : List Link) (ports : List PortRow) (i : ℕ) (d : PortRow) (text line longer : List ℕ) → longer ≡ text ++ line → i < length ports
+    → ((rest : List ℕ) → AreLinesOf links (drop i ports) rest → AreLinesOf links ports (text ++ rest)) → IsLineOf (get_or ports i d) (load_of (get_or ports i d).speed (get_or ports i d).id links) line
+    → (rest : List ℕ) → AreLinesOf links (drop (i + 1) ports) rest → AreLinesOf links ports (longer ++ rest)
+one_more_line links ports i d text line longer grown lt before is rest more =
+    subst (λ (t : List ℕ). AreLinesOf links ports t) (sym (ap (λ (t : List ℕ). t ++ rest) grown ∙ append_assoc text line rest))
+    (before (line ++ rest) (subst (λ (ps : List PortRow). AreLinesOf links ps (line ++ rest)) (sym (from_place ports i d lt)) (line, rest, is, more, refl)))
+
+-- no port is left
+pub last_line : (links : List Link) (ports : List PortRow) (i : ℕ) (text : List ℕ) → length ports ≤ i
+    → ((rest : List ℕ) → AreLinesOf links (drop i ports) rest → AreLinesOf links ports (text ++ rest)) → AreLinesOf links ports text
+last_line links ports i text le before =
+    subst (λ (t : List ℕ). AreLinesOf links ports t) (append-nil text) (before [] (subst (λ (ps : List PortRow). AreLinesOf links ps []) (sym (none_left ports i le)) refl))

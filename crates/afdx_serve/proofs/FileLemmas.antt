@@ -1,0 +1,173 @@
+-- Files that stay, files that were got, and files that are put in order.
+use Rattle.std.proofs.Common.{◌≡◌, ℕ, ◌+◌, ◌<◌, List, [], ◌∷◌, ◌++◌, map, length, take, Option, Some, None, refl, sym, ap, subst, ◌∙◌, arith, get_or, slice_get}
+use Rattle.std.proofs.Common.{min, Vec}
+use Rattle.std.specs.Prelude.{option_map}
+use Rattle.std.proofs.lemmas.List.{map-append, take_more, take-map, length-map, length-take}
+use Rattle.std.proofs.lemmas.Option.{slice_get-map, slice_get-get_or, get_or_from_slice_get}
+use Rattle.afdx_table.specs.declared.rows.PortRow.{PortRow}
+use Rattle.afdx_session.specs.Texts.{Text, texts_of}
+use Rattle.afdx_table.specs.Content.{Content}
+use Rattle.afdx_serve.specs.declared.failure.Failure.{Failure}
+use Rattle.afdx_serve.specs.declared.failure.Failure.TheVariants as failure
+use Rattle.afdx_serve.specs.Files.{Files, with_file, with_files, Shows, ShowsAll, KeepsFiles, KeepsOthers, PutsFile, PutsFiles, one_more}
+use Rattle.afdx_serve.specs.Runs.{capture_name, names_in, bytes_of, IsAmongNames, StopsAt, FailsToGet, FailsToGetAll, FailsToPutOne, FailsToPut}
+
+-- ---- files that stay
+
+-- two folders with the same files
+same_files : (f g : Files) → ((q : List ℕ) → g q ≡ f q) → g ≡ f
+same_files f g p = λ j q. p q j
+
+-- what holds of the files that are told holds of them while they stay
+carried : (P : Option Files → Type 0) (a b : Option Files) → P None → KeepsFiles a b → P b → P a
+carried P None b none keeps p = none
+carried P (Some f) None none keeps p = absurd keeps
+carried P (Some f) (Some g) none keeps p = subst P (ap (λ (k : Files). Some k) (same_files f g keeps)) p
+
+pub KeepsFiles-refl : (a : Option Files) → KeepsFiles a a
+KeepsFiles-refl None = tt
+KeepsFiles-refl (Some f) = λ q. refl
+
+pub KeepsFiles-trans : (a b c : Option Files) → KeepsFiles a b → KeepsFiles b c → KeepsFiles a c
+KeepsFiles-trans a b c first second = carried (λ k. KeepsFiles k c) a b tt first second
+
+pub Shows-before : (a b : Option Files) (name bytes : List ℕ) → KeepsFiles a b → Shows b name bytes → Shows a name bytes
+Shows-before a b name bytes keeps = carried (λ k. Shows k name bytes) a b tt keeps
+
+pub PutsFiles-before : (a b c : Option Files) (names all : List (List ℕ)) → KeepsFiles a b → PutsFiles b c names all → PutsFiles a c names all
+PutsFiles-before a b c names all keeps = carried (λ k. PutsFiles k c names all) a b tt keeps
+
+pub ShowsAll-before : (a b : Option Files) (names all : List (List ℕ)) → KeepsFiles a b → ShowsAll b names all → ShowsAll a names all
+ShowsAll-before a b names all keeps = carried (λ k. ShowsAll k names all) a b tt keeps
+
+-- ---- files that were got
+
+pub ShowsAll-nil : (a : Option Files) → ShowsAll a [] []
+ShowsAll-nil None = tt
+ShowsAll-nil (Some f) = refl
+
+ShowsAll-push : (a : Option Files) (names all : List (List ℕ)) (name bytes : List ℕ) → ShowsAll a names all → Shows a name bytes → ShowsAll a (names ++ name ∷ []) (all ++ bytes ∷ [])
+ShowsAll-push None names all name bytes before one = tt
+ShowsAll-push (Some f) names all name bytes before one =
+    map-append f names (name ∷ []) ∙ ap (λ (l : List (Option (List ℕ))). l ++ f name ∷ []) before ∙ ap (λ (b : Option (List ℕ)). map (λ (x : List ℕ). Some x) all ++ b ∷ []) one
+    ∙ sym (map-append (λ (x : List ℕ). Some x) all (bytes ∷ []))
+
+-- one more capture was got
+pub one_more_got : (a b : Option Files) (path : List ℕ) (captures : List Text) (c : Text) → KeepsFiles a b → ShowsAll a (names_in path captures) (bytes_of captures)
+    → Shows b (capture_name path c.0) c.1 → ShowsAll a (names_in path (captures ++ c ∷ [])) (bytes_of (captures ++ c ∷ []))
+one_more_got a b path captures c keeps before one =
+    let more = ShowsAll-push a (names_in path captures) (bytes_of captures) (capture_name path c.0) c.1 before (Shows-before a b _ _ keeps one) in
+    rw (map-append (λ (x : Text). capture_name path x.0) captures (c ∷ []), map-append (λ (x : Text). x.1) captures (c ∷ [])) more
+
+-- ---- files that are put
+
+with_files-push : (f : Files) (ns bs : List (List ℕ)) (n b : List ℕ) → length ns ≡ length bs → with_files f (ns ++ n ∷ []) (bs ++ b ∷ []) ≡ with_file (with_files f ns bs) n b
+with_files-push f [] [] n b e = refl
+with_files-push f (x ∷ ns) [] n b e = absurd (omega arith)
+with_files-push f [] (y ∷ bs) n b e = absurd (omega arith)
+with_files-push f (x ∷ ns) (y ∷ bs) n b e = with_files-push (with_file f x y) ns bs n b (omega arith)
+
+-- one more file was put
+pub one_more_put : (a b c : Option Files) (ns bs : List (List ℕ)) (n x : List ℕ) → length ns ≡ length bs → PutsFiles a b ns bs → PutsFile b c n x → PutsFiles a c (ns ++ n ∷ []) (bs ++ x ∷ [])
+one_more_put None b c ns bs n x e p r = tt
+one_more_put (Some f) None c ns bs n x e p r = absurd p
+one_more_put (Some f) (Some g) None ns bs n x e p r = absurd r
+one_more_put (Some f) (Some g) (Some h) ns bs n x e p r = λ q.
+    r q ∙ ap (λ (k : Files). with_file k n x q) (same_files (with_files f ns bs) g p) ∙ ap (λ (k : Files). k q) (sym (with_files-push f ns bs n x e))
+
+pub PutsFiles-nil : (a : Option Files) → PutsFiles a a [] []
+PutsFiles-nil None = tt
+PutsFiles-nil (Some f) = λ q. refl
+
+-- ---- failures
+
+-- a capture was not got
+pub not_got : (f : Failure) (files : Option Files) (path name : List ℕ) (t : Content) (first before after : ℕ) → before ≡ first → FailsToGet f name before after
+    → IsAmongNames name path t → FailsToGetAll f files path t first after
+not_got (failure.Get s) files path name t first before after same fails among =
+    (subst (λ (n : List ℕ). IsAmongNames n path t) (sym fails.0) among, fails.1 ∙ ap one_more same)
+not_got failure.Memory files path name t first before after same fails among = tt
+not_got failure.Usage files path name t first before after same fails among = absurd fails
+not_got (failure.Table r) files path name t first before after same fails among = absurd fails
+not_got (failure.Capture r) files path name t first before after same fails among = absurd fails
+not_got (failure.PortCapture p r) files path name t first before after same fails among = absurd fails
+not_got (failure.Put s) files path name t first before after same fails among = absurd fails
+not_got (failure.Load r) files path name t first before after same fails among = absurd fails
+not_got failure.Read files path name t first before after same fails among = absurd fails
+not_got failure.Write files path name t first before after same fails among = absurd fails
+
+-- a file was not put
+pub not_put : (f : Failure) (name : List ℕ) (names all : List (List ℕ)) (old new : Option Files) (first before after : ℕ) → before ≡ first → FailsToPutOne f name before after
+    → StopsAt name names all old new → FailsToPut f names all old new first after
+not_put (failure.Put s) name names all old new first before after same fails stops =
+    (subst (λ (n : List ℕ). StopsAt n names all old new) (sym fails.0) stops, fails.1 ∙ ap one_more same)
+not_put failure.Memory name names all old new first before after same fails stops = (name, stops)
+not_put failure.Usage name names all old new first before after same fails stops = absurd fails
+not_put (failure.Table r) name names all old new first before after same fails stops = absurd fails
+not_put (failure.Capture r) name names all old new first before after same fails stops = absurd fails
+not_put (failure.PortCapture p r) name names all old new first before after same fails stops = absurd fails
+not_put (failure.Get s) name names all old new first before after same fails stops = absurd fails
+not_put (failure.Load r) name names all old new first before after same fails stops = absurd fails
+not_put failure.Read name names all old new first before after same fails stops = absurd fails
+not_put failure.Write name names all old new first before after same fails stops = absurd fails
+
+-- ---- the loops over captures
+
+-- an element of a mapped list
+mapped : {X Y : Type 0} (f : X → Y) (xs : List X) (i : ℕ) (d : X) → i < length xs → slice_get (map f xs) i ≡ Some (f (get_or xs i d))
+mapped f xs i d lt = slice_get-map f xs i ∙ ap (option_map f) (slice_get-get_or xs i d lt)
+
+-- the name of a port's capture
+pub among : (path name : List ℕ) (t : Content) (ports : List PortRow) (i : ℕ) (d : PortRow) → ports ≡ t.ports → i < length ports → name ≡ capture_name path (get_or ports i d).id
+    → IsAmongNames name path t
+among path name t ports i d all lt is = (
+  i,
+  subst (λ (ps : List PortRow). slice_get (map (λ p. capture_name path p.id) ps) i ≡ Some name) all
+      (mapped (λ (p : PortRow). capture_name path p.id) ports i d lt ∙ ap (λ (n : List ℕ). Some n) (sym is)),
+)
+
+-- one more port's capture was got
+pub one_more_capture : {Z : Type 0} (a b c : Option Files) (path name : List ℕ) (ports : List PortRow) (i : ℕ) (d : PortRow) (old new : List (ℕ × Vec ℕ Z)) (bytes : Vec ℕ Z)
+    → new ≡ old ++ ((get_or ports i d).id, bytes) ∷ [] → i < length ports → KeepsFiles a b → KeepsFiles b c
+    → ShowsAll a (names_in path (texts_of old)) (bytes_of (texts_of old)) → map (λ (x : Text). x.0) (texts_of old) ≡ map (λ (p : PortRow). p.id) (take i ports)
+    → name ≡ capture_name path (get_or ports i d).id → Shows b name bytes.items
+    → ShowsAll a (names_in path (texts_of new)) (bytes_of (texts_of new)) × (map (λ (x : Text). x.0) (texts_of new) ≡ map (λ (p : PortRow). p.id) (take (i + 1) ports)) × KeepsFiles a c
+one_more_capture {Z} a b c path name ports i d old new bytes grown lt first second got ids named shows =
+    let view : ℕ × Vec ℕ Z → Text = λ pair. (pair.0, pair.1.items) in
+    let one : Text = ((get_or ports i d).id, bytes.items) in
+    let texts : texts_of new ≡ texts_of old ++ one ∷ [] = ap (map view) grown ∙ map-append view old (_ ∷ []) in
+    let more = one_more_got a b path (texts_of old) one first got (subst (λ (n : List ℕ). Shows b n bytes.items) named shows) in
+    let further : map (λ (p : PortRow). p.id) (take (i + 1) ports) ≡ map (λ (p : PortRow). p.id) (take i ports) ++ (get_or ports i d).id ∷ [] =
+    ap (map (λ (p : PortRow). p.id)) (take_more ports i d lt) ∙ map-append (λ (p : PortRow). p.id) (take i ports) (get_or ports i d ∷ []) in (
+      subst (λ (ts : List Text). ShowsAll a (names_in path ts) (bytes_of ts)) (sym texts) more,
+      ap (map (λ (x : Text). x.0)) texts ∙ map-append (λ (x : Text). x.0) (texts_of old) (one ∷ []) ∙ ap (λ (l : List ℕ). l ++ (get_or ports i d).id ∷ []) ids ∙ sym further,
+      KeepsFiles-trans a b c first second,
+    )
+
+-- one more capture was put
+pub one_more_file : {X Y : Type 0} (f : X → List ℕ) (g : Y → List ℕ) (names : List X) (all : List Y) (i : ℕ) (d : X) (e : Y) (a b c : Option Files) → length names ≡ length all → i < length names
+    → PutsFiles a b (take i (map f names)) (take i (map g all)) → PutsFile b c (f (get_or names i d)) (g (get_or all i e)) → PutsFiles a c (take (i + 1) (map f names)) (take (i + 1) (map g all))
+one_more_file f g names all i d e a b c same lt before one =
+    let shorter : i < length all = omega (arith, same, lt) in
+    let name : take (i + 1) (map f names) ≡ take i (map f names) ++ f (get_or names i d) ∷ [] = more f names i d lt in
+    let text : take (i + 1) (map g all) ≡ take i (map g all) ++ g (get_or all i e) ∷ [] = more g all i e shorter in
+    rw (name, text) (one_more_put a b c _ _ _ _ (lengths f g names all i same) before one)
+  where
+    more : {T : Type 0} (h : T → List ℕ) (xs : List T) (j : ℕ) (z : T) → j < length xs → take (j + 1) (map h xs) ≡ take j (map h xs) ++ h (get_or xs j z) ∷ []
+    more h xs j z within =
+        take-map h (j + 1) xs ∙ ap (map h) (take_more xs j z within) ∙ map-append h (take j xs) (get_or xs j z ∷ []) ∙ ap (λ (l : List (List ℕ)). l ++ h (get_or xs j z) ∷ []) (sym (take-map h j xs))
+
+    lengths : {S T : Type 0} (h : S → List ℕ) (k : T → List ℕ) (xs : List S) (ys : List T) (j : ℕ) → length xs ≡ length ys → length (take j (map h xs)) ≡ length (take j (map k ys))
+    lengths h k xs ys j e1 =
+        length-take j (map h xs) ∙ ap (min j) (length-map xs h ∙ e1 ∙ sym (length-map ys k)) ∙ sym (length-take j (map k ys))
+
+-- the files before one were put
+pub stops_at : {X : Type 0} (f : X → List ℕ) (names : List X) (all : List (List ℕ)) (i : ℕ) (d : X) (a b c : Option Files) → i < length names → PutsFiles a b (take i (map f names)) (take i all)
+    → KeepsOthers b c (f (get_or names i d)) → StopsAt (f (get_or names i d)) (map f names) all a c
+stops_at f names all i d a b c lt before others = record { place = i; before = b; is_there = mapped f names i d lt; earlier = before; others = others }
+
+pub StopsAt-before : (name : List ℕ) (names all : List (List ℕ)) (a b c : Option Files) → KeepsFiles a b → StopsAt name names all b c → StopsAt name names all a c
+StopsAt-before name names all a b c keeps s = record { place = s.place; before = s.before; is_there = s.is_there; earlier = PutsFiles-before a b s.before _ _ keeps s.earlier; others = s.others }
+
+pub mapped_or : {X Y : Type 0} (f : X → Y) (xs : List X) (i : ℕ) (d : X) (e : Y) → i < length xs → get_or (map f xs) i e ≡ f (get_or xs i d)
+mapped_or f xs i d e lt = get_or_from_slice_get (map f xs) i _ e (mapped f xs i d lt)

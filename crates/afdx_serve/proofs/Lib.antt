@@ -1,0 +1,7 @@
+pub mod Progress
+pub mod TellingLemmas
+pub mod InputLemmas
+pub mod FileLemmas
+pub mod RunLemmas
+pub mod ServingLemmas
+pub mod CheckLemmas

@@ -1,0 +1,99 @@
+-- What a run did, and why it was not done.
+use Rattle.std.proofs.Common.{◌≡◌, ℕ, List, Option, Result, Ok, Err, sym, ap, subst, ◌∙◌, inr}
+use Rattle.std.specs.Prelude.{MatchResult, IsErr, IsErrAnd}
+use Rattle.std.proofs.Common.{map, length, Vec, String, Global}
+use Rattle.std.specs.Prelude.{string_bytes}
+use Rattle.std.proofs.lemmas.List.{length-map}
+use Rattle.afdx_table.specs.Content.{Content}
+use Rattle.afdx_session.specs.Texts.{Text, texts_of}
+use Rattle.afdx_session.specs.Outcome.{Results, IsOutcome}
+use Rattle.afdx_words.specs.declared.request.Paths.{Paths}
+use Rattle.afdx_serve.specs.declared.failure.Failure.{Failure}
+use Rattle.afdx_serve.specs.declared.failure.Failure.TheVariants as failure
+use Rattle.afdx_serve.specs.Files.{Files, KeepsFiles, PutsFiles, one_more}
+use Rattle.afdx_serve.specs.Runs.{LeadsTo, names_in, bytes_of, FailsToPut, FailsToRun, HasPlan, HasCaptures, FailsToGetAll, FailsToGather, FailsToLead, capture_name}
+use Rattle.std.specs.Io.KnownBytes.{Keeps}
+use Rattle.afdx_serve.specs.Serving.{world, PutsResults, FailsToRunAll}
+use Rattle.afdx_serve.proofs.FileLemmas.{PutsFiles-before, StopsAt-before, ShowsAll-before}
+
+-- what holds of the error that a call returned
+pub of_error : {T E : Type 0} (r : Result T E) (P : T → Type 0) (Q : E → Type 0) (e : E) → IsErr r × IsErrAnd r (λ x. x ≡ e) → Q e → MatchResult r P Q
+of_error (Ok x) P Q e h q = absurd h.1
+of_error (Err x) P Q e h q = subst Q (sym h.1) q
+
+module _ (paths : Paths) (results : Results) (a b c : Option Files) (first before after : ℕ) (leads : LeadsTo paths a results) (keeps : KeepsFiles a b) (same : before ≡ first) where
+  not_all_put : (f : Failure) → FailsToPut f (names_in paths.output.now results.captures) (bytes_of results.captures) b c before after → FailsToRun f paths a c first after
+  not_all_put (failure.Put name) h = ((results, leads, StopsAt-before _ _ _ a b c keeps h.0), h.1 ∙ ap one_more same)
+  not_all_put failure.Memory h = inr (h.0, (results, leads, StopsAt-before _ _ _ a b c keeps h.1))
+  not_all_put failure.Usage h = absurd h
+  not_all_put (failure.Table r) h = absurd h
+  not_all_put (failure.Capture r) h = absurd h
+  not_all_put (failure.PortCapture p r) h = absurd h
+  not_all_put (failure.Get s) h = absurd h
+  not_all_put (failure.Load r) h = absurd h
+  not_all_put failure.Read h = absurd h
+  not_all_put failure.Write h = absurd h
+
+  -- what was led to was not all put, and nothing was written
+  pub not_all : (f : Failure) (w v : Option (List ℕ)) → Keeps w v → FailsToPut f (names_in paths.output.now results.captures) (bytes_of results.captures) b c before after
+      → FailsToRunAll f paths (world w a first) (world v c after)
+  not_all (failure.Put name) w v none h = (not_all_put (failure.Put name) h, none)
+  not_all failure.Memory w v none h = (not_all_put failure.Memory h, none)
+  not_all failure.Usage w v none h = absurd h
+  not_all (failure.Table r) w v none h = absurd h
+  not_all (failure.Capture r) w v none h = absurd h
+  not_all (failure.PortCapture p r) w v none h = absurd h
+  not_all (failure.Get s) w v none h = absurd h
+  not_all (failure.Load r) w v none h = absurd h
+  not_all failure.Read w v none h = absurd h
+  not_all failure.Write w v none h = absurd h
+
+  -- what was led to was put
+  pub all_put : PutsFiles b c (names_in paths.output.now results.captures) (bytes_of results.captures) → after ≡ before → (w v : Option (List ℕ))
+      → PutsResults paths (world w a first) (world v c after) results
+  all_put put count w v = (leads, PutsFiles-before a b c _ _ keeps put, count ∙ same)
+
+-- ---- what the files lead to
+
+module _ (paths : Paths) (a b : Option Files) (t : Content) (first before after : ℕ) (plan : HasPlan a paths t) (keeps : KeepsFiles a b) (same : before ≡ first) where
+  -- a capture was not got
+  pub not_gathered : (f : Failure) → FailsToGetAll f b paths.input.now t before after → FailsToGather f paths a first after
+  not_gathered (failure.Get name) h = (h.1 ∙ ap one_more same, inr (t, plan, h.0))
+  not_gathered failure.Memory h = tt
+  not_gathered failure.Usage h = absurd h
+  not_gathered (failure.Table r) h = absurd h
+  not_gathered (failure.Capture r) h = absurd h
+  not_gathered (failure.PortCapture p r) h = absurd h
+  not_gathered (failure.Load r) h = absurd h
+  not_gathered (failure.Put s) h = absurd h
+  not_gathered failure.Read h = absurd h
+  not_gathered failure.Write h = absurd h
+
+  module _ (captures : List Text) (got : HasCaptures b paths.input.now t captures) (count : after ≡ before) where
+    has_captures : HasCaptures a paths.input.now t captures
+    has_captures = (got.0, ShowsAll-before a b _ _ keeps got.1)
+
+    not_led : (f : Failure) → FailsToLead f t captures → FailsToGather f paths a first after
+    not_led (failure.PortCapture p r) h = (t, captures, plan, has_captures, h, count ∙ same)
+    not_led failure.Memory h = tt
+    not_led failure.Usage h = absurd h
+    not_led (failure.Table r) h = absurd h
+    not_led (failure.Capture r) h = absurd h
+    not_led (failure.Load r) h = absurd h
+    not_led (failure.Get s) h = absurd h
+    not_led (failure.Put s) h = absurd h
+    not_led failure.Read h = absurd h
+    not_led failure.Write h = absurd h
+
+    -- what the captures lead to is what the files lead to
+    pub gathered : (r : Result Results Failure) → MatchResult r (λ o. IsOutcome t captures o) (λ f. FailsToLead f t captures)
+        → MatchResult r (λ o. LeadsTo paths a o × (after ≡ first)) (λ f. FailsToGather f paths a first after)
+    gathered (Ok o) h = (record { table = t; captures = captures; has_plan = plan; has_captures = has_captures; outcome = h }, count ∙ same)
+    gathered (Err f) h = not_led f h
+
+-- there are as many names as captures
+pub same_count : {Z : Type 0} (path : List ℕ) (names : List (String Global)) (captures : List (ℕ × Vec ℕ Z)) → map (λ (s : String Global). string_bytes s) names ≡ names_in path (texts_of captures)
+    → length names ≡ length captures
+same_count {Z} path names captures is =
+    sym (length-map names (λ (s : String Global). string_bytes s)) ∙ ap length is ∙ length-map (texts_of captures) (λ (x : Text). capture_name path x.0)
+    ∙ length-map captures (λ (x : ℕ × Vec ℕ Z). (x.0, x.1.items))

@@ -1,0 +1,70 @@
+-- What was served, and why words were not served.
+use Rattle.std.proofs.Common.{ℕ, List, Option, Result, Ok, Err, sym, subst, inl, inr}
+use Rattle.std.specs.Prelude.{MatchResult}
+use Rattle.afdx_words.specs.declared.request.Request.{Request}
+use Rattle.afdx_words.specs.declared.request.Request.TheVariants as request
+use Rattle.afdx_words.specs.Requests.{Asks}
+use Rattle.afdx_serve.specs.declared.failure.Failure.{Failure}
+use Rattle.afdx_serve.specs.declared.failure.Failure.TheVariants as failure
+use Rattle.afdx_serve.specs.Lines.{TellsOf, IsMade}
+use Rattle.afdx_serve.specs.Serving.{World, Performs, FailsToPerform, Serves, Fails, RunsOut}
+
+module _ (words : List (List ℕ)) (input : Option (List ℕ)) (old new : World) where
+  fails : (r : Request) → Asks words r → (f : Failure) → FailsToPerform f r input old new → Fails f words input old new
+  fails (request.Alone link) asks failure.Usage h = absurd h.0
+  fails (request.Check path) asks failure.Usage h = absurd h
+  fails (request.Run paths) asks failure.Usage h = absurd h.0.0
+  fails r asks (failure.Load e) h = (r, asks, h)
+  fails r asks (failure.Table e) h = (r, asks, h)
+  fails r asks (failure.Capture e) h = (r, asks, h)
+  fails r asks (failure.PortCapture p e) h = (r, asks, h)
+  fails r asks (failure.Get name) h = (r, asks, h)
+  fails r asks (failure.Put name) h = (r, asks, h)
+  fails r asks failure.Read h = (r, asks, h)
+  fails r asks failure.Write h = inr (r, asks, h)
+  fails r asks failure.Memory h = inr (r, asks, h)
+
+  -- the request that was done is that of the words
+  pub performed : {T : Type 0} (result : Result T Failure) (r : Request) → Asks words r
+      → MatchResult result (λ _. Performs r input old new) (λ f. FailsToPerform f r input old new) → MatchResult result (λ _. Serves words input old new) (λ f. Fails f words input old new)
+  performed (Ok x) r asks h = inr (r, asks, h)
+  performed (Err f) r asks h = fails r asks f h
+
+  -- a failure with a line that is made leaves what want of memory may leave
+  runs_out : (f : Failure) (r : Request) → IsMade f → Asks words r → FailsToPerform f r input old new → RunsOut words input old new
+  runs_out failure.Usage r made asks h = absurd made
+  runs_out failure.Read r made asks h = absurd made
+  runs_out failure.Write r made asks h = absurd made
+  runs_out failure.Memory r made asks h = absurd made
+  runs_out (failure.Table e) (request.Alone link) made asks h = absurd h.0
+  runs_out (failure.Table e) (request.Check path) made asks h = inl (h.2, h.1.0)
+  runs_out (failure.Table e) (request.Run paths) made asks h = inl (h.1, h.0.1)
+  runs_out (failure.Load e) (request.Alone link) made asks h = absurd h.0
+  runs_out (failure.Load e) (request.Check path) made asks h = inl (h.4, h.3.0)
+  runs_out (failure.Load e) (request.Run paths) made asks h = inl (h.1, h.0.1)
+  runs_out (failure.Capture e) (request.Alone link) made asks h = inl (h.0.1, h.1.0)
+  runs_out (failure.Capture e) (request.Check path) made asks h = absurd h
+  runs_out (failure.Capture e) (request.Run paths) made asks h = absurd h.0.0
+  runs_out (failure.PortCapture p e) (request.Alone link) made asks h = absurd h.0
+  runs_out (failure.PortCapture p e) (request.Check path) made asks h = absurd h
+  runs_out (failure.PortCapture p e) (request.Run paths) made asks h = inl (h.1, h.0.1)
+  runs_out (failure.Get name) (request.Alone link) made asks h = absurd h.0
+  runs_out (failure.Get name) (request.Check path) made asks h = inl (h.3, h.2)
+  runs_out (failure.Get name) (request.Run paths) made asks h = inl (h.1, h.0.1)
+  runs_out (failure.Put name) (request.Alone link) made asks h = absurd h.0
+  runs_out (failure.Put name) (request.Check path) made asks h = absurd h
+  runs_out (failure.Put name) (request.Run paths) made asks h = inr (request.Run paths, asks, (inr (_, h.0.0), h.1))
+
+  -- where memory ran out for its line, memory is the failure
+  pub told : (f t : Failure) → TellsOf f t → Fails f words input old new → Fails t words input old new
+  told f t (inl e) h = subst (λ (x : Failure). Fails x words input old new) (sym e) h
+  told failure.Usage t (inr e) h = absurd e.0
+  told failure.Read t (inr e) h = absurd e.0
+  told failure.Write t (inr e) h = absurd e.0
+  told failure.Memory t (inr e) h = absurd e.0
+  told (failure.Table r) t (inr e) h = subst (λ (x : Failure). Fails x words input old new) (sym e.1) (runs_out (failure.Table r) h.0 tt h.1 h.2)
+  told (failure.Load r) t (inr e) h = subst (λ (x : Failure). Fails x words input old new) (sym e.1) (runs_out (failure.Load r) h.0 tt h.1 h.2)
+  told (failure.Capture r) t (inr e) h = subst (λ (x : Failure). Fails x words input old new) (sym e.1) (runs_out (failure.Capture r) h.0 tt h.1 h.2)
+  told (failure.PortCapture p r) t (inr e) h = subst (λ (x : Failure). Fails x words input old new) (sym e.1) (runs_out (failure.PortCapture p r) h.0 tt h.1 h.2)
+  told (failure.Get name) t (inr e) h = subst (λ (x : Failure). Fails x words input old new) (sym e.1) (runs_out (failure.Get name) h.0 tt h.1 h.2)
+  told (failure.Put name) t (inr e) h = subst (λ (x : Failure). Fails x words input old new) (sym e.1) (runs_out (failure.Put name) h.0 tt h.1 h.2)

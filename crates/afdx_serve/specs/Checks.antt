@@ -1,0 +1,40 @@
+-- What a check writes of an accepted table.
+use Rattle.std.specs.Prelude.{◌≡◌, ◌↔◌, ℕ, codes, ◌<◌, ◌≤◌, ◌+◌, List, [], ◌∷◌, ◌++◌, Option, Some, None}
+use Rattle.std.specs.Fmt.{decimal}
+use Rattle.afdx_table.specs.declared.rows.PortRow.{PortRow}
+use Rattle.afdx_table.specs.Link.{Link}
+use Rattle.afdx_table.specs.Content.{Content}
+use Rattle.afdx_load.specs.Sums.{Sums, load_of}
+use Rattle.afdx_load.specs.Bounds.{backlog, byte_time, high_bound, low_bound}
+use Rattle.afdx_serve.specs.Lines.{ended}
+
+-- the least buffer of a port, in bytes, that holds what may wait and be on the line at once
+abbrev pub IsLeastBuffer : PortRow → Sums → ℕ → Type 0
+IsLeastBuffer row s least = (bytes : ℕ) → (backlog s ≤ byte_time row.speed bytes) ↔ (least ≤ bytes)
+
+-- a bound in nanoseconds, which only a priority with links has
+abbrev pub bound_text : Option ℕ → List ℕ
+bound_text None = codes "-"
+bound_text (Some bound) = decimal bound
+
+-- what a port's links may ask for, and what that leads to
+abbrev pub load_text : PortRow → Sums → ℕ → List ℕ
+load_text row s least =
+    codes "port " ++ decimal row.id ++ codes " rate " ++ decimal s.rate ++ codes " buffer " ++ decimal least
+    ++ codes " high " ++ bound_text (high_bound s) ++ codes " low " ++ bound_text (low_bound s)
+
+-- the line of a port; a port without links has none
+abbrev pub IsLineOf : PortRow → Sums → List ℕ → Type 0
+IsLineOf row s line =
+    (0 < s.highs + s.lows → (least : ℕ) × IsLeastBuffer row s least × (line ≡ ended (load_text row s least)))
+    × ((0 < s.highs + s.lows → ⊥) → line ≡ [])
+
+-- the lines of these ports, in their order
+abbrev pub AreLinesOf : List Link → List PortRow → List ℕ → Type 0
+AreLinesOf links [] text = text ≡ []
+AreLinesOf links (row ∷ rows) text =
+    (line : List ℕ) × (rest : List ℕ) × IsLineOf row (load_of row.speed row.id links) line × AreLinesOf links rows rest × (text ≡ line ++ rest)
+
+-- the lines of a table's ports by rising number, and that it is accepted
+abbrev pub IsCheckOf : Content → List ℕ → Type 0
+IsCheckOf t text = (lines : List ℕ) × AreLinesOf t.links t.ports lines × (text ≡ lines ++ ended (codes "accepted"))

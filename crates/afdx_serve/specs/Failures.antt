@@ -1,0 +1,28 @@
+-- The failure of a command that a fault below it leads to.
+use Rattle.afdx_table.specs.declared.fault.TableFault.{TableFault}
+use Rattle.afdx_table.specs.declared.fault.TableFault.TheVariants as table
+use Rattle.afdx_session.specs.declared.plan.RunFault.{RunFault}
+use Rattle.afdx_session.specs.declared.plan.RunFault.TheVariants as run
+use Rattle.afdx_serve.specs.declared.policing.AloneFault.{AloneFault}
+use Rattle.afdx_serve.specs.declared.policing.AloneFault.TheVariants as alone
+use Rattle.afdx_serve.specs.declared.input.InputFault.{InputFault}
+use Rattle.afdx_serve.specs.declared.input.InputFault.TheVariants as input
+use Rattle.afdx_serve.specs.declared.failure.Failure.{Failure}
+use Rattle.afdx_serve.specs.declared.failure.Failure.TheVariants as failure
+
+abbrev pub input_failure : InputFault → Failure
+input_failure input.Memory = failure.Memory
+input_failure input.Device = failure.Read
+
+abbrev pub alone_failure : AloneFault → Failure
+alone_failure alone.Memory = failure.Memory
+alone_failure (alone.Capture fault) = failure.Capture fault
+
+abbrev pub table_failure : TableFault → Failure
+table_failure table.Memory = failure.Memory
+table_failure fault = failure.Table fault
+
+abbrev pub run_failure : RunFault → Failure
+run_failure run.Memory = failure.Memory
+run_failure (run.Capture port fault) = failure.PortCapture port fault
+run_failure run.WrongPorts = failure.Usage

@@ -1,0 +1,11 @@
+pub mod Own
+pub mod Answer
+pub mod Offer
+pub mod Faults
+pub mod Output
+pub mod Files
+pub mod Failures
+pub mod Lines
+pub mod Runs
+pub mod Checks
+pub mod Serving

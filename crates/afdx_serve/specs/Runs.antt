@@ -1,0 +1,141 @@
+-- What a run does to a folder.
+use Rattle.std.specs.Prelude.{Bool, false, ◌≡◌, ◌⊎◌, ℕ, codes, List, ◌++◌, map, take, slice_get, Option, Some, Ok, Err, string_bytes}
+use Rattle.std.specs.Fmt.{decimal}
+use Rattle.afdx_table.specs.declared.fault.TableFault.{TableFault}
+use Rattle.afdx_table.specs.Content.{Content}
+use Rattle.afdx_table.specs.Text.{table_of}
+use Rattle.afdx_load.specs.Accepted.{IsAccepted, first_fault}
+use Rattle.afdx_count.specs.Report.{report_of}
+use Rattle.afdx_session.specs.Texts.{Text, AreOfPorts}
+use Rattle.afdx_session.specs.Reading.{IsFirstFault}
+use Rattle.afdx_session.specs.Outcome.{Results, IsOutcome}
+use Rattle.afdx_words.specs.declared.request.Paths.{Paths}
+use Rattle.afdx_serve.specs.declared.failure.Failure.{Failure}
+use Rattle.afdx_serve.specs.declared.failure.Failure.TheVariants as failure
+use Rattle.afdx_serve.specs.Files.{Files, Shows, ShowsAll, KeepsFiles, KeepsOthers, PutsFiles, one_more}
+
+-- ---- names
+
+-- profile: the name of a port's capture in a folder
+abbrev pub capture_name : List ℕ → ℕ → List ℕ
+capture_name folder port = folder ++ codes "/port-" ++ decimal port ++ codes ".pcap"
+
+abbrev pub names_in : List ℕ → List Text → List (List ℕ)
+names_in folder captures = map (λ c. capture_name folder c.0) captures
+
+abbrev pub bytes_of : List Text → List (List ℕ)
+bytes_of captures = map (λ c. c.1) captures
+
+-- ---- what is got
+
+-- the file is the text of this table
+abbrev pub HasTable : Option Files → List ℕ → Content → Type 0
+HasTable files path t = (text : List ℕ) × Shows files path text × (table_of text ≡ Ok t)
+
+-- the file is the text of a table with this first refusal
+abbrev pub HasNoTable : Option Files → List ℕ → TableFault → Type 0
+HasNoTable files path refusal = (text : List ℕ) × Shows files path text × (table_of text ≡ Err refusal)
+
+-- the file is the text of this table, which is accepted unless the run is unchecked
+abbrev pub HasPlan : Option Files → Paths → Content → Type 0
+HasPlan files paths t = HasTable files paths.table.now t × (paths.unchecked ≡ false → IsAccepted t)
+
+-- these are the captures of the table's ports in the folder
+abbrev pub HasCaptures : Option Files → List ℕ → Content → List Text → Type 0
+HasCaptures files path t captures = AreOfPorts t captures × ShowsAll files (names_in path captures) (bytes_of captures)
+
+-- the files hold a table and captures, which lead to this
+pub record LeadsTo (paths : Paths) (files : Option Files) (results : Results) : Type 0 where
+  pub table : Content
+  pub captures : List Text
+  pub has_plan : HasPlan files paths table
+  pub has_captures : HasCaptures files paths.input.now table captures
+  pub outcome : IsOutcome table captures results
+
+-- the name is that of the capture of one of the table's ports
+abbrev pub IsAmongNames : List ℕ → List ℕ → Content → Type 0
+IsAmongNames name path t = (place : ℕ) × (slice_get (map (λ p. capture_name path p.id) t.ports) place ≡ Some name)
+
+-- the report of a run
+abbrev pub report_in : Results → List ℕ
+report_in results = report_of results.counts
+
+-- ---- what is put
+
+-- the files before this name were put, in order; nothing is said of what stands under it, and nothing else has changed
+pub record StopsAt (name : List ℕ) (names all : List (List ℕ)) (old new : Option Files) : Type 0 where
+  pub place : ℕ
+  pub before : Option Files
+  pub is_there : slice_get names place ≡ Some name
+  pub earlier : PutsFiles old before (take place names) (take place all)
+  pub others : KeepsOthers before new name
+
+-- ---- why something was not done, and the count of failures before and after
+
+-- a file was not got
+abbrev pub FailsToGet : Failure → List ℕ → ℕ → ℕ → Type 0
+FailsToGet (failure.Get name) path before after = (string_bytes name ≡ path) × (after ≡ one_more before)
+FailsToGet failure.Memory path before after = Unit {0}
+FailsToGet _ path before after = ⊥
+
+-- a table was not read
+abbrev pub FailsToRead : Failure → Option Files → List ℕ → ℕ → ℕ → Type 0
+FailsToRead (failure.Table refusal) files path before after = HasNoTable files path refusal × (after ≡ before)
+FailsToRead f files path before after = FailsToGet f path before after
+
+-- not all captures of the table's ports were got: one that failed is told
+abbrev pub FailsToGetAll : Failure → Option Files → List ℕ → Content → ℕ → ℕ → Type 0
+FailsToGetAll (failure.Get name) files path t before after =
+    IsAmongNames (string_bytes name) path t × (after ≡ one_more before)
+FailsToGetAll failure.Memory files path t before after = Unit {0}
+FailsToGetAll _ files path t before after = ⊥
+
+-- a table was not taken for a run that is unchecked or not
+abbrev pub FailsToPlan : Failure → Bool → Content → Type 0
+FailsToPlan (failure.Load fault) unchecked t = (unchecked ≡ false) × (first_fault t.links t.ports ≡ Some fault)
+FailsToPlan _ unchecked t = ⊥
+
+-- captures lead to nothing
+abbrev pub FailsToLead : Failure → Content → List Text → Type 0
+FailsToLead (failure.PortCapture port fault) t captures = IsFirstFault captures port fault
+FailsToLead failure.Memory t captures = Unit {0}
+FailsToLead _ t captures = ⊥
+
+-- the files lead to nothing
+abbrev pub FailsToGather : Failure → Paths → Option Files → ℕ → ℕ → Type 0
+FailsToGather (failure.Table refusal) paths files before after = HasNoTable files paths.table.now refusal × (after ≡ before)
+FailsToGather (failure.Get name) paths files before after =
+    (after ≡ one_more before) × ((string_bytes name ≡ paths.table.now)
+    ⊎ ((t : Content) × HasPlan files paths t × IsAmongNames (string_bytes name) paths.input.now t))
+FailsToGather (failure.PortCapture port fault) paths files before after =
+    (t : Content) × (captures : List Text) × HasPlan files paths t × HasCaptures files paths.input.now t captures
+    × IsFirstFault captures port fault × (after ≡ before)
+FailsToGather (failure.Load fault) paths files before after =
+    (paths.unchecked ≡ false) × ((t : Content) × HasTable files paths.table.now t × (first_fault t.links t.ports ≡ Some fault) × (after ≡ before))
+FailsToGather failure.Memory paths files before after = Unit {0}
+FailsToGather _ paths files before after = ⊥
+
+-- a file was not put
+abbrev pub FailsToPutOne : Failure → List ℕ → ℕ → ℕ → Type 0
+FailsToPutOne (failure.Put name) path before after = (string_bytes name ≡ path) × (after ≡ one_more before)
+FailsToPutOne failure.Memory path before after = Unit {0}
+FailsToPutOne _ path before after = ⊥
+
+-- not all was put
+abbrev pub FailsToPut : Failure → List (List ℕ) → List (List ℕ) → Option Files → Option Files → ℕ → ℕ → Type 0
+FailsToPut (failure.Put name) names all old new before after = StopsAt (string_bytes name) names all old new × (after ≡ one_more before)
+FailsToPut failure.Memory names all old new before after = (name : List ℕ) × StopsAt name names all old new
+FailsToPut _ names all old new before after = ⊥
+
+-- ---- a whole run
+
+-- the files lead to results, of which those before this name were put
+abbrev pub StopsRun : List ℕ → Paths → Option Files → Option Files → Type 0
+StopsRun name paths old new =
+    (results : Results) × LeadsTo paths old results × StopsAt name (names_in paths.output.now results.captures) (bytes_of results.captures) old new
+
+-- the results of a run were not put
+abbrev pub FailsToRun : Failure → Paths → Option Files → Option Files → ℕ → ℕ → Type 0
+FailsToRun (failure.Put name) paths old new before after = StopsRun (string_bytes name) paths old new × (after ≡ one_more before)
+FailsToRun failure.Memory paths old new before after = KeepsFiles old new ⊎ ((name : List ℕ) × StopsRun name paths old new)
+FailsToRun f paths old new before after = FailsToGather f paths old before after × KeepsFiles old new

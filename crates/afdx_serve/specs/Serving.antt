@@ -1,0 +1,135 @@
+-- What serving words does: to what a reader gives, and to what a writer and a folder hold before and after.
+use Rattle.std.specs.Prelude.{string_bytes, Some, ◌≡◌, ◌⊎◌, ℕ, List, Option, IfSome}
+use Rattle.std.specs.Io.KnownBytes.{Appends, Keeps}
+use Rattle.afdx_pcap.specs.Fault.{IsFault}
+use Rattle.afdx_words.specs.declared.link.Alone.{Alone}
+use Rattle.afdx_words.specs.declared.request.Paths.{Paths}
+use Rattle.afdx_words.specs.declared.request.Request.{Request}
+use Rattle.afdx_words.specs.declared.request.Request.TheVariants as request
+use Rattle.afdx_words.specs.Requests.{Asks, AskForHelp, AreRefused}
+use Rattle.afdx_serve.specs.declared.failure.Failure.{Failure}
+use Rattle.afdx_serve.specs.declared.failure.Failure.TheVariants as failure
+use Rattle.afdx_serve.specs.Answer.{IsAnswer}
+use Rattle.afdx_table.specs.Content.{Content}
+use Rattle.afdx_load.specs.Accepted.{IsAccepted, first_fault}
+use Rattle.afdx_serve.specs.Checks.{IsCheckOf}
+use Rattle.afdx_serve.specs.Files.{Files, KeepsFiles, PutsFiles, one_more}
+use Rattle.afdx_session.specs.Outcome.{Results}
+use Rattle.afdx_serve.specs.Output.{AppendsFront}
+use Rattle.afdx_serve.specs.Runs.{HasTable, HasNoTable, LeadsTo, FailsToRun, names_in, bytes_of, report_in}
+
+-- what commands work on, as far as it is told
+pub record World : Type 0 where
+  -- what the writer holds
+  pub written : Option (List ℕ)
+  -- what the folder holds
+  pub files : Option Files
+  -- how often the folder failed
+  pub failed : ℕ
+
+abbrev pub world : Option (List ℕ) → Option Files → ℕ → World
+world written files failed = record { written = written; files = files; failed = failed }
+
+-- the folder is as it was
+abbrev pub KeepsFolder : World → World → Type 0
+KeepsFolder old new = KeepsFiles old.files new.files × (new.failed ≡ old.failed)
+
+-- nothing was written
+abbrev pub WritesNothing : World → World → Type 0
+WritesNothing old new = Keeps old.written new.written
+
+-- ---- one link
+
+-- these are all the bytes that a reader gives, where that is known
+abbrev pub AreGiven : Option (List ℕ) → List ℕ → Type 0
+AreGiven input bytes = IfSome input (λ all. bytes ≡ all)
+
+-- the answer to all that the reader gave was written
+abbrev pub Answers : Alone → Option (List ℕ) → Option (List ℕ) → Option (List ℕ) → Type 0
+Answers link input old new =
+    (bytes : List ℕ) × (text : List ℕ) × AreGiven input bytes × IsAnswer link bytes text × Appends old new text
+
+-- why a link was not answered for, and what was written
+abbrev pub FailsToAnswer : Failure → Alone → Option (List ℕ) → Option (List ℕ) → Option (List ℕ) → Type 0
+FailsToAnswer (failure.Capture fault) link input old new = ((bytes : List ℕ) × AreGiven input bytes × IsFault bytes fault) × Keeps old new
+FailsToAnswer failure.Read link input old new = Keeps old new
+FailsToAnswer failure.Write link input old new =
+    (bytes : List ℕ) × (text : List ℕ) × AreGiven input bytes × IsAnswer link bytes text × AppendsFront old new text
+FailsToAnswer failure.Memory link input old new = Keeps old new
+FailsToAnswer _ link input old new = ⊥
+
+-- ---- the load of a table
+
+-- a table was not accepted
+abbrev pub FailsToAccept : Failure → Content → Type 0
+FailsToAccept (failure.Load fault) t = first_fault t.links t.ports ≡ Some fault
+FailsToAccept failure.Memory t = Unit {0}
+FailsToAccept _ t = ⊥
+
+-- the file's table is accepted, and its lines were written
+abbrev pub Checks : List ℕ → World → World → Type 0
+Checks path old new =
+    (t : Content) × (text : List ℕ) × HasTable old.files path t × IsAccepted t × IsCheckOf t text × Appends old.written new.written text × KeepsFolder old new
+
+-- why they were not, and what was written
+abbrev pub FailsToCheck : Failure → List ℕ → World → World → Type 0
+FailsToCheck (failure.Get name) path old new =
+    (string_bytes name ≡ path) × (new.failed ≡ one_more old.failed) × KeepsFiles old.files new.files × WritesNothing old new
+FailsToCheck (failure.Table refusal) path old new = HasNoTable old.files path refusal × KeepsFolder old new × WritesNothing old new
+FailsToCheck (failure.Load fault) path old new =
+    (t : Content) × HasTable old.files path t × (first_fault t.links t.ports ≡ Some fault) × KeepsFolder old new × WritesNothing old new
+FailsToCheck failure.Write path old new =
+    (t : Content) × (text : List ℕ) × HasTable old.files path t × IsAccepted t × IsCheckOf t text × AppendsFront old.written new.written text × KeepsFolder old new
+FailsToCheck failure.Memory path old new = KeepsFiles old.files new.files × WritesNothing old new
+FailsToCheck _ path old new = ⊥
+
+-- ---- runs
+
+-- the files lead to results, which were put
+abbrev pub PutsResults : Paths → World → World → Results → Type 0
+PutsResults paths old new results =
+    LeadsTo paths old.files results × PutsFiles old.files new.files (names_in paths.output.now results.captures) (bytes_of results.captures) × (new.failed ≡ old.failed)
+
+-- and their report was written
+abbrev pub Runs : Paths → World → World → Type 0
+Runs paths old new = (results : Results) × PutsResults paths old new results × Appends old.written new.written (report_in results)
+
+-- why it was not, and what was done
+abbrev pub FailsToRunAll : Failure → Paths → World → World → Type 0
+FailsToRunAll failure.Write paths old new = (results : Results) × PutsResults paths old new results × AppendsFront old.written new.written (report_in results)
+FailsToRunAll f paths old new = FailsToRun f paths old.files new.files old.failed new.failed × WritesNothing old new
+
+-- ---- any request
+
+-- what a request asks for was done, and nothing else
+abbrev pub Performs : Request → Option (List ℕ) → World → World → Type 0
+Performs (request.Alone link) input old new = Answers link input old.written new.written × KeepsFolder old new
+Performs (request.Check path) input old new = Checks path.now old new
+Performs (request.Run paths) input old new = Runs paths old new
+
+-- why it was not done, and what was done
+abbrev pub FailsToPerform : Failure → Request → Option (List ℕ) → World → World → Type 0
+FailsToPerform f (request.Alone link) input old new = FailsToAnswer f link input old.written new.written × KeepsFolder old new
+FailsToPerform f (request.Check path) input old new = FailsToCheck f path.now old new
+FailsToPerform f (request.Run paths) input old new = FailsToRunAll f paths old new
+
+-- help was asked for and some text was written, or a request, which was done
+abbrev pub Serves : List (List ℕ) → Option (List ℕ) → World → World → Type 0
+Serves words input old new =
+    (AskForHelp words × ((text : List ℕ) × Appends old.written new.written text) × KeepsFolder old new)
+    ⊎ ((r : Request) × Asks words r × Performs r input old new)
+
+-- what may stand where memory ran out: some of a run's files, and nothing written
+abbrev pub RunsOut : List (List ℕ) → Option (List ℕ) → World → World → Type 0
+RunsOut words input old new =
+    (WritesNothing old new × KeepsFiles old.files new.files) ⊎ ((r : Request) × Asks words r × FailsToPerform failure.Memory r input old new)
+
+-- why words were not served, and what was done
+abbrev pub Fails : Failure → List (List ℕ) → Option (List ℕ) → World → World → Type 0
+Fails failure.Usage words input old new =
+    AreRefused words × WritesNothing old new × KeepsFolder old new
+Fails failure.Write words input old new =
+    (AskForHelp words × ((text : List ℕ) × Appends old.written new.written text) × KeepsFolder old new)
+    ⊎ ((r : Request) × Asks words r × FailsToPerform failure.Write r input old new)
+Fails failure.Memory words input old new = RunsOut words input old new
+Fails f words input old new = (r : Request) × Asks words r × FailsToPerform f r input old new

@@ -1,0 +1,109 @@
+//! The command `check`.
+
+ghost use Rattle.std.specs.Prelude.{◌≡◌, ℕ, ◌++◌, Some, IfOk, OnOk, MatchResult, string_bytes};
+ghost use Rattle.afdx_table.specs.Content.{port_row};
+ghost use Rattle.afdx_load.specs.Sums.{load_of};
+ghost use Rattle.afdx_load.specs.Accepted.{IsAccepted};
+ghost use Rattle.afdx_serve.specs.Lines.{ended};
+ghost use Rattle.afdx_serve.specs.Checks.{IsLeastBuffer, bound_text, load_text, IsLineOf, AreLinesOf, IsCheckOf};
+ghost use Rattle.afdx_serve.specs.Serving.{world, FailsToAccept, Checks, FailsToCheck};
+
+use crate::failure::Failure;
+use crate::folder::Folder;
+use crate::get::get_table;
+use crate::output::write_bytes;
+use afdx_load::laws::longest_shows_links;
+use afdx_load::{Load, bounds, least_buffer, load};
+use afdx_table::{PortRow, Table};
+use std::alloc::{AllocError, Global};
+use std::io::Write;
+
+/// Appends a bound.
+fn push_bound(line: &mut String, bound: Option<u128>) -> Result<(), AllocError>
+    ensures { OnOk result (string_bytes line.new ≡ string_bytes line.old ++ bound_text bound) }
+{
+    match bound {
+        Some(nanos) => write!(line, "{nanos}")?,
+        None => line.push_str("-")?,
+    }
+    Ok(())
+}
+
+/// The line of a port with links.
+fn load_line(alloc: Global, row: &PortRow, load: &Load) -> Result<String, AllocError>
+    ensures { IfOk result (λ line. (least : ℕ) × IsLeastBuffer row.now load.now least × (string_bytes line ≡ ended (load_text row.now load.now least))) }
+{
+    let least = least_buffer(load, row.speed);
+    let bounds = bounds(load);
+    let mut line = format!(in alloc; "port {}", row.id)?;
+    write!(line, " rate {}", load.rate())?;
+    write!(line, " buffer {least} high ")?;
+    push_bound(&mut line, bounds.high)?;
+    line.push_str(" low ")?;
+    push_bound(&mut line, bounds.low)?;
+    line.push_str("\n")?;
+    Ok(line)
+}
+
+/// The line of a port of the table; where no link leads to it, no text.
+fn port_line(alloc: Global, table: &Table, row: &PortRow) -> Result<String, AllocError>
+    requires { port_row table.now row.now.id ≡ Some row.now }
+    ensures { IfOk result (λ line. IsLineOf row.now (load_of row.now.speed row.now.id table.now.links) (string_bytes line)) }
+{
+    longest_shows_links();
+    match load(table, row.id) {
+        Some(load) if load.largest() > 0 => load_line(alloc, row, &load),
+        _ => Ok(String::new(alloc)),
+    }
+}
+
+/// The lines of the table's ports with links.
+///
+/// Each port's load is one pass over the links: O(p * m) for p ports, of which there are at most 24, and links that
+/// together name m output ports.
+fn port_lines(alloc: Global, table: &Table) -> Result<String, AllocError>
+    ensures { IfOk result (λ text. AreLinesOf table.now.links table.now.ports (string_bytes text)) }
+{
+    let mut text = String::new(alloc);
+    for row in table.ports() {
+        text.push_str(&port_line(alloc, table, row)?)?;
+    }
+    Ok(text)
+}
+
+/// What is written of a table that is accepted.
+fn check_text(alloc: Global, table: Table) -> Result<String, Failure>
+    ensures { MatchResult result (λ text. IsAccepted table × IsCheckOf table (string_bytes text)) (λ f. FailsToAccept f table) }
+{
+    match afdx_load::check(table) {
+        Ok(cleared) => {
+            let mut text = port_lines(alloc, cleared.table())?;
+            text.push_str("accepted\n")?;
+            Ok(text)
+        }
+        Err((_, fault)) => Err(Failure::Load(fault)),
+    }
+}
+
+/// Checks the table of a file, and writes a line for each port with links, then that it is accepted.
+///
+/// # Errors
+///
+/// What is met first: `Get`, `Table`, `Load`, `Write`; `Memory` where a growth was refused.
+pub(crate) fn check<O: Write, F: Folder>(
+    alloc: Global,
+    path: &str,
+    out: &mut O,
+    folder: &mut F,
+) -> Result<(), Failure>
+    ensures { MatchResult result
+        (λ _. Checks path.now
+        (world (O.contents out.old) (F.files folder.old) (F.failed folder.old)) (world (O.contents out.new) (F.files folder.new) (F.failed folder.new)))
+        (λ f. FailsToCheck f path.now
+        (world (O.contents out.old) (F.files folder.old) (F.failed folder.old)) (world (O.contents out.new) (F.files folder.new) (F.failed folder.new))) }
+{
+    let table = get_table(alloc, folder, path)?;
+    let text = check_text(alloc, table)?;
+    write_bytes(out, text.as_bytes())?;
+    Ok(())
+}

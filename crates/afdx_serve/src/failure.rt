@@ -1,0 +1,121 @@
+//! Why a command was not served.
+
+ghost use Rattle.std.specs.Prelude.{◌≡◌};
+
+use crate::input::InputFault;
+use crate::output::WriteFault;
+use crate::policing::AloneFault;
+use afdx_load::LoadFault;
+use afdx_pcap::PcapFault;
+use afdx_session::RunFault;
+use afdx_table::TableFault;
+use std::alloc::{AllocError, AllocFailed};
+
+/// Why a command was not served.
+#[derive(Debug, Drop)]
+pub enum Failure {
+    /// The words are refused.
+    Usage,
+    /// The file of the table holds none, and this is its first refusal.
+    Table(TableFault),
+    /// The table asks for more than a port can give, and this is the first rule that is broken.
+    Load(LoadFault),
+    /// The input is no capture, and this is its first fault.
+    Capture(PcapFault),
+    /// The file of this port is no capture, and this is its first fault.
+    PortCapture(u8, PcapFault),
+    /// The folder failed to get the file of this name, or it is not there.
+    Get(String),
+    /// The folder failed to put the file of this name.
+    Put(String),
+    /// The input failed, or was not read to its end within the bounded number of reads.
+    Read,
+    /// The output failed, was interrupted or took nothing.
+    Write,
+    /// A growth was refused.
+    Memory,
+}
+
+impl From<AllocError> for Failure {
+    ghost use Rattle.afdx_serve.specs.declared.failure.Failure.TheVariants.{Memory};
+
+    ghost from_gives = { λ _ failure. failure ≡ Memory };
+
+    fn from(_e: AllocError) -> Failure {
+        Failure::Memory
+    }
+}
+
+impl<T: Drop> From<AllocFailed<T>> for Failure {
+    ghost use Rattle.afdx_serve.specs.declared.failure.Failure.TheVariants.{Memory};
+
+    ghost from_gives = { λ _ failure. failure ≡ Memory };
+
+    fn from(_e: AllocFailed<T>) -> Failure {
+        Failure::Memory
+    }
+}
+
+impl From<InputFault> for Failure {
+    ghost use Rattle.afdx_serve.specs.Failures.{input_failure};
+
+    ghost from_gives = { λ fault failure. failure ≡ input_failure fault };
+
+    fn from(e: InputFault) -> Failure {
+        match e {
+            InputFault::Memory => Failure::Memory,
+            InputFault::Device => Failure::Read,
+        }
+    }
+}
+
+impl From<WriteFault> for Failure {
+    ghost use Rattle.afdx_serve.specs.declared.failure.Failure.TheVariants.{Write as WriteFailed};
+
+    ghost from_gives = { λ _ failure. failure ≡ WriteFailed };
+
+    fn from(_e: WriteFault) -> Failure {
+        Failure::Write
+    }
+}
+
+impl From<AloneFault> for Failure {
+    ghost use Rattle.afdx_serve.specs.Failures.{alone_failure};
+
+    ghost from_gives = { λ fault failure. failure ≡ alone_failure fault };
+
+    fn from(e: AloneFault) -> Failure {
+        match e {
+            AloneFault::Memory => Failure::Memory,
+            AloneFault::Capture(fault) => Failure::Capture(fault),
+        }
+    }
+}
+
+impl From<TableFault> for Failure {
+    ghost use Rattle.afdx_serve.specs.Failures.{table_failure};
+
+    ghost from_gives = { λ fault failure. failure ≡ table_failure fault };
+
+    fn from(e: TableFault) -> Failure {
+        match e {
+            TableFault::Memory => Failure::Memory,
+            _ => Failure::Table(e),
+        }
+    }
+}
+
+impl From<RunFault> for Failure {
+    ghost use Rattle.afdx_serve.specs.Failures.{run_failure};
+
+    ghost from_gives = { λ fault failure. failure ≡ run_failure fault };
+
+    fn from(e: RunFault) -> Failure {
+        match e {
+            RunFault::Memory => Failure::Memory,
+            RunFault::Capture(port, fault) => Failure::PortCapture(port, fault),
+            // Captures are got by the table's own ports, so that it is not met.
+            RunFault::WrongPorts => Failure::Usage,
+        }
+    }
+}

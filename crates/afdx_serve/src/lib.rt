@@ -1,0 +1,29 @@
+//! What the program does with the words of its command line, over any reader, writers and folder.
+//!
+//! [`serve`] is the whole of it; the program `afdx` hands it the real ones.
+#![tactic(auto)]
+
+mod capture_line;
+mod check;
+mod disk;
+mod failure;
+mod folder;
+mod get;
+mod input;
+mod load_line;
+mod names;
+mod output;
+mod own;
+mod policing;
+mod put;
+mod run;
+mod serving;
+mod table_line;
+mod telling;
+
+pub use disk::Disk;
+pub use failure::Failure;
+pub use folder::{Folder, FolderFault};
+pub use policing::{AloneFault, alone};
+pub use serving::serve;
+pub use telling::report;

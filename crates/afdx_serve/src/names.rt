@@ -1,0 +1,31 @@
+//! The names of captures in a folder.
+
+ghost use Rattle.std.specs.Prelude.{◌≡◌, map, string_bytes, IfOk};
+ghost use Rattle.afdx_session.specs.Texts.{texts_of};
+ghost use Rattle.afdx_serve.specs.Runs.{capture_name, names_in};
+
+use std::alloc::{AllocError, Global};
+
+/// The name of a port's capture: the folder's, `/port-`, the port's number, `.pcap`.
+pub(crate) fn capture_name(alloc: Global, folder: &str, port: u8) -> Result<String, AllocError>
+    ensures { IfOk result (λ name. string_bytes name ≡ capture_name folder.now port) }
+{
+    let mut name = String::from_str(alloc, folder)?;
+    write!(name, "/port-{port}.pcap")?;
+    Ok(name)
+}
+
+/// The names of these ports' captures.
+pub(crate) fn names_in(
+    alloc: Global,
+    folder: &str,
+    captures: &[(u8, Vec<u8>)],
+) -> Result<Vec<String>, AllocError>
+    ensures { IfOk result (λ names. map string_bytes names.items ≡ names_in folder.now (texts_of captures.now)) }
+{
+    let mut names = Vec::with_capacity(alloc, captures.len())?;
+    for capture in captures {
+        names.push(capture_name(alloc, folder, capture.0)?)?;
+    }
+    Ok(names)
+}

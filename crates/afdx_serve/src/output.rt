@@ -1,0 +1,29 @@
+//! Writing without a second try.
+
+ghost use Rattle.std.specs.Prelude.{OnOk};
+ghost use Rattle.std.specs.Io.KnownBytes.{Appends};
+ghost use Rattle.afdx_serve.specs.Output.{AppendsFront};
+
+use std::io::Write;
+
+/// A write failed.
+#[derive(Clone, Copy, Debug, PartialEq, Eq)]
+pub(crate) struct WriteFault;
+
+/// Writes all the bytes.
+///
+/// A write that fails, is interrupted or takes nothing is a fault and isn't tried again; some front of the
+/// bytes was written then. O(bytes).
+pub(crate) fn write_bytes<W: Write>(out: &mut W, bytes: &[u8]) -> Result<(), WriteFault>
+    ensures all { OnOk result (Appends (W.contents out.old) (W.contents out.new) bytes.now) }
+    ensures front { AppendsFront (W.contents out.old) (W.contents out.new) bytes.now }
+{
+    let mut rest = bytes;
+    while !rest.is_empty() {
+        match out.write(rest) {
+            Ok(0) | Err(_) => return Err(WriteFault),
+            Ok(count) => rest = rest.split_at(count).1,
+        }
+    }
+    Ok(())
+}

@@ -1,0 +1,92 @@
+//! The policing of one link, from bytes to bytes.
+
+ghost use Rattle.std.specs.Prelude.{◌≡◌, ◌≤◌, false, IsTrue, IfOk, IfErr};
+ghost use Rattle.afdx_account.specs.Account.{account_since};
+ghost use Rattle.afdx_serve.specs.Own.{is_own};
+ghost use Rattle.afdx_serve.specs.Answer.{IsAnswer, frame_of};
+ghost use Rattle.afdx_serve.specs.Offer.{IsOffered};
+ghost use Rattle.afdx_serve.specs.Faults.{IsFaultOf};
+
+use crate::own::{frame_size, is_own};
+use afdx_account::{ByteAccount, Meter};
+use afdx_pcap::{PcapFault, Record, Records, write_header, write_record};
+use afdx_words::Alone;
+use std::alloc::{AllocError, Allocator};
+use thiserror::Error;
+
+/// Why there is no answer.
+#[derive(Clone, Copy, Debug, PartialEq, Eq, Error)]
+pub enum AloneFault {
+    /// A growth was refused.
+    #[error("Memory")]
+    Memory,
+    /// The input is no capture, and this is its first fault.
+    #[error("Capture")]
+    Capture(PcapFault),
+}
+
+impl From<AllocError> for AloneFault {
+    ghost use Rattle.afdx_serve.specs.declared.policing.AloneFault.TheVariants.{Memory};
+
+    ghost from_gives = { λ _ e. e ≡ Memory };
+
+    fn from(_e: AllocError) -> AloneFault {
+        AloneFault::Memory
+    }
+}
+
+impl From<PcapFault> for AloneFault {
+    ghost use Rattle.afdx_serve.specs.Faults.{fault_of};
+
+    ghost from_gives = { λ fault e. e ≡ fault_of fault };
+
+    fn from(fault: PcapFault) -> AloneFault {
+        match fault {
+            PcapFault::Memory => AloneFault::Memory,
+            _ => AloneFault::Capture(fault),
+        }
+    }
+}
+
+/// Offers a frame that is the link's own to its account, and says whether it passes it.
+fn passes<A: Allocator>(link: &Alone, account: &mut ByteAccount, frame: &Record<A>) -> bool
+    requires { account_since account.old ≤ frame.now.stamp }
+    ensures own { IsTrue (is_own link.now frame.now) → IsOffered account.old account.new (frame_of frame.now) result }
+
+    // A frame that is not is not passed, and the account is left alone.
+    ensures others { is_own link.now frame.now ≡ false → (result ≡ false) × (account.new ≡ account.old) }
+{
+    is_own(link, frame) && account.offer(frame.stamp(), frame_size(frame))
+}
+
+/// Polices one link by itself: the capture of those of its own frames that its account passes, in order,
+/// their stamps and bytes unchanged.
+///
+/// A frame is the link's own where its verdict would be Clean in a table of the constant `03 00 00 00`
+/// with this one link, coming from this capture's port (profile).
+///
+/// # Errors
+///
+/// `Capture` with the first fault of an input that is no capture; `Memory` where a growth was refused.
+///
+/// One pass, which keeps one frame at a time: each frame's bytes are copied once into a record and, where it
+/// passes, once into the answer. O(input).
+pub fn alone<A: Allocator + Copy>(
+    alloc: A,
+    link: &Alone,
+    input: &[u8],
+) -> Result<Vec<u8, A>, AloneFault>
+    ensures answer { IfOk result (λ v. IsAnswer link.now input.now v.items) }
+    ensures fault { IfErr result (IsFaultOf input.now) }
+{
+    let mut answer = Vec::new(alloc);
+    write_header(&mut answer)?;
+    let mut account = ByteAccount::new(link.max_size, link.bag, link.jitter);
+    let mut frames = Records::new(alloc, input);
+    while let Some(frame) = frames.next()? {
+        if passes(link, &mut account, &frame) {
+            write_record(&mut answer, &frame)?;
+        }
+    }
+    Ok(answer)
+}

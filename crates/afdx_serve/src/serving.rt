@@ -1,0 +1,119 @@
+//! The whole program, over any reader, writers and folder.
+
+ghost use Rattle.std.specs.Prelude.{◌≡◌, ◌≢◌, map, string_bytes, MatchResult};
+ghost use Rattle.std.specs.Io.KnownBytes.{Keeps};
+ghost use Rattle.afdx_serve.specs.declared.failure.Failure.{Failure as Failing};
+ghost use Rattle.afdx_serve.specs.Lines.{line_of, status_of};
+ghost use Rattle.afdx_serve.specs.Output.{AppendsFront};
+ghost use Rattle.afdx_serve.specs.Serving.{world, Answers, FailsToAnswer, Performs, FailsToPerform, Serves, Fails};
+
+use crate::check::check;
+use crate::failure::Failure;
+use crate::folder::Folder;
+use crate::input::read_to_end;
+use crate::output::write_bytes;
+use crate::policing::alone;
+use crate::run::run;
+use crate::telling::report;
+use afdx_words::{Alone, NoRequest, Request, parse};
+use std::alloc::Global;
+use std::io::{Read, Write};
+
+/// Reads the input to its end and writes what is answered to it.
+fn answer<R: Read, O: Write>(
+    alloc: Global,
+    link: &Alone,
+    input: &mut R,
+    out: &mut O,
+) -> Result<(), Failure>
+    ensures { MatchResult result
+        (λ _. Answers link.now (R.remaining input.old) (O.contents out.old) (O.contents out.new))
+        (λ f. FailsToAnswer f link.now (R.remaining input.old) (O.contents out.old) (O.contents out.new)) }
+{
+    let bytes = read_to_end(alloc, input)?;
+    let text = alone(alloc, link, &bytes)?;
+    write_bytes(out, &text)?;
+    Ok(())
+}
+
+/// Does what is asked for.
+fn perform<R: Read, O: Write, F: Folder>(
+    alloc: Global,
+    request: &Request<'_>,
+    input: &mut R,
+    out: &mut O,
+    folder: &mut F,
+) -> Result<(), Failure>
+    ensures { MatchResult result
+        (λ _. Performs request.now (R.remaining input.old)
+        (world (O.contents out.old) (F.files folder.old) (F.failed folder.old)) (world (O.contents out.new) (F.files folder.new) (F.failed folder.new)))
+        (λ f. FailsToPerform f request.now (R.remaining input.old)
+        (world (O.contents out.old) (F.files folder.old) (F.failed folder.old)) (world (O.contents out.new) (F.files folder.new) (F.failed folder.new))) }
+{
+    match request {
+        Request::Alone(link) => answer(alloc, link, input, out),
+        Request::Check(path) => check(alloc, path, out, folder),
+        Request::Run(paths) => run(alloc, paths, out, folder),
+    }
+}
+
+/// Serves what the words ask for, help included.
+fn serve_words<R: Read, O: Write, F: Folder>(
+    alloc: Global,
+    words: &[String],
+    input: &mut R,
+    out: &mut O,
+    folder: &mut F,
+) -> Result<(), Failure>
+    ensures { MatchResult result
+        (λ _. Serves (map string_bytes words.now) (R.remaining input.old)
+        (world (O.contents out.old) (F.files folder.old) (F.failed folder.old)) (world (O.contents out.new) (F.files folder.new) (F.failed folder.new)))
+        (λ f. Fails f (map string_bytes words.now) (R.remaining input.old)
+        (world (O.contents out.old) (F.files folder.old) (F.failed folder.old)) (world (O.contents out.new) (F.files folder.new) (F.failed folder.new))) }
+{
+    match parse(alloc, words) {
+        Ok(request) => perform(alloc, &request, input, out, folder),
+        Err(NoRequest::Help(text)) => {
+            write_bytes(out, text.as_bytes())?;
+            Ok(())
+        }
+        Err(NoRequest::Usage) => Err(Failure::Usage),
+        Err(NoRequest::Memory) => Err(Failure::Memory),
+    }
+}
+
+/// Serves what the words ask for, of which the first is the program's name, and gives the status: 0 done,
+/// 2 refused words, 3 a refused table or capture, 4 a refused load, 5 memory or a device.
+///
+/// `afdx alone` reads `input` to its end and writes its answer on `out`; `afdx check TABLE` gets TABLE from `folder` and
+/// writes its lines on `out`; `afdx run TABLE IN OUT` gets TABLE, checks its load unless there is `--unchecked`, gets
+/// IN/port-1.pcap and so on, puts OUT/port-1.pcap and so on and writes the report on `out`; `--help` writes the help of `clap` on `out`. On another status than 0 one
+/// line goes to `err`, and a fault in writing it changes nothing. What is met before the answer is written leaves `out`
+/// as it was; where writing fails, a front of the answer was written.
+///
+/// No contract knows why a reader, a writer or a folder fails, or whether memory is left: that 5 comes only then, and
+/// that `err` holds its whole line where it takes it, is shown by tests.
+///
+/// O(words, input and files) beside the switch's own work, with at most 16,777,216 reads of `input`.
+pub fn serve<R: Read, O: Write, E: Write, F: Folder>(
+    alloc: Global,
+    words: &[String],
+    input: &mut R,
+    out: &mut O,
+    err: &mut E,
+    folder: &mut F,
+) -> u8
+    ensures served { result ≡ 0
+        → Serves (map string_bytes words.now) (R.remaining input.old)
+        (world (O.contents out.old) (F.files folder.old) (F.failed folder.old)) (world (O.contents out.new) (F.files folder.new) (F.failed folder.new))
+        × Keeps (E.contents err.old) (E.contents err.new) }
+    ensures failed { result ≢ 0 → (f : Failing) × (result ≡ status_of f)
+        × Fails f (map string_bytes words.now) (R.remaining input.old)
+        (world (O.contents out.old) (F.files folder.old) (F.failed folder.old)) (world (O.contents out.new) (F.files folder.new) (F.failed folder.new))
+        × AppendsFront (E.contents err.old) (E.contents err.new) (line_of f) }
+{
+    match serve_words(alloc, words, input, out, folder) {
+        Ok(()) => 0,
+        Err(failure) => report(alloc, &failure, err),
+    }
+}

@@ -1,0 +1,126 @@
+-- What an option's entry says, and that the program's command is one whose matches and faults are exact.
+use Rattle.std.proofs.Common.{◌≡◌, ℕ, ap, get_or, arith, Global, List, true, Option, Some, None, Result, Ok, Err, refl, sym, subst, ◌∙◌, inl, inr}
+use Rattle.std.specs.Prelude.{IfOk, false, MatchOption, Box, codes, option_map}
+use Rattle.std.specs.Box.{box_value}
+use Rattle.std.specs.Str.Parse.{ParsesUnsigned}
+use Rattle.clap.specs.Words.{AddsSubcommand, App, app_of, shape_of, with_subcommand, HasKind, IsAmong, Row, Text, fault_of, first_of, is_simple, is_simple_and_free, kind_of, one_text, rows_of, subcommand_name_of, subcommand_rows, subcommand_rows_of, ReadsOne}
+use Rattle.clap.specs.declared.builder.command.Command.{Command}
+use Rattle.clap.specs.declared.builder.command.Command.TheViews.{out-Command}
+use Rattle.clap.specs.declared.error.Error.{Error}
+use Rattle.clap.specs.declared.error.kind.ErrorKind.{ErrorKind}
+use Rattle.clap.specs.declared.error.kind.ErrorKind.TheVariants.{DisplayHelp, OutOfMemory}
+use Rattle.clap.specs.declared.parser.matches.ArgMatches.{ArgMatches}
+use Rattle.clap.specs.declared.parser.matches.ArgMatches.TheViews.{out-ArgMatches, out-SubCommand}
+use Rattle.clap.specs.declared.parser.matches.Found.{Found}
+use Rattle.clap.specs.declared.parser.matches.SubCommand.{SubCommand}
+use Rattle.clap.proofs.WalkLemmas.{one_text-rows}
+use Rattle.afdx_words.specs.declared.link.Alone.{Alone}
+use Rattle.afdx_words.specs.declared.request.NoRequest.{NoRequest}
+use Rattle.afdx_words.specs.declared.request.NoRequest.TheVariants.{Help, Usage, Memory}
+use Rattle.afdx_words.specs.declared.request.Paths.{Paths}
+use Rattle.afdx_words.specs.declared.request.Request.{Request}
+use Rattle.afdx_words.specs.declared.request.Request.TheVariants as request
+use Rattle.afdx_words.specs.Commands.{alone_app, check_app, run_app, program}
+use Rattle.afdx_words.specs.Requests.{HasNumber, HasLink, HasPaths, AsksFor, Explains, Reads}
+
+pub simple : is_simple program ≡ true
+unfolding program alone_app check_app run_app
+simple = refl
+
+pub simple_and_free : is_simple_and_free program ≡ true
+unfolding program alone_app check_app run_app
+simple_and_free = refl
+
+-- a text is one number, or none
+one_reading : {E : Type 0} (t : Text) (e : E) (n : ℕ) → ParsesUnsigned 64 10 t (Err e) → ParsesUnsigned {E = Unit {0}} 64 10 t (Ok n) → ⊥
+one_reading t e n fails reads = fails reads.0
+
+-- what is read of an option is the number of its entry
+pub has_number : {E : Type 0} (gives : Text → Result ℕ E → Type 0) → ((t : Text) (r : Result ℕ E) → gives t r → ParsesUnsigned 64 10 t r)
+    → (f : Found) (name : Text) (r : Option ℕ) → (one_text f name ≡ None → r ≡ None) → ((t : Text) → one_text f name ≡ Some t → ReadsOne gives t r)
+    → MatchOption r ((n : ℕ) → HasNumber name (rows_of f) n → ⊥) (HasNumber name (rows_of f))
+has_number gives reads f name None none value = λ n h.
+    let entry : one_text f name ≡ Some h.0 = one_text-rows f name ∙ h.1 in
+    let failed = value h.0 entry in
+    one_reading h.0 failed.0 n (reads h.0 (Err failed.0) failed.1) h.2
+has_number {E} gives reads f name (Some n) none value = go (one_text f name) refl
+  where
+    go : (o : Option Text) → one_text f name ≡ o → HasNumber name (rows_of f) n
+    go None e = absurd (let bad = none e in cc)
+    go (Some t) e = (t, sym (one_text-rows f name) ∙ e, reads t (Ok n) (value t e))
+
+-- nothing was returned
+pub of_none : {A : Type 0} (r : Option A) (P : Type 0) (Q : A → Type 0) → r ≡ None → P → MatchOption r P Q
+of_none None P Q e p = p
+of_none (Some x) P Q e p = absurd (cc)
+
+-- the subcommand that a parse entered, by its name and its entries
+pub entered : (m : ArgMatches) (name : Text) (rows : List Row) → Some name ≡ subcommand_name_of m → Some rows ≡ option_map (λ p. p.1) (subcommand_rows_of m)
+    → subcommand_rows_of m ≡ Some (name, rows)
+entered m name rows = go (out-ArgMatches m).subcommand
+  where
+    go : (sub : Option (Box SubCommand Global)) → Some name ≡ option_map (λ b. (out-SubCommand (box_value b)).name.now) sub → Some rows ≡ option_map (λ p. p.1) (subcommand_rows sub)
+        → subcommand_rows sub ≡ Some (name, rows)
+    go None n r = absurd (cc)
+    go (Some b) n r = cc
+
+-- ---- what a subcommand of a name asks for
+
+-- two names of one thing begin alike
+begins : (name a b : Text) → name ≡ a → name ≡ b → get_or a 0 0 ≡ get_or b 0 0
+begins name a b is_a is_b = ap (λ (t : Text). get_or t 0 0) (sym is_a ∙ is_b)
+
+module _ (sub : Option (Text × List Row)) (name : Text) (rows : List Row) (is : sub ≡ Some (name, rows)) where
+  pub asks : (r : Request) → AsksFor (Some (name, rows)) r → AsksFor sub r
+  asks r h = subst (λ (s : Option (Text × List Row)). AsksFor s r) (sym is) h
+
+  asks_none : ((r : Request) → AsksFor (Some (name, rows)) r → ⊥) → (r : Request) → AsksFor sub r → ⊥
+  asks_none none r h = none r (subst (λ (s : Option (Text × List Row)). AsksFor s r) is h)
+
+  pub no_link : name ≡ codes "alone" → ((link : Alone) → HasLink rows link → ⊥) → (r : Request) → AsksFor sub r → ⊥
+  no_link named none = asks_none go where
+    go : (r : Request) → AsksFor (Some (name, rows)) r → ⊥
+    go (request.Alone link) h = none link h.1
+    go (request.Check table) h = let bad : 97 ≡ 99 = begins name (codes "alone") (codes "check") named h.0 in absurd (omega (arith, bad))
+    go (request.Run paths) h = let bad : 97 ≡ 114 = begins name (codes "alone") (codes "run") named h.0 in absurd (omega (arith, bad))
+
+  pub no_table : name ≡ codes "check" → None ≡ first_of (codes "TABLE") rows → (r : Request) → AsksFor sub r → ⊥
+  no_table named none = asks_none go where
+    go : (r : Request) → AsksFor (Some (name, rows)) r → ⊥
+    go (request.Alone link) h = let bad : 99 ≡ 97 = begins name (codes "check") (codes "alone") named h.0 in absurd (omega (arith, bad))
+    go (request.Check table) h = let bad = none ∙ h.1 in absurd (cc)
+    go (request.Run paths) h = let bad : 99 ≡ 114 = begins name (codes "check") (codes "run") named h.0 in absurd (omega (arith, bad))
+
+  pub no_paths : name ≡ codes "run" → ((paths : Paths) → HasPaths rows paths → ⊥) → (r : Request) → AsksFor sub r → ⊥
+  no_paths named none = asks_none go where
+    go : (r : Request) → AsksFor (Some (name, rows)) r → ⊥
+    go (request.Alone link) h = let bad : 114 ≡ 97 = begins name (codes "run") (codes "alone") named h.0 in absurd (omega (arith, bad))
+    go (request.Check table) h = let bad : 114 ≡ 99 = begins name (codes "run") (codes "check") named h.0 in absurd (omega (arith, bad))
+    go (request.Run paths) h = none paths h.1
+
+  pub no_command : (name ≡ codes "alone" → ⊥) → (name ≡ codes "check" → ⊥) → (name ≡ codes "run" → ⊥) → (r : Request) → AsksFor sub r → ⊥
+  no_command alone check run = asks_none go where
+    go : (r : Request) → AsksFor (Some (name, rows)) r → ⊥
+    go (request.Alone link) h = alone h.0
+    go (request.Check table) h = check h.0
+    go (request.Run paths) h = run h.0
+
+-- an error of `clap`
+pub refused : (words : List Text) (e : Error) (n : NoRequest) → HasKind (fault_of program words) e → Explains (kind_of e) n → Reads words (Err n)
+refused words e (Help text) (inl memory) is = absurd (let bad : OutOfMemory ≡ DisplayHelp = sym memory ∙ is in cc)
+refused words e (Help text) (inr among) is = subst (λ (k : ErrorKind). IsAmong k (fault_of program words)) is among
+refused words e Usage (inl memory) is = absurd (is.1 memory)
+refused words e Usage (inr among) is = inl (kind_of e, among, is.0)
+refused words e Memory h is = tt
+
+-- ---- a command with one more subcommand
+
+pub with_one_more : (old sub new : Command) (app inner : App) → AddsSubcommand old sub new → (out-Command sub).has_globals ≡ false → app_of old ≡ app → app_of sub ≡ inner
+    → app_of new ≡ with_subcommand app inner.top
+with_one_more old sub new app inner adds local is_old is_sub =
+    adds.shape local ∙ ap (λ (a : App). with_subcommand a (shape_of sub)) is_old ∙ ap (λ (a : App). with_subcommand app a.top) is_sub
+
+pub if_one_more : {E : Type 0} (old sub : Command) (r : Result Command E) (app inner : App) → IfOk r (AddsSubcommand old sub) → (out-Command sub).has_globals ≡ false
+    → app_of old ≡ app → app_of sub ≡ inner → IfOk r (λ c. app_of c ≡ with_subcommand app inner.top)
+if_one_more old sub (Ok new) app inner adds local is_old is_sub = with_one_more old sub new app inner adds local is_old is_sub
+if_one_more old sub (Err e) app inner adds local is_old is_sub = tt

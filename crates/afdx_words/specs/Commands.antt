@@ -1,0 +1,38 @@
+-- The commands that the program has, as `clap` sees them.
+use Rattle.std.specs.Prelude.{codes, true, Some}
+use Rattle.clap.specs.Words.{App, Rule, Text, new_app, new_rule, with_rule, with_subcommand}
+use Rattle.clap.specs.Simple.{on_top}
+use Rattle.clap.specs.declared.builder.action.ArgAction.TheVariants.{SetTrue}
+use Rattle.clap.specs.declared.builder.value_parser.ValueParser.TheVariants.{Unsigned}
+
+-- an option with a whole number, which is required
+abbrev pub number_rule : Text → Rule
+number_rule name = record (new_rule name) { long = Some name; value_names = 1; required = true; parser = Some (Unsigned 0 18446744073709551615) }
+
+-- a word in its place, which is required
+abbrev pub path_rule : Text → Rule
+path_rule name = record (new_rule name) { required = true }
+
+abbrev pub flag_rule : Text → Rule
+flag_rule name = record (new_rule name) { long = Some name; action = Some SetTrue }
+
+-- afdx alone --id N --bag MS --jitter US --size N
+unfoldable pub alone_app : App
+alone_app =
+    with_rule (with_rule (with_rule (with_rule (new_app (codes "alone")) (number_rule (codes "id"))) (number_rule (codes "bag")))
+    (number_rule (codes "jitter"))) (number_rule (codes "size"))
+
+-- afdx check TABLE
+unfoldable pub check_app : App
+check_app = with_rule (new_app (codes "check")) (path_rule (codes "TABLE"))
+
+-- afdx run TABLE IN OUT [--unchecked]
+unfoldable pub run_app : App
+run_app =
+    with_rule (with_rule (with_rule (with_rule (new_app (codes "run")) (path_rule (codes "TABLE"))) (path_rule (codes "IN"))) (path_rule (codes "OUT")))
+    (flag_rule (codes "unchecked"))
+
+unfoldable pub program : App
+program =
+    with_subcommand (with_subcommand (with_subcommand (on_top (λ s. record s { subcommand_required = true }) (new_app (codes "afdx"))) alone_app.top) check_app.top)
+    run_app.top

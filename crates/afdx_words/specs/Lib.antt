@@ -1,0 +1,3 @@
+pub mod Link
+pub mod Commands
+pub mod Requests

@@ -1,0 +1,38 @@
+//! What the words of a command line ask for.
+
+use crate::link::Alone;
+
+/// The files of a run, as they were written.
+#[derive(Clone, Copy, Debug, PartialEq, Eq)]
+pub struct Paths<'a> {
+    /// The file of the configuration table.
+    pub table: &'a str,
+    /// The folder of the captures that come in.
+    pub input: &'a str,
+    /// The folder of the captures that go out.
+    pub output: &'a str,
+    /// Whether the table's load is left unchecked.
+    pub unchecked: bool,
+}
+
+/// A command with what it goes by.
+#[derive(Clone, Copy, Debug, PartialEq, Eq)]
+pub enum Request<'a> {
+    /// The policing of one link.
+    Alone(Alone),
+    /// The check of the table in this file.
+    Check(&'a str),
+    /// The switch over captures.
+    Run(Paths<'a>),
+}
+
+/// Why the words ask for no command.
+#[derive(Debug, Drop)]
+pub enum NoRequest {
+    /// They ask for help, and this is its text.
+    Help(String),
+    /// They are refused.
+    Usage,
+    /// A growth was refused.
+    Memory,
+}

@@ -1,0 +1,124 @@
+//! From the words to what they ask for.
+
+ghost use Rattle.std.specs.Prelude.{◌≡◌, ℕ, map, option_map, string_bytes, MatchOption};
+ghost use Rattle.clap.specs.Words.{first_of, found_of, kind_of, rows_of, subcommand_rows_of};
+ghost use Rattle.afdx_words.specs.declared.link.Alone.{Alone as Link};
+ghost use Rattle.afdx_words.specs.declared.request.Paths.{Paths as Files};
+ghost use Rattle.afdx_words.specs.declared.request.Request.{Request as Asked};
+ghost use Rattle.afdx_words.specs.Requests.{HasNumber, is_set, HasLink, HasPaths, AsksFor, Explains, Reads};
+
+use crate::command::program;
+use crate::link::Alone;
+use crate::request::{NoRequest, Paths, Request};
+use clap::error::ErrorKind;
+use clap::{ArgMatches, Error};
+use std::alloc::Global;
+
+/// The number of an option.
+fn number(matches: &ArgMatches<'_>, name: &str) -> Option<u64>
+    ensures { MatchOption result ((n : ℕ) → HasNumber name.now (rows_of (found_of matches.now)) n → ⊥)
+        (HasNumber name.now (rows_of (found_of matches.now))) }
+{
+    matches.get_one::<u64>(name)
+}
+
+/// The word in a place.
+fn word<'a>(matches: &ArgMatches<'a>, name: &str) -> Option<&'a str>
+    ensures { option_map (λ w. w.now) result ≡ first_of name.now (rows_of (found_of matches.now)) }
+{
+    matches.get_str(name)
+}
+
+/// Whether a flag is set: `clap` tells it as a word.
+fn flag(matches: &ArgMatches<'_>, name: &str) -> bool
+    ensures { result ≡ is_set name.now (rows_of (found_of matches.now)) }
+{
+    match word(matches, name) {
+        Some(text) => text == "true",
+        None => false,
+    }
+}
+
+/// The link of the four options.
+fn alone_of(matches: &ArgMatches<'_>) -> Option<Alone>
+    ensures { MatchOption result ((link : Link) → HasLink (rows_of (found_of matches.now)) link → ⊥)
+        (HasLink (rows_of (found_of matches.now))) }
+{
+    let id = number(matches, "id")?;
+    let bag = number(matches, "bag")?;
+    let jitter = number(matches, "jitter")?;
+    let size = number(matches, "size")?;
+    Alone::of_numbers(id, bag, jitter, size)
+}
+
+/// The files of a run.
+fn paths_of<'a>(matches: &ArgMatches<'a>) -> Option<Paths<'a>>
+    ensures { MatchOption result ((paths : Files) → HasPaths (rows_of (found_of matches.now)) paths → ⊥)
+        (HasPaths (rows_of (found_of matches.now))) }
+{
+    let table = word(matches, "TABLE")?;
+    let input = word(matches, "IN")?;
+    let output = word(matches, "OUT")?;
+    let unchecked = flag(matches, "unchecked");
+    Some(Paths {
+        table,
+        input,
+        output,
+        unchecked,
+    })
+}
+
+/// What the subcommand that was entered asks for.
+fn asked<'a>(matches: &ArgMatches<'a>) -> Option<Request<'a>>
+    ensures { MatchOption result ((request : Asked) → AsksFor (subcommand_rows_of matches.now) request → ⊥)
+        (AsksFor (subcommand_rows_of matches.now)) }
+{
+    let (name, inner) = matches.subcommand()?;
+    if name == "alone" {
+        let link = alone_of(inner)?;
+        Some(Request::Alone(link))
+    } else if name == "check" {
+        let table = word(inner, "TABLE")?;
+        Some(Request::Check(table))
+    } else if name == "run" {
+        let paths = paths_of(inner)?;
+        Some(Request::Run(paths))
+    } else {
+        None
+    }
+}
+
+/// What an error of `clap` means.
+fn refusal(alloc: Global, error: &Error) -> NoRequest
+    ensures { Explains (kind_of error.now) result }
+{
+    match error.kind() {
+        ErrorKind::DisplayHelp => match error.to_string(alloc) {
+            Ok(text) => NoRequest::Help(text),
+            Err(_) => NoRequest::Memory,
+        },
+        ErrorKind::OutOfMemory => NoRequest::Memory,
+        _ => NoRequest::Usage,
+    }
+}
+
+/// What the words ask for, of which the first is the program's name.
+///
+/// # Errors
+///
+/// `Help` with its text where `clap` is asked for it; `Memory` where a growth was refused; `Usage` where `clap` refuses
+/// the words for another cause, or an option's number is out of its limits.
+pub fn parse<'a>(alloc: Global, words: &'a [String]) -> Result<Request<'a>, NoRequest>
+    ensures { Reads (map string_bytes words.entry.now) result }
+{
+    let Ok(command) = program(alloc) else {
+        return Err(NoRequest::Memory);
+    };
+    match command.try_get_matches_from(words) {
+        Ok(matches) => match asked(&matches) {
+            Some(request) => Ok(request),
+            None => Err(NoRequest::Usage),
+        },
+        Err(error) => Err(refusal(alloc, &error)),
+    }
+}
