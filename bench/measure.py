@@ -1,11 +1,14 @@
 #!/usr/bin/env python3
-"""Times the built programs beside `cat` of the same files in the same run, and prints the ratios of the best times.
+"""Times the built programs beside `cat` of the same files in the same run, and prints the ratios of the median times.
 
 usage: bench/measure.py [RUNS]        5 runs where none is said
 
-The programs are built by `./test`, or by `rt run` in crates/recapture and crates/afdx. Needs 1 GB under /tmp.
+The programs are built by `./test`, or by `rt run` in crates/recapture and crates/afdx. Needs 2 GB under /tmp, and
+mergecap (Debian's wireshark-common).
 """
+import glob
 import os
+import statistics
 import struct
 import subprocess
 import sys
@@ -29,24 +32,72 @@ def write_capture(path, count, size, gap):
             file.write(struct.pack("<4I", seconds, nanos, len(frame), len(frame)) + frame)
 
 
-def seconds_of(words, source, target):
+def measured(words, source, target, status=0):
+    """The seconds that this command takes, and the megabytes of memory at its peak."""
     with open(source, "rb") as read, open(target, "wb") as written:
         start = time.perf_counter()
-        subprocess.run(words, stdin=read, stdout=written, check=True)
-        return time.perf_counter() - start
+        process = subprocess.Popen(words, stdin=read, stdout=written, stderr=subprocess.DEVNULL)
+        _, ended, used = os.wait4(process.pid, 0)
+        took = time.perf_counter() - start
+    process.returncode = os.waitstatus_to_exitcode(ended)
+    if process.returncode != status:
+        sys.exit(f"{words} ended with {process.returncode}")
+    return took, used.ru_maxrss / 1000
+
+
+def medians(commands, source, target, runs):
+    """The median seconds of each command, turn by turn; the megabytes of the last one."""
+    took = {name: [] for name in commands}
+    for _ in range(runs):
+        for name, (words, status) in commands.items():
+            seconds, memory = measured(words, source, target, status)
+            took[name].append(seconds)
+    return {name: statistics.median(seconds) for name, seconds in took.items()}, memory
 
 
 def compare(what, words, room, runs, count, size, gap):
     source, target = f"{room}/source", f"{room}/target"
     write_capture(source, count, size, gap)
-    best = {}
-    for _ in range(runs):
-        for name, command in (("cat", ["cat"]), ("program", words)):
-            took = seconds_of(command, source, target)
-            best[name] = min(best.get(name, took), took)
+    took, memory = medians({"cat": (["cat"], 0), "program": (words, 0)}, source, target, runs)
     megabytes = os.path.getsize(source) / 1e6
-    print(f"{what}: {count} frames of {size} bytes, {megabytes:.0f} MB: cat {best['cat']:.3f} s, "
-          f"program {best['program']:.3f} s, ratio {best['program'] / best['cat']:.1f}")
+    print(f"{what}: {count} frames of {size} bytes, {megabytes:.0f} MB: cat {took['cat']:.3f} s, "
+          f"program {took['program']:.3f} s in {memory:.0f} MB, ratio {took['program'] / took['cat']:.1f}")
+
+
+def make_network(room, count):
+    """By a process of its own, since the memory of this one would count as that of the commands it starts."""
+    subprocess.run([sys.executable, f"{TOP}/bench/network.py", room, str(count)], check=True)
+
+
+def compare_run(room, runs, count):
+    """`afdx run` on the network beside `cat` and `mergecap` of its captures."""
+    make_network(room, count)
+    os.makedirs(f"{room}/out", exist_ok=True)
+    table, captures = f"{room}/table.toml", sorted(glob.glob(f"{room}/in/*"))
+    took, memory = medians({
+        "cat": (["cat", *captures], 0),
+        "mergecap": (["mergecap", "-F", "nsecpcap", "-w", f"{room}/merged", *captures], 0),
+        "program": ([AFDX, "run", table, f"{room}/in", f"{room}/out", "--unchecked"], 0),
+    }, table, f"{room}/target", runs)
+    came, went = (sum(map(os.path.getsize, glob.glob(f"{room}/{side}/*"))) / 1e6 for side in ("in", "out"))
+    print(f"run: {count} frames on 24 ports, {came:.0f} MB in, {went:.0f} MB out: "
+          f"cat {took['cat']:.3f} s, mergecap {took['mergecap']:.3f} s, program {took['program']:.3f} s "
+          f"in {memory:.0f} MB, ratio to cat {took['program'] / took['cat']:.1f}, "
+          f"to mergecap {took['program'] / took['mergecap']:.1f}")
+
+
+def compare_check(room, runs):
+    """`afdx check` of the network's table beside a run that reads the table and ends at the first missing capture."""
+    table, nowhere = f"{room}/table.toml", f"{room}/nowhere"
+    make_network(room, 0)
+    took, memory = medians({
+        "cat": (["cat"], 0),
+        "reading": ([AFDX, "run", table, nowhere, nowhere, "--unchecked"], 5),
+        "check": ([AFDX, "check", table], 0),
+    }, table, f"{room}/target", runs)
+    print(f"check: a table of 24 ports and 4096 links, {os.path.getsize(table)} bytes: cat {took['cat']:.4f} s, "
+          f"reading alone {took['reading']:.4f} s, check {took['check']:.4f} s in {memory:.0f} MB, "
+          f"ratio to reading {took['check'] / took['reading']:.2f}")
 
 
 def main():
@@ -57,6 +108,10 @@ def main():
         compare("read and write", [RECAPTURE], room, runs, 65_359, 1518, 1000)
         compare("alone, all passed", alone, room, runs, 1_000_000, 100, 1_000_000)
         compare("alone, one in ten passed", alone, room, runs, 1_000_000, 1000, 65_876)
+    with tempfile.TemporaryDirectory() as room:
+        for count in (10_000, 100_000, 1_000_000):
+            compare_run(room, runs, count)
+        compare_check(room, runs)
 
 
 if __name__ == "__main__":

@@ -15,20 +15,6 @@ passes() {
         [ -s before.txt ] && cmp before.txt after.txt
 }
 
-# ends STATUS LINE FILE WORD..: with these words and this input, this status, this line and nothing on standard output.
-ends() {
-    local wanted=$1 line=$2 file=$3 status=0
-    shift 3
-    "$afdx" "$@" <"$file" >out.pcap 2>said.txt || status=$?
-    echo "status $status: $(cat said.txt)"
-    [ "$status" -eq "$wanted" ] && [ ! -s out.pcap ] && [ "$(cat said.txt)" = "$line" ]
-}
-
-# helps WORD..: the help is on standard output, with status 0.
-helps() {
-    "$afdx" "$@" >help.txt 2>said.txt && grep -q -- '--help\|-h' help.txt && [ ! -s said.txt ]
-}
-
 # fills_the_disk: an output that takes nothing is a write fault.
 fills_the_disk() {
     local status=0

@@ -54,3 +54,18 @@ shown() {
     tshark -r "$@" -T fields -e frame.time_epoch -e frame.cap_len 2>/dev/null &&
         tshark -r "$@" -x 2>/dev/null
 }
+
+# ends STATUS LINE FILE WORD..: $afdx ends with this status and this line for these words and this input, and nothing is
+# on standard output.
+ends() {
+    local wanted=$1 line=$2 file=$3 status=0
+    shift 3
+    "$afdx" "$@" <"$file" >answer.txt 2>said.txt || status=$?
+    echo "status $status: $(cat said.txt)"
+    [ "$status" -eq "$wanted" ] && [ ! -s answer.txt ] && [ "$(cat said.txt)" = "$line" ]
+}
+
+# helps WORD..: the help of $afdx is on standard output, with status 0.
+helps() {
+    "$afdx" "$@" >answer.txt 2>said.txt && grep -q -- '--help\|-h' answer.txt && [ ! -s said.txt ]
+}

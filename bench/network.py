@@ -1,0 +1,74 @@
+#!/usr/bin/env python3
+"""Makes a network of 24 ports and 4096 links, and captures of as many frames as are asked for; always the same.
+
+usage: bench/network.py ROOM FRAMES     writes ROOM/table.toml and ROOM/in/port-K.pcap
+Each link sends one frame of its greatest size in each gap, so all frames are passed, to one, two or three ports. The
+table is one that the load rules accept.
+"""
+import os
+import struct
+import sys
+
+PORTS = 24
+LINKS = 4096
+HEADER = bytes.fromhex("4d3cb2a1 02000400 00000000 00000000 00000400 01000000")
+RECORD = struct.Struct("<4I")
+ROUND = 128  # ms in which each link has sent once at least
+
+
+def gap(link):
+    return (32, 64, 128)[link // PORTS % 3]
+
+
+def size(link):
+    return 64 + link * 7 % 192
+
+
+def source(link):
+    return link % PORTS + 1
+
+
+def targets(link):
+    """One to three ports, none of them the link's own."""
+    return [(link + step) % PORTS + 1 for step in (1, 5, 11)[:link // 7 % 3 + 1]]
+
+
+def write_table(path):
+    with open(path, "w", encoding="utf-8") as file:
+        for port in range(1, PORTS + 1):
+            file.write(f"[[port]]\nid = {port}\nmbit = 100\nbuffer = 1000000\nmax_delay_us = 100000\n\n")
+        for link in range(LINKS):
+            file.write(f"[[link]]\nid = {link}\nfrom = {source(link)}\nto = {targets(link)}\nbag_ms = {gap(link)}\n"
+                       f"jitter_us = 0\nmax_size = {size(link)}\npriority = \"{'low' if link // PORTS % 4 else 'high'}\"\n\n")
+
+
+def captures_of(count):
+    """The captures of so many frames, by port from 1. Link L sends in each of its gaps at the same microsecond."""
+    captures = [bytearray(HEADER) for _ in range(PORTS + 1)]
+    slots = [[] for _ in range(ROUND)]
+    for link in range(LINKS):
+        data = bytes.fromhex("03000000") + link.to_bytes(2, "big") + bytes.fromhex("0200000000010800")
+        frame = (captures[source(link)], link // PORTS * 5000, data.ljust(size(link) - 4, b"\0"))
+        for slot in range(link * 37 % gap(link), ROUND, gap(link)):
+            slots[slot].append(frame)
+    milli = 0
+    while count:
+        seconds, rest = divmod(milli, 1000)
+        sending = slots[milli % ROUND][:count]
+        for capture, inside, data in sending:
+            capture += RECORD.pack(seconds, rest * 1_000_000 + inside, len(data), len(data)) + data
+        count -= len(sending)
+        milli += 1
+    return captures[1:]
+
+
+def write_network(room, count):
+    os.makedirs(f"{room}/in", exist_ok=True)
+    write_table(f"{room}/table.toml")
+    for port, capture in enumerate(captures_of(count), 1):
+        with open(f"{room}/in/port-{port}.pcap", "wb") as file:
+            file.write(capture)
+
+
+if __name__ == "__main__":
+    write_network(sys.argv[1], int(sys.argv[2]))

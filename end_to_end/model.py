@@ -1,0 +1,344 @@
+#!/usr/bin/env python3
+"""A plain and slow model of the switch, written from docs/RULES.md and docs/FORMATS.md and from nothing else.
+
+usage: model.py TABLE            prints the load of each port, then `accepted`
+       model.py TABLE IN OUT     reads IN/port-K.pcap, writes OUT/port-K.pcap, prints the counts
+
+Accounts are windows, not levels; a port's whole list of frames is scheduled anew for each arrival. Instants are
+nanoseconds, all numbers whole. A refused capture or load is one line on standard error, with status 3 or 4. The table
+itself is taken to be in order.
+"""
+import os
+import struct
+import sys
+import tomllib
+from dataclasses import dataclass, field
+from itertools import takewhile
+
+SECOND = 1_000_000_000
+LAST_SECOND = 4_294_967_295
+GREATEST_RECORD = 262_144
+CHECK_SEQUENCE = 4
+LINE_OVERHEAD = 20
+VERDICTS = ["cut", "short", "long", "foreign", "no-link", "wrong-port", "too-big", "clean"]
+PRIORITIES = ["high", "low"]
+# A load of LOAD_UNIT is a line that is always busy.
+LOAD_UNIT = 16 * 128_000_000
+
+
+class Refused(Exception):
+    """A line for standard error and a status."""
+
+    def __init__(self, line, status):
+        super().__init__(line)
+        self.line, self.status = line, status
+
+
+# --- The table ---
+
+
+@dataclass
+class Port:
+    id: int
+    tick: int  # ns of a byte
+    buffer: int  # bytes
+    max_delay: int  # ns
+
+
+@dataclass
+class Link:
+    id: int
+    source: int  # the ingress port
+    to: list
+    bag: int  # ns
+    jitter: int  # ns
+    max_size: int  # bytes
+    priority: str
+
+
+@dataclass
+class Table:
+    constant: bytes
+    ports: list  # by rising number
+    links: list  # in file order
+
+
+def table_of(text):
+    tree = tomllib.loads(text)
+    ports = [Port(port["id"], {10: 800, 100: 80}[port["mbit"]], port["buffer"], port["max_delay_us"] * 1000)
+             for port in tree.get("port", [])]
+    links = [Link(link["id"], link["from"], link["to"], link["bag_ms"] * 1_000_000, link["jitter_us"] * 1000,
+                  link["max_size"], link["priority"])
+             for link in tree.get("link", [])]
+    return Table(bytes.fromhex(tree.get("constant", "03000000")), sorted(ports, key=lambda port: port.id), links)
+
+
+# --- Captures ---
+
+
+@dataclass
+class Record:
+    stamp: int
+    original: int
+    data: bytes
+
+    @property
+    def size(self):
+        return len(self.data) + CHECK_SEQUENCE
+
+
+def records_of(data, port):
+    """The records of a capture, or its first fault."""
+
+    def refuse(fault, record=None):
+        where = f"port {port}" if record is None else f"port {port}, record {record}"
+        raise Refused(f"afdx: capture {fault}, {where}", 3)
+
+    if len(data) < 24:
+        refuse("P2 NoHeader")
+    kinds = {"a1b2c3d4": (">", 1000), "d4c3b2a1": ("<", 1000), "a1b23c4d": (">", 1), "4d3cb2a1": ("<", 1)}
+    if data[:4].hex() not in kinds:
+        refuse("P3 Magic")
+    order, unit = kinds[data[:4].hex()]
+    if struct.unpack_from(order + "HH", data, 4) != (2, 4):
+        refuse("P4 Version")
+    (link_type,) = struct.unpack_from(order + "I", data, 20)
+    if link_type != 1:
+        refuse(f"P5 LinkType {link_type}")
+    records, at = [], 24
+    while at < len(data):
+        number = len(records) + 1
+        if len(data) - at < 16:
+            refuse("P6 CutHeader", number)
+        seconds, fraction, captured, original = struct.unpack_from(order + "4I", data, at)
+        stamp = seconds * SECOND + fraction * unit
+        if captured > GREATEST_RECORD:
+            refuse("P7 Huge", number)
+        if fraction * unit >= SECOND:
+            refuse("P8 Fraction", number)
+        if seconds == LAST_SECOND:
+            refuse("P9 Late", number)
+        if records and stamp < records[-1].stamp:
+            refuse("P10 Backwards", number)
+        if len(data) - at - 16 < captured:
+            refuse("P11 CutData", number)
+        records.append(Record(stamp, original, data[at + 16:at + 16 + captured]))
+        at += 16 + captured
+    return records
+
+
+def capture_of(records):
+    """The one text of these records."""
+    text = bytes.fromhex("4d3cb2a1 02000400 00000000 00000000 00000400 01000000")
+    for record in records:
+        length = len(record.data)
+        text += struct.pack("<4I", *divmod(record.stamp, SECOND), length, length) + record.data
+    return text
+
+
+# --- From the merge to each port's offers ---
+
+
+@dataclass(eq=False)
+class Arrival:
+    port: int
+    record: Record
+    verdict: str = ""
+    link: Link = None  # of a clean frame
+    passed: bool = False
+
+    @property
+    def stamp(self):
+        return self.record.stamp
+
+    @property
+    def size(self):
+        return self.record.size
+
+
+def verdict_of(table, port, record):
+    """The first case that holds, and the link of a clean frame."""
+    if record.original > len(record.data):
+        return "cut", None
+    if record.size < 64:
+        return "short", None
+    if record.size > 1518:
+        return "long", None
+    if record.data[:4] != table.constant:
+        return "foreign", None
+    number = record.data[4] * 256 + record.data[5]
+    links = [link for link in table.links if link.id == number]
+    if not links:
+        return "no-link", None
+    if links[0].source != port:
+        return "wrong-port", None
+    if record.size > links[0].max_size:
+        return "too-big", None
+    return "clean", links[0]
+
+
+def conforms(link, passed, frame):
+    """Whether each window that ends with this frame, and begins with a passed one or with itself, keeps to the link's
+    allowance."""
+    sent = 0
+    for first in [frame] + passed[::-1]:
+        sent += first.size
+        length = frame.stamp - first.stamp
+        if sent * link.bag > link.max_size * (link.bag + link.jitter + length):
+            return False
+    return True
+
+
+def police(table, arrivals):
+    """Marks the frames that their links' accounts pass."""
+    for link in table.links:
+        passed = []
+        for frame in arrivals:
+            if frame.link is link and conforms(link, passed, frame):
+                passed.append(frame)
+                frame.passed = True
+
+
+# --- An output port ---
+
+
+@dataclass
+class Event:
+    frame: Arrival
+    sent: bool  # else aged
+    begin: int
+    end: int  # where it was sent: the instant when the line is free again
+
+
+def service(port, frames):
+    """All events of a port that is offered these frames and has room for them."""
+    events, waiting, free = [], list(frames), 0
+    while waiting:
+        begin = max(free, waiting[0].stamp)
+        there = list(takewhile(lambda frame: frame.stamp <= begin, waiting))
+        high = [frame for frame in there if frame.link.priority == "high"]
+        frame = (high or there)[0]
+        waiting.remove(frame)
+        free = begin
+        sent = begin - frame.stamp <= port.max_delay
+        if sent:
+            free += (frame.size + LINE_OVERHEAD) * port.tick
+        events.append(Event(frame, sent, begin, free))
+    return events
+
+
+def admission(port, frames):
+    """The frames that find room, each judged against a schedule of all that were admitted before it."""
+    admitted = []
+    for frame in frames:
+        gone = sum(event.frame.size for event in service(port, admitted)
+                   if (event.sent and event.end <= frame.stamp) or (not event.sent and event.begin < frame.stamp))
+        if sum(other.size for other in admitted) - gone + frame.size <= port.buffer:
+            admitted.append(frame)
+    return admitted
+
+
+# --- A run ---
+
+
+@dataclass
+class Outcome:
+    captures: dict = field(default_factory=dict)  # by port
+    report: str = ""
+
+
+def run(table, captures):
+    """What comes out of the switch for these captures, bytes by port."""
+    arrivals = []
+    for port in table.ports:
+        arrivals += [Arrival(port.id, record) for record in records_of(captures[port.id], port.id)]
+    arrivals.sort(key=lambda arrival: arrival.stamp)  # stable, so by port and place where stamps are equal
+    for arrival in arrivals:
+        arrival.verdict, arrival.link = verdict_of(table, arrival.port, arrival.record)
+    police(table, arrivals)
+
+    outcome, ins, links, outs = Outcome(), [], [], []
+    for port in table.ports:
+        verdicts = [arrival.verdict for arrival in arrivals if arrival.port == port.id]
+        counts = " ".join(f"{verdict} {verdicts.count(verdict)}" for verdict in VERDICTS)
+        ins.append(f"in {port.id} seen {len(verdicts)} {counts}")
+        offered = [arrival for arrival in arrivals if arrival.passed and port.id in arrival.link.to]
+        admitted = admission(port, offered)
+        events = service(port, admitted)
+        outcome.captures[port.id] = capture_of(
+            [Record(event.end, event.frame.size, event.frame.record.data) for event in events if event.sent])
+        for priority in PRIORITIES:
+            of_all, of_admitted = ([frame for frame in frames if frame.link.priority == priority]
+                                   for frames in (offered, admitted))
+            sent = [event.sent for event in events if event.frame.link.priority == priority]
+            outs.append(f"out {port.id} {priority} offered {len(of_all)} full {len(of_all) - len(of_admitted)} "
+                        f"aged {sent.count(False)} sent {sent.count(True)}")
+    for link in table.links:
+        passed = [arrival.passed for arrival in arrivals if arrival.link is link]
+        links.append(f"link {link.id} passed {passed.count(True)} policed {passed.count(False)}")
+    outcome.report = "".join(line + "\n" for line in ins + links + outs)
+    return outcome
+
+
+# --- The load ---
+
+
+def check(table):
+    """The lines of an accepted table, or the first rule that fails at the lowest port."""
+    lines = []
+    for port in table.ports:
+        links = [link for link in table.links if port.id in link.to]
+        if not links:
+            continue
+
+        def rate(which):
+            return sum(21 * port.tick * link.max_size * (128_000_000 // link.bag) for link in which)
+
+        def burst(which):
+            return sum(rate([link]) * (link.bag + link.jitter) for link in which)
+
+        def largest(which):
+            return max(((link.max_size + LINE_OVERHEAD) * port.tick for link in which), default=0)
+
+        high, low = ([link for link in links if link.priority == priority] for priority in PRIORITIES)
+        need, byte = burst(links) + LOAD_UNIT * largest(links), LOAD_UNIT * port.tick
+        rules = [("L1 Rate", rate(links), LOAD_UNIT), ("L2 Buffer", need, byte * port.buffer)]
+        high_bound = low_bound = "-"
+        if high:
+            high_bound = (burst(high) + LOAD_UNIT * largest(low)) // LOAD_UNIT
+            rules.append(("L3 HighDelay", high_bound, port.max_delay))
+        if low and rate(high) < LOAD_UNIT:
+            low_bound = burst(links) // (LOAD_UNIT - rate(high))
+            rules.append(("L4 LowDelay", low_bound, port.max_delay))
+        for rule, needed, limit in rules:
+            if needed > limit:
+                raise Refused(f"afdx: load {rule}, port {port.id}, need {needed}, limit {limit}", 4)
+        lines.append(f"port {port.id} rate {rate(links)} buffer {-(-need // byte)} high {high_bound} low {low_bound}")
+    return "".join(line + "\n" for line in lines + ["accepted"])
+
+
+def main(words):
+    with open(words[0], encoding="utf-8", newline="") as file:
+        table = table_of(file.read())
+    if len(words) == 1:
+        return check(table)
+    captures = {}
+    for port in table.ports:
+        with open(f"{words[1]}/port-{port.id}.pcap", "rb") as file:
+            captures[port.id] = file.read()
+    outcome = run(table, captures)
+    os.makedirs(words[2], exist_ok=True)
+    for port, capture in outcome.captures.items():
+        with open(f"{words[2]}/port-{port}.pcap", "wb") as file:
+            file.write(capture)
+    return outcome.report
+
+
+if __name__ == "__main__":
+    if len(sys.argv) not in (2, 4):
+        sys.exit(__doc__)
+    try:
+        sys.stdout.write(main(sys.argv[1:]))
+    except Refused as refused:
+        print(refused.line, file=sys.stderr)
+        sys.exit(refused.status)

@@ -1,0 +1,219 @@
+#!/usr/bin/env python3
+"""Checks model.py against numbers and bytes that were worked out by hand; prints what differs, and fails then."""
+import re
+import struct
+import sys
+
+import model
+
+PORT = "[[port]]\nid = {}\nmbit = 100\nbuffer = 100000\nmax_delay_us = 500000\n"
+LINK = ('[[link]]\nid = {}\nfrom = {}\nto = [{}]\nbag_ms = 1\njitter_us = 0\nmax_size = 1518\npriority = "{}"\n')
+SINGLE = PORT.format(1) + PORT.format(2) + LINK.format(10, 1, 2, "low")
+DOUBLE = "".join(PORT.format(port) for port in (1, 2, 3)) + LINK.format(10, 1, 3, "low") + LINK.format(20, 2, 3, "low")
+MIXED = (PORT.format(1) + PORT.format(2) + LINK.format(10, 1, 2, "low") + LINK.format(11, 1, 2, "low")
+         + LINK.format(12, 1, 2, "high"))
+HEADER = bytes.fromhex("4d3cb2a1 02000400 00000000 00000000 00000400 01000000")
+differing = []
+
+
+def same(name, got, wanted):
+    if got != wanted:
+        differing.append(f"{name}: got {got!r}, wanted {wanted!r}")
+
+
+def with_port(text, number, **values):
+    """The table with these values at this port."""
+    places = text.split("[[")
+    for key, value in values.items():
+        places[number] = re.sub(rf"(?m)^{key} = .*$", f"{key} = {value}", places[number])
+    return "[[".join(places)
+
+
+def frame(link, size, constant="03000000"):
+    head = bytes.fromhex(constant) + link.to_bytes(2, "big") + bytes.fromhex("0200000000010800")
+    return head.ljust(size - 4, b"\0")[:size - 4]
+
+
+def record(stamp, data, original=None, order="<", unit=1):
+    seconds, nanos = divmod(stamp, 10**9)
+    return struct.pack(order + "4I", seconds, nanos // unit, len(data), original or len(data)) + data
+
+
+def capture(*frames):
+    """A capture of (link, size, stamp)."""
+    return HEADER + b"".join(record(stamp, frame(link, size)) for link, size, stamp in frames)
+
+
+def run(text, *captures):
+    table = model.table_of(text)
+    return model.run(table, {port.id: data for port, data in zip(table.ports, captures)})
+
+
+def leaves(outcome, port):
+    """The stamps of a port's output in the order of the capture."""
+    return [record.stamp for record in model.records_of(outcome.captures[port], port)]
+
+
+def sees(name, outcome, *lines):
+    """The report has these lines."""
+    for line in lines:
+        same(name, line in outcome.report.splitlines(), True)
+
+
+def refuses(name, line, status, call, *arguments):
+    try:
+        call(*arguments)
+        same(name, "no refusal", line)
+    except model.Refused as refused:
+        same(name, (refused.line, refused.status), (line, status))
+
+
+def frames_and_accounts():
+    one = capture((10, 64, 0))
+    outcome = run(SINGLE, one, HEADER)
+    same("one frame", outcome.captures[1], HEADER)
+    same("one frame", outcome.captures[2], HEADER + bytes.fromhex("00000000401a00003c0000003c000000") + frame(10, 64))
+    outcome = run(SINGLE, HEADER, HEADER)
+    same("no frames", (outcome.captures[1], outcome.captures[2]), (HEADER, HEADER))
+    same("no frames", outcome.report, """\
+in 1 seen 0 cut 0 short 0 long 0 foreign 0 no-link 0 wrong-port 0 too-big 0 clean 0
+in 2 seen 0 cut 0 short 0 long 0 foreign 0 no-link 0 wrong-port 0 too-big 0 clean 0
+link 10 passed 0 policed 0
+out 1 high offered 0 full 0 aged 0 sent 0
+out 1 low offered 0 full 0 aged 0 sent 0
+out 2 high offered 0 full 0 aged 0 sent 0
+out 2 low offered 0 full 0 aged 0 sent 0
+""")
+    name = "policed a nanosecond early"
+    outcome = run(SINGLE, capture(*((10, 1518, at) for at in (0, 999_999, 1_000_000))), HEADER)
+    same(name, leaves(outcome, 2), [123_040, 1_123_040])
+    sees(name, outcome, "link 10 passed 2 policed 1")
+    outcome = run(SINGLE, capture((10, 1518, 0), (10, 1518, 4 * 10**18)), HEADER)
+    same("far apart", leaves(outcome, 2), [123_040, 4 * 10**18 + 123_040])
+    outcome = run(SINGLE, capture(*[(10, 64, 0)] * 24), HEADER)
+    same("burst of small frames", leaves(outcome, 2), [6_720 * count for count in range(1, 24)])
+    sees("burst of small frames", outcome, "link 10 passed 23 policed 1")
+    name = "babbler beside a quiet link"
+    babbled = run(DOUBLE, one, capture(*[(20, 1518, 0)] * 1000), HEADER)
+    same(name, leaves(babbled, 3), [6_720, 129_760])
+    sees(name, babbled, "link 20 passed 1 policed 999")
+    quiet = run(DOUBLE, one, HEADER, HEADER)
+    same(name, babbled.captures[3][:100], quiet.captures[3])
+
+
+def ports():
+    for name, high in (("high overtakes", 1), ("high at the instant of the end", 123_040)):
+        outcome = run(MIXED, capture((10, 1518, 0), (11, 64, 1), (12, 64, high)), HEADER)
+        left = model.records_of(outcome.captures[2], 2)
+        same(name, [(item.data[5], item.stamp) for item in left], [(10, 123_040), (12, 129_760), (11, 136_480)])
+    name = "buffer of one frame"
+    text = with_port(SINGLE, 2, buffer=1518).replace("jitter_us = 0", "jitter_us = 1000")
+    outcome = run(text, capture((10, 1518, 0), (10, 1518, 0), (10, 1518, 1_000_000)), HEADER)
+    same(name, leaves(outcome, 2), [123_040, 1_123_040])
+    sees(name, outcome, "link 10 passed 3 policed 0", "out 2 low offered 3 full 1 aged 0 sent 2")
+    refuses(name, "afdx: load L2 Buffer, port 2, need 904847360000000, limit 248709120000000", 4,
+            model.check, model.table_of(text))
+    name, text = "buffer at the edge", with_port(DOUBLE, 3, buffer=1518)
+    outcome = run(text, capture((10, 1518, 0)), capture((20, 1518, 123_040)), HEADER)
+    same(name, leaves(outcome, 3), [123_040, 246_080])
+    outcome = run(text, capture((10, 1518, 0)), capture((20, 1518, 123_039)), HEADER)
+    sees(name, outcome, "out 3 low offered 2 full 1 aged 0 sent 1")
+    text = with_port(DOUBLE, 3, buffer=1581, max_delay_us=100)
+    outcome = run(text, capture((10, 1517, 0)), capture((20, 64, 0), (20, 1518, 122_960)), HEADER)
+    same(name, leaves(outcome, 3), [122_960])
+    sees(name, outcome, "out 3 low offered 3 full 1 aged 1 sent 1")
+    outcome = run(text, capture((10, 1517, 0)), capture((20, 64, 0), (20, 1518, 122_961)), HEADER)
+    same(name, leaves(outcome, 3), [122_960, 246_001])
+    name, text = "age at the edge", with_port(DOUBLE, 3, max_delay_us=100)
+    outcome = run(text, capture((10, 1518, 0)), capture((20, 64, 0), (20, 64, 23_040)), HEADER)
+    same(name, leaves(outcome, 3), [123_040, 129_760])
+    sees(name, outcome, "out 3 low offered 3 full 0 aged 1 sent 2")
+    name = "full at one port only"
+    text = with_port(PORT.format(1) + PORT.format(2) + PORT.format(3), 2, mbit=10, buffer=64)
+    outcome = run(text + LINK.format(10, 1, "2, 3", "low"), capture((10, 64, 0), (10, 64, 0)), HEADER, HEADER)
+    same(name, (leaves(outcome, 2), leaves(outcome, 3)), ([67_200], [6_720, 13_440]))
+    sees(name, outcome, "out 2 low offered 2 full 1 aged 0 sent 1", "out 3 low offered 2 full 0 aged 0 sent 2")
+
+
+def captures():
+    name, late = "last second", 4_294_967_295 * 10**9
+    refuses(name, "afdx: capture P9 Late, port 1, record 1", 3, run, SINGLE, capture((10, 64, late)), HEADER)
+    outcome = run(SINGLE, capture((10, 64, late - 1)), HEADER)
+    same(name, outcome.captures[2][24:40].hex(), "ffffffff3f1a00003c0000003c000000")
+    headers = {"4d3cb2a1": ("<", 1), "a1b23c4d": (">", 1), "d4c3b2a1": ("<", 1000), "a1b2c3d4": (">", 1000)}
+    for magic, (order, unit) in headers.items():
+        data = bytes.fromhex(magic) + struct.pack(order + "HHIIII", 2, 4, 0, 0, 65_535, 1)
+        data += record(1_000_005_000, frame(10, 64), order=order, unit=unit)
+        outcome = run(SINGLE, data, HEADER)
+        same("four magics", outcome.captures[2],
+             HEADER + bytes.fromhex("01000000c82d00003c0000003c000000") + frame(10, 64))
+
+    name, one = "capture faults", capture((10, 64, 0))
+    same(name, model.records_of(one[:24], 1), [])
+
+    def refused(fault, data):
+        refuses(name, f"afdx: capture {fault}", 3, model.records_of, data, 1)
+
+    refused("P2 NoHeader, port 1", one[:23])
+    refused("P2 NoHeader, port 1", bytes(23))
+    refused("P3 Magic, port 1", bytes(24))
+    refused("P4 Version, port 1", HEADER[:6] + b"\3" + HEADER[7:])
+    refused("P5 LinkType 113, port 1", HEADER[:20] + struct.pack("<I", 113))
+    refused("P5 LinkType 65537, port 1", HEADER[:20] + struct.pack("<I", 65_537))
+    refused("P6 CutHeader, port 1, record 1", one[:39])
+    refused("P11 CutData, port 1, record 1", one[:40])
+    refused("P11 CutData, port 1, record 1", one[:99])
+    refused("P7 Huge, port 1, record 1", HEADER + struct.pack("<4I", 0, 0, 262_145, 0))
+    refused("P7 Huge, port 1, record 1", HEADER + struct.pack("<4I", 0, 10**9, 262_145, 0))
+    refused("P8 Fraction, port 1, record 1", HEADER + struct.pack("<4I", 0, 10**9, 60, 60))
+    micros = bytes.fromhex("d4c3b2a1") + HEADER[4:]
+    refused("P8 Fraction, port 1, record 1", micros + struct.pack("<4I", 0, 10**6, 60, 60))
+    refused("P10 Backwards, port 1, record 2", capture((10, 64, 10**9), (10, 64, 0)))
+    outcome = run(SINGLE, HEADER + record(0, bytes(262_144)), HEADER)
+    sees(name, outcome, "in 1 seen 1 cut 0 short 0 long 1 foreign 0 no-link 0 wrong-port 0 too-big 0 clean 0")
+
+
+def every_verdict():
+    text = DOUBLE.replace("max_size = 1518", "max_size = 500", 1)
+    first = [record(0, frame(10, 64), original=61), record(0, frame(10, 63)), record(0, frame(10, 1519)),
+             record(0, frame(10, 64, "02000000")), record(0, frame(11, 64)), record(0, frame(20, 64)),
+             record(0, frame(10, 501)), record(0, frame(10, 63, "02000000")), record(0, frame(10, 64))]
+    outcome = run(text, HEADER + b"".join(first), capture((10, 64, 0)), HEADER)
+    same("every verdict", leaves(outcome, 3), [6_720])
+    sees("every verdict", outcome,
+         "in 1 seen 9 cut 1 short 2 long 1 foreign 1 no-link 1 wrong-port 1 too-big 1 clean 1",
+         "in 2 seen 1 cut 0 short 0 long 0 foreign 0 no-link 0 wrong-port 1 too-big 0 clean 0")
+
+
+def load():
+    def says(name, text, *lines):
+        same(name, model.check(model.table_of(text)), "".join(line + "\n" for line in (*lines, "accepted")))
+
+    def fails(name, text, line):
+        refuses(name, f"afdx: load {line}", 4, model.check, model.table_of(text))
+
+    def equal_links(count):
+        return PORT.format(1) + PORT.format(2) + "".join(LINK.format(link + 1, 1, 2, "low") for link in range(count))
+
+    says("one link", SINGLE, "port 2 rate 326430720 buffer 3531 high - low 159390")
+    name = "six links fit"
+    says(name, with_port(equal_links(6), 2, buffer=13_493), "port 2 rate 1958584320 buffer 13493 high - low 956340")
+    fails(name, with_port(equal_links(6), 2, buffer=13_492),
+          "L2 Buffer, port 2, need 2210570240000000, limit 2210529280000000")
+    name = "rate too high"
+    fails(name, equal_links(7), "L1 Rate, port 2, need 2285015040, limit 2048000000")
+    slow = with_port(SINGLE, 2, mbit=10)
+    fails(name, slow, "L1 Rate, port 2, need 3264307200, limit 2048000000")
+    says(name, slow.replace("bag_ms = 1", "bag_ms = 2"), "port 2 rate 1632153600 buffer 3531 high - low 1593900")
+    name = "bounds of a mixed port"
+    text = PORT.format(1) + PORT.format(2) + LINK.format(10, 1, 2, "low") + LINK.format(12, 1, 2, "high")
+    says(name, text, "port 2 rate 652861440 buffer 5523 high 282430 low 379224")
+    fails(name, with_port(text, 2, max_delay_us=282), "L3 HighDelay, port 2, need 282430, limit 282000")
+    fails(name, with_port(text, 2, max_delay_us=283), "L4 LowDelay, port 2, need 379224, limit 283000")
+    says(name, with_port(text, 2, max_delay_us=380), "port 2 rate 652861440 buffer 5523 high 282430 low 379224")
+
+
+for part in (frames_and_accounts, ports, captures, every_verdict, load):
+    part()
+print("\n".join(differing) or "the model gives every worked number")
+sys.exit(bool(differing))
