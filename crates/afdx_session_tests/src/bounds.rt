@@ -1,7 +1,7 @@
 //! Ports as busy as an accepted table lets them be.
 
 use crate::tables::{LinkText, PortText, link, port, table};
-use crate::traffic::{HEADER, capture, large, leave, outcome, small};
+use crate::traffic::{HEADER, capture, large, leaves, small};
 use afdx_load::{Bounds, bounds, load};
 use afdx_table::read;
 use std::alloc::Global;
@@ -46,7 +46,6 @@ fn six_links_fit(rt: HostRuntime) -> Result<(), Fail> {
         large(6, 0),
     ];
     let came = capture(alloc, &frames)?;
-    let done = outcome(alloc, &text, &[&came, &HEADER])?;
     let ends = [
         (123_040, 1514, 1),
         (246_080, 1514, 2),
@@ -55,7 +54,7 @@ fn six_links_fit(rt: HostRuntime) -> Result<(), Fail> {
         (615_200, 1514, 5),
         (738_240, 1514, 6),
     ];
-    assert!(rt; leave(alloc, &done, 2, &ends)?);
+    assert!(rt; leaves(alloc, &text, &[&came, &HEADER], 2, &ends, "")?);
     assert_eq!(rt; bounds_at(alloc, &text, 2)?.low, Some(956_340));
     Ok(())
 }
@@ -72,9 +71,8 @@ fn high_bound_but_a_nanosecond(rt: HostRuntime) -> Result<(), Fail> {
     };
     let text = table(alloc, &[port(1), port(2)], &[link(10, 1, "[2]"), high])?;
     let came = capture(alloc, &[large(10, 0), small(12, 1), small(12, 1)])?;
-    let done = outcome(alloc, &text, &[&came, &HEADER])?;
     let ends = [(123_040, 1514, 10), (129_760, 60, 12), (136_480, 60, 12)];
-    assert!(rt; leave(alloc, &done, 2, &ends)?);
+    assert!(rt; leaves(alloc, &text, &[&came, &HEADER], 2, &ends, "")?);
     assert_eq!(rt; bounds_at(alloc, &text, 2)?.high, Some(136_480));
     Ok(())
 }
@@ -93,14 +91,13 @@ fn low_bound_exactly(rt: HostRuntime) -> Result<(), Fail> {
         alloc,
         &[small(10, 0), small(10, 0), small(11, 0), small(11, 0)],
     )?;
-    let done = outcome(alloc, &text, &[&came, &HEADER])?;
     let ends = [
         (6_720, 60, 10),
         (13_440, 60, 10),
         (20_160, 60, 11),
         (26_880, 60, 11),
     ];
-    assert!(rt; leave(alloc, &done, 2, &ends)?);
+    assert!(rt; leaves(alloc, &text, &[&came, &HEADER], 2, &ends, "")?);
     assert_eq!(rt; bounds_at(alloc, &text, 2)?.low, Some(26_880));
     Ok(())
 }

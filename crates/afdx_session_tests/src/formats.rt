@@ -1,7 +1,9 @@
 //! Captures of all four magics, and the last second.
 
 use crate::tables::single;
-use crate::traffic::{FRAME, HEADER, Sample, capture, joined, outcome, puts_out, refusal, small};
+use crate::traffic::{
+    FRAME, HEADER, Sample, capture, joined, leaves, outcome, puts, puts_out, refusal, small,
+};
 use afdx_pcap::PcapFault;
 use afdx_session::RunFault;
 use std::test::*;
@@ -50,8 +52,7 @@ fn four_magics(rt: HostRuntime) -> Result<(), Fail> {
         (HEADER, AT_LITTLE_NANOS),
     ] {
         let came = joined(alloc, &[&header, &head, &FRAME])?;
-        let done = outcome(alloc, &text, &[&came, &HEADER])?;
-        assert!(rt; puts_out(&done, 2, &left));
+        assert!(rt; puts(alloc, &text, &[&came, &HEADER], 2, &left)?);
     }
     Ok(())
 }

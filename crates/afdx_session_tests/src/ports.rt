@@ -1,9 +1,7 @@
 //! Links from two ports to a third.
 
 use crate::tables::{LinkText, PortText, double, link, port, table};
-use crate::traffic::{
-    HEADER, Sample, capture, frame, large, leave, outcome, outcome_unchecked, small, tells,
-};
+use crate::traffic::{HEADER, Sample, capture, frame, large, leaves, leaves_unchecked, small};
 use std::test::*;
 
 #[test]
@@ -16,11 +14,27 @@ fn buffer_at_the_edge(rt: HostRuntime) -> Result<(), Fail> {
     let text = double(alloc, narrow)?;
     let first = capture(alloc, &[large(10, 0)])?;
     let at_end = capture(alloc, &[large(20, 123_040)])?;
-    let done = outcome_unchecked(alloc, &text, &[&first, &at_end, &HEADER])?;
-    assert!(rt; leave(alloc, &done, 3, &[(123_040, 1514, 10), (246_080, 1514, 20)])?);
+    assert!(rt;
+        leaves_unchecked(
+            alloc,
+            &text,
+            &[&first, &at_end, &HEADER],
+            3,
+            &[(123_040, 1514, 10), (246_080, 1514, 20)],
+            ""
+        )?
+    );
     let before_end = capture(alloc, &[large(20, 123_039)])?;
-    let done = outcome_unchecked(alloc, &text, &[&first, &before_end, &HEADER])?;
-    assert!(rt; leave(alloc, &done, 3, &[(123_040, 1514, 10)])?);
+    assert!(rt;
+        leaves_unchecked(
+            alloc,
+            &text,
+            &[&first, &before_end, &HEADER],
+            3,
+            &[(123_040, 1514, 10)],
+            ""
+        )?
+    );
     Ok(())
 }
 
@@ -35,11 +49,27 @@ fn buffer_beside_an_aged_frame(rt: HostRuntime) -> Result<(), Fail> {
     let text = double(alloc, hasty)?;
     let first = capture(alloc, &[frame(10, 1513, 0)])?;
     let at_once = capture(alloc, &[small(20, 0), large(20, 122_960)])?;
-    let done = outcome_unchecked(alloc, &text, &[&first, &at_once, &HEADER])?;
-    assert!(rt; leave(alloc, &done, 3, &[(122_960, 1513, 10)])?);
+    assert!(rt;
+        leaves_unchecked(
+            alloc,
+            &text,
+            &[&first, &at_once, &HEADER],
+            3,
+            &[(122_960, 1513, 10)],
+            ""
+        )?
+    );
     let later = capture(alloc, &[small(20, 0), large(20, 122_961)])?;
-    let done = outcome_unchecked(alloc, &text, &[&first, &later, &HEADER])?;
-    assert!(rt; leave(alloc, &done, 3, &[(122_960, 1513, 10), (246_001, 1514, 20)])?);
+    assert!(rt;
+        leaves_unchecked(
+            alloc,
+            &text,
+            &[&first, &later, &HEADER],
+            3,
+            &[(122_960, 1513, 10), (246_001, 1514, 20)],
+            ""
+        )?
+    );
     Ok(())
 }
 
@@ -53,8 +83,16 @@ fn age_at_the_edge(rt: HostRuntime) -> Result<(), Fail> {
     let text = double(alloc, hasty)?;
     let first = capture(alloc, &[large(10, 0)])?;
     let second = capture(alloc, &[small(20, 0), small(20, 23_040)])?;
-    let done = outcome_unchecked(alloc, &text, &[&first, &second, &HEADER])?;
-    assert!(rt; leave(alloc, &done, 3, &[(123_040, 1514, 10), (129_760, 60, 20)])?);
+    assert!(rt;
+        leaves_unchecked(
+            alloc,
+            &text,
+            &[&first, &second, &HEADER],
+            3,
+            &[(123_040, 1514, 10), (129_760, 60, 20)],
+            ""
+        )?
+    );
     Ok(())
 }
 
@@ -97,11 +135,18 @@ fn every_verdict(rt: HostRuntime) -> Result<(), Fail> {
         ],
     )?;
     let second = capture(alloc, &[small(10, 0)])?;
-    let done = outcome(alloc, &text, &[&first, &second, &HEADER])?;
-    assert!(rt; leave(alloc, &done, 3, &[(6_720, 60, 10)])?);
     let line =
         "in 1 seen 9 cut 1 short 2 long 1 foreign 1 no-link 1 wrong-port 1 too-big 1 clean 1\n";
-    assert!(rt; tells(alloc, &done, line)?);
+    assert!(rt;
+        leaves(
+            alloc,
+            &text,
+            &[&first, &second, &HEADER],
+            3,
+            &[(6_720, 60, 10)],
+            line
+        )?
+    );
     Ok(())
 }
 
@@ -111,10 +156,25 @@ fn babbler_beside_a_quiet_link(rt: HostRuntime) -> Result<(), Fail> {
     let text = double(alloc, port(3))?;
     let quiet = capture(alloc, &[small(10, 0)])?;
     let babble = capture(alloc, &[large(20, 0); 1000])?;
-    let done = outcome(alloc, &text, &[&quiet, &babble, &HEADER])?;
-    assert!(rt; leave(alloc, &done, 3, &[(6_720, 60, 10), (129_760, 1514, 20)])?);
-    assert!(rt; tells(alloc, &done, "link 20 passed 1 policed 999\n")?);
-    let done = outcome(alloc, &text, &[&quiet, &HEADER, &HEADER])?;
-    assert!(rt; leave(alloc, &done, 3, &[(6_720, 60, 10)])?);
+    assert!(rt;
+        leaves(
+            alloc,
+            &text,
+            &[&quiet, &babble, &HEADER],
+            3,
+            &[(6_720, 60, 10), (129_760, 1514, 20)],
+            "link 20 passed 1 policed 999\n"
+        )?
+    );
+    assert!(rt;
+        leaves(
+            alloc,
+            &text,
+            &[&quiet, &HEADER, &HEADER],
+            3,
+            &[(6_720, 60, 10)],
+            ""
+        )?
+    );
     Ok(())
 }

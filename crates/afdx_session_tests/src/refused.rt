@@ -1,7 +1,7 @@
 //! Runs that are refused.
 
 use crate::tables::single;
-use crate::traffic::{HEADER, Sample, capture, frame, leave, outcome, refusal, small};
+use crate::traffic::{HEADER, Sample, capture, frame, leaves, refusal, small};
 use afdx_pcap::PcapFault;
 use afdx_session::RunFault;
 use std::alloc::Global;
@@ -96,11 +96,9 @@ fn nearly_capture_faults(rt: HostRuntime) -> Result<(), Fail> {
     let alloc = rt.alloc();
     let text = single(alloc)?;
     let cut = damaged(alloc, 0, &HEADER_START, 24)?;
-    let done = outcome(alloc, &text, &[&cut, &HEADER])?;
-    assert!(rt; leave(alloc, &done, 2, &[])?);
+    assert!(rt; leaves(alloc, &text, &[&cut, &HEADER], 2, &[], "")?);
     let largest = capture(alloc, &[frame(10, 262_144, 0)])?;
-    let done = outcome(alloc, &text, &[&largest, &HEADER])?;
-    assert!(rt; leave(alloc, &done, 2, &[])?);
+    assert!(rt; leaves(alloc, &text, &[&largest, &HEADER], 2, &[], "")?);
     Ok(())
 }
 

@@ -2,8 +2,8 @@
 
 use crate::tables::{LinkText, PortText, link, mixed, port, single, table};
 use crate::traffic::{
-    FRAME, HEADER, Sample, capture, frame, joined, large, leave, outcome, outcome_unchecked,
-    puts_out, small, tells,
+    FRAME, HEADER, Sample, capture, joined, large, leave, leaves, leaves_unchecked, outcome,
+    outcome_unchecked, puts_out, small,
 };
 use std::test::*;
 
@@ -54,16 +54,16 @@ fn policed_a_nanosecond_early(rt: HostRuntime) -> Result<(), Fail> {
         alloc,
         &[large(10, 0), large(10, 999_999), large(10, 1_000_000)],
     )?;
-    let done = outcome(alloc, &text, &[&came, &HEADER])?;
     assert!(rt;
-        leave(
+        leaves(
             alloc,
-            &done,
+            &text,
+            &[&came, &HEADER],
             2,
-            &[(123_040, 1514, 10), (1_123_040, 1514, 10)]
+            &[(123_040, 1514, 10), (1_123_040, 1514, 10)],
+            "link 10 passed 2 policed 1\n"
         )?
     );
-    assert!(rt; tells(alloc, &done, "link 10 passed 2 policed 1\n")?);
     Ok(())
 }
 
@@ -76,9 +76,8 @@ fn far_apart(rt: HostRuntime) -> Result<(), Fail> {
         ..large(10, 0)
     };
     let came = capture(alloc, &[large(10, 0), late])?;
-    let done = outcome(alloc, &text, &[&came, &HEADER])?;
     let ends = [(123_040, 1514, 10), (4_000_000_000_000_123_040, 1514, 10)];
-    assert!(rt; leave(alloc, &done, 2, &ends)?);
+    assert!(rt; leaves(alloc, &text, &[&came, &HEADER], 2, &ends, "")?);
     Ok(())
 }
 
@@ -87,7 +86,6 @@ fn burst_of_small_frames(rt: HostRuntime) -> Result<(), Fail> {
     let alloc = rt.alloc();
     let text = single(alloc)?;
     let came = capture(alloc, &[small(10, 0); 24])?;
-    let done = outcome(alloc, &text, &[&came, &HEADER])?;
     let mut ends = [(0, 60, 10); 23];
     let mut end = 0u64;
     for place in 0..23 {
@@ -95,7 +93,7 @@ fn burst_of_small_frames(rt: HostRuntime) -> Result<(), Fail> {
         ends[place].0 = end;
     }
     assert_eq!(rt; end, 154_560);
-    assert!(rt; leave(alloc, &done, 2, &ends)?);
+    assert!(rt; leaves(alloc, &text, &[&came, &HEADER], 2, &ends, "")?);
     Ok(())
 }
 
@@ -104,9 +102,8 @@ fn high_overtakes(rt: HostRuntime) -> Result<(), Fail> {
     let alloc = rt.alloc();
     let text = mixed(alloc)?;
     let came = capture(alloc, &[large(10, 0), small(11, 1), small(12, 1)])?;
-    let done = outcome(alloc, &text, &[&came, &HEADER])?;
     let ends = [(123_040, 1514, 10), (129_760, 60, 12), (136_480, 60, 11)];
-    assert!(rt; leave(alloc, &done, 2, &ends)?);
+    assert!(rt; leaves(alloc, &text, &[&came, &HEADER], 2, &ends, "")?);
     Ok(())
 }
 
@@ -115,9 +112,8 @@ fn high_at_the_instant_of_the_end(rt: HostRuntime) -> Result<(), Fail> {
     let alloc = rt.alloc();
     let text = mixed(alloc)?;
     let came = capture(alloc, &[large(10, 0), small(11, 1), small(12, 123_040)])?;
-    let done = outcome(alloc, &text, &[&came, &HEADER])?;
     let ends = [(123_040, 1514, 10), (129_760, 60, 12), (136_480, 60, 11)];
-    assert!(rt; leave(alloc, &done, 2, &ends)?);
+    assert!(rt; leaves(alloc, &text, &[&came, &HEADER], 2, &ends, "")?);
     Ok(())
 }
 
@@ -134,16 +130,16 @@ fn buffer_of_one_frame(rt: HostRuntime) -> Result<(), Fail> {
     };
     let text = table(alloc, &[port(1), narrow], &[early])?;
     let came = capture(alloc, &[large(10, 0), large(10, 0), large(10, 1_000_000)])?;
-    let done = outcome_unchecked(alloc, &text, &[&came, &HEADER])?;
     assert!(rt;
-        leave(
+        leaves_unchecked(
             alloc,
-            &done,
+            &text,
+            &[&came, &HEADER],
             2,
-            &[(123_040, 1514, 10), (1_123_040, 1514, 10)]
+            &[(123_040, 1514, 10), (1_123_040, 1514, 10)],
+            "out 2 low offered 3 full 1 aged 0 sent 2\n"
         )?
     );
-    assert!(rt; tells(alloc, &done, "out 2 low offered 3 full 1 aged 0 sent 2\n")?);
     Ok(())
 }
 

@@ -183,3 +183,42 @@ pub(crate) fn leave(
     }
     Ok(false)
 }
+
+/// Whether exactly these frames leave at a port, where these captures come in and the table is checked, and the report has the
+/// line.
+pub(crate) fn leaves(
+    alloc: Global,
+    table: &str,
+    texts: &[&[u8]],
+    port: u8,
+    expected: &[(u64, usize, u8)],
+    line: &str,
+) -> Result<bool, Fail> {
+    let done = outcome(alloc, table, texts)?;
+    Ok(leave(alloc, &done, port, expected)? && tells(alloc, &done, line)?)
+}
+
+/// The same where the table is not checked.
+pub(crate) fn leaves_unchecked(
+    alloc: Global,
+    table: &str,
+    texts: &[&[u8]],
+    port: u8,
+    expected: &[(u64, usize, u8)],
+    line: &str,
+) -> Result<bool, Fail> {
+    let done = outcome_unchecked(alloc, table, texts)?;
+    Ok(leave(alloc, &done, port, expected)? && tells(alloc, &done, line)?)
+}
+
+/// Whether a port puts out exactly these bytes, where these captures come in and the table is checked.
+pub(crate) fn puts(
+    alloc: Global,
+    table: &str,
+    texts: &[&[u8]],
+    port: u8,
+    expected: &[u8],
+) -> Result<bool, Fail> {
+    let done = outcome(alloc, table, texts)?;
+    Ok(puts_out(&done, port, expected))
+}
