@@ -140,16 +140,6 @@ map-passed_after frame_of t passed (x ∷ xs) =
       | inr not ↦ rw not (map-passed_after frame_of t passed xs)
     ]
 
--- and however its things are seen, as long as their frames are the same
-pub passed_after-image : {A B : Type 0} (image : A → B) (frame_of : B → Frame) (t : Terms) (passed : List Frame) (xs : List A)
-    → map image (passed_after (λ (x : A). frame_of (image x)) t passed xs) ≡ passed_after frame_of t passed (map image xs)
-passed_after-image image frame_of t passed [] = refl
-passed_after-image image frame_of t passed (x ∷ xs) =
-    elim (cases_Bool (conforms t passed (frame_of (image x)))) [
-      | inl was ↦ rw was (ap (λ (ys : List _). image x ∷ ys) (passed_after-image image frame_of t (passed ++ frame_of (image x) ∷ []) xs))
-      | inr not ↦ rw not (passed_after-image image frame_of t passed xs)
-    ]
-
 -- the same of frames themselves
 pub passed_frames-push : (t : Terms) (frames : List Frame) (f : Frame)
     → passed_frames t (frames ++ f ∷ [])

@@ -1,8 +1,11 @@
 -- The laws of policing, over the definitions alone.
-use Rattle.std.specs.Prelude.{◌≡◌, ◌↔◌, ℕ, ◌-◌, ◌≤◌, nat_le, List, [], ◌∷◌, ◌++◌, map, IsTrue, if◌then◌else◌}
+use Rattle.std.specs.Prelude.{◌≡◌, ◌↔◌, ℕ, ◌*◌, ◌-◌, ◌≤◌, nat_le, List, [], ◌∷◌, ◌++◌, map, IsTrue, if◌then◌else◌}
 use Rattle.std.specs.List.{AllByRecursion}
+use Rattle.afdx_units.specs.declared.bag.Bag.{Bag}
+use Rattle.afdx_units.specs.declared.line.Speed.{Speed}
+use Rattle.afdx_units.specs.Line.{cost_of}
 use Rattle.afdx_account.specs.declared.frame.Frame.{Frame}
-use Rattle.afdx_account.specs.Policing.{Terms, Conforms, conforms, passed_of, passed_frames}
+use Rattle.afdx_account.specs.Policing.{Terms, Conforms, byte_terms, byte_weight, conforms, passed_of, passed_frames}
 use Rattle.afdx_account.specs.Level.{InOrder, headroom, credited_level, stepped}
 
 -- a full account that goes step by step passes exactly the frames that keep to their allowances in all windows
@@ -23,6 +26,12 @@ NextJoinsWhereItConforms A = (frame_of : A → Frame) (t : Terms) (xs : List A) 
     then passed_of frame_of t xs ++ x ∷ []
     else passed_of frame_of t xs)
 
+-- the same of frames themselves
+abbrev pub NextFrameJoinsWhereItConforms : Type 0
+NextFrameJoinsWhereItConforms = (t : Terms) (frames : List Frame) (f : Frame)
+    → passed_frames t (frames ++ f ∷ [])
+    ≡ (if conforms t (passed_frames t frames) f then passed_frames t frames ++ f ∷ [] else passed_frames t frames)
+
 -- the frames of what is passed of a list are the frames passed of its frames
 abbrev pub PassedByTheirFrames : Type 0 → Type 0
 PassedByTheirFrames A = (frame_of : A → Frame) (t : Terms) (xs : List A)
@@ -42,3 +51,8 @@ HeadroomDecides = (t : Terms) (frames : List Frame) (f : Frame) → AllByRecursi
 abbrev pub HeadroomIsDebited : Type 0
 HeadroomIsDebited = (t : Terms) (passed : List Frame) (f : Frame)
     → headroom t (passed ++ f ∷ []) f.stamp ≡ headroom t passed f.stamp - t.price f.size
+
+-- what a frame costs in bytes pays for its line time
+abbrev pub BytePricesPay : Type 0
+BytePricesPay = (max_size : ℕ) (bag : Bag) (jitter : ℕ) (speed : Speed) (size : ℕ) → 64 ≤ size
+    → 2048000000 * cost_of speed size ≤ byte_weight bag speed * (byte_terms max_size bag jitter).price size

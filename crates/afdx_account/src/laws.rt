@@ -1,6 +1,6 @@
 //! Laws over the definitions: functions that do nothing, whose contracts are the laws.
 
-ghost use Rattle.afdx_account.specs.Laws.{StepsPassWhatConforms, ConformingIsTested, NextJoinsWhereItConforms, PassedByTheirFrames, HeadroomIsCredited, HeadroomDecides, HeadroomIsDebited};
+ghost use Rattle.afdx_account.specs.Laws.{StepsPassWhatConforms, ConformingIsTested, NextJoinsWhereItConforms, NextFrameJoinsWhereItConforms, PassedByTheirFrames, HeadroomIsCredited, HeadroomDecides, HeadroomIsDebited, BytePricesPay};
 
 /// A full account that goes step by step, over frames whose stamps don't fall, passes exactly the frames
 /// that keep to their allowances in all windows.
@@ -19,6 +19,11 @@ pub fn next_joins_where_it_conforms<T>()
     ensures { NextJoinsWhereItConforms T }
 {}
 
+/// The next of a list of frames joins those passed so far exactly where it conforms.
+pub fn next_frame_joins_where_it_conforms()
+    ensures { NextFrameJoinsWhereItConforms }
+{}
+
 /// The frames of what is passed of a list are the frames passed of its frames.
 pub fn passed_by_their_frames<T>()
     ensures { PassedByTheirFrames T }
@@ -30,4 +35,9 @@ pub fn headroom_is_a_level()
     ensures credited { HeadroomIsCredited }
     ensures decides { HeadroomDecides }
     ensures debited { HeadroomIsDebited }
+{}
+
+/// What a frame costs in bytes pays for its line time, at both speeds.
+pub fn byte_prices_pay()
+    ensures { BytePricesPay }
 {}

@@ -1,9 +1,9 @@
 //! Frames of one link and the answers of its account, worked out by hand from the windows.
 
-ghost use Rattle.std.specs.Prelude.{◌≡◌};
+ghost use Rattle.std.specs.Prelude.{◌≡◌, ◌≤◌};
 
 use super::*;
-use afdx_units::{Bag, Stamp};
+use afdx_units::{Bag, Speed, Stamp};
 use std::test::Fail;
 
 /// An account of BAG 1 ms, no jitter and frames of at most 1518 bytes.
@@ -11,6 +11,26 @@ fn account() -> ByteAccount
     ensures { ⟦<ByteAccount as Meter>⟧.since result ≡ 0 }
 {
     ByteAccount::new(1518, Bag::Ms1, 0)
+}
+
+/// What any account tells at an instant: its cap, its rate, what 64 bytes cost, and its level.
+fn told<M: Meter>(meter: &M, at: Stamp) -> [u64; 4]
+    requires { M.since meter.now ≤ at }
+{
+    [
+        meter.cap(),
+        meter.rate(),
+        meter.price(64),
+        meter.level_at(at),
+    ]
+}
+
+#[test]
+fn a_full_account_by_its_readers(rt: HostRuntime) {
+    let account = account();
+    let cap = 1_518_000_000;
+    assert_eq!(rt; told(&account, Stamp::ZERO), [cap, 1518, 64_000_000, cap]);
+    assert_eq!(rt; account.weight(Speed::Hundred), 21 * 80 * 128);
 }
 
 #[test]

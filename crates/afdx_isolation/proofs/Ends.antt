@@ -15,7 +15,8 @@ use Rattle.afdx_port.specs.declared.Item.{Item}
 use Rattle.afdx_port.specs.Service.{came, Event, sending, aging, item_of, free_after, fate, is_high}
 use Rattle.afdx_port.specs.Order.{in_line, highs, lows, line_up}
 use Rattle.afdx_port.specs.Work.{item_cost}
-use Rattle.afdx_isolation.specs.Flow.{Load, parts, bound}
+use Rattle.afdx_load.specs.Sums.{parts}
+use Rattle.afdx_isolation.specs.Flow.{Load, bound}
 use Rattle.afdx_isolation.specs.Potential.{costs, Ahead, HighEnds, LowEnds, EndsBy, IsWithinPotentials, BeginsAs}
 use Rattle.afdx_isolation.specs.Claims.{IsTimely}
 use Rattle.afdx_isolation.proofs.Numbers.{ahead_weaker, ahead_with, ahead_append, high_sooner, low_sooner}

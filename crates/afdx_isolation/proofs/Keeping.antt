@@ -19,7 +19,8 @@ use Rattle.afdx_port.specs.Admission.{occupied, fits}
 use Rattle.afdx_port.specs.Order.{highs, lows, line_up, in_line}
 use Rattle.afdx_port.specs.Course.{line_at}
 use Rattle.afdx_port.specs.Work.{item_cost, work, HaveCome}
-use Rattle.afdx_isolation.specs.Flow.{Flow, Load, IsPaidFor, IsWithinRate, HasBuffer, IsWithinDelay, Carries, AreDistinct, parts, high_flows, low_flows, load_of, bound}
+use Rattle.afdx_load.specs.Sums.{parts}
+use Rattle.afdx_isolation.specs.Flow.{Flow, Load, IsPaidFor, IsWithinRate, HasBuffer, IsWithinDelay, Carries, AreDistinct, high_flows, low_flows, load_of, bound}
 use Rattle.afdx_isolation.specs.Potential.{costs, IsWithinPotentials, KeepsPotentials, EndsBy, BeginsAs, held}
 use Rattle.afdx_isolation.specs.Account.{AreWithinCaps, Grow, AreDebited, IsOfAFlow, charge}
 use Rattle.afdx_isolation.specs.Kept.{IsKept}

@@ -4,10 +4,10 @@ use Rattle.std.specs.Prelude.{nat_eq, nat_le, ◌&&◌, ◌||◌, filter, map, A
 use Rattle.std.specs.List.{AllByRecursion}
 use Rattle.std.proofs.lemmas.Bool.{cases_Bool}
 use Rattle.std.proofs.lemmas.Bool.Decides.{nat_tests}
-use Rattle.std.proofs.lemmas.List.{map-append, map-id}
+use Rattle.std.proofs.lemmas.List.{map-append}
 use Rattle.std.proofs.lemmas.List.Elements.{All-nil, All-cons, Contains-get_or, Contains-append_right, filter-append}
 use Rattle.afdx_account.specs.declared.frame.Frame.{Frame}
-use Rattle.afdx_account.specs.Policing.{Terms, conforms, passed_frames}
+use Rattle.afdx_account.specs.Policing.{conforms, passed_frames}
 use Rattle.afdx_account.specs.Level.{headroom}
 use Rattle.afdx_port.specs.declared.Item.{Item}
 use Rattle.afdx_isolation.specs.Flow.{Flow, AreDistinct}
@@ -82,11 +82,6 @@ passed_link before x flow h = same x.link flow.id (conforms flow.terms (passed_f
   same m n b h = grind (arith, nat_tests)
 
 module _ (g : Ground) where
-  passed-push : (t : Terms) (fs : List Frame) (f : Frame) → passed_frames t (fs ++ f ∷ []) ≡ cond (conforms t (passed_frames t fs) f) (passed_frames t fs ++ f ∷ []) (passed_frames t fs)
-  passed-push t fs f =
-      g.next_frame (λ (f : Frame). f) t fs f
-      ∙ ap (λ ps. cond (conforms t ps f) (passed_frames t fs ++ f ∷ []) (passed_frames t fs)) (map-id (passed_frames t fs))
-
   -- what is passed of a link's arrivals, with one more
   pub passed_step : (flow : Flow) (before : List Item) (x : Item) → passed_frames flow.terms (frames flow.id (before ++ x ∷ [])) ≡ cond (is_passed before x flow) (passed_frames flow.terms (frames flow.id before) ++ frame_of x ∷ []) (passed_frames flow.terms (frames flow.id before))
   passed_step flow before x =
@@ -94,7 +89,7 @@ module _ (g : Ground) where
       let fs = frames flow.id before in
       ap (passed_frames t) (own-push flow.id before x)
       ∙ (elim (nat_eq x.link flow.id) as (λ v. passed_frames t (cond v (fs ++ frame_of x ∷ []) fs) ≡ cond (v && conforms t (passed_frames t fs) (frame_of x)) (passed_frames t fs ++ frame_of x ∷ []) (passed_frames t fs)) [
-        | true ↦ passed-push t fs (frame_of x)
+        | true ↦ g.next_frame t fs (frame_of x)
         | false ↦ refl
       ])
 

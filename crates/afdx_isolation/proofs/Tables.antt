@@ -15,24 +15,23 @@ use Rattle.afdx_units.specs.declared.line.Priority.TheVariants.{High, Low}
 use Rattle.afdx_units.specs.declared.line.Speed.{Speed}
 use Rattle.afdx_units.specs.declared.line.Speed.TheVariants.{Ten, Hundred}
 use Rattle.afdx_account.specs.Policing.{byte_weight, conforms, passed_frames}
-use Rattle.afdx_account.specs.Laws.{PassedByTheirFrames}
-use Rattle.afdx_account.specs.ByteLaws.{pays_for}
+use Rattle.afdx_account.specs.Laws.{PassedByTheirFrames, BytePricesPay}
 use Rattle.afdx_port.specs.declared.Item.{Item}
 use Rattle.afdx_port.specs.declared.Sent.{Sent}
 use Rattle.afdx_port.specs.Service.{sent_of, is_high}
 use Rattle.afdx_port.specs.Admission.{admitted}
 use Rattle.afdx_port.specs.Content.{Content as PortContent, done}
 use Rattle.afdx_table.specs.declared.rows.PortRow.{PortRow}
-use Rattle.afdx_table.specs.Link.{Link}
+use Rattle.afdx_table.specs.Link.{Link, leads_to}
 use Rattle.afdx_table.specs.Content.{Content}
 use Rattle.afdx_table.specs.WellFormed.{IsLink, IsWellFormed}
-use Rattle.afdx_load.specs.Sums.{is_high_priority, is_high as is_high_link, is_low as is_low_link, leads_to, routed, rate_of, burst_of, time_of, greatest, sums_of, load_of as sums_at}
+use Rattle.afdx_load.specs.Sums.{parts, is_high_priority, is_high as is_high_link, is_low as is_low_link, routed, rate_of, burst_of, time_of, greatest, sums_of, load_of as sums_at, terms_of}
 use Rattle.afdx_load.specs.Accepted.{Carries as CarriesSums}
 use Rattle.afdx_load.specs.Laws.{AsksWhatItsAccountGives, AcceptedKeepsBounds}
-use Rattle.afdx_isolation.specs.Flow.{Flow, IsPaidFor, Carries, AreDistinct, parts, high_flows, low_flows, rates, bursts, longest, load_of, bound}
+use Rattle.afdx_isolation.specs.Flow.{Flow, IsPaidFor, Carries, AreDistinct, high_flows, low_flows, rates, bursts, longest, load_of, bound}
 use Rattle.afdx_isolation.specs.Arrivals.{frame_of, IsClean, own, is_passed, joins, feed_of}
 use Rattle.afdx_isolation.specs.Claims.{Arrive, IsInBound, IsIsolatedSoFar, IsolatesSoFar}
-use Rattle.afdx_isolation.specs.Table.{settings_of, terms_of, flow_of, frames_for, flows_at, IsCleanIn, ArriveAt, bound_of, AcceptedTablesIsolate, OthersChangeNothingInTables}
+use Rattle.afdx_isolation.specs.Table.{settings_of, flow_of, frames_for, flows_at, IsCleanIn, ArriveAt, bound_of, AcceptedTablesIsolate, OthersChangeNothingInTables}
 use Rattle.afdx_isolation.proofs.Sums.{among_filter}
 use Rattle.afdx_isolation.proofs.Levels.{joined, none_joined, passed_link}
 
@@ -230,11 +229,11 @@ module _ (t : Content) (row : PortRow) (well : IsWellFormed t) where
   abbrev links : List Link
   links = routed row.id t.links
 
-  paid : All (IsPaidFor (settings_of row)) (flows_at t row)
-  paid = All-map (IsPaidFor (settings_of row)) (flow_of row.speed) links
+  paid : BytePricesPay → All (IsPaidFor (settings_of row)) (flows_at t row)
+  paid pays = All-map (IsPaidFor (settings_of row)) (flow_of row.speed) links
       (All-filter (leads_to row.id) (λ l. IsPaidFor (settings_of row) (flow_of row.speed l)) t.links
       (All-weaker (IsLink t.ports) (λ l. IsPaidFor (settings_of row) (flow_of row.speed l))
-      (λ l is. record { pays = λ size least _. pays_for l.bag row.speed size least; credited = above (byte_weight l.bag row.speed) l.max_size (weighs l.bag row.speed) is.size_least })
+      (λ l is. record { pays = λ size least _. pays l.max_size l.bag l.jitter row.speed size least; credited = above (byte_weight l.bag row.speed) l.max_size (weighs l.bag row.speed) is.size_least })
       t.links (All-from_recursion (IsLink t.ports) t.links well.links)))
 
   clean : (x : Item) → IsCleanIn t x → IsClean (flows_at t row) x
@@ -311,13 +310,13 @@ module _ (t : Content) (row : PortRow) (well : IsWellFormed t) where
 
 -- ---- the laws
 
-pub isolated_at : AsksWhatItsAccountGives → AcceptedKeepsBounds → IsolatesSoFar → AcceptedTablesIsolate
-isolated_at asks keeps isolates t arrivals h row among c settings is =
+pub isolated_at : BytePricesPay → AsksWhatItsAccountGives → AcceptedKeepsBounds → IsolatesSoFar → AcceptedTablesIsolate
+isolated_at pays asks keeps isolates t arrivals h row among c settings is =
     let s = settings_of row in
     let links = routed row.id t.links in
     let flows = flows_at t row in
     let arrive : Arrive s flows arrivals = record {
-      paid = paid t row h.well_formed;
+      paid = paid t row h.well_formed pays;
       distinct = distinct t row h.well_formed;
       stamps = h.stamps;
       clean = All-weaker (IsCleanIn t) (IsClean flows) (λ x is. clean t row h.well_formed x is) arrivals h.clean;

@@ -6,10 +6,7 @@ use Rattle.afdx_units.specs.Line.{cost_of, tick_of}
 use Rattle.afdx_account.specs.Policing.{Terms}
 use Rattle.afdx_port.specs.declared.Settings.{Settings}
 use Rattle.afdx_port.specs.Service.{is_high}
-
--- line time is counted in these parts of a nanosecond, so that what a link asks for is a whole number
-abbrev pub parts : ℕ
-parts = 2048000000
+use Rattle.afdx_load.specs.Sums.{parts}
 
 -- a virtual link as an output port sees it: the terms by which it is policed, the line time that a unit of them stands
 -- for on this port's line, in parts of a nanosecond, and its largest frame in bytes

@@ -1,6 +1,5 @@
 -- The laws of the accounts and of the port on which the laws of this crate stand.
-use Rattle.afdx_account.specs.declared.frame.Frame.{Frame}
-use Rattle.afdx_account.specs.Laws.{NextJoinsWhereItConforms, PassedByTheirFrames, HeadroomIsCredited, HeadroomDecides, HeadroomIsDebited}
+use Rattle.afdx_account.specs.Laws.{NextFrameJoinsWhereItConforms, PassedByTheirFrames, HeadroomIsCredited, HeadroomDecides, HeadroomIsDebited}
 use Rattle.afdx_port.specs.declared.Item.{Item}
 use Rattle.afdx_port.specs.Admission.{EarlierEventsStay}
 use Rattle.afdx_port.specs.Course.{LineGoesOn, ArrivalJoinsTheLine, EventsAreInParts, EventsFollowTheLine, WorkIsOfTheLine, EventsAreOfItems, WaitingIsOfItems}
@@ -11,7 +10,7 @@ pub record Ground : Type 0 where
   pub credited : HeadroomIsCredited
   pub decides : HeadroomDecides
   pub debited : HeadroomIsDebited
-  pub next_frame : NextJoinsWhereItConforms Frame
+  pub next_frame : NextFrameJoinsWhereItConforms
   pub by_frames : PassedByTheirFrames Item
   pub earlier_stay : EarlierEventsStay
   pub goes_on : LineGoesOn

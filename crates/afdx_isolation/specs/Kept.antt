@@ -7,7 +7,8 @@ use Rattle.afdx_port.specs.Admission.{fits}
 use Rattle.afdx_port.specs.Course.{line_at}
 use Rattle.afdx_port.specs.Order.{InOrder}
 use Rattle.afdx_port.specs.Work.{HaveCome}
-use Rattle.afdx_isolation.specs.Flow.{Flow, IsPaidFor, IsWithinRate, HasBuffer, parts, load_of}
+use Rattle.afdx_load.specs.Sums.{parts}
+use Rattle.afdx_isolation.specs.Flow.{Flow, IsPaidFor, IsWithinRate, HasBuffer, load_of}
 use Rattle.afdx_isolation.specs.Potential.{KeepsPotentials, EndsBy, BeginsAs}
 use Rattle.afdx_isolation.specs.Account.{AreWithinCaps, Grow, AreDebited, IsOfAFlow}
 

@@ -8,7 +8,8 @@ use Rattle.afdx_port.specs.Service.{came, Event, is_high, fate}
 use Rattle.afdx_port.specs.Progress.{LineState}
 use Rattle.afdx_port.specs.Order.{highs, lows}
 use Rattle.afdx_port.specs.Work.{item_cost}
-use Rattle.afdx_isolation.specs.Flow.{Flow, Load, parts, high_flows, load_of}
+use Rattle.afdx_load.specs.Sums.{parts}
+use Rattle.afdx_isolation.specs.Flow.{Flow, Load, high_flows, load_of}
 
 abbrev pub costs : Settings → List Item → ℕ
 costs s items = sum_by (item_cost s) items

@@ -5,7 +5,7 @@ use Rattle.afdx_units.specs.declared.line.Priority.TheVariants.{High, Low}
 use Rattle.afdx_units.specs.declared.line.Speed.{Speed}
 use Rattle.afdx_units.specs.Line.{cost_of}
 use Rattle.afdx_account.specs.declared.frame.Frame.{Frame}
-use Rattle.afdx_account.specs.Policing.{Terms, byte_terms, byte_weight, conforms, passed_of, passed_frames}
+use Rattle.afdx_account.specs.Policing.{byte_weight, conforms, passed_of, passed_frames}
 use Rattle.afdx_port.specs.declared.Settings.{Settings}
 use Rattle.afdx_port.specs.declared.Item.{Item}
 use Rattle.afdx_port.specs.declared.Sent.{Sent}
@@ -13,10 +13,10 @@ use Rattle.afdx_port.specs.Service.{sent_of, aged_of}
 use Rattle.afdx_port.specs.Admission.{admitted}
 use Rattle.afdx_port.specs.Content.{Content as PortContent, done}
 use Rattle.afdx_table.specs.declared.rows.PortRow.{PortRow}
-use Rattle.afdx_table.specs.Link.{Link}
+use Rattle.afdx_table.specs.Link.{Link, leads_to}
 use Rattle.afdx_table.specs.Content.{Content}
 use Rattle.afdx_table.specs.WellFormed.{IsWellFormed}
-use Rattle.afdx_load.specs.Sums.{Sums, leads_to, routed, load_of}
+use Rattle.afdx_load.specs.Sums.{Sums, routed, load_of, terms_of}
 use Rattle.afdx_load.specs.Bounds.{high_bound, low_bound}
 use Rattle.afdx_load.specs.Accepted.{IsAccepted}
 use Rattle.afdx_isolation.specs.Flow.{Flow}
@@ -24,10 +24,6 @@ use Rattle.afdx_isolation.specs.Arrivals.{frame_of, StampsDoNotFall, own, joins,
 
 abbrev pub settings_of : PortRow → Settings
 settings_of row = record { speed = row.speed; buffer = row.buffer; max_delay = row.max_delay }
-
--- profile: policing is by bytes
-abbrev pub terms_of : Link → Terms
-terms_of link = byte_terms link.max_size link.bag link.jitter
 
 -- a link as a port of this speed sees it
 abbrev pub flow_of : Speed → Link → Flow

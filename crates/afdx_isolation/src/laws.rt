@@ -5,9 +5,9 @@ ghost use Rattle.afdx_isolation.specs.Kept.{IsKeptAtFirst, IsKeptOverTime, IsKep
 ghost use Rattle.afdx_isolation.specs.Table.{OffersWhatThePolicingPasses, AcceptedTablesIsolate, OthersChangeNothingInTables};
 ghost use Rattle.afdx_isolation.specs.Claims.{PotentialsHold, NoneIsFull, HighKeepsBound, LowKeepsBound, Isolates, IsolatesSoFar, OthersChangeNothing};
 
-use afdx_account::Frame;
 use afdx_account::laws::{
-    headroom_is_a_level, next_joins_where_it_conforms, passed_by_their_frames,
+    byte_prices_pay, headroom_is_a_level, next_frame_joins_where_it_conforms,
+    passed_by_their_frames,
 };
 use afdx_load::laws::{accepted_keeps_bounds, asks_what_its_account_gives};
 use afdx_port::Item;
@@ -21,7 +21,7 @@ fn ground()
     ensures { Ground }
 {
     headroom_is_a_level();
-    next_joins_where_it_conforms::<Frame>();
+    next_frame_joins_where_it_conforms();
     passed_by_their_frames::<Item>();
     arrivals_change_nothing_earlier();
     line_goes_on();
@@ -99,6 +99,7 @@ pub fn others_change_nothing()
 pub fn accepted_tables_isolate()
     ensures { AcceptedTablesIsolate }
 {
+    byte_prices_pay();
     asks_what_its_account_gives();
     accepted_keeps_bounds();
     isolates_so_far();
