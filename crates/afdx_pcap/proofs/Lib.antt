@@ -4,3 +4,4 @@ pub mod Unique
 pub mod More
 pub mod Streaming
 pub mod Taking
+pub mod Answering

@@ -1,7 +1,7 @@
 -- A reader's place in its bytes, and what it tells of them.
-use Rattle.std.proofs.Common.{◌≡◌, ℕ, ◌+◌, ◌-◌, ◌<◌, Bool, true, false, List, [], ◌∷◌, ◌++◌, length, drop, Option, Some, None, Ok, Err, sym, ap, subst, ◌∙◌, arith, inl, inr, refl, cond, not, ◌||◌, ◌≢◌}
+use Rattle.std.proofs.Common.{◌≡◌, ℕ, ◌+◌, ◌-◌, ◌<◌, Bool, true, false, List, [], ◌∷◌, ◌++◌, length, drop, Option, Some, None, Result, Ok, Err, sym, ap, subst, ◌∙◌, arith, inl, inr, refl, cond, not, ◌||◌, ◌≢◌}
 use Rattle.std.proofs.lemmas.List.{length-drop, length-append, drop-append-le, drop-drop, nil_from_length}
-use Rattle.std.specs.Prelude.{IfNone}
+use Rattle.std.specs.Prelude.{IfNone, IfErr, IsErr, IsErrAnd}
 use Rattle.afdx_pcap.specs.declared.format.Format.{Format}
 use Rattle.afdx_pcap.specs.declared.progress.Progress.{Progress}
 use Rattle.afdx_pcap.specs.declared.fault.PcapFault.{PcapFault}
@@ -9,9 +9,9 @@ use Rattle.afdx_pcap.specs.declared.fault.PcapFault.TheVariants.{Memory, CutHead
 use Rattle.afdx_pcap.specs.Entry.{Entry}
 use Rattle.afdx_pcap.specs.Capture.{header_of, Begins, after, Splits, IsCapture}
 use Rattle.afdx_pcap.specs.Fault.{record_fault, IsFault, IsEarlyFault, is_cut, Breaks, last_stamp}
-use Rattle.afdx_pcap.specs.Reading.{IsNext, NoNext, IsSound, Answers, At, RestFault, Stands, answer_of}
+use Rattle.afdx_pcap.specs.Reading.{IsNext, HasNext, NoNext, IsSound, Answers, At, RestFault, Stands, answer_of}
 use Rattle.afdx_pcap.proofs.Splitting.{Splits-push, last_stamp-push}
-use Rattle.afdx_pcap.proofs.Unique.{one_record, same_tail, begins_fine, one_fault, one_format}
+use Rattle.afdx_pcap.proofs.Unique.{front, fine_begins, one_record, same_tail, begins_fine, one_fault, one_format}
 use Rattle.afdx_pcap.proofs.More.{not_cut, header-more, format_long, Splits-more}
 
 -- a record is found
@@ -20,13 +20,17 @@ found_next bytes n p r at b =
     let begins : Begins p.format (last_stamp 0 at.given) (drop p.place bytes) r = subst (λ (l : ℕ). Begins p.format l (drop p.place bytes) r) at.latest b in
     (at.given, after r (drop p.place bytes), record { format = p.format; header = at.header; records = Splits-push p.format 0 (drop 24 bytes) at.given (drop p.place bytes) r at.records begins }, at.count)
 
+-- a rest without a fault is a record
+pub fine_next : (bytes : List ℕ) (n : ℕ) (p : Progress) → At bytes n p → record_fault p.format p.last (n + 1) (drop p.place bytes) ≡ None → HasNext bytes n
+fine_next bytes n p at fine = (front p.format (drop p.place bytes), found_next bytes n p _ at (fine_begins p.format p.last (n + 1) (drop p.place bytes) fine))
+
 pub goes_on : (bytes : List ℕ) (n : ℕ) (p : Progress) (r : Entry) (rest : List ℕ) (place : ℕ) → At bytes n p → Begins p.format p.last (drop p.place bytes) r
     → rest ≡ after r (drop p.place bytes) → place ≡ length bytes - length rest → At bytes (n + 1) (record { format = p.format; place = place; last = r.stamp })
 goes_on bytes n p r rest place at b rest-is place-is =
     let begins : Begins p.format (last_stamp 0 at.given) (drop p.place bytes) r = subst (λ (l : ℕ). Begins p.format l (drop p.place bytes) r) at.latest b in
     let whole = b.whole in
     let within = at.within in
-    let slow = at.slow in
+    let fewer = at.fewer in
     let len : length rest ≡ length (drop p.place bytes) - (16 + length r.bytes) = ap length rest-is ∙ length-drop (16 + length r.bytes) (drop p.place bytes) in
     let place-at : place ≡ p.place + (16 + length r.bytes) = omega (arith, len, length-drop p.place bytes, place-is, whole, within) in
     let rest-at : after r (drop p.place bytes) ≡ drop place bytes = drop-drop (16 + length r.bytes) p.place bytes ∙ ap (λ (k : ℕ). drop k bytes) (sym place-at) in
@@ -37,7 +41,7 @@ goes_on bytes n p r rest place at b rest-is place-is =
       count = let c = at.count in omega (arith, length-append at.given (r ∷ []), c);
       latest = sym (last_stamp-push 0 at.given r);
       within = omega (arith, place-at, length-drop p.place bytes, whole, within);
-      slow = omega (arith, place-at, slow);
+      fewer = omega (arith, place-at, fewer);
     }
 
 -- two lists of records, the shorter of which has a fault after it
@@ -107,7 +111,7 @@ stands_more bytes more n (Some p) at =
       count = at.count;
       latest = at.latest;
       within = omega (arith, length-append bytes more, within);
-      slow = at.slow;
+      fewer = at.fewer;
     }
 
 -- the same where they may have come or not
@@ -144,6 +148,11 @@ pub header_answer : (bytes : List ℕ) (n : ℕ) (e : PcapFault) (closed cut : B
 header_answer bytes n e true cut h is = λ real. (no_header_no_next bytes n e h, inl h)
 header_answer bytes n e false false h is = λ real. (no_header_no_next bytes n e h, (inl h, is))
 header_answer bytes n e false true h is = (no_header_no_next bytes n e h, no_header_none_early bytes e h is)
+
+-- what holds of a fault holds of it where it is handed on
+pub handed_on : {T : Type 0} (r : Result T PcapFault) (P : PcapFault → Type 0) (e : PcapFault) → IsErr r × IsErrAnd r (λ d. d ≡ e) → P e → IfErr r P
+handed_on (Ok x) P e h p = tt
+handed_on (Err d) P e h p = subst P (sym h.1) p
 
 -- what holds at all holds where there is none
 pub if_none : {P : Type 0} (o : Option PcapFault) → P → IfNone o P

@@ -6,6 +6,7 @@ use Rattle.afdx_pcap.specs.Capture.{Splits, Holds, IsCapture, after}
 use Rattle.afdx_pcap.specs.Fault.{last_stamp}
 use Rattle.afdx_pcap.specs.Reading.{AreFirst, HasTaken, IsNext, IsSound, Taking, taking_on}
 use Rattle.afdx_pcap.proofs.Unique.{one_front, next_after}
+use Rattle.afdx_pcap.proofs.More.{Holds-more}
 
 none_of : (rs : List Entry) → length rs ≡ 0 → rs ≡ []
 none_of [] empty = refl
@@ -30,6 +31,13 @@ next_joins t rs r taken next = record {
   first = first_more t.bytes rs r taken.first (next_of t rs r taken next);
   count = length-append rs (r ∷ []) ∙ ap (λ (n : ℕ). n + 1) taken.count;
 }
+
+first_stay : (bytes more : List ℕ) (rs : List Entry) → AreFirst bytes rs → AreFirst (bytes ++ more) rs
+first_stay bytes more [] first = tt
+first_stay bytes more (q ∷ qs) first = (first.0 ++ more, Holds-more bytes more first.0 (q ∷ qs) first.1)
+
+pub taken_stay : (t : Taking) (more : List ℕ) (rs : List Entry) → HasTaken t rs → HasTaken (record t { bytes = t.bytes ++ more }) rs
+taken_stay t more rs taken = record { first = first_stay t.bytes more rs taken.first; count = taken.count }
 
 -- the last of some records is not below those before it
 last_is_latest : (f : Format) (last : ℕ) (bytes : List ℕ) (rs : List Entry) (r : Entry) (rest : List ℕ) → Splits f last bytes (rs ++ r ∷ []) rest → last_stamp last rs ≤ r.stamp

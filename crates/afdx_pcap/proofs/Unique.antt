@@ -54,11 +54,11 @@ both_passed : (a b : Option PcapFault) → first_of a b ≡ None → (a ≡ None
 both_passed (Some e) b h = absurd cc
 both_passed None b h = (refl, h)
 
-abbrev front : Format → List ℕ → Entry
+abbrev pub front : Format → List ℕ → Entry
 front f bytes = let h = head_of f.endian bytes in record { stamp = stamp_of f.resolution h; original = h.original; bytes = take h.captured (drop 16 bytes) }
 
 -- where there is no fault, there is a whole record
-fine_begins : (f : Format) (last n : ℕ) (bytes : List ℕ) → record_fault f last n bytes ≡ None → Begins f last bytes (front f bytes)
+pub fine_begins : (f : Format) (last n : ℕ) (bytes : List ℕ) → record_fault f last n bytes ≡ None → Begins f last bytes (front f bytes)
 unfolding record_fault
 fine_begins f last n bytes none =
     let h = head_of f.endian bytes in

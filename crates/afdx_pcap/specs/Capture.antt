@@ -62,6 +62,10 @@ head_of e bytes = record {
 abbrev pub stamp_of : Resolution → Head → ℕ
 stamp_of resolution h = h.seconds * second + h.fraction * nanos resolution
 
+-- profile: the greatest seconds of a stamp that is read
+abbrev pub greatest_seconds : ℕ
+greatest_seconds = 4294967294
+
 -- the bytes begin with this record, which follows one of the stamp last;
 -- profile: the limit, no stamp in the last second, and no stamp below the one before
 pub record Begins (f : Format) (last : ℕ) (bytes : List ℕ) (r : Entry) : Type 0 where
@@ -69,7 +73,7 @@ pub record Begins (f : Format) (last : ℕ) (bytes : List ℕ) (r : Entry) : Typ
   pub captured : (head_of f.endian bytes).captured ≡ length r.bytes
   pub not_huge : length r.bytes ≤ captured_limit
   pub fraction : (head_of f.endian bytes).fraction < parts f.resolution
-  pub not_late : (head_of f.endian bytes).seconds ≤ 4294967294
+  pub not_late : (head_of f.endian bytes).seconds ≤ greatest_seconds
   pub stamp : r.stamp ≡ stamp_of f.resolution (head_of f.endian bytes)
   pub in_order : last ≤ r.stamp
   pub original : r.original ≡ (head_of f.endian bytes).original

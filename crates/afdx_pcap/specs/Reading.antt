@@ -25,6 +25,10 @@ abbrev pub IsNext : List ℕ → ℕ → Entry → Type 0
 IsNext bytes n r =
     (before : List Entry) × (rest : List ℕ) × Holds bytes (before ++ r ∷ []) rest × (length before ≡ n)
 
+-- there are more than n whole records
+abbrev pub HasNext : List ℕ → ℕ → Type 0
+HasNext bytes n = (r : Entry) × IsNext bytes n r
+
 -- the bytes begin with a header and these whole records, where there are any
 abbrev pub AreFirst : List ℕ → List Entry → Type 0
 AreFirst bytes [] = Unit {0}
@@ -69,7 +73,8 @@ pub record At (bytes : List ℕ) (n : ℕ) (p : Progress) : Type 0 where
   pub count : length given ≡ n
   pub latest : p.last ≡ last_stamp 0 given
   pub within : p.place ≤ length bytes
-  pub slow : n < p.place
+  -- each record takes some of the bytes
+  pub fewer : n < p.place
 
 -- it has read nothing yet, or the header and n records
 abbrev pub Stands : List ℕ → ℕ → Option Progress → Type 0

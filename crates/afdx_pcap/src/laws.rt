@@ -1,11 +1,12 @@
 //! Laws over the definitions.
 
-ghost use Rattle.std.specs.Prelude.{◌≡◌, ◌⊎◌, ◌≤◌, ℕ, List, [], ◌∷◌, ◌++◌, length, All, true};
+ghost use Rattle.std.specs.Prelude.{◌≡◌, ◌≢◌, ◌⊎◌, ◌≤◌, ℕ, List, [], ◌∷◌, ◌++◌, length, All, Bool, true, Option, Result, Err};
 ghost use Rattle.afdx_pcap.specs.declared.fault.PcapFault.{PcapFault};
+ghost use Rattle.afdx_pcap.specs.declared.fault.PcapFault.TheVariants.{Memory};
 ghost use Rattle.afdx_pcap.specs.Entry.{Entry, IsWithinLimit};
 ghost use Rattle.afdx_pcap.specs.Capture.{Holds, IsCapture};
 ghost use Rattle.afdx_pcap.specs.Fault.{IsFault, IsEarlyFault, last_stamp};
-ghost use Rattle.afdx_pcap.specs.Reading.{HasTaken, IsNext, IsSound, Taking, taking_on};
+ghost use Rattle.afdx_pcap.specs.Reading.{Answers, HasTaken, IsNext, IsSound, Taking, taking_on};
 ghost use Rattle.afdx_pcap.specs.Text.{record_text, capture_text, AreReadable};
 
 /// What is written is a capture of the records that were written, where these can be read.
@@ -45,21 +46,22 @@ pub fn whole_records_stay()
         → Holds bytes qs others → length rs ≡ length qs → rs ≡ qs }
 {}
 
-/// The record after so many whole ones is the one that follows them: records that are given one by one are the
-/// first ones of the bytes, in order, each once.
-pub fn records_come_in_order()
-    ensures { (bytes rest : List ℕ) (rs : List Entry) (r : Entry) → Holds bytes rs rest
-        → IsNext bytes (length rs) r → (left : List ℕ) × Holds bytes (rs ++ r ∷ []) left }
-{}
-
-/// Records that are taken one by one are the first ones of the bytes; their stamps do not fall; where nothing is
-/// wrong after them, they are the capture.
+/// Records that are taken one by one are the first ones of the bytes, in order, each once, also where more bytes
+/// come; their stamps do not fall; where nothing is wrong after them, they are the capture.
 pub fn taken_records_are_the_first()
     ensures joins { (t : Taking) (rs : List Entry) (r : Entry) → HasTaken t rs → IsNext t.bytes t.given r
         → HasTaken (taking_on t) (rs ++ r ∷ []) }
+    ensures stays { (t : Taking) (more : List ℕ) (rs : List Entry) → HasTaken t rs
+        → HasTaken (record t { bytes = t.bytes ++ more }) rs }
     ensures in_order { (t : Taking) (rs : List Entry) (r : Entry) → HasTaken t rs → IsNext t.bytes t.given r
         → last_stamp 0 rs ≤ r.stamp }
     ensures latest { (rs : List Entry) (r : Entry) → last_stamp 0 (rs ++ r ∷ []) ≡ r.stamp }
     ensures ends { (t : Taking) (rs : List Entry) → HasTaken t rs → IsSound t.bytes t.given true
         → IsCapture t.bytes rs }
+{}
+
+/// Want of memory apart, there is one answer after so many records, whoever gives it.
+pub fn each_answer_is_the_only_one()
+    ensures { (bytes : List ℕ) (n : ℕ) (closed : Bool) (a b : Result (Option Entry) PcapFault)
+        → Answers bytes n closed a → Answers bytes n closed b → a ≢ Err Memory → b ≢ Err Memory → a ≡ b }
 {}

@@ -4,7 +4,7 @@ ghost use Rattle.std.specs.Prelude.{◌≡◌, ◌≢◌, ◌+◌, Ok, Err, None
 ghost use Rattle.afdx_pcap.specs.declared.fault.PcapFault.TheVariants.{Memory};
 ghost use Rattle.afdx_pcap.specs.Capture.{header_of};
 ghost use Rattle.afdx_pcap.specs.Fault.{is_cut};
-ghost use Rattle.afdx_pcap.specs.Reading.{Answers, At, IsNext, RestFault, Stands, answer_of};
+ghost use Rattle.afdx_pcap.specs.Reading.{Answers, At, HasNext, IsNext, RestFault, Stands, answer_of};
 
 use crate::fault::PcapFault;
 use crate::format::{Format, HEADER_LENGTH};
@@ -26,6 +26,7 @@ impl Progress {
     fn after_header(bytes: &[u8]) -> Result<Progress, PcapFault>
         ensures at { IfOk result (λ p. At bytes.now 0 p) }
         ensures fault { IfErr result (λ fault. header_of bytes.now ≡ Err fault) }
+        ensures no_memory { IfErr result (λ fault. fault ≢ Memory) }
     {
         let format = read_header(bytes)?;
         Ok(Progress {
@@ -45,6 +46,7 @@ impl Progress {
         requires { At bytes.now given self }
         ensures found { IfOk result (λ x. IsNext bytes.now given x.0 × At bytes.now (given + 1) x.1) }
         ensures fault { IfErr result (λ fault. fault ≢ Memory → RestFault bytes.now self given fault) }
+        ensures memory { IfErr result (λ fault. fault ≡ Memory → HasNext bytes.now given) }
     {
         let rest = &bytes[self.place..];
         let (record, after) = read_record(alloc, self.format, self.last, given + 1, rest)?;
@@ -66,6 +68,7 @@ fn place_in(bytes: &[u8], given: usize, progress: Option<Progress>) -> Result<Pr
     requires { Stands bytes.now given progress }
     ensures at { IfOk result (λ p. At bytes.now given p) }
     ensures fault { IfErr result (λ fault. header_of bytes.now ≡ Err fault) }
+    ensures no_memory { IfErr result (λ fault. fault ≢ Memory) }
 {
     match progress {
         Some(progress) => Ok(progress),
@@ -99,6 +102,7 @@ pub fn next_record<A: Allocator + Copy>(
 ) -> Result<Option<(Record<A>, Progress)>, PcapFault>
     requires { Stands bytes.now given progress }
     ensures answer { Answers bytes.now given closed (answer_of result) }
+    ensures memory { IfErr result (λ fault. fault ≡ Memory → HasNext bytes.now given) }
     ensures progress { IfOk result (λ o. IfSome o (λ x. At bytes.now (given + 1) x.1)) }
 {
     let progress = match place_in(bytes, given, progress) {

@@ -2,7 +2,7 @@
 
 ghost use Rattle.std.specs.Prelude.{◌≡◌, ◌+◌, ◌++◌, [], true, false, Err, Some, None, IfOk, IfErr, OnOk, IfSome, IfNone, is_some, if◌then◌else◌};
 ghost use Rattle.afdx_pcap.specs.declared.fault.PcapFault.TheVariants.{Memory};
-ghost use Rattle.afdx_pcap.specs.Reading.{Answers};
+ghost use Rattle.afdx_pcap.specs.Reading.{Answers, HasNext};
 
 use crate::fault::PcapFault;
 use crate::progress::{Progress, next_record};
@@ -97,9 +97,12 @@ impl<A: Allocator + Copy> Reader<A> {
         }) }
         ensures err { IfErr result (λ fault. self.new ≡ record self.old { fault = Some fault }) }
 
-        // A fault that was answered stays the answer; else this is what the bytes tell.
+        // A fault that was answered stays the answer; else this is what the bytes tell, and memory is wanted for
+        // a whole record alone.
         ensures failed { IfSome self.old.fault (λ fault. result ≡ Err fault) }
         ensures answer { IfNone self.old.fault (Answers self.old.bytes self.old.given self.old.closed result) }
+        ensures memory { IfNone self.old.fault (IfErr result (λ fault. fault ≡ Memory
+            → HasNext self.old.bytes self.old.given)) }
     {
         if let Some(fault) = self.fault {
             return Err(fault);

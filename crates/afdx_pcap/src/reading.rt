@@ -12,13 +12,14 @@ use afdx_units::Stamp;
 use std::alloc::Allocator;
 
 /// The greatest seconds of a stamp that is read (profile).
-const LAST_SECONDS: u32 = 4_294_967_294;
+const GREATEST_SECONDS: u32 = 4_294_967_294;
 
 /// The format that a file's header tells.
 #[tactic(auto, unfolding(crate::specs::Capture::header_of))]
 pub fn read_header(bytes: &[u8]) -> Result<Format, PcapFault>
     ensures header { result ≡ header_of bytes.now }
     ensures whole { IfOk result (λ _. 24 ≤ length bytes.now) }
+    ensures no_memory { IfErr result (λ fault. fault ≢ Memory) }
 {
     if bytes.len() < HEADER_LENGTH {
         return Err(PcapFault::NoHeader);
@@ -48,6 +49,7 @@ fn stamp_of_head(
     ensures ok { IfOk result (λ stamp. (head_fault resolution last number head ≡ None)
         × (stamp ≡ stamp_of resolution head)) }
     ensures err { IfErr result (λ fault. head_fault resolution last number head ≡ Some fault) }
+    ensures no_memory { IfErr result (λ fault. fault ≢ Memory) }
 {
     if head.captured > MAX_CAPTURED {
         return Err(PcapFault::Huge(number));
@@ -55,7 +57,7 @@ fn stamp_of_head(
     if head.fraction >= resolution.parts() {
         return Err(PcapFault::Fraction(number));
     }
-    if head.seconds > LAST_SECONDS {
+    if head.seconds > GREATEST_SECONDS {
         return Err(PcapFault::Late(number));
     }
     let Some(stamp) = Stamp::new(head.seconds, head.fraction * resolution.nanos()) else {
@@ -81,6 +83,8 @@ pub fn read_record<A: Allocator>(
     ensures record { IfOk result (λ x. Begins format last bytes.now x.0 × (x.1.now ≡ after x.0 bytes.now)) }
     ensures fault { IfErr result (λ fault. fault ≢ Memory
         → record_fault format last number bytes.now ≡ Some fault) }
+    ensures memory { IfErr result (λ fault. fault ≡ Memory
+        → record_fault format last number bytes.now ≡ None) }
 {
     if bytes.len() < HEAD_LENGTH {
         return Err(PcapFault::CutHeader(number));

@@ -1,10 +1,10 @@
 //! A capture whose records are taken one by one.
 
-ghost use Rattle.std.specs.Prelude.{◌≡◌, ◌≢◌, ◌+◌, ◌<◌, length, true, IfOk, IfErr, OnErr, OnSome, is_some, if◌then◌else◌};
+ghost use Rattle.std.specs.Prelude.{◌≡◌, ◌≢◌, ◌+◌, ◌<◌, ℕ, length, true, IfOk, IfErr, OnErr, OnSome, is_some, if◌then◌else◌};
 ghost use Rattle.afdx_pcap.specs.declared.fault.PcapFault.TheVariants.{Memory};
 ghost use Rattle.afdx_pcap.specs.Capture.{IsCapture};
 ghost use Rattle.afdx_pcap.specs.Fault.{IsFault};
-ghost use Rattle.afdx_pcap.specs.Reading.{Answers};
+ghost use Rattle.afdx_pcap.specs.Reading.{Answers, HasNext};
 
 use crate::fault::PcapFault;
 use crate::progress::{Progress, next_record};
@@ -56,7 +56,10 @@ impl<'a, A: Allocator + Copy> Records<'a, A> {
     /// O(bytes of the record).
     pub fn next(&mut self) -> Result<Option<Record<A>>, PcapFault>
         ensures answer { Answers self.old.bytes self.old.given true result }
-        ensures ok { IfOk result (λ found. self.new ≡ record self.old { given = (if is_some found then self.old.given + 1 else self.old.given) }) }
+        ensures memory { IfErr result (λ fault. fault ≡ Memory → HasNext self.old.bytes self.old.given) }
+        ensures ok { IfOk result (λ found. self.new ≡ record self.old {
+          given = (if is_some found then self.old.given + 1 else self.old.given);
+        }) }
         ensures err { OnErr result (self.new ≡ self.old) }
 
         // Each record takes some of the bytes, so that a loop over them ends.
@@ -88,6 +91,7 @@ impl<'a, A: Allocator + Copy> Records<'a, A> {
 pub fn read_all<A: Allocator + Copy>(alloc: A, bytes: &[u8]) -> Result<Vec<Record<A>, A>, PcapFault>
     ensures capture { IfOk result (λ rs. IsCapture bytes.now rs.items) }
     ensures fault { IfErr result (λ fault. fault ≢ Memory → IsFault bytes.now fault) }
+    ensures memory { IfErr result (λ fault. fault ≡ Memory → (n : ℕ) × HasNext bytes.now n) }
 {
     let mut all = Vec::new(alloc);
     let mut records = Records::new(alloc, bytes);

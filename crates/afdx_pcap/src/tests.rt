@@ -75,44 +75,38 @@ fn take_records(
     Ok(())
 }
 
-/// The records of the bytes in pieces of this length, each taken as soon as it is there; then the input ends.
-fn read_pieces(
-    alloc: Global,
-    bytes: &[u8],
-    length: usize,
-) -> Result<Vec<Record<Global>>, PcapFault> {
-    let mut records = Vec::new(alloc);
-    let mut reader = Reader::new(alloc);
-    for piece in bytes.chunks(length.max(1)) {
-        if !reader.is_closed() {
-            reader.feed(piece)?;
-        }
-        take_records(&mut reader, &mut records)?;
+/// Pieces of these lengths, from the front of the bytes on.
+fn cut<'a>(alloc: Global, bytes: &'a [u8], lengths: &[usize]) -> Result<Vec<&'a [u8]>, Fail> {
+    let mut pieces = Vec::new(alloc);
+    let mut rest = bytes;
+    for length in lengths {
+        let (piece, after) = rest.split_at((*length).min(rest.len()));
+        pieces.push(piece)?;
+        rest = after;
     }
-    reader.close();
-    take_records(&mut reader, &mut records)?;
-    Ok(records)
+    Ok(pieces)
 }
 
-/// The records of the bytes in pieces of random lengths, 0 to 49 each, that a seed determines.
-fn read_random_pieces(
-    alloc: Global,
-    bytes: &[u8],
-    seed: u32,
-) -> Result<Vec<Record<Global>>, PcapFault> {
+/// As many random lengths, 0 to 49 each, that a seed determines.
+fn random_lengths(alloc: Global, count: usize, seed: u32) -> Result<Vec<usize>, Fail> {
+    let mut lengths = Vec::new(alloc);
+    let mut state = seed;
+    for _ in 0..count {
+        state = state.wrapping_mul(1_664_525).wrapping_add(1_013_904_223);
+        lengths.push(((state >> 16) % 50) as usize)?;
+    }
+    Ok(lengths)
+}
+
+/// The records of these pieces, each taken as soon as it is there; then the input ends.
+fn read_pieces(alloc: Global, pieces: &[&[u8]]) -> Result<Vec<Record<Global>>, PcapFault> {
     let mut records = Vec::new(alloc);
     let mut reader = Reader::new(alloc);
-    let mut rest = bytes;
-    let mut state = seed;
-    for _ in 0..bytes.len() {
-        state = state.wrapping_mul(1_664_525).wrapping_add(1_013_904_223);
-        let length = ((state >> 16) % 50) as usize;
-        let (piece, after) = rest.split_at(length.min(rest.len()));
+    for piece in pieces {
         if !reader.is_closed() {
             reader.feed(piece)?;
         }
         take_records(&mut reader, &mut records)?;
-        rest = after;
     }
     reader.close();
     take_records(&mut reader, &mut records)?;
@@ -130,6 +124,22 @@ fn first_capture(rt: HostRuntime) -> Result<(), Fail> {
         assert_eq!(rt; record.bytes(), FRAME.as_slice());
     }
     let written = write_all(rt.alloc(), &records)?;
+    assert_eq!(rt; written.as_slice(), bytes.as_slice());
+    Ok(())
+}
+
+/// A capture that is written record by record is the one that is written at once.
+#[test]
+fn written_record_by_record(rt: HostRuntime) -> Result<(), Fail> {
+    let bytes = joined(rt.alloc(), &[&HEADER, &AT_ZERO, &FRAME, &AT_ZERO, &FRAME])?;
+    let mut written = Vec::new(rt.alloc());
+    write_header(&mut written)?;
+    for record in &read_all(rt.alloc(), &bytes)? {
+        write_record(&mut written, record)?;
+    }
+    assert_eq!(rt; written.as_slice(), bytes.as_slice());
+    written.truncate(100);
+    write_frame(&mut written, Stamp::ZERO, &FRAME)?;
     assert_eq!(rt; written.as_slice(), bytes.as_slice());
     Ok(())
 }
@@ -181,8 +191,8 @@ fn every_cut(rt: HostRuntime) -> Result<(), Fail> {
             _ => Ok(2),
         };
         assert_eq!(rt; read_whole(rt.alloc(), front), want, "{length} bytes");
-        let pieces = read_pieces(rt.alloc(), front, length).map(|records| records.len());
-        assert_eq!(rt; pieces, want, "{length} bytes");
+        let whole = read_pieces(rt.alloc(), &[front]).map(|records| records.len());
+        assert_eq!(rt; whole, want, "{length} bytes");
     }
     Ok(())
 }
@@ -282,12 +292,14 @@ fn any_pieces(rt: HostRuntime) -> Result<(), Fail> {
     let later = [0, 0, 0, 0, 0x40, 0x42, 0x0f, 0, 60, 0, 0, 0, 60, 0, 0, 0];
     let bytes = joined(rt.alloc(), &[&HEADER, &AT_ZERO, &FRAME, &later, &FRAME])?;
     for length in [1, 2, 3, 5, 7, 16, 23, 24, 25, 39, 40, 64, 99, 100, 101, 176] {
-        let records = read_pieces(rt.alloc(), &bytes, length)?;
+        let lengths = vec![in rt.alloc(); length; bytes.len()]?;
+        let records = read_pieces(rt.alloc(), &cut(rt.alloc(), &bytes, &lengths)?)?;
         let written = write_all(rt.alloc(), &records)?;
         assert_eq!(rt; written.as_slice(), bytes.as_slice(), "pieces of {length}");
     }
     for seed in 0..20 {
-        let records = read_random_pieces(rt.alloc(), &bytes, seed)?;
+        let lengths = random_lengths(rt.alloc(), bytes.len(), seed)?;
+        let records = read_pieces(rt.alloc(), &cut(rt.alloc(), &bytes, &lengths)?)?;
         let written = write_all(rt.alloc(), &records)?;
         assert_eq!(rt;
             written.as_slice(),
