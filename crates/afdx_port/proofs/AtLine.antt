@@ -1,30 +1,36 @@
 -- The line at an instant: it goes on, takes arrivals, and has the events that are left.
-use Rattle.std.proofs.Common.{◌≡◌, ℕ, zero, suc, ◌+◌, ◌-◌, ◌<◌, ◌≤◌, false, List, [], ◌∷◌, ◌++◌, length, refl, ap, sym, ◌∙◌, arith, ⊎_elim}
-use Rattle.std.specs.Prelude.{max, not, sum_by, All, Contains}
-use Rattle.std.proofs.lemmas.Bool.{cases_lt}
+use Rattle.std.proofs.Common.{◌≡◌, ℕ, ◌+◌, ◌-◌, ◌≤◌, false, List, [], ◌∷◌, ◌++◌, length, Some, None, append-nil, refl, ap, sym, ◌∙◌, arith}
+use Rattle.std.specs.Prelude.{max, not, sum_by, slice_get, All, Contains}
+use Rattle.std.specs.Option.{option_map}
 use Rattle.std.proofs.lemmas.List.Elements.{All-head, All-weaker, All-append, All-filter, Contains-get_or, filter-append}
 use Rattle.afdx_port.specs.declared.Settings.{Settings}
 use Rattle.afdx_port.specs.declared.Item.{Item}
-use Rattle.afdx_port.specs.Service.{Event, came, item_of, free_after, fate, next, others, is_high, in_turn, service, before}
+use Rattle.afdx_port.specs.Service.{Event, instant, came, item_of, free_after, fate, next, others, is_high, in_turn, service, before}
 use Rattle.afdx_port.specs.Progress.{LineState, left, is_due}
 use Rattle.afdx_port.specs.Order.{in_line, highs, lows, line_up}
-use Rattle.afdx_port.specs.Course.{rest_in_line, reached, line_at}
+use Rattle.afdx_port.specs.Course.{rest_in_line, reached, first_start, line_at}
 use Rattle.afdx_port.specs.Work.{item_cost, work, HaveCome}
-use Rattle.afdx_port.proofs.Turns.{length-others, free_after-next}
-use Rattle.afdx_port.proofs.Parts.{left-step, left-stop, left_again, left-append}
-use Rattle.afdx_port.proofs.Room.{split}
+use Rattle.afdx_port.proofs.Choices.{choose_yes, choose_no}
+use Rattle.afdx_port.proofs.Turns.{free_after-next, instant-fate, by_steps}
+use Rattle.afdx_port.proofs.Parts.{left-step, left-stop, split, left_again, left-append}
 use Rattle.afdx_port.proofs.Working.{not_due, due_no, others_all, left_all, left_waits, work_is}
 use Rattle.afdx_port.proofs.Bounds.{service_all_by}
 use Rattle.afdx_port.proofs.InLine.{serves_in_line, line_up-step, next_is}
-use Rattle.afdx_port.proofs.Following.{choose_yes, choose_no, high_part, low_part, filter_passes, filter_lows, sum_line_up}
+use Rattle.afdx_port.proofs.LineUp.{high_part, low_part, filter_passes, filter_lows, sum_line_up}
 
 -- a line state, seen as the line at u
-abbrev lined : ℕ → LineState → LineState
+abbrev pub lined : ℕ → LineState → LineState
 lined u q = record { free = max q.free u; waiting = line_up q.waiting }
 
-line_is : (s : Settings) (t : ℕ) (items : List Item) → line_at s t items ≡ lined t (left s t 0 items)
+pub line_is : (s : Settings) (t : ℕ) (items : List Item) → line_at s t items ≡ lined t (left s t 0 items)
 unfolding line_at
 line_is s t items = refl
+
+pub fresh_line : (s : Settings) (t : ℕ) → record { free = t; waiting = [] } ≡ line_at s t []
+unfolding line_at
+fresh_line s t = ap (λ f. record { free = f; waiting = [] }) (free_at t) where
+  free_at : (t : ℕ) → t ≡ max 0 t
+  free_at t = omega arith
 
 -- where the items have come by t, and no event lies before it, the next start is known without them
 start_is : (s : Settings) (t free : ℕ) (first : Item) (rest : List Item) → HaveCome s t (first ∷ rest) → is_due s t free (first ∷ rest) ≡ false → max free (came s first) ≡ max free t
@@ -41,47 +47,47 @@ all_by_start s t free first rest come due =
 moved : (t u free : ℕ) (items : List Item) → t ≤ u → record { free = max free u; waiting = items } ≡ reached u (record { free = max free t; waiting = items })
 moved t u free items le = let e : max free u ≡ max (max free t) u = omega arith in ap (λ f. record { free = f; waiting = items }) e
 
-on_by : (n : ℕ) (s : Settings) (t u free : ℕ) (items : List Item) → length items ≡ n → t ≤ u → HaveCome s t items → is_due s t free items ≡ false
+on_by : (s : Settings) (t u : ℕ) → t ≤ u → (free : ℕ) (items : List Item) → HaveCome s t items → is_due s t free items ≡ false
     → lined u (left s u free items) ≡ reached u (rest_in_line s u (max free t) (line_up items))
-on_by n s t u free [] is le come due = moved t u free [] le
-on_by zero s t u free (first ∷ rest) is le come due = absurd (omega (arith, is))
-on_by (suc n) s t u free (first ∷ rest) is le come due =
-    let b = max free (came s first) in
+on_by s t u le = by_steps s u (λ free items. HaveCome s t items → is_due s t free items ≡ false → lined u (left s u free items) ≡ reached u (rest_in_line s u (max free t) (line_up items)))
+    (λ free come due. moved t u free [] le)
+    (λ free first rest lt ih come due.
     let e = next s free first rest in
     let f = free_after e in
     let more = others s free first rest in
     let x = in_turn s free first rest in
     let start = start_is s t free first rest come due in
-    let step : line_up (first ∷ rest) ≡ x ∷ line_up more = line_up-step s free first rest (all_by_start s t free first rest come due) in
-    let stay : LineState = record { free = max free t; waiting = x ∷ line_up more } in
-    let go = rest_in_line s u (free_after (fate s (max free t) x)) (line_up more) in
-    ⊎_elim
-    (λ (lt : b < u).
     let event : fate s (max free t) x ≡ e = ap (λ b. fate s b x) (sym start) ∙ sym (next_is s free first rest) in
     let after : max free t ≤ f = omega (arith, start, free_after-next s free first rest) in
     let same : f ≡ max f t = omega (arith, after) in
-    let ih = on_by n s t u f more (omega (arith, is, length-others s free first rest)) le (others_all s (λ (item : Item). came s item ≤ t) free first rest come) (not_due s t f more (omega (arith, after))) in
+    let go = rest_in_line s u (free_after (fate s (max free t) x)) (line_up more) in
+    let stay : LineState = record { free = max free t; waiting = x ∷ line_up more } in
     let line : rest_in_line s u (max free t) (line_up (first ∷ rest)) ≡ rest_in_line s u (max f t) (line_up more) =
-    ap (rest_in_line s u (max free t)) step ∙ choose_yes go stay (omega (arith, start, lt)) ∙ ap (λ e. rest_in_line s u (free_after e) (line_up more)) event ∙ ap (λ b. rest_in_line s u b (line_up more)) same in
-    ap (lined u) (left-step s u free first rest lt) ∙ ih ∙ sym (ap (reached u) line))
-    (λ (ge : u ≤ b).
+    ap (rest_in_line s u (max free t)) (line_up-step s free first rest (all_by_start s t free first rest come due)) ∙ choose_yes go stay (omega (arith, start, lt)) ∙ ap (λ e. rest_in_line s u (free_after e) (line_up more)) event ∙ ap (λ b. rest_in_line s u b (line_up more)) same in
+    ap (lined u) (left-step s u free first rest lt) ∙ ih (others_all s (λ (item : Item). came s item ≤ t) free first rest come) (not_due s t f more (omega (arith, after))) ∙ sym (ap (reached u) line))
+    (λ free first rest ge come due.
+    let start = start_is s t free first rest come due in
+    let x = in_turn s free first rest in
+    let more = others s free first rest in
+    let step : line_up (first ∷ rest) ≡ x ∷ line_up more = line_up-step s free first rest (all_by_start s t free first rest come due) in
+    let go = rest_in_line s u (free_after (fate s (max free t) x)) (line_up more) in
+    let stay : LineState = record { free = max free t; waiting = x ∷ line_up more } in
     let line : rest_in_line s u (max free t) (line_up (first ∷ rest)) ≡ record { free = max free t; waiting = line_up (first ∷ rest) } =
     ap (rest_in_line s u (max free t)) step ∙ choose_no go stay (omega (arith, start, ge)) ∙ ap (λ xs. record { free = max free t; waiting = xs }) (sym step) in
     ap (lined u) (left-stop s u free first rest ge) ∙ moved t u free (line_up (first ∷ rest)) le ∙ sym (ap (reached u) line))
-    (cases_lt b u)
 
 module _ (s : Settings) (t : ℕ) (items : List Item) where
   abbrev q : LineState
   q = left s t 0 items
 
   come_left : HaveCome s t items → HaveCome s t q.waiting
-  come_left come = left_all (length items) (λ (item : Item). came s item ≤ t) s t 0 items refl come
+  come_left come = left_all (λ (item : Item). came s item ≤ t) s t 0 items come
 
   pub line_goes_on : (u : ℕ) → t ≤ u → HaveCome s t items → line_at s u items ≡ reached u (rest_in_line s u (line_at s t items).free (line_at s t items).waiting)
   unfolding line_at
   line_goes_on u le come =
       ap (lined u) (sym (left_again s t u 0 items le))
-      ∙ on_by (length q.waiting) s t u q.free q.waiting refl le (come_left come) (left_waits (length items) s t 0 items refl)
+      ∙ on_by s t u le q.free q.waiting (come_left come) (left_waits s t 0 items)
 
   pub line_joined : (x : Item) → t ≤ came s x → line_at s t (items ++ x ∷ []) ≡ record { free = (line_at s t items).free; waiting = line_up ((line_at s t items).waiting ++ x ∷ []) }
   unfolding line_at
@@ -111,7 +117,7 @@ module _ (s : Settings) (t : ℕ) (items : List Item) where
   unfolding line_at
   events_follow come =
       split s t 0 items
-      ∙ ap (λ es. before t (service s 0 items) ++ es) (left_in_line q.free q.waiting (come_left come) (left_waits (length items) s t 0 items refl))
+      ∙ ap (λ es. before t (service s 0 items) ++ es) (left_in_line q.free q.waiting (come_left come) (left_waits s t 0 items))
 
   pub events_in_parts : (later : List Event) × (service s 0 items ≡ before t (service s 0 items) ++ later)
   events_in_parts = (service s q.free q.waiting, split s t 0 items)
@@ -127,10 +133,28 @@ module _ (s : Settings) (t : ℕ) (items : List Item) where
   pub waiting_of_items : All (Contains items) (line_at s t items).waiting
   unfolding line_at
   waiting_of_items =
-      let all = left_all (length items) (Contains items) s t 0 items refl (λ k d lt. Contains-get_or items k d lt) in
+      let all = left_all (Contains items) s t 0 items (λ k d lt. Contains-get_or items k d lt) in
       All-append (Contains items) (highs q.waiting) (lows q.waiting)
       (All-filter (λ item. is_high item.priority) (Contains items) q.waiting all)
       (All-filter (λ item. not (is_high item.priority)) (Contains items) q.waiting all)
 
 pub events_of_items : (s : Settings) (free : ℕ) (items : List Item) → All (λ event. Contains items (item_of event)) (service s free items)
 events_of_items s free items = service_all_by (length items) (Contains items) s free items refl (λ k d lt. Contains-get_or items k d lt)
+
+-- the first event behind those that were carried out
+due_at : (xs ys : List Event) → option_map instant (slice_get (xs ++ ys) (length xs)) ≡ option_map instant (slice_get ys 0)
+due_at [] ys = refl
+due_at (x ∷ xs) ys = due_at xs ys
+
+first_due : (s : Settings) (b : ℕ) (items : List Item) → option_map instant (slice_get (in_line s b items) 0) ≡ first_start b items
+first_due s b [] = refl
+first_due s b (x ∷ items) = ap Some (instant-fate s b x)
+
+pub due_all : (es : List Event) → None ≡ option_map instant (slice_get es (length es))
+due_all es = sym (ap (λ fs. option_map instant (slice_get fs (length es))) (sym (append-nil es)) ∙ due_at es [])
+
+pub due_left : (s : Settings) (t : ℕ) (items : List Item) → HaveCome s t items → first_start (line_at s t items).free (line_at s t items).waiting ≡ option_map instant (slice_get (service s 0 items) (length (before t (service s 0 items))))
+due_left s t items come =
+    let done = before t (service s 0 items) in
+    let line = line_at s t items in
+    sym (ap (λ es. option_map instant (slice_get es (length done))) (events_follow s t items come) ∙ due_at done (in_line s line.free line.waiting) ∙ first_due s line.free line.waiting)

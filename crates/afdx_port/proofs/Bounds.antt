@@ -164,5 +164,5 @@ pub high_work_falls : (s : Settings) (t u most : ℕ) (items : List Item) → t 
 high_work_falls s t u most items le come none small =
     let q = left s t 0 items in
     let r = left s u q.free q.waiting in
-    let bound = high_falls_by (length q.waiting) s t u most q.free q.waiting refl le (left_all (length items) (λ (item : Item). came s item ≤ t) s t 0 items refl come) (left_waits (length items) s t 0 items refl) (left_none_aged s t u items le none) (left_all (length items) (λ (item : Item). is_high item.priority ≡ false → item_cost s item ≤ most) s t 0 items refl small) in
+    let bound = high_falls_by (length q.waiting) s t u most q.free q.waiting refl le (left_all (λ (item : Item). came s item ≤ t) s t 0 items come) (left_waits s t 0 items) (left_none_aged s t u items le none) (left_all (λ (item : Item). is_high item.priority ≡ false → item_cost s item ≤ most) s t 0 items small) in
     rw (← left_again s t u 0 items le, high_sum s r.waiting, high_sum s q.waiting) bound

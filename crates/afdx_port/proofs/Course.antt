@@ -1,7 +1,6 @@
 -- A line where all that wait have come by the next start.
-use Rattle.std.proofs.Common.{◌≡◌, ℕ, ◌+◌, ◌-◌, ◌<◌, ◌≤◌, Bool, true, false, cond, Option, Some, None, List, [], ◌∷◌, ◌++◌, length, refl, ap, sym, ◌∙◌, arith, append_assoc}
-use Rattle.std.specs.Prelude.{nat_lt, sum_by, All, SomeIff, IsSome}
-use Rattle.std.proofs.lemmas.Bool.Decides.{nat_tests}
+use Rattle.std.proofs.Common.{◌≡◌, ℕ, ◌+◌, ◌<◌, ◌≤◌, Bool, true, false, cond, Option, Some, None, List, [], ◌∷◌, ◌++◌, length, refl, ap, sym, ◌∙◌, arith, append_assoc}
+use Rattle.std.specs.Prelude.{sum_by, All, SomeIff, IsSome}
 use Rattle.std.proofs.lemmas.List.Sums.{sum_by-cons, sum_by_push}
 use Rattle.std.proofs.lemmas.List.Elements.{All-head, All-tail, All-cons, All-push}
 use Rattle.afdx_units.specs.declared.line.Speed.{Speed}
@@ -9,29 +8,19 @@ use Rattle.afdx_units.specs.declared.line.Speed.TheVariants.{Ten, Hundred}
 use Rattle.afdx_units.specs.Line.{cost_of}
 use Rattle.afdx_port.specs.declared.Settings.{Settings}
 use Rattle.afdx_port.specs.declared.Item.{Item}
-use Rattle.afdx_port.specs.Service.{sending, aging, instant, free_after, fate, before}
+use Rattle.afdx_port.specs.Service.{free_after, fate, before}
 use Rattle.afdx_port.specs.Progress.{LineState}
 use Rattle.afdx_port.specs.Order.{in_line}
 use Rattle.afdx_port.specs.Course.{next_in_line, after_next, rest_in_line, first_start, starts_before}
+use Rattle.afdx_port.proofs.Choices.{below, above}
+use Rattle.afdx_port.proofs.Turns.{instant-fate, free_after-fate}
 use Rattle.afdx_port.proofs.Earlier.{before-cons_out, before-cons_in}
-
-pub instant-fate : (s : Settings) (b : ℕ) (x : Item) → instant (fate s b x) ≡ b
-instant-fate s b x = elim (nat_lt s.max_delay (b - x.stamp)) as (λ v. instant (cond v (aging (record { item = x; at = b })) (sending (record { item = x; begin = b; end = b + cost_of s.speed x.size }))) ≡ b) [ true ↦ refl | false ↦ refl ]
-
-pub free_after-fate : (s : Settings) (b : ℕ) (x : Item) → b ≤ free_after (fate s b x)
-free_after-fate s b x = elim (nat_lt s.max_delay (b - x.stamp)) as (λ v. b ≤ free_after (cond v (aging (record { item = x; at = b })) (sending (record { item = x; begin = b; end = b + cost_of s.speed x.size })))) [ true ↦ omega arith | false ↦ omega arith ]
 
 -- where the next start is at t or later, nothing lies before t
 pub in_line_late : (s : Settings) (t b : ℕ) (items : List Item) → t ≤ b → before t (in_line s b items) ≡ []
 in_line_late s t b [] le = refl
 in_line_late s t b (x ∷ items) le =
     before-cons_out t (fate s b x) (in_line s (free_after (fate s b x)) items) (omega (arith, instant-fate s b x)) ∙ in_line_late s t (free_after (fate s b x)) items (omega (arith, free_after-fate s b x))
-
-below : (m n : ℕ) → nat_lt m n ≡ true → m < n
-below m n h = grind (arith, nat_tests)
-
-above : (m n : ℕ) → nat_lt m n ≡ false → n ≤ m
-above m n h = grind (arith, nat_tests)
 
 -- a step that lies before t moves the first event from what is to do to what was done
 pub before_split : (s s' : Settings) (t b : ℕ) (items : List Item) (q : LineState) → starts_before t (first_start b items) ≡ true → q ≡ after_next s b items → s' ≡ s → before t (in_line s b items) ≡ next_in_line s b items ++ before t (in_line s' q.free q.waiting)

@@ -12,15 +12,15 @@ use Rattle.afdx_port.specs.declared.Item.{Item}
 use Rattle.afdx_port.specs.Service.{came, free_after, fate, next, others, turn, is_high, is_urgent, service, in_turn}
 use Rattle.afdx_port.specs.Progress.{start_of}
 use Rattle.afdx_port.specs.Order.{in_line, highs, lows, line_up, HighTurn, LowTurn}
-use Rattle.afdx_port.proofs.Turns.{length-others, service-step, turn-lt, position_none, free_after-next}
+use Rattle.afdx_port.proofs.Turns.{length-others, service-step, position_none, free_after-next}
 use Rattle.afdx_port.proofs.Working.{others_all}
 use Rattle.afdx_port.proofs.Bounds.{found}
-use Rattle.afdx_port.proofs.Order.{filter_none, filter_place}
+use Rattle.afdx_port.proofs.Order.{filter_none, others_filter}
 
-abbrev high : Item → Bool
+abbrev pub high : Item → Bool
 high item = is_high item.priority
 
-abbrev low : Item → Bool
+abbrev pub low : Item → Bool
 low item = not (is_high item.priority)
 
 calm : (s : Settings) (b : ℕ) (x : Item) → is_urgent s b x ≡ false → came s x ≤ b → high x ≡ false
@@ -59,21 +59,17 @@ module _ (s : Settings) (b : ℕ) (first : Item) (rest : List Item) (come : All 
       absurd (both_ways (high (get_or (first ∷ rest) some.0 first)) (sym (ap (λ o. high (get_or (first ∷ rest) (unwrap_or o 0) first)) some.1) ∙ is) (urgent_high s b (get_or (first ∷ rest) some.0 first) urgent)))
       (found (is_urgent s b) (first ∷ rest))
 
-pub filter_others : (s : Settings) (p : Item → Bool) (free : ℕ) (first : Item) (rest : List Item) → (p (in_turn s free first rest) ≡ true → filter p (take (turn s (max free (came s first)) (first ∷ rest)) (first ∷ rest)) ≡ []) → filter p (first ∷ rest) ≡ cond (p (in_turn s free first rest)) (in_turn s free first rest ∷ filter p (others s free first rest)) (filter p (others s free first rest))
-unfolding others
-filter_others s p free first rest h = filter_place p (first ∷ rest) (turn s (max free (came s first)) (first ∷ rest)) first (turn-lt s (max free (came s first)) first rest) h
-
 -- it is the turn of the first high item or, where none waits, of the first low one
 pub turns : (s : Settings) (free : ℕ) (first : Item) (rest : List Item) → All (λ (item : Item). came s item ≤ max free (came s first)) (first ∷ rest) → HighTurn s free first rest ⊎ LowTurn s free first rest
 turns s free first rest come =
     let b = max free (came s first) in
     let x = in_turn s free first rest in
     let more = others s free first rest in
-    let taken = filter_others s high free first rest (λ _. high_before s b first rest come) in
+    let taken = others_filter s high free first rest (λ _. high_before s b first rest come) in
     ⊎_elim
     (λ (is : high x ≡ true).
     let not_low : low x ≡ false = ap not is in
-    let left = filter_others s low free first rest (λ passes. absurd (both_ways (low x) not_low passes)) in
+    let left = others_filter s low free first rest (λ passes. absurd (both_ways (low x) not_low passes)) in
     inl (record {
       is = is;
       high = taken ∙ ap (λ v. cond v (x ∷ highs more) (highs more)) is;
@@ -82,7 +78,7 @@ turns s free first rest come =
     (λ (is : high x ≡ false).
     let facts = low_first s b first rest come is in
     let is_low : low x ≡ true = ap not is in
-    let left = filter_others s low free first rest (λ _. facts.0) in
+    let left = others_filter s low free first rest (λ _. facts.0) in
     inr (record {
       is = is;
       high = facts.1;

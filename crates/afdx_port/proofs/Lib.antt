@@ -1,3 +1,4 @@
+pub mod Choices
 pub mod Turns
 pub mod Earlier
 pub mod Examples
@@ -15,7 +16,7 @@ pub mod Ignored
 pub mod Busy
 pub mod HighBusy
 pub mod Course
-pub mod Following
+pub mod LineUp
 pub mod AtLine
 pub mod Keeping
 pub mod Ends

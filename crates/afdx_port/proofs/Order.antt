@@ -71,7 +71,7 @@ others_order : (s : Settings) (free : ℕ) (first : Item) (rest : List Item) →
 unfolding others
 others_order s free first rest sorted = all_pairs_remove (λ (a : Item) (b : Item). came s a ≤ came s b) (first ∷ rest) (turn s (max free (came s first)) (first ∷ rest)) (turn-lt s (max free (came s first)) first rest) sorted
 
-others_filter : (s : Settings) (p : Item → Bool) (free : ℕ) (first : Item) (rest : List Item) → (p (get_or (first ∷ rest) (turn s (max free (came s first)) (first ∷ rest)) first) ≡ true → filter p (take (turn s (max free (came s first)) (first ∷ rest)) (first ∷ rest)) ≡ []) → filter p (first ∷ rest) ≡ cond (p (get_or (first ∷ rest) (turn s (max free (came s first)) (first ∷ rest)) first)) (get_or (first ∷ rest) (turn s (max free (came s first)) (first ∷ rest)) first ∷ filter p (others s free first rest)) (filter p (others s free first rest))
+pub others_filter : (s : Settings) (p : Item → Bool) (free : ℕ) (first : Item) (rest : List Item) → (p (get_or (first ∷ rest) (turn s (max free (came s first)) (first ∷ rest)) first) ≡ true → filter p (take (turn s (max free (came s first)) (first ∷ rest)) (first ∷ rest)) ≡ []) → filter p (first ∷ rest) ≡ cond (p (get_or (first ∷ rest) (turn s (max free (came s first)) (first ∷ rest)) first)) (get_or (first ∷ rest) (turn s (max free (came s first)) (first ∷ rest)) first ∷ filter p (others s free first rest)) (filter p (others s free first rest))
 unfolding others
 others_filter s p free first rest h = filter_place p (first ∷ rest) (turn s (max free (came s first)) (first ∷ rest)) first (turn-lt s (max free (came s first)) first rest) h
 

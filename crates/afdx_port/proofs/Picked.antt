@@ -1,17 +1,14 @@
 -- What both bodies of a port rest on: which events were carried out so far.
-use Rattle.std.proofs.Common.{◌≡◌, ℕ, ◌≤◌, Bool, false, cond, List, [], ◌∷◌, ◌++◌, ap, sym, ◌∙◌}
-use Rattle.std.specs.Prelude.{AllPairs, slice_index_or}
+use Rattle.std.proofs.Common.{◌≡◌, ℕ, ◌+◌, ◌≤◌, Bool, true, false, cond, List, [], ◌∷◌, ◌++◌, ap, sym, ◌∙◌, arith}
+use Rattle.std.specs.Prelude.{AllPairs, slice_index_or, nat_le}
+use Rattle.std.proofs.lemmas.Bool.Decides.{nat_tests}
 use Rattle.std.specs.List.{AllByRecursion}
 use Rattle.afdx_port.specs.declared.Settings.{Settings}
 use Rattle.afdx_port.specs.declared.Item.{Item}
 use Rattle.afdx_port.specs.Service.{Event, reach, came, service, before}
-use Rattle.afdx_port.specs.Progress.{LineState, left}
 use Rattle.afdx_port.specs.Order.{InOrder}
-use Rattle.afdx_port.specs.declared.Offer.TheVariants.{Queued, Full}
-use Rattle.afdx_port.specs.Admission.{fits}
-use Rattle.afdx_port.specs.Content.{Content, done, answer, offered}
-use Rattle.afdx_port.proofs.Parts.{parts}
-use Rattle.afdx_port.proofs.Room.{split}
+use Rattle.afdx_port.specs.Content.{done}
+use Rattle.afdx_port.proofs.Parts.{before_on}
 
 -- all that the proofs know of `reach`
 pub reach-le : (s : Settings) (t u : ℕ) → t ≤ u → reach s t ≤ reach s u
@@ -25,21 +22,18 @@ in_order s items h = λ i j d lt within. reach-le s (slice_index_or items i d).s
 pub done_open : (s : Settings) (admitted : List Item) (h : ℕ) (finished : Bool) → finished ≡ false → done (record { settings = s; admitted = admitted; horizon = h; finished = finished }) ≡ before (reach s h) (service s 0 admitted)
 done_open s admitted h finished open' = ap (λ b. cond b (service s 0 admitted) (before (reach s h) (service s 0 admitted))) open'
 
--- what was picked of the events before t, and then of what is left before u
-pub picked : {X : Type 0} (pick : List Event → List X) (pick-append : (es fs : List Event) → pick (es ++ fs) ≡ pick es ++ pick fs) (s : Settings) (t u : ℕ) (items : List Item) (q : LineState) (xs ys : List X) → t ≤ u → q ≡ left s t 0 items → xs ≡ pick (before t (service s 0 items)) → ys ≡ xs ++ pick (before u (service s q.free q.waiting)) → ys ≡ pick (before u (service s 0 items))
-picked pick pick-append s t u items q xs ys le is so_far more =
-    more ∙ rw (so_far, is) (sym (pick-append (before t (service s 0 items)) (before u (service s (left s t 0 items).free (left s t 0 items).waiting))) ∙ ap pick (sym (parts s t u 0 items le)))
+-- what was picked of the events before t, and then of the rest
+pub picked : {X : Type 0} (pick : List Event → List X) (pick-append : (es fs : List Event) → pick (es ++ fs) ≡ pick es ++ pick fs) (t u : ℕ) (all rest : List Event) (xs ys : List X) → t ≤ u → all ≡ before t all ++ rest → xs ≡ pick (before t all) → ys ≡ xs ++ pick (before u rest) → ys ≡ pick (before u all)
+picked pick pick-append t u all rest xs ys le parted so_far more =
+    more ∙ ap (λ zs. zs ++ pick (before u rest)) so_far ∙ sym (pick-append (before t all) (before u rest)) ∙ ap pick (sym (before_on t u all rest le parted))
 
-pub picked_all : {X : Type 0} (pick : List Event → List X) (pick-append : (es fs : List Event) → pick (es ++ fs) ≡ pick es ++ pick fs) (s : Settings) (t : ℕ) (items : List Item) (q : LineState) (xs ys : List X) → q ≡ left s t 0 items → xs ≡ pick (before t (service s 0 items)) → ys ≡ xs ++ pick (service s q.free q.waiting) → ys ≡ pick (service s 0 items)
-picked_all pick pick-append s t items q xs ys is so_far more =
-    more ∙ rw (so_far, is) (sym (pick-append (before t (service s 0 items)) (service s (left s t 0 items).free (left s t 0 items).waiting)) ∙ ap pick (sym (split s t 0 items)))
+pub picked_all : {X : Type 0} (pick : List Event → List X) (pick-append : (es fs : List Event) → pick (es ++ fs) ≡ pick es ++ pick fs) (t : ℕ) (all rest : List Event) (xs ys : List X) → all ≡ before t all ++ rest → xs ≡ pick (before t all) → ys ≡ xs ++ pick rest → ys ≡ pick all
+picked_all pick pick-append t all rest xs ys parted so_far more =
+    more ∙ ap (λ zs. zs ++ pick rest) so_far ∙ sym (pick-append (before t all) rest) ∙ ap pick (sym parted)
 
 pub later : (s : Settings) (x : Item) (t : ℕ) → t ≤ came s x → AllByRecursion (λ (y : Item). t ≤ came s y) (x ∷ [])
 later s x t le = (le, tt)
 
--- whether the item fits tells the answer to it, and the content after it
-pub answer_is : (x : Item) (c : Content) (r : Bool) → fits c.settings c.admitted x ≡ r → cond r Queued Full ≡ answer x c
-answer_is x c r is = ap (λ b. cond b Queued Full) (sym is)
-
-pub offered_is : (x : Item) (c : Content) (r : Bool) → fits c.settings c.admitted x ≡ r → record { settings = c.settings; admitted = cond r (c.admitted ++ x ∷ []) c.admitted; horizon = x.stamp; finished = c.finished } ≡ offered x c
-offered_is x c r is = ap (λ b. record { settings = c.settings; admitted = cond b (c.admitted ++ x ∷ []) c.admitted; horizon = x.stamp; finished = c.finished }) (sym is)
+-- what fits has room beside what waits
+pub room_for : (size on_line waiting limit : ℕ) → nat_le (size + (on_line + waiting)) limit ≡ true → waiting + size ≤ limit
+room_for size on_line waiting limit fit = grind (arith, nat_tests)

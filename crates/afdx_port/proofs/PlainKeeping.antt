@@ -19,13 +19,21 @@ use Rattle.afdx_port.specs.Sound.{IsSmall}
 use Rattle.afdx_port.specs.Content.{Content, done}
 use Rattle.afdx_port.specs.PlainKept.{IsKept, content_of}
 use Rattle.afdx_port.proofs.Earlier.{earlier_events}
-use Rattle.afdx_port.proofs.Parts.{left_again, left-append}
+use Rattle.afdx_port.proofs.Parts.{split, left_again, left-append}
 use Rattle.afdx_port.proofs.Room.{occupied_is}
 use Rattle.afdx_port.proofs.Steps.{sent_of-append, aged_of-append}
 use Rattle.afdx_port.proofs.Picked.{reach-le, done_open, picked, picked_all, later}
 
 left_on : (s : Settings) (t u : ℕ) (items : List Item) (q r : LineState) → t ≤ u → q ≡ left s t 0 items → r ≡ left s u q.free q.waiting → r ≡ left s u 0 items
 left_on s t u items q r le is more = more ∙ rw is (left_again s t u 0 items le)
+
+-- all events are those carried out, and then those of the line
+parted : (p : Inside) → IsKept p → p.finished ≡ false → let s = p.line.settings in service s 0 p.admitted.items ≡ before (reach s p.horizon) (service s 0 p.admitted.items) ++ service s p.line.free p.line.waiting.items
+parted p kept open' =
+    let s = p.line.settings in
+    let from = reach s p.horizon in
+    let all = service s 0 p.admitted.items in
+    split s from 0 p.admitted.items ∙ ap (λ (q : LineState). before from all ++ service s q.free q.waiting) (sym (kept.state open'))
 
 -- the line served all before `to`
 pub kept_before : (p : Inside) (line : PlainLine) (to : ℕ) → IsKept p → p.finished ≡ false → p.horizon ≤ to
@@ -37,6 +45,8 @@ pub kept_before : (p : Inside) (line : PlainLine) (to : ℕ) → IsKept p → p.
 kept_before p line to kept open' le sound room settings sent aged state =
     let s = p.line.settings in
     let items = p.admitted.items in
+    let all = service s 0 items in
+    let rest = service s p.line.free p.line.waiting.items in
     let is = kept.state open' in
     let from = reach s p.horizon in
     let on = reach s to in
@@ -47,8 +57,8 @@ kept_before p line to kept open' le sound room settings sent aged state =
       sound = sound;
       room = room p.room kept.room;
       admitted_room = kept.admitted_room;
-      sent = picked sent_of sent_of-append s from on items (state_of p.line) p.line.sent.items line.sent.items le is (kept.sent ∙ ap sent_of was) sent ∙ sym (ap sent_of now);
-      aged = picked aged_of aged_of-append s from on items (state_of p.line) p.line.aged.items line.aged.items le is (kept.aged ∙ ap aged_of was) aged ∙ sym (ap aged_of now);
+      sent = picked sent_of sent_of-append from on all rest p.line.sent.items line.sent.items le (parted p kept open') (kept.sent ∙ ap sent_of was) sent ∙ sym (ap sent_of now);
+      aged = picked aged_of aged_of-append from on all rest p.line.aged.items line.aged.items le (parted p kept open') (kept.aged ∙ ap aged_of was) aged ∙ sym (ap aged_of now);
       state = λ _. rw settings (left_on s from on items (state_of p.line) (state_of line) le is state);
     }
 
@@ -61,15 +71,16 @@ pub kept_all : (p : Inside) (line : PlainLine) → IsKept p → p.finished ≡ f
 kept_all p line kept open' sound room settings sent aged =
     let s = p.line.settings in
     let items = p.admitted.items in
-    let is = kept.state open' in
+    let all = service s 0 items in
+    let rest = service s p.line.free p.line.waiting.items in
     let was = done_open s items p.horizon p.finished open' in
     let now = ap (λ (z : Settings). service z 0 items) settings in
     record {
       sound = sound;
       room = room p.room kept.room;
       admitted_room = kept.admitted_room;
-      sent = picked_all sent_of sent_of-append s (reach s p.horizon) items (state_of p.line) p.line.sent.items line.sent.items is (kept.sent ∙ ap sent_of was) sent ∙ sym (ap sent_of now);
-      aged = picked_all aged_of aged_of-append s (reach s p.horizon) items (state_of p.line) p.line.aged.items line.aged.items is (kept.aged ∙ ap aged_of was) aged ∙ sym (ap aged_of now);
+      sent = picked_all sent_of sent_of-append (reach s p.horizon) all rest p.line.sent.items line.sent.items (parted p kept open') (kept.sent ∙ ap sent_of was) sent ∙ sym (ap sent_of now);
+      aged = picked_all aged_of aged_of-append (reach s p.horizon) all rest p.line.aged.items line.aged.items (parted p kept open') (kept.aged ∙ ap aged_of was) aged ∙ sym (ap aged_of now);
       state = λ no. (cc);
     }
 
@@ -133,9 +144,11 @@ kept_queued p line admitted x room kept open' at small fits less items len cap o
     }
 
 -- the sum of what is on the line and what waits tells whether x fits
-pub fits_kept : (p : Inside) (s : Settings) (items : List Item) (x : Item) → IsKept p → p.finished ≡ false → p.horizon ≡ x.stamp → p.line.settings ≡ s → p.admitted.items ≡ items
-    → nat_le (x.size + (on_line (came p.line.settings x) p.line.sent.items + sum_by (λ (other : Item). other.size) p.line.waiting.items)) p.line.settings.buffer ≡ fits s items x
-fits_kept p s items x kept open' at same_settings same_items =
+pub fits_kept : (p : Inside) (c : Content) (x : Item) → IsKept p → content_of p ≡ c → c.finished ≡ false → c.horizon ≡ x.stamp
+    → nat_le (x.size + (on_line (came p.line.settings x) p.line.sent.items + sum_by (λ (other : Item). other.size) p.line.waiting.items)) p.line.settings.buffer ≡ fits c.settings c.admitted x
+fits_kept p c x kept view is_open is_at =
+    let open' : p.finished ≡ false = ap (λ (v : Content). v.finished) view ∙ is_open in
+    let at : p.horizon ≡ x.stamp = ap (λ (v : Content). v.horizon) view ∙ is_at in
     let z = p.line.settings in
     let b = came z x in
     let h = reach z p.horizon in
@@ -143,36 +156,4 @@ fits_kept p s items x kept open' at same_settings same_items =
     let waiting = ap (λ (q : LineState). sum_by (λ (other : Item). other.size) q.waiting) (kept.state open') in
     let sum = ap (λ xs. on_line b xs + sum_by (λ (other : Item). other.size) p.line.waiting.items) sent ∙ ap (λ n. on_line b (sent_of (before h (service z 0 p.admitted.items))) + n) waiting in
     let all = ap (λ h. on_line b (sent_of (before (reach z h) (service z 0 p.admitted.items))) + sum_by (λ (other : Item). other.size) (left z (reach z h) 0 p.admitted.items).waiting) at ∙ sym (occupied_is z b p.admitted.items) in
-    ap (λ n. nat_le (x.size + n) z.buffer) (sum ∙ all) ∙ ap (λ (z : Settings). fits z p.admitted.items x) same_settings ∙ ap (λ (ys : List Item). fits s ys x) same_items
-
--- the port once its line served all before the item x, which is offered to it
-abbrev pub at_item : Inside → PlainLine → Item → Inside
-at_item p line x = record { line = line; admitted = p.admitted; horizon = x.stamp; finished = p.finished; room = p.room }
-
-pub record Reached (p : Inside) (line : PlainLine) (x : Item) (content : Content) : Type 0 where
-  pub kept : IsKept (at_item p line x)
-  pub open' : p.finished ≡ false
-  pub settings : line.settings ≡ content.settings
-  pub admitted : p.admitted.items ≡ content.admitted
-  pub finished : p.finished ≡ content.finished
-
-pub reached_item : (p : Inside) (line : PlainLine) (x : Item) (content : Content) → IsKept p → content_of p ≡ content → content.finished ≡ false → content.horizon ≤ x.stamp
-    → IsSound line → ((room : ℕ) → HasRoom room p.line → HasRoom room line) → line.settings ≡ p.line.settings
-    → line.sent.items ≡ p.line.sent.items ++ sent_of (before (reach p.line.settings x.stamp) (service p.line.settings p.line.free p.line.waiting.items))
-    → line.aged.items ≡ p.line.aged.items ++ aged_of (before (reach p.line.settings x.stamp) (service p.line.settings p.line.free p.line.waiting.items))
-    → state_of line ≡ left p.line.settings (reach p.line.settings x.stamp) p.line.free p.line.waiting.items
-    → Reached p line x content
-reached_item p line x content kept view open' le sound room settings sent aged state =
-    let open'' : p.finished ≡ false = ap (λ (v : Content). v.finished) view ∙ open' in
-    let le' : p.horizon ≤ x.stamp = omega (arith, ap (λ (v : Content). v.horizon) view, le) in
-    record {
-      kept = kept_before p line x.stamp kept open'' le' sound room settings sent aged state;
-      open' = open'';
-      settings = settings ∙ ap (λ (v : Content). v.settings) view;
-      admitted = ap (λ (v : Content). v.admitted) view;
-      finished = ap (λ (v : Content). v.finished) view;
-    }
-
-pub fits_reached : (p : Inside) (line : PlainLine) (x : Item) (content : Content) → Reached p line x content
-    → nat_le (x.size + (on_line (came line.settings x) line.sent.items + sum_by (λ (other : Item). other.size) line.waiting.items)) line.settings.buffer ≡ fits content.settings content.admitted x
-fits_reached p line x content h = fits_kept (at_item p line x) content.settings content.admitted x h.kept h.open' refl h.settings h.admitted
+    ap (λ n. nat_le (x.size + n) z.buffer) (sum ∙ all) ∙ ap (λ (v : Content). fits v.settings v.admitted x) view

@@ -1,5 +1,5 @@
 -- The bytes that are occupied at t: those on the line, and those that wait.
-use Rattle.std.proofs.Common.{◌≡◌, ℕ, zero, suc, ◌+◌, ◌-◌, ◌<◌, ◌≤◌, Bool, true, false, cond, List, [], ◌∷◌, ◌++◌, length, get_or, refl, ap, sym, ◌∙◌, arith, ⊎_elim}
+use Rattle.std.proofs.Common.{◌≡◌, ℕ, zero, suc, ◌+◌, ◌-◌, ◌<◌, ◌≤◌, Bool, true, false, cond, List, [], ◌∷◌, length, get_or, refl, ap, sym, ◌∙◌, arith, ⊎_elim}
 use Rattle.std.specs.Prelude.{max, filter, nat_lt, nat_le, not, sum_by}
 use Rattle.std.proofs.lemmas.Bool.{cases_lt}
 use Rattle.std.proofs.lemmas.Bool.Decides.{nat_tests}
@@ -15,9 +15,9 @@ use Rattle.afdx_port.specs.declared.Aged.{Aged}
 use Rattle.afdx_port.specs.Service.{came, Event, sending, aging, instant, item_of, free_after, fate, next, others, turn, serve, service, before, sent_of}
 use Rattle.afdx_port.specs.Admission.{is_gone, occupied}
 use Rattle.afdx_port.specs.Progress.{left, on_line}
-use Rattle.afdx_port.proofs.Turns.{instant-next, free_after-next, item_of-next, turn-lt, length-others, service-step}
+use Rattle.afdx_port.proofs.Turns.{instant-next, free_after-next, item_of-next, turn-lt, service-step, by_events, by_steps}
 use Rattle.afdx_port.proofs.Earlier.{late, late_start, before-step}
-use Rattle.afdx_port.proofs.Parts.{left-step, left-stop}
+use Rattle.afdx_port.proofs.Parts.{left-step, left-stop, split}
 
 abbrev pub stays : ℕ → Event → Bool
 stays t event = not (is_gone t event)
@@ -25,38 +25,20 @@ stays t event = not (is_gone t event)
 abbrev pub bytes : List Event → ℕ
 bytes events = sum_by (λ event. (item_of event).size) events
 
--- all events are those before t, and then those of what is left
-pub split : (s : Settings) (t free : ℕ) (items : List Item) → service s free items ≡ before t (service s free items) ++ service s (left s t free items).free (left s t free items).waiting
-split s t free items = split_by (length items) s t free items refl where
-  split_by : (n : ℕ) (s : Settings) (t free : ℕ) (items : List Item) → length items ≡ n → service s free items ≡ before t (service s free items) ++ service s (left s t free items).free (left s t free items).waiting
-  split_by n s t free [] is = refl
-  split_by zero s t free (first ∷ rest) is = absurd (omega (arith, is))
-  split_by (suc n) s t free (first ∷ rest) is =
-      ⊎_elim
-      (λ (lt : max free (came s first) < t).
-      let e = next s free first rest in
-      service-step s free first rest
-      ∙ rw (before-step s t free first rest lt, left-step s t free first rest lt) (ap (λ es. e ∷ es) (split_by n s t (free_after e) (others s free first rest) (omega (arith, is, length-others s free first rest)))))
-      (λ (ge : t ≤ max free (came s first)). rw (late_start s t free first rest ge, left-stop s t free first rest ge) refl)
-      (cases_lt (max free (came s first)) t)
-
 pub sum_by-others : (s : Settings) (f : Item → ℕ) (free : ℕ) (first : Item) (rest : List Item) → sum_by f (others s free first rest) + f (get_or (first ∷ rest) (turn s (max free (came s first)) (first ∷ rest)) first) ≡ sum_by f (first ∷ rest)
 unfolding others
 sum_by-others s f free first rest = sum_by-remove f (first ∷ rest) (turn s (max free (came s first)) (first ∷ rest)) first (turn-lt s (max free (came s first)) first rest)
 
 -- each item has one event
 pub sum_by-service : (f : Item → ℕ) (s : Settings) (free : ℕ) (items : List Item) → sum_by (λ event. f (item_of event)) (service s free items) ≡ sum_by f items
-sum_by-service f s free items = sum_by_service_by (length items) s free items refl where
-  sum_by_service_by : (n : ℕ) (s : Settings) (free : ℕ) (items : List Item) → length items ≡ n → sum_by (λ event. f (item_of event)) (service s free items) ≡ sum_by f items
-  sum_by_service_by n s free [] is = refl
-  sum_by_service_by zero s free (first ∷ rest) is = absurd (omega (arith, is))
-  sum_by_service_by (suc n) s free (first ∷ rest) is =
-      let e = next s free first rest in
-      let more = service s (free_after e) (others s free first rest) in
-      let one = ap (sum_by (λ event. f (item_of event))) (service-step s free first rest) ∙ sum_by-cons (λ event. f (item_of event)) e more in
-      let ih = sum_by_service_by n s (free_after e) (others s free first rest) (omega (arith, is, length-others s free first rest)) in
-      let here = ap f (item_of-next s free first rest) in
-      omega (arith, one, ih, here, sum_by-others s f free first rest)
+sum_by-service f s = by_events s (λ free items. sum_by (λ event. f (item_of event)) (service s free items) ≡ sum_by f items)
+    (λ free. refl)
+    (λ free first rest ih.
+    let e = next s free first rest in
+    let more = service s (free_after e) (others s free first rest) in
+    let one = ap (sum_by (λ event. f (item_of event))) (service-step s free first rest) ∙ sum_by-cons (λ event. f (item_of event)) e more in
+    let here = ap f (item_of-next s free first rest) in
+    omega (arith, one, ih, here, sum_by-others s f free first rest))
 
 cost-positive : (speed : Speed) (size : ℕ) → 0 < cost_of speed size
 cost-positive Ten size = omega arith
@@ -94,15 +76,10 @@ all_stay_start s t free first rest le =
 
 -- nothing of what is left at t has gone at t
 left_stays : (s : Settings) (t free : ℕ) (items : List Item) → filter (stays t) (service s (left s t free items).free (left s t free items).waiting) ≡ service s (left s t free items).free (left s t free items).waiting
-left_stays s t free items = by_length (length items) s t free items refl where
-  by_length : (n : ℕ) (s : Settings) (t free : ℕ) (items : List Item) → length items ≡ n → filter (stays t) (service s (left s t free items).free (left s t free items).waiting) ≡ service s (left s t free items).free (left s t free items).waiting
-  by_length n s t free [] is = refl
-  by_length zero s t free (first ∷ rest) is = absurd (omega (arith, is))
-  by_length (suc n) s t free (first ∷ rest) is =
-      ⊎_elim
-      (λ (lt : max free (came s first) < t). rw (left-step s t free first rest lt) (by_length n s t (free_after (next s free first rest)) (others s free first rest) (omega (arith, is, length-others s free first rest))))
-      (λ (ge : t ≤ max free (came s first)). rw (left-stop s t free first rest ge) (all_stay_start s t free first rest ge))
-      (cases_lt (max free (came s first)) t)
+left_stays s t = by_steps s t (λ free items. filter (stays t) (service s (left s t free items).free (left s t free items).waiting) ≡ service s (left s t free items).free (left s t free items).waiting)
+    (λ free. refl)
+    (λ free first rest lt ih. rw (left-step s t free first rest lt) ih)
+    (λ free first rest ge. rw (left-stop s t free first rest ge) (all_stay_start s t free first rest ge))
 
 on_line-done : (t : ℕ) (x : Sent) (xs : List Sent) → x.end ≤ t → on_line t (x ∷ xs) ≡ on_line t xs
 on_line-done t x [] le = grind (arith, nat_tests)
@@ -125,18 +102,14 @@ line_bytes_step t (aging x) es lt stop ih = ap bytes (filter-no (stays t) (aging
   gone_at x lt = grind (arith, nat_tests)
 
 line_bytes : (s : Settings) (t free : ℕ) (items : List Item) → bytes (filter (stays t) (before t (service s free items))) ≡ on_line t (sent_of (before t (service s free items)))
-line_bytes s t free items = by_length (length items) s t free items refl where
-  by_length : (n : ℕ) (s : Settings) (t free : ℕ) (items : List Item) → length items ≡ n → bytes (filter (stays t) (before t (service s free items))) ≡ on_line t (sent_of (before t (service s free items)))
-  by_length n s t free [] is = refl
-  by_length zero s t free (first ∷ rest) is = absurd (omega (arith, is))
-  by_length (suc n) s t free (first ∷ rest) is =
-      ⊎_elim
-      (λ (lt : max free (came s first) < t).
-      let e = next s free first rest in
-      let stop : t < free_after e → before t (service s (free_after e) (others s free first rest)) ≡ [] = λ on. late (length (others s free first rest)) s t (free_after e) (others s free first rest) (omega arith) in
-      rw (before-step s t free first rest lt) (line_bytes_step t e (before t (service s (free_after e) (others s free first rest))) (omega (arith, instant-next s free first rest)) stop (by_length n s t (free_after e) (others s free first rest) (omega (arith, is, length-others s free first rest)))))
-      (λ (ge : t ≤ max free (came s first)). rw (late_start s t free first rest ge) refl)
-      (cases_lt (max free (came s first)) t)
+line_bytes s t = by_steps s t (λ free items. bytes (filter (stays t) (before t (service s free items))) ≡ on_line t (sent_of (before t (service s free items))))
+    (λ free. refl)
+    (λ free first rest lt ih.
+    let e = next s free first rest in
+    let more = before t (service s (free_after e) (others s free first rest)) in
+    let stop : t < free_after e → more ≡ [] = λ on. late (length (others s free first rest)) s t (free_after e) (others s free first rest) (omega arith) in
+    rw (before-step s t free first rest lt) (line_bytes_step t e more (omega (arith, instant-next s free first rest)) stop ih))
+    (λ free first rest ge. rw (late_start s t free first rest ge) refl)
 
 -- what is occupied at t is on the line or waits
 pub occupied_is : (s : Settings) (t : ℕ) (admitted : List Item) → occupied s t admitted ≡ on_line t (sent_of (before t (service s 0 admitted))) + sum_by (λ item. item.size) (left s t 0 admitted).waiting

@@ -1,7 +1,6 @@
 -- One step of a line, in the terms in which the code takes it.
 use Rattle.std.proofs.Common.{◌≡◌, ℕ, zero, suc, ◌+◌, ◌-◌, ◌<◌, ◌≤◌, true, false, cond, List, [], ◌∷◌, ◌++◌, length, get_or, take, drop, Some, None, refl, ap, sym, ◌∙◌, arith, append_assoc, append-nil}
 use Rattle.std.specs.Prelude.{max, nat_lt, sum_by, remove, slice_get, All, SomeIff, Option}
-use Rattle.std.proofs.lemmas.Bool.Decides.{nat_tests}
 use Rattle.std.proofs.lemmas.List.{get_or_read}
 use Rattle.std.proofs.lemmas.List.Sums.{sum_by-remove}
 use Rattle.std.proofs.lemmas.List.Elements.{All-append, All-take, All-drop}
@@ -10,20 +9,17 @@ use Rattle.afdx_port.specs.declared.Settings.{Settings}
 use Rattle.afdx_port.specs.declared.Item.{Item}
 use Rattle.afdx_port.specs.declared.Sent.{Sent}
 use Rattle.afdx_port.specs.Service.{came, Event, sending, aging, free_after, fate, next, others, turn, service, before, sent_of, aged_of}
-use Rattle.afdx_port.specs.Progress.{LineState, left, on_line, start_of, is_due, next_events, next_state}
+use Rattle.afdx_port.specs.Progress.{LineState, left, on_line, start_of, is_due, next_events, next_state, IsStep}
+use Rattle.afdx_port.proofs.Choices.{below, above, choose_yes, choose_no}
 use Rattle.afdx_port.proofs.Turns.{turn-lt, service-step}
 use Rattle.afdx_port.proofs.Earlier.{late_start, before-step}
 use Rattle.afdx_port.proofs.Parts.{left-step, left-stop}
 
 pub fate_aged : (s : Settings) (b : ℕ) (x : Item) → s.max_delay < b - x.stamp → fate s b x ≡ aging (record { item = x; at = b })
-fate_aged s b x long = choose _ _ long where
-  choose : {m n : ℕ} (x y : Event) → m < n → cond (nat_lt m n) x y ≡ x
-  choose x y h = grind (arith, nat_tests)
+fate_aged s b x long = choose_yes _ _ long
 
 pub fate_sent : (s : Settings) (b : ℕ) (x : Item) → b - x.stamp ≤ s.max_delay → fate s b x ≡ sending (record { item = x; begin = b; end = b + cost_of s.speed x.size })
-fate_sent s b x short = choose _ _ short where
-  choose : {m n : ℕ} (x y : Event) → n ≤ m → cond (nat_lt m n) x y ≡ y
-  choose x y h = grind (arith, nat_tests)
+fate_sent s b x short = choose_no _ _ short
 
 -- x is the item at the place k whose turn it is at the start b
 pub record IsNext (s : Settings) (free : ℕ) (items : List Item) (b k : ℕ) (x : Item) : Type 0 where
@@ -52,7 +48,14 @@ state_is s free (first ∷ rest) b k x h =
       head_is : {x y : Event} → x ∷ [] ≡ y ∷ [] → x ≡ y
       head_is h = (cc)
 
--- the item at the place k < length
+-- the event of x, and the items without it, are the next step
+pub step_is : (s : Settings) (free : ℕ) (items : List Item) (b k : ℕ) (x : Item) {e : Event} {after : List Item} → IsNext s free items b k x → e ≡ fate s b x → after ≡ remove items k → IsStep s free items e after
+step_is s free items b k x h event after = record { events = rw event (event_is s free items b k x h); state = rw (event, after) (state_is s free items b k x h) }
+
+pub turn_within : (s : Settings) (b : ℕ) (items : List Item) (k : ℕ) → 0 < length items → k ≡ turn s b items → k < length items
+turn_within s b [] k some is = absurd (omega (arith, some))
+turn_within s b (first ∷ rest) k some is = omega (arith, is, turn-lt s b first rest)
+
 pub All_remove : (P : Item → Type 0) (items : List Item) (k : ℕ) → All P items → All P (remove items k)
 All_remove P items k h = All-append P (take k items) (drop (suc k) items) (All-take P k items h) (All-drop P (suc k) items h)
 
@@ -62,27 +65,19 @@ bytes_remove items k limit x lt le = omega (arith, sum_by-remove (λ (item : Ite
 -- a step that lies before t is the first of the events before t
 pub before_due : (s : Settings) (t free : ℕ) (items : List Item) → is_due s t free items ≡ true → before t (service s free items) ≡ next_events s free items ++ before t (service s (next_state s free items).free (next_state s free items).waiting)
 before_due s t free [] h = refl
-before_due s t free (first ∷ rest) h = before-step s t free first rest (below _ _ h) where
-  below : (m n : ℕ) → nat_lt m n ≡ true → m < n
-  below m n h = grind (arith, nat_tests)
+before_due s t free (first ∷ rest) h = before-step s t free first rest (below _ _ h)
 
 pub left_due : (s : Settings) (t free : ℕ) (items : List Item) → is_due s t free items ≡ true → left s t free items ≡ left s t (next_state s free items).free (next_state s free items).waiting
 left_due s t free [] h = refl
-left_due s t free (first ∷ rest) h = left-step s t free first rest (below _ _ h) where
-  below : (m n : ℕ) → nat_lt m n ≡ true → m < n
-  below m n h = grind (arith, nat_tests)
+left_due s t free (first ∷ rest) h = left-step s t free first rest (below _ _ h)
 
 pub before_not_due : (s : Settings) (t free : ℕ) (items : List Item) → is_due s t free items ≡ false → before t (service s free items) ≡ []
 before_not_due s t free [] h = refl
-before_not_due s t free (first ∷ rest) h = late_start s t free first rest (above _ _ h) where
-  above : (m n : ℕ) → nat_lt m n ≡ false → n ≤ m
-  above m n h = grind (arith, nat_tests)
+before_not_due s t free (first ∷ rest) h = late_start s t free first rest (above _ _ h)
 
 pub left_not_due : (s : Settings) (t free : ℕ) (items : List Item) → is_due s t free items ≡ false → left s t free items ≡ record { free = free; waiting = items }
 left_not_due s t free [] h = refl
-left_not_due s t free (first ∷ rest) h = left-stop s t free first rest (above _ _ h) where
-  above : (m n : ℕ) → nat_lt m n ≡ false → n ≤ m
-  above m n h = grind (arith, nat_tests)
+left_not_due s t free (first ∷ rest) h = left-stop s t free first rest (above _ _ h)
 
 pub due_waits : (s : Settings) (t free : ℕ) (items : List Item) → is_due s t free items ≡ true → 0 < length items
 due_waits s t free [] h = (cc)
@@ -131,7 +126,3 @@ finished_by pick rest xs goal none nothing so_far = sym (append-nil xs) ∙ ap (
 pub some_value : (o : Option ℕ) (P : Type 0) (v x : ℕ) → SomeIff o P v → o ≡ Some x → x ≡ v
 some_value None P v x h e = (cc)
 some_value (Some y) P v x h e = let same : y ≡ v = h.1 in (cc)
-
-pub place-lt : (s : Settings) (free : ℕ) (items : List Item) (b k : ℕ) (x : Item) → IsNext s free items b k x → k < length items
-place-lt s free [] b k x h = absurd (omega (arith, h.waits))
-place-lt s free (first ∷ rest) b k x h = omega (arith, h.place, turn-lt s b first rest)

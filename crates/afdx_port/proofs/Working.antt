@@ -11,10 +11,11 @@ use Rattle.afdx_port.specs.declared.Item.{Item}
 use Rattle.afdx_port.specs.Service.{came, Event, sending, aging, instant, item_of, free_after, fate, next, others, turn, service, before, aged_of}
 use Rattle.afdx_port.specs.Progress.{LineState, left, is_due}
 use Rattle.afdx_port.specs.Work.{item_cost, rest_at, work, taken_by, line_time, NoneAged, HaveCome}
-use Rattle.afdx_port.proofs.Turns.{instant-next, free_after-next, item_of-next, length-others, service-step}
+use Rattle.afdx_port.proofs.Choices.{above, not_below}
+use Rattle.afdx_port.proofs.Turns.{instant-next, free_after-next, item_of-next, length-others, service-step, by_steps}
 use Rattle.afdx_port.proofs.Earlier.{late, late_start, before-step}
-use Rattle.afdx_port.proofs.Parts.{left-step, left-stop, left_again, parts}
-use Rattle.afdx_port.proofs.Room.{split, sum_by-others}
+use Rattle.afdx_port.proofs.Parts.{left-step, left-stop, left_again, split, parts}
+use Rattle.afdx_port.proofs.Room.{sum_by-others}
 use Rattle.afdx_port.proofs.Steps.{aged_of-append, All_remove}
 
 -- an event of the service: it takes its item's cost, or none
@@ -86,14 +87,10 @@ rest_late s t (aging x) takes ge = waits x.at t (item_cost s x.item) ge where
 
 pub not_due : (s : Settings) (t free : ℕ) (items : List Item) → t ≤ free → is_due s t free items ≡ false
 not_due s t free [] le = refl
-not_due s t free (first ∷ rest) le = above _ _ (omega arith) where
-  above : (m n : ℕ) → n ≤ m → nat_lt m n ≡ false
-  above m n h = grind (arith, nat_tests)
+not_due s t free (first ∷ rest) le = not_below _ _ (omega arith)
 
 pub due_no : (s : Settings) (t free : ℕ) (first : Item) (rest : List Item) → is_due s t free (first ∷ rest) ≡ false → t ≤ max free (came s first)
-due_no s t free first rest h = above _ _ h where
-  above : (m n : ℕ) → nat_lt m n ≡ false → n ≤ m
-  above m n h = grind (arith, nat_tests)
+due_no s t free first rest h = above _ _ h
 
 left_free : (s : Settings) (t free : ℕ) (items : List Item) → t ≤ free → left s t free items ≡ record { free = free; waiting = items }
 left_free s t free [] le = refl
@@ -138,25 +135,17 @@ unfolding others
 others_all s P free first rest h = All_remove P (first ∷ rest) (turn s (max free (came s first)) (first ∷ rest)) h
 
 -- what is left at t waits for t, and is of the items
-pub left_waits : (n : ℕ) (s : Settings) (t free : ℕ) (items : List Item) → length items ≡ n → is_due s t (left s t free items).free (left s t free items).waiting ≡ false
-left_waits n s t free [] is = refl
-left_waits zero s t free (first ∷ rest) is = absurd (omega (arith, is))
-left_waits (suc n) s t free (first ∷ rest) is =
-    ⊎_elim
-    (λ (lt : max free (came s first) < t). rw (left-step s t free first rest lt) (left_waits n s t (free_after (next s free first rest)) (others s free first rest) (omega (arith, is, length-others s free first rest))))
-    (λ (ge : t ≤ max free (came s first)). rw (left-stop s t free first rest ge) (above _ _ ge))
-    (cases_lt (max free (came s first)) t) where
-      above : (m n : ℕ) → n ≤ m → nat_lt m n ≡ false
-      above m n h = grind (arith, nat_tests)
+pub left_waits : (s : Settings) (t free : ℕ) (items : List Item) → is_due s t (left s t free items).free (left s t free items).waiting ≡ false
+left_waits s t = by_steps s t (λ free items. is_due s t (left s t free items).free (left s t free items).waiting ≡ false)
+    (λ free. refl)
+    (λ free first rest lt ih. rw (left-step s t free first rest lt) ih)
+    (λ free first rest ge. rw (left-stop s t free first rest ge) (not_below _ _ ge))
 
-pub left_all : (n : ℕ) (P : Item → Type 0) (s : Settings) (t free : ℕ) (items : List Item) → length items ≡ n → All P items → All P (left s t free items).waiting
-left_all n P s t free [] is h = h
-left_all zero P s t free (first ∷ rest) is h = absurd (omega (arith, is))
-left_all (suc n) P s t free (first ∷ rest) is h =
-    ⊎_elim
-    (λ (lt : max free (came s first) < t). rw (left-step s t free first rest lt) (left_all n P s t (free_after (next s free first rest)) (others s free first rest) (omega (arith, is, length-others s free first rest)) (others_all s P free first rest h)))
-    (λ (ge : t ≤ max free (came s first)). rw (left-stop s t free first rest ge) h)
-    (cases_lt (max free (came s first)) t)
+pub left_all : (P : Item → Type 0) (s : Settings) (t free : ℕ) (items : List Item) → All P items → All P (left s t free items).waiting
+left_all P s t = by_steps s t (λ free items. All P items → All P (left s t free items).waiting)
+    (λ free h. h)
+    (λ free first rest lt ih h. rw (left-step s t free first rest lt) (ih (others_all s P free first rest h)))
+    (λ free first rest ge h. rw (left-stop s t free first rest ge) h)
 
 -- the work is what the line still sends and what waits
 abbrev pub backlog : Settings → ℕ → LineState → ℕ
@@ -168,7 +157,7 @@ work_is s t items =
     let done = before t (service s 0 items) in
     ap (sum_by (rest_at s t)) (split s t 0 items)
     ∙ sum_by-append (rest_at s t) done (service s q.free q.waiting)
-    ∙ rw (rest_before (length items) s t 0 items refl (omega arith), rest_left (length q.waiting) s t q.free q.waiting refl (left_waits (length items) s t 0 items refl)) refl
+    ∙ rw (rest_before (length items) s t 0 items refl (omega arith), rest_left (length q.waiting) s t q.free q.waiting refl (left_waits s t 0 items)) refl
 
 -- an event that is no aging occupies the line for its item's cost
 pub sent_next : (s : Settings) (free : ℕ) (first : Item) (rest : List Item) → aged_of (next s free first rest ∷ []) ≡ [] → free_after (next s free first rest) ≡ max free (came s first) + item_cost s (item_of (next s free first rest))
@@ -214,5 +203,5 @@ work_falls s t u items le come none =
     let q = left s t 0 items in
     work_is s u items
     ∙ ap (backlog s u) (sym (left_again s t u 0 items le))
-    ∙ falls_by (length q.waiting) s t u q.free q.waiting refl le (left_all (length items) (λ (item : Item). came s item ≤ t) s t 0 items refl come) (left_waits (length items) s t 0 items refl) (left_none_aged s t u items le none)
+    ∙ falls_by (length q.waiting) s t u q.free q.waiting refl le (left_all (λ (item : Item). came s item ≤ t) s t 0 items come) (left_waits s t 0 items) (left_none_aged s t u items le none)
     ∙ ap (λ n. n - (u - t)) (sym (work_is s t items))

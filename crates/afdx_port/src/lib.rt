@@ -11,10 +11,12 @@
 //! `Port::reserve` alone takes memory.
 #![tactic(auto)]
 
-ghost use Rattle.std.specs.Prelude.{◌≡◌};
-ghost use Rattle.afdx_port.specs.Service.{reach, came, is_urgent};
+ghost use Rattle.std.specs.Prelude.{◌≡◌, ◌≤◌};
+ghost use Rattle.afdx_port.specs.Service.{reach, came, is_urgent, fate};
+ghost use Rattle.afdx_port.specs.Progress.{event_of};
+ghost use Rattle.afdx_port.specs.Sound.{IsSmall};
 
-use afdx_units::{Priority, Speed, Stamp};
+use afdx_units::{Priority, Speed, Stamp, cost};
 
 pub mod laws;
 mod line;
@@ -84,6 +86,25 @@ impl Settings {
         ensures { result ≡ reach self.now to }
     {
         to
+    }
+
+    /// What becomes of an item whose turn it is at the instant: it is sent, or given up for its age.
+    fn fate(&self, at: Stamp, item: Item) -> Result<Sent, Aged>
+        requires delay { self.now.max_delay ≤ 500000000 }
+        requires small { IsSmall item }
+        ensures { event_of result ≡ fate self.now at item }
+    {
+        let waited = at.ns().saturating_sub(item.stamp.ns());
+        if waited > self.max_delay {
+            Err(Aged { item, at })
+        } else {
+            let end = at.plus(cost(self.speed, item.size)).unwrap();
+            Ok(Sent {
+                item,
+                begin: at,
+                end,
+            })
+        }
     }
 }
 

@@ -11,7 +11,7 @@ ghost use Rattle.afdx_port.specs.Sound.{IsSound, IsSmall, HasRoom, queue_of, sta
 
 use crate::queues::Queues;
 use crate::{Aged, Item, Sent, Settings};
-use afdx_units::{Stamp, cost};
+use afdx_units::Stamp;
 use std::alloc::{AllocError, Allocator};
 
 /// A line, the items that wait for it, and what became of the others. The last one sent is the one
@@ -114,15 +114,13 @@ impl<A: Allocator + Copy> Line<A> {
         ensures aged { self.new.aged.items ≡ self.old.aged.items ++ aged_of (next_in_line self.old.settings self.old.ready (queue_of self.old)) }
         ensures state { state_of self.new ≡ after_next self.old.settings self.old.ready (queue_of self.old) }
     {
-        let begin = self.ready;
         if let Some(item) = self.waiting.pop() {
-            let waited = begin.ns().saturating_sub(item.stamp.ns());
-            if waited > self.settings.max_delay {
-                self.aged.push_reserved(Aged { item, at: begin });
-            } else {
-                let end = begin.plus(cost(self.settings.speed, item.size)).unwrap();
-                self.sent.push_reserved(Sent { item, begin, end });
-                self.ready = end;
+            match self.settings.fate(self.ready, item) {
+                Ok(sent) => {
+                    self.ready = sent.end;
+                    self.sent.push_reserved(sent);
+                }
+                Err(aged) => self.aged.push_reserved(aged),
             }
         }
     }
@@ -156,9 +154,7 @@ impl<A: Allocator + Copy> Line<A> {
     {
         let to = self.settings.reach(at);
         self.serve_due(to);
-        if self.ready < to {
-            self.ready = to;
-        }
+        self.ready = self.ready.max(to);
     }
 
     /// Carries out all events.

@@ -3,12 +3,12 @@
 ghost use Rattle.std.specs.Prelude.{◌≡◌, ℕ, ◌+◌, ◌<◌, ◌≤◌, ◌++◌, [], ◌∷◌, position, sum_by, vec_len, nat_le, OnOk};
 ghost use Rattle.std.specs.Vec.{vec_capacity};
 ghost use Rattle.afdx_port.specs.Service.{reach, came, is_urgent, turn, service, before, sent_of, aged_of};
-ghost use Rattle.afdx_port.specs.Progress.{left, start_of, is_due, next_events, next_state, on_line};
+ghost use Rattle.afdx_port.specs.Progress.{left, start_of, is_due, event_of, next_events, next_state, IsStep, on_line};
 ghost use Rattle.afdx_port.specs.PlainSound.{IsSound, HasRoom, state_of};
 
 use crate::line::on_line_at;
 use crate::{Aged, Item, Sent, Settings};
-use afdx_units::{Stamp, cost};
+use afdx_units::Stamp;
 use std::alloc::{AllocError, Global};
 
 /// A line, the items that wait for it in order of arrival, and what became of the others.
@@ -82,6 +82,22 @@ impl PlainLine {
         !self.waiting.is_empty() && self.next_start() < to
     }
 
+    /// Takes out the item whose turn it is, and tells what becomes of it.
+    fn take_next(&mut self) -> Result<Sent, Aged>
+        requires waits { 0 < vec_len self.old.waiting }
+        requires sound { IsSound self.old }
+        ensures sound { IsSound self.new }
+        ensures next { IsStep self.old.settings self.old.free self.old.waiting.items (event_of result) self.new.waiting.items }
+        ensures len { vec_len self.new.waiting + 1 ≡ vec_len self.old.waiting }
+        ensures capacity { vec_capacity self.new.waiting ≡ vec_capacity self.old.waiting }
+        ensures others { self.new ≡ record self.old { waiting = self.new.waiting } }
+    {
+        let begin = self.next_start();
+        let turn = turn_at(&self.waiting, &self.settings, begin);
+        let item = self.waiting.remove(turn);
+        self.settings.fate(begin, item)
+    }
+
     /// Carries out the next event.
     fn serve_next(&mut self)
         requires waits { 0 < vec_len self.old.waiting }
@@ -95,17 +111,15 @@ impl PlainLine {
         ensures aged { self.new.aged.items ≡ self.old.aged.items ++ aged_of (next_events self.old.settings self.old.free self.old.waiting.items) }
         ensures state { state_of self.new ≡ next_state self.old.settings self.old.free self.old.waiting.items }
     {
-        let begin = self.next_start();
-        let turn = turn_at(&self.waiting, &self.settings, begin);
-        let item = self.waiting.remove(turn);
-        let waited = begin.ns().saturating_sub(item.stamp.ns());
-        if waited > self.settings.max_delay {
-            self.aged.push_reserved(Aged { item, at: begin });
-            self.free = begin;
-        } else {
-            let end = begin.plus(cost(self.settings.speed, item.size)).unwrap();
-            self.sent.push_reserved(Sent { item, begin, end });
-            self.free = end;
+        match self.take_next() {
+            Ok(sent) => {
+                self.free = sent.end;
+                self.sent.push_reserved(sent);
+            }
+            Err(aged) => {
+                self.free = aged.at;
+                self.aged.push_reserved(aged);
+            }
         }
     }
 

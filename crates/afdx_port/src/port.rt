@@ -1,8 +1,10 @@
 //! One output port.
 
-ghost use Rattle.std.specs.Prelude.{◌≡◌, ℕ, ◌+◌, ◌<◌, ◌≤◌, false, All, OnOk};
+ghost use Rattle.std.specs.Prelude.{◌≡◌, ℕ, ◌+◌, ◌<◌, ◌≤◌, ◌++◌, [], ◌∷◌, true, false, All, OnOk};
 ghost use Rattle.afdx_units.specs.Time.{last_second};
 ghost use Rattle.afdx_port.specs.Service.{sent_of, aged_of};
+ghost use Rattle.afdx_port.specs.Admission.{fits};
+ghost use Rattle.afdx_port.specs.Sound.{IsSmall};
 ghost use Rattle.afdx_port.specs.Content.{Content, PortValue, done, due, fresh, answer, offered, advanced, closed};
 
 use crate::line::Line;
@@ -114,15 +116,36 @@ impl<A: Allocator + Copy> Port<A> {
         ensures content { self.new.content ≡ offered item self.old.content }
         ensures room { self.old.room ≤ self.new.room + 1 }
     {
-        self.line.serve_before(item.stamp);
-        self.horizon = item.stamp;
-        if !self.line.fits(&item) {
+        self.advance(item.stamp);
+        if !self.fits(&item) {
             return Offer::Full;
         }
-        self.line.queue(item);
-        self.admitted.push_reserved(item);
-        self.room -= 1;
+        self.admit(&item);
         Offer::Queued
+    }
+
+    /// Whether the buffer has room for an item of this instant.
+    fn fits(&self, item: &Item) -> bool
+        requires open { self.now.content.finished ≡ false }
+        requires at_once { self.now.content.horizon ≡ item.now.stamp }
+        ensures { result ≡ fits self.now.content.settings self.now.content.admitted item.now }
+    {
+        self.line.fits(item)
+    }
+
+    /// Queues an item of this instant, for which the buffer has room.
+    fn admit(&mut self, item: &Item)
+        requires room { 0 < self.old.room }
+        requires open { self.old.content.finished ≡ false }
+        requires at_once { self.old.content.horizon ≡ item.now.stamp }
+        requires small { IsSmall item.now }
+        requires fits { fits self.old.content.settings self.old.content.admitted item.now ≡ true }
+        ensures content { self.new.content ≡ record self.old.content { admitted = self.old.content.admitted ++ item.now ∷ [] } }
+        ensures room { self.new.room + 1 ≡ self.old.room }
+    {
+        self.line.queue(*item);
+        self.admitted.push_reserved(*item);
+        self.room -= 1;
     }
 
     /// Carries out the events before the instant. O(1), and O(1) for each event.

@@ -1,0 +1,22 @@
+use Rattle.std.proofs.Common.{◌≡◌, ◌-◌, ◌<◌, false, ap, ◌∙◌, arith}
+use Rattle.afdx_port.specs.Content.{PortValue}
+use Rattle.afdx_port.proofs.Picked.{room_for}
+use Rattle.afdx_port.proofs.PlainKeeping.{fits_kept, kept_queued}
+use Rattle.afdx_port.proofs.plain_port.PlainPort.admit.Goals as goal
+
+pub queue-requires : goal.queue-requires
+queue-requires c =
+    let some : 0 < c.self.inside.room = omega (arith, ap (λ (v : PortValue). v.room) c.self.view_is, c.requires.room) in
+    let has = c.self.invariant.room in
+    record { waiting = omega (arith, has.waiting); sent = omega (arith, has.sent); aged = omega (arith, has.aged) }
+
+pub invariant_of-self : goal.invariant_of-self
+invariant_of-self c =
+    let p = c.self.inside in
+    let open' : p.finished ≡ false = ap (λ (v : PortValue). v.content.finished) c.self.view_is ∙ c.requires.open in
+    let at : p.horizon ≡ c.args.item.now.stamp = ap (λ (v : PortValue). v.content.horizon) c.self.view_is ∙ c.requires.at_once in
+    let some : 0 < p.room = omega (arith, ap (λ (v : PortValue). v.room) c.self.view_is, c.requires.room) in
+    let bytes = room_for c.args.item.now.size _ _ _ (fits_kept p c.args.self.now.content c.args.item.now c.self.invariant (ap (λ (v : PortValue). v.content) c.self.view_is) c.requires.open c.requires.at_once ∙ c.requires.fits) in
+    let q = c.queue.ensures in
+    let a = c.push_reserved.ensures in
+    kept_queued p c.queue.new.self c.push_reserved.new.self c.args.item.now (p.room - 1) c.self.invariant open' at c.requires.small bytes (omega (arith, some)) q.items q.len q.capacity q.others a.items a.len a.capacity
