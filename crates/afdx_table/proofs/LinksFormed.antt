@@ -130,9 +130,17 @@ pub record IsNewLink (ports : List PortRow) (before : List Link) (l : Link) : Ty
 nonempty : (xs : List ℕ) → nat_eq (length xs) 0 ≡ false → 0 < length xs
 nonempty xs h = grind (arith, nat_tests)
 
-pub fitting-formed : (at : At) (ports : List PortRow) (before : List Link) (row l : Link) → IsRow row → fitting at ports before row ≡ Ok l → IsNewLink ports before l
-unfolding fitting IsDistinct
-fitting-formed at ports before row l fine h =
+-- a link that fits is there once, comes in at a port of the table and leads to others of them
+pub record Fits (at : At) (ports : List PortRow) (before : List Link) (row l : Link) : Type 0 where
+  pub is_new : has_link before row.id ≡ false
+  pub from_port : has_port ports row.from ≡ true
+  pub leads_out : 0 < length row.to
+  pub targets_fit : targets at ports row.from [] row.to ≡ Ok tt
+  pub same : row ≡ l
+
+pub fitting-fits : (at : At) (ports : List PortRow) (before : List Link) (row l : Link) → fitting at ports before row ≡ Ok l → Fits at ports before row l
+unfolding fitting
+fitting-fits at ports before row l h =
     elim (cases_Bool (has_link before row.id)) [
       | inl twice ↦ let g = rw twice at h in absurd cc
       | inr new ↦
@@ -146,24 +154,29 @@ fitting-formed at ports before row l fine h =
                   | inr some ↦
                       let g3 = rw some at g2 in
                       let s = steps (targets at ports row.from [] row.to) _ l g3 in
-                      let same : row ≡ l = ok_inside row l s.rest in
-                      let none_yet : AreTargets ports row.from [] = record { are_ports = tt; are_others = tt; once = tt } in
-                      let good : IsNewLink ports before row = record {
-                        link = record {
-                          id_most = fine.id_most;
-                          jitter_most = fine.jitter_most;
-                          size_least = fine.size_least;
-                          size_most = fine.size_most;
-                          from_port = there;
-                          leads_out = nonempty row.to some;
-                          targets = targets-formed at ports row.from [] row.to none_yet s.first;
-                        };
-                        is_new = new;
-                      } in
-                      subst (IsNewLink ports before) same good
+                      record { is_new = new; from_port = there; leads_out = nonempty row.to some; targets_fit = s.first; same = ok_inside row l s.rest }
                 ]
           ]
     ]
+
+pub fitting-formed : (at : At) (ports : List PortRow) (before : List Link) (row l : Link) → IsRow row → fitting at ports before row ≡ Ok l → IsNewLink ports before l
+unfolding IsDistinct
+fitting-formed at ports before row l fine h =
+    let f = fitting-fits at ports before row l h in
+    let none_yet : AreTargets ports row.from [] = record { are_ports = tt; are_others = tt; once = tt } in
+    let good : IsNewLink ports before row = record {
+      link = record {
+        id_most = fine.id_most;
+        jitter_most = fine.jitter_most;
+        size_least = fine.size_least;
+        size_most = fine.size_most;
+        from_port = f.from_port;
+        leads_out = f.leads_out;
+        targets = targets-formed at ports row.from [] row.to none_yet f.targets_fit;
+      };
+      is_new = f.is_new;
+    } in
+    subst (IsNewLink ports before) f.same good
 
 -- ---- all links
 

@@ -37,7 +37,7 @@ abbrev pub IsNewPort : List PortRow → PortRow → Type 0
 IsNewPort before row = IsPort row × (has_port before row.id ≡ false)
 
 -- the last step
-fresh_port : (at : At) (before : List PortRow) (new row : PortRow) → (cond (has_port before new.id) (Err (TwicePort at)) (Ok new)) ≡ Ok row → (new ≡ row) × (has_port before new.id ≡ false)
+pub fresh_port : (at : At) (before : List PortRow) (new row : PortRow) → (cond (has_port before new.id) (Err (TwicePort at)) (Ok new)) ≡ Ok row → (new ≡ row) × (has_port before new.id ≡ false)
 fresh_port at before new row h = elim (cases_Bool (has_port before new.id)) [
   | inl twice ↦ let g = rw twice at h in absurd cc
   | inr fresh ↦ let g = rw fresh at h in (cc, fresh)

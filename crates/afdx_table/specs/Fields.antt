@@ -1,5 +1,5 @@
 -- The fields of one TOML table, each read with its first refusal: the key is missing, its value is of another kind, or out of its range.
-use Rattle.std.specs.Prelude.{ℕ, ℤ, pos, negsuc, Bool, true, ◌&&◌, if◌then◌else◌, nat_le, List, [], ◌∷◌, ◌++◌, Option, Some, None, option_map, option_and_then, Result, Ok, Err}
+use Rattle.std.specs.Prelude.{ℕ, ℤ, pos, negsuc, Bool, true, ◌&&◌, if◌then◌else◌, nat_le, List, [], ◌∷◌, Option, Some, None, option_map, option_and_then, Result, Ok, Err}
 use Rattle.std.specs.Str.{bytes_eq}
 use Rattle.std.specs.List.{list_any}
 use Rattle.toml.specs.Data.{Data, Items, no_items, item, Members, no_members, member, get_member, as_integer, as_str, as_array, as_table}
@@ -50,6 +50,7 @@ text_in at k d = or_refuse (Kind at k) (as_str d)
 unfoldable pub number_at : At → Key → Members → Result ℕ TableFault
 number_at at k ms = value_at at k ms >>= number_in at k
 
+-- this number, where it is from low to high
 unfoldable pub bounded : At → Key → ℕ → ℕ → ℕ → Result ℕ TableFault
 bounded at k low high n = if nat_le low n && nat_le n high then Ok n else Err (Range at k)
 
@@ -90,16 +91,17 @@ as_natural d = option_map natural_of (as_integer d)
 unfoldable pub bounded_natural : At → Key → ℕ → ℕ → Option ℕ → Result ℕ TableFault
 bounded_natural at k low high o = or_refuse (Range at k) o >>= bounded at k low high
 
--- these numbers, each from low to high, after those before
-unfoldable pub all_bounded : At → Key → ℕ → ℕ → List ℕ → List (Option ℕ) → Result (List ℕ) TableFault
-all_bounded at k low high before [] = Ok before
-all_bounded at k low high before (o ∷ os) = do
+-- these numbers, each from low to high
+unfoldable pub all_bounded : At → Key → ℕ → ℕ → List (Option ℕ) → Result (List ℕ) TableFault
+all_bounded at k low high [] = Ok []
+all_bounded at k low high (o ∷ os) = do
   n ← bounded_natural at k low high o
-  all_bounded at k low high (before ++ n ∷ []) os
+  ns ← all_bounded at k low high os
+  Ok (n ∷ ns)
 
 -- a required array of numbers, each from low to high
 unfoldable pub numbers_at : At → Key → ℕ → ℕ → Members → Result (List ℕ) TableFault
 numbers_at at k low high ms = do
   d ← value_at at k ms
   os ← or_refuse (Kind at k) (option_and_then (all_of as_natural) (as_array d))
-  all_bounded at k low high [] os
+  all_bounded at k low high os

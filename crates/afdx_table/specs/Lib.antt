@@ -8,3 +8,5 @@ pub mod Links
 pub mod Top
 pub mod Text
 pub mod WellFormed
+pub mod Holds
+pub mod Found

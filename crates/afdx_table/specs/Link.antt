@@ -1,5 +1,6 @@
 -- A virtual link (ARINC 664 Part 7), as contracts see it.
-use Rattle.std.specs.Prelude.{ℕ, List}
+use Rattle.std.specs.Prelude.{ℕ, ◌==◌, Bool, List}
+use Rattle.std.specs.List.{list_any}
 use Rattle.afdx_units.specs.declared.bag.Bag.{Bag}
 use Rattle.afdx_units.specs.declared.line.Priority.{Priority}
 
@@ -15,3 +16,11 @@ pub record Link : Type 0 where
   -- in bytes, the frame check sequence counted and the line overhead not
   pub max_size : ℕ
   pub priority : Priority
+
+-- whether a list of port numbers names a port
+abbrev pub names_port : ℕ → List ℕ → Bool
+names_port port ports = list_any (λ p. p == port) ports
+
+-- the link leads to the port
+abbrev pub leads_to : ℕ → Link → Bool
+leads_to port link = names_port port link.to

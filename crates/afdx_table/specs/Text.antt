@@ -23,5 +23,6 @@ content_of ms = do
   links ← links_from ports 0 [] top.links
   Ok (record { constant = top.constant; ports = ports; links = links })
 
+-- the table of a text's bytes
 unfoldable pub table_of : List ℕ → Result Content TableFault
 table_of bytes = tree_of bytes >>= content_of

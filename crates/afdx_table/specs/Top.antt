@@ -36,9 +36,11 @@ abbrev pub constant_from : Option (List ℕ) → Result (List ℕ) TableFault
 constant_from None = Ok (3 ∷ 0 ∷ 0 ∷ 0 ∷ [])
 constant_from (Some text) = group_address (decode_sized text 4)
 
+-- no more tables than n
 unfoldable pub at_most : ℕ → Key → List Members → Result (Unit {0}) TableFault
 at_most n k tables = if nat_lt n (length tables) then Err (TooMany k) else Ok tt
 
+-- the top of these fields
 unfoldable pub top_at : Members → Result Top TableFault
 top_at ms = do
   known ← known_at place.Top top_keys ms

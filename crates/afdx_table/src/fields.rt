@@ -1,6 +1,6 @@
 //! The fields of one TOML table.
 
-ghost use Rattle.std.specs.Prelude.{◌≡◌, ◌≤◌, Result, IfOk, [], map, option_map, string_bytes};
+ghost use Rattle.std.specs.Prelude.{◌≡◌, ◌≤◌, Result, IfOk, map, option_map, string_bytes};
 ghost use Rattle.std.specs.List.{list_all};
 ghost use Rattle.std.specs.Map.{keys_of};
 ghost use Rattle.toml.specs.Data.{get_member};
@@ -98,12 +98,12 @@ fn all_bounded(
     high: u8,
     numbers: &[Option<u64>],
 ) -> Result<Vec<u8>, TableFault>
-    ensures { Gives (λ v. v.items) result (all_bounded at key low high [] numbers.now) }
+    ensures { Gives (λ v. v.items) result (all_bounded at key low high numbers.now) }
 {
     let mut found = Vec::new(alloc);
     for number in numbers {
         let number = bounded_natural(at, key, low, high, *number)?;
-        found.push(number)?;
+        found.push(number).map_err(|_| TableFault::Memory)?;
     }
     Ok(found)
 }

@@ -1,8 +1,22 @@
 //! Laws over the definitions.
 
 ghost use Rattle.afdx_table.specs.WellFormed.{TablesAreWellFormed};
+ghost use Rattle.afdx_table.specs.Holds.{TablesHoldTheirTexts};
+ghost use Rattle.afdx_table.specs.Found.{LinksAreFound};
 
 /// Every table of a text is well formed.
 pub fn tables_are_well_formed()
     ensures { TablesAreWellFormed }
+{}
+
+/// Every table of a text has the text's constant field and, for each TOML table of a port and of a link, the one row of its
+/// fields, and no other row.
+pub fn tables_hold_their_texts()
+    ensures { TablesHoldTheirTexts }
+{}
+
+/// Each link of a well-formed table stands under its number, and what stands under a number is a link of the table with that
+/// number.
+pub fn links_are_found()
+    ensures { LinksAreFound }
 {}

@@ -44,6 +44,7 @@ impl Model for Table {
 
 impl Table {
     /// The constant field: the first four bytes of the destination address of each link's frames (ARINC 664 Part 7).
+    /// O(1).
     pub fn constant(&self) -> [u8; 4]
         ensures constant { result ≡ self.now.constant }
         ensures well_formed { IsWellFormed self.now }
