@@ -8,41 +8,15 @@ use std::alloc::Global;
 use std::test::Fail;
 
 /// Link 10 from port 1, with frames of at most 500 bytes, and link 20 from port 2.
-const TABLE: &str = "[[port]]
-id = 1
-mbit = 100
-buffer = 100000
-max_delay_us = 500000
-
-[[port]]
-id = 2
-mbit = 100
-buffer = 100000
-max_delay_us = 500000
-
-[[port]]
-id = 3
-mbit = 100
-buffer = 100000
-max_delay_us = 500000
-
-[[link]]
-id = 10
-from = 1
-to = [3]
-bag_ms = 1
-jitter_us = 0
-max_size = 500
-priority = \"low\"
-
-[[link]]
-id = 20
-from = 2
-to = [3]
-bag_ms = 1
-jitter_us = 0
-max_size = 1518
-priority = \"low\"
+const TABLE: &str = "port = [
+    { id = 1, mbit = 100, buffer = 100000, max_delay_us = 500000 },
+    { id = 2, mbit = 100, buffer = 100000, max_delay_us = 500000 },
+    { id = 3, mbit = 100, buffer = 100000, max_delay_us = 500000 },
+]
+link = [
+    { id = 10, from = 1, to = [3], bag_ms = 1, jitter_us = 0, max_size = 500, priority = 'low' },
+    { id = 20, from = 2, to = [3], bag_ms = 1, jitter_us = 0, max_size = 1518, priority = 'low' },
+]
 ";
 
 /// A frame whose address begins so, for a link, of so many captured bytes and so many on the line.

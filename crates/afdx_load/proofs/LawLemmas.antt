@@ -12,15 +12,19 @@ use Rattle.afdx_units.specs.declared.line.Speed.TheVariants.{Ten, Hundred}
 use Rattle.afdx_units.specs.Time.{bag_ms}
 use Rattle.afdx_units.specs.Line.{tick_of}
 use Rattle.afdx_account.specs.Policing.{byte_weight}
-use Rattle.afdx_table.specs.Link.{Link}
-use Rattle.afdx_load.specs.Sums.{parts, is_high, is_low, leads_to, routed, rate_of, burst_of, time_of, Sums, sums_of, load_of}
+use Rattle.afdx_table.specs.Link.{Link, leads_to}
+use Rattle.afdx_load.specs.Sums.{parts, is_high, is_low, routed, rate_of, burst_of, time_of, Sums, sums_of, load_of}
 use Rattle.afdx_load.specs.Bounds.{high_bound, low_bound}
 use Rattle.afdx_load.specs.Accepted.{Carries}
-use Rattle.afdx_load.specs.Laws.{AsksWhatItsAccountGives, SumsTakeEachLinkOnce, LongestShowsLinks, HighLinksLeaveAPart, AcceptedMeansNoFault, AcceptedKeepsBounds}
+use Rattle.afdx_load.specs.Laws.{FactorCoversOverhead, AsksWhatItsAccountGives, SumsTakeEachLinkOnce, LongestShowsLinks, HighLinksLeaveAPart, AcceptedMeansNoFault, AcceptedKeepsBounds}
 use Rattle.afdx_load.proofs.RowLemmas.{IsLong, all_long}
 use Rattle.afdx_load.proofs.ShareLemmas.{rate_is, burst_is}
 use Rattle.afdx_load.proofs.SumLemmas.{all_counted}
 use Rattle.afdx_load.proofs.FaultLemmas.{accepted_none, none_accepted}
+
+pub covers : FactorCoversOverhead
+covers Ten = (λ size. (λ h. omega arith, λ h. omega arith), refl)
+covers Hundred = (λ size. (λ h. omega arith, λ h. omega arith), refl)
 
 pub asks : AsksWhatItsAccountGives
 asks speed link = (sym (rate_is speed link), sym (burst_is speed link))

@@ -1,12 +1,15 @@
 -- Places of ports.
-use Rattle.std.proofs.Common.{◌≡◌, ◌≢◌, ℕ, ◌+◌, ◌<◌, ◌≤◌, List, [], ◌∷◌, set, get_or, length, refl, sym, ap, ◌∙◌, arith, zero, suc, inl, inr, get_or-set_other, get_or-set_same}
-use Rattle.std.proofs.lemmas.Bool.{cases_lt}
-use Rattle.std.proofs.lemmas.List.Elements.{All-from_recursion}
+use Rattle.std.proofs.Common.{◌≡◌, ◌≢◌, ℕ, ◌+◌, ◌<◌, ◌≤◌, ◌==◌, Bool, Some, subst, List, [], ◌∷◌, set, get_or, length, refl, sym, ap, ◌∙◌, arith, zero, suc, inl, inr, get_or-set_other, get_or-set_same}
+use Rattle.std.specs.Prelude.{All, find, option_map}
+use Rattle.std.proofs.lemmas.Bool.{cases_Bool, cases_lt}
+use Rattle.std.proofs.lemmas.List.Elements.{All-from_recursion, All-head, All-tail}
 use Rattle.std.specs.List.{AllByRecursion}
 use Rattle.afdx_units.specs.declared.line.Speed.{Speed}
 use Rattle.afdx_table.specs.declared.rows.PortRow.{PortRow}
+use Rattle.afdx_table.specs.Content.{Content, port_row}
 use Rattle.afdx_table.specs.WellFormed.{IsPort, Rises}
-use Rattle.afdx_load.specs.Slots.{speed_at}
+use Rattle.afdx_load.specs.Sums.{Sums, load_of, port_load}
+use Rattle.afdx_load.specs.Slots.{speed_at, AreLoads}
 
 any_default : (rows : List PortRow) (i : ℕ) (d e : PortRow) → i < length rows → get_or rows i d ≡ get_or rows i e
 any_default [] i d e h = absurd (omega arith)
@@ -44,3 +47,21 @@ placed rows speeds i slot e ports order within long slot-is before k d lt =
           let id-is : (get_or rows k d).id ≡ slot = ap (λ (r : PortRow). r.id) row-is ∙ sym slot-is in
           rw id-is (rw get_or-set_same (sym (ap (λ (r : PortRow). r.speed) row-is)))
     ]
+
+-- what holds of each port holds of the one that is found
+each_found : (P : PortRow → Type 0) (test : PortRow → Bool) (rows : List PortRow) (row : PortRow) → All P rows → Some row ≡ find test rows → P row
+each_found P test [] row all found = absurd cc
+each_found P test (r ∷ rows) row all found = elim (cases_Bool (test r)) [
+  | inl here ↦
+      let is : Some row ≡ Some r = rw here at found in
+      let same : row ≡ r = cc in
+      subst P (sym same) (All-head P r rows all)
+  | inr later ↦ each_found P test rows row (All-tail P r rows all) (rw later at found)
+]
+
+-- a port's load is found in its place
+pub slot_found : (c : Content) (slots : List Sums) (port slot : ℕ) (row : PortRow) (d : Sums) → AreLoads c.links c.ports slots → Some row ≡ port_row c port → slot ≡ row.id
+    → Some (get_or slots slot d) ≡ port_load c port
+slot_found c slots port slot row d loads found is =
+    let placed_at = each_found (λ r. (r.id < 25) × ((e : Sums) → get_or slots r.id e ≡ load_of r.speed r.id c.links)) (λ r. r.id == port) c.ports row loads found in
+    ap (λ (n : ℕ). Some (get_or slots n d)) is ∙ ap (λ (s : Sums). Some s) (placed_at.1 d) ∙ ap (option_map (λ (r : PortRow). load_of r.speed r.id c.links)) found

@@ -9,8 +9,8 @@ use Rattle.std.proofs.lemmas.List.Recursion.{max_push}
 use Rattle.afdx_units.specs.declared.line.Speed.{Speed}
 use Rattle.afdx_units.specs.declared.line.Priority.{Priority}
 use Rattle.afdx_units.specs.declared.line.Priority.TheVariants.{High, Low}
-use Rattle.afdx_table.specs.Link.{Link}
-use Rattle.afdx_load.specs.Sums.{is_high_priority, is_high, is_low, leads_to, routed, rate_of, burst_of, time_of, greatest, Sums, sums_of, load_of}
+use Rattle.afdx_table.specs.Link.{Link, leads_to}
+use Rattle.afdx_load.specs.Sums.{is_high_priority, is_high, is_low, routed, rate_of, burst_of, time_of, greatest, Sums, sums_of, load_of}
 use Rattle.afdx_load.specs.Adding.{counted, with_link}
 
 count-push : (p : Link → Bool) (links : List Link) (link : Link) (b : Bool) → p link ≡ b → count_by p (links ++ link ∷ []) ≡ count_by p links + cond b 1 0

@@ -1,12 +1,13 @@
 -- What the links of a port may ask of its line (profile: load numbers, in whole numbers).
-use Rattle.std.specs.Prelude.{ℕ, ◌+◌, ◌*◌, ◌/◌, ◌==◌, Bool, true, false, not, List, [], ◌∷◌, filter, sum_by, count_by, max}
-use Rattle.std.specs.List.{list_any}
+use Rattle.std.specs.Prelude.{ℕ, ◌+◌, ◌*◌, ◌/◌, Bool, true, false, not, List, [], ◌∷◌, filter, sum_by, count_by, max, Option, option_map}
 use Rattle.afdx_units.specs.declared.line.Speed.{Speed}
 use Rattle.afdx_units.specs.declared.line.Priority.{Priority}
 use Rattle.afdx_units.specs.declared.line.Priority.TheVariants.{High, Low}
 use Rattle.afdx_units.specs.Line.{tick_of, cost_of}
 use Rattle.afdx_units.specs.Time.{bag_ms, bag_ns}
-use Rattle.afdx_table.specs.Link.{Link}
+use Rattle.afdx_account.specs.Policing.{Terms, byte_terms}
+use Rattle.afdx_table.specs.Link.{Link, leads_to}
+use Rattle.afdx_table.specs.Content.{Content, port_row}
 
 -- profile: the whole of a line, in the parts in which rates are told; they are 16 * 128,000,000, so that a byte's part
 -- is a whole number for each gap
@@ -24,13 +25,13 @@ is_high link = is_high_priority link.priority
 abbrev pub is_low : Link → Bool
 is_low link = not (is_high link)
 
--- the link leads to the port
-abbrev pub leads_to : ℕ → Link → Bool
-leads_to port link = list_any (λ p. p == port) link.to
-
 -- the links that lead to a port, each once
 abbrev pub routed : ℕ → List Link → List Link
 routed port links = filter (leads_to port) links
+
+-- profile: the terms by which a link is policed, in bytes
+abbrev pub terms_of : Link → Terms
+terms_of link = byte_terms link.max_size link.bag link.jitter
 
 -- profile: the parts of a line that a link asks for in the long run. It sends Smax bytes in each gap; a frame is at
 -- least 64 bytes, so that its size and the 20 bytes that go with it on the line are at most 21/16 of its size
@@ -75,6 +76,10 @@ sums_of speed links = record {
   low_largest = greatest (time_of speed) (filter is_low links);
 }
 
--- the load of a port
+-- the load of a port of this speed and number
 abbrev pub load_of : Speed → ℕ → List Link → Sums
 load_of speed port links = sums_of speed (routed port links)
+
+-- the load of the port of this number, where there is one
+abbrev pub port_load : Content → ℕ → Option Sums
+port_load table port = option_map (λ row. load_of row.speed row.id table.links) (port_row table port)

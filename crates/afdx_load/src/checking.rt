@@ -1,13 +1,14 @@
 //! The check of a table.
 
-ghost use Rattle.std.specs.Prelude.{◌≡◌, ◌*◌, ◌≤◌, length, MatchResult, Some};
+ghost use Rattle.std.specs.Prelude.{◌≡◌, ◌*◌, ◌≤◌, MatchResult, Some};
 ghost use Rattle.afdx_load.specs.Slots.{AreLoads};
 ghost use Rattle.afdx_load.specs.Accepted.{past, past_bound, fault_at, first_fault, IsAccepted};
 
 use crate::bounding::{PARTS, backlog, bounds};
 use crate::cleared::Cleared;
 use crate::fault::{LoadFault, Rule};
-use crate::loading::loads;
+use crate::loading::slots;
+use crate::port_loads::SLOTS;
 use crate::sums::Load;
 use afdx_table::{PortRow, Table};
 
@@ -53,13 +54,12 @@ fn fault_at(row: &PortRow, load: &Load) -> Option<LoadFault>
 }
 
 /// The fault of the first port that has one.
-fn first_fault_in(table: &Table, loads: &[Load]) -> Option<LoadFault>
-    requires loads { AreLoads table.now.links table.now.ports loads.now }
-    requires slots { 25 ≤ length loads.now }
+fn first_fault_in(table: &Table, slots: &[Load; SLOTS]) -> Option<LoadFault>
+    requires { AreLoads table.now.links table.now.ports slots.now }
     ensures { result ≡ first_fault table.now.links table.now.ports }
 {
     for row in table.ports() {
-        let load = loads[usize::from(row.id)];
+        let load = slots[usize::from(row.id)];
         let fault = fault_at(row, &load);
         if fault.is_some() {
             return fault;
@@ -72,8 +72,7 @@ fn first_fault_in(table: &Table, loads: &[Load]) -> Option<LoadFault>
 fn first_fault(table: &Table) -> Option<LoadFault>
     ensures { result ≡ first_fault table.now.links table.now.ports }
 {
-    let loads = loads(table);
-    first_fault_in(table, &loads)
+    first_fault_in(table, &slots(table))
 }
 
 /// Accepts a table exactly where each port with links carries their load. Else the table comes back unchanged, beside

@@ -1,6 +1,11 @@
 //! Laws over the definitions: functions that do nothing, whose contracts are the laws.
 
-ghost use Rattle.afdx_load.specs.Laws.{AsksWhatItsAccountGives, SumsTakeEachLinkOnce, LongestShowsLinks, HighLinksLeaveAPart, AcceptedMeansNoFault, AcceptedKeepsBounds};
+ghost use Rattle.afdx_load.specs.Laws.{FactorCoversOverhead, AsksWhatItsAccountGives, SumsTakeEachLinkOnce, LongestShowsLinks, HighLinksLeaveAPart, AcceptedMeansNoFault, AcceptedKeepsBounds};
+
+/// The factor 21/16 of a link's rate covers the line time of frames exactly from 64 bytes on.
+pub fn factor_covers_overhead()
+    ensures { FactorCoversOverhead }
+{}
 
 /// What a link asks for is what its account gives: the weight of a unit by its credit, and by its greatest level.
 pub fn asks_what_its_account_gives()

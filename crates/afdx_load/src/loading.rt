@@ -1,26 +1,15 @@
 //! The loads of a table's ports.
 
-ghost use Rattle.std.specs.Prelude.{◌≡◌, ℕ, true, ◌+◌, ◌<◌, ◌≤◌, length, slice_index_or, if◌then◌else◌, option_map};
+ghost use Rattle.std.specs.Prelude.{◌≡◌, ℕ, true, ◌<◌, ◌≤◌, length, slice_index_or};
 ghost use Rattle.std.specs.List.{AllByRecursion};
-ghost use Rattle.afdx_table.specs.Content.{port_row};
 ghost use Rattle.afdx_table.specs.WellFormed.{IsPort, Rises, IsLink};
-ghost use Rattle.afdx_load.specs.Sums.{Sums, leads_to, load_of};
-ghost use Rattle.afdx_load.specs.Adding.{with_link};
+ghost use Rattle.afdx_load.specs.Sums.{Sums, port_load};
 ghost use Rattle.afdx_load.specs.Slots.{are_slots, HasSpeeds, HaveRoom, with_routed, AreLoads};
 
+use crate::port_loads::{Loads, SLOTS};
 use crate::sums::Load;
 use afdx_table::{LinkRow, PortRow, Table};
 use afdx_units::Speed;
-
-/// The greatest number of a port, and one.
-const SLOTS: usize = 25;
-
-/// Whether a link leads to a port.
-fn leads_to(link: &LinkRow, port: u8) -> bool
-    ensures { result ≡ leads_to port link.now }
-{
-    link.to.as_slice().contains(&port)
-}
 
 /// The link at a place in file order.
 fn link_at(table: &Table, index: usize) -> &LinkRow
@@ -30,42 +19,6 @@ fn link_at(table: &Table, index: usize) -> &LinkRow
     ensures members { are_slots result.now.to ≡ true }
 {
     table.link_at(index).unwrap()
-}
-
-/// The load with one more link, where the link leads to the port.
-fn with_routed(load: Load, speed: Speed, port: u8, link: &LinkRow) -> Load
-    requires room { load.highs + load.lows < 4096 }
-    requires size { link.now.max_size ≤ 1518 }
-    requires jitter { link.now.jitter ≤ 10000000 }
-    ensures { result ≡ (if leads_to port link.now then with_link speed load link.now else load) }
-{
-    if leads_to(link, port) {
-        load.with(speed, link)
-    } else {
-        load
-    }
-}
-
-/// The load of a port.
-fn load_at(table: &Table, row: &PortRow) -> Load
-    ensures { result ≡ load_of row.now.speed row.now.id table.now.links }
-{
-    let mut load = Load::none();
-    for index in 0..table.link_count() {
-        let link = link_at(table, index);
-        load = with_routed(load, row.speed, row.id, link);
-    }
-    load
-}
-
-/// The load of the port of a number; none where there is no such port.
-///
-/// O(n + m), where the table has n links that together name m output ports. It takes no memory.
-pub fn load(table: &Table, port: u8) -> Option<Load>
-    ensures { result ≡ option_map (λ row. load_of row.speed row.id table.now.links) (port_row table.now port) }
-{
-    let row = table.port(port)?;
-    Some(load_at(table, row))
 }
 
 /// The speed of each port, in the place of its number.
@@ -96,13 +49,34 @@ fn add_link(loads: &mut [Load; SLOTS], speeds: &[Speed; SLOTS], link: &LinkRow)
 }
 
 /// The load of each port, in the place of its number, from one pass over the links.
-pub(crate) fn loads(table: &Table) -> [Load; SLOTS]
+pub(crate) fn slots(table: &Table) -> [Load; SLOTS]
     ensures { AreLoads table.now.links table.now.ports result }
 {
     let speeds = speeds(table.ports());
-    let mut loads = [Load::none(); SLOTS];
+    let mut slots = [Load::none(); SLOTS];
     for index in 0..table.link_count() {
-        add_link(&mut loads, &speeds, link_at(table, index));
+        add_link(&mut slots, &speeds, link_at(table, index));
     }
-    loads
+    slots
+}
+
+/// The loads of all ports, from one pass over the links.
+///
+/// O(p + n + m), where the table has p ports and n links that together name m output ports. It takes no memory.
+pub fn loads(table: &Table) -> Loads<'_>
+    ensures { result ≡ table.now }
+{
+    Loads {
+        table,
+        slots: slots(table),
+    }
+}
+
+/// The load of the port of a number; none where there is no such port.
+///
+/// It costs as much as [`loads`], which serves all ports at once.
+pub fn load(table: &Table, port: u8) -> Option<Load>
+    ensures { result ≡ port_load table.now port }
+{
+    loads(table).at(port)
 }

@@ -12,16 +12,19 @@ fn line_times(rt: HostRuntime) {
     ] {
         assert_eq!(rt; cost(speed, bytes), nanoseconds, "{bytes} bytes");
     }
+    assert_eq!(rt; Speed::Ten.tick(), 800);
     assert_eq!(rt; size(60), 64);
 }
 
 #[test]
-fn last_instants(rt: HostRuntime) -> Result<(), Fail> {
+fn first_and_last_instants(rt: HostRuntime) -> Result<(), Fail> {
+    assert_eq!(rt; Stamp::ZERO.ns(), 0);
     let last = Stamp::new(4_294_967_295, 999_999_999).ok_or("an instant")?;
     let read = Stamp::new(4_294_967_294, 999_999_999).ok_or("an instant")?;
     assert_eq!(rt; last.ns(), 4_294_967_295_999_999_999);
     assert!(rt; last.late());
     assert!(rt; !read.late());
+    assert_eq!(rt; read.sec(), 4_294_967_294);
     assert_eq!(rt; read.plus(6_720).map(Stamp::nanos), Some(6_719));
     assert_eq!(rt; last.plus(1), None);
     assert_eq!(rt; Stamp::new(0, 1_000_000_000), None);

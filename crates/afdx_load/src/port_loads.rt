@@ -1,0 +1,54 @@
+//! The loads of all ports of a table.
+
+ghost use Rattle.std.specs.Prelude.{◌≡◌};
+ghost use Rattle.afdx_load.specs.Sums.{port_load};
+ghost use Rattle.afdx_load.specs.Slots.{AreLoads};
+
+use crate::sums::Load;
+use afdx_table::Table;
+use std::marker::Model;
+
+/// The greatest number of a port, and one.
+pub(crate) const SLOTS: usize = 25;
+
+/// The loads of all ports of a table. [`loads`](crate::loads) makes it.
+///
+/// Contracts see it as the table that it borrows.
+#[derive(Drop)]
+pub struct Loads<'a> {
+    pub(crate) table: &'a Table,
+    /// Each port's load stands in the place of its number.
+    pub(crate) slots: [Load; SLOTS],
+}
+
+impl<'a> Model for Loads<'a> {
+    ghost use Rattle.afdx_table.specs.Content.{Content};
+    ghost use Rattle.afdx_load.specs.Slots.{AreLoads};
+
+    ghost Value = { Content };
+
+    ghost view = { λ l. l.table.now };
+
+    ghost invariant = { λ l. AreLoads l.table.now.links l.table.now.ports l.slots };
+}
+
+/// The load of the port of a number, of those in their places.
+#[tactic(auto, using(crate::proofs::SlotLemmas::slot_found))]
+fn load_in(table: &Table, slots: &[Load; SLOTS], port: u8) -> Option<Load>
+    requires { AreLoads table.now.links table.now.ports slots.now }
+    ensures { result ≡ port_load table.now port }
+{
+    let row = table.port(port)?;
+    Some(slots[usize::from(row.id)])
+}
+
+impl<'a> Loads<'a> {
+    /// The load of the port of a number; none where there is no such port.
+    ///
+    /// O(1) beside the search for the port, which looks at each of the at most 24.
+    pub fn at(&self, port: u8) -> Option<Load>
+        ensures { result ≡ port_load self.now port }
+    {
+        load_in(self.table, &self.slots, port)
+    }
+}
