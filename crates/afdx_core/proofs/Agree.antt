@@ -3,17 +3,17 @@ use Rattle.std.proofs.Common.{◌≡◌, ℕ, ◌==◌, Bool, true, false, cond,
 use Rattle.std.proofs.lemmas.List.{append-nil, map-append}
 use Rattle.std.proofs.lemmas.List.Elements.{filter-append}
 use Rattle.std.proofs.lemmas.Bool.Decides.{nat_tests}
-use Rattle.afdx_table.specs.Link.{Link}
-use Rattle.afdx_core.specs.Rows.{leads_to}
+use Rattle.afdx_table.specs.Link.{Link, leads_to}
 use Rattle.afdx_table.specs.Content.{Content, link_row}
 use Rattle.afdx_filter.specs.declared.outcome.Verdict.{Verdict}
 use Rattle.afdx_filter.specs.declared.outcome.Verdict.TheVariants.{Cut, Short, Long, Foreign, NoLink, WrongPort, TooBig, Clean}
 use Rattle.afdx_account.specs.declared.frame.Frame.{Frame}
 use Rattle.afdx_account.specs.Policing.{conforms, passed_frames}
-use Rattle.afdx_account.proofs.Windows.{passed_frames-push}
+use Rattle.afdx_account.specs.Laws.{NextFrameJoinsWhereItConforms}
 use Rattle.afdx_port.specs.declared.Item.{Item}
+use Rattle.afdx_load.specs.Sums.{terms_of}
 use Rattle.afdx_core.specs.declared.kinds.Row.{Row}
-use Rattle.afdx_core.specs.Rows.{frame_of, account_frames, says_clean, terms_of, passes, named, item_of, copies_by, copies, each_after, feed_of}
+use Rattle.afdx_core.specs.Rows.{frame_of, account_frames, says_clean, passes, named, item_of, copies_by, copies, each_after, feed_of}
 use Rattle.afdx_core.specs.Agreement.{frame_in, part_of}
 use Rattle.afdx_core.proofs.Feeds.{account-same, account-other}
 
@@ -27,7 +27,7 @@ find_true p (x ∷ xs) y is = by_head (p x) refl is (find_true p xs y) where
   by_head true here e ih = let same : x ≡ y = (cc) in ap p (sym same) ∙ here
   by_head false here e ih = ih e
 
-clean_true : (i : ℕ) (v : Verdict) → says_clean i v ≡ true → v ≡ Clean i
+pub clean_true : (i : ℕ) (v : Verdict) → says_clean i v ≡ true → v ≡ Clean i
 clean_true i (Clean j) is = ap Clean (sym (equal i j is))
 clean_true i Cut is = (cc)
 clean_true i Short is = (cc)
@@ -40,7 +40,7 @@ clean_true i TooBig is = (cc)
 -- a copy of another link's frame is no part of this link's
 other_by : (i j port : ℕ) (r : Option Link) (before : List Row) (row : Row) → (i == j) ≡ false → ((m : Link) → r ≡ Some m → (m.id == j) ≡ true) → part_of i (copies_by r port before row) ≡ []
 other_by i j port None before row ne is = refl
-other_by i j port (Some m) before row ne is = by_copy (passes m before row && leads_to port m.to) where
+other_by i j port (Some m) before row ne is = by_copy (passes m before row && leads_to port m) where
   differs : (a : ℕ) → (a == j) ≡ true → (a == i) ≡ false
   differs a e = grind (arith, nat_tests)
 
@@ -59,10 +59,10 @@ others t i port before row WrongPort is = refl
 others t i port before row TooBig is = refl
 
 -- of one more arrival, the port is offered what is passed
-one_more : (t : Content) (i port : ℕ) (l : Link) (before : List Row) (row : Row) → link_row t i ≡ Some l → leads_to port l.to ≡ true
+one_more : NextFrameJoinsWhereItConforms → (t : Content) (i port : ℕ) (l : Link) (before : List Row) (row : Row) → link_row t i ≡ Some l → leads_to port l ≡ true
     → passed_frames (terms_of l) (account_frames i (before ++ row ∷ [])) ≡ passed_frames (terms_of l) (account_frames i before) ++ part_of i (copies t port before row)
 unfolding passes
-one_more t i port l before row found leads = by_clean (says_clean i row.verdict) refl where
+one_more next t i port l before row found leads = by_clean (says_clean i row.verdict) refl where
   id : (l.id == i) ≡ true
   id = find_true (λ (m : Link). m.id == i) t.links l found
 
@@ -78,9 +78,9 @@ one_more t i port l before row found leads = by_clean (says_clean i row.verdict)
       let clean = clean_true i row.verdict is in
       let copied : copies t port before row ≡ cond (conforms (terms_of l) (passed_frames (terms_of l) (account_frames i before)) (frame_of row) && true) (item_of l before row ∷ []) [] =
       ap (λ v. copies_by (named t v) port before row) clean ∙ ap (λ m. copies_by m port before row) found
-      ∙ ap (λ n. cond (conforms (terms_of l) (passed_frames (terms_of l) (account_frames n before)) (frame_of row) && leads_to port l.to) (item_of l before row ∷ []) []) (equal l.id i id)
+      ∙ ap (λ n. cond (conforms (terms_of l) (passed_frames (terms_of l) (account_frames n before)) (frame_of row) && leads_to port l) (item_of l before row ∷ []) []) (equal l.id i id)
       ∙ ap (λ v. cond (conforms (terms_of l) (passed_frames (terms_of l) (account_frames i before)) (frame_of row) && v) (item_of l before row ∷ []) []) leads in
-      ap (passed_frames (terms_of l)) (account-same i before row clean) ∙ passed_frames-push (terms_of l) (account_frames i before) (frame_of row)
+      ap (passed_frames (terms_of l)) (account-same i before row clean) ∙ next (terms_of l) (account_frames i before) (frame_of row)
       ∙ by_pass (conforms (terms_of l) (passed_frames (terms_of l) (account_frames i before)) (frame_of row))
       ∙ ap (λ items. passed_frames (terms_of l) (account_frames i before) ++ part_of i items) (sym copied)
   by_clean false is =
@@ -90,16 +90,16 @@ one_more t i port l before row found leads = by_clean (says_clean i row.verdict)
 part-append : (i : ℕ) (xs ys : List Item) → part_of i (xs ++ ys) ≡ part_of i xs ++ part_of i ys
 part-append i xs ys = ap (map frame_in) (filter-append (λ (x : Item). x.link == i) xs ys) ∙ map-append frame_in (filter (λ (x : Item). x.link == i) xs) (filter (λ (x : Item). x.link == i) ys)
 
-all_more : (t : Content) (i port : ℕ) (l : Link) (before rows : List Row) → link_row t i ≡ Some l → leads_to port l.to ≡ true
+all_more : NextFrameJoinsWhereItConforms → (t : Content) (i port : ℕ) (l : Link) (before rows : List Row) → link_row t i ≡ Some l → leads_to port l ≡ true
     → passed_frames (terms_of l) (account_frames i before) ++ part_of i (each_after (copies t port) before rows) ≡ passed_frames (terms_of l) (account_frames i (before ++ rows))
-all_more t i port l before [] found leads = append-nil (passed_frames (terms_of l) (account_frames i before)) ∙ ap (λ rs. passed_frames (terms_of l) (account_frames i rs)) (sym (append-nil before))
-all_more t i port l before (row ∷ rows) found leads =
+all_more next t i port l before [] found leads = append-nil (passed_frames (terms_of l) (account_frames i before)) ∙ ap (λ rs. passed_frames (terms_of l) (account_frames i rs)) (sym (append-nil before))
+all_more next t i port l before (row ∷ rows) found leads =
     ap (λ fs. passed_frames (terms_of l) (account_frames i before) ++ fs) (part-append i (copies t port before row) (each_after (copies t port) (before ++ row ∷ []) rows))
     ∙ sym (append_assoc (passed_frames (terms_of l) (account_frames i before)) (part_of i (copies t port before row)) (part_of i (each_after (copies t port) (before ++ row ∷ []) rows)))
-    ∙ ap (λ fs. fs ++ part_of i (each_after (copies t port) (before ++ row ∷ []) rows)) (sym (one_more t i port l before row found leads))
-    ∙ all_more t i port l (before ++ row ∷ []) rows found leads
+    ∙ ap (λ fs. fs ++ part_of i (each_after (copies t port) (before ++ row ∷ []) rows)) (sym (one_more next t i port l before row found leads))
+    ∙ all_more next t i port l (before ++ row ∷ []) rows found leads
     ∙ ap (λ rs. passed_frames (terms_of l) (account_frames i rs)) (append_assoc before (row ∷ []) rows)
 
-pub feed_is_passed : (t : Content) (i port : ℕ) (l : Link) (rows : List Row) → link_row t i ≡ Some l → leads_to port l.to ≡ true → part_of i (feed_of t port rows) ≡ passed_frames (terms_of l) (account_frames i rows)
+pub feed_is_passed : NextFrameJoinsWhereItConforms → (t : Content) (i port : ℕ) (l : Link) (rows : List Row) → link_row t i ≡ Some l → leads_to port l ≡ true → part_of i (feed_of t port rows) ≡ passed_frames (terms_of l) (account_frames i rows)
 unfolding feed_of account_frames
-feed_is_passed t i port l rows found leads = all_more t i port l [] rows found leads
+feed_is_passed next t i port l rows found leads = all_more next t i port l [] rows found leads

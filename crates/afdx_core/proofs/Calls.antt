@@ -1,12 +1,13 @@
 -- What a switch keeps is kept by its other calls, and what its readers give.
 use Rattle.std.proofs.Common.{◌≡◌, ℕ, ◌+◌, ◌<◌, ◌≤◌, ◌==◌, nat_lt, Bool, true, false, cond, not, List, [], ◌∷◌, length, map, get_or, slice_get, slice_index, set, find, position, option_map, Option, Some, None, All, refl, ap, sym, ◌∙◌, arith, subst}
+use Rattle.std.specs.Prelude.{Contains}
 use Rattle.std.specs.declared.vec.Vec.{Vec}
 use Rattle.std.specs.List.{prefix_len, position_or_len}
 use Rattle.std.specs.Vec.{with_items}
 use Rattle.std.proofs.lemmas.List.{length-map, length-set, get_or-map, map-set, set-get_or}
 use Rattle.std.proofs.lemmas.List.Quantifiers.{position-Some}
 use Rattle.std.proofs.lemmas.Option.{slice_get-get_or, slice_get_within}
-use Rattle.std.proofs.lemmas.List.Elements.{All-nil, All-cons, All-tail, All-filter, All-set}
+use Rattle.std.proofs.lemmas.List.Elements.{All-nil, All-cons, All-tail, All-filter, All-weaker, All-contains, All-set}
 use Rattle.std.proofs.lemmas.Bool.Decides.{nat_tests}
 use Rattle.afdx_units.specs.Line.{size_of}
 use Rattle.afdx_pcap.specs.Entry.{Entry}
@@ -21,15 +22,16 @@ use Rattle.afdx_port.specs.declared.Item.{Item}
 use Rattle.afdx_port.specs.declared.Sent.{Sent}
 use Rattle.afdx_port.specs.Service.{reach, Event, sending, aging, instant, item_of, service, sent_of}
 use Rattle.afdx_port.specs.Content.{Content, done, advanced, closed}
-use Rattle.afdx_port.proofs.Bounds.{service_all_by}
+use Rattle.afdx_port.specs.Course.{EventsAreOfItems}
+use Rattle.afdx_isolation.specs.Table.{settings_of}
 use Rattle.afdx_core.specs.declared.kinds.Row.{Row}
 use Rattle.afdx_core.specs.declared.outlet.Outlet.{Outlet}
 use Rattle.afdx_core.specs.declared.engine.Engine.{Engine}
 use Rattle.afdx_core.specs.Rows.{place_named, feed_of}
-use Rattle.afdx_core.specs.State.{after_advance, after_finish, after_handing, port_in, settings_of, sent_in, next_at, place_of, out_of}
+use Rattle.afdx_core.specs.State.{after_advance, after_finish, after_handing, port_in, sent_in, next_at, place_of, out_of}
 use Rattle.afdx_core.specs.Outlets.{Out, seen, carried, ended, counted, Became}
 use Rattle.afdx_core.specs.Kept.{AccountsStand, Follows, is_kept}
-use Rattle.afdx_core.specs.Engine.{run_of, state_of, IsKept}
+use Rattle.afdx_core.specs.Engine.{run_of, state_of, IsKept, IsToHandOut}
 use Rattle.afdx_core.proofs.Lists.{find-map, by_cond, All-from}
 use Rattle.afdx_core.proofs.Outs.{became_all, became_map, same_items}
 use Rattle.afdx_core.proofs.Steps.{all_admitted}
@@ -123,10 +125,11 @@ sent_all P [] all = All-nil (λ (s : Sent). P s.item)
 sent_all P (sending s ∷ es) all = All-cons (λ (x : Sent). P x.item) s (sent_of es) (all 0 (sending s) (omega arith)) (sent_all P es (All-tail (λ e. P (item_of e)) (sending s) es all))
 sent_all P (aging a ∷ es) all = sent_all P es (All-tail (λ e. P (item_of e)) (aging a) es all)
 
-pub sent_admitted : (P : Item → Type 0) (c : Content) → All P c.admitted → All (λ (s : Sent). P s.item) (sent_of (done c))
-sent_admitted P c all =
-    let whole = service_all_by (length c.admitted) P c.settings 0 c.admitted refl all in
-    sent_all P (done c) (by_cond (All (λ e. P (item_of e))) c.finished _ _ (λ _. whole) (λ _. All-filter (λ e. nat_lt (instant e) (reach c.settings c.horizon)) (λ e. P (item_of e)) (service c.settings 0 c.admitted) whole))
+pub sent_admitted : EventsAreOfItems → (P : Item → Type 0) (c : Content) → All P c.admitted → All (λ (s : Sent). P s.item) (sent_of (done c))
+sent_admitted of_items P c all =
+    let events = service c.settings 0 c.admitted in
+    let whole = All-weaker (λ e. Contains c.admitted (item_of e)) (λ e. P (item_of e)) (λ e among. All-contains P c.admitted (item_of e) all among) events (of_items c.settings 0 c.admitted) in
+    sent_all P (done c) (by_cond (All (λ e. P (item_of e))) c.finished _ _ (λ _. whole) (λ _. All-filter (λ e. nat_lt (instant e) (reach c.settings c.horizon)) (λ e. P (item_of e)) events whole))
 
 -- ---- handing out
 
@@ -174,15 +177,15 @@ read_all P xs n x all is =
     subst P same (all n x lt)
 
 -- the frame of a sent item is kept
-pub sent_kept : {Z : Type 0} (e : Engine Z) (place n : ℕ) (d : Outlet Z) (s : Sent) → IsKept e → place < length e.outlets.items → slice_get (sent_of (done (get_or e.outlets.items place d).port.content)) n ≡ Some s → is_kept (slice_get e.log.frames.items s.item.number) ≡ true
-sent_kept e place n d s kept lt is =
+pub sent_kept : {Z : Type 0} → EventsAreOfItems → (e : Engine Z) (place n : ℕ) (d : Outlet Z) (s : Sent) → IsKept e → place < length e.outlets.items → slice_get (sent_of (done (get_or e.outlets.items place d).port.content)) n ≡ Some s → is_kept (slice_get e.log.frames.items s.item.number) ≡ true
+sent_kept of_items e place n d s kept lt is =
     let o = get_or e.outlets.items place d in
     let settings = settings_of o.row in
     let P : Item → Type 0 = λ (item : Item). is_kept (slice_get e.log.frames.items item.number) ≡ true in
     let content : o.port.content ≡ port_in (run_of e) o.row = kept.contents place d lt in
     let feeds = all_admitted P settings [] (feed_of e.table o.row.id e.log.rows.items) tt (kept.frames.copies o.row.id) in
     let admitted = subst (λ (items : List Item). All P items) (sym (ap (λ (v : Content). v.admitted) content)) (All-from P _ feeds) in
-    read_all (λ (x : Sent). P x.item) (sent_of (done o.port.content)) n s (sent_admitted P o.port.content admitted) is
+    read_all (λ (x : Sent). P x.item) (sent_of (done o.port.content)) n s (sent_admitted of_items P o.port.content admitted) is
 
 pub kept_handed : {Z : Type 0} (e : Engine Z) (place : ℕ) (d : Outlet Z) (outlets : Vec (Outlet Z) Z) → IsKept e → place < length e.outlets.items → outlets.items ≡ set e.outlets.items place (counted (get_or e.outlets.items place d))
     → IsKept (record { alloc = e.alloc; table = e.table; log = e.log; accounts = e.accounts; outlets = outlets; latest = e.latest; finished = e.finished; accepted = e.accepted })
@@ -218,3 +221,32 @@ pub kept_out : (f : Option (Option Entry)) (s : Sent) → is_kept f ≡ true →
 kept_out (Some (Some frame)) s is = (record { stamp = s.end; original = length frame.bytes; bytes = frame.bytes }, refl)
 kept_out (Some None) s is = absurd (cc)
 kept_out None s is = absurd (cc)
+
+-- ---- the next frame to hand out
+
+pub place_within : {Z : Type 0} (e : Engine Z) (port place : ℕ) → Some place ≡ position (λ (o : Outlet Z). o.row.id == port) e.outlets.items → place < length e.outlets.items
+place_within e port place found = position_within (λ (o : Outlet _). o.row.id == port) e.outlets.items place (sym found)
+
+pub next_found : {Z : Type 0} (e : Engine Z) (port place : ℕ) (r : Option Sent) (outlets : List (Outlet Z)) → IsKept e → Some place ≡ position (λ (o : Outlet Z). o.row.id == port) e.outlets.items → outlets ≡ e.outlets.items
+    → ((d : Outlet Z) → r ≡ slice_get (sent_of (done (get_or outlets place d).port.content)) (get_or outlets place d).handed)
+    → next_at (run_of e) place ≡ r
+next_found e port place r outlets kept found same next =
+    let lt = place_within e port place found in
+    let d = some_of e.outlets.items place lt in
+    next_is e place d kept lt ∙ ap (λ (xs : List (Outlet _)). slice_get (sent_of (done (get_or xs place d).port.content)) (get_or xs place d).handed) (sym same) ∙ sym (next d)
+
+pub to_hand_out : {Z : Type 0} → EventsAreOfItems → (e : Engine Z) (port place : ℕ) (s : Sent) (outlets : List (Outlet Z)) → IsKept e → Some place ≡ position (λ (o : Outlet Z). o.row.id == port) e.outlets.items → outlets ≡ e.outlets.items
+    → ((d : Outlet Z) → Some s ≡ slice_get (sent_of (done (get_or outlets place d).port.content)) (get_or outlets place d).handed)
+    → ((d : Outlet Z) → (get_or outlets place d).handed + 1 < 18446744073709551616)
+    → IsToHandOut e port place s
+to_hand_out of_items e port place s outlets kept found same next bound =
+    let lt = place_within e port place found in
+    let d = some_of e.outlets.items place lt in
+    let is = next_found e port place (Some s) outlets kept found same next in
+    record {
+      at = place_found e port (Some place) kept found;
+      next = is;
+      kept = sent_kept of_items e place (get_or e.outlets.items place d).handed d s kept lt (sym (next_is e place d kept lt) ∙ is);
+      within = lt;
+      bound = λ x. subst (λ (xs : List (Outlet _)). (get_or xs place x).handed + 1 < 18446744073709551616) same (bound x);
+    }

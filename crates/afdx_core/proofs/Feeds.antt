@@ -8,17 +8,17 @@ use Rattle.std.proofs.lemmas.Option.{slice_get_past}
 use Rattle.std.proofs.lemmas.List.Elements.{filter-append}
 use Rattle.afdx_pcap.specs.Entry.{Entry}
 use Rattle.afdx_table.specs.declared.rows.PortRow.{PortRow}
-use Rattle.afdx_table.specs.Link.{Link}
-use Rattle.afdx_core.specs.Rows.{leads_to}
+use Rattle.afdx_table.specs.Link.{Link, leads_to}
 use Rattle.afdx_table.specs.Content.{Content}
 use Rattle.afdx_filter.specs.declared.outcome.Verdict.TheVariants.{Clean}
 use Rattle.afdx_port.specs.declared.Settings.{Settings}
 use Rattle.afdx_port.specs.declared.Item.{Item}
 use Rattle.afdx_port.specs.Admission.{admit, admit_all, admitted}
 use Rattle.afdx_port.specs.Content.{offered, advanced}
+use Rattle.afdx_isolation.specs.Table.{settings_of}
 use Rattle.afdx_core.specs.declared.kinds.Row.{Row}
 use Rattle.afdx_core.specs.Rows.{frame_of, account_frames, says_clean, named, passes, fate_of, item_of, copies_by, copies, fates_of, feed_of}
-use Rattle.afdx_core.specs.State.{settings_of, port_after}
+use Rattle.afdx_core.specs.State.{port_after}
 use Rattle.afdx_core.specs.Outlets.{Out, taken, carried}
 use Rattle.afdx_core.specs.Kept.{FramesStand, is_kept, Follows}
 use Rattle.afdx_core.proofs.Lists.{each-push, AllByRecursion-append, AllByRecursion-weaken, slice_get-push, slice_get-last, by_cond, length_more}
@@ -72,11 +72,11 @@ pub no_copies : (t : Content) (port : ℕ) (rows : List Row) (row : Row) → nam
 no_copies t port rows row none = ap (λ l. copies_by l port rows row) none
 
 pub policed_copies : (t : Content) (port : ℕ) (rows : List Row) (row : Row) (l : Link) → named t row.verdict ≡ Some l → passes l rows row ≡ false → copies t port rows row ≡ []
-policed_copies t port rows row l is no_pass = ap (λ m. copies_by m port rows row) is ∙ ap (λ b. cond (b && leads_to port l.to) (item_of l rows row ∷ []) []) no_pass
+policed_copies t port rows row l is no_pass = ap (λ m. copies_by m port rows row) is ∙ ap (λ b. cond (b && leads_to port l) (item_of l rows row ∷ []) []) no_pass
 
-pub passed_copies : (t : Content) (port : ℕ) (rows : List Row) (row : Row) (l : Link) (b : Bool) → named t row.verdict ≡ Some l → passes l rows row ≡ true → leads_to port l.to ≡ b → copies t port rows row ≡ cond b (item_of l rows row ∷ []) []
+pub passed_copies : (t : Content) (port : ℕ) (rows : List Row) (row : Row) (l : Link) (b : Bool) → named t row.verdict ≡ Some l → passes l rows row ≡ true → leads_to port l ≡ b → copies t port rows row ≡ cond b (item_of l rows row ∷ []) []
 passed_copies t port rows row l b is pass leads =
-    ap (λ m. copies_by m port rows row) is ∙ ap (λ v. cond (v && leads_to port l.to) (item_of l rows row ∷ []) []) pass ∙ ap (λ v. cond v (item_of l rows row ∷ []) []) leads
+    ap (λ m. copies_by m port rows row) is ∙ ap (λ v. cond (v && leads_to port l) (item_of l rows row ∷ []) []) pass ∙ ap (λ v. cond v (item_of l rows row ∷ []) []) leads
 
 -- an outlet follows one more arrival
 pub follows-carried : (t : Content) (rows : List Row) (row : Row) (latest : ℕ) (o : Out) → ((port : ℕ) → copies t port rows row ≡ [])
@@ -87,7 +87,7 @@ pub follows-taken : (t : Content) (rows : List Row) (row : Row) (latest : ℕ) (
     → Follows t rows latest false o → Follows t (rows ++ row ∷ []) row.stamp false (taken (item_of l rows row) l.to o)
 unfolding taken
 follows-taken t rows row latest l o is pass follows =
-    by_cond (λ (r : Out). r.content ≡ port_after t (rows ++ row ∷ []) row.stamp false r.row) (leads_to o.row.id l.to) _ _
+    by_cond (λ (r : Out). r.content ≡ port_after t (rows ++ row ∷ []) row.stamp false r.row) (leads_to o.row.id l) _ _
     (λ leads. ap (offered (item_of l rows row)) follows ∙ port-offered t rows row latest o.row (item_of l rows row) refl (passed_copies t o.row.id rows row l true is pass leads))
     (λ leads. ap (advanced row.stamp) follows ∙ port-carried t rows row latest o.row (passed_copies t o.row.id rows row l false is pass leads))
 
@@ -122,8 +122,8 @@ pub frames-passed : (t : Content) (rows : List Row) (row : Row) (frames : List (
 frames-passed t rows row frames frame l is pass stand = record {
   len = length_more frames (Some frame) ∙ ap (λ n. n + 1) stand.len ∙ sym (length_more rows row);
   copies = λ port. frames_more t rows row frames (Some frame) port stand
-      (rw (passed_copies t port rows row l (leads_to port l.to) is pass refl)
-      (by_cond (AllByRecursion (λ (item : Item). is_kept (slice_get (frames ++ Some frame ∷ []) item.number) ≡ true)) (leads_to port l.to) _ _
+      (rw (passed_copies t port rows row l (leads_to port l) is pass refl)
+      (by_cond (AllByRecursion (λ (item : Item). is_kept (slice_get (frames ++ Some frame ∷ []) item.number) ≡ true)) (leads_to port l) _ _
       (λ _. (ap is_kept (ap (slice_get (frames ++ Some frame ∷ [])) (sym stand.len) ∙ slice_get-last frames (Some frame)), tt))
       (λ _. tt)));
 }

@@ -8,15 +8,17 @@ use Rattle.afdx_pcap.specs.Entry.{Entry}
 use Rattle.afdx_table.specs.Link.{Link}
 use Rattle.afdx_table.specs.declared.rows.PortRow.{PortRow}
 use Rattle.afdx_port.specs.declared.Item.{Item}
+use Rattle.afdx_port.specs.declared.Sent.{Sent}
 use Rattle.afdx_port.specs.Admission.{admitted}
+use Rattle.afdx_isolation.specs.Table.{settings_of}
 use Rattle.afdx_core.specs.declared.kinds.Row.{Row}
 use Rattle.afdx_core.specs.declared.kinds.Fate.TheVariants.{Passed, Policed}
 use Rattle.afdx_core.specs.declared.engine.Engine.{Engine}
 use Rattle.afdx_core.specs.Handling.{Handling}
 use Rattle.afdx_core.specs.Rows.{named, passes, fate_by, fate_of, copies, feed_of}
-use Rattle.afdx_core.specs.State.{Run, State, settings_of, port_in, after_row}
-use Rattle.afdx_core.specs.Held.{has_copy, held_by, is_held, Keeps, IsTaken}
-use Rattle.afdx_core.specs.Engine.{run_of, state_of, IsKept, IsAdded, kept_by}
+use Rattle.afdx_core.specs.State.{Run, State, port_in, after_row, after_handing, out_of}
+use Rattle.afdx_core.specs.Held.{has_copy, held_by, is_held, Keeps, IsTaken, IsHanded}
+use Rattle.afdx_core.specs.Engine.{run_of, state_of, IsKept, IsAdded, IsToHandOut, kept_by}
 use Rattle.afdx_core.proofs.Lists.{slice_get-push, slice_get-last}
 use Rattle.afdx_core.proofs.Feeds.{feed-push, no_copies, policed_copies, numbered}
 use Rattle.afdx_core.proofs.Steps.{all_admitted}
@@ -77,3 +79,14 @@ is_taken e new row frame step kept added = record {
   last = ap (λ frames. slice_get frames (length e.log.rows.items)) added.frames
       ∙ ap (slice_get (e.log.frames.items ++ kept_by (fate_of e.table e.log.rows.items row) frame ∷ [])) (sym kept.frames.len)
       ∙ slice_get-last e.log.frames.items (kept_by (fate_of e.table e.log.rows.items row) frame)
+
+-- one more frame was handed out
+pub is_handed : {Z : Type 0} (e : Engine Z) (new : State) (port place : ℕ) (s : Sent) (out : Entry) → IsToHandOut e port place s → out_of (slice_get e.log.frames.items s.item.number) s ≡ Some out
+    → new ≡ record { run = after_handing place (run_of e); frames = e.log.frames.items; accepted = e.accepted } → IsHanded (state_of e) new port out place s
+is_handed e new port place s out next is state = record {
+  at = next.at;
+  next = next.next;
+  record_is = is;
+  run = ap (λ (x : State). x.run) state;
+  keeps = keeps_same (state_of e) new (ap (λ (x : State). x.frames) state) (ap (λ (x : State). x.accepted) state);
+}

@@ -1,92 +1,54 @@
 -- A switch's rows as the arrivals of the ports' laws: the headline.
-use Rattle.std.proofs.Common.{◌≡◌, ℕ, ◌≤◌, ◌<◌, ◌==◌, zero, suc, Bool, true, false, cond, ◌&&◌, nat_eq, List, [], ◌∷◌, ◌++◌, length, map, filter, find, get_or, Option, Some, None, refl, ap, sym, ◌∙◌, arith, append-nil}
+use Rattle.std.proofs.Common.{◌≡◌, ℕ, ◌≤◌, ◌<◌, ◌==◌, Bool, true, false, cond, ◌&&◌, nat_eq, List, [], ◌∷◌, ◌++◌, length, map, filter, get_or, Option, Some, None, refl, ap, sym, ◌∙◌, arith, append-nil, append_assoc}
 use Rattle.std.specs.Prelude.{All, Contains}
-use Rattle.std.specs.List.{IsDistinct}
-use Rattle.std.proofs.lemmas.List.{map-append, length-map, get_or-map, get_or_default}
-use Rattle.std.proofs.lemmas.List.Elements.{All-nil, All-cons, All-head, All-tail, All-append, All-contains, All-from_recursion, Contains-append_right, filter-append}
-use Rattle.std.proofs.lemmas.Bool.{both_ways}
+use Rattle.std.proofs.lemmas.List.{map-append, get_or_default}
+use Rattle.std.proofs.lemmas.List.Elements.{All-nil, All-cons, All-head, All-tail, All-append, filter-append}
 use Rattle.std.proofs.lemmas.Bool.Decides.{nat_tests}
 use Rattle.afdx_table.specs.declared.rows.PortRow.{PortRow}
-use Rattle.afdx_table.specs.Link.{Link}
+use Rattle.afdx_table.specs.Link.{Link, leads_to}
 use Rattle.afdx_table.specs.Content.{Content, link_row}
 use Rattle.afdx_table.specs.WellFormed.{IsWellFormed}
+use Rattle.afdx_table.specs.Found.{LinksAreFound}
 use Rattle.afdx_load.specs.Accepted.{IsAccepted}
 use Rattle.afdx_filter.specs.declared.outcome.Verdict.{Verdict}
 use Rattle.afdx_filter.specs.declared.outcome.Verdict.TheVariants.{Cut, Short, Long, Foreign, NoLink, WrongPort, TooBig, Clean}
 use Rattle.afdx_filter.specs.Clean.{CleanFramesHaveALink}
 use Rattle.afdx_account.specs.declared.frame.Frame.{Frame}
-use Rattle.afdx_account.specs.Policing.{conforms, passed_of, passed_frames}
+use Rattle.afdx_account.specs.Policing.{Terms, conforms, passed_of, passed_frames}
 use Rattle.afdx_account.specs.Level.{InOrder}
-use Rattle.afdx_account.specs.Laws.{PassedByTheirFrames}
-use Rattle.afdx_account.proofs.Windows.{passed_after-image}
+use Rattle.afdx_account.specs.Laws.{NextJoinsWhereItConforms, PassedByTheirFrames}
 use Rattle.afdx_port.specs.declared.Item.{Item}
 use Rattle.afdx_port.specs.Admission.{admitted}
 use Rattle.afdx_isolation.specs.Arrivals.{own, joins, feed_after, feed_of as offered_of}
-use Rattle.afdx_isolation.specs.Table.{flows_at, IsCleanIn, OffersWhatThePolicingPasses, AcceptedTablesIsolate as TablesIsolate, IsIsolatedAt}
+use Rattle.afdx_isolation.specs.Table.{flows_at, IsCleanIn, OffersWhatThePolicingPasses, AcceptedTablesIsolate as TablesIsolate, IsIsolatedAt, settings_of}
+use Rattle.afdx_load.specs.Sums.{terms_of}
 use Rattle.afdx_core.specs.declared.kinds.Row.{Row}
-use Rattle.afdx_core.specs.Rows.{frame_of, account_frames, says_clean, terms_of, passes, named, item_of, leads_to, copies_by, copies, each_after, feed_of}
-use Rattle.afdx_core.specs.State.{Run, settings_of, port_in}
+use Rattle.afdx_core.specs.Rows.{frame_of, account_frames, says_clean, passes, named, item_of, copies_by, copies, each_after, feed_of}
+use Rattle.afdx_core.specs.State.{Run, port_in}
 use Rattle.afdx_core.specs.Agreement.{frame_in}
-use Rattle.afdx_core.specs.Isolation.{IsOfAnArrival, IsRun, copy_by, clean_copies, passed_copies, sent_copies, PassedCopiesArePassedFrames, IsIsolated, AcceptedTablesIsolate, with_bytes, OthersChangeNothing}
+use Rattle.afdx_core.specs.Isolation.{IsOfAnArrival, IsRun, copy_by, clean_copies, sent_copies, PassedCopiesArePassedFrames, IsIsolated, AcceptedTablesIsolate, with_bytes, OthersChangeNothing}
 use Rattle.afdx_core.proofs.Lists.{each-push}
 
 equal : (a b : ℕ) → (a == b) ≡ true → a ≡ b
 equal a b e = grind (arith, nat_tests)
 
-same_number : (a b : ℕ) → a ≡ b → (a == b) ≡ true
-same_number a b e = grind (arith, nat_tests)
-
 -- ---- links by their numbers
-
-of_map : {X Y : Type 0} (f : X → Y) (xs : List X) (x : X) → Contains xs x → Contains (map f xs) (f x)
-of_map f xs x among = (among.0, let lt = among.1 in omega (arith, length-map xs f, lt), get_or-map f xs among.0 x (f x) among.1 ∙ ap f among.2)
 
 get_or_self : (links : List Link) (k : ℕ) (d : Link) → k < length links → get_or links k (get_or links k d) ≡ get_or links k d
 get_or_self links k d lt = get_or_default links k (get_or links k d) d lt
 
-found_by : (links : List Link) → IsDistinct nat_eq (map (λ (m : Link). m.id) links) → (l : Link) → Contains links l → find (λ m. m.id == l.id) links ≡ Some l
-unfolding IsDistinct
-found_by [] apart l among = absurd (let lt = among.1 in omega (arith, lt))
-found_by (k ∷ links) apart l among = at (found_by links apart.1 l) among.0 among.1 among.2 where
-  here : (b : Bool) → (k.id == l.id) ≡ b → k ≡ l → cond b (Some k) (find (λ (m : Link). m.id == l.id) links) ≡ Some l
-  here true is same = ap Some same
-  here false is same = absurd (both_ways (k.id == l.id) is (same_number k.id l.id (ap (λ (m : Link). m.id) same)))
-
-  differs : (a b : ℕ) → nat_eq a b ≡ false → (a == b) ≡ false
-  differs a b h = grind (arith, nat_tests)
-
-  there : (Contains links l → find (λ (m : Link). m.id == l.id) links ≡ Some l) → (i : ℕ) → i < length links → get_or links i l ≡ l → cond (k.id == l.id) (Some k) (find (λ (m : Link). m.id == l.id) links) ≡ Some l
-  there ih i lt is =
-      let numbers = All-from_recursion (λ n. nat_eq k.id n ≡ false) (map (λ (m : Link). m.id) links) apart.0 in
-      let other = differs k.id l.id (All-contains (λ n. nat_eq k.id n ≡ false) (map (λ (m : Link). m.id) links) l.id numbers (of_map (λ (m : Link). m.id) links l (i, lt, is))) in
-      ap (λ b. cond b (Some k) (find (λ (m : Link). m.id == l.id) links)) other ∙ ih (i, lt, is)
-
-  at : (Contains links l → find (λ (m : Link). m.id == l.id) links ≡ Some l) → (i : ℕ) → i < length (k ∷ links) → get_or (k ∷ links) i l ≡ l → find (λ (m : Link). m.id == l.id) (k ∷ links) ≡ Some l
-  at ih zero lt is = here (k.id == l.id) refl is
-  at ih (suc i) lt is = there ih i (omega (arith, lt)) is
-
-find_true : (p : Link → Bool) (links : List Link) (l : Link) → find p links ≡ Some l → (p l ≡ true) × Contains links l
-find_true p [] l is = (cc)
-find_true p (k ∷ links) l is = by_head (p k) refl is (find_true p links l) where
-  by_head : (b : Bool) → p k ≡ b → cond b (Some k) (find p links) ≡ Some l → (find p links ≡ Some l → (p l ≡ true) × Contains links l) → (p l ≡ true) × Contains (k ∷ links) l
-  by_head true here is ih = let same : k ≡ l = (cc) in (ap p (sym same) ∙ here, (0, omega arith, same))
-  by_head false here is ih = let rest = ih is in (rest.0, Contains-append_right (k ∷ []) links l rest.1)
-
 -- the link that a clean row names
-pub named_by : (t : Content) (v : Verdict) (l : Link) → named t v ≡ Some l → (v ≡ Clean l.id) × (link_row t l.id ≡ Some l) × Contains t.links l
-named_by t (Clean i) l is =
-    let at = find_true (λ (m : Link). m.id == i) t.links l is in
-    let same = equal l.id i at.0 in
-    (ap Clean (sym same), ap (link_row t) same ∙ is, at.1)
-named_by t Cut l is = (cc)
-named_by t Short l is = (cc)
-named_by t Long l is = (cc)
-named_by t Foreign l is = (cc)
-named_by t NoLink l is = (cc)
-named_by t WrongPort l is = (cc)
-named_by t TooBig l is = (cc)
+pub named_by : LinksAreFound → (t : Content) (v : Verdict) (l : Link) → named t v ≡ Some l → (v ≡ Clean l.id) × (link_row t l.id ≡ Some l) × Contains t.links l
+named_by links t (Clean i) l is = let row = links.is_row t i l is in (ap Clean (sym row.0), ap (link_row t) row.0 ∙ is, row.1)
+named_by links t Cut l is = (cc)
+named_by links t Short l is = (cc)
+named_by links t Long l is = (cc)
+named_by links t Foreign l is = (cc)
+named_by links t NoLink l is = (cc)
+named_by links t WrongPort l is = (cc)
+named_by links t TooBig l is = (cc)
 
-module _ (t : Content) where
+module _ (links : LinksAreFound) (t : Content) where
   abbrev copy : List Row → Row → List Item
   copy before row = copy_by (named t row.verdict) before row
 
@@ -108,7 +70,7 @@ module _ (t : Content) where
       decide true was = let none : Some l ≡ None = sym found ∙ ap (link_row t) (equal l.id j was) ∙ is in (cc)
       decide false was = was
     by (Some m) is =
-        let same = equal m.id j (find_true (λ (k : Link). k.id == j) t.links m is).0 in
+        let same = (links.is_row t j m is).0 in
         out (nat_eq m.id l.id) ∙ ap (λ b. map frame_of (cond b (row ∷ []) [])) (turned m.id l.id j same) where
           out : (b : Bool) → map frame_in (cond b (item_of m before row ∷ []) []) ≡ map frame_of (cond b (row ∷ []) [])
           out true = refl
@@ -143,12 +105,12 @@ module _ (t : Content) where
 
   module _ (well : IsWellFormed t) (offers : OffersWhatThePolicingPasses) (p : PortRow) where
     offered_one : (l : Link) → link_row t l.id ≡ Some l → Contains t.links l → (before : List Row) (row : Row)
-        → joins (flows_at t p) (clean_copies t before) (item_of l before row) ≡ (passes l before row && leads_to p.id l.to)
+        → joins (flows_at t p) (clean_copies t before) (item_of l before row) ≡ (passes l before row && leads_to p.id l)
     unfolding passes
     offered_one l found among before row =
         offers t well p l among (clean_copies t before) (item_of l before row) refl
-        ∙ ap (λ fs. leads_to p.id l.to && conforms (terms_of l) (passed_frames (terms_of l) fs) (frame_of row)) (own_frames_are l found before)
-        ∙ turned (leads_to p.id l.to) (conforms (terms_of l) (passed_frames (terms_of l) (account_frames l.id before)) (frame_of row)) where
+        ∙ ap (λ fs. leads_to p.id l && conforms (terms_of l) (passed_frames (terms_of l) fs) (frame_of row)) (own_frames_are l found before)
+        ∙ turned (leads_to p.id l) (conforms (terms_of l) (passed_frames (terms_of l) (account_frames l.id before)) (frame_of row)) where
           turned : (a b : Bool) → (a && b) ≡ (b && a)
           turned true true = refl
           turned true false = refl
@@ -164,13 +126,13 @@ module _ (t : Content) where
       by ih None is = ih ∙ ap (λ bs. feed_after (flows_at t p) bs (each_after copy (before ++ row ∷ []) rows))
           (clean-push before row ∙ ap (λ o. clean_copies t before ++ copy_by o before row) is ∙ append-nil (clean_copies t before))
       by ih (Some l) is =
-          let names = named_by t row.verdict l is in
+          let names = named_by links t row.verdict l is in
           let x = item_of l before row in
           let rest = feed_after (flows_at t p) (clean_copies t before ++ x ∷ []) (each_after copy (before ++ row ∷ []) rows) in
           let more : each_after (copies t p.id) (before ++ row ∷ []) rows ≡ rest =
           ih ∙ ap (λ bs. feed_after (flows_at t p) bs (each_after copy (before ++ row ∷ []) rows)) (clean-push before row ∙ ap (λ o. clean_copies t before ++ copy_by o before row) is) in
-          ap (λ ys. cond (passes l before row && leads_to p.id l.to) (x ∷ []) [] ++ ys) more
-          ∙ out (passes l before row && leads_to p.id l.to) x rest
+          ap (λ ys. cond (passes l before row && leads_to p.id l) (x ∷ []) [] ++ ys) more
+          ∙ out (passes l before row && leads_to p.id l) x rest
           ∙ ap (λ b. cond b (x ∷ rest) rest) (sym (offered_one l names.1 names.2 before row)) where
             out : (b : Bool) (x : Item) (rest : List Item) → cond b (x ∷ []) [] ++ rest ≡ cond b (x ∷ rest) rest
             out true x rest = refl
@@ -185,12 +147,12 @@ module _ (t : Content) where
   module _ (well : IsWellFormed t) (have_link : CleanFramesHaveALink) where
     clean_one : (before : List Row) (row : Row) → IsOfAnArrival t row → (l : Link) → named t row.verdict ≡ Some l → IsCleanIn t (item_of l before row)
     clean_one before row arrival l is = λ k d lt same.
-        let names = named_by t row.verdict l is in
+        let names = named_by links t row.verdict l is in
         let m = get_or t.links k d in
         let h = have_link t arrival.0 arrival.1 l.id (sym (ap (λ (r : Row). r.verdict) arrival.2) ∙ names.0) in
         let size = ap (λ (r : Row). r.size) arrival.2 in
         let one : h.link ≡ l = some (sym h.is_link ∙ names.1) in
-        let two : m ≡ l = some (sym (found_by t.links well.links_distinct m (k, lt, get_or_self t.links k d lt)) ∙ ap (link_row t) same ∙ names.1) in
+        let two : m ≡ l = some (sym (links.found t well m (k, lt, get_or_self t.links k d lt)) ∙ ap (link_row t) same ∙ names.1) in
         (ap (λ (x : Link). x.priority) two, omega (arith, size, h.size_least), omega (arith, size, h.size_most, ap (λ (x : Link). x.max_size) one, ap (λ (x : Link). x.max_size) two)) where
           some : {a b : Link} → Some a ≡ Some b → a ≡ b
           some h = (cc)
@@ -221,25 +183,25 @@ module _ (t : Content) where
   unfolding clean_copies
   in_order rows order = in_order_after 0 0 [] rows (omega arith) order
 
-pub passed_are : PassedByTheirFrames Item → PassedCopiesArePassedFrames
-passed_are by_frames t l rows well among =
+pub passed_are : LinksAreFound → PassedByTheirFrames Item → PassedCopiesArePassedFrames
+passed_are links by_frames t l rows well among =
     by_frames frame_in (terms_of l) (own l.id (clean_copies t rows))
-    ∙ ap (passed_frames (terms_of l)) (own_frames_are t l (found_by t.links well.links_distinct l among) rows)
+    ∙ ap (passed_frames (terms_of l)) (own_frames_are links t l (links.found t well l among) rows)
 
 -- ---- the theorem
 
-module _ (have_link : CleanFramesHaveALink) (offers : OffersWhatThePolicingPasses) (isolate : TablesIsolate) (r : Run) (run : IsRun r) (well : IsWellFormed r.table) (accepted : IsAccepted r.table) where
+module _ (links : LinksAreFound) (have_link : CleanFramesHaveALink) (offers : OffersWhatThePolicingPasses) (isolate : TablesIsolate) (r : Run) (run : IsRun r) (well : IsWellFormed r.table) (accepted : IsAccepted r.table) where
   abbrev arrivals : List Item
   arrivals = clean_copies r.table r.rows
 
   at_port : (p : PortRow) → Contains r.table.ports p → IsIsolatedAt r.table p arrivals (port_in r p)
   at_port p among = isolate r.table arrivals
-      (record { well_formed = well; accepted = accepted; stamps = in_order r.table r.rows run.stamps; clean = all_clean r.table well have_link r.rows run.arrivals })
-      p among (port_in r p) refl (ap (admitted (settings_of p)) (offered_is r.table well offers p r.rows))
+      (record { well_formed = well; accepted = accepted; stamps = in_order links r.table r.rows run.stamps; clean = all_clean links r.table well have_link r.rows run.arrivals })
+      p among (port_in r p) refl (ap (admitted (settings_of p)) (offered_is links r.table well offers p r.rows))
 
   pub isolated : IsIsolated r
   isolated = record {
-    none_full = λ p among. (at_port p among).none_full ∙ sym (offered_is r.table well offers p r.rows);
+    none_full = λ p among. (at_port p among).none_full ∙ sym (offered_is links r.table well offers p r.rows);
     none_aged = λ p among. (at_port p among).none_aged;
     in_bound = λ p among. (at_port p among).in_bound;
     front_of_passed = λ p among l in_table leads. let front = (at_port p among).front_of_passed l in_table leads in (front.0, front.1);
@@ -248,16 +210,50 @@ module _ (have_link : CleanFramesHaveALink) (offers : OffersWhatThePolicingPasse
         sym (append-nil (sent_copies r p l)) ∙ ap (λ rest. sent_copies r p l ++ rest) (sym (front.2 ends)) ∙ front.1;
   }
 
--- what is passed is seen as what is passed of what is seen
-seen : (bytes : ℕ → List ℕ) (t : Content) (l : Link) (rows : List Row)
-    → map (with_bytes bytes) (passed_copies t l rows) ≡ passed_of (λ (x : Frame × List ℕ). x.0) (terms_of l) (map (with_bytes bytes) (own l.id (clean_copies t rows)))
-seen bytes t l rows = passed_after-image (with_bytes bytes) (λ (x : Frame × List ℕ). x.0) (terms_of l) [] (own l.id (clean_copies t rows))
+-- ---- two worlds
 
-pub others_nothing : AcceptedTablesIsolate → OthersChangeNothing
-others_nothing isolate r r' bytes bytes' run run' well well' accepted accepted' ends ends' p p' l l' at at' among among' leads leads' terms same =
+-- copies as others see them, with one more where it conforms
+abbrev grown : Terms → List (Frame × List ℕ) → Frame × List ℕ → List (Frame × List ℕ)
+grown t seen x = cond (conforms t (map (λ (y : Frame × List ℕ). y.0) seen) x.0) (seen ++ x ∷ []) seen
+
+frames_seen : (bytes : ℕ → List ℕ) (xs : List Item) → map frame_in xs ≡ map (λ (y : Frame × List ℕ). y.0) (map (with_bytes bytes) xs)
+frames_seen bytes [] = refl
+frames_seen bytes (x ∷ xs) = ap (λ fs. frame_in x ∷ fs) (frames_seen bytes xs)
+
+seen_grown : (bytes : ℕ → List ℕ) (b : Bool) (xs : List Item) (x : Item)
+    → map (with_bytes bytes) (cond b (xs ++ x ∷ []) xs) ≡ cond b (map (with_bytes bytes) xs ++ with_bytes bytes x ∷ []) (map (with_bytes bytes) xs)
+seen_grown bytes true xs x = map-append (with_bytes bytes) xs (x ∷ [])
+seen_grown bytes false xs x = refl
+
+module _ (next : NextJoinsWhereItConforms Item) (t : Terms) where
+  abbrev seen : (ℕ → List ℕ) → List Item → List (Frame × List ℕ)
+  seen bytes xs = map (with_bytes bytes) (passed_of frame_in t xs)
+
+  seen-push : (bytes : ℕ → List ℕ) (xs : List Item) (x : Item) → seen bytes (xs ++ x ∷ []) ≡ grown t (seen bytes xs) (with_bytes bytes x)
+  seen-push bytes xs x =
+      let ps = passed_of frame_in t xs in
+      ap (map (with_bytes bytes)) (next frame_in t xs x)
+      ∙ seen_grown bytes (conforms t (map frame_in ps) (frame_in x)) ps x
+      ∙ ap (λ fs. cond (conforms t fs (frame_in x)) (seen bytes xs ++ with_bytes bytes x ∷ []) (seen bytes xs)) (frames_seen bytes ps)
+
+  -- of copies that are seen alike, those that are passed are seen alike, and so with more of them
+  seen_alike : (bytes bytes' : ℕ → List ℕ) (before before' xs ys : List Item) → seen bytes before ≡ seen bytes' before' → map (with_bytes bytes) xs ≡ map (with_bytes bytes') ys
+      → seen bytes (before ++ xs) ≡ seen bytes' (before' ++ ys)
+  seen_alike bytes bytes' before before' [] [] same is = ap (seen bytes) (append-nil before) ∙ same ∙ sym (ap (seen bytes') (append-nil before'))
+  seen_alike bytes bytes' before before' [] (y ∷ ys) same is = (cc)
+  seen_alike bytes bytes' before before' (x ∷ xs) [] same is = (cc)
+  seen_alike bytes bytes' before before' (x ∷ xs) (y ∷ ys) same is =
+      let first : with_bytes bytes x ≡ with_bytes bytes' y = (cc) in
+      let others : map (with_bytes bytes) xs ≡ map (with_bytes bytes') ys = (cc) in
+      let one : seen bytes (before ++ x ∷ []) ≡ seen bytes' (before' ++ y ∷ []) =
+      seen-push bytes before x ∙ ap (λ z. grown t (seen bytes before) z) first ∙ ap (λ zs. grown t zs (with_bytes bytes' y)) same ∙ sym (seen-push bytes' before' y) in
+      ap (seen bytes) (sym (append_assoc before (x ∷ []) xs))
+      ∙ seen_alike bytes bytes' (before ++ x ∷ []) (before' ++ y ∷ []) xs ys one others
+      ∙ ap (seen bytes') (append_assoc before' (y ∷ []) ys)
+
+pub others_nothing : NextJoinsWhereItConforms Item → AcceptedTablesIsolate → OthersChangeNothing
+others_nothing next isolate r r' bytes bytes' run run' well well' accepted accepted' ends ends' p p' l l' at at' among among' leads leads' terms same =
     ap (map (with_bytes bytes)) ((isolate r run well accepted).all_passed_once_finished ends p at l among leads)
-    ∙ seen bytes r.table l r.rows
-    ∙ ap (passed_of (λ (x : Frame × List ℕ). x.0) (terms_of l)) same
-    ∙ ap (λ t. passed_of (λ (x : Frame × List ℕ). x.0) t (map (with_bytes bytes') (own l'.id (clean_copies r'.table r'.rows)))) terms
-    ∙ sym (seen bytes' r'.table l' r'.rows)
+    ∙ seen_alike next (terms_of l) bytes bytes' [] [] (own l.id (clean_copies r.table r.rows)) (own l'.id (clean_copies r'.table r'.rows)) refl same
+    ∙ ap (λ t. map (with_bytes bytes') (passed_of frame_in t (own l'.id (clean_copies r'.table r'.rows)))) terms
     ∙ sym (ap (map (with_bytes bytes')) ((isolate r' run' well' accepted').all_passed_once_finished ends' p' at' l' among' leads'))

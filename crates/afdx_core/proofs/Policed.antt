@@ -12,8 +12,9 @@ use Rattle.afdx_account.specs.Policing.{Terms, conforms, passed_frames}
 use Rattle.afdx_account.specs.Level.{Stands, PassesWhatConforms}
 use Rattle.afdx_account.specs.Account.{account_terms, account_since, account_level}
 use Rattle.afdx_account.specs.declared.byte.ByteAccount.{ByteAccount}
+use Rattle.afdx_load.specs.Sums.{terms_of}
 use Rattle.afdx_core.specs.declared.kinds.Row.{Row}
-use Rattle.afdx_core.specs.Rows.{frame_of, account_frames, says_clean, terms_of, passes}
+use Rattle.afdx_core.specs.Rows.{frame_of, account_frames, says_clean, passes}
 use Rattle.afdx_core.specs.Kept.{AccountStands, AccountsStand, Polices}
 use Rattle.afdx_core.proofs.Feeds.{account-same, account-other}
 

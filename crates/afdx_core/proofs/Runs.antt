@@ -6,9 +6,10 @@ use Rattle.std.proofs.lemmas.List.Elements.{All-nil, All-push, All-weaker, All-m
 use Rattle.std.specs.declared.alloc.AllocError.{AllocError}
 use Rattle.afdx_pcap.specs.Entry.{Entry}
 use Rattle.afdx_table.specs.declared.rows.PortRow.{PortRow}
-use Rattle.afdx_table.specs.Link.{Link}
+use Rattle.afdx_table.specs.Link.{Link, names_port, leads_to}
 use Rattle.afdx_table.specs.Content.{Content, port_row}
 use Rattle.afdx_table.specs.Ports.{has_port}
+use Rattle.afdx_table.specs.Found.{LinksAreFound}
 use Rattle.afdx_table.specs.WellFormed.{IsLink, IsWellFormed}
 use Rattle.afdx_load.specs.Accepted.{IsAccepted}
 use Rattle.afdx_account.specs.Level.{InOrder}
@@ -17,13 +18,14 @@ use Rattle.afdx_port.specs.declared.Item.{Item}
 use Rattle.afdx_port.specs.declared.Offer.{Offer}
 use Rattle.afdx_port.specs.declared.Offer.TheVariants.{Queued, Full}
 use Rattle.afdx_port.specs.Admission.{admit, admitted, fits}
+use Rattle.afdx_isolation.specs.Table.{settings_of}
 use Rattle.afdx_core.specs.declared.kinds.Row.{Row}
 use Rattle.afdx_core.specs.declared.kinds.CoreFault.{CoreFault}
 use Rattle.afdx_core.specs.declared.kinds.CoreFault.TheVariants.{NoSuchPort, Earlier}
-use Rattle.afdx_core.specs.Rows.{row_of, frame_of, named, passes, item_of, leads_to, feed_of}
+use Rattle.afdx_core.specs.Rows.{row_of, frame_of, named, passes, item_of, feed_of}
 use Rattle.afdx_core.specs.Handling.{Handling}
 use Rattle.afdx_core.specs.Held.{IsTaken, IsRefused, IsNext, IsAppended}
-use Rattle.afdx_core.specs.State.{Run, State, fresh_run, aged_in, settings_of, answer_of, offers_by, refusal_of, after_row, after_advance, after_finish}
+use Rattle.afdx_core.specs.State.{Run, State, fresh_run, aged_in, answer_of, offers_by, refusal_of, after_row, after_advance, after_finish}
 use Rattle.afdx_core.specs.Isolation.{IsOfAnArrival, IsRun, AcceptedTablesIsolate, RunsTakeArrivals, NoStepIsFull}
 use Rattle.afdx_core.proofs.Lists.{length_more}
 use Rattle.afdx_core.proofs.Feeds.{feed-push, admit_all-push, passed_copies}
@@ -85,8 +87,8 @@ port_true id (p ∷ ports) q is = by (p.id == id) refl is (port_true id ports q)
   by true here is ih = let same : p ≡ q = (cc) in (ap (λ (x : PortRow). x.id == id) (sym same) ∙ here, (0, omega arith, same))
   by false here is ih = let rest = ih is in (rest.0, Contains-append_right (p ∷ []) ports q rest.1)
 
-leads_itself : (to : List ℕ) → All (λ port. leads_to port to ≡ true) to
-leads_itself [] = All-nil (λ port. leads_to port [] ≡ true)
+leads_itself : (to : List ℕ) → All (λ port. names_port port to ≡ true) to
+leads_itself [] = All-nil (λ port. names_port port [] ≡ true)
 leads_itself (q ∷ to) = λ k d lt. at k d lt (leads_itself to) where
   one : (a : ℕ) → (a == a) ≡ true
   one a = grind (arith, nat_tests)
@@ -97,9 +99,9 @@ leads_itself (q ∷ to) = λ k d lt. at k d lt (leads_itself to) where
   or_right : (a b : Bool) → b ≡ true → a || b ≡ true
   or_right a b h = grind (arith, nat_tests)
 
-  at : (k d : ℕ) → k < length (q ∷ to) → All (λ port. leads_to port to ≡ true) to → leads_to (get_or (q ∷ to) k d) (q ∷ to) ≡ true
-  at zero d lt ih = or_left (q == q) (leads_to q to) (one q)
-  at (suc k) d lt ih = or_right (q == get_or to k d) (leads_to (get_or to k d) to) (ih k d (omega arith))
+  at : (k d : ℕ) → k < length (q ∷ to) → All (λ port. names_port port to ≡ true) to → names_port (get_or (q ∷ to) k d) (q ∷ to) ≡ true
+  at zero d lt ih = or_left (q == q) (names_port q to) (one q)
+  at (suc k) d lt ih = or_right (q == get_or to k d) (names_port (get_or to k d) to) (ih k d (omega arith))
 
 -- an item is admitted where all that was offered with it was
 fits_where : (s : Settings) (a : List Item) (x : Item) → admit s a x ≡ a ++ x ∷ [] → cond (fits s a x) Queued Full ≡ Queued
@@ -111,11 +113,11 @@ fits_where s a x is = by (fits s a x) is where
   by true is = refl
   by false is = absurd (longer (length (a ++ x ∷ [])) (length a) (length_more a x) (ap length is))
 
-module _ (isolate : AcceptedTablesIsolate) (r : Run) (port : ℕ) (frame : Entry) (run : IsRun r) (taken : refusal_of r port frame.stamp ≡ None) (well : IsWellFormed r.table) (accepted : IsAccepted r.table) where
+module _ (links : LinksAreFound) (isolate : AcceptedTablesIsolate) (r : Run) (port : ℕ) (frame : Entry) (run : IsRun r) (taken : refusal_of r port frame.stamp ≡ None) (well : IsWellFormed r.table) (accepted : IsAccepted r.table) where
   abbrev row : Row
   row = row_of r.table port frame
 
-  queued : (l : Link) → named r.table row.verdict ≡ Some l → passes l r.rows row ≡ true → (q : ℕ) → leads_to q l.to ≡ true → (p : PortRow) → port_row r.table q ≡ Some p
+  queued : (l : Link) → named r.table row.verdict ≡ Some l → passes l r.rows row ≡ true → (q : ℕ) → leads_to q l ≡ true → (p : PortRow) → port_row r.table q ≡ Some p
       → answer_of r (item_of l r.rows row) (Some p) ≡ Queued
   queued l is pass q leads p found =
       let s = settings_of p in
@@ -124,7 +126,7 @@ module _ (isolate : AcceptedTablesIsolate) (r : Run) (port : ℕ) (frame : Entry
       let same : p.id ≡ q = equal p.id q at.0 in
       let before = (isolate r run well accepted).none_full p at.1 in
       let after = (isolate (after_row row r) (takes r port frame taken run) well accepted).none_full p at.1 in
-      let more = feed-push r.table p.id r.rows row ∙ ap (λ ys. feed_of r.table p.id r.rows ++ ys) (passed_copies r.table p.id r.rows row l true is pass (ap (λ n. leads_to n l.to) same ∙ leads)) in
+      let more = feed-push r.table p.id r.rows row ∙ ap (λ ys. feed_of r.table p.id r.rows ++ ys) (passed_copies r.table p.id r.rows row l true is pass (ap (λ n. leads_to n l) same ∙ leads)) in
       fits_where s (admitted s (feed_of r.table p.id r.rows)) x
       (sym (admit_all-push s [] (feed_of r.table p.id r.rows) x) ∙ ap (admitted s) (sym more) ∙ after ∙ more ∙ ap (λ ys. ys ++ x ∷ []) (sym before)) where
         equal : (a b : ℕ) → (a == b) ≡ true → a ≡ b
@@ -133,19 +135,19 @@ module _ (isolate : AcceptedTablesIsolate) (r : Run) (port : ℕ) (frame : Entry
   all_queued : (o : Option Link) → named r.table row.verdict ≡ o → All (λ (offer : ℕ × Offer). offer.1 ≡ Queued) (offers_by r o row)
   all_queued None is = All-nil (λ (offer : ℕ × Offer). offer.1 ≡ Queued)
   all_queued (Some l) is = by (passes l r.rows row) refl where
-    one : passes l r.rows row ≡ true → (q : ℕ) → leads_to q l.to ≡ true → (p : PortRow) × (port_row r.table q ≡ Some p) → answer_of r (item_of l r.rows row) (port_row r.table q) ≡ Queued
+    one : passes l r.rows row ≡ true → (q : ℕ) → leads_to q l ≡ true → (p : PortRow) × (port_row r.table q ≡ Some p) → answer_of r (item_of l r.rows row) (port_row r.table q) ≡ Queued
     one pass q leads found = ap (answer_of r (item_of l r.rows row)) found.1 ∙ queued l is pass q leads found.0 found.1
 
     by : (b : Bool) → passes l r.rows row ≡ b → All (λ (offer : ℕ × Offer). offer.1 ≡ Queued) (cond b (map (λ port. (port, answer_of r (item_of l r.rows row) (port_row r.table port))) l.to) [])
     by false pass = All-nil (λ (offer : ℕ × Offer). offer.1 ≡ Queued)
     by true pass =
-        let link = All-contains (IsLink r.table.ports) r.table.links l (All-from_recursion (IsLink r.table.ports) r.table.links well.links) (named_by r.table row.verdict l is).2 in
+        let link = All-contains (IsLink r.table.ports) r.table.links l (All-from_recursion (IsLink r.table.ports) r.table.links well.links) (named_by links r.table row.verdict l is).2 in
         let ports = All-from_recursion (λ q. has_port r.table.ports q ≡ true) l.to link.targets.are_ports in
         All-map (λ (offer : ℕ × Offer). offer.1 ≡ Queued) (λ port. (port, answer_of r (item_of l r.rows row) (port_row r.table port))) l.to
         (λ k d lt. one pass (get_or l.to k d) (leads_itself l.to k d lt) (row_found r.table.ports (get_or l.to k d) (ports k d lt)))
 
-pub none_full : AcceptedTablesIsolate → NoStepIsFull
-none_full isolate r port frame run taken well accepted = all_queued isolate r port frame run taken well accepted (named r.table (row_of r.table port frame).verdict) refl
+pub none_full : LinksAreFound → AcceptedTablesIsolate → NoStepIsFull
+none_full links isolate r port frame run taken well accepted = all_queued links isolate r port frame run taken well accepted (named r.table (row_of r.table port frame).verdict) refl
 
 -- ---- what the engine's calls make of a run
 

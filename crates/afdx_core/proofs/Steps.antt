@@ -10,11 +10,10 @@ use Rattle.std.proofs.lemmas.List.Sums.{position_or_len_is}
 use Rattle.std.proofs.lemmas.List.Folds.{find_at, list_any_at}
 use Rattle.std.proofs.lemmas.List.Quantifiers.{position-Some}
 use Rattle.afdx_pcap.specs.Entry.{Entry}
-use Rattle.afdx_table.specs.Link.{Link}
+use Rattle.afdx_table.specs.Link.{Link, names_port, leads_to}
 use Rattle.afdx_table.specs.declared.rows.PortRow.{PortRow}
 use Rattle.afdx_table.specs.WellFormed.{IsWellFormed}
-use Rattle.afdx_core.specs.Handling.{Handling}
-use Rattle.afdx_core.specs.Rows.{leads_to}
+use Rattle.afdx_isolation.specs.Table.{settings_of}
 use Rattle.afdx_table.specs.Content.{Content as TableContent, port_row}
 use Rattle.afdx_filter.specs.declared.outcome.Verdict.{Verdict}
 use Rattle.afdx_filter.specs.declared.outcome.Verdict.TheVariants.{Cut, Short, Long, Foreign, NoLink, WrongPort, TooBig, Clean}
@@ -32,7 +31,7 @@ use Rattle.afdx_core.specs.declared.log.Log.{Log}
 use Rattle.afdx_core.specs.declared.engine.Engine.{Engine}
 use Rattle.afdx_core.specs.Handling.{Handling}
 use Rattle.afdx_core.specs.Rows.{says_clean, named, place_named, fate_by, fate_of, fates_of, item_of, passes, copies, feed_of}
-use Rattle.afdx_core.specs.State.{Run, handling_of, after_row, settings_of, port_after, port_in, answer_of, offers_by, offers_of}
+use Rattle.afdx_core.specs.State.{Run, handling_of, after_row, port_after, port_in, answer_of, offers_by, offers_of}
 use Rattle.afdx_core.specs.Outlets.{Out, seen, taken, carried, Became, CanTake, CanCarry, last_of, last_at}
 use Rattle.afdx_core.specs.Kept.{AccountsStand, FramesStand, Follows, Polices}
 use Rattle.afdx_core.specs.Engine.{run_of, state_of, IsKept, CanBeTaken, HaveRoom}
@@ -206,21 +205,21 @@ can_take e row item to can number at room k d lt =
 pub taken_moves : {Z : Type 0} (e : Engine Z) (row : Row) (l : Link) → named e.table row.verdict ≡ Some l → passes l e.log.rows.items row ≡ true → Moves e row (taken (item_of l e.log.rows.items row) l.to)
 unfolding taken
 taken_moves e row l is pass = record {
-  row_stays = λ o. by_cond (λ (r : Out). r.row ≡ o.row) (leads_to o.row.id l.to) _ _ (λ _. refl) (λ _. refl);
-  handed_stays = λ o. by_cond (λ (r : Out). r.handed ≡ o.handed) (leads_to o.row.id l.to) _ _ (λ _. refl) (λ _. refl);
+  row_stays = λ o. by_cond (λ (r : Out). r.row ≡ o.row) (leads_to o.row.id l) _ _ (λ _. refl) (λ _. refl);
+  handed_stays = λ o. by_cond (λ (r : Out). r.handed ≡ o.handed) (leads_to o.row.id l) _ _ (λ _. refl) (λ _. refl);
   follows = λ o follows. follows-taken e.table e.log.rows.items row e.latest l o is pass follows;
 }
 
 taken_row : (item : Item) (to : List ℕ) (o : Out) → (taken item to o).row ≡ o.row
 unfolding taken
-taken_row item to o = by_cond (λ (r : Out). r.row ≡ o.row) (leads_to o.row.id to) _ _ (λ _. refl) (λ _. refl)
+taken_row item to o = by_cond (λ (r : Out). r.row ≡ o.row) (names_port o.row.id to) _ _ (λ _. refl) (λ _. refl)
 
-taken_last : (item : Item) (to : List ℕ) (o : Out) → leads_to o.row.id to ≡ true → (taken item to o).last ≡ answer item o.content
+taken_last : (item : Item) (to : List ℕ) (o : Out) → names_port o.row.id to ≡ true → (taken item to o).last ≡ answer item o.content
 unfolding taken
-taken_last item to o leads = by_cond (λ (r : Out). r.last ≡ answer item o.content) (leads_to o.row.id to) _ _ (λ _. refl) (λ no. (cc))
+taken_last item to o leads = by_cond (λ (r : Out). r.last ≡ answer item o.content) (names_port o.row.id to) _ _ (λ _. refl) (λ no. (cc))
 
 -- the last answers are those of the ports as they were
-last_is : {Z : Type 0} (r : Run) (item : Item) (to : List ℕ) (port : ℕ) (old new : List (Outlet Z)) → leads_to port to ≡ true → Became (taken item to) old new
+last_is : {Z : Type 0} (r : Run) (item : Item) (to : List ℕ) (port : ℕ) (old new : List (Outlet Z)) → names_port port to ≡ true → Became (taken item to) old new
     → All (λ (o : Outlet Z). Follows r.table r.rows r.latest r.finished (seen o)) old → last_at new port ≡ answer_of r item (find (λ (p : PortRow). p.id == port) (map (λ (o : Outlet Z). o.row) old))
 last_is r item to port [] [] leads became follow = refl
 last_is r item to port [] (y ∷ ys) leads became follow = absurd (omega (arith, became.len))
@@ -231,7 +230,7 @@ last_is r item to port (x ∷ xs) (y ∷ ys) leads became follow =
     let more = last_is r item to port xs ys leads (record { len = omega (arith, became.len); at = λ k d lt. became.at (suc k) d (omega arith) }) (All-tail (λ (o : Outlet _). Follows r.table r.rows r.latest r.finished (seen o)) x xs follow) in
     let follows : x.port.content ≡ port_in r x.row = follow 0 x (omega arith) in
     ap (λ (p : PortRow). last_of (cond (p.id == port) (Some y) (find (λ (o : Outlet _). o.row.id == port) ys))) rows
-    ∙ chosen (x.row.id == port) (λ is. ap (λ (o : Out). o.last) head ∙ taken_last item to (seen x) (ap (λ n. leads_to n to) (same x.row.id port is) ∙ leads) ∙ ap (answer item) follows) more where
+    ∙ chosen (x.row.id == port) (λ is. ap (λ (o : Out). o.last) head ∙ taken_last item to (seen x) (ap (λ n. names_port n to) (same x.row.id port is) ∙ leads) ∙ ap (answer item) follows) more where
       same : (a b : ℕ) → (a == b) ≡ true → a ≡ b
       same a b e = grind (arith, nat_tests)
 
@@ -250,7 +249,7 @@ answers_are e item to new kept became = map_by_all {B = ℕ × Offer} (λ (port 
   same : (a : ℕ) → (a == a) ≡ true
   same a = grind (arith, nat_tests)
 
-  one : (port : ℕ) → leads_to port to ≡ true → ◌≡◌ {A = ℕ × Offer} (port, last_at new port) (port, answer_of (run_of e) item (port_row e.table port))
+  one : (port : ℕ) → names_port port to ≡ true → ◌≡◌ {A = ℕ × Offer} (port, last_at new port) (port, answer_of (run_of e) item (port_row e.table port))
   one port leads = ap {B = ℕ × Offer} (λ (o : Offer). (port, o)) (last_is (run_of e) item to port e.outlets.items new leads became kept.contents
       ∙ ap (λ (ports : List PortRow). answer_of (run_of e) item (find (λ (p : PortRow). p.id == port) ports)) kept.ports)
 
@@ -268,10 +267,13 @@ pub record Names {Z : Type 0} (e : Engine Z) (row : Row) (place : ℕ) (l : Link
   pub link : named e.table row.verdict ≡ Some l
   pub clean : row.verdict ≡ Clean l.id
 
-pub names : {Z : Type 0} (e : Engine Z) (row : Row) (place : ℕ) (l : Link) → place_named e.table row.verdict ≡ Some place → l ≡ get_or e.table.links place l → Names e row place l
+names : {Z : Type 0} (e : Engine Z) (row : Row) (place : ℕ) (l : Link) → place_named e.table row.verdict ≡ Some place → l ≡ get_or e.table.links place l → Names e row place l
 names e row place l is at =
     let n = place_is e.table row.verdict place l is in
     record { within = n.within; at = sym at; link = n.link ∙ ap (λ (m : Link). Some m) (sym at); clean = n.clean ∙ ap (λ (m : Link). Clean m.id) (sym at) }
+
+pub names_at : {Z : Type 0} (e : Engine Z) (row : Row) (place : ℕ) (r : Option (Bor Link)) (b : Bor Link) (l : Link) → place_named e.table row.verdict ≡ Some place → option_copied r ≡ slice_get e.table.links place → r ≡ Some b → l ≡ b.now → Names e row place l
+names_at e row place r b l named copied is seen = names e row place l named (seen ∙ link_is e.table.links place r b l copied is (place_is e.table row.verdict place l named).within)
 
 pub judged : {Z : Type 0} (e : Engine Z) (row : Row) (place : ℕ) (l : Link) (p : Bool) (accounts : List ByteAccount) → CanBeTaken e row → Names e row place l → IsWellFormed e.table → Polices p row place e.accounts.items accounts
     → (p ≡ passes l e.log.rows.items row) × AccountsStand e.table.links (e.log.rows.items ++ row ∷ []) row.stamp accounts

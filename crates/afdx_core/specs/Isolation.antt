@@ -3,7 +3,7 @@
 use Rattle.std.specs.Prelude.{◌≡◌, ℕ, ◌≤◌, true, List, [], ◌∷◌, ◌++◌, map, Option, Some, None, All, Contains}
 use Rattle.afdx_pcap.specs.Entry.{Entry}
 use Rattle.afdx_table.specs.declared.rows.PortRow.{PortRow}
-use Rattle.afdx_table.specs.Link.{Link}
+use Rattle.afdx_table.specs.Link.{Link, leads_to}
 use Rattle.afdx_table.specs.Content.{Content}
 use Rattle.afdx_table.specs.WellFormed.{IsWellFormed}
 use Rattle.afdx_load.specs.Accepted.{IsAccepted}
@@ -15,8 +15,9 @@ use Rattle.afdx_port.specs.declared.Sent.{Sent}
 use Rattle.afdx_port.specs.declared.Offer.TheVariants.{Queued}
 use Rattle.afdx_isolation.specs.Arrivals.{own}
 use Rattle.afdx_isolation.specs.Table.{IsInBoundAt}
+use Rattle.afdx_load.specs.Sums.{terms_of}
 use Rattle.afdx_core.specs.declared.kinds.Row.{Row}
-use Rattle.afdx_core.specs.Rows.{row_of, frame_of, account_frames, terms_of, named, item_of, leads_to, each_after, feed_of}
+use Rattle.afdx_core.specs.Rows.{row_of, frame_of, account_frames, named, item_of, each_after, feed_of}
 use Rattle.afdx_core.specs.State.{Run, fresh_run, port_in, sent_in, aged_in, refusal_of, offers_of, after_row, after_advance, after_handing, after_finish}
 use Rattle.afdx_core.specs.Agreement.{frame_in}
 
@@ -66,10 +67,10 @@ pub record IsIsolated (r : Run) : Type 0 where
   -- each that was sent ended within the port's bound for its priority
   pub in_bound : (p : PortRow) → Contains r.table.ports p → All (IsInBoundAt r.table p) (sent_in r (Some p))
   -- at each port of a link, what was sent of the link is a front of its passed frames, in their order
-  pub front_of_passed : (p : PortRow) → Contains r.table.ports p → (l : Link) → Contains r.table.links l → leads_to p.id l.to ≡ true
+  pub front_of_passed : (p : PortRow) → Contains r.table.ports p → (l : Link) → Contains r.table.links l → leads_to p.id l ≡ true
       → (rest : List Item) × (sent_copies r p l ++ rest ≡ passed_copies r.table l r.rows)
   -- and all of them once the switch is finished
-  pub all_passed_once_finished : r.finished ≡ true → (p : PortRow) → Contains r.table.ports p → (l : Link) → Contains r.table.links l → leads_to p.id l.to ≡ true
+  pub all_passed_once_finished : r.finished ≡ true → (p : PortRow) → Contains r.table.ports p → (l : Link) → Contains r.table.links l → leads_to p.id l ≡ true
       → sent_copies r p l ≡ passed_copies r.table l r.rows
 
 abbrev pub AcceptedTablesIsolate : Type 0
@@ -90,7 +91,7 @@ abbrev pub OthersChangeNothing : Type 0
 OthersChangeNothing = (r r' : Run) (bytes bytes' : ℕ → List ℕ) → IsRun r → IsRun r' → IsWellFormed r.table → IsWellFormed r'.table → IsAccepted r.table → IsAccepted r'.table
     → r.finished ≡ true → r'.finished ≡ true
     → (p p' : PortRow) (l l' : Link) → Contains r.table.ports p → Contains r'.table.ports p' → Contains r.table.links l → Contains r'.table.links l'
-    → leads_to p.id l.to ≡ true → leads_to p'.id l'.to ≡ true → terms_of l ≡ terms_of l'
+    → leads_to p.id l ≡ true → leads_to p'.id l' ≡ true → terms_of l ≡ terms_of l'
     → map (with_bytes bytes) (own l.id (clean_copies r.table r.rows)) ≡ map (with_bytes bytes') (own l'.id (clean_copies r'.table r'.rows))
     → map (with_bytes bytes) (sent_copies r p l) ≡ map (with_bytes bytes') (sent_copies r' p' l')
 

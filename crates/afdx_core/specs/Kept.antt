@@ -9,8 +9,9 @@ use Rattle.afdx_account.specs.Level.{Stands}
 use Rattle.afdx_account.specs.Account.{account_terms, account_since, account_level}
 use Rattle.afdx_account.specs.declared.byte.ByteAccount.{ByteAccount}
 use Rattle.afdx_port.specs.declared.Item.{Item}
+use Rattle.afdx_load.specs.Sums.{terms_of}
 use Rattle.afdx_core.specs.declared.kinds.Row.{Row}
-use Rattle.afdx_core.specs.Rows.{account_frames, terms_of, feed_of, passes}
+use Rattle.afdx_core.specs.Rows.{account_frames, feed_of, passes}
 use Rattle.afdx_core.specs.State.{port_after}
 use Rattle.afdx_core.specs.Outlets.{Out}
 

@@ -1,12 +1,12 @@
 -- An output port beside its row of the table.
 use Rattle.std.specs.Prelude.{◌≡◌, ℕ, ◌+◌, ◌<◌, ◌≤◌, ◌==◌, true, false, if◌then◌else◌, List, length, slice_index_or, Option, Some, None, find, All}
 use Rattle.afdx_table.specs.declared.rows.PortRow.{PortRow}
+use Rattle.afdx_table.specs.Link.{names_port}
 use Rattle.afdx_port.specs.declared.Item.{Item}
 use Rattle.afdx_port.specs.declared.Offer.{Offer}
 use Rattle.afdx_port.specs.declared.Offer.TheVariants.{Full}
 use Rattle.afdx_port.specs.Content.{Content, answer, offered, advanced, closed}
 use Rattle.afdx_core.specs.declared.outlet.Outlet.{Outlet}
-use Rattle.afdx_core.specs.Rows.{leads_to}
 
 -- an outlet without the room that it has
 pub record Out : Type 0 where
@@ -21,7 +21,7 @@ seen o = record { row = o.row; content = o.port.content; handed = o.handed; last
 -- after a copy came that leads to these ports
 unfoldable pub taken : Item → List ℕ → Out → Out
 taken item to o =
-    if leads_to o.row.id to then record { row = o.row; content = offered item o.content; handed = o.handed; last = answer item o.content }
+    if names_port o.row.id to then record { row = o.row; content = offered item o.content; handed = o.handed; last = answer item o.content }
     else record { row = o.row; content = advanced item.stamp o.content; handed = o.handed; last = o.last }
 
 -- after an advance, and at the end
@@ -33,7 +33,7 @@ ended o = record { row = o.row; content = closed o.content; handed = o.handed; l
 
 -- an outlet may take an item that leads to these ports
 pub record CanTake {Z : Type 0} (item : Item) (to : List ℕ) (o : Outlet Z) : Type 0 where
-  pub room : leads_to o.row.id to ≡ true → 0 < o.port.room
+  pub room : names_port o.row.id to ≡ true → 0 < o.port.room
   pub still_open : o.port.content.finished ≡ false
   pub in_order : o.port.content.horizon ≤ item.stamp
   pub numbered : All (λ other. other.number < item.number) o.port.content.admitted

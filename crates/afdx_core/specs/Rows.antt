@@ -1,16 +1,16 @@
 -- What a switch makes of the arrivals that it took: each is one row, in the order of arrival.
 use Rattle.std.specs.Prelude.{ℕ, ◌==◌, Bool, false, ◌&&◌, if◌then◌else◌, List, [], ◌∷◌, ◌++◌, length, map, filter, Option, Some, None}
-use Rattle.std.specs.List.{list_any}
 use Rattle.afdx_units.specs.Line.{size_of}
 use Rattle.afdx_pcap.specs.Entry.{Entry}
-use Rattle.afdx_table.specs.Link.{Link}
+use Rattle.afdx_table.specs.Link.{Link, leads_to}
 use Rattle.afdx_table.specs.Content.{Content, link_row, link_place}
 use Rattle.afdx_filter.specs.declared.outcome.Verdict.{Verdict}
 use Rattle.afdx_filter.specs.declared.outcome.Verdict.TheVariants.{Cut, Short, Long, Foreign, NoLink, WrongPort, TooBig, Clean}
 use Rattle.afdx_filter.specs.Verdict.{verdict_of}
 use Rattle.afdx_account.specs.declared.frame.Frame.{Frame}
-use Rattle.afdx_account.specs.Policing.{Terms, byte_terms, conforms, passed_frames}
+use Rattle.afdx_account.specs.Policing.{conforms, passed_frames}
 use Rattle.afdx_port.specs.declared.Item.{Item}
+use Rattle.afdx_load.specs.Sums.{terms_of}
 use Rattle.afdx_core.specs.declared.kinds.Row.{Row}
 use Rattle.afdx_core.specs.declared.kinds.Fate.{Fate}
 use Rattle.afdx_core.specs.declared.kinds.Fate.TheVariants.{Filtered, Policed, Passed}
@@ -41,10 +41,6 @@ frame_of row = record { stamp = row.stamp; size = row.size }
 -- they as the link's account sees them
 unfoldable pub account_frames : ℕ → List Row → List Frame
 account_frames i rows = map frame_of (own_frames i rows)
-
--- profile: policing is by bytes
-abbrev pub terms_of : Link → Terms
-terms_of l = byte_terms l.max_size l.bag l.jitter
 
 -- ARINC 664 Part 7: whether a link's frame is passed, after these arrivals
 unfoldable pub passes : Link → List Row → Row → Bool
@@ -86,14 +82,10 @@ fate_of t before row = fate_by (named t row.verdict) before row
 abbrev pub item_of : Link → List Row → Row → Item
 item_of l before row = record { number = length before; link = l.id; stamp = row.stamp; size = row.size; priority = l.priority }
 
--- whether a list of port numbers has a port
-abbrev pub leads_to : ℕ → List ℕ → Bool
-leads_to port to = list_any (λ p. p == port) to
-
 -- the copy of a frame that a port is offered, if any: that of a passed frame whose link leads there
 abbrev pub copies_by : Option Link → ℕ → List Row → Row → List Item
 copies_by None port before row = []
-copies_by (Some l) port before row = if passes l before row && leads_to port l.to then item_of l before row ∷ [] else []
+copies_by (Some l) port before row = if passes l before row && leads_to port l then item_of l before row ∷ [] else []
 
 abbrev pub copies : Content → ℕ → List Row → Row → List Item
 copies t port before row = copies_by (named t row.verdict) port before row

@@ -4,7 +4,6 @@ use Rattle.afdx_pcap.specs.Entry.{Entry}
 use Rattle.afdx_table.specs.declared.rows.PortRow.{PortRow}
 use Rattle.afdx_table.specs.Link.{Link}
 use Rattle.afdx_table.specs.Content.{Content, port_row}
-use Rattle.afdx_port.specs.declared.Settings.{Settings}
 use Rattle.afdx_port.specs.declared.Item.{Item}
 use Rattle.afdx_port.specs.declared.Sent.{Sent}
 use Rattle.afdx_port.specs.declared.Aged.{Aged}
@@ -13,6 +12,7 @@ use Rattle.afdx_port.specs.declared.Offer.TheVariants.{Full}
 use Rattle.afdx_port.specs.Admission.{admitted}
 use Rattle.afdx_port.specs.Service.{sent_of, aged_of}
 use Rattle.afdx_port.specs.Content.{Content as PortContent, done, answer}
+use Rattle.afdx_isolation.specs.Table.{settings_of}
 use Rattle.afdx_core.specs.declared.kinds.Row.{Row}
 use Rattle.afdx_core.specs.declared.kinds.CoreFault.{CoreFault}
 use Rattle.afdx_core.specs.declared.kinds.CoreFault.TheVariants.{NoSuchPort, Earlier}
@@ -44,9 +44,6 @@ fresh_run t = record { table = t; rows = []; latest = 0; handed = map (λ p. 0) 
 -- a switch that took nothing, over a table that was accepted or not checked
 abbrev pub fresh_state : Bool → Content → State
 fresh_state accepted t = record { run = fresh_run t; frames = []; accepted = accepted }
-
-abbrev pub settings_of : PortRow → Settings
-settings_of p = record { speed = p.speed; buffer = p.buffer; max_delay = p.max_delay }
 
 -- an output port after these arrivals: it admits from its feed, and has come to the instant
 abbrev pub port_after : Content → List Row → ℕ → Bool → PortRow → PortContent

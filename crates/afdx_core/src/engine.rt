@@ -11,11 +11,12 @@ ghost use Rattle.afdx_table.specs.Link.{Link};
 ghost use Rattle.afdx_load.specs.Accepted.{IsAccepted};
 ghost use Rattle.afdx_port.specs.declared.Sent.{Sent};
 ghost use Rattle.afdx_core.specs.Rows.{row_of, named, place_named, fates_of};
-ghost use Rattle.afdx_core.specs.State.{Run, State, fresh_state, after_row, after_advance, after_finish, refusal_of, sent_in, aged_in, out_of};
+ghost use Rattle.afdx_core.specs.State.{Run, State, fresh_state, after_row, after_advance, after_finish, after_handing, refusal_of, sent_in, aged_in, out_of};
 ghost use Rattle.afdx_core.specs.Held.{Keeps, IsTaken, IsRefused, IsNext, IsAppended};
 ghost use Rattle.afdx_core.specs.Outlets.{seen};
 ghost use Rattle.afdx_core.specs.Kept.{AccountsStand, is_kept};
-ghost use Rattle.afdx_core.specs.Engine.{run_of, state_of, IsKept, CanBeTaken, IsSized, HasRoom, HaveRoom, fresh_out};
+ghost use Rattle.afdx_core.specs.Engine.{run_of, state_of, IsKept, CanBeTaken, IsSized, HasRoom, HaveRoom, IsNextSent, fresh_out};
+ghost use Rattle.afdx_core.specs.declared.outlet.Outlet.{Outlet as OneOutlet};
 
 use crate::kinds::{CoreFault, Fate, Row, Step};
 use crate::log::Log;
@@ -27,6 +28,7 @@ use crate::police::police;
 use afdx_account::ByteAccount;
 use afdx_filter::{Verdict, verdict};
 use afdx_pcap::{Record, write_frame};
+use afdx_port::laws::service_is_of_items;
 use afdx_port::{Aged, Item, Offer, Sent};
 use afdx_table::Table;
 use afdx_units::{Stamp, size};
@@ -389,6 +391,32 @@ impl<A: Allocator + Copy> Engine<A> {
         }
     }
 
+    /// The next sent frame of a port that was not handed out, with the port's place.
+    fn next_sent(&self, port: u8) -> Option<(usize, Sent)>
+        requires { IsKept self.now }
+        ensures { IsNextSent self.now port result }
+    {
+        service_is_of_items();
+        match place_of_port(&self.outlets, port) {
+            None => None,
+            Some(place) => match next_at(&self.outlets, place) {
+                None => None,
+                Some(sent) => Some((place, sent)),
+            },
+        }
+    }
+
+    /// Counts one more frame of the port at a place as handed out.
+    fn hand_out(&mut self, place: usize)
+        requires kept { IsKept self.old }
+        requires place { place < length self.old.outlets.items }
+        requires bound { (d : OneOutlet A) → (slice_index_or self.old.outlets.items place d).handed + 1 < 18446744073709551616 }
+        ensures kept { IsKept self.new }
+        ensures state { state_of self.new ≡ record (state_of self.old) { run = after_handing place (run_of self.old) } }
+    {
+        count_at(&mut self.outlets, place);
+    }
+
     /// The next sent frame of a port that was not handed out.
     pub(crate) fn next_out(&mut self, port: u8) -> Result<Option<Record<A>>, AllocError>
         requires { IsKept self.old }
@@ -397,14 +425,11 @@ impl<A: Allocator + Copy> Engine<A> {
         ensures ok { IfOk result (λ out. IsNext (state_of self.old) (state_of self.new) port out) }
         ensures err { OnErr result (state_of self.new ≡ state_of self.old) }
     {
-        let Some(place) = place_of_port(&self.outlets, port) else {
-            return Ok(None);
-        };
-        match next_at(&self.outlets, place) {
+        match self.next_sent(port) {
             None => Ok(None),
-            Some(sent) => {
+            Some((place, sent)) => {
                 let out = copy_of(self.alloc, &self.log.frames, &sent)?;
-                count_at(&mut self.outlets, place);
+                self.hand_out(place);
                 Ok(Some(out))
             }
         }
@@ -423,14 +448,11 @@ impl<A: Allocator + Copy> Engine<A> {
         ensures err { OnErr result (state_of self.new ≡ state_of self.old) }
         ensures err_capture { OnErr result (capture.new.items ≡ capture.old.items) }
     {
-        let Some(place) = place_of_port(&self.outlets, port) else {
-            return Ok(false);
-        };
-        match next_at(&self.outlets, place) {
+        match self.next_sent(port) {
             None => Ok(false),
-            Some(sent) => {
+            Some((place, sent)) => {
                 append_copy(&self.log.frames, &sent, capture)?;
-                count_at(&mut self.outlets, place);
+                self.hand_out(place);
                 Ok(true)
             }
         }

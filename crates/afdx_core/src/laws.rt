@@ -1,19 +1,31 @@
 //! Laws over the definitions.
 
-ghost use Rattle.afdx_core.specs.Agreement.{FeedIsPassed};
+ghost use Rattle.afdx_core.specs.Agreement.{FeedIsPassed, VerdictsNameLinks};
 ghost use Rattle.afdx_core.specs.Isolation.{PassedCopiesArePassedFrames, AcceptedTablesIsolate, NoStepIsFull, OthersChangeNothing, RunsBegin, RunsTakeArrivals, RunsAdvance, RunsHandOut, RunsFinish};
 ghost use Rattle.afdx_core.specs.Merge.{MergedIsAMerge, MergedIsByStampAndPort};
 
-use afdx_account::laws::passed_by_their_frames;
+use afdx_account::laws::{
+    next_frame_joins_where_it_conforms, next_joins_where_it_conforms, passed_by_their_frames,
+};
 use afdx_filter::laws::clean_frames_have_a_link;
 use afdx_isolation::laws as isolation;
 use afdx_isolation::laws::offers_what_the_policing_passes;
 use afdx_port::Item;
+use afdx_table::laws::links_are_found;
 
 /// A port that a link leads to is offered exactly what the link's policing passes of its own frames.
 pub fn feed_is_passed()
     ensures { FeedIsPassed }
-{}
+{
+    next_frame_joins_where_it_conforms();
+}
+
+/// The verdict on a clean frame names a link of the table, and no other verdict names one.
+pub fn verdicts_name_links()
+    ensures { VerdictsNameLinks }
+{
+    links_are_found();
+}
 
 /// Where no port's stamps fall, the program's merge is a merge.
 pub fn merged_is_a_merge()
@@ -29,6 +41,7 @@ pub fn merged_is_by_stamp_and_port()
 pub fn passed_copies_are_passed_frames()
     ensures { PassedCopiesArePassedFrames }
 {
+    links_are_found();
     passed_by_their_frames::<Item>();
 }
 
@@ -38,6 +51,7 @@ pub fn passed_copies_are_passed_frames()
 pub fn accepted_tables_isolate()
     ensures { AcceptedTablesIsolate }
 {
+    links_are_found();
     clean_frames_have_a_link();
     offers_what_the_policing_passes();
     isolation::accepted_tables_isolate();
@@ -56,6 +70,7 @@ pub fn calls_make_runs()
 pub fn no_step_is_full()
     ensures { NoStepIsFull }
 {
+    links_are_found();
     accepted_tables_isolate();
 }
 
@@ -63,5 +78,6 @@ pub fn no_step_is_full()
 pub fn others_change_nothing()
     ensures { OthersChangeNothing }
 {
+    next_joins_where_it_conforms::<Item>();
     accepted_tables_isolate();
 }

@@ -4,10 +4,10 @@ ghost use Rattle.std.specs.Prelude.{◌≡◌, ℕ, ◌+◌, ◌<◌, ◌≤◌,
 ghost use Rattle.std.specs.Vec.{vec_capacity};
 ghost use Rattle.afdx_units.specs.Time.{last_second};
 ghost use Rattle.afdx_table.specs.WellFormed.{IsPort};
-ghost use Rattle.afdx_core.specs.Rows.{leads_to};
+ghost use Rattle.afdx_table.specs.Link.{names_port};
+ghost use Rattle.afdx_isolation.specs.Table.{settings_of};
 ghost use Rattle.afdx_port.specs.Content.{fresh, done};
 ghost use Rattle.afdx_port.specs.Service.{sent_of};
-ghost use Rattle.afdx_core.specs.State.{settings_of};
 ghost use Rattle.afdx_core.specs.Outlets.{Out, seen, taken, carried, ended, CanTake, CanCarry, Became, last_at, counted};
 ghost use Rattle.afdx_core.specs.declared.outlet.Outlet.{Outlet as OneOutlet};
 
@@ -40,14 +40,14 @@ impl<A: Allocator + Copy> Outlet<A> {
 
     /// Whether these port numbers have this port.
     fn is_among(&self, to: &[u8]) -> bool
-        ensures { result ≡ leads_to self.now.row.id to.now }
+        ensures { result ≡ names_port self.now.row.id to.now }
     {
         to.contains(&self.row.id)
     }
 
     /// Makes room for one more item, where it leads here.
     fn make_room(&mut self, to: &[u8]) -> Result<(), AllocError>
-        ensures room { OnOk result (leads_to self.new.row.id to.now ≡ true → 0 < self.new.port.room) }
+        ensures room { OnOk result (names_port self.new.row.id to.now ≡ true → 0 < self.new.port.room) }
         ensures seen { seen self.new ≡ seen self.old }
     {
         if self.is_among(to) {
@@ -107,7 +107,7 @@ pub(crate) fn make_room<A: Allocator + Copy>(
     outlets: &mut [Outlet<A>],
     to: &[u8],
 ) -> Result<(), AllocError>
-    ensures room { OnOk result (All (λ o. leads_to o.row.id to.now ≡ true → 0 < o.port.room) outlets.new) }
+    ensures room { OnOk result (All (λ o. names_port o.row.id to.now ≡ true → 0 < o.port.room) outlets.new) }
     ensures seen { Became (λ o. o) outlets.old outlets.new }
 {
     for outlet in outlets.iter_mut() {

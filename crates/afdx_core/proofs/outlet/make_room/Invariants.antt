@@ -1,5 +1,5 @@
 use Rattle.std.proofs.Common.{◌≡◌, ℕ, ◌<◌, get_or, true}
-use Rattle.afdx_core.specs.Rows.{leads_to}
+use Rattle.afdx_table.specs.Link.{names_port}
 use Rattle.afdx_core.specs.declared.outlet.Outlet.{Outlet}
 use Rattle.afdx_core.specs.Outlets.{Out}
 use Rattle.afdx_core.proofs.Outs.{BecameUpTo}
@@ -9,5 +9,5 @@ use Rattle.afdx_core.proofs.outlet.make_room.Given as goal
 abbrev pub invariant-loop-outlet : goal.invariant-loop-outlet
 invariant-loop-outlet g l = record {
   became : BecameUpTo (λ (o : Out). o) l.initial.outlets l.outlets l.outlet-index;
-  room : (k : ℕ) (d : Outlet _) → k < l.outlet-index → leads_to (get_or l.outlets k d).row.id l.to ≡ true → 0 < (get_or l.outlets k d).port.room;
+  room : (k : ℕ) (d : Outlet _) → k < l.outlet-index → names_port (get_or l.outlets k d).row.id l.to ≡ true → 0 < (get_or l.outlets k d).port.room;
 }

@@ -9,7 +9,7 @@ use Rattle.afdx_core.specs.Rows.{item_of, passes}
 use Rattle.afdx_core.specs.Outlets.{taken, carried, Became, CanTake, last_at}
 use Rattle.afdx_core.specs.Engine.{run_of, HaveRoom, kept_by}
 use Rattle.afdx_core.proofs.Outs.{became_items}
-use Rattle.afdx_core.proofs.Steps.{link_is, place_is, names, judged_vec, taken_vec, can_take, passed_fate, offers_are, answers_are, kept_passed, kept_policed, run_step, taken_moves, carried_moves, can_carry, handled}
+use Rattle.afdx_core.proofs.Steps.{names_at, judged_vec, taken_vec, can_take, passed_fate, offers_are, answers_are, kept_passed, kept_policed, run_step, taken_moves, carried_moves, can_carry, handled}
 use Rattle.afdx_core.proofs.HeldFrames.{is_taken}
 use Rattle.afdx_core.proofs.Feeds.{policed_copies}
 use Rattle.afdx_core.proofs.engine.Engine.offer.Goals as goal
@@ -18,7 +18,7 @@ pub police-requires-clause-in_order : goal.police-requires-clause-in_order
 police-requires-clause-in_order g c a =
     let e = c.args.self.now in
     let link = c.unwrap-link.result.now in
-    let n = names e c.args.row.now c.args.place link c.requires.place (link_is e.table.links c.args.place c.link_at.result c.unwrap-link.result link c.link_at.ensures.link c.unwrap-link.ensures (place_is e.table c.args.row.now.verdict c.args.place link c.requires.place).within) in
+    let n = names_at e c.args.row.now c.args.place c.link_at.result c.unwrap-link.result link c.requires.place c.link_at.ensures.link c.unwrap-link.ensures refl in
     let s = c.requires.can.kept.accounts.each c.args.place link a n.within in
     rw c.deref_mut.ensures.value (omega (arith, s.since, c.requires.can.in_order))
 
@@ -28,7 +28,7 @@ take_all-requires-clause-can g c =
     let row = c.args.row.now in
     let i = c.link.inside in
     let link : Link = record { id = i.id; from = i.from; to = i.to.items; bag = i.bag; jitter = i.jitter; max_size = i.max_size; priority = i.priority } in
-    let n = names e row c.args.place link c.requires.place (c.link.view_is ∙ link_is e.table.links c.args.place c.link_at.result c.unwrap-link.result link c.link_at.ensures.link c.unwrap-link.ensures (place_is e.table row.verdict c.args.place link c.requires.place).within) in
+    let n = names_at e row c.args.place c.link_at.result c.unwrap-link.result link c.requires.place c.link_at.ensures.link c.unwrap-link.ensures c.link.view_is in
     let number : c.len-number.result ≡ length e.log.rows.items = c.len-number.ensures ∙ e.log.rows.ok.0 in
     let room = subst (λ (to : List ℕ). HaveRoom to e.outlets.items) (sym (c.as_slice-to.ensures.value ∙ ap (λ (m : Link). m.to) (sym n.at))) (c.requires.ports link) in
     let item : Item = record { number = c.len-number.result; link = link.id; stamp = row.stamp; size = row.size; priority = link.priority } in
@@ -41,7 +41,7 @@ list_answers-requires g c =
     let row = c.args.row.now in
     let i = c.link.inside in
     let link : Link = record { id = i.id; from = i.from; to = i.to.items; bag = i.bag; jitter = i.jitter; max_size = i.max_size; priority = i.priority } in
-    let n = names e row c.args.place link c.requires.place (c.link.view_is ∙ link_is e.table.links c.args.place c.link_at.result c.unwrap-link.result link c.link_at.ensures.link c.unwrap-link.ensures (place_is e.table row.verdict c.args.place link c.requires.place).within) in
+    let n = names_at e row c.args.place c.link_at.result c.unwrap-link.result link c.requires.place c.link_at.ensures.link c.unwrap-link.ensures c.link.view_is in
     let to = ap length (c.as_slice-to.ensures.value ∙ ap (λ (m : Link). m.to) (sym n.at)) in
     omega (arith, to, c.requires.empty, c.requires.answers link)
 
@@ -51,7 +51,7 @@ returns-then-police-clause-kept g c =
     let row = c.args.row.now in
     let i = c.link.inside in
     let link : Link = record { id = i.id; from = i.from; to = i.to.items; bag = i.bag; jitter = i.jitter; max_size = i.max_size; priority = i.priority } in
-    let n = names e row c.args.place link c.requires.place (c.link.view_is ∙ link_is e.table.links c.args.place c.link_at.result c.unwrap-link.result link c.link_at.ensures.link c.unwrap-link.ensures (place_is e.table row.verdict c.args.place link c.requires.place).within) in
+    let n = names_at e row c.args.place c.link_at.result c.unwrap-link.result link c.requires.place c.link_at.ensures.link c.unwrap-link.ensures c.link.view_is in
     let number : c.len-number.result ≡ length e.log.rows.items = c.len-number.ensures ∙ e.log.rows.ok.0 in
     let judge = judged_vec e row c.args.place link c.police.result c.deref_mut.result.now c.police.new.accounts c.requires.can n c.link_at.ensures.well_formed c.deref_mut.ensures.value c.police.ensures in
     let became = taken_vec e row link c.len-number.result c.as_slice-to.result.now c.deref_mut-then-police.result.now c.take_all.new.outlets number c.as_slice-to.ensures.value c.deref_mut-then-police.ensures.value c.take_all.ensures in
@@ -65,7 +65,7 @@ returns-then-police-clause-taken g c =
     let row = c.args.row.now in
     let i = c.link.inside in
     let link : Link = record { id = i.id; from = i.from; to = i.to.items; bag = i.bag; jitter = i.jitter; max_size = i.max_size; priority = i.priority } in
-    let n = names e row c.args.place link c.requires.place (c.link.view_is ∙ link_is e.table.links c.args.place c.link_at.result c.unwrap-link.result link c.link_at.ensures.link c.unwrap-link.ensures (place_is e.table row.verdict c.args.place link c.requires.place).within) in
+    let n = names_at e row c.args.place c.link_at.result c.unwrap-link.result link c.requires.place c.link_at.ensures.link c.unwrap-link.ensures c.link.view_is in
     let number : c.len-number.result ≡ length e.log.rows.items = c.len-number.ensures ∙ e.log.rows.ok.0 in
     let judge = judged_vec e row c.args.place link c.police.result c.deref_mut.result.now c.police.new.accounts c.requires.can n c.link_at.ensures.well_formed c.deref_mut.ensures.value c.police.ensures in
     let became = taken_vec e row link c.len-number.result c.as_slice-to.result.now c.deref_mut-then-police.result.now c.take_all.new.outlets number c.as_slice-to.ensures.value c.deref_mut-then-police.ensures.value c.take_all.ensures in
@@ -93,7 +93,7 @@ returns-else-police-clause-kept g c =
     let row = c.args.row.now in
     let i = c.link.inside in
     let link : Link = record { id = i.id; from = i.from; to = i.to.items; bag = i.bag; jitter = i.jitter; max_size = i.max_size; priority = i.priority } in
-    let n = names e row c.args.place link c.requires.place (c.link.view_is ∙ link_is e.table.links c.args.place c.link_at.result c.unwrap-link.result link c.link_at.ensures.link c.unwrap-link.ensures (place_is e.table row.verdict c.args.place link c.requires.place).within) in
+    let n = names_at e row c.args.place c.link_at.result c.unwrap-link.result link c.requires.place c.link_at.ensures.link c.unwrap-link.ensures c.link.view_is in
     let judge = judged_vec e row c.args.place link c.police.result c.deref_mut.result.now c.police.new.accounts c.requires.can n c.link_at.ensures.well_formed c.deref_mut.ensures.value c.police.ensures in
     let became = became_items (carried row.stamp) e.outlets c.deref_mut-else-police.result.now c.carry_all.new.outlets c.deref_mut-else-police.ensures.value c.carry_all.ensures in
     let no_pass : false ≡ passes link e.log.rows.items row = sym c.if-police.false ∙ judge.0 in
@@ -106,7 +106,7 @@ returns-else-police-clause-taken g c =
     let row = c.args.row.now in
     let i = c.link.inside in
     let link : Link = record { id = i.id; from = i.from; to = i.to.items; bag = i.bag; jitter = i.jitter; max_size = i.max_size; priority = i.priority } in
-    let n = names e row c.args.place link c.requires.place (c.link.view_is ∙ link_is e.table.links c.args.place c.link_at.result c.unwrap-link.result link c.link_at.ensures.link c.unwrap-link.ensures (place_is e.table row.verdict c.args.place link c.requires.place).within) in
+    let n = names_at e row c.args.place c.link_at.result c.unwrap-link.result link c.requires.place c.link_at.ensures.link c.unwrap-link.ensures c.link.view_is in
     let number : c.len-number.result ≡ length e.log.rows.items = c.len-number.ensures ∙ e.log.rows.ok.0 in
     let judge = judged_vec e row c.args.place link c.police.result c.deref_mut.result.now c.police.new.accounts c.requires.can n c.link_at.ensures.well_formed c.deref_mut.ensures.value c.police.ensures in
     let became = became_items (carried row.stamp) e.outlets c.deref_mut-else-police.result.now c.carry_all.new.outlets c.deref_mut-else-police.ensures.value c.carry_all.ensures in
