@@ -8,7 +8,7 @@ use Rattle.std.proofs.lemmas.List.{append-nil}
 use Rattle.afdx_units.specs.declared.line.Priority.{Priority}
 use Rattle.afdx_units.specs.declared.line.Priority.TheVariants.{High, Low}
 use Rattle.afdx_table.specs.declared.rows.PortRow.{PortRow}
-use Rattle.afdx_table.specs.Link.{Link}
+use Rattle.afdx_table.specs.Link.{Link, names_port, leads_to}
 use Rattle.afdx_table.specs.Content.{Content, link_row, port_row}
 use Rattle.afdx_table.specs.WellFormed.{Rises, IsLink, IsWellFormed}
 use Rattle.afdx_filter.specs.declared.outcome.Verdict.{Verdict}
@@ -21,8 +21,9 @@ use Rattle.afdx_port.specs.declared.Offer.{Offer}
 use Rattle.afdx_port.specs.Service.{Event, sent_of, aged_of}
 use Rattle.afdx_core.specs.declared.kinds.Row.{Row}
 use Rattle.afdx_core.specs.declared.kinds.Fate.TheVariants.{Passed, Policed}
-use Rattle.afdx_core.specs.Rows.{each_after, fates_of, feed_of, fate_of, fate_by, named, passes, item_of, leads_to, copies_by, copies}
-use Rattle.afdx_core.specs.State.{Run, settings_of, answer_of, offers_by, offers_of, handling_of, sent_in, aged_in, after_finish}
+use Rattle.afdx_core.specs.Rows.{each_after, fates_of, feed_of, fate_of, fate_by, named, passes, item_of, copies_by, copies}
+use Rattle.afdx_core.specs.State.{Run, answer_of, offers_by, offers_of, handling_of, sent_in, aged_in, after_finish}
+use Rattle.afdx_isolation.specs.Table.{settings_of}
 use Rattle.afdx_count.specs.declared.counters.InCount.{InCount}
 use Rattle.afdx_count.specs.declared.port_tallies.PortTally.{PortTally}
 use Rattle.afdx_count.specs.declared.link_tallies.LinkTally.{LinkTally}
@@ -94,7 +95,7 @@ none_of A port (q ∷ to) all =
       turned : (a b : ℕ) → nat_eq a b ≡ false → nat_eq b a ≡ false
       turned a b e = grind (arith, nat_tests)
 
-pub answers_once : (A : ℕ → Offer) (port : ℕ) (to : List ℕ) → IsDistinct nat_eq to → answers_of port (map (λ q. (q, A q)) to) ≡ cond (leads_to port to) (A port ∷ []) []
+pub answers_once : (A : ℕ → Offer) (port : ℕ) (to : List ℕ) → IsDistinct nat_eq to → answers_of port (map (λ q. (q, A q)) to) ≡ cond (names_port port to) (A port ∷ []) []
 unfolding IsDistinct
 answers_once A port [] d = refl
 answers_once A port (q ∷ to) d =
@@ -156,15 +157,15 @@ module _ (r : Run) (row : Row) (p : PortRow) where
 
     by_pass : (l : Link) (b : Bool) → link_row r.table l.id ≡ Some l
         → with_class (class_of (cond b (Passed l.id) (Policed l.id)) links) (cond b (map (λ port. (port, answers l port)) l.to) []) (with_feed input feed)
-        ≡ with_feed input (feed ++ cond (b && leads_to p.id l.to) (item_of l r.rows row ∷ []) [])
+        ≡ with_feed input (feed ++ cond (b && leads_to p.id l) (item_of l r.rows row ∷ []) [])
     by_pass l false is = ap (with_feed input) (sym (append-nil feed))
     by_pass l true is =
         ap (λ o. with_class o (map (λ port. (port, answers l port)) l.to) (with_feed input feed)) (class-is r.table r.rows l is)
         ∙ added-is l.priority (map (λ port. (port, answers l port)) l.to) (with_feed input feed)
         ∙ ap (λ offers. added l.priority offers (with_feed input feed))
         (answers_once (answers l) p.id l.to (targets_once r.table l formed is)
-        ∙ ap (λ o. cond (leads_to p.id l.to) (answer_of r (item_of l r.rows row) o ∷ []) []) found)
-        ∙ one_added l.priority (leads_to p.id l.to) input (item_of l r.rows row) refl
+        ∙ ap (λ o. cond (leads_to p.id l) (answer_of r (item_of l r.rows row) o ∷ []) []) found)
+        ∙ one_added l.priority (leads_to p.id l) input (item_of l r.rows row) refl
 
     by_link : (m : Option Link) → named r.table row.verdict ≡ m
         → with_class (class_of (fate_by m r.rows row) links) (offers_by r m row) (with_feed input feed) ≡ with_feed input (feed ++ copies_by m p.id r.rows row)

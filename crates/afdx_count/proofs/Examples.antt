@@ -12,7 +12,7 @@ use Rattle.afdx_filter.specs.declared.outcome.Verdict.TheVariants.{Cut, Short, C
 use Rattle.afdx_port.specs.Service.{next, others, reach}
 use Rattle.afdx_core.specs.declared.kinds.Row.{Row}
 use Rattle.afdx_core.specs.Rows.{account_frames, passes, fates_of, feed_of}
-use Rattle.afdx_core.specs.State.{settings_of}
+use Rattle.afdx_isolation.specs.Table.{settings_of}
 use Rattle.afdx_count.specs.declared.counters.OutCount.{OutCount}
 use Rattle.afdx_count.specs.Run.{turned_away, arrivals_at, input_counts, link_counts, output_counts, events_of}
 

@@ -16,7 +16,8 @@ use Rattle.afdx_core.specs.declared.kinds.Fate.{Fate}
 use Rattle.afdx_core.specs.declared.kinds.Fate.TheVariants.{Filtered, Policed, Passed}
 use Rattle.afdx_core.specs.Handling.{Handling}
 use Rattle.afdx_core.specs.Rows.{each_after, fates_of, feed_of}
-use Rattle.afdx_core.specs.State.{Run, settings_of, handling_of}
+use Rattle.afdx_core.specs.State.{Run, handling_of}
+use Rattle.afdx_isolation.specs.Table.{settings_of}
 use Rattle.afdx_count.specs.declared.counters.InCount.{InCount}
 use Rattle.afdx_count.specs.declared.counters.LinkCount.{LinkCount}
 use Rattle.afdx_count.specs.declared.counters.OutCount.{OutCount}

@@ -1,8 +1,10 @@
 -- What is handed out of a port, one frame after the other.
 use Rattle.std.proofs.Common.{◌≡◌, ℕ, zero, suc, ◌+◌, ◌<◌, ◌==◌, Bool, true, false, cond, nat_lt, List, [], ◌∷◌, ◌++◌, map, length, drop, slice_get, slice_index, Option, Some, None, refl, ap, sym, ◌∙◌, arith, append_assoc, subst, get_or-set_same, get_or-set_other}
 use Rattle.std.specs.List.{flat_map, position, position_or_len}
+use Rattle.std.proofs.Math.Seq.{drop-cons}
 use Rattle.std.proofs.lemmas.Bool.{ltb-true}
 use Rattle.std.proofs.lemmas.List.{length-set, append-nil}
+use Rattle.std.proofs.lemmas.Option.{slice_get_within, get_or_from_slice_get}
 use Rattle.afdx_pcap.specs.Entry.{Entry}
 use Rattle.afdx_pcap.specs.Text.{header_text, record_text, capture_text}
 use Rattle.afdx_table.specs.declared.rows.PortRow.{PortRow}
@@ -16,12 +18,8 @@ use Rattle.afdx_session.specs.Replay.{HasBytesOf, left_at, IsDrained}
 use Rattle.afdx_session.proofs.Replaying.{bytes_stay}
 use Rattle.afdx_session.proofs.Numbered.{sent_numbered, all_slice_get}
 
-drop_at : {X : Type 0} (xs : List X) (n : ℕ) (x : X) → slice_get xs n ≡ Some x → drop n xs ≡ x ∷ drop (suc n) xs
-drop_at [] n x is = absurd cc
-drop_at (y ∷ xs) zero x is = ap (λ z. z ∷ xs) (same is) where
-  same : Some y ≡ Some x → y ≡ x
-  same e = cc
-drop_at (y ∷ xs) (suc n) x is = drop_at xs n x is
+pub drop_at : {X : Type 0} (xs : List X) (n : ℕ) (x : X) → slice_get xs n ≡ Some x → drop n xs ≡ x ∷ drop (suc n) xs
+drop_at xs n x is = drop-cons xs n x (slice_get_within xs n x is) ∙ ap (λ y. y ∷ drop (suc n) xs) (get_or_from_slice_get xs n x x is)
 
 drop_none : {X : Type 0} (xs : List X) (n : ℕ) → slice_get xs n ≡ None → drop n xs ≡ []
 drop_none [] zero is = refl

@@ -13,7 +13,8 @@ use Rattle.afdx_port.specs.Admission.{fits, admit, admit_all, admitted}
 use Rattle.afdx_port.specs.Content.{done}
 use Rattle.afdx_core.specs.declared.kinds.Row.{Row}
 use Rattle.afdx_core.specs.Rows.{named, item_of as copy_of, copies_by, copies, each_after, feed_of}
-use Rattle.afdx_core.specs.State.{Run, settings_of, port_in, sent_in}
+use Rattle.afdx_core.specs.State.{Run, port_in, sent_in}
+use Rattle.afdx_isolation.specs.Table.{settings_of}
 
 -- ---- lists
 
