@@ -3,6 +3,7 @@ use Rattle.std.proofs.Common.{◌≡◌, ℕ, ◌+◌, ◌<◌, List, [], ◌∷
 use Rattle.std.proofs.Common.{min, Vec}
 use Rattle.std.specs.Prelude.{option_map}
 use Rattle.std.proofs.lemmas.List.{map-append, take_more, take-map, length-map, length-take}
+use Rattle.std.proofs.lemmas.Simd.{map-map}
 use Rattle.std.proofs.lemmas.Option.{slice_get-map, slice_get-get_or, get_or_from_slice_get}
 use Rattle.afdx_table.specs.declared.rows.PortRow.{PortRow}
 use Rattle.afdx_session.specs.Texts.{Text, texts_of}
@@ -10,7 +11,7 @@ use Rattle.afdx_table.specs.Content.{Content}
 use Rattle.afdx_serve.specs.declared.failure.Failure.{Failure}
 use Rattle.afdx_serve.specs.declared.failure.Failure.TheVariants as failure
 use Rattle.afdx_serve.specs.Files.{Files, with_file, with_files, Shows, ShowsAll, KeepsFiles, KeepsOthers, PutsFile, PutsFiles, one_more}
-use Rattle.afdx_serve.specs.Runs.{capture_name, names_in, bytes_of, IsAmongNames, StopsAt, FailsToGet, FailsToGetAll, FailsToPutOne, FailsToPut}
+use Rattle.afdx_serve.specs.Runs.{capture_name, names_in, bytes_of, GetsUpTo, port_names, StopsAt, FailsToGet, FailsToGetAll, FailsToPutOne, FailsToPut}
 
 -- ---- files that stay
 
@@ -83,18 +84,18 @@ PutsFiles-nil (Some f) = λ q. refl
 
 -- a capture was not got
 pub not_got : (f : Failure) (files : Option Files) (path name : List ℕ) (t : Content) (first before after : ℕ) → before ≡ first → FailsToGet f name before after
-    → IsAmongNames name path t → FailsToGetAll f files path t first after
-not_got (failure.Get s) files path name t first before after same fails among =
-    (subst (λ (n : List ℕ). IsAmongNames n path t) (sym fails.0) among, fails.1 ∙ ap one_more same)
-not_got failure.Memory files path name t first before after same fails among = tt
-not_got failure.Usage files path name t first before after same fails among = absurd fails
-not_got (failure.Table r) files path name t first before after same fails among = absurd fails
-not_got (failure.Capture r) files path name t first before after same fails among = absurd fails
-not_got (failure.PortCapture p r) files path name t first before after same fails among = absurd fails
-not_got (failure.Put s) files path name t first before after same fails among = absurd fails
-not_got (failure.Load r) files path name t first before after same fails among = absurd fails
-not_got failure.Read files path name t first before after same fails among = absurd fails
-not_got failure.Write files path name t first before after same fails among = absurd fails
+    → GetsUpTo name files path t → FailsToGetAll f files path t first after
+not_got (failure.Get s) files path name t first before after same fails upto =
+    (subst (λ (n : List ℕ). GetsUpTo n files path t) (sym fails.0) upto, fails.1 ∙ ap one_more same)
+not_got failure.Memory files path name t first before after same fails upto = tt
+not_got failure.Usage files path name t first before after same fails upto = absurd fails
+not_got (failure.Table r) files path name t first before after same fails upto = absurd fails
+not_got (failure.Capture r) files path name t first before after same fails upto = absurd fails
+not_got (failure.PortCapture p r) files path name t first before after same fails upto = absurd fails
+not_got (failure.Put s) files path name t first before after same fails upto = absurd fails
+not_got (failure.Load r) files path name t first before after same fails upto = absurd fails
+not_got failure.Read files path name t first before after same fails upto = absurd fails
+not_got failure.Write files path name t first before after same fails upto = absurd fails
 
 -- a file was not put
 pub not_put : (f : Failure) (name : List ℕ) (names all : List (List ℕ)) (old new : Option Files) (first before after : ℕ) → before ≡ first → FailsToPutOne f name before after
@@ -117,14 +118,24 @@ not_put failure.Write name names all old new first before after same fails stops
 mapped : {X Y : Type 0} (f : X → Y) (xs : List X) (i : ℕ) (d : X) → i < length xs → slice_get (map f xs) i ≡ Some (f (get_or xs i d))
 mapped f xs i d lt = slice_get-map f xs i ∙ ap (option_map f) (slice_get-get_or xs i d lt)
 
--- the name of a port's capture
-pub among : (path name : List ℕ) (t : Content) (ports : List PortRow) (i : ℕ) (d : PortRow) → ports ≡ t.ports → i < length ports → name ≡ capture_name path (get_or ports i d).id
-    → IsAmongNames name path t
-among path name t ports i d all lt is = (
-  i,
-  subst (λ (ps : List PortRow). slice_get (map (λ p. capture_name path p.id) ps) i ≡ Some name) all
-      (mapped (λ (p : PortRow). capture_name path p.id) ports i d lt ∙ ap (λ (n : List ℕ). Some n) (sym is)),
-)
+-- the name of a port's capture, where those of the ports before it were got
+pub gets_up_to : (files : Option Files) (path name : List ℕ) (t : Content) (ports : List PortRow) (i : ℕ) (d : PortRow) (captures : List Text) → ports ≡ t.ports → i < length ports
+    → name ≡ capture_name path (get_or ports i d).id → ShowsAll files (names_in path captures) (bytes_of captures) → map (λ (x : Text). x.0) captures ≡ map (λ (p : PortRow). p.id) (take i ports)
+    → GetsUpTo name files path t
+gets_up_to files path name t ports i d captures all lt is got ids =
+    let named : PortRow → List ℕ = λ p. capture_name path p.id in
+    let earlier : names_in path captures ≡ take i (port_names path t) =
+    sym (map-map (capture_name path) (λ (x : Text). x.0) captures) ∙ ap (map (capture_name path)) ids ∙ map-map (capture_name path) (λ (p : PortRow). p.id) (take i ports)
+    ∙ sym (take-map named i ports) ∙ ap (λ (ps : List PortRow). take i (map named ps)) all in
+    record {
+      place = i;
+      got = bytes_of captures;
+      is_there = subst (λ (ps : List PortRow). slice_get (map named ps) i ≡ Some name) all (mapped named ports i d lt ∙ ap (λ (n : List ℕ). Some n) (sym is));
+      earlier = subst (λ (names : List (List ℕ)). ShowsAll files names (bytes_of captures)) earlier got;
+    }
+
+pub GetsUpTo-before : (name path : List ℕ) (a b : Option Files) (t : Content) → KeepsFiles a b → GetsUpTo name b path t → GetsUpTo name a path t
+GetsUpTo-before name path a b t keeps s = record { place = s.place; got = s.got; is_there = s.is_there; earlier = ShowsAll-before a b _ _ keeps s.earlier }
 
 -- one more port's capture was got
 pub one_more_capture : {Z : Type 0} (a b c : Option Files) (path name : List ℕ) (ports : List PortRow) (i : ℕ) (d : PortRow) (old new : List (ℕ × Vec ℕ Z)) (bytes : Vec ℕ Z)

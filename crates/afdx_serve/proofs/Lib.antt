@@ -5,3 +5,4 @@ pub mod FileLemmas
 pub mod RunLemmas
 pub mod ServingLemmas
 pub mod CheckLemmas
+pub mod OwnLemmas

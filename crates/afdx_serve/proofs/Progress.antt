@@ -8,7 +8,6 @@ use Rattle.afdx_account.specs.declared.frame.Frame.{Frame}
 use Rattle.afdx_account.specs.Account.{account_terms, account_since, account_level}
 use Rattle.afdx_account.specs.Policing.{Terms, conforms, passed_of}
 use Rattle.afdx_account.specs.Level.{PassesWhatConforms, Stands}
-use Rattle.afdx_account.proofs.Windows.{passed_after-push, map-passed_after}
 use Rattle.afdx_pcap.specs.Entry.{Entry}
 use Rattle.afdx_pcap.specs.declared.fault.PcapFault.{PcapFault}
 use Rattle.afdx_pcap.specs.declared.fault.PcapFault.TheVariants as pcap
@@ -16,14 +15,12 @@ use Rattle.afdx_pcap.specs.Fault.{IsFault, last_stamp}
 use Rattle.afdx_pcap.specs.Capture.{IsCapture}
 use Rattle.afdx_pcap.specs.Reading.{HasTaken, IsNext, IsSound, Taking, taking_on}
 use Rattle.afdx_pcap.specs.Text.{capture_text, record_text}
-use Rattle.afdx_pcap.proofs.Splitting.{last_stamp-push}
-use Rattle.afdx_pcap.proofs.Taking.{next_joins, next_in_order, taken_are_all}
-use Rattle.afdx_pcap.proofs.Written.{capture_text-push}
 use Rattle.afdx_words.specs.declared.link.Alone.{Alone}
 use Rattle.afdx_serve.specs.Own.{is_own}
 use Rattle.afdx_serve.specs.Faults.{IsFaultOf, fault_of}
 use Rattle.afdx_serve.specs.Offer.{IsOffered}
 use Rattle.afdx_serve.specs.Answer.{IsAnswer, frame_of, terms_of, passed_of_link}
+use Rattle.afdx_serve.specs.Ground.{Ground}
 
 abbrev pub own_frames : Alone → List Entry → List Frame
 own_frames link seen = map frame_of (filter (is_own link) seen)
@@ -40,13 +37,13 @@ pub record Taken (link : Alone) (seen : List Entry) (r : Entry) (account : ByteA
   pub passed : passed_of_link link (seen ++ r ∷ []) ≡ cond passes (passed_of_link link seen ++ r ∷ []) (passed_of_link link seen)
 
 -- a frame that is not the link's own
-skipped : (link : Alone) (seen : List Entry) (r : Entry) (account : ByteAccount)
+skipped : Ground → (link : Alone) (seen : List Entry) (r : Entry) (account : ByteAccount)
     → last_stamp 0 seen ≤ r.stamp → is_own link r ≡ false → Progress link seen account → Taken link seen r account false
-skipped link seen r account order other p =
+skipped g link seen r account order other p =
     let before = filter (is_own link) seen in
     let same : filter (is_own link) (seen ++ r ∷ []) ≡ before =
     filter-append (is_own link) seen (r ∷ []) ∙ ap (λ b. before ++ cond b (r ∷ []) []) other ∙ append-nil before in
-    let latest = last_stamp-push 0 seen r in
+    let latest = g.latest seen r in
     record {
       progress = record {
         terms = p.terms;
@@ -57,9 +54,9 @@ skipped link seen r account order other p =
     }
 
 -- one of the link's own frames
-offered : (link : Alone) (seen : List Entry) (r : Entry) (old new : ByteAccount) (answer : Bool)
+offered : Ground → (link : Alone) (seen : List Entry) (r : Entry) (old new : ByteAccount) (answer : Bool)
     → IsTrue (is_own link r) → IsOffered old new (frame_of r) answer → Progress link seen old → Taken link seen r new answer
-offered link seen r old new answer own o p =
+offered g link seen r old new answer own o p =
     let t = terms_of link in
     let f = frame_of r in
     let before = filter (is_own link) seen in
@@ -67,8 +64,8 @@ offered link seen r old new answer own o p =
     filter-append (is_own link) seen (r ∷ []) ∙ ap (λ b. before ++ cond b (r ∷ []) []) own in
     let frames : own_frames link (seen ++ r ∷ []) ≡ own_frames link seen ++ f ∷ [] = ap (map frame_of) more ∙ map-append frame_of before (r ∷ []) in
     let told = subst (λ (s : Terms). PassesWhatConforms s (account_since old) (account_level old (account_since old)) f.stamp f.size answer (account_level new f.stamp)) p.terms o.answers (own_frames link seen) p.stands in
-    let joins : answer ≡ conforms t (map frame_of (passed_of frame_of t before)) f = told.0 ∙ ap (λ ps. conforms t ps f) (sym (map-passed_after frame_of t [] before)) in
-    let latest = last_stamp-push 0 seen r in
+    let joins : answer ≡ conforms t (map frame_of (passed_of frame_of t before)) f = told.0 ∙ ap (λ ps. conforms t ps f) (sym (g.by_frames frame_of t before)) in
+    let latest = g.latest seen r in
     let since = o.since in
     record {
       progress = record {
@@ -77,24 +74,24 @@ offered link seen r old new answer own o p =
         stands = subst (λ (n : ℕ). Stands t n (account_level new n) (own_frames link (seen ++ r ∷ []))) (sym o.since)
             (subst (λ (fs : List Frame). Stands t f.stamp (account_level new f.stamp) fs) (sym frames) told.1);
       };
-      passed = rw joins (ap (passed_of frame_of t) more ∙ passed_after-push frame_of t [] before r);
+      passed = rw joins (ap (passed_of frame_of t) more ∙ g.next frame_of t before r);
     }
 
 -- the next frame, by what is known of whether it passes
-taken : (link : Alone) (seen : List Entry) (r : Entry) (old new : ByteAccount) (passes : Bool) → last_stamp 0 seen ≤ r.stamp
+taken : Ground → (link : Alone) (seen : List Entry) (r : Entry) (old new : ByteAccount) (passes : Bool) → last_stamp 0 seen ≤ r.stamp
     → (IsTrue (is_own link r) → IsOffered old new (frame_of r) passes) → (is_own link r ≡ false → (passes ≡ false) × (new ≡ old))
     → Progress link seen old → Taken link seen r new passes
-taken link seen r old new passes order own others p = go (is_own link r) refl
+taken g link seen r old new passes order own others p = go (is_own link r) refl
   where
     go : (b : Bool) → is_own link r ≡ b → Taken link seen r new passes
-    go true e = offered link seen r old new passes e (own e) p
-    go false e = let o = others e in rw (o.0, o.1) (skipped link seen r old order e p)
+    go true e = offered g link seen r old new passes e (own e) p
+    go false e = let o = others e in rw (o.0, o.1) (skipped g link seen r old order e p)
 
 -- the text with one more record
-longer_text : (passes : Bool) (rs : List Entry) (r : Entry) (answer : List ℕ) → answer ≡ capture_text rs
+longer_text : Ground → (passes : Bool) (rs : List Entry) (r : Entry) (answer : List ℕ) → answer ≡ capture_text rs
     → cond passes (answer ++ record_text r) answer ≡ capture_text (cond passes (rs ++ r ∷ []) rs)
-longer_text false rs r answer is = is
-longer_text true rs r answer is = ap (λ (text : List ℕ). text ++ record_text r) is ∙ sym (capture_text-push rs r)
+longer_text g false rs r answer is = is
+longer_text g true rs r answer is = ap (λ (text : List ℕ). text ++ record_text r) is ∙ sym (g.appended rs r)
 
 -- ---- the loop over a capture's frames
 
@@ -107,34 +104,34 @@ pub record Polices (link : Alone) (bytes : List ℕ) (frames : Taking) (account 
   pub answer_is : answer ≡ capture_text (passed_of_link link seen)
 
 -- the next frame may be offered
-pub may_be_offered : (link : Alone) (bytes : List ℕ) (frames : Taking) (account : ByteAccount) (answer : List ℕ) (r : Entry)
+pub may_be_offered : Ground → (link : Alone) (bytes : List ℕ) (frames : Taking) (account : ByteAccount) (answer : List ℕ) (r : Entry)
     → Polices link bytes frames account answer → IsNext frames.bytes frames.given r → account_since account ≤ r.stamp
-may_be_offered link bytes frames account answer r p next =
-    let order = next_in_order frames p.seen r p.taken next in
+may_be_offered g link bytes frames account answer r p next =
+    let order = g.in_order frames p.seen r p.taken next in
     let since = p.progress.since in
     omega (arith, order, since)
 
 -- and then the loop has come one frame further
-pub one_further : (link : Alone) (bytes : List ℕ) (frames later : Taking) (old new : ByteAccount) (answer longer : List ℕ) (r : Entry) (passes : Bool)
+pub one_further : Ground → (link : Alone) (bytes : List ℕ) (frames later : Taking) (old new : ByteAccount) (answer longer : List ℕ) (r : Entry) (passes : Bool)
     → Polices link bytes frames old answer → IsNext frames.bytes frames.given r → later ≡ taking_on frames
     → (IsTrue (is_own link r) → IsOffered old new (frame_of r) passes) → (is_own link r ≡ false → (passes ≡ false) × (new ≡ old))
     → longer ≡ cond passes (answer ++ record_text r) answer
     → Polices link bytes later new longer
-one_further link bytes frames later old new answer longer r passes p next came own others grown =
-    let t = taken link p.seen r old new passes (next_in_order frames p.seen r p.taken next) own others p.progress in
+one_further g link bytes frames later old new answer longer r passes p next came own others grown =
+    let t = taken g link p.seen r old new passes (g.in_order frames p.seen r p.taken next) own others p.progress in
     subst (λ (a : Taking). Polices link bytes a new longer) (sym came) (record {
       same = p.same;
       seen = p.seen ++ r ∷ [];
-      taken = next_joins frames p.seen r p.taken next;
+      taken = g.joins frames p.seen r p.taken next;
       progress = t.progress;
-      answer_is = grown ∙ longer_text passes (passed_of_link link p.seen) r answer p.answer_is ∙ ap capture_text (sym t.passed);
+      answer_is = grown ∙ longer_text g passes (passed_of_link link p.seen) r answer p.answer_is ∙ ap capture_text (sym t.passed);
     })
 
 -- at the end the answer is that of the capture
-pub all_policed : (link : Alone) (bytes : List ℕ) (frames : Taking) (account : ByteAccount) (answer : List ℕ)
+pub all_policed : Ground → (link : Alone) (bytes : List ℕ) (frames : Taking) (account : ByteAccount) (answer : List ℕ)
     → Polices link bytes frames account answer → IsSound frames.bytes frames.given true → IsAnswer link bytes answer
-all_policed link bytes frames account answer p sound =
-    (p.seen, subst (λ (bs : List ℕ). IsCapture bs p.seen) p.same (taken_are_all frames p.seen p.taken sound), p.answer_is)
+all_policed g link bytes frames account answer p sound =
+    (p.seen, subst (λ (bs : List ℕ). IsCapture bs p.seen) p.same (g.ends frames p.seen p.taken sound), p.answer_is)
 
 -- what is wrong with the capture is why there is no answer
 pub wrong_answer : (bytes : List ℕ) (fault : PcapFault) → (fault ≢ pcap.Memory → IsFault bytes fault) → IsFaultOf bytes (fault_of fault)

@@ -14,7 +14,7 @@ use Rattle.afdx_serve.specs.Files.{Files, KeepsFiles, PutsFiles, one_more}
 use Rattle.afdx_serve.specs.Runs.{LeadsTo, names_in, bytes_of, FailsToPut, FailsToRun, HasPlan, HasCaptures, FailsToGetAll, FailsToGather, FailsToLead, capture_name}
 use Rattle.std.specs.Io.KnownBytes.{Keeps}
 use Rattle.afdx_serve.specs.Serving.{world, PutsResults, FailsToRunAll}
-use Rattle.afdx_serve.proofs.FileLemmas.{PutsFiles-before, StopsAt-before, ShowsAll-before}
+use Rattle.afdx_serve.proofs.FileLemmas.{PutsFiles-before, StopsAt-before, ShowsAll-before, GetsUpTo-before}
 
 -- what holds of the error that a call returned
 pub of_error : {T E : Type 0} (r : Result T E) (P : T → Type 0) (Q : E → Type 0) (e : E) → IsErr r × IsErrAnd r (λ x. x ≡ e) → Q e → MatchResult r P Q
@@ -58,7 +58,7 @@ module _ (paths : Paths) (results : Results) (a b c : Option Files) (first befor
 module _ (paths : Paths) (a b : Option Files) (t : Content) (first before after : ℕ) (plan : HasPlan a paths t) (keeps : KeepsFiles a b) (same : before ≡ first) where
   -- a capture was not got
   pub not_gathered : (f : Failure) → FailsToGetAll f b paths.input.now t before after → FailsToGather f paths a first after
-  not_gathered (failure.Get name) h = (h.1 ∙ ap one_more same, inr (t, plan, h.0))
+  not_gathered (failure.Get name) h = (h.1 ∙ ap one_more same, inr (t, plan, GetsUpTo-before _ _ a b t keeps h.0))
   not_gathered failure.Memory h = tt
   not_gathered failure.Usage h = absurd h
   not_gathered (failure.Table r) h = absurd h

@@ -1,7 +1,9 @@
 pub mod Own
+pub mod OwnClean
 pub mod Answer
 pub mod Offer
 pub mod Faults
+pub mod Ground
 pub mod Output
 pub mod Files
 pub mod Failures

@@ -52,9 +52,16 @@ pub record LeadsTo (paths : Paths) (files : Option Files) (results : Results) : 
   pub has_captures : HasCaptures files paths.input.now table captures
   pub outcome : IsOutcome table captures results
 
--- the name is that of the capture of one of the table's ports
-abbrev pub IsAmongNames : List ℕ → List ℕ → Content → Type 0
-IsAmongNames name path t = (place : ℕ) × (slice_get (map (λ p. capture_name path p.id) t.ports) place ≡ Some name)
+-- the names of the captures of a table's ports in a folder, by rising number
+abbrev pub port_names : List ℕ → Content → List (List ℕ)
+port_names path t = map (λ p. capture_name path p.id) t.ports
+
+-- the name is that of a port's capture, and the captures of the ports before it were got; nothing is said of what stands under it
+pub record GetsUpTo (name : List ℕ) (files : Option Files) (path : List ℕ) (t : Content) : Type 0 where
+  pub place : ℕ
+  pub got : List (List ℕ)
+  pub is_there : slice_get (port_names path t) place ≡ Some name
+  pub earlier : ShowsAll files (take place (port_names path t)) got
 
 -- the report of a run
 abbrev pub report_in : Results → List ℕ
@@ -83,10 +90,9 @@ abbrev pub FailsToRead : Failure → Option Files → List ℕ → ℕ → ℕ �
 FailsToRead (failure.Table refusal) files path before after = HasNoTable files path refusal × (after ≡ before)
 FailsToRead f files path before after = FailsToGet f path before after
 
--- not all captures of the table's ports were got: one that failed is told
+-- not all captures of the table's ports were got: the first that failed is told
 abbrev pub FailsToGetAll : Failure → Option Files → List ℕ → Content → ℕ → ℕ → Type 0
-FailsToGetAll (failure.Get name) files path t before after =
-    IsAmongNames (string_bytes name) path t × (after ≡ one_more before)
+FailsToGetAll (failure.Get name) files path t before after = GetsUpTo (string_bytes name) files path t × (after ≡ one_more before)
 FailsToGetAll failure.Memory files path t before after = Unit {0}
 FailsToGetAll _ files path t before after = ⊥
 
@@ -106,7 +112,7 @@ abbrev pub FailsToGather : Failure → Paths → Option Files → ℕ → ℕ �
 FailsToGather (failure.Table refusal) paths files before after = HasNoTable files paths.table.now refusal × (after ≡ before)
 FailsToGather (failure.Get name) paths files before after =
     (after ≡ one_more before) × ((string_bytes name ≡ paths.table.now)
-    ⊎ ((t : Content) × HasPlan files paths t × IsAmongNames (string_bytes name) paths.input.now t))
+    ⊎ ((t : Content) × HasPlan files paths t × GetsUpTo (string_bytes name) files paths.input.now t))
 FailsToGather (failure.PortCapture port fault) paths files before after =
     (t : Content) × (captures : List Text) × HasPlan files paths t × HasCaptures files paths.input.now t captures
     × IsFirstFault captures port fault × (after ≡ before)

@@ -13,7 +13,7 @@ use crate::folder::Folder;
 use crate::get::get_table;
 use crate::output::write_bytes;
 use afdx_load::laws::longest_shows_links;
-use afdx_load::{Load, bounds, least_buffer, load};
+use afdx_load::{Load, Loads, bounds, least_buffer, loads};
 use afdx_table::{PortRow, Table};
 use std::alloc::{AllocError, Global};
 use std::io::Write;
@@ -45,13 +45,13 @@ fn load_line(alloc: Global, row: &PortRow, load: &Load) -> Result<String, AllocE
     Ok(line)
 }
 
-/// The line of a port of the table; where no link leads to it, no text.
-fn port_line(alloc: Global, table: &Table, row: &PortRow) -> Result<String, AllocError>
-    requires { port_row table.now row.now.id ≡ Some row.now }
-    ensures { IfOk result (λ line. IsLineOf row.now (load_of row.now.speed row.now.id table.now.links) (string_bytes line)) }
+/// The line of a port of the loads' table; where no link leads to it, no text.
+fn port_line(alloc: Global, loads: &Loads<'_>, row: &PortRow) -> Result<String, AllocError>
+    requires { port_row loads.now row.now.id ≡ Some row.now }
+    ensures { IfOk result (λ line. IsLineOf row.now (load_of row.now.speed row.now.id loads.now.links) (string_bytes line)) }
 {
     longest_shows_links();
-    match load(table, row.id) {
+    match loads.at(row.id) {
         Some(load) if load.largest() > 0 => load_line(alloc, row, &load),
         _ => Ok(String::new(alloc)),
     }
@@ -59,14 +59,15 @@ fn port_line(alloc: Global, table: &Table, row: &PortRow) -> Result<String, Allo
 
 /// The lines of the table's ports with links.
 ///
-/// Each port's load is one pass over the links: O(p * m) for p ports, of which there are at most 24, and links that
+/// One pass over the links serves all ports: O(p + m) for p ports, of which there are at most 24, and links that
 /// together name m output ports.
 fn port_lines(alloc: Global, table: &Table) -> Result<String, AllocError>
     ensures { IfOk result (λ text. AreLinesOf table.now.links table.now.ports (string_bytes text)) }
 {
+    let loads = loads(table);
     let mut text = String::new(alloc);
     for row in table.ports() {
-        text.push_str(&port_line(alloc, table, row)?)?;
+        text.push_str(&port_line(alloc, &loads, row)?)?;
     }
     Ok(text)
 }

@@ -1,6 +1,7 @@
 //! What the program does with the words of its command line, over any reader, writers and folder.
 //!
-//! [`serve`] is the whole of it; the program `afdx` hands it the real ones.
+//! [`serve`] is the whole of it; the program `afdx` hands it the real ones. The module `laws` ties what [`alone`] takes for a
+//! link's own frames to the filter of the whole switch.
 #![tactic(auto)]
 
 mod capture_line;
@@ -10,6 +11,7 @@ mod failure;
 mod folder;
 mod get;
 mod input;
+pub mod laws;
 mod load_line;
 mod names;
 mod output;

@@ -6,9 +6,12 @@ ghost use Rattle.afdx_serve.specs.Own.{is_own};
 ghost use Rattle.afdx_serve.specs.Answer.{IsAnswer, frame_of};
 ghost use Rattle.afdx_serve.specs.Offer.{IsOffered};
 ghost use Rattle.afdx_serve.specs.Faults.{IsFaultOf};
+ghost use Rattle.afdx_serve.specs.Ground.{Ground};
 
 use crate::own::{frame_size, is_own};
+use afdx_account::laws::{next_joins_where_it_conforms, passed_by_their_frames};
 use afdx_account::{ByteAccount, Meter};
+use afdx_pcap::laws::{one_more_record_is_appended, taken_records_are_the_first};
 use afdx_pcap::{PcapFault, Record, Records, write_header, write_record};
 use afdx_words::Alone;
 use std::alloc::{AllocError, Allocator};
@@ -59,11 +62,21 @@ fn passes<A: Allocator>(link: &Alone, account: &mut ByteAccount, frame: &Record<
     is_own(link, frame) && account.offer(frame.stamp(), frame_size(frame))
 }
 
+/// The laws of the crates below that the loop of `alone` stands on.
+fn ground<A: Allocator>()
+    ensures { Ground }
+{
+    next_joins_where_it_conforms::<Record<A>>();
+    passed_by_their_frames::<Record<A>>();
+    one_more_record_is_appended();
+    taken_records_are_the_first();
+}
+
 /// Polices one link by itself: the capture of those of its own frames that its account passes, in order,
 /// their stamps and bytes unchanged.
 ///
 /// A frame is the link's own where its verdict would be Clean in a table of the constant `03 00 00 00`
-/// with this one link, coming from this capture's port (profile).
+/// with this one link, coming from this capture's port (profile): the law `own_frames_are_clean`.
 ///
 /// # Errors
 ///
@@ -79,6 +92,7 @@ pub fn alone<A: Allocator + Copy>(
     ensures answer { IfOk result (λ v. IsAnswer link.now input.now v.items) }
     ensures fault { IfErr result (IsFaultOf input.now) }
 {
+    ground::<A>();
     let mut answer = Vec::new(alloc);
     write_header(&mut answer)?;
     let mut account = ByteAccount::new(link.max_size, link.bag, link.jitter);

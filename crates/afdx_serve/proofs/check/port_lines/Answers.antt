@@ -7,14 +7,16 @@ use Rattle.afdx_serve.proofs.check.port_lines.Goals as goal
 pub port_line-requires : goal.port_line-requires
 port_line-requires c =
     let within : c.loop-row.row-index < length c.args.table.now.ports = search rules in
-    rw c.loop-row.invariant.all (found c.args.table.now.ports c.loop-row.row-index _ c.ports-row-items.ensures.well_formed.ports_rise within)
+    rw c.loads-loads.ensures
+    (rw c.loop-row.invariant.all (found c.args.table.now.ports c.loop-row.row-index _ c.ports-row-items.ensures.well_formed.ports_rise within))
 
 pub loop-row-preserved : goal.loop-row-preserved
 loop-row-preserved c =
     let within : c.loop-row.row-index < length c.ports-row-items.result.now = search rules in
     let grown = c.in_ok-push_str.ensures.bytes ∙ ap (λ (line : List ℕ). string_bytes c.loop-row.text ++ line) c.deref.ensures in
+    let line = rw c.loads-loads.ensures at c.in_ok-port_line.ensures in
     record {
-      lines = one_more_line c.args.table.now.links c.ports-row-items.result.now c.loop-row.row-index _ _ _ _ grown within c.loop-row.invariant.lines c.in_ok-port_line.ensures;
+      lines = one_more_line c.args.table.now.links c.ports-row-items.result.now c.loop-row.row-index _ _ _ _ grown within c.loop-row.invariant.lines line;
       all = c.loop-row.invariant.all;
     }
 

@@ -1,5 +1,6 @@
 use Rattle.std.proofs.Common.{◌∙◌, ◌<◌, length, rules}
-use Rattle.afdx_serve.proofs.FileLemmas.{among, not_got, one_more_capture}
+use Rattle.afdx_session.specs.Texts.{texts_of}
+use Rattle.afdx_serve.proofs.FileLemmas.{gets_up_to, not_got, one_more_capture}
 use Rattle.afdx_serve.proofs.RunLemmas.{of_error}
 use Rattle.afdx_serve.proofs.get.get_captures.Goals as goal
 
@@ -9,7 +10,8 @@ returns-in_err-bytes-clause-got g c =
     let named = c.deref.ensures ∙ c.in_ok-name.ensures in
     of_error _ _ _ c.in_err-bytes.field-0.0 c.from_residual-in_err-bytes.ensures
     (not_got c.in_err-bytes.field-0.0 _ _ _ c.args.table.now _ _ _ c.loop-port.invariant.failed c.in_err-bytes.ensures.got
-    (among _ _ c.args.table.now c.ports-port-items.result.now c.loop-port.port-index _ c.loop-port.invariant.all within named))
+    (gets_up_to _ _ _ c.args.table.now c.ports-port-items.result.now c.loop-port.port-index _ (texts_of c.loop-port.captures.items) c.loop-port.invariant.all within named
+    c.loop-port.invariant.got c.loop-port.invariant.ports))
 
 pub loop-port-preserved : goal.loop-port-preserved
 loop-port-preserved g c =

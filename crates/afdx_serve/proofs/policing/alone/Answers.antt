@@ -13,12 +13,12 @@ returns-in_err-frame-clause-fault g c =
 
 pub passes-requires : goal.passes-requires
 passes-requires g c =
-    may_be_offered _ _ _ _ _ c.in-Some.frame c.loop-answer.invariant (rw c.in-Some.is at c.in_ok-frame.ensures.answer)
+    may_be_offered c.ground.ensures _ _ _ _ _ c.in-Some.frame c.loop-answer.invariant (rw c.in-Some.is at c.in_ok-frame.ensures.answer)
 
 pub loop-answer-preserved : goal.loop-answer-preserved
 loop-answer-preserved g c =
-    one_further _ _ c.loop-answer.frames _ _ _ _ _ c.in-Some.frame c.passes.result c.loop-answer.invariant (rw c.in-Some.is at c.in_ok-frame.ensures.answer)
+    one_further c.ground.ensures _ _ c.loop-answer.frames _ _ _ _ _ c.in-Some.frame c.passes.result c.loop-answer.invariant (rw c.in-Some.is at c.in_ok-frame.ensures.answer)
     (rw c.in-Some.is at c.in_ok-frame.ensures.ok) c.passes.ensures.own c.passes.ensures.others (search rules)
 
 pub returns-clause-answer : goal.returns-clause-answer
-returns-clause-answer g c = all_policed _ _ _ _ _ c.loop-answer.invariant (rw c.in_default.is at c.in_ok-frame.ensures.answer).1
+returns-clause-answer g c = all_policed c.ground.ensures _ _ _ _ _ c.loop-answer.invariant (rw c.in_default.is at c.in_ok-frame.ensures.answer).1
