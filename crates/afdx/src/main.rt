@@ -33,12 +33,3 @@ fn main(rt: HostRuntime) -> ExitCode {
     };
     ExitCode::from(status)
 }
-
-#[cfg(test)]
-mod fixtures;
-#[cfg(test)]
-mod memory_folder;
-#[cfg(test)]
-mod run_tests;
-#[cfg(test)]
-mod tests;

@@ -1,36 +1,37 @@
 //! Frames of two links at one instant.
 
-use crate::traffic::{DOUBLE, arrive, finished, large, left, sent_as, small, switch_of, whole};
+use crate::traffic::{arrive, finished, left, sent_as, switch_of, whole};
 use afdx_core::Fate;
 use afdx_pcap::Record;
+use afdx_samples::{double, large, port, small};
 use std::alloc::Global;
 use std::test::*;
 
 #[test]
 fn babbler_beside_a_quiet_link(rt: HostRuntime) -> Result<(), Fail> {
     let alloc = rt.alloc();
-    let mut switch = switch_of(alloc, DOUBLE)?;
-    let quiet = arrive(&mut switch, 1, small(alloc, 10, 0)?);
+    let mut switch = switch_of(alloc, &double(alloc, port(3))?)?;
+    let quiet = arrive(alloc, &mut switch, 1, small(10, 0));
     assert_eq!(rt; quiet.0, Some(Fate::Passed(10)));
-    let babble = arrive(&mut switch, 2, large(alloc, 20, 0)?);
+    let babble = arrive(alloc, &mut switch, 2, large(20, 0));
     assert_eq!(rt; babble.0, Some(Fate::Passed(20)));
     for _ in 1..1000 {
-        let more = arrive(&mut switch, 2, large(alloc, 20, 0)?);
+        let more = arrive(alloc, &mut switch, 2, large(20, 0));
         assert_eq!(rt; more.0, Some(Fate::Policed(20)));
     }
     let mut done = finished(switch);
-    assert_eq!(rt; left(&mut done, 3)?, Some((6_720, 60)));
-    assert_eq!(rt; left(&mut done, 3)?, Some((129_760, 1514)));
-    assert_eq!(rt; left(&mut done, 3)?, None);
+    assert_eq!(rt; left(&mut done, 3), Ok(Some((6_720, 60))));
+    assert_eq!(rt; left(&mut done, 3), Ok(Some((129_760, 1514))));
+    assert_eq!(rt; left(&mut done, 3), Ok(None));
     Ok(())
 }
 
 /// The first record of port 3, where a small frame comes and then so many of the babbler.
 fn first_record(alloc: Global, babbles: u32) -> Result<Record<Global>, Fail> {
-    let mut switch = switch_of(alloc, DOUBLE)?;
-    let _quiet = arrive(&mut switch, 1, small(alloc, 10, 0)?);
+    let mut switch = switch_of(alloc, &double(alloc, port(3))?)?;
+    let _quiet = arrive(alloc, &mut switch, 1, small(10, 0));
     for _ in 0..babbles {
-        let _babble = arrive(&mut switch, 2, large(alloc, 20, 0)?);
+        let _babble = arrive(alloc, &mut switch, 2, large(20, 0));
     }
     let mut done = finished(switch);
     whole(&mut done, 3)
@@ -57,14 +58,14 @@ fn quiet_link_without_the_babbler(rt: HostRuntime) -> Result<(), Fail> {
 #[test]
 fn second_merge_of_one_instant(rt: HostRuntime) -> Result<(), Fail> {
     let alloc = rt.alloc();
-    let mut switch = switch_of(alloc, DOUBLE)?;
-    let babble = arrive(&mut switch, 2, large(alloc, 20, 0)?);
+    let mut switch = switch_of(alloc, &double(alloc, port(3))?)?;
+    let babble = arrive(alloc, &mut switch, 2, large(20, 0));
     assert_eq!(rt; babble.0, Some(Fate::Passed(20)));
-    let quiet = arrive(&mut switch, 1, small(alloc, 10, 0)?);
+    let quiet = arrive(alloc, &mut switch, 1, small(10, 0));
     assert_eq!(rt; quiet.0, Some(Fate::Passed(10)));
     let mut done = finished(switch);
-    assert_eq!(rt; left(&mut done, 3)?, Some((123_040, 1514)));
-    assert_eq!(rt; left(&mut done, 3)?, Some((129_760, 60)));
-    assert_eq!(rt; left(&mut done, 3)?, None);
+    assert_eq!(rt; left(&mut done, 3), Ok(Some((123_040, 1514))));
+    assert_eq!(rt; left(&mut done, 3), Ok(Some((129_760, 60))));
+    assert_eq!(rt; left(&mut done, 3), Ok(None));
     Ok(())
 }

@@ -1,7 +1,8 @@
 //! Tables that are refused, each with the fault that stands.
 
-use crate::tables::{FIRST, HIGH, LOW, Link, Port, SECOND, broken, fault, table};
+use crate::tables::{FIRST, HIGH, LOW, SECOND, broken, fault, table};
 use afdx_load::{LoadFault, Rule, check};
+use afdx_samples::{Link, Port};
 use std::test::Fail;
 
 #[test]

@@ -1,7 +1,8 @@
 //! Each rule at its limit and one past it, and the greatest table.
 
-use crate::tables::{FIRST, HIGH, LOW, Link, Port, SECOND, broken, fault, table};
+use crate::tables::{FIRST, HIGH, LOW, SECOND, broken, fault, table};
 use afdx_load::{Rule, check};
+use afdx_samples::{Link, Port};
 use std::test::Fail;
 
 /// Six of the worked links, one of 415 bytes each millisecond, and one of `size` bytes each 128 milliseconds.

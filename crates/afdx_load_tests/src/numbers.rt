@@ -1,7 +1,8 @@
 //! Load numbers, each reckoned by hand.
 
-use crate::tables::{FIRST, HIGH, LOW, Link, Port, SECOND, table};
-use afdx_load::{bounds, check, least_buffer, load};
+use crate::tables::{FIRST, HIGH, LOW, SECOND, table};
+use afdx_load::{bounds, check, least_buffer, load, loads};
+use afdx_samples::{Link, Port};
 use afdx_table::Table;
 use std::test::Fail;
 
@@ -19,6 +20,11 @@ fn numbers(table: &Table) -> Option<Numbers> {
         bounds.high,
         bounds.low,
     ))
+}
+
+/// The rate of port 2 among the loads of all ports.
+fn rate_among_all(table: &Table) -> Option<u64> {
+    Some(loads(table).at(2)?.rate())
 }
 
 /// At 10 Mbit/s.
@@ -56,6 +62,7 @@ fn worked_numbers(rt: HostRuntime) -> Result<(), Fail> {
         let table = table(alloc, &[FIRST, *second], links)?;
         assert_eq!(rt; numbers(&table), Some(*want));
         assert!(rt; load(&table, 3).is_none());
+        assert_eq!(rt; rate_among_all(&table), Some(want.0));
         let cleared = check(table).ok().ok_or("an accepted table")?;
         assert_eq!(rt; numbers(cleared.table()), Some(*want));
         assert_eq!(rt; numbers(&cleared.into_table()), Some(*want));

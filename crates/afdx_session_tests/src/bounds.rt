@@ -1,10 +1,10 @@
 //! Ports as busy as an accepted table lets them be.
 
-use crate::tables::{LinkText, PortText, link, port, table};
-use crate::traffic::{HEADER, capture, large, leaves, small};
+use crate::traffic::leaves;
 use afdx_load::{Bounds, bounds, load};
+use afdx_samples::{HEADER, Link, Port, capture, large, link, port, small, table};
 use afdx_table::read;
-use std::alloc::Global;
+use std::alloc::{AllocError, Global};
 use std::test::*;
 
 /// The delay bounds at a port of a table.
@@ -15,8 +15,8 @@ fn bounds_at(alloc: Global, table: &str, port: u8) -> Result<Bounds, Fail> {
 }
 
 /// Six links, and a buffer that holds exactly what they may ask for.
-fn six_links(alloc: Global) -> Result<String, Fail> {
-    let tight = PortText {
+fn six_links(alloc: Global) -> Result<String, AllocError> {
+    let tight = Port {
         buffer: 13_493,
         ..port(2)
     };
@@ -64,7 +64,7 @@ fn six_links_fit(rt: HostRuntime) -> Result<(), Fail> {
 #[test]
 fn high_bound_but_a_nanosecond(rt: HostRuntime) -> Result<(), Fail> {
     let alloc = rt.alloc();
-    let high = LinkText {
+    let high = Link {
         max_size: 128,
         priority: "high",
         ..link(12, 1, "[2]")
@@ -81,11 +81,11 @@ fn high_bound_but_a_nanosecond(rt: HostRuntime) -> Result<(), Fail> {
 #[test]
 fn low_bound_exactly(rt: HostRuntime) -> Result<(), Fail> {
     let alloc = rt.alloc();
-    let one = LinkText {
+    let one = Link {
         max_size: 128,
         ..link(10, 1, "[2]")
     };
-    let other = LinkText { id: 11, ..one };
+    let other = Link { id: 11, ..one };
     let text = table(alloc, &[port(1), port(2)], &[one, other])?;
     let came = capture(
         alloc,

@@ -1,10 +1,8 @@
 //! Captures of all four magics, and the last second.
 
-use crate::tables::single;
-use crate::traffic::{
-    FRAME, HEADER, Sample, capture, joined, leaves, outcome, puts, puts_out, refusal, small,
-};
+use crate::traffic::{leaves, outcome, puts, puts_out, refusal};
 use afdx_pcap::PcapFault;
+use afdx_samples::{FRAME, HEADER, Sample, capture, joined, single, small};
 use afdx_session::RunFault;
 use std::test::*;
 

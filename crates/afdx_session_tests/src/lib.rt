@@ -14,6 +14,4 @@ mod refused;
 #[cfg(test)]
 mod single;
 #[cfg(test)]
-mod tables;
-#[cfg(test)]
 mod traffic;

@@ -1,17 +1,19 @@
 //! Links from two ports to a third.
 
-use crate::tables::{LinkText, PortText, double, link, port, table};
-use crate::traffic::{HEADER, Sample, capture, frame, large, leaves, leaves_unchecked, small};
+use crate::traffic::{leaves, leaves_unchecked};
+use afdx_samples::{
+    HEADER, Port, capture, double, frame, large, link, narrow, one_of_each, port, small,
+};
 use std::test::*;
 
 #[test]
 fn buffer_at_the_edge(rt: HostRuntime) -> Result<(), Fail> {
     let alloc = rt.alloc();
-    let narrow = PortText {
+    let small_buffer = Port {
         buffer: 1518,
         ..port(3)
     };
-    let text = double(alloc, narrow)?;
+    let text = double(alloc, small_buffer)?;
     let first = capture(alloc, &[large(10, 0)])?;
     let at_end = capture(alloc, &[large(20, 123_040)])?;
     assert!(rt;
@@ -41,9 +43,9 @@ fn buffer_at_the_edge(rt: HostRuntime) -> Result<(), Fail> {
 #[test]
 fn buffer_beside_an_aged_frame(rt: HostRuntime) -> Result<(), Fail> {
     let alloc = rt.alloc();
-    let hasty = PortText {
+    let hasty = Port {
         buffer: 1581,
-        delay: 100,
+        max_delay_us: 100,
         ..port(3)
     };
     let text = double(alloc, hasty)?;
@@ -76,8 +78,8 @@ fn buffer_beside_an_aged_frame(rt: HostRuntime) -> Result<(), Fail> {
 #[test]
 fn age_at_the_edge(rt: HostRuntime) -> Result<(), Fail> {
     let alloc = rt.alloc();
-    let hasty = PortText {
-        delay: 100,
+    let hasty = Port {
+        max_delay_us: 100,
         ..port(3)
     };
     let text = double(alloc, hasty)?;
@@ -99,41 +101,8 @@ fn age_at_the_edge(rt: HostRuntime) -> Result<(), Fail> {
 #[test]
 fn every_verdict(rt: HostRuntime) -> Result<(), Fail> {
     let alloc = rt.alloc();
-    let narrow = LinkText {
-        max_size: 500,
-        ..link(10, 1, "[3]")
-    };
-    let text = table(
-        alloc,
-        &[port(1), port(2), port(3)],
-        &[narrow, link(20, 2, "[3]")],
-    )?;
-    let cut = Sample {
-        original: 61,
-        ..small(10, 0)
-    };
-    let foreign = Sample {
-        first: 2,
-        ..small(10, 0)
-    };
-    let short_and_foreign = Sample {
-        first: 2,
-        ..frame(10, 59, 0)
-    };
-    let first = capture(
-        alloc,
-        &[
-            cut,
-            frame(10, 59, 0),
-            frame(10, 1515, 0),
-            foreign,
-            small(11, 0),
-            small(20, 0),
-            frame(10, 497, 0),
-            short_and_foreign,
-            small(10, 0),
-        ],
-    )?;
+    let text = narrow(alloc)?;
+    let first = capture(alloc, &one_of_each())?;
     let second = capture(alloc, &[small(10, 0)])?;
     let line =
         "in 1 seen 9 cut 1 short 2 long 1 foreign 1 no-link 1 wrong-port 1 too-big 1 clean 1\n";

@@ -1,8 +1,8 @@
 //! Runs that are refused.
 
-use crate::tables::single;
-use crate::traffic::{HEADER, Sample, capture, frame, leaves, refusal, small};
+use crate::traffic::{leaves, refusal};
 use afdx_pcap::PcapFault;
+use afdx_samples::{HEADER, Sample, capture, frame, single, small};
 use afdx_session::RunFault;
 use std::alloc::Global;
 use std::test::*;

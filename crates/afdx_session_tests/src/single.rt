@@ -1,9 +1,12 @@
 //! One link, or several from one port to another.
 
-use crate::tables::{LinkText, PortText, link, mixed, port, single, table};
 use crate::traffic::{
-    FRAME, HEADER, Sample, capture, joined, large, leave, leaves, leaves_unchecked, outcome,
-    outcome_unchecked, puts_out, small,
+    checked, leave, leaves, leaves_unchecked, links_of, outcome, outcome_unchecked, puts_out,
+    unchecked,
+};
+use afdx_samples::{
+    FRAME, HEADER, Link, Port, Sample, capture, joined, large, link, mixed, port, single, slow,
+    small, table,
 };
 use std::test::*;
 
@@ -120,12 +123,12 @@ fn high_at_the_instant_of_the_end(rt: HostRuntime) -> Result<(), Fail> {
 #[test]
 fn buffer_of_one_frame(rt: HostRuntime) -> Result<(), Fail> {
     let alloc = rt.alloc();
-    let narrow = PortText {
+    let narrow = Port {
         buffer: 1518,
         ..port(2)
     };
-    let early = LinkText {
-        jitter: 1000,
+    let early = Link {
+        jitter_us: 1000,
         ..link(10, 1, "[2]")
     };
     let text = table(alloc, &[port(1), narrow], &[early])?;
@@ -146,15 +149,19 @@ fn buffer_of_one_frame(rt: HostRuntime) -> Result<(), Fail> {
 #[test]
 fn full_at_one_port_only(rt: HostRuntime) -> Result<(), Fail> {
     let alloc = rt.alloc();
-    let slow = PortText {
-        mbit: 10,
-        buffer: 64,
-        ..port(2)
-    };
-    let text = table(alloc, &[port(1), slow, port(3)], &[link(10, 1, "[2, 3]")])?;
+    let text = slow(alloc)?;
     let came = capture(alloc, &[small(10, 0), small(10, 0)])?;
     let done = outcome_unchecked(alloc, &text, &[&came, &HEADER, &HEADER])?;
     assert!(rt; leave(alloc, &done, 2, &[(67_200, 60, 10)])?);
     assert!(rt; leave(alloc, &done, 3, &[(6_720, 60, 10), (13_440, 60, 10)])?);
+    Ok(())
+}
+
+#[test]
+fn plans_have_their_table(rt: HostRuntime) -> Result<(), Fail> {
+    let alloc = rt.alloc();
+    let text = single(alloc)?;
+    assert_eq!(rt; links_of(checked(alloc, &text)?), 1);
+    assert_eq!(rt; links_of(unchecked(alloc, &text)?), 1);
     Ok(())
 }

@@ -7,79 +7,6 @@ use afdx_table::read;
 use std::alloc::Global;
 use std::test::Fail;
 
-/// Little-endian, nanoseconds, version 2.4, Ethernet.
-pub(crate) const HEADER: [u8; 24] = [
-    0x4d, 0x3c, 0xb2, 0xa1, 2, 0, 4, 0, 0, 0, 0, 0, 0, 0, 0, 0, 0, 0, 4, 0, 1, 0, 0, 0,
-];
-
-/// A frame of 60 captured bytes of link 10.
-pub(crate) const FRAME: [u8; 60] = [
-    3, 0, 0, 0, 0, 10, 2, 0, 0, 0, 0, 1, 8, 0, 0, 0, 0, 0, 0, 0, 0, 0, 0, 0, 0, 0, 0, 0, 0, 0, 0,
-    0, 0, 0, 0, 0, 0, 0, 0, 0, 0, 0, 0, 0, 0, 0, 0, 0, 0, 0, 0, 0, 0, 0, 0, 0, 0, 0, 0, 0,
-];
-
-/// What is told of a frame in a capture.
-#[derive(Clone, Copy)]
-pub(crate) struct Sample {
-    pub(crate) seconds: u32,
-    pub(crate) nanos: u32,
-    pub(crate) captured: u32,
-    pub(crate) original: u32,
-    pub(crate) first: u8,
-    pub(crate) link: u8,
-}
-
-/// A frame of a link and of so many captured bytes, so many nanoseconds after the start of 1970.
-pub(crate) fn frame(link: u8, captured: u32, nanos: u32) -> Sample {
-    Sample {
-        seconds: 0,
-        nanos,
-        captured,
-        original: captured,
-        first: 3,
-        link,
-    }
-}
-
-/// A frame of size 64.
-pub(crate) fn small(link: u8, nanos: u32) -> Sample {
-    frame(link, 60, nanos)
-}
-
-/// A frame of size 1518.
-pub(crate) fn large(link: u8, nanos: u32) -> Sample {
-    frame(link, 1514, nanos)
-}
-
-/// These parts, one after the other.
-pub(crate) fn joined(alloc: Global, parts: &[&[u8]]) -> Result<Vec<u8>, Fail> {
-    let mut bytes = Vec::new(alloc);
-    for part in parts {
-        bytes.extend_from_slice(part)?;
-    }
-    Ok(bytes)
-}
-
-/// The capture of these frames.
-pub(crate) fn capture(alloc: Global, samples: &[Sample]) -> Result<Vec<u8>, Fail> {
-    let mut bytes = Vec::from_slice(alloc, &HEADER)?;
-    for sample in samples {
-        for number in [
-            sample.seconds,
-            sample.nanos,
-            sample.captured,
-            sample.original,
-        ] {
-            bytes.extend_from_slice(&number.to_le_bytes())?;
-        }
-        let link = sample.link;
-        bytes.extend_from_slice(&[sample.first, 0, 0, 0, 0, link, 2, 0, 0, 0, 0, 1, 8, 0])?;
-        let rest = vec![in alloc; 0u8; sample.captured.saturating_sub(14) as usize]?;
-        bytes.extend_from_slice(&rest)?;
-    }
-    Ok(bytes)
-}
-
 /// These captures, of the ports from 1 on.
 fn of_ports(alloc: Global, texts: &[&[u8]]) -> Result<Vec<(u8, Vec<u8>)>, Fail> {
     let mut captures = Vec::new(alloc);
@@ -91,17 +18,34 @@ fn of_ports(alloc: Global, texts: &[&[u8]]) -> Result<Vec<(u8, Vec<u8>)>, Fail> 
     Ok(captures)
 }
 
+/// The plan of a table that is checked, and accepted.
+pub(crate) fn checked(alloc: Global, table: &str) -> Result<Plan, Fail> {
+    let cleared = check(read(alloc, table.as_bytes())?)
+        .ok()
+        .ok_or("an accepted table")?;
+    Ok(Plan::Cleared(cleared))
+}
+
+/// The plan of a table that is not checked.
+pub(crate) fn unchecked(alloc: Global, table: &str) -> Result<Plan, Fail> {
+    let table = read(alloc, table.as_bytes())?;
+    Ok(Plan::Unchecked(table))
+}
+
+/// How many links the table of a plan has.
+pub(crate) fn links_of(plan: Plan) -> usize {
+    plan.table().link_count()
+}
+
 /// The answer of a run over a table that is checked, and accepted, with these captures of the ports from 1 on.
 fn answer(
     alloc: Global,
     table: &str,
     texts: &[&[u8]],
 ) -> Result<Result<Outcome<Global>, RunFault>, Fail> {
-    let cleared = check(read(alloc, table.as_bytes())?)
-        .ok()
-        .ok_or("an accepted table")?;
+    let plan = checked(alloc, table)?;
     let captures = of_ports(alloc, texts)?;
-    Ok(run(alloc, Plan::Cleared(cleared), &captures))
+    Ok(run(alloc, plan, &captures))
 }
 
 /// The outcome of a run that has one.
@@ -129,7 +73,7 @@ pub(crate) fn outcome_unchecked(
     table: &str,
     texts: &[&[u8]],
 ) -> Result<Outcome<Global>, Fail> {
-    let plan = Plan::Unchecked(read(alloc, table.as_bytes())?);
+    let plan = unchecked(alloc, table)?;
     let captures = of_ports(alloc, texts)?;
     let outcome = run(alloc, plan, &captures)?;
     Ok(outcome)

@@ -3,7 +3,7 @@
 ghost use Rattle.std.specs.Prelude.{◌≡◌, Some, find, string_bytes, option_map, option_copied};
 ghost use Rattle.std.specs.Str.{bytes_eq};
 ghost use Rattle.afdx_serve.specs.Files.{one_more};
-ghost use Rattle.afdx.specs.declared.memory_folder.File.{File};
+ghost use Rattle.afdx_serve_tests.specs.declared.memory_folder.File.{File};
 
 use afdx_serve::{Folder, FolderFault};
 use std::alloc::{AllocError, Allocator, Global};

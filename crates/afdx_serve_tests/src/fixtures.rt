@@ -1,54 +1,18 @@
-//! What the tests share: captures, devices that fail, and what the program answers.
+//! What the tests share: frames, devices that fail, and what the program answers.
 
 use crate::memory_folder::MemoryFolder;
+use afdx_samples::{Sample, frame};
 use afdx_serve::serve;
 use std::alloc::{AllocError, Global};
 use std::io;
 use std::io::{ErrorKind, Read, Write};
 
-/// Little-endian, nanoseconds, version 2.4, Ethernet.
-pub(crate) const HEADER: [u8; 24] = [
-    0x4d, 0x3c, 0xb2, 0xa1, 2, 0, 4, 0, 0, 0, 0, 0, 0, 0, 0, 0, 0, 0, 4, 0, 1, 0, 0, 0,
-];
-
-/// What is told of a frame in a capture, and the first bytes of the frame.
-#[derive(Clone, Copy)]
-pub(crate) struct Sample {
-    pub(crate) seconds: u32,
-    pub(crate) nanos: u32,
-    pub(crate) captured: u32,
-    pub(crate) original: u32,
-    pub(crate) address: [u8; 6],
-}
-
 /// A frame of link 10, of which so many bytes are captured.
 pub(crate) fn captured(bytes: u32, seconds: u32, nanos: u32) -> Sample {
     Sample {
         seconds,
-        nanos,
-        captured: bytes,
-        original: bytes,
-        address: [3, 0, 0, 0, 0, 10],
+        ..frame(10, bytes, nanos)
     }
-}
-
-/// The capture of these frames, whose bytes after the address are 0.
-pub(crate) fn capture(alloc: Global, samples: &[Sample]) -> Result<Vec<u8>, AllocError> {
-    let mut bytes = Vec::from_slice(alloc, &HEADER)?;
-    for sample in samples {
-        for number in [
-            sample.seconds,
-            sample.nanos,
-            sample.captured,
-            sample.original,
-        ] {
-            bytes.extend_from_slice(&number.to_le_bytes())?;
-        }
-        bytes.extend_from_slice(&sample.address)?;
-        let rest = vec![in alloc; 0u8; sample.captured.saturating_sub(6) as usize]?;
-        bytes.extend_from_slice(&rest)?;
-    }
-    Ok(bytes)
 }
 
 /// Gives the bytes, at most 7 at once; one call answers an error instead.

@@ -1,11 +1,12 @@
 //! `afdx alone`, the words and the devices that fail. Values from outside: bytes of pcap 2.4 captures and of AFDX frames,
 //! printed lines.
 
-use crate::fixtures::{
-    HEADER, Interrupted, Sample, Sink, Source, answer, capture, captured, split,
-};
+use crate::fixtures::{Interrupted, Sink, Source, answer, captured, split};
 use crate::memory_folder::MemoryFolder;
-use afdx_serve::serve;
+use afdx_samples::{HEADER, Sample, capture};
+use afdx_serve::{alone, serve};
+use afdx_words::{Alone, Request, parse};
+use std::alloc::{AllocError, Global};
 use std::io::ErrorKind;
 use std::test::Fail;
 
@@ -60,14 +61,8 @@ fn passes_what_conforms(rt: HostRuntime) -> Result<(), Fail> {
     let early = captured(1514, 0, 999_999);
     let due = captured(1514, 0, 1_000_000);
     let far = captured(1514, 4_000_000_000, 0);
-    let foreign = Sample {
-        address: [2, 0, 0, 0, 0, 10],
-        ..small
-    };
-    let other_link = Sample {
-        address: [3, 0, 0, 0, 0, 11],
-        ..small
-    };
+    let foreign = Sample { first: 2, ..small };
+    let other_link = Sample { link: 11, ..small };
     let cut = Sample {
         original: 61,
         ..small
@@ -314,5 +309,28 @@ fn shows_help(rt: HostRuntime) -> Result<(), Fail> {
         assert_eq!(rt; got.out.as_slice(), text.as_bytes(), "{line}");
         assert_eq!(rt; got.err.as_slice(), b"".as_slice(), "{line}");
     }
+    Ok(())
+}
+
+/// What these words ask for, where it is the policing of one link.
+fn link_in(alloc: Global, line: &str) -> Result<Option<Alone>, AllocError> {
+    let words = split(alloc, line)?;
+    match parse(alloc, &words) {
+        Ok(Request::Alone(link)) => Ok(Some(link)),
+        _ => Ok(None),
+    }
+}
+
+#[test]
+fn polices_one_link(rt: HostRuntime) -> Result<(), Fail> {
+    let alloc = rt.alloc();
+    let link = Alone::of_numbers(10, 1, 0, 1518).ok_or("a link")?;
+    assert_eq!(rt; link_in(alloc, LINK_10)?, Some(link));
+    let full = captured(1514, 0, 0);
+    let due = captured(1514, 0, 1_000_000);
+    let input = capture(alloc, &[full, captured(1514, 0, 999_999), due])?;
+    let passed = alone(alloc, &link, &input).ok().ok_or("an answer")?;
+    let want = capture(alloc, &[full, due])?;
+    assert_eq!(rt; passed.as_slice(), want.as_slice());
     Ok(())
 }

@@ -1,21 +1,19 @@
 //! `afdx run` over a folder in memory. Values from outside: a table, captures and printed lines.
 
-use crate::fixtures::{HEADER, answer_over, capture, captured};
+use crate::fixtures::{answer_over, captured};
 use crate::memory_folder::MemoryFolder;
+use afdx_samples::{HEADER, Port, capture, link, port, single, table};
 use std::alloc::{AllocError, Global};
 use std::test::Fail;
 
 /// Two ports and link 10 between them, with the speed and the buffer of the port that it leads to.
-fn table(alloc: Global, mbit: u32, buffer: u32) -> Result<String, AllocError> {
-    let mut text = String::from_str(
-        alloc,
-        "[[port]]\nid = 1\nmbit = 100\nbuffer = 100000\nmax_delay_us = 500000\n",
-    )?;
-    write!(text, "[[port]]\nid = 2\nmbit = {mbit}\n")?;
-    write!(text, "buffer = {buffer}\nmax_delay_us = 500000\n")?;
-    text.push_str("[[link]]\nid = 10\nfrom = 1\nto = [2]\nbag_ms = 1\njitter_us = 0\n")?;
-    text.push_str("max_size = 1518\npriority = \"low\"\n")?;
-    Ok(text)
+fn single_to(alloc: Global, mbit: u32, buffer: u32) -> Result<String, AllocError> {
+    let second = Port {
+        mbit,
+        buffer,
+        ..port(2)
+    };
+    table(alloc, &[port(1), second], &[link(10, 1, "[2]")])
 }
 
 /// The report of one frame of link 10 that comes in at port 1 and goes out at port 2.
@@ -35,7 +33,7 @@ const RUN: &str = "afdx run t in out --unchecked";
 fn one_frame(alloc: Global, failing: u64) -> Result<MemoryFolder, AllocError> {
     let mut folder = MemoryFolder::new(alloc, failing);
     let frame = capture(alloc, &[captured(60, 0, 0)])?;
-    folder.add("t", table(alloc, 100, 100_000)?.as_bytes())?;
+    folder.add("t", single(alloc)?.as_bytes())?;
     folder.add("in/port-1.pcap", &frame)?;
     folder.add("in/port-2.pcap", &HEADER)?;
     Ok(folder)
@@ -81,7 +79,7 @@ fn checks_a_table(rt: HostRuntime) -> Result<(), Fail> {
         ),
     ] {
         let mut folder = MemoryFolder::new(alloc, 0);
-        folder.add("t", table(alloc, mbit, buffer)?.as_bytes())?;
+        folder.add("t", single_to(alloc, mbit, buffer)?.as_bytes())?;
         let got = answer_over(alloc, "afdx check t", b"", &mut folder)?;
         assert_eq!(rt; got.status, status, "{mbit} {buffer}");
         assert_eq!(rt; got.out.as_slice(), out.as_bytes());
@@ -95,7 +93,7 @@ fn refuses_a_load_unless_unchecked(rt: HostRuntime) -> Result<(), Fail> {
     let alloc = rt.alloc();
     for (line, status) in [("afdx run t in out", 4), (RUN, 0)] {
         let mut folder = one_frame(alloc, 0)?;
-        folder.add("t", table(alloc, 100, 1518)?.as_bytes())?;
+        folder.add("t", single_to(alloc, 100, 1518)?.as_bytes())?;
         let got = answer_over(alloc, line, b"", &mut folder)?;
         assert_eq!(rt; got.status, status, "{line}");
         assert_eq!(rt;
@@ -111,7 +109,7 @@ fn refuses_a_load_unless_unchecked(rt: HostRuntime) -> Result<(), Fail> {
 fn stops_at_a_missing_capture(rt: HostRuntime) -> Result<(), Fail> {
     let alloc = rt.alloc();
     let mut folder = MemoryFolder::new(alloc, 0);
-    folder.add("t", table(alloc, 100, 100_000)?.as_bytes())?;
+    folder.add("t", single(alloc)?.as_bytes())?;
     folder.add("in/port-1.pcap", &HEADER)?;
     let got = answer_over(alloc, RUN, b"", &mut folder)?;
     assert_eq!(rt; got.status, 5);
@@ -169,7 +167,7 @@ fn tells_a_ports_fault(rt: HostRuntime) -> Result<(), Fail> {
         (100, 23, "afdx: capture P2 NoHeader, port 2\n"),
     ] {
         let mut folder = MemoryFolder::new(alloc, 0);
-        folder.add("t", table(alloc, 100, 100_000)?.as_bytes())?;
+        folder.add("t", single(alloc)?.as_bytes())?;
         for (name, left) in [("in/port-1.pcap", first), ("in/port-2.pcap", second)] {
             let mut cut = capture(alloc, &[captured(60, 0, 0)])?;
             cut.truncate(left);

@@ -1,0 +1,14 @@
+//! Tables, frames and captures that the crates' tests start from.
+//!
+//! They stand in a crate of their own, so that each is written once. No program uses it.
+#![tactic(auto)]
+
+mod captures;
+mod frames;
+mod rows;
+mod tables;
+
+pub use captures::{FRAME, HEADER, capture, joined};
+pub use frames::{Sample, frame, large, one_of_each, record, small};
+pub use rows::{Link, Port};
+pub use tables::{double, link, mixed, narrow, port, single, slow, table};

@@ -1,0 +1,13 @@
+//! Tests of the program's commands, over readers, writers and a folder in memory.
+//!
+//! They stand in a crate of their own, since a crate with tests is proved twice.
+#![tactic(auto)]
+
+#[cfg(test)]
+mod fixtures;
+#[cfg(test)]
+mod memory_folder;
+#[cfg(test)]
+mod runs;
+#[cfg(test)]
+mod words;
