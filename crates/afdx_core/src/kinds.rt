@@ -5,15 +5,19 @@ use afdx_port::Offer;
 use afdx_units::Stamp;
 use std::alloc::Allocator;
 use std::marker::Model;
+use thiserror::Error;
 
-/// Why an arrival or an advance was refused.
-#[derive(Clone, Copy, Debug, PartialEq, Eq)]
+/// Why an arrival or an advance was refused. Each message is its variant's name.
+#[derive(Clone, Copy, Debug, PartialEq, Eq, Error)]
 pub enum CoreFault {
     /// Memory refused a growth.
+    #[error("Memory")]
     Memory,
     /// The stamp is below that of an earlier arrival or advance.
+    #[error("Earlier")]
     Earlier,
     /// The table has no port of this number.
+    #[error("NoSuchPort")]
     NoSuchPort,
 }
 

@@ -1,40 +1,62 @@
 //! An output port beside its row of the table.
 
-ghost use Rattle.std.specs.Prelude.{◌≡◌, ℕ, ◌+◌, ◌<◌, ◌≤◌, ◌==◌, true, List, ◌++◌, length, map, All, OnOk, vec_len, find, option_copied, position, slice_get, slice_index_or, set, IfSome};
+ghost use Rattle.std.specs.Prelude.{◌≡◌, ℕ, ◌+◌, ◌<◌, ◌≤◌, ◌==◌, true, false, List, ◌++◌, length, map, drop, All, OnOk, vec_len, find, option_copied, position, slice_get, slice_index_or, set, IfSome, None, nat_eq};
+ghost use Rattle.std.specs.List.{IsDistinct};
 ghost use Rattle.std.specs.Vec.{vec_capacity};
 ghost use Rattle.afdx_units.specs.Time.{last_second};
 ghost use Rattle.afdx_table.specs.WellFormed.{IsPort};
 ghost use Rattle.afdx_table.specs.Link.{names_port};
 ghost use Rattle.afdx_isolation.specs.Table.{settings_of};
-ghost use Rattle.afdx_port.specs.Content.{fresh, done};
+ghost use Rattle.afdx_port.specs.Content.{fresh, done, answer};
 ghost use Rattle.afdx_port.specs.Service.{sent_of};
-ghost use Rattle.afdx_core.specs.Outlets.{Out, seen, taken, carried, ended, CanTake, CanCarry, Became, last_at, counted};
+ghost use Rattle.afdx_store.specs.Seen.{copies_of};
+ghost use Rattle.afdx_core.specs.Outlets.{seen, offered_to, offered_at, BecameAt, touched, carried_due, ended, CanTake, CanCarry, IsCounted, Became, answer_at, queued_by, counted};
+ghost use Rattle.afdx_core.specs.Copies.{copies_at, copies_in, newly_aged, GaveUp, HoldsCopies, Thinned, Enough, AddsCopies};
 ghost use Rattle.afdx_core.specs.declared.outlet.Outlet.{Outlet as OneOutlet};
 
-use afdx_port::{Item, Offer, Port, Sent};
+use afdx_port::laws::{each_has_one_event, events_follow_the_line, lagging_ports_follow};
+use afdx_port::{Aged, Item, Offer, Port, Sent};
+use afdx_store::Store;
 use afdx_table::PortRow;
 use afdx_units::Stamp;
 use std::alloc::{AllocError, Allocator};
 
-/// An output port, how many of its frames were handed out, and its last answer.
+/// An output port, and how many of its frames were handed out.
 #[derive(Drop)]
 pub(crate) struct Outlet<A: Allocator> {
     pub(crate) row: PortRow,
     pub(crate) port: Port<A>,
     pub(crate) handed: usize,
-    pub(crate) last: Offer,
+}
+
+/// Those behind so many.
+fn behind(aged: &[Aged], count: usize) -> &[Aged]
+    requires { count ≤ length aged.now }
+    ensures { result.now ≡ drop count aged.now }
+{
+    &aged[count..]
+}
+
+/// Gives up a copy of each of these frames.
+fn give_up_all<A: Allocator + Copy>(aged: &[Aged], store: &mut Store<A>)
+    requires { Enough (map (λ a. a.item) aged.now) store.old.held }
+    ensures store { GaveUp (map (λ a. a.item) aged.now) store.old.held store.new.held }
+    ensures room { store.new.room ≡ store.old.room }
+{
+    for one in aged {
+        store.give_up(one.item.number);
+    }
 }
 
 impl<A: Allocator + Copy> Outlet<A> {
     pub(crate) fn new(alloc: A, row: PortRow) -> Self
         requires { IsPort row }
-        ensures { seen result ≡ record { row = row; content = fresh (settings_of row); handed = 0; last = Offer.Full } }
+        ensures { seen result ≡ record { row = row; content = fresh (settings_of row); handed = 0 } }
     {
         Outlet {
             row,
             port: Port::new(alloc, row.speed, row.buffer, row.max_delay),
             handed: 0,
-            last: Offer::Full,
         }
     }
 
@@ -56,20 +78,39 @@ impl<A: Allocator + Copy> Outlet<A> {
         Ok(())
     }
 
-    /// Carries out the starts before the item's stamp, and takes the item where it leads here.
-    #[tactic(auto, unfolding(crate::specs::Outlets::taken))]
-    fn take(&mut self, item: &Item, to: &[u8])
-        requires can { CanTake item.now to.now self.old }
-        requires not_late { item.now.stamp < last_second }
-        requires least { 64 ≤ item.now.size }
-        requires largest { item.now.size ≤ 1518 }
-        ensures { seen self.new ≡ taken item.now to.now (seen self.old) }
+    /// Carries out the starts before the instant, and gives up the copies that are aged.
+    fn carry(&mut self, at: Stamp, store: &mut Store<A>)
+        requires can { CanCarry at self.old }
+        requires holds { (i : ℕ) → copies_at self.old.port.content self.old.handed i ≤ copies_of (slice_index_or store.old.held i None) }
+        ensures seen { seen self.new ≡ carried_due at (seen self.old) }
+        ensures store { GaveUp (newly_aged self.old.port.content self.new.port.content) store.old.held store.new.held }
+        ensures room { store.new.room ≡ store.old.room }
+        ensures port_room { self.old.port.room ≤ self.new.port.room }
     {
-        if self.is_among(to) {
-            self.last = self.port.offer(*item);
-        } else {
-            self.port.advance(item.stamp);
+        lagging_ports_follow();
+        each_has_one_event();
+        events_follow_the_line();
+        if self.port.is_due(at) {
+            let before = self.port.aged().len();
+            self.port.advance(at);
+            give_up_all(behind(self.port.aged(), before), store);
         }
+    }
+
+    /// Carries out all that is left, and gives up the copies that are aged.
+    fn end(&mut self, store: &mut Store<A>)
+        requires counted { IsCounted self.old }
+        requires holds { (i : ℕ) → copies_at self.old.port.content self.old.handed i ≤ copies_of (slice_index_or store.old.held i None) }
+        ensures seen { seen self.new ≡ ended (seen self.old) }
+        ensures store { GaveUp (newly_aged self.old.port.content self.new.port.content) store.old.held store.new.held }
+        ensures room { store.new.room ≡ store.old.room }
+    {
+        lagging_ports_follow();
+        each_has_one_event();
+        events_follow_the_line();
+        let before = self.port.aged().len();
+        self.port.finish();
+        give_up_all(behind(self.port.aged(), before), store);
     }
 
     /// The next sent item that was not handed out.
@@ -92,14 +133,6 @@ impl<A: Allocator + Copy> Outlet<A> {
     {
         self.handed += 1;
     }
-
-    /// Carries out the starts before the instant.
-    fn carry(&mut self, at: Stamp)
-        requires { CanCarry at self.old }
-        ensures { seen self.new ≡ carried at (seen self.old) }
-    {
-        self.port.advance(at);
-    }
 }
 
 /// Makes room for one more item at the ports that it leads to.
@@ -116,35 +149,41 @@ pub(crate) fn make_room<A: Allocator + Copy>(
     Ok(())
 }
 
-/// Takes an item at the ports that it leads to; the others carry out their starts before it.
-pub(crate) fn take_all<A: Allocator + Copy>(outlets: &mut [Outlet<A>], item: &Item, to: &[u8])
-    requires can { All (λ o. CanTake item.now to.now o) outlets.old }
-    requires not_late { item.now.stamp < last_second }
-    requires least { 64 ≤ item.now.size }
-    requires largest { item.now.size ≤ 1518 }
-    ensures { Became (taken item.now to.now) outlets.old outlets.new }
-{
-    for outlet in outlets.iter_mut() {
-        outlet.take(item, to);
-    }
-}
-
-/// Carries out the starts before the instant at all ports.
-pub(crate) fn carry_all<A: Allocator + Copy>(outlets: &mut [Outlet<A>], at: Stamp)
+/// Carries out the starts before the instant at the ports that are due.
+pub(crate) fn carry_all<A: Allocator + Copy>(
+    outlets: &mut [Outlet<A>],
+    at: Stamp,
+    store: &mut Store<A>,
+)
     requires can { All (λ o. CanCarry at o) outlets.old }
-    ensures { Became (carried at) outlets.old outlets.new }
+    requires holds { HoldsCopies store.old.held outlets.old }
+    ensures outlets { Became (carried_due at) outlets.old outlets.new }
+    ensures holds { HoldsCopies store.new.held outlets.new }
+    ensures thinned { Thinned store.old.held store.new.held }
+    ensures room { store.new.room ≡ store.old.room }
+    ensures port_room { (k : ℕ) → (d : OneOutlet A) → (slice_index_or outlets.old k d).port.room ≤ (slice_index_or outlets.new k d).port.room }
 {
+    lagging_ports_follow();
+    each_has_one_event();
+    events_follow_the_line();
     for outlet in outlets.iter_mut() {
-        outlet.carry(at);
+        outlet.carry(at, store);
     }
 }
 
 /// Carries out all that is left at all ports.
-pub(crate) fn end_all<A: Allocator + Copy>(outlets: &mut [Outlet<A>])
-    ensures { Became ended outlets.old outlets.new }
+pub(crate) fn end_all<A: Allocator + Copy>(outlets: &mut [Outlet<A>], store: &mut Store<A>)
+    requires can { All (λ o. IsCounted o) outlets.old }
+    requires holds { HoldsCopies store.old.held outlets.old }
+    ensures outlets { Became ended outlets.old outlets.new }
+    ensures holds { HoldsCopies store.new.held outlets.new }
+    ensures thinned { Thinned store.old.held store.new.held }
 {
+    lagging_ports_follow();
+    each_has_one_event();
+    events_follow_the_line();
     for outlet in outlets.iter_mut() {
-        outlet.port.finish();
+        outlet.end(store);
     }
 }
 
@@ -155,28 +194,76 @@ pub(crate) fn outlet_of<A: Allocator + Copy>(outlets: &[Outlet<A>], port: u8) ->
     outlets.iter().find(|outlet| outlet.row.id == port)
 }
 
-/// The last answer of a port.
-fn last_answer<A: Allocator + Copy>(outlets: &[Outlet<A>], port: u8) -> Offer
-    ensures { result ≡ last_at outlets.now port }
+/// Offers an item to the port at a place.
+fn offer_place<A: Allocator + Copy>(outlets: &mut [Outlet<A>], place: usize, item: &Item) -> Offer
+    requires place { place < length outlets.old }
+    requires can { (d : OneOutlet A) → CanTake item.now (slice_index_or outlets.old place d) }
+    requires not_late { item.now.stamp < last_second }
+    requires least { 64 ≤ item.now.size }
+    requires largest { item.now.size ≤ 1518 }
+    ensures answer { (d : OneOutlet A) → result ≡ answer item.now (slice_index_or outlets.old place d).port.content }
+    ensures outlets { BecameAt (offered_to item.now) place outlets.old outlets.new }
 {
-    match outlet_of(outlets, port) {
-        Some(outlet) => outlet.last,
+    outlets[place].port.offer(*item)
+}
+
+/// Offers an item to a port, where there is such a port; without one, it is `Full`.
+fn offer_to<A: Allocator + Copy>(outlets: &mut [Outlet<A>], item: &Item, port: u8) -> Offer
+    requires can { All (λ o. (o.row.id == port) ≡ true → CanTake item.now o) outlets.old }
+    requires once { IsDistinct nat_eq (map (λ o. o.row.id) outlets.old) }
+    requires not_late { item.now.stamp < last_second }
+    requires least { 64 ≤ item.now.size }
+    requires largest { item.now.size ≤ 1518 }
+    ensures answer { result ≡ answer_at item.now outlets.old port }
+    ensures outlets { Became (offered_at item.now port) outlets.old outlets.new }
+    ensures others { (k : ℕ) → (d : OneOutlet A) → ((slice_index_or outlets.old k d).row.id == port) ≡ false → slice_index_or outlets.new k d ≡ slice_index_or outlets.old k d }
+    ensures copies { AddsCopies item.now.number (queued_by result) outlets.old outlets.new }
+{
+    lagging_ports_follow();
+    each_has_one_event();
+    events_follow_the_line();
+    match place_of(outlets, port) {
+        Some(place) => offer_place(outlets, place, item),
         None => Offer::Full,
     }
 }
 
-/// Appends the last answers of these ports to a list that has room for them.
-pub(crate) fn list_answers<A: Allocator + Copy>(
-    outlets: &[Outlet<A>],
+/// How many copies an answer adds.
+fn copies_by(answer: Offer) -> usize
+    ensures { result ≡ queued_by answer }
+{
+    match answer {
+        Offer::Queued => 1,
+        Offer::Full => 0,
+    }
+}
+
+/// Offers an item to these ports, in their order, and lists their answers in a list that has room for them.
+/// It answers how many queued it.
+pub(crate) fn offer_all<A: Allocator + Copy>(
+    outlets: &mut [Outlet<A>],
+    item: &Item,
     to: &[u8],
     answers: &mut Vec<(u8, Offer), A>,
-)
-    requires { vec_len answers.old + length to.now ≤ vec_capacity answers.old }
-    ensures { answers.new.items ≡ answers.old.items ++ map (λ port. (port, last_at outlets.now port)) to.now }
+) -> usize
+    requires can { All (λ o. names_port o.row.id to.now ≡ true → CanTake item.now o) outlets.old }
+    requires once { IsDistinct nat_eq (map (λ o. o.row.id) outlets.old) }
+    requires distinct { IsDistinct nat_eq to.now }
+    requires not_late { item.now.stamp < last_second }
+    requires least { 64 ≤ item.now.size }
+    requires largest { item.now.size ≤ 1518 }
+    requires room { vec_len answers.old + length to.now ≤ vec_capacity answers.old }
+    ensures outlets { Became (touched item.now to.now) outlets.old outlets.new }
+    ensures answers { answers.new.items ≡ answers.old.items ++ map (λ port. (port, answer_at item.now outlets.old port)) to.now }
+    ensures copies { AddsCopies item.now.number result outlets.old outlets.new }
 {
+    let mut queued = 0;
     for port in to {
-        answers.push_reserved((*port, last_answer(outlets, *port)));
+        let answer = offer_to(outlets, item, *port);
+        queued += copies_by(answer);
+        answers.push_reserved((*port, answer));
     }
+    queued
 }
 
 /// The place of the outlet of a port.

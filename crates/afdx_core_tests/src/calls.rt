@@ -143,3 +143,15 @@ fn every_verdict(rt: HostRuntime) -> Result<(), Fail> {
     assert_eq!(rt; left(&mut done, 3), Ok(None));
     Ok(())
 }
+
+#[test]
+fn messages(rt: HostRuntime) -> Result<(), Fail> {
+    for (fault, name) in [
+        (CoreFault::Memory, "Memory"),
+        (CoreFault::Earlier, "Earlier"),
+        (CoreFault::NoSuchPort, "NoSuchPort"),
+    ] {
+        assert_eq!(rt; format!(in rt.alloc(); "{fault}")?.as_str(), name);
+    }
+    Ok(())
+}

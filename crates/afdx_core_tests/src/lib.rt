@@ -6,6 +6,8 @@
 #[cfg(test)]
 mod calls;
 #[cfg(test)]
+mod held;
+#[cfg(test)]
 mod merges;
 #[cfg(test)]
 mod traffic;

@@ -1,5 +1,5 @@
 -- The line at an instant: it goes on, takes arrivals, and has the events that are left.
-use Rattle.std.proofs.Common.{◌≡◌, ℕ, ◌+◌, ◌-◌, ◌≤◌, false, List, [], ◌∷◌, ◌++◌, length, Some, None, append-nil, refl, ap, sym, ◌∙◌, arith}
+use Rattle.std.proofs.Common.{◌≡◌, ℕ, ◌+◌, ◌-◌, ◌≤◌, false, List, [], ◌∷◌, ◌++◌, length, Some, refl, ap, sym, ◌∙◌, arith}
 use Rattle.std.specs.Prelude.{max, not, sum_by, slice_get, All, Contains}
 use Rattle.std.specs.Option.{option_map}
 use Rattle.std.proofs.lemmas.List.Elements.{All-head, All-weaker, All-append, All-filter, Contains-get_or, filter-append}
@@ -142,16 +142,13 @@ pub events_of_items : (s : Settings) (free : ℕ) (items : List Item) → All (�
 events_of_items s free items = service_all_by (length items) (Contains items) s free items refl (λ k d lt. Contains-get_or items k d lt)
 
 -- the first event behind those that were carried out
-due_at : (xs ys : List Event) → option_map instant (slice_get (xs ++ ys) (length xs)) ≡ option_map instant (slice_get ys 0)
+pub due_at : (xs ys : List Event) → option_map instant (slice_get (xs ++ ys) (length xs)) ≡ option_map instant (slice_get ys 0)
 due_at [] ys = refl
 due_at (x ∷ xs) ys = due_at xs ys
 
 first_due : (s : Settings) (b : ℕ) (items : List Item) → option_map instant (slice_get (in_line s b items) 0) ≡ first_start b items
 first_due s b [] = refl
 first_due s b (x ∷ items) = ap Some (instant-fate s b x)
-
-pub due_all : (es : List Event) → None ≡ option_map instant (slice_get es (length es))
-due_all es = sym (ap (λ fs. option_map instant (slice_get fs (length es))) (sym (append-nil es)) ∙ due_at es [])
 
 pub due_left : (s : Settings) (t : ℕ) (items : List Item) → HaveCome s t items → first_start (line_at s t items).free (line_at s t items).waiting ≡ option_map instant (slice_get (service s 0 items) (length (before t (service s 0 items))))
 due_left s t items come =

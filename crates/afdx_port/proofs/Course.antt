@@ -53,11 +53,6 @@ some_waits b [] [] some = absurd (omega (arith, some))
 some_waits b [] (x ∷ ls) some = refl
 some_waits b (x ∷ hs) ls some = refl
 
-pub none_wait : (hs ls : List Item) → length hs + length ls ≡ 0 → hs ++ ls ≡ []
-none_wait [] [] none = refl
-none_wait [] (x ∷ ls) none = absurd (omega (arith, none))
-none_wait (x ∷ hs) ls none = absurd (omega (arith, none))
-
 -- an item behind the first of two lists
 pub all_insert : (P : Item → Type 0) (x : Item) (hs ls : List Item) → P x → All P (hs ++ ls) → All P ((hs ++ x ∷ []) ++ ls)
 all_insert P x [] ls h all = All-cons P x ls h all

@@ -6,7 +6,6 @@ pub mod Parts
 pub mod Room
 pub mod Steps
 pub mod Picked
-pub mod PlainKeeping
 pub mod Working
 pub mod Bounds
 pub mod Order
@@ -19,4 +18,5 @@ pub mod Course
 pub mod LineUp
 pub mod AtLine
 pub mod Keeping
+pub mod Lagging
 pub mod Ends

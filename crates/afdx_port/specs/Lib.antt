@@ -8,6 +8,5 @@ pub mod Work
 pub mod Course
 pub mod Queued
 pub mod Sound
+pub mod Lagging
 pub mod Kept
-pub mod PlainSound
-pub mod PlainKept

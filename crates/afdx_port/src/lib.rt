@@ -20,8 +20,6 @@ use afdx_units::{Priority, Speed, Stamp, cost};
 
 pub mod laws;
 mod line;
-mod plain_line;
-mod plain_port;
 mod port;
 mod queues;
 #[cfg(test)]

@@ -6,6 +6,7 @@ ghost use Rattle.afdx_port.specs.Service.{sent_of, aged_of};
 ghost use Rattle.afdx_port.specs.Admission.{fits};
 ghost use Rattle.afdx_port.specs.Sound.{IsSmall};
 ghost use Rattle.afdx_port.specs.Content.{Content, PortValue, done, due, fresh, answer, offered, advanced, closed};
+ghost use Rattle.afdx_port.specs.Lagging.{has_due};
 
 use crate::line::Line;
 use crate::{Aged, Item, Offer, Sent, Settings};
@@ -175,6 +176,16 @@ impl<A: Allocator + Copy> Port<A> {
         ensures { result ≡ due self.now.content }
     {
         if self.finished { None } else { self.line.due() }
+    }
+
+    /// Whether an event that was not carried out yet lies before the instant that the stamp reaches. O(1).
+    pub fn is_due(&self, to: Stamp) -> bool
+        ensures { result ≡ has_due to self.now.content }
+    {
+        match self.due() {
+            Some(due) => due < self.line.settings.reach(to),
+            None => false,
+        }
     }
 
     /// What was sent so far, in order of its start. O(1).

@@ -1,9 +1,8 @@
-//! Items offered to one port, worked out by hand; and the port beside its plain program.
+//! Items offered to one port, worked out by hand.
 
 ghost use Rattle.std.specs.Prelude.{◌≡◌, ℕ, ◌+◌, ◌<◌, ◌≤◌, false, All};
 ghost use Rattle.afdx_units.specs.Time.{last_second};
 
-use crate::plain_port::PlainPort;
 use crate::{Item, Offer, Port};
 use afdx_units::{Priority, Speed, Stamp};
 use std::alloc::{AllocError, Global};
@@ -154,6 +153,8 @@ fn due_is_the_next_start(rt: HostRuntime) -> Result<(), Fail> {
     assert_eq!(rt; port.due(), None);
     offer(&mut port, 1, 10, 1518, Priority::Low);
     assert_eq!(rt; port.due(), Stamp::from_ns(10));
+    assert!(rt; !port.is_due(Stamp::from_ns(10).unwrap()));
+    assert!(rt; port.is_due(Stamp::from_ns(11).unwrap()));
     offer(&mut port, 2, 10, 64, Priority::Low);
     port.advance(Stamp::from_ns(11).unwrap());
     assert_eq!(rt; port.due(), Stamp::from_ns(123_050));
@@ -161,97 +162,5 @@ fn due_is_the_next_start(rt: HostRuntime) -> Result<(), Fail> {
     assert_eq!(rt; port.due(), Stamp::from_ns(123_050));
     port.advance(Stamp::from_ns(123_051).unwrap());
     assert_eq!(rt; port.due(), None);
-    Ok(())
-}
-
-/// Advances both ports to the item's stamp if asked, and offers it to both; whether they do the same.
-fn offer_both(fast: &mut Port<Global>, plain: &mut PlainPort, item: &Item, advances: bool) -> bool
-    requires room { 0 < fast.old.room }
-    requires open { fast.old.content.finished ≡ false }
-    requires in_order { fast.old.content.horizon ≤ item.now.stamp }
-    requires numbered { All (λ other. other.number < item.now.number) fast.old.content.admitted }
-    requires plain_room { 0 < plain.old.room }
-    requires plain_open { plain.old.content.finished ≡ false }
-    requires plain_in_order { plain.old.content.horizon ≤ item.now.stamp }
-    requires plain_numbered { All (λ other. other.number < item.now.number) plain.old.content.admitted }
-    requires not_late { item.now.stamp < last_second }
-    requires least { 64 ≤ item.now.size }
-    requires largest { item.now.size ≤ 1518 }
-    ensures open { fast.new.content.finished ≡ false }
-    ensures horizon { fast.new.content.horizon ≡ item.now.stamp }
-    ensures numbered { All (λ other. other.number < item.now.number + 1) fast.new.content.admitted }
-    ensures plain_open { plain.new.content.finished ≡ false }
-    ensures plain_horizon { plain.new.content.horizon ≡ item.now.stamp }
-    ensures plain_numbered { All (λ other. other.number < item.now.number + 1) plain.new.content.admitted }
-{
-    if advances {
-        fast.advance(item.stamp);
-        plain.advance(item.stamp);
-    }
-    let one = fast.offer(*item);
-    let other = plain.offer(*item);
-    one == other && fast.sent().len() == plain.sent().len()
-}
-
-/// The next number of a linear congruential generator (Knuth's constants for 64 bits).
-fn next(seed: u64) -> u64 {
-    seed.wrapping_mul(6_364_136_223_846_793_005)
-        .wrapping_add(1_442_695_040_888_963_407)
-}
-
-/// What two bodies made of the same items.
-struct Comparison {
-    same: bool,
-    sent: usize,
-    aged: usize,
-}
-
-/// Offers 2,000 items to both bodies, all of whose times are in steps of 6,720 ns.
-fn alike(alloc: Global, start: u64) -> Result<Comparison, AllocError> {
-    let mut fast = Port::new(alloc, Speed::Hundred, 6_000, 268_800);
-    let mut plain = PlainPort::new(alloc, Speed::Hundred, 6_000, 268_800);
-    let mut seed = start;
-    let mut at: u64 = 0;
-    let mut number: usize = 0;
-    let mut same = true;
-    while number < 2_000 {
-        fast.reserve(1)?;
-        plain.reserve(1)?;
-        seed = next(seed);
-        at += (seed >> 32) % 17 * 6_720;
-        let item = Item {
-            number,
-            link: 10,
-            stamp: Stamp::from_ns(at).unwrap(),
-            size: 64 + ((seed >> 40) % 18 * 84) as u32,
-            priority: if (seed >> 50) % 3 == 0 {
-                Priority::High
-            } else {
-                Priority::Low
-            },
-        };
-        let advances = (seed >> 55) % 4 == 0;
-        same = offer_both(&mut fast, &mut plain, &item, advances) && same;
-        number += 1;
-    }
-    fast.finish();
-    plain.finish();
-    Ok(Comparison {
-        same: same && fast.sent() == plain.sent() && fast.aged() == plain.aged(),
-        sent: fast.sent().len(),
-        aged: fast.aged().len(),
-    })
-}
-
-#[test]
-fn the_plain_program_does_the_same(rt: HostRuntime) -> Result<(), Fail> {
-    for seed in 0..5 {
-        let Comparison { same, sent, aged } = alike(rt.alloc(), seed)?;
-        let gone = sent.saturating_add(aged);
-        assert!(rt; same, "seed {seed}");
-        assert!(rt; sent > 1_000, "{sent} sent");
-        assert!(rt; aged > 10, "{aged} given up");
-        assert!(rt; gone < 1_990, "{gone} queued of 2000");
-    }
     Ok(())
 }

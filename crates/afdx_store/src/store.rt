@@ -1,0 +1,141 @@
+//! A store of frames, by the numbers of their arrivals.
+
+ghost use Rattle.std.specs.Prelude.{◌≡◌, ℕ, ◌+◌, ◌<◌, ◌≤◌, ◌∷◌, [], ◌++◌, true, None, Some, OnOk, length, set, slice_get, slice_index_or, count_by, is_some};
+ghost use Rattle.slab.specs.Slab.{ContainsKey, Updates, slab_len};
+ghost use Rattle.afdx_store.specs.Seen.{Held, is_held, one_less, newcomer, frame_at};
+
+use afdx_pcap::Record;
+use slab::Slab;
+use std::alloc::{AllocError, Allocator};
+use std::marker::Model;
+
+/// The frames that are held.
+///
+/// Contracts see, for each arrival in order, the frame that is held of it, if any, with the number of its copies that
+/// are left; and for how many further arrivals there is room. Only `make_room` takes memory.
+#[derive(Drop)]
+pub struct Store<A: Allocator> {
+    slots: Slab<Slot<A>, A>,
+    keys: Vec<usize, A>,
+    room: usize,
+}
+
+/// A frame, the number of its arrival, and how many of its copies are left.
+#[derive(Drop)]
+struct Slot<A: Allocator> {
+    number: usize,
+    copies: usize,
+    frame: Record<A>,
+}
+
+impl<A: Allocator> Model for Store<A> {
+    ghost use Rattle.afdx_store.specs.Seen.{StoreValue};
+
+    ghost Value = { StoreValue };
+
+    ghost use Rattle.afdx_store.specs.Kept.{value_of, IsKept};
+
+    ghost view = { value_of };
+
+    ghost invariant = { IsKept };
+}
+
+/// Empties the slot at a key.
+fn empty<A: Allocator + Copy>(slots: &mut Slab<Slot<A>, A>, key: usize)
+    requires { ContainsKey slots.old key }
+    ensures updates { Updates slots.old slots.new key None }
+    ensures len { slab_len slots.new + 1 ≡ slab_len slots.old }
+    ensures capacity { slots.new.capacity ≡ slots.old.capacity }
+{
+    slots.try_remove(key);
+}
+
+impl<A: Allocator + Copy> Store<A> {
+    /// A store that holds nothing.
+    pub fn new(alloc: A) -> Self
+        ensures { result ≡ record { held = []; room = 0 } }
+    {
+        Store {
+            slots: Slab::new(alloc),
+            keys: Vec::new(alloc),
+            room: 0,
+        }
+    }
+
+    /// Makes room for one more arrival.
+    pub fn make_room(&mut self) -> Result<(), AllocError>
+        ensures ok { OnOk result (0 < self.new.room) }
+        ensures held { self.new.held ≡ self.old.held }
+    {
+        self.slots.reserve(1)?;
+        self.keys.reserve(1)?;
+        self.room = 1;
+        Ok(())
+    }
+
+    /// How many frames are held. O(1).
+    pub fn held(&self) -> usize
+        ensures { result ≡ count_by is_some self.now.held }
+    {
+        self.slots.len()
+    }
+
+    /// Adds the next arrival, of whose frame so many copies are left; with none, the frame is dropped. O(1).
+    pub fn add(&mut self, copies: usize, frame: Record<A>)
+        requires { 0 < self.old.room }
+        ensures { self.new.held ≡ self.old.held ++ newcomer copies frame ∷ [] }
+    {
+        if copies == 0 {
+            self.skip();
+        } else {
+            self.hold(copies, frame);
+        }
+    }
+
+    /// Adds the next arrival, which has no copies. O(1).
+    pub fn skip(&mut self)
+        requires { 0 < self.old.room }
+        ensures { self.new.held ≡ self.old.held ++ None ∷ [] }
+    {
+        self.room -= 1;
+        self.keys.push_reserved(0);
+    }
+
+    /// Adds the next arrival, which has some copies.
+    fn hold(&mut self, copies: usize, frame: Record<A>)
+        requires room { 0 < self.old.room }
+        requires some { 0 < copies }
+        ensures { self.new.held ≡ self.old.held ++ Some (record { copies = copies; frame = frame }) ∷ [] }
+    {
+        let number = self.keys.len();
+        let key = self.slots.insert_reserved(Slot {
+            number,
+            copies,
+            frame,
+        });
+        self.room -= 1;
+        self.keys.push_reserved(key);
+    }
+
+    /// Gives up one copy of a frame, and the frame with the last of them. O(1).
+    pub fn give_up(&mut self, number: usize)
+        requires { is_held self.old.held number ≡ true }
+        ensures held { self.new.held ≡ set self.old.held number (one_less (slice_index_or self.old.held number None)) }
+        ensures room { self.new.room ≡ self.old.room }
+    {
+        let key = self.keys[number];
+        let slot = self.slots.get_mut(key).unwrap();
+        slot.copies -= 1;
+        if slot.copies == 0 {
+            empty(&mut self.slots, key);
+        }
+    }
+
+    /// The frame that is held of an arrival. O(1).
+    pub fn frame(&self, number: usize) -> &Record<A>
+        requires { is_held self.now.held number ≡ true }
+        ensures { frame_at self.now.held number ≡ Some result.now }
+    {
+        &self.slots.get(self.keys[number]).unwrap().frame
+    }
+}
