@@ -1,10 +1,13 @@
 -- A table holds what its text says.
-use Rattle.std.proofs.Common.{◌≡◌, ℕ, ◌+◌, ◌*◌, nat_lt, Bool, cond, List, [], ◌∷◌, ◌++◌, Ok, refl, sym, ◌∙◌, ap, subst, inl, inr, arith, append_assoc}
+use Rattle.std.proofs.Common.{◌≡◌, ℕ, pos, ◌+◌, ◌*◌, ◌%◌, nat_eq, nat_lt, true, Bool, cond, List, [], ◌∷◌, ◌++◌, Option, Some, None, Result, Ok, Err, refl, sym, ◌∙◌, ap, subst, inl, inr, arith, append_assoc}
 use Rattle.std.specs.List.{AllZip, count_by}
 use Rattle.std.proofs.lemmas.List.{append-nil}
 use Rattle.std.proofs.lemmas.List.Sums.{sum_by-cons}
 use Rattle.std.proofs.lemmas.Bool.{cases_Bool}
-use Rattle.toml.specs.Data.{Members}
+use Rattle.std.proofs.lemmas.Bool.Decides.{nat_tests}
+use Rattle.hex.specs.Hex.{decode_sized}
+use Rattle.hex.specs.declared.error.FromHexError.{FromHexError}
+use Rattle.toml.specs.Data.{Data, integer, string, Members}
 use Rattle.afdx_table.specs.declared.fault.At.{At}
 use Rattle.afdx_table.specs.declared.fault.At.TheVariants as place
 use Rattle.afdx_table.specs.declared.fault.Key.TheVariants as key
@@ -13,23 +16,27 @@ use Rattle.afdx_table.specs.declared.rows.PortRow.{PortRow}
 use Rattle.afdx_table.specs.Refusal.{or_refuse}
 use Rattle.afdx_table.specs.Link.{Link}
 use Rattle.afdx_table.specs.Content.{Content}
-use Rattle.afdx_table.specs.Names.{speed_of}
-use Rattle.afdx_table.specs.Fields.{known_at, number_at, bounded_at}
-use Rattle.afdx_table.specs.Top.{Top, top_at}
+use Rattle.afdx_table.specs.Names.{speed_of, bag_of, priority_of}
+use Rattle.afdx_table.specs.Fields.{are_known, known_at, number_at, numbers_at, text_at, bounded, bounded_at, optional_number_at, optional_text_at, tables_at}
+use Rattle.afdx_table.specs.Top.{Top, top_keys, version_from, group_address, constant_from, at_most, top_at}
 use Rattle.afdx_table.specs.Ports.{with_port, port_keys, port_at, ports_from}
-use Rattle.afdx_table.specs.Links.{row_at, fitting, link_at, links_from}
+use Rattle.afdx_table.specs.Links.{link_keys, row_at, fitting, link_at, links_from}
 use Rattle.afdx_table.specs.Text.{content_of, tree_of, table_of}
-use Rattle.afdx_table.specs.Holds.{IsPortOf, IsLinkOf, Holds, TablesHoldTheirTexts}
-use Rattle.afdx_table.proofs.Steps.{steps, answers, ok_inside}
+use Rattle.afdx_table.specs.Holds.{IsPortOf, IsLinkOf, HasVersion, HasConstant, HasTables, Holds, TablesHoldTheirTexts}
+use Rattle.afdx_table.proofs.Steps.{steps, ok_inside}
+use Rattle.afdx_table.proofs.Says.{there, known_at-says, number_at-says, bounded_at-says, text_at-says, optional_number_at-says, no_number, optional_text_at-says, no_text, tables_at-says, numbers_at-says, speed-says, bag-says, priority-says}
 use Rattle.afdx_table.proofs.PortsFormed.{fresh_port}
 use Rattle.afdx_table.proofs.LinksFormed.{fitting-fits}
 
+-- a number that stands under a key
+abbrev stands : ℕ → Option Data
+stands n = Some (integer (pos n))
+
 -- ---- ports
 
--- a port that was read after others is that of its fields alone
-port_alone : (at : At) (before : List PortRow) (ms : Members) (row : PortRow) → port_at at before ms ≡ Ok row → port_at at [] ms ≡ Ok row
+port_at-says : (at : At) (before : List PortRow) (ms : Members) (row : PortRow) → port_at at before ms ≡ Ok row → IsPortOf ms row
 unfolding port_at
-port_alone at before ms row h =
+port_at-says at before ms row h =
     let s1 = steps (known_at at port_keys ms) _ row h in
     let s2 = steps (bounded_at at key.Id 1 24 ms) _ row s1.rest in
     let s3 = steps (number_at at key.Mbit ms) _ row s2.rest in
@@ -38,12 +45,14 @@ port_alone at before ms row h =
     let s6 = steps (bounded_at at key.MaxDelay 1 500000 ms) _ row s5.rest in
     let new : PortRow = record { id = s2.value; speed = s4.value; buffer = s5.value; max_delay = s6.value * 1000 } in
     let last = fresh_port at before new row s6.rest in
-    answers (known_at at port_keys ms) _ s1.first
-    (answers (bounded_at at key.Id 1 24 ms) _ s2.first
-    (answers (number_at at key.Mbit ms) _ s3.first
-    (answers (or_refuse (Range at key.Mbit) (speed_of s3.value)) _ s4.first
-    (answers (bounded_at at key.Buffer 0 16777216 ms) _ s5.first
-    (answers (bounded_at at key.MaxDelay 1 500000 ms) _ s6.first (ap Ok last.0))))))
+    let says : IsPortOf ms new = record {
+      id = bounded_at-says at key.Id 1 24 ms s2.value s2.first;
+      speed = number_at-says at key.Mbit ms s3.value s3.first ∙ ap stands (speed-says s3.value s4.value (there (Range at key.Mbit) (speed_of s3.value) s4.value s4.first));
+      buffer = bounded_at-says at key.Buffer 0 16777216 ms s5.value s5.first;
+      max_delay = (s6.value, bounded_at-says at key.MaxDelay 1 500000 ms s6.value s6.first, refl);
+      no_other = known_at-says at port_keys ms s1.value s1.first;
+    } in
+    subst (IsPortOf ms) {x = new} last.0 says
 
 count-with : (test : PortRow → Bool) (row : PortRow) (ps : List PortRow) → count_by test (with_port row ps) ≡ cond (test row) 1 0 + count_by test ps
 count-with test row [] = sum_by-cons (λ p. cond (test p) 1 0) row []
@@ -71,11 +80,39 @@ ports_from-rows n before (ms ∷ rest) ports h =
     let more = ports_from-rows (n + 1) (with_port s.value before) rest ports s.rest in
     record {
       rows = s.value ∷ more.rows;
-      rows_of = ((place.Port (n + 1), port_alone (place.Port (n + 1)) before ms s.value s.first), more.rows_of);
+      rows_of = (port_at-says (place.Port (n + 1)) before ms s.value s.first, more.rows_of);
       all = λ test. omega (arith, more.all test, count-with test s.value before, sum_by-cons (λ p. cond (test p) 1 0) s.value more.rows);
     }
 
 -- ---- links
+
+row_at-says : (at : At) (ms : Members) (row : Link) → row_at at ms ≡ Ok row → IsLinkOf ms row
+unfolding row_at
+row_at-says at ms row h =
+    let s1 = steps (known_at at link_keys ms) _ row h in
+    let s2 = steps (bounded_at at key.Id 0 65535 ms) _ row s1.rest in
+    let s3 = steps (bounded_at at key.From 1 24 ms) _ row s2.rest in
+    let s4 = steps (numbers_at at key.To 1 24 ms) _ row s3.rest in
+    let s5 = steps (number_at at key.Bag ms) _ row s4.rest in
+    let s6 = steps (or_refuse (Range at key.Bag) (bag_of s5.value)) _ row s5.rest in
+    let s7 = steps (bounded_at at key.Jitter 0 10000 ms) _ row s6.rest in
+    let s8 = steps (bounded_at at key.MaxSize 64 1518 ms) _ row s7.rest in
+    let s9 = steps (text_at at key.Priority ms) _ row s8.rest in
+    let s10 = steps (or_refuse (Range at key.Priority) (priority_of s9.value)) _ row s9.rest in
+    let new : Link = record { id = s2.value; from = s3.value; to = s4.value; bag = s6.value; jitter = s7.value * 1000; max_size = s8.value; priority = s10.value } in
+    let says : IsLinkOf ms new = record {
+      id = bounded_at-says at key.Id 0 65535 ms s2.value s2.first;
+      from = bounded_at-says at key.From 1 24 ms s3.value s3.first;
+      to = numbers_at-says at key.To 1 24 ms s4.value s4.first;
+      bag = number_at-says at key.Bag ms s5.value s5.first ∙ ap stands (bag-says s5.value s6.value (there (Range at key.Bag) (bag_of s5.value) s6.value s6.first));
+      jitter = (s7.value, bounded_at-says at key.Jitter 0 10000 ms s7.value s7.first, refl);
+      max_size = bounded_at-says at key.MaxSize 64 1518 ms s8.value s8.first;
+      priority =
+        text_at-says at key.Priority ms s9.value s9.first
+        ∙ ap (λ text. Some (string text)) (priority-says s9.value s10.value (there (Range at key.Priority) (priority_of s9.value) s10.value s10.first));
+      no_other = known_at-says at link_keys ms s1.value s1.first;
+    } in
+    subst (IsLinkOf ms) {x = new} (ok_inside new row s10.rest) says
 
 -- the links are those before and the rows of the tables
 record AreLinksOf (before : List Link) (tables : List Members) (links : List Link) : Type 0 where
@@ -97,34 +134,91 @@ links_from-rows ports n before (ms ∷ rest) links h =
     let all = more.all in
     record {
       rows = s.value ∷ more.rows;
-      rows_of = ((at, subst (λ l. row_at at ms ≡ Ok l) same t.first), more.rows_of);
+      rows_of = (subst (IsLinkOf ms) same (row_at-says at ms t.value t.first), more.rows_of);
       all = rw append_assoc at all;
     }
 
+-- ---- the top
+
+only_one : (m n : ℕ) → bounded place.Top key.Version 1 1 m ≡ Ok n → m ≡ 1
+unfolding bounded
+only_one m n v = grind (arith, nat_tests)
+
+version-says : (ms : Members) (stated : Option ℕ) (n : ℕ) → optional_number_at place.Top key.Version ms ≡ Ok stated → version_from stated ≡ Ok n → HasVersion ms
+version-says ms None n h v = inl (no_number place.Top key.Version ms h)
+version-says ms (Some m) n h v = inr (optional_number_at-says place.Top key.Version ms m h ∙ ap stands (only_one m n v))
+
+group-says : (r : Result (List ℕ) FromHexError) (bytes : List ℕ) → group_address r ≡ Ok bytes → r ≡ Ok bytes
+group-says (Err e) bytes h = absurd cc
+group-says (Ok []) bytes h = absurd cc
+group-says (Ok (b ∷ bs)) bytes h = elim (cases_Bool (nat_eq (b % 4) 3)) [
+  | inl group ↦ ap Ok (ok_inside (b ∷ bs) bytes (rw group at h))
+  | inr plain ↦ let g = rw plain at h in absurd cc
+]
+
+constant-says : (ms : Members) (stated : Option (List ℕ)) (bytes : List ℕ) → optional_text_at place.Top key.Constant ms ≡ Ok stated → constant_from stated ≡ Ok bytes → HasConstant ms bytes
+constant-says ms None bytes h c = inl (no_text place.Top key.Constant ms h, sym (ok_inside (3 ∷ 0 ∷ 0 ∷ 0 ∷ []) bytes c))
+constant-says ms (Some text) bytes h c = inr (text, optional_text_at-says place.Top key.Constant ms text h, group-says (decode_sized text 4) bytes c)
+
+record Tops (ms : Members) (top : Top) : Type 0 where
+  version : HasVersion ms
+  constant : HasConstant ms top.constant
+  ports : HasTables ms key.Port top.ports
+  links : HasTables ms key.Link top.links
+  no_other : are_known top_keys ms ≡ true
+
+top_at-says : (ms : Members) (top : Top) → top_at ms ≡ Ok top → Tops ms top
+unfolding top_at
+top_at-says ms top h =
+    let s1 = steps (known_at place.Top top_keys ms) _ top h in
+    let s2 = steps (optional_number_at place.Top key.Version ms) _ top s1.rest in
+    let s3 = steps (version_from s2.value) _ top s2.rest in
+    let s4 = steps (optional_text_at place.Top key.Constant ms) _ top s3.rest in
+    let s5 = steps (constant_from s4.value) _ top s4.rest in
+    let s6 = steps (tables_at place.Top key.Port ms) _ top s5.rest in
+    let s7 = steps (tables_at place.Top key.Link ms) _ top s6.rest in
+    let s8 = steps (at_most 24 key.Port s6.value) _ top s7.rest in
+    let s9 = steps (at_most 4096 key.Link s7.value) _ top s8.rest in
+    let new : Top = record { constant = s5.value; ports = s6.value; links = s7.value } in
+    let says : Tops ms new = record {
+      version = version-says ms s2.value s3.value s2.first s3.first;
+      constant = constant-says ms s4.value s5.value s4.first s5.first;
+      ports = tables_at-says place.Top key.Port ms s6.value s6.first;
+      links = tables_at-says place.Top key.Link ms s7.value s7.first;
+      no_other = known_at-says place.Top top_keys ms s1.value s1.first;
+    } in
+    subst (Tops ms) {x = new} (ok_inside new top s9.rest) says
+
 -- ---- the whole
 
-content_of-holds : (ms : Members) (top : Top) (c : Content) → top_at ms ≡ Ok top → content_of ms ≡ Ok c → Holds top c
+content_of-holds : (ms : Members) (c : Content) → content_of ms ≡ Ok c → Holds ms c
 unfolding content_of
-content_of-holds ms top c first h =
+content_of-holds ms c h =
     let s1 = steps (top_at ms) _ c h in
-    let same_top : s1.value ≡ top = ok_inside s1.value top (sym s1.first ∙ first) in
     let s2 = steps (ports_from 0 [] s1.value.ports) _ c s1.rest in
     let s3 = steps (links_from s2.value 0 [] s1.value.links) _ c s2.rest in
     let new : Content = record { constant = s1.value.constant; ports = s2.value; links = s3.value } in
+    let top = top_at-says ms s1.value s1.first in
     let ports = ports_from-rows 0 [] s1.value.ports s2.value s2.first in
     let links = links_from-rows s2.value 0 [] s1.value.links s3.value s3.first in
-    let good : Holds s1.value new = record {
-      constant = refl;
+    let good : Holds ms new = record {
+      version = top.version;
+      constant = top.constant;
+      port_tables = s1.value.ports;
+      has_ports = top.ports;
       rows = ports.rows;
       rows_of = ports.rows_of;
       ports = λ test. omega (arith, ports.all test);
+      link_tables = s1.value.links;
+      has_links = top.links;
       links = subst (AllZip IsLinkOf s1.value.links) links.all links.rows_of;
+      no_other = top.no_other;
     } in
-    subst (λ t. Holds t c) same_top (subst (Holds s1.value) {x = new} (ok_inside new c s3.rest) good)
+    subst (Holds ms) {x = new} (ok_inside new c s3.rest) good
 
 pub table_of-holds : TablesHoldTheirTexts
 unfolding table_of
-table_of-holds bytes ms top c tree first h =
+table_of-holds bytes ms c tree h =
     let s = steps (tree_of bytes) content_of c h in
     let same : s.value ≡ ms = ok_inside s.value ms (sym s.first ∙ tree) in
-    content_of-holds ms top c first (subst (λ t. content_of t ≡ Ok c) same s.rest)
+    content_of-holds ms c (subst (λ t. content_of t ≡ Ok c) same s.rest)

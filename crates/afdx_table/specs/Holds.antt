@@ -1,36 +1,118 @@
--- A table holds what its text says: the constant field, one port for each TOML table of `port`, and one link for each of `link`, in file order.
-use Rattle.std.specs.Prelude.{◌≡◌, ℕ, Bool, List, [], Ok}
+-- A table holds what its text says: each number, word and list is told by the value under its key.
+use Rattle.std.specs.Prelude.{◌≡◌, ◌⊎◌, ℕ, pos, codes, true, Bool, ◌*◌, List, [], ◌∷◌, Some, None, Ok}
 use Rattle.std.specs.List.{AllZip, count_by}
-use Rattle.toml.specs.Data.{Members}
-use Rattle.afdx_table.specs.declared.fault.At.{At}
+use Rattle.hex.specs.Hex.{decode_sized}
+use Rattle.toml.specs.Data.{Data, integer, string, array, table, Items, no_items, item, Members, get_member}
+use Rattle.afdx_units.specs.Time.{bag_ms}
+use Rattle.afdx_units.specs.declared.line.Speed.{Speed}
+use Rattle.afdx_units.specs.declared.line.Speed.TheVariants.{Ten, Hundred}
+use Rattle.afdx_units.specs.declared.line.Priority.{Priority}
+use Rattle.afdx_units.specs.declared.line.Priority.TheVariants.{High, Low}
+use Rattle.afdx_table.specs.declared.fault.Key.{Key}
+use Rattle.afdx_table.specs.declared.fault.Key.TheVariants as key
 use Rattle.afdx_table.specs.declared.rows.PortRow.{PortRow}
+use Rattle.afdx_table.specs.Names.{key_text}
+use Rattle.afdx_table.specs.Fields.{are_known}
 use Rattle.afdx_table.specs.Link.{Link}
 use Rattle.afdx_table.specs.Content.{Content}
-use Rattle.afdx_table.specs.Top.{Top, top_at}
-use Rattle.afdx_table.specs.Ports.{port_at}
-use Rattle.afdx_table.specs.Links.{row_at}
+use Rattle.afdx_table.specs.Top.{top_keys}
+use Rattle.afdx_table.specs.Ports.{port_keys}
+use Rattle.afdx_table.specs.Links.{link_keys}
 use Rattle.afdx_table.specs.Text.{tree_of, table_of}
 
--- the port of these fields alone, at some place
-abbrev pub IsPortOf : Members → PortRow → Type 0
-IsPortOf ms p = (at : At) × (port_at at [] ms ≡ Ok p)
+-- ---- what stands under a key
 
--- the link of these fields alone, at some place
-abbrev pub IsLinkOf : Members → Link → Type 0
-IsLinkOf ms l = (at : At) × (row_at at ms ≡ Ok l)
+abbrev pub Has : Members → Key → Data → Type 0
+Has ms k d = get_member (key_text k) ms ≡ Some d
+
+abbrev pub HasNone : Members → Key → Type 0
+HasNone ms k = get_member (key_text k) ms ≡ None
+
+abbrev pub HasNumber : Members → Key → ℕ → Type 0
+HasNumber ms k n = Has ms k (integer (pos n))
+
+abbrev pub HasText : Members → Key → List ℕ → Type 0
+HasText ms k text = Has ms k (string text)
+
+-- an array of these numbers
+abbrev pub number_items : List ℕ → Items
+number_items [] = no_items
+number_items (n ∷ ns) = item (integer (pos n)) (number_items ns)
+
+abbrev pub HasNumbers : Members → Key → List ℕ → Type 0
+HasNumbers ms k ns = Has ms k (array (number_items ns))
+
+-- an array of these TOML tables
+abbrev pub table_items : List Members → Items
+table_items [] = no_items
+table_items (m ∷ ms) = item (table m) (table_items ms)
+
+-- these TOML tables, none of them where the key is missing
+abbrev pub HasTables : Members → Key → List Members → Type 0
+HasTables ms k tables = (HasNone ms k × (tables ≡ [])) ⊎ Has ms k (array (table_items tables))
+
+-- ---- one port, one link
+
+-- IEEE 802.3: the Mbit/s of a line
+abbrev pub mbit_of : Speed → ℕ
+mbit_of Ten = 10
+mbit_of Hundred = 100
+
+-- profile: the names of the priorities
+abbrev pub priority_text : Priority → List ℕ
+priority_text High = codes "high"
+priority_text Low = codes "low"
+
+-- the port that these members tell, whose delay is written in microseconds and kept in nanoseconds
+pub record IsPortOf (ms : Members) (p : PortRow) : Type 0 where
+  pub id : HasNumber ms key.Id p.id
+  pub speed : HasNumber ms key.Mbit (mbit_of p.speed)
+  pub buffer : HasNumber ms key.Buffer p.buffer
+  pub max_delay : (us : ℕ) × HasNumber ms key.MaxDelay us × (p.max_delay ≡ us * 1000)
+  pub no_other : are_known port_keys ms ≡ true
+
+-- the link that these members tell, whose jitter is written in microseconds and kept in nanoseconds
+pub record IsLinkOf (ms : Members) (l : Link) : Type 0 where
+  pub id : HasNumber ms key.Id l.id
+  pub from : HasNumber ms key.From l.from
+  pub to : HasNumbers ms key.To l.to
+  pub bag : HasNumber ms key.Bag (bag_ms l.bag)
+  pub jitter : (us : ℕ) × HasNumber ms key.Jitter us × (l.jitter ≡ us * 1000)
+  pub max_size : HasNumber ms key.MaxSize l.max_size
+  pub priority : HasText ms key.Priority (priority_text l.priority)
+  pub no_other : are_known link_keys ms ≡ true
+
+-- ---- the whole
+
+-- the version is the first, stated or not
+abbrev pub HasVersion : Members → Type 0
+HasVersion ms = HasNone ms key.Version ⊎ HasNumber ms key.Version 1
+
+-- the constant field is stated as eight hexadecimal digits, or 03 00 00 00
+abbrev pub HasConstant : Members → List ℕ → Type 0
+HasConstant ms bytes =
+    (HasNone ms key.Constant × (bytes ≡ 3 ∷ 0 ∷ 0 ∷ 0 ∷ []))
+    ⊎ ((text : List ℕ) × HasText ms key.Constant text × (decode_sized text 4 ≡ Ok bytes))
 
 -- the same ports in any order: as many of the one list as of the other pass each test
 abbrev pub AreSamePorts : List PortRow → List PortRow → Type 0
 AreSamePorts ps qs = (test : PortRow → Bool) → count_by test ps ≡ count_by test qs
 
-pub record Holds (top : Top) (c : Content) : Type 0 where
-  pub constant : c.constant ≡ top.constant
-  -- the ports in file order
+pub record Holds (ms : Members) (c : Content) : Type 0 where
+  pub version : HasVersion ms
+  pub constant : HasConstant ms c.constant
+  -- one port for each TOML table of `port`: the ports in file order
+  pub port_tables : List Members
+  pub has_ports : HasTables ms key.Port port_tables
   pub rows : List PortRow
-  pub rows_of : AllZip IsPortOf top.ports rows
+  pub rows_of : AllZip IsPortOf port_tables rows
   pub ports : AreSamePorts rows c.ports
-  pub links : AllZip IsLinkOf top.links c.links
+  -- one link for each TOML table of `link`, in file order
+  pub link_tables : List Members
+  pub has_links : HasTables ms key.Link link_tables
+  pub links : AllZip IsLinkOf link_tables c.links
+  pub no_other : are_known top_keys ms ≡ true
 
 -- every table of a text holds what the text says, and nothing else
 abbrev pub TablesHoldTheirTexts : Type 0
-TablesHoldTheirTexts = (bytes : List ℕ) (ms : Members) (top : Top) (c : Content) → tree_of bytes ≡ Ok ms → top_at ms ≡ Ok top → table_of bytes ≡ Ok c → Holds top c
+TablesHoldTheirTexts = (bytes : List ℕ) (ms : Members) (c : Content) → tree_of bytes ≡ Ok ms → table_of bytes ≡ Ok c → Holds ms c

@@ -9,8 +9,8 @@ pub fn tables_are_well_formed()
     ensures { TablesAreWellFormed }
 {}
 
-/// Every table of a text has the text's constant field and, for each TOML table of a port and of a link, the one row of its
-/// fields, and no other row.
+/// Every table of a text has the constant field, the ports and the links that stand under their keys in the text, each field by
+/// its own key, and nothing else.
 pub fn tables_hold_their_texts()
     ensures { TablesHoldTheirTexts }
 {}
