@@ -1,0 +1,57 @@
+//! An allocator for tests: it passes each call on to another, but refuses one allocation.
+//!
+//! A test runs the same calls with the first allocation refused, with the second, and so on until none is left to be refused.
+//! So it sees each call want memory at each of its growths.
+#![tactic(auto)]
+
+use std::alloc::{AllocError, Allocator};
+use std::cell::Cell;
+
+/// Refuses one allocation, and passes every other call on to `inner`. A growth is an allocation.
+pub struct Refusing<B: Allocator> {
+    inner: B,
+    left: Cell<u64>,
+}
+
+impl<B: Allocator> Refusing<B> {
+    /// Refuses the nth allocation from now on, counted from 1; none where n is 0. O(1).
+    pub fn new(inner: B, n: u64) -> Refusing<B> {
+        Refusing {
+            inner,
+            left: Cell::new(n),
+        }
+    }
+
+    /// Whether the allocation was refused, or none was to be. O(1).
+    pub fn is_spent(&self) -> bool {
+        self.left.get() == 0
+    }
+}
+
+impl<B: Allocator> Drop for Refusing<B> {
+    fn drop(self) {
+        let Self { inner: _, left: _ } = self;
+    }
+}
+
+/// Counts an allocation, and answers whether it is the one to be refused.
+fn refuses(left: &Cell<u64>) -> bool {
+    let n = left.get();
+    left.set(n.saturating_sub(1));
+    n == 1
+}
+
+unsafe impl<B: Allocator> Allocator for Refusing<B> {
+    ghost dealloc_token = { λ heap ty ptr. B.dealloc_token heap.inner ty ptr };
+
+    fn allocate(&self, size: usize, align: usize) -> Result<*mut u8, AllocError> {
+        if refuses(&self.left) {
+            return Err(AllocError);
+        }
+        self.inner.allocate(size, align)
+    }
+
+    unsafe fn deallocate(&self, ptr: *mut u8, size: usize, align: usize) {
+        self.inner.deallocate(ptr, size, align);
+    }
+}
