@@ -1,0 +1,190 @@
+#!/usr/bin/env python3
+"""Makes what the recipes of docs/use/CAPTURES.md start from.
+
+usage: recordings.py                  prints the names of all
+       recordings.py NAME FOLDER      makes this one: FOLDER/table.toml, and recordings under FOLDER/raw
+A name is a heading of the page, small, with _ for all but letters and digits. Most are the example network's captures,
+recorded as the recipe has it.
+"""
+import gzip
+import os
+import random
+import shutil
+import struct
+import subprocess
+import sys
+import zlib
+
+import model
+
+NETWORK = os.path.join(os.path.dirname(os.path.abspath(__file__)), "..", "examples", "network")
+PORTS = [1, 2, 3, 4]
+BEGIN = 1_768_471_200 * model.SECOND
+TICK = 80  # ns of a byte at 100 Mbit/s
+CONSTANT = bytes.fromhex("03000000")
+
+
+def network_capture(port):
+    return f"{NETWORK}/in/port-{port}.pcap"
+
+
+def network_records(port):
+    with open(network_capture(port), "rb") as file:
+        return model.records_of(file.read(), port)
+
+
+def record(stamp, data):
+    """A record of a whole frame."""
+    return model.Record(stamp, len(data), data)
+
+
+def frame(link, size):
+    head = CONSTANT + link.to_bytes(2, "big") + bytes.fromhex("0200000001200800")
+    return head.ljust(size - model.CHECK_SEQUENCE, b"\0")
+
+
+def write(path, records):
+    """A little-endian nanosecond capture that keeps the original lengths, as editcap writes it."""
+    text = model.capture_of([])
+    for one in records:
+        text += struct.pack("<4I", *divmod(one.stamp, model.SECOND), len(one.data), one.original) + one.data
+    os.makedirs(os.path.dirname(path), exist_ok=True)
+    with open(path, "wb") as file:
+        file.write(text)
+
+
+def write_table(path, ports, links):
+    """Ports at 100 Mbit/s; links as (number, from, to, jitter in us, largest size), of BAG 1 ms."""
+    os.makedirs(os.path.dirname(path), exist_ok=True)
+    with open(path, "w", encoding="utf-8") as file:
+        for port in ports:
+            file.write(f"[[port]]\nid = {port}\nmbit = 100\nbuffer = 100000\nmax_delay_us = 500000\n\n")
+        for link, source, to, jitter, size in links:
+            file.write(f"[[link]]\nid = {link}\nfrom = {source}\nto = [{to}]\nbag_ms = 1\njitter_us = {jitter}\n"
+                       f"max_size = {size}\npriority = \"low\"\n\n")
+
+
+def of_network(change):
+    """The example network, each port's records changed."""
+
+    def make(folder):
+        shutil.copy(f"{NETWORK}/table.toml", folder)
+        for port in PORTS:
+            write(f"{folder}/raw/port-{port}.pcap", change(port, network_records(port)))
+
+    return make
+
+
+def unchanged(_, records):
+    return records
+
+
+def with_check_sequence(_, records):
+    return [model.Record(one.stamp, one.original + 4,
+                         one.data + (struct.pack("<I", zlib.crc32(one.data)) if one.original == len(one.data) else b""))
+            for one in records]
+
+
+def with_network_b(_, records):
+    """Each frame also as network B has it: its sender's interface in the last byte of the source, 7 us later."""
+    twins = [model.Record(one.stamp + 7_000, one.original, one.data[:11] + b"\x40" + one.data[12:]) for one in records]
+    return sorted(records + twins, key=lambda one: one.stamp)
+
+
+def two_exchanged(port, records):
+    if port == 2:
+        records[99], records[100] = records[100], records[99]
+    return records
+
+
+def late_at_port_2(port, records):
+    return [model.Record(one.stamp + (1_500_000 if port == 2 else 0), one.original, one.data) for one in records]
+
+
+def network_in_other_formats(folder):
+    of_network(unchanged)(folder)
+    for port in [1, 2]:
+        path = f"{folder}/raw/port-{port}.pcap"
+        subprocess.run(["editcap", "-F", "pcapng", network_capture(port), path], check=True)
+    with open(path, "rb") as file:
+        plain = file.read()
+    with gzip.open(path, "wb") as file:
+        file.write(plain)
+
+
+def network_in_one_file(folder):
+    shutil.copy(f"{NETWORK}/table.toml", folder)
+    subprocess.run(["mergecap", "-F", "pcapng", "-I", "none", "-w", f"{folder}/raw/tap.pcapng",
+                    *map(network_capture, PORTS)], check=True)
+
+
+def network_without_port_3(folder):
+    of_network(unchanged)(folder)
+    os.remove(f"{folder}/raw/port-3.pcap")
+
+
+def network_with_clocks_apart(folder):
+    of_network(late_at_port_2)(folder)
+    mark = frame(100, 200)
+    write(f"{folder}/raw/mark-1.pcap", [record(BEGIN - 60 * model.SECOND, mark)])
+    write(f"{folder}/raw/mark-2.pcap", [record(BEGIN - 60 * model.SECOND + 1_500_000, mark)])
+
+
+def one_link(jitter, stamps):
+    """Link 10 alone, of 1000 bytes and BAG 1 ms, at these instants."""
+
+    def make(folder):
+        write_table(f"{folder}/table.toml", [1, 2], [(10, 1, 2, jitter, 1000)])
+        write(f"{folder}/raw/port-1.pcap", [record(BEGIN + stamp, frame(10, 1000)) for stamp in stamps])
+        write(f"{folder}/raw/port-2.pcap", [])
+
+    return make
+
+
+def noisy_stamps():
+    chance = random.Random(1)
+    return [number * 1_000_000 + int(chance.random() * 17) for number in range(1000)]
+
+
+def stamps_of_starts(folder):
+    write_table(f"{folder}/table.toml", [1, 2], [(10, 1, 2, 0, 64), (11, 1, 2, 0, 1518)])
+    records, at = [], BEGIN
+    for link, size in [(10, 64), (11, 1518), (10, 64), (11, 1518)]:
+        records.append(record(at, frame(link, size)))
+        at += (size + model.LINE_OVERHEAD) * TICK
+    write(f"{folder}/raw/port-1.pcap", records)
+    write(f"{folder}/raw/port-2.pcap", [])
+
+
+def two_switches(folder):
+    """Link 10 sends each millisecond; link 20 sends a long frame just before each second one of it."""
+    write_table(f"{folder}/first/table.toml", [1, 2, 3], [(10, 1, 3, 0, 500), (20, 2, 3, 0, 1518)])
+    write_table(f"{folder}/second/table.toml", [1, 2], [(10, 1, 2, 0, 500), (20, 1, 2, 0, 1518)])
+    write(f"{folder}/first/in/port-1.pcap", [record(BEGIN + at * 1_000_000, frame(10, 500)) for at in range(100)])
+    write(f"{folder}/first/in/port-2.pcap",
+          [record(BEGIN + at * 1_000_000 - 10_000, frame(20, 1518)) for at in range(1, 100, 2)])
+    write(f"{folder}/first/in/port-3.pcap", [])
+    write(f"{folder}/second/in/port-2.pcap", [])
+
+
+RECORDINGS = {
+    "look_first": of_network(unchanged),
+    "pcapng_and_gzip": network_in_other_formats,
+    "several_interfaces_in_one_capture": network_in_one_file,
+    "networks_a_and_b_in_one_capture": of_network(with_network_b),
+    "a_port_that_only_sends": network_without_port_3,
+    "frames_out_of_order": of_network(two_exchanged),
+    "frames_with_their_check_sequence": of_network(with_check_sequence),
+    "clocks_that_stand_apart": network_with_clocks_apart,
+    "a_clock_that_drifts": one_link(20, [number * 999_950 for number in range(1000)]),
+    "noise_on_the_stamps": one_link(0, noisy_stamps()),
+    "stamps_of_the_frame_s_start": stamps_of_starts,
+    "from_one_switch_into_the_next": two_switches,
+}
+
+if __name__ == "__main__":
+    if len(sys.argv) == 1:
+        print("\n".join(RECORDINGS))
+    else:
+        os.makedirs(f"{sys.argv[2]}/raw", exist_ok=True)
+        RECORDINGS[sys.argv[1]](sys.argv[2])
