@@ -53,7 +53,7 @@ is_text (datetime t) s h = absurd cc
 is_text (array ds) s h = absurd cc
 is_text (table ms) s h = absurd cc
 
-is_array : (d : Data) (ds : Items) → as_array d ≡ Some ds → d ≡ array ds
+pub is_array : (d : Data) (ds : Items) → as_array d ≡ Some ds → d ≡ array ds
 is_array (string t) s h = absurd cc
 is_array (integer y) s h = absurd cc
 is_array (float x) s h = absurd cc

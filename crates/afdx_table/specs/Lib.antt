@@ -6,6 +6,7 @@ pub mod Content
 pub mod Ports
 pub mod Links
 pub mod Top
+pub mod Room
 pub mod Text
 pub mod WellFormed
 pub mod Holds

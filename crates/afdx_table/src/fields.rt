@@ -1,12 +1,14 @@
 //! The fields of one TOML table.
 
-ghost use Rattle.std.specs.Prelude.{◌≡◌, ◌≤◌, Result, IfOk, map, option_map, string_bytes};
+ghost use Rattle.std.specs.Prelude.{◌≡◌, ◌≢◌, ◌≤◌, Result, Err, IfOk, IfErr, map, option_map, string_bytes};
 ghost use Rattle.std.specs.List.{list_all};
 ghost use Rattle.std.specs.Map.{keys_of};
 ghost use Rattle.toml.specs.Data.{get_member};
 ghost use Rattle.toml.specs.View.{view, table_view};
 ghost use Rattle.afdx_table.specs.Refusal.{Gives};
 ghost use Rattle.afdx_table.specs.Names.{key_text};
+ghost use Rattle.afdx_table.specs.Room.{HasItems};
+ghost use Rattle.afdx_table.specs.declared.fault.TableFault.TheVariants.{Memory};
 ghost use Rattle.afdx_table.specs.Fields.{bounded_natural, is_one_of, are_known, known_at, value_at, number_in, text_in, number_at, bounded, bounded_at, text_at, optional_number_at, optional_text_at, tables_at, all_bounded, numbers_at};
 
 use crate::arrays::{natural, naturals_of, tables_of};
@@ -39,7 +41,8 @@ fn are_known(keys: &[Key], table: &Table) -> bool
 /// The number that a value is.
 #[tactic(auto, unfolding(crate::specs::Fields::number_in))]
 fn number_in(at: At, key: Key, value: &Value) -> Result<u64, TableFault>
-    ensures { Gives (λ n. n) result (number_in at key (view value.now)) }
+    ensures number { Gives (λ n. n) result (number_in at key (view value.now)) }
+    ensures keeps_nothing { IfErr result (λ e. e ≢ Memory) }
 {
     let Some(number) = value.as_integer() else {
         return Err(TableFault::Kind(at, key));
@@ -50,7 +53,8 @@ fn number_in(at: At, key: Key, value: &Value) -> Result<u64, TableFault>
 /// The text that a value is.
 #[tactic(auto, unfolding(crate::specs::Fields::text_in))]
 fn text_in(at: At, key: Key, value: &Value) -> Result<&str, TableFault>
-    ensures { Gives (λ s. s.now) result (text_in at key (view value.now)) }
+    ensures text { Gives (λ s. s.now) result (text_in at key (view value.now)) }
+    ensures keeps_nothing { IfErr result (λ e. e ≢ Memory) }
 {
     value.as_str().ok_or(TableFault::Kind(at, key))
 }
@@ -59,6 +63,7 @@ fn text_in(at: At, key: Key, value: &Value) -> Result<&str, TableFault>
 #[tactic(auto, unfolding(crate::specs::Fields::bounded))]
 pub(crate) fn bounded(at: At, key: Key, low: u64, high: u64, number: u64) -> Result<u64, TableFault>
     ensures value { result ≡ bounded at key low high number }
+    ensures keeps_nothing { IfErr result (λ e. e ≢ Memory) }
     ensures within { IfOk result (λ n. n ≤ high) }
 {
     if low <= number && number <= high {
@@ -119,7 +124,8 @@ impl<'a> Fields<'a> {
     /// Refuses a key that is none of these.
     #[tactic(auto, unfolding(crate::specs::Fields::known_at))]
     pub(crate) fn known(&self, keys: &[Key]) -> Result<(), TableFault>
-        ensures { result ≡ known_at self.now.at keys.now (table_view self.now.table.now) }
+        ensures known { result ≡ known_at self.now.at keys.now (table_view self.now.table.now) }
+        ensures keeps_nothing { IfErr result (λ e. e ≢ Memory) }
     {
         if are_known(keys, self.table) {
             Ok(())
@@ -154,7 +160,8 @@ impl<'a> Fields<'a> {
     /// An optional number.
     #[tactic(auto, unfolding(crate::specs::Fields::optional_number_at))]
     pub(crate) fn optional_number(&self, key: Key) -> Result<Option<u64>, TableFault>
-        ensures { Gives (λ n. n) result (optional_number_at self.now.at key (table_view self.now.table.now)) }
+        ensures number { Gives (λ n. n) result (optional_number_at self.now.at key (table_view self.now.table.now)) }
+        ensures keeps_nothing { IfErr result (λ e. e ≢ Memory) }
     {
         let Some(value) = self.find(key) else {
             return Ok(None);
@@ -191,7 +198,8 @@ impl<'a> Fields<'a> {
     /// An optional text.
     #[tactic(auto, unfolding(crate::specs::Fields::optional_text_at))]
     pub(crate) fn optional_text(&self, key: Key) -> Result<Option<&'a str>, TableFault>
-        ensures { Gives (λ o. option_map (λ s. s.now) o) result (optional_text_at self.now.at key (table_view self.now.table.now)) }
+        ensures text { Gives (λ o. option_map (λ s. s.now) o) result (optional_text_at self.now.at key (table_view self.now.table.now)) }
+        ensures keeps_nothing { IfErr result (λ e. e ≢ Memory) }
     {
         let Some(value) = self.find(key) else {
             return Ok(None);
@@ -202,7 +210,8 @@ impl<'a> Fields<'a> {
     /// An optional array of tables.
     #[tactic(auto, unfolding(crate::specs::Fields::tables_at))]
     pub(crate) fn tables(&self, alloc: Global, key: Key) -> Result<Vec<&'a Table>, TableFault>
-        ensures { Gives (λ v. map (λ t. table_view t.now) v.items) result (tables_at self.now.at key (table_view self.now.table.now)) }
+        ensures tables { Gives (λ v. map (λ t. table_view t.now) v.items) result (tables_at self.now.at key (table_view self.now.table.now)) }
+        ensures memory { result ≡ Err Memory → HasItems key (table_view self.now.table.now) }
     {
         let Some(value) = self.find(key) else {
             return Ok(Vec::new(alloc));

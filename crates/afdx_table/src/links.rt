@@ -1,8 +1,9 @@
 //! The links of a table, in file order.
 
-ghost use Rattle.std.specs.Prelude.{◌≡◌, false, [], map, IfOk};
+ghost use Rattle.std.specs.Prelude.{◌≡◌, ◌<◌, false, [], length, map, Err, IfOk};
 ghost use Rattle.toml.specs.View.{table_view};
 ghost use Rattle.afdx_table.specs.Refusal.{Gives};
+ghost use Rattle.afdx_table.specs.declared.fault.TableFault.TheVariants.{Memory};
 ghost use Rattle.afdx_table.specs.Links.{has_link, targets, row_at, fitting, link_at, links_from};
 
 use crate::fault::{At, Key, TableFault};
@@ -108,7 +109,8 @@ pub(crate) fn read_links(
     ports: &[PortRow],
     tables: &[&Table],
 ) -> Result<Links, TableFault>
-    ensures { Gives (λ v. v) result (links_from ports.now 0 [] (map (λ t. table_view t.now) tables.now)) }
+    ensures links { Gives (λ v. v) result (links_from ports.now 0 [] (map (λ t. table_view t.now) tables.now)) }
+    ensures memory { result ≡ Err Memory → 0 < length tables.now }
 {
     let mut links = Links::new(alloc);
     for (index, table) in tables.iter().enumerate() {

@@ -1,9 +1,10 @@
 //! The ports of a table.
 
-ghost use Rattle.std.specs.Prelude.{◌≡◌, ◌≤◌, ◌==◌, nat_lt, find, option_copied, position, length, IfOk, [], map};
+ghost use Rattle.std.specs.Prelude.{◌≡◌, ◌<◌, ◌≤◌, ◌==◌, nat_lt, find, option_copied, position, length, Err, IfOk, [], map};
 ghost use Rattle.std.specs.List.{position_or_len};
 ghost use Rattle.toml.specs.View.{table_view};
 ghost use Rattle.afdx_table.specs.Refusal.{Gives};
+ghost use Rattle.afdx_table.specs.declared.fault.TableFault.TheVariants.{Memory};
 ghost use Rattle.afdx_table.specs.Ports.{has_port, with_port, port_at, ports_from};
 
 use crate::fault::{At, Key, TableFault};
@@ -75,7 +76,8 @@ fn read_port(fields: &Fields<'_>, before: &[PortRow]) -> Result<PortRow, TableFa
 /// The ports, by rising number.
 #[tactic(auto, unfolding(crate::specs::Ports::ports_from))]
 pub(crate) fn read_ports(alloc: Global, tables: &[&Table]) -> Result<Vec<PortRow>, TableFault>
-    ensures { Gives (λ v. v.items) result (ports_from 0 [] (map (λ t. table_view t.now) tables.now)) }
+    ensures ports { Gives (λ v. v.items) result (ports_from 0 [] (map (λ t. table_view t.now) tables.now)) }
+    ensures memory { result ≡ Err Memory → 0 < length tables.now }
 {
     let mut ports = Vec::new(alloc);
     for (index, table) in tables.iter().enumerate() {

@@ -1,11 +1,13 @@
 //! The table, and how it is read.
 
-ghost use Rattle.std.specs.Prelude.{◌≡◌, length, slice_get, option_copied, IfOk, IfSome};
+ghost use Rattle.std.specs.Prelude.{◌≡◌, length, slice_get, option_copied, Err, IfOk, IfSome};
 ghost use Rattle.toml.specs.View.{table_view};
 ghost use Rattle.afdx_table.specs.Refusal.{Gives};
 ghost use Rattle.afdx_table.specs.Content.{port_row, link_row, link_place};
 ghost use Rattle.afdx_table.specs.Text.{content_of, tree_of, table_of};
+ghost use Rattle.afdx_table.specs.Room.{WantsRoom, SaysSomething};
 ghost use Rattle.afdx_table.specs.WellFormed.{IsPort, IsLink, IsWellFormed};
+ghost use Rattle.afdx_table.specs.declared.fault.TableFault.TheVariants.{Memory};
 
 use crate::fault::TableFault;
 use crate::link_map::Links;
@@ -108,6 +110,7 @@ impl Table {
 #[tactic(auto, unfolding(crate::specs::Text::content_of))]
 fn read_tree(alloc: Global, tree: &Tree) -> Result<Table, TableFault>
     ensures table { Gives (λ t. t) result (content_of (table_view tree.now)) }
+    ensures memory { result ≡ Err Memory → WantsRoom (table_view tree.now) }
     ensures well_formed { IfOk result (λ t. IsWellFormed t) }
 {
     let top = read_top(alloc, tree)?;
@@ -123,9 +126,13 @@ fn read_tree(alloc: Global, tree: &Tree) -> Result<Table, TableFault>
 /// The tree that a text is.
 #[tactic(auto, using(crate::proofs::TextLemmas::no_tree, crate::proofs::TextLemmas::tree))]
 fn read_text(alloc: Global, bytes: &[u8]) -> Result<Tree, TableFault>
-    ensures { Gives (λ t. table_view t) result (tree_of bytes.now) }
+    ensures tree { Gives (λ t. table_view t) result (tree_of bytes.now) }
+    ensures memory { result ≡ Err Memory → SaysSomething bytes.now }
 {
-    match toml::table_from_slice(alloc, bytes) {
+    let Ok(text) = std::str::from_utf8(bytes) else {
+        return Err(TableFault::Toml);
+    };
+    match toml::table_from_str(alloc, text) {
         Ok(tree) => Ok(tree),
         Err(error) if error.is_memory() => Err(TableFault::Memory),
         Err(_) => Err(TableFault::Toml),
@@ -135,7 +142,7 @@ fn read_text(alloc: Global, bytes: &[u8]) -> Result<Tree, TableFault>
 /// Reads a configuration table, a text of TOML 1.1.
 ///
 /// The first refusal in this order stands, and `Memory` at the growth that was refused, before every test that comes
-/// later:
+/// later; never for bytes that are not UTF-8, nor for a text of white space and comments alone:
 ///
 /// 1. `Toml`: bytes that are not UTF-8, or a text that the library `toml` refuses for another cause than memory.
 /// 2. At the top: `UnknownKey`; of `version` `Kind`, `Range`; of `constant` `Kind`, `Constant`; of `port`, then of
@@ -151,6 +158,7 @@ fn read_text(alloc: Global, bytes: &[u8]) -> Result<Tree, TableFault>
 #[tactic(auto, unfolding(crate::specs::Text::table_of))]
 pub fn read(alloc: Global, bytes: &[u8]) -> Result<Table, TableFault>
     ensures table { Gives (λ t. t) result (table_of bytes.now) }
+    ensures memory { result ≡ Err Memory → SaysSomething bytes.now }
     ensures well_formed { IfOk result (λ t. IsWellFormed t) }
 {
     let tree = read_text(alloc, bytes)?;

@@ -1,9 +1,11 @@
 //! The top of a table.
 
-ghost use Rattle.std.specs.Prelude.{◌≡◌, map, option_map};
+ghost use Rattle.std.specs.Prelude.{◌≡◌, ◌≢◌, Err, IfErr, map, option_map};
 ghost use Rattle.hex.specs.Hex.{decode_sized};
 ghost use Rattle.toml.specs.View.{table_view};
 ghost use Rattle.afdx_table.specs.Refusal.{Gives};
+ghost use Rattle.afdx_table.specs.Room.{WantsRoom};
+ghost use Rattle.afdx_table.specs.declared.fault.TableFault.TheVariants.{Memory};
 ghost use Rattle.afdx_table.specs.Top.{at_most, version_from, group_address, constant_from, top_at};
 
 use crate::fault::{At, Key, TableFault};
@@ -23,7 +25,8 @@ pub(crate) struct Top<'a> {
 
 /// The version that is stated; a missing one is the first.
 fn version_from(stated: Option<u64>) -> Result<u64, TableFault>
-    ensures { Gives (λ n. n) result (version_from stated) }
+    ensures version { Gives (λ n. n) result (version_from stated) }
+    ensures keeps_nothing { IfErr result (λ e. e ≢ Memory) }
 {
     match stated {
         Some(version) => bounded(At::Top, Key::Version, 1, 1, version),
@@ -33,7 +36,8 @@ fn version_from(stated: Option<u64>) -> Result<u64, TableFault>
 
 /// The four bytes that a text is, of which the first has its two lowest bits set (ARINC 664 Part 7).
 fn group_address(text: &str) -> Result<[u8; 4], TableFault>
-    ensures { Gives (λ c. c) result (group_address (decode_sized text.now 4)) }
+    ensures constant { Gives (λ c. c) result (group_address (decode_sized text.now 4)) }
+    ensures keeps_nothing { IfErr result (λ e. e ≢ Memory) }
 {
     match <[u8; 4] as FromHex>::from_hex(text) {
         Ok(constant) if constant[0] % 4 == 3 => Ok(constant),
@@ -43,7 +47,8 @@ fn group_address(text: &str) -> Result<[u8; 4], TableFault>
 
 /// The constant field that is stated; a missing one is 03 00 00 00.
 fn constant_from(stated: Option<&str>) -> Result<[u8; 4], TableFault>
-    ensures { Gives (λ c. c) result (constant_from (option_map (λ s. s.now) stated.entry)) }
+    ensures constant { Gives (λ c. c) result (constant_from (option_map (λ s. s.now) stated.entry)) }
+    ensures keeps_nothing { IfErr result (λ e. e ≢ Memory) }
 {
     match stated {
         Some(text) => group_address(text),
@@ -54,7 +59,8 @@ fn constant_from(stated: Option<&str>) -> Result<[u8; 4], TableFault>
 /// Refuses more tables than these.
 #[tactic(auto, unfolding(crate::specs::Top::at_most))]
 fn at_most(limit: usize, key: Key, tables: &[&Tree]) -> Result<(), TableFault>
-    ensures { result ≡ at_most limit key (map (λ t. table_view t.now) tables.now) }
+    ensures tables { result ≡ at_most limit key (map (λ t. table_view t.now) tables.now) }
+    ensures keeps_nothing { IfErr result (λ e. e ≢ Memory) }
 {
     if tables.len() > limit {
         return Err(TableFault::TooMany(key));
@@ -65,11 +71,12 @@ fn at_most(limit: usize, key: Key, tables: &[&Tree]) -> Result<(), TableFault>
 /// The top.
 #[tactic(auto, unfolding(crate::specs::Top::top_at))]
 pub(crate) fn read_top<'a>(alloc: Global, tree: &'a Tree) -> Result<Top<'a>, TableFault>
-    ensures { Gives (λ t. record {
+    ensures top { Gives (λ t. record {
       constant = t.constant;
       ports = map (λ p. table_view p.now) t.ports.items;
       links = map (λ l. table_view l.now) t.links.items;
     }) result (top_at (table_view tree.now)) }
+    ensures memory { result ≡ Err Memory → WantsRoom (table_view tree.now) }
 {
     let fields = Fields {
         at: At::Top,
