@@ -19,7 +19,7 @@ use Rattle.afdx_load.proofs.SumLemmas.{load_none, all_counted}
 within_none : (port : ℕ) (rule : Rule) (limit need : ℕ) → need ≤ limit → past port rule limit need ≡ None
 within_none port rule limit need h = ap (λ (b : Bool). cond b (Some (record { port = port; rule = rule; need = need; limit = limit })) None) (le-ltb limit need h)
 
-some_none : (fault : LoadFault) → Some fault ≡ None → ⊥
+pub some_none : (fault : LoadFault) → Some fault ≡ None → ⊥
 some_none fault h = cc
 
 none_within : (port : ℕ) (rule : Rule) (limit need : ℕ) → past port rule limit need ≡ None → need ≤ limit
@@ -33,11 +33,11 @@ bound_none : (port : ℕ) (rule : Rule) (limit : ℕ) (need : Option ℕ) → If
 bound_none port rule limit None h = refl
 bound_none port rule limit (Some n) h = within_none port rule limit n h
 
-none_bound : (port : ℕ) (rule : Rule) (limit : ℕ) (need : Option ℕ) → past_bound port rule limit need ≡ None → IfSome need (λ n. n ≤ limit)
+pub none_bound : (port : ℕ) (rule : Rule) (limit : ℕ) (need : Option ℕ) → past_bound port rule limit need ≡ None → IfSome need (λ n. n ≤ limit)
 none_bound port rule limit None h = tt
 none_bound port rule limit (Some n) h = none_within port rule limit n h
 
-or_none : (a b : Option LoadFault) → option_or a b ≡ None → (a ≡ None) × (b ≡ None)
+pub or_none : (a b : Option LoadFault) → option_or a b ≡ None → (a ≡ None) × (b ≡ None)
 or_none None b h = (refl, h)
 or_none (Some x) b h = absurd cc
 

@@ -5,3 +5,4 @@ pub mod ShareLemmas
 pub mod FaultLemmas
 pub mod LawLemmas
 pub mod SlotLemmas
+pub mod FirstLemmas

@@ -11,7 +11,7 @@ use Rattle.afdx_table.specs.WellFormed.{IsPort, Rises}
 use Rattle.afdx_load.specs.Sums.{Sums, load_of, port_load}
 use Rattle.afdx_load.specs.Slots.{speed_at, AreLoads}
 
-any_default : (rows : List PortRow) (i : ℕ) (d e : PortRow) → i < length rows → get_or rows i d ≡ get_or rows i e
+pub any_default : (rows : List PortRow) (i : ℕ) (d e : PortRow) → i < length rows → get_or rows i d ≡ get_or rows i e
 any_default [] i d e h = absurd (omega arith)
 any_default (row ∷ rows) zero d e h = refl
 any_default (row ∷ rows) (suc i) d e h = any_default rows i d e (omega arith)
@@ -19,7 +19,7 @@ any_default (row ∷ rows) (suc i) d e h = any_default rows i d e (omega arith)
 above : (id : ℕ) (rows : List PortRow) (j : ℕ) (e : PortRow) → AllByRecursion (λ q. id < q.id) rows → j < length rows → id < (get_or rows j e).id
 above id rows j e h within = All-from_recursion (λ q. id < q.id) rows h j e within
 
-rise : (rows : List PortRow) (i j : ℕ) (d e : PortRow) → Rises rows → i < j → j < length rows → (get_or rows i d).id < (get_or rows j e).id
+pub rise : (rows : List PortRow) (i j : ℕ) (d e : PortRow) → Rises rows → i < j → j < length rows → (get_or rows i d).id < (get_or rows j e).id
 rise [] i j d e h lt within = absurd (omega arith)
 rise (row ∷ rows) zero zero d e h lt within = absurd (omega arith)
 rise (row ∷ rows) (suc i) zero d e h lt within = absurd (omega arith)

@@ -4,4 +4,5 @@ pub mod Bounds
 pub mod Accepted
 pub mod Small
 pub mod Slots
+pub mod First
 pub mod Laws

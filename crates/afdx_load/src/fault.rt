@@ -1,5 +1,7 @@
 //! What a check refuses.
 
+use thiserror::Error;
+
 /// The rules that a port's load keeps (profile).
 #[derive(Clone, Copy, Debug, PartialEq, Eq)]
 pub enum Rule {
@@ -17,7 +19,10 @@ pub enum Rule {
 ///
 /// Of `Rate` both are in parts of the line, of which it has 2,048,000,000. Of `Buffer` they are the line times of what
 /// may wait and of the buffer, in the 2,048,000,000th part of a nanosecond. Of the two delays they are in nanoseconds.
-#[derive(Clone, Copy, Debug, PartialEq, Eq)]
+///
+/// It is printed as the name of its rule, with the port, the need and the limit: `Buffer, port 2, need 9, limit 8`.
+#[derive(Clone, Copy, Debug, PartialEq, Eq, Error)]
+#[error("{rule:?}, port {port}, need {need}, limit {limit}")]
 pub struct LoadFault {
     /// The number of the port, from 1 to 24.
     pub port: u8,

@@ -1,6 +1,7 @@
 //! Laws over the definitions: functions that do nothing, whose contracts are the laws.
 
 ghost use Rattle.afdx_load.specs.Laws.{FactorCoversOverhead, AsksWhatItsAccountGives, SumsTakeEachLinkOnce, LongestShowsLinks, HighLinksLeaveAPart, AcceptedMeansNoFault, AcceptedKeepsBounds};
+ghost use Rattle.afdx_load.specs.First.{FaultIsTheFirst};
 
 /// The factor 21/16 of a link's rate covers the line time of frames exactly from 64 bytes on.
 pub fn factor_covers_overhead()
@@ -30,6 +31,12 @@ pub fn high_links_leave_a_part()
 /// A table is accepted exactly where it has no fault.
 pub fn accepted_means_no_fault()
     ensures { AcceptedMeansNoFault }
+{}
+
+/// The fault of a table is the one whose rule is broken at its port, while no rule before it is there, and no rule at a port
+/// of a lower number.
+pub fn fault_is_the_first()
+    ensures { FaultIsTheFirst }
 {}
 
 /// In an accepted table each port keeps its two bounds.

@@ -108,3 +108,24 @@ fn first_fault_stands(rt: HostRuntime) -> Result<(), Fail> {
     assert_eq!(rt; table.link(0).map(|link| link.to.len()), Some(2));
     Ok(())
 }
+
+/// The message of a fault begins with the name of its rule.
+#[test]
+fn messages(rt: HostRuntime) -> Result<(), Fail> {
+    for (rule, message) in [
+        (Rule::Rate, "Rate, port 2, need 9, limit 8"),
+        (Rule::Buffer, "Buffer, port 2, need 9, limit 8"),
+        (Rule::HighDelay, "HighDelay, port 2, need 9, limit 8"),
+        (Rule::LowDelay, "LowDelay, port 2, need 9, limit 8"),
+    ] {
+        let fault = LoadFault {
+            port: 2,
+            rule,
+            need: 9,
+            limit: 8,
+        };
+        let printed = format!(in rt.alloc(); "{fault}")?;
+        assert_eq!(rt; printed.as_str(), message);
+    }
+    Ok(())
+}
