@@ -123,6 +123,11 @@ def network_without_port_3(folder):
     os.remove(f"{folder}/raw/port-3.pcap")
 
 
+def network_broken_off(folder):
+    of_network(unchanged)(folder)
+    os.truncate(f"{folder}/raw/port-2.pcap", 5000)
+
+
 def network_with_clocks_apart(folder):
     of_network(late_at_port_2)(folder)
     mark = frame(100, 200)
@@ -174,6 +179,7 @@ RECORDINGS = {
     "networks_a_and_b_in_one_capture": of_network(with_network_b),
     "a_port_that_only_sends": network_without_port_3,
     "frames_out_of_order": of_network(two_exchanged),
+    "a_recording_that_breaks_off": network_broken_off,
     "frames_with_their_check_sequence": of_network(with_check_sequence),
     "clocks_that_stand_apart": network_with_clocks_apart,
     "a_clock_that_drifts": one_link(20, [number * 999_950 for number in range(1000)]),

@@ -1,8 +1,6 @@
 #!/usr/bin/env python3
 """Writes a capture of standard input to standard output with other stamps.
 
-usage: restamp.py [--ppb N] [--tick NS] <capture >changed
-
 --ppb N     the recorder's clock is slow by N parts in 10^9 (fast where N is negative): the time since the first frame
             is made longer by as much
 --tick NS   the stamps are those of the frames' starts: each is made later by NS nanoseconds for each byte of its frame
@@ -36,7 +34,7 @@ def restamped(capture, ppb, tick):
 
 
 if __name__ == "__main__":
-    words = argparse.ArgumentParser(usage=__doc__)
+    words = argparse.ArgumentParser(description=__doc__, formatter_class=argparse.RawDescriptionHelpFormatter)
     words.add_argument("--ppb", type=int, default=0)
     words.add_argument("--tick", type=int, default=0)
     asked = words.parse_args()
