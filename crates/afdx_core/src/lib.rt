@@ -11,6 +11,7 @@
 //! has the program's merge, and what ports are offered of each link.
 #![tactic(auto)]
 
+mod dues;
 mod engine;
 mod kinds;
 pub mod laws;
