@@ -24,7 +24,7 @@ cannot_write() {
 
 # lacks_memory: a table file that is larger than the memory that the program may have.
 lacks_memory() (
-    head -c 100000000 /dev/zero >large.toml
+    truncate -s 100M large.toml
     ulimit -v 60000
     ends 5 "afdx: memory" /dev/null check large.toml
 )
