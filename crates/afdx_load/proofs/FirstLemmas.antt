@@ -1,5 +1,5 @@
 -- The fault of a table is the first, by port and by rule.
-use Rattle.std.proofs.Common.{◌≡◌, ◌⊎◌, ℕ, ◌≤◌, ◌<◌, List, [], ◌∷◌, length, get_or, Option, Some, None, refl, sym, ap, ◌∙◌, subst, arith, inl, inr, cond, nat_eq, nat_lt}
+use Rattle.std.proofs.Common.{◌≡◌, ◌⊎◌, ℕ, ◌≤◌, ◌<◌, List, [], ◌∷◌, get_or, Option, Some, None, refl, sym, ap, ◌∙◌, subst, arith, inl, inr, cond, nat_eq, nat_lt}
 use Rattle.std.specs.Prelude.{All, Contains, IfSome}
 use Rattle.std.specs.Option.{option_or}
 use Rattle.std.proofs.lemmas.Bool.{cases_Bool, cases_lt, ltb-true}
@@ -12,7 +12,7 @@ use Rattle.afdx_load.specs.declared.fault.Rule.{Rule}
 use Rattle.afdx_load.specs.declared.fault.Rule.TheVariants.{Rate, Buffer, HighDelay, LowDelay}
 use Rattle.afdx_load.specs.declared.fault.LoadFault.{LoadFault}
 use Rattle.afdx_load.specs.Sums.{Sums, load_of}
-use Rattle.afdx_load.specs.Accepted.{past, past_bound, fault_at, first_fault}
+use Rattle.afdx_load.specs.Accepted.{past_bound, fault_at, first_fault}
 use Rattle.afdx_load.specs.First.{need_of, limit_of, place_of, IsFirstFault, FaultIsTheFirst}
 use Rattle.afdx_load.proofs.SlotLemmas.{any_default, rise}
 use Rattle.afdx_load.proofs.FaultLemmas.{none_bound, or_none, some_none}
@@ -23,7 +23,7 @@ use Rattle.afdx_load.proofs.FaultLemmas.{none_bound, or_none, some_none}
 abbrev Broken : PortRow → Sums → Rule → Type 0
 Broken row s rule = (need : ℕ) × (need_of rule s ≡ Some need) × (limit_of rule row < need)
 
-past_rule : PortRow → Sums → Rule → Option LoadFault
+abbrev past_rule : PortRow → Sums → Rule → Option LoadFault
 past_rule row s rule = past_bound row.id rule (limit_of rule row) (need_of rule s)
 
 record Says (port : ℕ) (rule : Rule) (limit : ℕ) (need : Option ℕ) (f : LoadFault) : Type 0 where
@@ -90,29 +90,43 @@ first_by row s rule f h none =
 
 first_at : (row : PortRow) (s : Sums) (f : LoadFault) → fault_at row s ≡ Some f → IsFirstAt row s f
 unfolding fault_at
-first_at row s f h = elim (some_or _ _ f h) [
-  | inl early ↦ elim (some_or _ _ f early) [
-      | inl earlier ↦ elim (some_or _ _ f earlier) [
-          | inl rate ↦ first_by row s Rate f rate (before row s Rate (λ lt. absurd (omega arith)) (λ lt. absurd (omega arith)) (λ lt. absurd (omega arith)))
-          | inr buffer ↦ first_by row s Buffer f buffer.1 (before row s Buffer (λ lt. kept row s Rate buffer.0) (λ lt. absurd (omega arith)) (λ lt. absurd (omega arith)))
-        ]
-      | inr high ↦
-          let fine = or_none _ _ high.0 in
-          first_by row s HighDelay f high.1 (before row s HighDelay (λ lt. kept row s Rate fine.0) (λ lt. kept row s Buffer fine.1) (λ lt. absurd (omega arith)))
-    ]
-  | inr low ↦
-      let fine = or_none _ _ low.0 in
-      let finer = or_none _ _ fine.0 in
-      first_by row s LowDelay f low.1 (before row s LowDelay (λ lt. kept row s Rate finer.0) (λ lt. kept row s Buffer finer.1) (λ lt. kept row s HighDelay fine.1))
-]
+first_at row s f h =
+    let a : Option LoadFault = past_rule row s Rate in
+    let b : Option LoadFault = past_rule row s Buffer in
+    let c : Option LoadFault = past_rule row s HighDelay in
+    let d : Option LoadFault = past_rule row s LowDelay in
+    by_place a b c d refl refl refl refl (some_or (option_or (option_or a b) c) d f h)
+  where
+    by_first : (a b : Option LoadFault) → a ≡ past_rule row s Rate → b ≡ past_rule row s Buffer → (a ≡ Some f) ⊎ ((a ≡ None) × (b ≡ Some f)) → IsFirstAt row s f
+    by_first a b ea eb (inl rate) = first_by row s Rate f (sym ea ∙ rate) (before row s Rate (λ lt. absurd (omega (arith, lt))) (λ lt. absurd (omega (arith, lt))) (λ lt. absurd (omega (arith, lt))))
+    by_first a b ea eb (inr buffer) = first_by row s Buffer f (sym eb ∙ buffer.1) (before row s Buffer (λ lt. kept row s Rate (sym ea ∙ buffer.0)) (λ lt. absurd (omega (arith, lt))) (λ lt. absurd (omega (arith, lt))))
+
+    by_third : (a b c : Option LoadFault) → a ≡ past_rule row s Rate → b ≡ past_rule row s Buffer → c ≡ past_rule row s HighDelay
+        → (option_or a b ≡ Some f) ⊎ ((option_or a b ≡ None) × (c ≡ Some f)) → IsFirstAt row s f
+    by_third a b c ea eb ec (inl early) = by_first a b ea eb (some_or a b f early)
+    by_third a b c ea eb ec (inr high) =
+        let fine = or_none a b high.0 in
+        first_by row s HighDelay f (sym ec ∙ high.1) (before row s HighDelay (λ lt. kept row s Rate (sym ea ∙ fine.0)) (λ lt. kept row s Buffer (sym eb ∙ fine.1)) (λ lt. absurd (omega (arith, lt))))
+
+    by_place : (a b c d : Option LoadFault) → a ≡ past_rule row s Rate → b ≡ past_rule row s Buffer → c ≡ past_rule row s HighDelay → d ≡ past_rule row s LowDelay
+        → (option_or (option_or a b) c ≡ Some f) ⊎ ((option_or (option_or a b) c ≡ None) × (d ≡ Some f)) → IsFirstAt row s f
+    by_place a b c d ea eb ec ed (inl early) = by_third a b c ea eb ec (some_or (option_or a b) c f early)
+    by_place a b c d ea eb ec ed (inr low) =
+        let fine = or_none (option_or a b) c low.0 in
+        let finer = or_none a b fine.0 in
+        first_by row s LowDelay f (sym ed ∙ low.1) (before row s LowDelay (λ lt. kept row s Rate (sym ea ∙ finer.0)) (λ lt. kept row s Buffer (sym eb ∙ finer.1)) (λ lt. kept row s HighDelay (sym ec ∙ fine.1)))
 
 none_broken : (row : PortRow) (s : Sums) → fault_at row s ≡ None → (rule : Rule) → Broken row s rule → ⊥
 unfolding fault_at
 none_broken row s h rule =
-    let d = or_none _ _ h in
-    let c = or_none _ _ d.0 in
-    let b = or_none _ _ c.0 in
-    by rule b.0 b.1 c.1 d.1
+    let a : Option LoadFault = past_rule row s Rate in
+    let b : Option LoadFault = past_rule row s Buffer in
+    let c : Option LoadFault = past_rule row s HighDelay in
+    let d : Option LoadFault = past_rule row s LowDelay in
+    let early = or_none (option_or (option_or a b) c) d h in
+    let earlier = or_none (option_or a b) c early.0 in
+    let first = or_none a b earlier.0 in
+    by rule first.0 first.1 earlier.1 early.1
   where
     by : (rule : Rule) → past_rule row s Rate ≡ None → past_rule row s Buffer ≡ None → past_rule row s HighDelay ≡ None → past_rule row s LowDelay ≡ None → Broken row s rule → ⊥
     by Rate p q r t = kept row s Rate p
@@ -139,12 +153,12 @@ first_in : (links : List Link) (rows : List PortRow) (f : LoadFault) → Rises r
 first_in links [] f rises h = absurd (some_none f (sym h))
 first_in links (row ∷ rows) f rises h = elim (some_or (fault_at row (load_at links row)) (first_fault links rows) f h) [
   | inl now ↦ record {
-      row = row;
-      is_port = (0, omega arith, refl);
-      here = first_at row (load_at links row) f now;
-      lower = All-cons (IsFineBelow links row.id) row rows (λ lt. absurd (omega (arith, lt)))
+    row = row;
+    is_port = (0, omega arith, refl);
+    here = first_at row (load_at links row) f now;
+    lower = All-cons (IsFineBelow links row.id) row rows (λ lt. absurd (omega (arith, lt)))
         (λ k d within lt. absurd (let above = All-from_recursion (λ (q : PortRow). row.id < q.id) rows rises.0 k d within in omega (arith, above, lt)));
-    }
+  }
   | inr later ↦
       let rest = first_in links rows f rises.1 later.1 in
       record {
@@ -180,11 +194,11 @@ one_port rows a b rises x y same =
     elim (cases_lt x.0 y.0) [
       | inl lt ↦ absurd (let up = rise rows x.0 y.0 a b rises lt y.1 in omega (arith, up, first, second, same))
       | inr le ↦ elim (cases_lt y.0 x.0) [
-          | inl lt ↦ absurd (let up = rise rows y.0 x.0 b a rises lt x.1 in omega (arith, up, first, second, same))
-          | inr ge ↦
-              let place : x.0 ≡ y.0 = omega (arith, le, ge) in
-              sym x.2 ∙ any_default rows x.0 a b x.1 ∙ ap (λ i. get_or rows i b) place ∙ y.2
-        ]
+        | inl lt ↦ absurd (let up = rise rows y.0 x.0 b a rises lt x.1 in omega (arith, up, first, second, same))
+        | inr ge ↦
+            let place : x.0 ≡ y.0 = omega (arith, le, ge) in
+            sym x.2 ∙ any_default rows x.0 a b x.1 ∙ ap (λ i. get_or rows i b) place ∙ y.2
+      ]
     ]
 
 rule_at : ℕ → Rule

@@ -22,9 +22,9 @@ unfolding head_at
 wants ms known stated version text constant h1 h2 h3 h4 h5 rows = (
   constant,
   answers (known_at place.Top top_keys ms) _ h1
-  (answers (optional_number_at place.Top key.Version ms) _ h2
-  (answers (version_from stated) _ h3
-  (answers (optional_text_at place.Top key.Constant ms) _ h4 h5))),
+      (answers (optional_number_at place.Top key.Version ms) _ h2
+      (answers (version_from stated) _ h3
+      (answers (optional_text_at place.Top key.Constant ms) _ h4 h5))),
   rows,
 )
 
@@ -49,8 +49,8 @@ top_wants ms top h some =
     let new : Top = record { constant = s5.value; ports = s6.value; links = s7.value } in
     let same : new ≡ top = ok_inside new top s9.rest in
     let rows : (t : Top) → new ≡ t → (0 < length t.ports) ⊎ (0 < length t.links) → HasRows ms = λ t e has.
-      has_rows ms s6.value s7.value (tables_at-says place.Top key.Port ms s6.value s6.first) (tables_at-says place.Top key.Link ms s7.value s7.first)
-      (subst (λ (u : Top). (0 < length u.ports) ⊎ (0 < length u.links)) (sym e) has) in
+    has_rows ms s6.value s7.value (tables_at-says place.Top key.Port ms s6.value s6.first) (tables_at-says place.Top key.Link ms s7.value s7.first)
+    (subst (λ (u : Top). (0 < length u.ports) ⊎ (0 < length u.links)) (sym e) has) in
     wants ms s1.value s2.value s3.value s4.value s5.value s1.first s2.first s3.first s4.first s5.first (rows top same some)
   where
     has_rows : (ms : Members) (ports links : List Members) → HasTables ms key.Port ports → HasTables ms key.Link links → (0 < length ports) ⊎ (0 < length links) → HasRows ms

@@ -1,5 +1,5 @@
 -- What was read under a key stands there.
-use Rattle.std.proofs.Common.{◌≡◌, ◌⊎◌, ◌==◌, ℕ, ℤ, pos, negsuc, Bool, true, List, [], ◌∷◌, find, Option, Some, None, option_map, option_and_then, Result, Ok, Err, refl, sym, ap, ◌∙◌, subst, inl, inr, arith}
+use Rattle.std.proofs.Common.{◌≡◌, ◌⊎◌, ◌==◌, ℕ, ℤ, pos, negsuc, Bool, true, List, [], ◌∷◌, find, Option, Some, None, option_map, option_and_then, Result, Ok, refl, sym, ap, ◌∙◌, subst, inl, inr, arith}
 use Rattle.std.specs.Str.{bytes_eq}
 use Rattle.std.specs.Prelude.{codes}
 use Rattle.std.proofs.lemmas.Bool.{cases_Bool}
@@ -15,9 +15,9 @@ use Rattle.afdx_units.specs.declared.line.Priority.TheVariants.{High, Low}
 use Rattle.afdx_table.specs.declared.fault.At.{At}
 use Rattle.afdx_table.specs.declared.fault.Key.{Key}
 use Rattle.afdx_table.specs.declared.fault.TableFault.{TableFault}
-use Rattle.afdx_table.specs.declared.fault.TableFault.TheVariants.{MissingKey, Kind, Range, UnknownKey}
+use Rattle.afdx_table.specs.declared.fault.TableFault.TheVariants.{MissingKey, Kind, Range}
 use Rattle.afdx_table.specs.Names.{key_text, speed_of, bags, bag_of, priority_of}
-use Rattle.afdx_table.specs.Refusal.{◌>>=◌, or_refuse}
+use Rattle.afdx_table.specs.Refusal.{or_refuse}
 use Rattle.afdx_table.specs.Fields.{natural_of, are_known, known_at, all_of, value_at, number_in, text_in, number_at, bounded, bounded_at, text_at, if_present, optional_number_at, optional_text_at, tables_in, tables_at, as_natural, bounded_natural, all_bounded, numbers_at}
 use Rattle.afdx_table.specs.Holds.{Has, HasNone, HasNumber, HasText, number_items, HasNumbers, table_items, HasTables, mbit_of, priority_text}
 use Rattle.afdx_table.proofs.Steps.{steps, ok_inside}
@@ -271,10 +271,10 @@ priority-says text priority h = elim (cases_Bool (bytes_eq text (codes "high")))
       let same : High ≡ priority = cc in
       (bytes_eq-Decides text (codes "high")).0 high ∙ ap priority_text same
   | inr not_high ↦ elim (cases_Bool (bytes_eq text (codes "low"))) [
-      | inl low ↦
-          let g : Some Low ≡ Some priority = rw (not_high, low) at h in
-          let same : Low ≡ priority = cc in
-          (bytes_eq-Decides text (codes "low")).0 low ∙ ap priority_text same
-      | inr not_low ↦ let g = rw (not_high, not_low) at h in absurd cc
+    | inl low ↦
+        let g : Some Low ≡ Some priority = rw (not_high, low) at h in
+        let same : Low ≡ priority = cc in
+        (bytes_eq-Decides text (codes "low")).0 low ∙ ap priority_text same
+    | inr not_low ↦ let g = rw (not_high, not_low) at h in absurd cc
   ]
 ]

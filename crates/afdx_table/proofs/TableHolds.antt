@@ -108,8 +108,8 @@ row_at-says at ms row h =
       jitter = (s7.value, bounded_at-says at key.Jitter 0 10000 ms s7.value s7.first, refl);
       max_size = bounded_at-says at key.MaxSize 64 1518 ms s8.value s8.first;
       priority =
-        text_at-says at key.Priority ms s9.value s9.first
-        ∙ ap (λ text. Some (string text)) (priority-says s9.value s10.value (there (Range at key.Priority) (priority_of s9.value) s10.value s10.first));
+          text_at-says at key.Priority ms s9.value s9.first
+          ∙ ap (λ text. Some (string text)) (priority-says s9.value s10.value (there (Range at key.Priority) (priority_of s9.value) s10.value s10.first));
       no_other = known_at-says at link_keys ms s1.value s1.first;
     } in
     subst (IsLinkOf ms) {x = new} (ok_inside new row s10.rest) says

@@ -1,5 +1,5 @@
 -- Texts that are a tree, and bytes that are none.
-use Rattle.std.proofs.Common.{◌≡◌, ◌==◌, ℕ, true, List, Some, None, Result, Ok, Err, refl, sym, inl, inr}
+use Rattle.std.proofs.Common.{◌≡◌, ◌==◌, ℕ, true, List, Some, None, Ok, Err, refl, sym, inl, inr}
 use Rattle.std.specs.Str.{IsUtf8, is_utf8}
 use Rattle.std.proofs.lemmas.Str.{IsUtf8-from_is_utf8, is_utf8-from_IsUtf8}
 use Rattle.std.proofs.lemmas.Bool.{cases_Bool}
