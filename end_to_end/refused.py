@@ -1,0 +1,71 @@
+#!/usr/bin/env python3
+"""Runs a program with each of its allocations refused in turn.
+
+usage: refused.py LIBRARY STATUS LINE INPUT OUTPUT PROGRAM WORD..
+
+LIBRARY is refuse.c, built. Without a refusal the program, which reads INPUT and writes to OUTPUT (- is a pipe), ends with STATUS
+and, on standard error, LINE. With the Nth allocation refused, for each N until none is, it answers the same: status, both streams and the files of the folder
+`out`; or its status is 5, standard error is `afdx: memory`, nothing is on standard output, and of the files those before the last
+one are the right ones. Prints how many allocations were refused.
+"""
+import os
+import shutil
+import subprocess
+import sys
+
+WANT = (5, b"", b"afdx: memory\n")
+
+
+def files():
+    """What stands in the folder `out`, by rising port number."""
+    names = sorted(os.listdir("out"), key=lambda name: int(name.strip("port-.ca")))
+    found = {}
+    for name in names:
+        with open(f"out/{name}", "rb") as file:
+            found[name] = file.read()
+    return found
+
+
+def answer(library, number, source, sink, words):
+    """Status, standard output, standard error, files; and whether an allocation was refused."""
+    shutil.rmtree("out", ignore_errors=True)
+    os.mkdir("out")
+    told, tell = os.pipe()
+    os.dup2(tell, 9)
+    os.close(tell)
+    reads = os.open(source, os.O_RDONLY)
+    writes = subprocess.PIPE if sink == "-" else os.open(sink, os.O_WRONLY)
+    done = subprocess.run(words, stdin=reads, stdout=writes, stderr=subprocess.PIPE, pass_fds=[9], check=False,
+                          env={**os.environ, "LD_PRELOAD": library, "REFUSE": str(number)})
+    for file in [9, reads] + [writes] * (sink != "-"):
+        os.close(file)
+    refused = os.read(told, 1) == b"!"
+    os.close(told)
+    return (done.returncode, done.stdout or b"", done.stderr), files(), refused
+
+
+def are_a_front(found, right):
+    """Whether the files are the first of those that are right, but that of the last one nothing is asked."""
+    names = list(found)
+    return names == list(right)[:len(names)] and all(found[name] == right[name] for name in names[:-1])
+
+
+def main(library, status, line, source, sink, *words):
+    right, right_files, refused = answer(library, 0, source, sink, words)
+    if refused or right[0] != int(status) or right[2].decode() != (line + "\n" if line else ""):
+        sys.exit(f"without a refusal: status {right[0]}, {right[2]}")
+    number = 0
+    while True:
+        number += 1
+        said, found, refused = answer(library, number, source, sink, words)
+        is_right = said == right and found == right_files
+        wants = refused and said == WANT and are_a_front(found, right_files)
+        if not is_right and not wants:
+            sys.exit(f"allocation {number}: status {said[0]}, {said[2]}, {len(said[1])} bytes, files {list(found)}")
+        if not refused:
+            print(f"{number - 1} allocations refused")
+            return
+
+
+if __name__ == "__main__":
+    main(*sys.argv[1:])
