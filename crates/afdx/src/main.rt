@@ -27,7 +27,7 @@ fn main(rt: HostRuntime) -> ExitCode {
             &mut rt.stdin(),
             &mut rt.stdout(),
             &mut err,
-            &mut Disk::new(&rt),
+            &mut Disk::new(rt.alloc(), &rt),
         ),
         Err(failure) => report(rt.alloc(), &failure, &mut err),
     };

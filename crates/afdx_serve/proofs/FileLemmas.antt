@@ -10,7 +10,7 @@ use Rattle.afdx_session.specs.Texts.{Text, texts_of}
 use Rattle.afdx_table.specs.Content.{Content}
 use Rattle.afdx_serve.specs.declared.failure.Failure.{Failure}
 use Rattle.afdx_serve.specs.declared.failure.Failure.TheVariants as failure
-use Rattle.afdx_serve.specs.Files.{Files, with_file, with_files, Shows, ShowsAll, KeepsFiles, KeepsOthers, PutsFile, PutsFiles, one_more}
+use Rattle.afdx_serve.specs.Files.{Files, with_file, with_files, Shows, ShowsAll, KeepsFiles, KeepsOthers, PutsFile, PutsFiles, DeviceLog, one_more}
 use Rattle.afdx_serve.specs.Runs.{capture_name, names_in, bytes_of, GetsUpTo, port_names, StopsAt, FailsToGet, FailsToGetAll, FailsToPutOne, FailsToPut}
 
 -- ---- files that stay
@@ -83,10 +83,10 @@ PutsFiles-nil (Some f) = λ q. refl
 -- ---- failures
 
 -- a capture was not got
-pub not_got : (f : Failure) (files : Option Files) (path name : List ℕ) (t : Content) (first before after : ℕ) → before ≡ first → FailsToGet f name before after
+pub not_got : (f : Failure) (files : Option Files) (path name : List ℕ) (t : Content) (first before after : DeviceLog) → before ≡ first → FailsToGet f name before after
     → GetsUpTo name files path t → FailsToGetAll f files path t first after
 not_got (failure.Get s) files path name t first before after same fails upto =
-    (subst (λ (n : List ℕ). GetsUpTo n files path t) (sym fails.0) upto, fails.1 ∙ ap one_more same)
+    subst (λ (n : List ℕ). GetsUpTo n files path t × (after ≡ one_more n first)) (sym fails.0) (upto, fails.1 ∙ ap (one_more name) same)
 not_got failure.Memory files path name t first before after same fails upto = tt
 not_got failure.Usage files path name t first before after same fails upto = absurd fails
 not_got (failure.Table r) files path name t first before after same fails upto = absurd fails
@@ -98,10 +98,10 @@ not_got failure.Read files path name t first before after same fails upto = absu
 not_got failure.Write files path name t first before after same fails upto = absurd fails
 
 -- a file was not put
-pub not_put : (f : Failure) (name : List ℕ) (names all : List (List ℕ)) (old new : Option Files) (first before after : ℕ) → before ≡ first → FailsToPutOne f name before after
+pub not_put : (f : Failure) (name : List ℕ) (names all : List (List ℕ)) (old new : Option Files) (first before after : DeviceLog) → before ≡ first → FailsToPutOne f name before after
     → StopsAt name names all old new → FailsToPut f names all old new first after
 not_put (failure.Put s) name names all old new first before after same fails stops =
-    (subst (λ (n : List ℕ). StopsAt n names all old new) (sym fails.0) stops, fails.1 ∙ ap one_more same)
+    subst (λ (n : List ℕ). StopsAt n names all old new × (after ≡ one_more n first)) (sym fails.0) (stops, fails.1 ∙ ap (one_more name) same)
 not_put failure.Memory name names all old new first before after same fails stops = (name, stops)
 not_put failure.Usage name names all old new first before after same fails stops = absurd fails
 not_put (failure.Table r) name names all old new first before after same fails stops = absurd fails

@@ -1,5 +1,5 @@
 -- What a run did, and why it was not done.
-use Rattle.std.proofs.Common.{◌≡◌, ℕ, List, Option, Result, Ok, Err, sym, ap, subst, ◌∙◌, inr}
+use Rattle.std.proofs.Common.{◌≡◌, ℕ, Bool, true, false, not, List, Option, Result, Ok, Err, sym, ap, subst, ◌∙◌, inr}
 use Rattle.std.specs.Prelude.{MatchResult, IsErr, IsErrAnd}
 use Rattle.std.proofs.Common.{map, length, Vec, String, Global}
 use Rattle.std.specs.Prelude.{string_bytes}
@@ -7,10 +7,11 @@ use Rattle.std.proofs.lemmas.List.{length-map}
 use Rattle.afdx_table.specs.Content.{Content}
 use Rattle.afdx_session.specs.Texts.{Text, texts_of}
 use Rattle.afdx_session.specs.Outcome.{Results, IsOutcome}
+use Rattle.afdx_session.specs.Headline.{IsIsolated}
 use Rattle.afdx_words.specs.declared.request.Paths.{Paths}
 use Rattle.afdx_serve.specs.declared.failure.Failure.{Failure}
 use Rattle.afdx_serve.specs.declared.failure.Failure.TheVariants as failure
-use Rattle.afdx_serve.specs.Files.{Files, KeepsFiles, PutsFiles, one_more}
+use Rattle.afdx_serve.specs.Files.{Files, DeviceLog, KeepsFiles, PutsFiles, one_more}
 use Rattle.afdx_serve.specs.Runs.{LeadsTo, names_in, bytes_of, FailsToPut, FailsToRun, HasPlan, HasCaptures, FailsToGetAll, FailsToGather, FailsToLead, capture_name}
 use Rattle.std.specs.Io.KnownBytes.{Keeps}
 use Rattle.afdx_serve.specs.Serving.{world, PutsResults, FailsToRunAll}
@@ -21,9 +22,9 @@ pub of_error : {T E : Type 0} (r : Result T E) (P : T → Type 0) (Q : E → Typ
 of_error (Ok x) P Q e h q = absurd h.1
 of_error (Err x) P Q e h q = subst Q (sym h.1) q
 
-module _ (paths : Paths) (results : Results) (a b c : Option Files) (first before after : ℕ) (leads : LeadsTo paths a results) (keeps : KeepsFiles a b) (same : before ≡ first) where
+module _ (paths : Paths) (results : Results) (a b c : Option Files) (first before after : DeviceLog) (leads : LeadsTo paths a results) (keeps : KeepsFiles a b) (same : before ≡ first) where
   not_all_put : (f : Failure) → FailsToPut f (names_in paths.output.now results.captures) (bytes_of results.captures) b c before after → FailsToRun f paths a c first after
-  not_all_put (failure.Put name) h = ((results, leads, StopsAt-before _ _ _ a b c keeps h.0), h.1 ∙ ap one_more same)
+  not_all_put (failure.Put name) h = ((results, leads, StopsAt-before _ _ _ a b c keeps h.0), h.1 ∙ ap (one_more (string_bytes name)) same)
   not_all_put failure.Memory h = inr (h.0, (results, leads, StopsAt-before _ _ _ a b c keeps h.1))
   not_all_put failure.Usage h = absurd h
   not_all_put (failure.Table r) h = absurd h
@@ -55,10 +56,10 @@ module _ (paths : Paths) (results : Results) (a b c : Option Files) (first befor
 
 -- ---- what the files lead to
 
-module _ (paths : Paths) (a b : Option Files) (t : Content) (first before after : ℕ) (plan : HasPlan a paths t) (keeps : KeepsFiles a b) (same : before ≡ first) where
+module _ (paths : Paths) (a b : Option Files) (t : Content) (first before after : DeviceLog) (plan : HasPlan a paths t) (keeps : KeepsFiles a b) (same : before ≡ first) where
   -- a capture was not got
   pub not_gathered : (f : Failure) → FailsToGetAll f b paths.input.now t before after → FailsToGather f paths a first after
-  not_gathered (failure.Get name) h = (h.1 ∙ ap one_more same, inr (t, plan, GetsUpTo-before _ _ a b t keeps h.0))
+  not_gathered (failure.Get name) h = (h.1 ∙ ap (one_more (string_bytes name)) same, inr (t, plan, GetsUpTo-before _ _ a b t keeps h.0))
   not_gathered failure.Memory h = tt
   not_gathered failure.Usage h = absurd h
   not_gathered (failure.Table r) h = absurd h
@@ -86,10 +87,13 @@ module _ (paths : Paths) (a b : Option Files) (t : Content) (first before after 
     not_led failure.Write h = absurd h
 
     -- what the captures lead to is what the files lead to
-    pub gathered : (r : Result Results Failure) → MatchResult r (λ o. IsOutcome t captures o) (λ f. FailsToLead f t captures)
+    pub gathered : (cleared : Bool) → cleared ≡ not paths.unchecked → (r : Result Results Failure)
+        → MatchResult r (λ o. IsOutcome t captures o × (cleared ≡ true → IsIsolated t captures o)) (λ f. FailsToLead f t captures)
         → MatchResult r (λ o. LeadsTo paths a o × (after ≡ first)) (λ f. FailsToGather f paths a first after)
-    gathered (Ok o) h = (record { table = t; captures = captures; has_plan = plan; has_captures = has_captures; outcome = h }, count ∙ same)
-    gathered (Err f) h = not_led f h
+    gathered cleared is (Ok o) h =
+        let isolated = λ (checked : paths.unchecked ≡ false). h.1 (is ∙ ap not checked) in
+        (record { table = t; captures = captures; has_plan = plan; has_captures = has_captures; outcome = h.0; isolated = isolated }, count ∙ same)
+    gathered cleared is (Err f) h = not_led f h
 
 -- there are as many names as captures
 pub same_count : {Z : Type 0} (path : List ℕ) (names : List (String Global)) (captures : List (ℕ × Vec ℕ Z)) → map (λ (s : String Global). string_bytes s) names ≡ names_in path (texts_of captures)

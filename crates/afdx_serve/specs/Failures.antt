@@ -1,4 +1,4 @@
--- The failure of a command that a fault below it leads to.
+-- The failure of a command, or of a folder, that a fault below it leads to.
 use Rattle.afdx_table.specs.declared.fault.TableFault.{TableFault}
 use Rattle.afdx_table.specs.declared.fault.TableFault.TheVariants as table
 use Rattle.afdx_session.specs.declared.plan.RunFault.{RunFault}
@@ -7,12 +7,18 @@ use Rattle.afdx_serve.specs.declared.policing.AloneFault.{AloneFault}
 use Rattle.afdx_serve.specs.declared.policing.AloneFault.TheVariants as alone
 use Rattle.afdx_serve.specs.declared.input.InputFault.{InputFault}
 use Rattle.afdx_serve.specs.declared.input.InputFault.TheVariants as input
+use Rattle.afdx_serve.specs.declared.folder.FolderFault.{FolderFault}
+use Rattle.afdx_serve.specs.declared.folder.FolderFault.TheVariants as folder
 use Rattle.afdx_serve.specs.declared.failure.Failure.{Failure}
 use Rattle.afdx_serve.specs.declared.failure.Failure.TheVariants as failure
 
 abbrev pub input_failure : InputFault → Failure
 input_failure input.Memory = failure.Memory
 input_failure input.Device = failure.Read
+
+abbrev pub folder_fault : InputFault → FolderFault
+folder_fault input.Memory = folder.Memory
+folder_fault input.Device = folder.Device
 
 abbrev pub alone_failure : AloneFault → Failure
 alone_failure alone.Memory = failure.Memory

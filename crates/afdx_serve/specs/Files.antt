@@ -1,4 +1,4 @@
--- A folder's files, where it tells them, and its count of failures.
+-- A folder's files, where it tells them, and its failures.
 use Rattle.std.specs.Prelude.{◌≡◌, ◌⊎◌, ◌+◌, ◌-◌, ◌^◌, min, ℕ, List, ◌∷◌, false, Option, Some, None, Result, MatchResult, map, ⊤, if◌then◌else◌}
 use Rattle.std.specs.Str.{bytes_eq}
 use Rattle.afdx_serve.specs.declared.folder.FolderFault.{FolderFault}
@@ -54,11 +54,18 @@ PutsFiles (Some f) (Some g) names all = (q : List ℕ) → g q ≡ with_files f 
 
 -- ---- failures
 
--- one more failure, as far as a count of 64 bits goes
-abbrev pub one_more : ℕ → ℕ
-one_more count = min (count + 1) (2 ^ 64 - 1)
+-- how often a folder failed, as far as a count of 64 bits goes, and the name that the last failure was for
+pub record DeviceLog : Type 0 where
+  pub count : ℕ
+  pub last : Option (List ℕ)
 
--- a fault of the device is counted, and nothing else is
-abbrev pub HasCause : {T : Type 0} → ℕ → ℕ → Result T FolderFault → Type 0
-HasCause before now r = MatchResult r (λ _. now ≡ before)
-    (λ e. ((e ≡ Memory) × (now ≡ before)) ⊎ ((e ≡ Device) × (now ≡ one_more before)))
+-- one more failure, for this name
+abbrev pub one_more : List ℕ → DeviceLog → DeviceLog
+one_more name before = record { count = min (before.count + 1) (2 ^ 64 - 1); last = Some name }
+
+-- a fault of the device is counted and its name is kept, and nothing else is
+abbrev pub IsCause : FolderFault → List ℕ → DeviceLog → DeviceLog → Type 0
+IsCause fault name before now = ((fault ≡ Memory) × (now ≡ before)) ⊎ ((fault ≡ Device) × (now ≡ one_more name before))
+
+abbrev pub HasCause : {T : Type 0} → List ℕ → DeviceLog → DeviceLog → Result T FolderFault → Type 0
+HasCause name before now r = MatchResult r (λ _. now ≡ before) (λ fault. IsCause fault name before now)

@@ -9,10 +9,11 @@ use Rattle.afdx_count.specs.Report.{report_of}
 use Rattle.afdx_session.specs.Texts.{Text, AreOfPorts}
 use Rattle.afdx_session.specs.Reading.{IsFirstFault}
 use Rattle.afdx_session.specs.Outcome.{Results, IsOutcome}
+use Rattle.afdx_session.specs.Headline.{IsIsolated}
 use Rattle.afdx_words.specs.declared.request.Paths.{Paths}
 use Rattle.afdx_serve.specs.declared.failure.Failure.{Failure}
 use Rattle.afdx_serve.specs.declared.failure.Failure.TheVariants as failure
-use Rattle.afdx_serve.specs.Files.{Files, Shows, ShowsAll, KeepsFiles, KeepsOthers, PutsFiles, one_more}
+use Rattle.afdx_serve.specs.Files.{Files, Shows, ShowsAll, KeepsFiles, KeepsOthers, PutsFiles, DeviceLog, one_more}
 
 -- ---- names
 
@@ -51,6 +52,8 @@ pub record LeadsTo (paths : Paths) (files : Option Files) (results : Results) : 
   pub has_plan : HasPlan files paths table
   pub has_captures : HasCaptures files paths.input.now table captures
   pub outcome : IsOutcome table captures results
+  -- the headline, of what is put: no link disturbs another, none is lost, each is in time
+  pub isolated : paths.unchecked ≡ false → IsIsolated table captures results
 
 -- the names of the captures of a table's ports in a folder, by rising number
 abbrev pub port_names : List ℕ → Content → List (List ℕ)
@@ -77,22 +80,22 @@ pub record StopsAt (name : List ℕ) (names all : List (List ℕ)) (old new : Op
   pub earlier : PutsFiles old before (take place names) (take place all)
   pub others : KeepsOthers before new name
 
--- ---- why something was not done, and the count of failures before and after
+-- ---- why something was not done, and the failures before and after
 
 -- a file was not got
-abbrev pub FailsToGet : Failure → List ℕ → ℕ → ℕ → Type 0
-FailsToGet (failure.Get name) path before after = (string_bytes name ≡ path) × (after ≡ one_more before)
+abbrev pub FailsToGet : Failure → List ℕ → DeviceLog → DeviceLog → Type 0
+FailsToGet (failure.Get name) path before after = (string_bytes name ≡ path) × (after ≡ one_more path before)
 FailsToGet failure.Memory path before after = Unit {0}
 FailsToGet _ path before after = ⊥
 
 -- a table was not read
-abbrev pub FailsToRead : Failure → Option Files → List ℕ → ℕ → ℕ → Type 0
+abbrev pub FailsToRead : Failure → Option Files → List ℕ → DeviceLog → DeviceLog → Type 0
 FailsToRead (failure.Table refusal) files path before after = HasNoTable files path refusal × (after ≡ before)
 FailsToRead f files path before after = FailsToGet f path before after
 
 -- not all captures of the table's ports were got: the first that failed is told
-abbrev pub FailsToGetAll : Failure → Option Files → List ℕ → Content → ℕ → ℕ → Type 0
-FailsToGetAll (failure.Get name) files path t before after = GetsUpTo (string_bytes name) files path t × (after ≡ one_more before)
+abbrev pub FailsToGetAll : Failure → Option Files → List ℕ → Content → DeviceLog → DeviceLog → Type 0
+FailsToGetAll (failure.Get name) files path t before after = GetsUpTo (string_bytes name) files path t × (after ≡ one_more (string_bytes name) before)
 FailsToGetAll failure.Memory files path t before after = Unit {0}
 FailsToGetAll _ files path t before after = ⊥
 
@@ -108,10 +111,10 @@ FailsToLead failure.Memory t captures = Unit {0}
 FailsToLead _ t captures = ⊥
 
 -- the files lead to nothing
-abbrev pub FailsToGather : Failure → Paths → Option Files → ℕ → ℕ → Type 0
+abbrev pub FailsToGather : Failure → Paths → Option Files → DeviceLog → DeviceLog → Type 0
 FailsToGather (failure.Table refusal) paths files before after = HasNoTable files paths.table.now refusal × (after ≡ before)
 FailsToGather (failure.Get name) paths files before after =
-    (after ≡ one_more before) × ((string_bytes name ≡ paths.table.now)
+    (after ≡ one_more (string_bytes name) before) × ((string_bytes name ≡ paths.table.now)
     ⊎ ((t : Content) × HasPlan files paths t × GetsUpTo (string_bytes name) files paths.input.now t))
 FailsToGather (failure.PortCapture port fault) paths files before after =
     (t : Content) × (captures : List Text) × HasPlan files paths t × HasCaptures files paths.input.now t captures
@@ -122,14 +125,14 @@ FailsToGather failure.Memory paths files before after = Unit {0}
 FailsToGather _ paths files before after = ⊥
 
 -- a file was not put
-abbrev pub FailsToPutOne : Failure → List ℕ → ℕ → ℕ → Type 0
-FailsToPutOne (failure.Put name) path before after = (string_bytes name ≡ path) × (after ≡ one_more before)
+abbrev pub FailsToPutOne : Failure → List ℕ → DeviceLog → DeviceLog → Type 0
+FailsToPutOne (failure.Put name) path before after = (string_bytes name ≡ path) × (after ≡ one_more path before)
 FailsToPutOne failure.Memory path before after = Unit {0}
 FailsToPutOne _ path before after = ⊥
 
 -- not all was put
-abbrev pub FailsToPut : Failure → List (List ℕ) → List (List ℕ) → Option Files → Option Files → ℕ → ℕ → Type 0
-FailsToPut (failure.Put name) names all old new before after = StopsAt (string_bytes name) names all old new × (after ≡ one_more before)
+abbrev pub FailsToPut : Failure → List (List ℕ) → List (List ℕ) → Option Files → Option Files → DeviceLog → DeviceLog → Type 0
+FailsToPut (failure.Put name) names all old new before after = StopsAt (string_bytes name) names all old new × (after ≡ one_more (string_bytes name) before)
 FailsToPut failure.Memory names all old new before after = (name : List ℕ) × StopsAt name names all old new
 FailsToPut _ names all old new before after = ⊥
 
@@ -141,7 +144,7 @@ StopsRun name paths old new =
     (results : Results) × LeadsTo paths old results × StopsAt name (names_in paths.output.now results.captures) (bytes_of results.captures) old new
 
 -- the results of a run were not put
-abbrev pub FailsToRun : Failure → Paths → Option Files → Option Files → ℕ → ℕ → Type 0
-FailsToRun (failure.Put name) paths old new before after = StopsRun (string_bytes name) paths old new × (after ≡ one_more before)
+abbrev pub FailsToRun : Failure → Paths → Option Files → Option Files → DeviceLog → DeviceLog → Type 0
+FailsToRun (failure.Put name) paths old new before after = StopsRun (string_bytes name) paths old new × (after ≡ one_more (string_bytes name) before)
 FailsToRun failure.Memory paths old new before after = KeepsFiles old new ⊎ ((name : List ℕ) × StopsRun name paths old new)
 FailsToRun f paths old new before after = FailsToGather f paths old before after × KeepsFiles old new

@@ -13,7 +13,7 @@ use Rattle.afdx_serve.specs.Answer.{IsAnswer}
 use Rattle.afdx_table.specs.Content.{Content}
 use Rattle.afdx_load.specs.Accepted.{IsAccepted, first_fault}
 use Rattle.afdx_serve.specs.Checks.{IsCheckOf}
-use Rattle.afdx_serve.specs.Files.{Files, KeepsFiles, PutsFiles, one_more}
+use Rattle.afdx_serve.specs.Files.{Files, DeviceLog, KeepsFiles, PutsFiles, one_more}
 use Rattle.afdx_session.specs.Outcome.{Results}
 use Rattle.afdx_serve.specs.Output.{AppendsFront}
 use Rattle.afdx_serve.specs.Runs.{HasTable, HasNoTable, LeadsTo, FailsToRun, names_in, bytes_of, report_in}
@@ -24,10 +24,10 @@ pub record World : Type 0 where
   pub written : Option (List ℕ)
   -- what the folder holds
   pub files : Option Files
-  -- how often the folder failed
-  pub failed : ℕ
+  -- how often the folder failed, and for which name at last
+  pub failed : DeviceLog
 
-abbrev pub world : Option (List ℕ) → Option Files → ℕ → World
+abbrev pub world : Option (List ℕ) → Option Files → DeviceLog → World
 world written files failed = record { written = written; files = files; failed = failed }
 
 -- the folder is as it was
@@ -74,7 +74,7 @@ Checks path old new =
 -- why they were not, and what was written
 abbrev pub FailsToCheck : Failure → List ℕ → World → World → Type 0
 FailsToCheck (failure.Get name) path old new =
-    (string_bytes name ≡ path) × (new.failed ≡ one_more old.failed) × KeepsFiles old.files new.files × WritesNothing old new
+    (string_bytes name ≡ path) × (new.failed ≡ one_more path old.failed) × KeepsFiles old.files new.files × WritesNothing old new
 FailsToCheck (failure.Table refusal) path old new = HasNoTable old.files path refusal × KeepsFolder old new × WritesNothing old new
 FailsToCheck (failure.Load fault) path old new =
     (t : Content) × HasTable old.files path t × (first_fault t.links t.ports ≡ Some fault) × KeepsFolder old new × WritesNothing old new

@@ -1,37 +1,55 @@
 //! The folder of real files.
 
-ghost use Rattle.std.specs.Prelude.{◌≡◌};
-ghost use Rattle.afdx_serve.specs.Files.{one_more};
+ghost use Rattle.std.specs.Prelude.{◌≡◌, None};
 
+use crate::device_log::DeviceLog;
 use crate::folder::{Folder, FolderFault};
-use crate::input::{InputFault, read_to_end};
-use crate::output::{WriteFault, write_bytes};
+use crate::input::read_to_end;
+use crate::whole_file::replace_file;
 use std::alloc::Allocator;
 use std::fs;
+use std::fs::{Metadata, OpenFile};
+use std::io::ErrorKind;
+use std::os::unix::fs::MetadataExt;
 use std::rt::Files;
 
-/// The files of the system, by their paths. It does not tell their bytes.
-#[derive(Drop)]
-pub struct Disk<'a, R: Files> {
-    rt: &'a R,
-    failures: u64,
+/// Which file of the system it is, by whatever name or link: the number of its device, and its own there.
+#[derive(Clone, Copy, PartialEq, Eq)]
+struct FileId {
+    device: u64,
+    number: u64,
 }
 
-impl<'a, R: Files> Disk<'a, R> {
-    /// The files of this system, which has not failed so far. O(1).
-    pub fn new(rt: &'a R) -> Disk<'a, R>
-        ensures { result.failures ≡ 0 }
-    {
-        Disk { rt, failures: 0 }
+impl FileId {
+    fn of(metadata: &Metadata) -> FileId {
+        FileId {
+            device: metadata.dev(),
+            number: metadata.ino(),
+        }
     }
+}
 
-    /// Counts a failure.
-    fn fail(&mut self) -> FolderFault
-        ensures counted { self.new.failures ≡ one_more self.old.failures }
-        ensures device { result ≡ FolderFault.Device }
+/// The files of the system, by their paths. It does not tell their bytes.
+///
+/// A put never harms a file: it replaces a file as a whole or leaves it as it is, and it fails where the name leads to a
+/// file that was got, to one that may not be written, or to what is no file.
+#[derive(Drop)]
+pub struct Disk<'a, R: Files, A: Allocator> {
+    rt: &'a R,
+    got: Vec<FileId, A>,
+    log: DeviceLog<A>,
+}
+
+impl<'a, R: Files, A: Allocator + Copy> Disk<'a, R, A> {
+    /// The files of this system, of which none was got and which has not failed so far. O(1).
+    pub fn new(alloc: A, rt: &'a R) -> Disk<'a, R, A>
+        ensures { result.log ≡ record { count = 0; last = None } }
     {
-        self.failures = self.failures.saturating_add(1);
-        FolderFault::Device
+        Disk {
+            rt,
+            got: Vec::new(alloc),
+            log: DeviceLog::new(alloc),
+        }
     }
 }
 
@@ -40,49 +58,64 @@ fn read_file<R: Files, A: Allocator + Copy>(
     rt: &R,
     alloc: A,
     name: &str,
-) -> Result<Vec<u8, A>, InputFault> {
+) -> Result<(FileId, Vec<u8, A>), FolderFault> {
     let Ok(mut file) = fs::open(rt, name) else {
-        return Err(InputFault::Device);
+        return Err(FolderFault::Device);
     };
-    read_to_end(alloc, &mut file)
+    let Ok(metadata) = file.metadata() else {
+        return Err(FolderFault::Device);
+    };
+    let bytes = read_to_end(alloc, &mut file)?;
+    Ok((FileId::of(&metadata), bytes))
 }
 
-/// Writes a file of these bytes, in place of what was there. Its folder is not made.
-fn write_file<R: Files>(rt: &R, name: &str, bytes: &[u8]) -> Result<(), WriteFault> {
-    let Ok(mut file) = fs::create(rt, name) else {
-        return Err(WriteFault);
-    };
-    write_bytes(&mut file, bytes)
+/// Whether a name may be put: nothing stands there, or a file that may be written and is none of these.
+fn may_be_put<R: Files>(rt: &R, name: &str, got: &[FileId]) -> bool {
+    match fs::metadata(rt, name) {
+        Ok(metadata) => {
+            metadata.is_file()
+                && !metadata.permissions().readonly()
+                && !got.contains(&FileId::of(&metadata))
+        }
+        Err(e) => e.kind() == ErrorKind::NotFound,
+    }
 }
 
-impl<R: Files> Folder for Disk<'_, R> {
-    ghost failed = { λ disk. disk.failures };
+impl<R: Files, A: Allocator + Copy> Folder for Disk<'_, R, A> {
+    ghost failed = { λ disk. disk.log };
 
-    fn get<A: Allocator + Copy>(
+    fn get<B: Allocator + Copy>(
         &mut self,
-        alloc: A,
+        alloc: B,
         name: &str,
-    ) -> Result<Vec<u8, A>, FolderFault> {
+    ) -> Result<Vec<u8, B>, FolderFault> {
         match read_file(self.rt, alloc, name) {
-            Ok(bytes) => Ok(bytes),
-            Err(InputFault::Memory) => Err(FolderFault::Memory),
-            Err(InputFault::Device) => Err(self.fail()),
+            Ok((id, bytes)) => {
+                self.got.push(id)?;
+                Ok(bytes)
+            }
+            Err(FolderFault::Memory) => Err(FolderFault::Memory),
+            Err(FolderFault::Device) => Err(self.log.note(name)),
         }
     }
 
-    fn put<A: Allocator + Copy>(
+    fn put<B: Allocator + Copy>(
         &mut self,
-        _alloc: A,
+        alloc: B,
         name: &str,
         bytes: &[u8],
     ) -> Result<(), FolderFault> {
-        match write_file(self.rt, name, bytes) {
+        if !may_be_put(self.rt, name, &self.got) {
+            return Err(self.log.note(name));
+        }
+        match replace_file(self.rt, alloc, name, bytes) {
             Ok(()) => Ok(()),
-            Err(WriteFault) => Err(self.fail()),
+            Err(FolderFault::Memory) => Err(FolderFault::Memory),
+            Err(FolderFault::Device) => Err(self.log.note(name)),
         }
     }
 
     fn failures(&self) -> u64 {
-        self.failures
+        self.log.count()
     }
 }

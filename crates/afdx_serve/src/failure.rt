@@ -10,29 +10,40 @@ use afdx_pcap::PcapFault;
 use afdx_session::RunFault;
 use afdx_table::TableFault;
 use std::alloc::{AllocError, AllocFailed};
+use thiserror::Error;
 
-/// Why a command was not served.
-#[derive(Debug, Drop)]
+/// Why a command was not served. Each message is its variant's name.
+#[derive(Debug, Drop, Error)]
 pub enum Failure {
     /// The words are refused.
+    #[error("Usage")]
     Usage,
     /// The file of the table holds none, and this is its first refusal.
+    #[error("Table")]
     Table(TableFault),
     /// The table asks for more than a port can give, and this is the first rule that is broken.
+    #[error("Load")]
     Load(LoadFault),
     /// The input is no capture, and this is its first fault.
+    #[error("Capture")]
     Capture(PcapFault),
     /// The file of this port is no capture, and this is its first fault.
+    #[error("PortCapture")]
     PortCapture(u8, PcapFault),
     /// The folder failed to get the file of this name, or it is not there.
+    #[error("Get")]
     Get(String),
     /// The folder failed to put the file of this name.
+    #[error("Put")]
     Put(String),
     /// The input failed, or was not read to its end within the bounded number of reads.
+    #[error("Read")]
     Read,
     /// The output failed, was interrupted or took nothing.
+    #[error("Write")]
     Write,
     /// A growth was refused.
+    #[error("Memory")]
     Memory,
 }
 

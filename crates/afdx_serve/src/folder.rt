@@ -1,25 +1,62 @@
 //! A folder of files.
 
-ghost use Rattle.std.specs.Prelude.{◌≡◌, ℕ, Option, None, IfOk, OnOk};
-ghost use Rattle.afdx_serve.specs.Files.{Files, Shows, KeepsFiles, PutsFile, KeepsOthers, HasCause};
+ghost use Rattle.std.specs.Prelude.{◌≡◌, Option, None, IfOk, OnOk};
+ghost use Rattle.afdx_serve.specs.Files.{Files, DeviceLog, Shows, KeepsFiles, PutsFile, KeepsOthers, HasCause};
 
-use std::alloc::Allocator;
+use crate::input::InputFault;
+use std::alloc::{AllocError, AllocFailed, Allocator};
+use thiserror::Error;
 
-/// Why a file was not got or put.
-#[derive(Clone, Copy, Debug, PartialEq, Eq)]
+/// Why a file was not got or put. Each message is its variant's name.
+#[derive(Clone, Copy, Debug, PartialEq, Eq, Error)]
 pub enum FolderFault {
     /// A growth was refused.
+    #[error("Memory")]
     Memory,
     /// The folder failed; a file that is not there is such a failure.
+    #[error("Device")]
     Device,
 }
 
-/// A folder, by the bytes that stand under each name. It counts its failures.
+impl From<AllocError> for FolderFault {
+    ghost use Rattle.afdx_serve.specs.declared.folder.FolderFault.TheVariants.{Memory};
+
+    ghost from_gives = { λ _ fault. fault ≡ Memory };
+
+    fn from(_e: AllocError) -> FolderFault {
+        FolderFault::Memory
+    }
+}
+
+impl<T: Drop> From<AllocFailed<T>> for FolderFault {
+    ghost use Rattle.afdx_serve.specs.declared.folder.FolderFault.TheVariants.{Memory};
+
+    ghost from_gives = { λ _ fault. fault ≡ Memory };
+
+    fn from(_e: AllocFailed<T>) -> FolderFault {
+        FolderFault::Memory
+    }
+}
+
+impl From<InputFault> for FolderFault {
+    ghost use Rattle.afdx_serve.specs.Failures.{folder_fault};
+
+    ghost from_gives = { λ fault given. given ≡ folder_fault fault };
+
+    fn from(e: InputFault) -> FolderFault {
+        match e {
+            InputFault::Memory => FolderFault::Memory,
+            InputFault::Device => FolderFault::Device,
+        }
+    }
+}
+
+/// A folder, by the bytes that stand under each name. It counts its failures, and tells the name of the last one.
 pub trait Folder {
     /// The files, where it tells them.
     ghost files: { Self → Option Files } = { λ _. None };
-    /// How often it has failed, as far as 64 bits go.
-    ghost failed: { Self → ℕ };
+    /// How often it has failed, as far as 64 bits go, and the name that the last of these calls was for.
+    ghost failed: { Self → DeviceLog };
 
     /// The bytes that stand under a name.
     ///
@@ -29,7 +66,7 @@ pub trait Folder {
     fn get<A: Allocator + Copy>(&mut self, alloc: A, name: &str) -> Result<Vec<u8, A>, FolderFault>
         ensures bytes { IfOk result (λ v. Shows (files self.old) name.now v.items) }
         ensures same { KeepsFiles (files self.old) (files self.new) }
-        ensures cause { HasCause (failed self.old) (failed self.new) result };
+        ensures cause { HasCause name.now (failed self.old) (failed self.new) result };
 
     /// Puts bytes under a name, in place of what stands there. After an error nothing is said of what stands there.
     ///
@@ -44,9 +81,9 @@ pub trait Folder {
     ) -> Result<(), FolderFault>
         ensures bytes { OnOk result (PutsFile (files self.old) (files self.new) name.now bytes.now) }
         ensures others { KeepsOthers (files self.old) (files self.new) name.now }
-        ensures cause { HasCause (failed self.old) (failed self.new) result };
+        ensures cause { HasCause name.now (failed self.old) (failed self.new) result };
 
     /// The count of failures, which stays at its greatest value.
     fn failures(&self) -> u64
-        ensures { result ≡ failed self.now };
+        ensures { result ≡ (failed self.now).count };
 }

@@ -6,6 +6,7 @@
 
 mod capture_line;
 mod check;
+mod device_log;
 mod disk;
 mod failure;
 mod folder;
@@ -22,7 +23,10 @@ mod run;
 mod serving;
 mod table_line;
 mod telling;
+mod whole_file;
 
+pub use afdx_words::Alone;
+pub use device_log::DeviceLog;
 pub use disk::Disk;
 pub use failure::Failure;
 pub use folder::{Folder, FolderFault};

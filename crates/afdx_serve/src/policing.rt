@@ -17,7 +17,7 @@ use afdx_words::Alone;
 use std::alloc::{AllocError, Allocator};
 use thiserror::Error;
 
-/// Why there is no answer.
+/// Why there is no answer. Each message is its variant's name.
 #[derive(Clone, Copy, Debug, PartialEq, Eq, Error)]
 pub enum AloneFault {
     /// A growth was refused.

@@ -1,9 +1,10 @@
 //! The command `run`.
 
-ghost use Rattle.std.specs.Prelude.{◌≡◌, false, IfOk, MatchResult, string_bytes};
+ghost use Rattle.std.specs.Prelude.{◌≡◌, true, false, not, IfOk, MatchResult, string_bytes};
 ghost use Rattle.afdx_load.specs.Accepted.{IsAccepted};
 ghost use Rattle.afdx_session.specs.Texts.{texts_of, AreOfPorts};
-ghost use Rattle.afdx_session.specs.Outcome.{table_in, IsOutcome};
+ghost use Rattle.afdx_session.specs.Outcome.{table_in, is_cleared, IsOutcome};
+ghost use Rattle.afdx_session.specs.Headline.{IsIsolated};
 ghost use Rattle.afdx_serve.specs.Files.{KeepsFiles};
 ghost use Rattle.afdx_serve.specs.Runs.{LeadsTo, FailsToPlan, FailsToLead, FailsToGather, report_in};
 ghost use Rattle.afdx_serve.specs.Serving.{world, Runs, FailsToRunAll};
@@ -23,7 +24,7 @@ use std::io::Write;
 /// The plan of a run over a table, which is accepted unless the run is unchecked.
 fn plan(table: Table, unchecked: bool) -> Result<Plan, Failure>
     ensures { MatchResult result
-        (λ plan. (table_in plan ≡ table) × (unchecked ≡ false → IsAccepted table))
+        (λ plan. (table_in plan ≡ table) × (is_cleared plan ≡ not unchecked) × (unchecked ≡ false → IsAccepted table))
         (λ f. FailsToPlan f unchecked table) }
 {
     if unchecked {
@@ -35,10 +36,12 @@ fn plan(table: Table, unchecked: bool) -> Result<Plan, Failure>
     }
 }
 
-/// What captures of the table's ports lead to.
+/// What captures of the table's ports lead to; the headline holds of it, where the plan was checked.
 fn lead(alloc: Global, plan: Plan, captures: &[(u8, Vec<u8>)]) -> Result<Outcome<Global>, Failure>
     requires { AreOfPorts (table_in plan) (texts_of captures.now) }
-    ensures { MatchResult result (λ outcome. IsOutcome (table_in plan) (texts_of captures.now) outcome)
+    ensures { MatchResult result
+        (λ outcome. IsOutcome (table_in plan) (texts_of captures.now) outcome
+        × (is_cleared plan ≡ true → IsIsolated (table_in plan) (texts_of captures.now) outcome))
         (λ f. FailsToLead f (table_in plan) (texts_of captures.now)) }
 {
     let outcome = afdx_session::run(alloc, plan, captures)?;

@@ -1,11 +1,9 @@
-//! What the tests share: frames, devices that fail, and what the program answers.
+//! What the tests share: frames, a run of one frame, and what the program answers.
 
 use crate::memory_folder::MemoryFolder;
-use afdx_samples::{Sample, frame};
-use afdx_serve::serve;
+use afdx_samples::{HEADER, Sample, capture, frame, single};
+use afdx_serve::{FolderFault, serve};
 use std::alloc::{AllocError, Global};
-use std::io;
-use std::io::{ErrorKind, Read, Write};
 
 /// A frame of link 10, of which so many bytes are captured.
 pub(crate) fn captured(bytes: u32, seconds: u32, nanos: u32) -> Sample {
@@ -15,83 +13,75 @@ pub(crate) fn captured(bytes: u32, seconds: u32, nanos: u32) -> Sample {
     }
 }
 
-/// Gives the bytes, at most 7 at once; one call answers an error instead.
+/// The report of one frame of link 10 that comes in at port 1 and goes out at port 2.
+pub(crate) const REPORT: &str =
+    "in 1 seen 1 cut 0 short 0 long 0 foreign 0 no-link 0 wrong-port 0 too-big 0 clean 1
+in 2 seen 0 cut 0 short 0 long 0 foreign 0 no-link 0 wrong-port 0 too-big 0 clean 0
+link 10 passed 1 policed 0
+out 1 high offered 0 full 0 aged 0 sent 0
+out 1 low offered 0 full 0 aged 0 sent 0
+out 2 high offered 0 full 0 aged 0 sent 0
+out 2 low offered 1 full 0 aged 0 sent 1
+";
+
+/// A link with BAG 1 ms, no jitter and frames of at most 1518 bytes.
+pub(crate) const LINK_10: &str = "afdx alone --id 10 --bag 1 --jitter 0 --size 1518";
+
+pub(crate) const CHECKED: &str = "afdx run t in out";
+
+pub(crate) const RUN: &str = "afdx run t in out --unchecked";
+
+/// The run of one frame of 64 bytes at port 1: the table, and the captures that come in and go out where there are frames.
 #[derive(Drop)]
-pub(crate) struct Source<'a> {
-    pub(crate) bytes: &'a [u8],
-    pub(crate) calls: u64,
-    pub(crate) failing: u64,
-    pub(crate) kind: ErrorKind,
+pub(crate) struct OneFrame {
+    alloc: Global,
+    table: String,
+    came: Vec<u8>,
+    sent: Vec<u8>,
 }
 
-impl<'a> Source<'a> {
-    pub(crate) fn new(bytes: &'a [u8], failing: u64, kind: ErrorKind) -> Source<'a> {
-        Source {
-            bytes,
-            calls: 0,
-            failing,
-            kind,
-        }
-    }
-}
-
-impl Read for Source<'_> {
-    fn read(&mut self, buf: &mut [u8]) -> io::Result<usize> {
-        self.calls = self.calls.saturating_add(1);
-        if self.calls == self.failing {
-            return Err(io::Error::from(self.kind));
-        }
-        let count = buf.len().min(7);
-        self.bytes.read(&mut buf[..count])
-    }
-}
-
-/// A reader of which every read is interrupted.
-#[derive(Drop)]
-pub(crate) struct Interrupted;
-
-impl Read for Interrupted {
-    fn read(&mut self, _buf: &mut [u8]) -> io::Result<usize> {
-        Err(io::Error::from(ErrorKind::Interrupted))
-    }
-}
-
-/// Takes at most 50 bytes at once; one call takes none, or answers an error.
-#[derive(Drop)]
-pub(crate) struct Sink {
-    pub(crate) bytes: Vec<u8>,
-    pub(crate) calls: u64,
-    pub(crate) failing: u64,
-    pub(crate) kind: Option<ErrorKind>,
-}
-
-impl Sink {
-    pub(crate) fn new(alloc: Global, failing: u64, kind: Option<ErrorKind>) -> Sink {
-        Sink {
-            bytes: Vec::new(alloc),
-            calls: 0,
-            failing,
-            kind,
-        }
-    }
-}
-
-impl Write for Sink {
-    fn write(&mut self, buf: &[u8]) -> io::Result<usize> {
-        self.calls = self.calls.saturating_add(1);
-        if self.calls == self.failing {
-            return match self.kind {
-                Some(kind) => Err(io::Error::from(kind)),
-                None => Ok(0),
-            };
-        }
-        let count = buf.len().min(50);
-        self.bytes.extend_from_slice(&buf[..count])?;
-        Ok(count)
+impl OneFrame {
+    pub(crate) fn new(alloc: Global) -> Result<OneFrame, AllocError> {
+        Ok(OneFrame {
+            alloc,
+            table: single(alloc)?,
+            came: capture(alloc, &[captured(60, 0, 0)])?,
+            sent: capture(alloc, &[captured(60, 0, 6_720)])?,
+        })
     }
 
-    fn flush(&mut self) -> io::Result<()> {
-        Ok(())
+    /// The capture that comes in at port 1.
+    pub(crate) fn came(&self) -> &[u8] {
+        &self.came
+    }
+
+    /// The names and bytes of what is there, three files, and of what is put, two.
+    pub(crate) fn files(&self) -> [(&str, &[u8]); 5] {
+        [
+            ("t", self.table.as_bytes()),
+            ("in/port-1.pcap", &self.came),
+            ("in/port-2.pcap", &HEADER),
+            ("out/port-1.pcap", &HEADER),
+            ("out/port-2.pcap", &self.sent),
+        ]
+    }
+
+    /// What is there. The call of number `failing` fails so.
+    pub(crate) fn folder(
+        &self,
+        failing: u64,
+        fault: FolderFault,
+    ) -> Result<MemoryFolder, AllocError> {
+        let mut folder = MemoryFolder::failing(self.alloc, failing, fault);
+        folder.add("t", self.table.as_bytes())?;
+        folder.add("in/port-1.pcap", &self.came)?;
+        folder.add("in/port-2.pcap", &HEADER)?;
+        Ok(folder)
+    }
+
+    /// The same, where no call fails.
+    pub(crate) fn sound(&self) -> Result<MemoryFolder, AllocError> {
+        self.folder(0, FolderFault::Device)
     }
 }
 
@@ -128,6 +118,6 @@ pub(crate) fn answer_over(
 
 /// What it answers over a folder without files.
 pub(crate) fn answer(alloc: Global, line: &str, input: &[u8]) -> Result<Served, AllocError> {
-    let mut folder = MemoryFolder::new(alloc, 0);
+    let mut folder = MemoryFolder::new(alloc);
     answer_over(alloc, line, input, &mut folder)
 }

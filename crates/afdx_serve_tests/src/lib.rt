@@ -4,10 +4,18 @@
 #![tactic(auto)]
 
 #[cfg(test)]
+mod babblers;
+#[cfg(test)]
+mod devices;
+#[cfg(test)]
 mod fixtures;
 #[cfg(test)]
 mod memory_folder;
 #[cfg(test)]
+mod names;
+#[cfg(test)]
 mod runs;
+#[cfg(test)]
+mod streams;
 #[cfg(test)]
 mod words;

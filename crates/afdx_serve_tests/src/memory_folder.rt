@@ -2,10 +2,10 @@
 
 ghost use Rattle.std.specs.Prelude.{◌≡◌, Some, find, string_bytes, option_map, option_copied};
 ghost use Rattle.std.specs.Str.{bytes_eq};
-ghost use Rattle.afdx_serve.specs.Files.{one_more};
+ghost use Rattle.afdx_serve.specs.Files.{HasCause};
 ghost use Rattle.afdx_serve_tests.specs.declared.memory_folder.File.{File};
 
-use afdx_serve::{Folder, FolderFault};
+use afdx_serve::{DeviceLog, Folder, FolderFault};
 use std::alloc::{AllocError, Allocator, Global};
 
 /// A name, and the bytes that stand under it.
@@ -15,25 +15,32 @@ struct File {
     bytes: Vec<u8>,
 }
 
-/// The files, the one that was put last first. The call of number `failing`, from 1, fails; 0 is none.
+/// The files, the one that was put last first. The call of number `failing`, from 1, fails so; 0 is none.
 #[derive(Debug, Drop)]
 pub(crate) struct MemoryFolder {
     alloc: Global,
     files: Vec<File>,
     calls: u64,
     failing: u64,
-    failures: u64,
+    fault: FolderFault,
+    log: DeviceLog<Global>,
 }
 
 impl MemoryFolder {
+    /// No files, and no call fails.
+    pub(crate) fn new(alloc: Global) -> MemoryFolder {
+        MemoryFolder::failing(alloc, 0, FolderFault::Device)
+    }
+
     /// No files.
-    pub(crate) fn new(alloc: Global, failing: u64) -> MemoryFolder {
+    pub(crate) fn failing(alloc: Global, failing: u64, fault: FolderFault) -> MemoryFolder {
         MemoryFolder {
             alloc,
             files: Vec::new(alloc),
             calls: 0,
             failing,
-            failures: 0,
+            fault,
+            log: DeviceLog::new(alloc),
         }
     }
 
@@ -43,6 +50,29 @@ impl MemoryFolder {
         let bytes = Vec::from_slice(self.alloc, bytes)?;
         self.files.insert(0, File { name, bytes })?;
         Ok(())
+    }
+
+    /// Whether it has the first so many of these files and no others, each once.
+    pub(crate) fn holds(&self, files: &[(&str, &[u8])], count: usize) -> bool {
+        let mut all = self.files.len() == count;
+        for place in 0..count {
+            all = all
+                && match files.get(place) {
+                    Some((name, bytes)) => self.bytes(name) == Some(*bytes),
+                    None => false,
+                };
+        }
+        all
+    }
+
+    /// How many calls it was given.
+    pub(crate) fn calls(&self) -> u64 {
+        self.calls
+    }
+
+    /// The name that the last failure was for.
+    pub(crate) fn last_failure(&self) -> Option<&str> {
+        self.log.last()
     }
 
     /// The bytes that stand under a name.
@@ -60,39 +90,34 @@ fn find_file<'a>(files: &'a [File], name: &str) -> Option<&'a File>
     files.iter().find(|file| file.name.as_str() == name)
 }
 
-/// Counts a call, and says whether it is the one that fails.
-fn is_failing(folder: &mut MemoryFolder) -> bool
+/// Counts a call for this name, and gives the fault where it is the one that fails.
+fn call(folder: &mut MemoryFolder, name: &str) -> Result<(), FolderFault>
     ensures files { folder.new.files ≡ folder.old.files }
-    ensures failures { folder.new.failures ≡ folder.old.failures }
+    ensures cause { HasCause name.now folder.old.log folder.new.log result }
 {
     folder.calls = folder.calls.saturating_add(1);
-    folder.calls == folder.failing
-}
-
-fn fail(folder: &mut MemoryFolder) -> FolderFault
-    ensures files { folder.new.files ≡ folder.old.files }
-    ensures failures { folder.new.failures ≡ one_more folder.old.failures }
-    ensures device { result ≡ FolderFault.Device }
-{
-    folder.failures = folder.failures.saturating_add(1);
-    FolderFault::Device
+    if folder.calls != folder.failing {
+        return Ok(());
+    }
+    match folder.fault {
+        FolderFault::Memory => Err(FolderFault::Memory),
+        FolderFault::Device => Err(folder.log.note(name)),
+    }
 }
 
 impl Folder for MemoryFolder {
     ghost files = { λ m. Some (λ name. option_map (λ f. f.bytes.items) (find (λ f. bytes_eq (string_bytes f.name) name) m.files.items)) };
 
-    ghost failed = { λ m. m.failures };
+    ghost failed = { λ m. m.log };
 
     fn get<A: Allocator + Copy>(
         &mut self,
         alloc: A,
         name: &str,
     ) -> Result<Vec<u8, A>, FolderFault> {
-        if is_failing(self) {
-            return Err(fail(self));
-        }
+        call(self, name)?;
         let Some(file) = find_file(&self.files, name) else {
-            return Err(fail(self));
+            return Err(self.log.note(name));
         };
         match Vec::from_slice(alloc, &file.bytes) {
             Ok(bytes) => Ok(bytes),
@@ -106,9 +131,7 @@ impl Folder for MemoryFolder {
         name: &str,
         bytes: &[u8],
     ) -> Result<(), FolderFault> {
-        if is_failing(self) {
-            return Err(fail(self));
-        }
+        call(self, name)?;
         let Ok(name) = String::from_str(self.alloc, name) else {
             return Err(FolderFault::Memory);
         };
@@ -122,6 +145,6 @@ impl Folder for MemoryFolder {
     }
 
     fn failures(&self) -> u64 {
-        self.failures
+        self.log.count()
     }
 }

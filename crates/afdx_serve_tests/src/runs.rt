@@ -1,8 +1,9 @@
 //! `afdx run` over a folder in memory. Values from outside: a table, captures and printed lines.
 
-use crate::fixtures::{answer_over, captured};
+use crate::fixtures::{CHECKED, OneFrame, REPORT, RUN, answer_over, captured};
 use crate::memory_folder::MemoryFolder;
-use afdx_samples::{HEADER, Port, capture, link, port, single, table};
+use afdx_samples::{HEADER, Link, Port, capture, link, mixed, port, single, table};
+use afdx_serve::FolderFault;
 use std::alloc::{AllocError, Global};
 use std::test::Fail;
 
@@ -16,41 +17,17 @@ fn single_to(alloc: Global, mbit: u32, buffer: u32) -> Result<String, AllocError
     table(alloc, &[port(1), second], &[link(10, 1, "[2]")])
 }
 
-/// The report of one frame of link 10 that comes in at port 1 and goes out at port 2.
-const REPORT: &str =
-    "in 1 seen 1 cut 0 short 0 long 0 foreign 0 no-link 0 wrong-port 0 too-big 0 clean 1
-in 2 seen 0 cut 0 short 0 long 0 foreign 0 no-link 0 wrong-port 0 too-big 0 clean 0
-link 10 passed 1 policed 0
-out 1 high offered 0 full 0 aged 0 sent 0
-out 1 low offered 0 full 0 aged 0 sent 0
-out 2 high offered 0 full 0 aged 0 sent 0
-out 2 low offered 1 full 0 aged 0 sent 1
-";
-
-const RUN: &str = "afdx run t in out --unchecked";
-
-/// The table, and one frame of 64 bytes at port 1.
-fn one_frame(alloc: Global, failing: u64) -> Result<MemoryFolder, AllocError> {
-    let mut folder = MemoryFolder::new(alloc, failing);
-    let frame = capture(alloc, &[captured(60, 0, 0)])?;
-    folder.add("t", single(alloc)?.as_bytes())?;
-    folder.add("in/port-1.pcap", &frame)?;
-    folder.add("in/port-2.pcap", &HEADER)?;
-    Ok(folder)
-}
-
 #[test]
 fn serves_in_memory(rt: HostRuntime) -> Result<(), Fail> {
     let alloc = rt.alloc();
-    let sent = capture(alloc, &[captured(60, 0, 6_720)])?;
-    for line in ["afdx run t in out", RUN] {
-        let mut folder = one_frame(alloc, 0)?;
+    let run = OneFrame::new(alloc)?;
+    for line in [CHECKED, RUN] {
+        let mut folder = run.sound()?;
         let got = answer_over(alloc, line, b"", &mut folder)?;
         assert_eq!(rt; got.status, 0, "{line}");
         assert_eq!(rt; got.out.as_slice(), REPORT.as_bytes(), "{line}");
         assert_eq!(rt; got.err.as_slice(), b"".as_slice(), "{line}");
-        assert_eq!(rt; folder.bytes("out/port-1.pcap"), Some(HEADER.as_slice()));
-        assert_eq!(rt; folder.bytes("out/port-2.pcap"), Some(sent.as_slice()));
+        assert!(rt; folder.holds(&run.files(), 5), "{line}");
     }
     Ok(())
 }
@@ -78,7 +55,7 @@ fn checks_a_table(rt: HostRuntime) -> Result<(), Fail> {
             "afdx: load L1 Rate, port 2, need 3264307200, limit 2048000000\n",
         ),
     ] {
-        let mut folder = MemoryFolder::new(alloc, 0);
+        let mut folder = MemoryFolder::new(alloc);
         folder.add("t", single_to(alloc, mbit, buffer)?.as_bytes())?;
         let got = answer_over(alloc, "afdx check t", b"", &mut folder)?;
         assert_eq!(rt; got.status, status, "{mbit} {buffer}");
@@ -89,18 +66,49 @@ fn checks_a_table(rt: HostRuntime) -> Result<(), Fail> {
 }
 
 #[test]
+fn checks_a_mixed_table(rt: HostRuntime) -> Result<(), Fail> {
+    let alloc = rt.alloc();
+    let mut folder = MemoryFolder::new(alloc);
+    folder.add("t", mixed(alloc)?.as_bytes())?;
+    let got = answer_over(alloc, "afdx check t", b"", &mut folder)?;
+    assert_eq!(rt; got.status, 0);
+    assert_eq!(rt;
+        got.out.as_slice(),
+        b"port 2 rate 979292160 buffer 7516 high 282430 low 568836\naccepted\n".as_slice()
+    );
+    assert_eq!(rt; got.err.as_slice(), b"".as_slice());
+    Ok(())
+}
+
+/// A link that may send two frames at once, to a port with room for one.
+fn short_of_room(alloc: Global) -> Result<String, AllocError> {
+    let second = Port {
+        buffer: 1518,
+        ..port(2)
+    };
+    let early = Link {
+        jitter_us: 1000,
+        ..link(10, 1, "[2]")
+    };
+    table(alloc, &[port(1), second], &[early])
+}
+
+#[test]
 fn refuses_a_load_unless_unchecked(rt: HostRuntime) -> Result<(), Fail> {
     let alloc = rt.alloc();
-    for (line, status) in [("afdx run t in out", 4), (RUN, 0)] {
-        let mut folder = one_frame(alloc, 0)?;
-        folder.add("t", single_to(alloc, 100, 1518)?.as_bytes())?;
-        let got = answer_over(alloc, line, b"", &mut folder)?;
-        assert_eq!(rt; got.status, status, "{line}");
-        assert_eq!(rt;
-            folder.bytes("out/port-2.pcap").is_some(),
-            status == 0,
-            "{line}"
-        );
+    let line = "afdx: load L2 Buffer, port 2, need 904847360000000, limit 248709120000000\n";
+    let run = OneFrame::new(alloc)?;
+    // The words, the status, the line, the calls that the folder was given, and whether a capture was put.
+    for (words, status, line, calls, put) in [(CHECKED, 4, line, 1, false), (RUN, 0, "", 5, true)] {
+        let mut folder = run.sound()?;
+        folder.add("t", short_of_room(alloc)?.as_bytes())?;
+        let got = answer_over(alloc, words, b"", &mut folder)?;
+        assert_eq!(rt; got.status, status, "{words}");
+        assert_eq!(rt; got.err.as_slice(), line.as_bytes(), "{words}");
+        assert_eq!(rt; got.out.is_empty(), !put, "{words}");
+        assert_eq!(rt; folder.calls(), calls, "{words}");
+        assert_eq!(rt; folder.bytes("out/port-1.pcap").is_some(), put, "{words}");
+        assert_eq!(rt; folder.bytes("out/port-2.pcap").is_some(), put, "{words}");
     }
     Ok(())
 }
@@ -108,7 +116,7 @@ fn refuses_a_load_unless_unchecked(rt: HostRuntime) -> Result<(), Fail> {
 #[test]
 fn stops_at_a_missing_capture(rt: HostRuntime) -> Result<(), Fail> {
     let alloc = rt.alloc();
-    let mut folder = MemoryFolder::new(alloc, 0);
+    let mut folder = MemoryFolder::new(alloc);
     folder.add("t", single(alloc)?.as_bytes())?;
     folder.add("in/port-1.pcap", &HEADER)?;
     let got = answer_over(alloc, RUN, b"", &mut folder)?;
@@ -118,42 +126,48 @@ fn stops_at_a_missing_capture(rt: HostRuntime) -> Result<(), Fail> {
         got.err.as_slice(),
         b"afdx: device get in/port-2.pcap\n".as_slice()
     );
+    assert_eq!(rt; folder.last_failure(), Some("in/port-2.pcap"));
     assert_eq!(rt; folder.bytes("out/port-1.pcap"), None);
     Ok(())
 }
 
+/// The calls of the run of one frame: the name that each is for, its line where it fails, and how many files stand then.
+const CALLS: [(&str, &str, usize); 5] = [
+    ("t", "afdx: device get t\n", 3),
+    ("in/port-1.pcap", "afdx: device get in/port-1.pcap\n", 3),
+    ("in/port-2.pcap", "afdx: device get in/port-2.pcap\n", 3),
+    ("out/port-1.pcap", "afdx: device put out/port-1.pcap\n", 3),
+    ("out/port-2.pcap", "afdx: device put out/port-2.pcap\n", 4),
+];
+
 #[test]
 fn stops_at_a_failing_folder(rt: HostRuntime) -> Result<(), Fail> {
     let alloc = rt.alloc();
-    // The call that fails, the line, and whether each output stands.
-    for (failing, line, first, second) in [
-        (1, "afdx: device get t\n", false, false),
-        (2, "afdx: device get in/port-1.pcap\n", false, false),
-        (3, "afdx: device get in/port-2.pcap\n", false, false),
-        (4, "afdx: device put out/port-1.pcap\n", false, false),
-        (5, "afdx: device put out/port-2.pcap\n", true, false),
-        (6, "", true, true),
-    ] {
-        let mut folder = one_frame(alloc, failing)?;
-        let got = answer_over(alloc, RUN, b"", &mut folder)?;
-        let (status, out) = if line.is_empty() {
-            (0, REPORT)
-        } else {
-            (5, "")
-        };
-        assert_eq!(rt; got.status, status, "call {failing}");
-        assert_eq!(rt; got.out.as_slice(), out.as_bytes(), "call {failing}");
-        assert_eq!(rt; got.err.as_slice(), line.as_bytes(), "call {failing}");
-        assert_eq!(rt;
-            folder.bytes("out/port-1.pcap").is_some(),
-            first,
-            "call {failing}"
-        );
-        assert_eq!(rt;
-            folder.bytes("out/port-2.pcap").is_some(),
-            second,
-            "call {failing}"
-        );
+    let run = OneFrame::new(alloc)?;
+    for words in [CHECKED, RUN] {
+        let mut failing = 0u64;
+        for (name, line, files) in CALLS {
+            failing = failing.saturating_add(1);
+            for (fault, line, last) in [
+                (FolderFault::Device, line, Some(name)),
+                (FolderFault::Memory, "afdx: memory\n", None),
+            ] {
+                let mut folder = run.folder(failing, fault)?;
+                let got = answer_over(alloc, words, b"", &mut folder)?;
+                assert_eq!(rt; got.status, 5, "{name}");
+                assert_eq!(rt; got.out.as_slice(), b"".as_slice(), "{name}");
+                assert_eq!(rt; got.err.as_slice(), line.as_bytes(), "{name}");
+                assert_eq!(rt; folder.calls(), failing, "{name}");
+                assert_eq!(rt; folder.last_failure(), last, "{name}");
+                assert!(rt; folder.holds(&run.files(), files), "{name}");
+            }
+        }
+        let mut folder = run.folder(6, FolderFault::Device)?;
+        let got = answer_over(alloc, words, b"", &mut folder)?;
+        assert_eq!(rt; got.status, 0, "{words}");
+        assert_eq!(rt; got.out.as_slice(), REPORT.as_bytes(), "{words}");
+        assert_eq!(rt; got.err.as_slice(), b"".as_slice(), "{words}");
+        assert!(rt; folder.holds(&run.files(), 5), "{words}");
     }
     Ok(())
 }
@@ -166,7 +180,7 @@ fn tells_a_ports_fault(rt: HostRuntime) -> Result<(), Fail> {
         (99, 23, "afdx: capture P11 CutData, port 1, record 1\n"),
         (100, 23, "afdx: capture P2 NoHeader, port 2\n"),
     ] {
-        let mut folder = MemoryFolder::new(alloc, 0);
+        let mut folder = MemoryFolder::new(alloc);
         folder.add("t", single(alloc)?.as_bytes())?;
         for (name, left) in [("in/port-1.pcap", first), ("in/port-2.pcap", second)] {
             let mut cut = capture(alloc, &[captured(60, 0, 0)])?;
@@ -203,7 +217,7 @@ fn tells_a_tables_refusal(rt: HostRuntime) -> Result<(), Fail> {
             "afdx: table C10 NoSuchPort, link 1\n",
         ),
     ] {
-        let mut folder = MemoryFolder::new(alloc, 0);
+        let mut folder = MemoryFolder::new(alloc);
         folder.add("t", text.as_bytes())?;
         let got = answer_over(alloc, RUN, b"", &mut folder)?;
         assert_eq!(rt; got.status, 3, "{line}");

@@ -1,17 +1,12 @@
-//! `afdx alone`, the words and the devices that fail. Values from outside: bytes of pcap 2.4 captures and of AFDX frames,
+//! `afdx alone` and the words. Values from outside: bytes of pcap 2.4 captures and of AFDX frames,
 //! printed lines.
 
-use crate::fixtures::{Interrupted, Sink, Source, answer, captured, split};
-use crate::memory_folder::MemoryFolder;
+use crate::fixtures::{LINK_10, answer, captured, split};
 use afdx_samples::{HEADER, Sample, capture};
-use afdx_serve::{alone, serve};
+use afdx_serve::alone;
 use afdx_words::{Alone, Request, parse};
 use std::alloc::{AllocError, Global};
-use std::io::ErrorKind;
 use std::test::Fail;
-
-/// A link with BAG 1 ms, no jitter and frames of at most 1518 bytes.
-const LINK_10: &str = "afdx alone --id 10 --bag 1 --jitter 0 --size 1518";
 
 const HELP: &str = "An AFDX switch over captured traffic
 
@@ -230,68 +225,6 @@ fn tells_the_first_fault(rt: HostRuntime) -> Result<(), Fail> {
         assert_eq!(rt; got.out.as_slice(), b"".as_slice(), "{line}");
         assert_eq!(rt; got.err.as_slice(), line.as_bytes(), "{line}");
     }
-    Ok(())
-}
-
-#[test]
-fn stops_where_a_device_fails(rt: HostRuntime) -> Result<(), Fail> {
-    let alloc = rt.alloc();
-    let words = split(alloc, LINK_10)?;
-    let input = capture(alloc, &[captured(60, 0, 0)])?;
-    let broken = ErrorKind::BrokenPipe;
-    let again = ErrorKind::Interrupted;
-    // The read and the write that fail and how, and what is answered: the status, how many bytes of the
-    // same capture, and the line.
-    for (read, how_read, write, how_write, status, written, line) in [
-        (0, broken, 0, None, 0, 100, ""),
-        (1, again, 0, None, 0, 100, ""),
-        (16, again, 0, None, 0, 100, ""),
-        (1, broken, 0, None, 5, 0, "afdx: device read\n"),
-        (16, broken, 0, None, 5, 0, "afdx: device read\n"),
-        (0, broken, 1, Some(broken), 5, 0, "afdx: device write\n"),
-        (0, broken, 2, Some(broken), 5, 50, "afdx: device write\n"),
-        (0, broken, 2, Some(again), 5, 50, "afdx: device write\n"),
-        (0, broken, 2, None, 5, 50, "afdx: device write\n"),
-        (0, broken, 3, None, 0, 100, ""),
-    ] {
-        for failing_line in [0, 1] {
-            let mut source = Source::new(&input, read, how_read);
-            let mut out = Sink::new(alloc, write, how_write);
-            let mut err = Sink::new(alloc, failing_line, Some(broken));
-            let mut folder = MemoryFolder::new(alloc, 0);
-            let got = serve(alloc, &words, &mut source, &mut out, &mut err, &mut folder);
-            let told = if failing_line == 0 { line } else { "" };
-            assert_eq!(rt; got, status, "read {read}, write {write}");
-            assert_eq!(rt; out.bytes.len(), written, "read {read}, write {write}");
-            assert!(rt; input.starts_with(&out.bytes), "read {read}, write {write}");
-            assert_eq!(rt;
-                err.bytes.as_slice(),
-                told.as_bytes(),
-                "read {read}, write {write}"
-            );
-        }
-    }
-    Ok(())
-}
-
-#[test]
-fn gives_up_where_every_read_is_interrupted(rt: HostRuntime) -> Result<(), Fail> {
-    let alloc = rt.alloc();
-    let words = split(alloc, LINK_10)?;
-    let mut out = Vec::new(alloc);
-    let mut err = Vec::new(alloc);
-    let mut folder = MemoryFolder::new(alloc, 0);
-    let status = serve(
-        alloc,
-        &words,
-        &mut Interrupted,
-        &mut out,
-        &mut err,
-        &mut folder,
-    );
-    assert_eq!(rt; status, 5);
-    assert_eq!(rt; out.as_slice(), b"".as_slice());
-    assert_eq!(rt; err.as_slice(), b"afdx: device read\n".as_slice());
     Ok(())
 }
 

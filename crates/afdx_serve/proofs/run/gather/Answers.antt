@@ -2,7 +2,7 @@ use Rattle.std.proofs.Common.{sym, subst}
 use Rattle.afdx_table.specs.Content.{Content}
 use Rattle.afdx_load.specs.Accepted.{IsAccepted}
 use Rattle.afdx_session.specs.Texts.{texts_of}
-use Rattle.afdx_session.specs.Outcome.{table_in}
+use Rattle.afdx_session.specs.Outcome.{table_in, is_cleared}
 use Rattle.afdx_serve.specs.Runs.{HasTable, HasPlan, HasCaptures, FailsToGetAll}
 use Rattle.afdx_serve.proofs.RunLemmas.{of_error, not_gathered, gathered}
 use Rattle.afdx_serve.proofs.run.gather.Goals as goal
@@ -14,7 +14,7 @@ returns-in_err-captures-clause-led g c =
     let t = table_in c.in_ok-plan.plan in
     let same = c.in_ok-plan.ensures.0 in
     let plan : HasPlan files paths t =
-    (subst (λ (x : Content). HasTable files paths.table.now x) (sym same) c.in_ok-table.ensures.got.0, λ checked. subst (λ (x : Content). IsAccepted x) (sym same) (c.in_ok-plan.ensures.1 checked)) in
+    (subst (λ (x : Content). HasTable files paths.table.now x) (sym same) c.in_ok-table.ensures.got.0, λ checked. subst (λ (x : Content). IsAccepted x) (sym same) (c.in_ok-plan.ensures.2 checked)) in
     let fails = subst (λ (x : Content). FailsToGetAll c.in_err-captures.field-0.0 (g.F.Folder.files c.get_table.new.folder) paths.input.now x (g.F.Folder.failed c.get_table.new.folder) (g.F.Folder.failed c.get_captures.new.folder)) c.table.ensures.table c.in_err-captures.ensures.got in
     of_error _ _ _ c.in_err-captures.field-0.0 c.from_residual-in_err-captures.ensures
     (not_gathered paths files _ t _ _ _ plan c.in_ok-table.ensures.same c.in_ok-table.ensures.got.1 c.in_err-captures.field-0.0 fails)
@@ -26,8 +26,8 @@ returns-clause-led g c =
     let t = table_in c.in_ok-plan.plan in
     let same = c.in_ok-plan.ensures.0 in
     let plan : HasPlan files paths t =
-    (subst (λ (x : Content). HasTable files paths.table.now x) (sym same) c.in_ok-table.ensures.got.0, λ checked. subst (λ (x : Content). IsAccepted x) (sym same) (c.in_ok-plan.ensures.1 checked)) in
+    (subst (λ (x : Content). HasTable files paths.table.now x) (sym same) c.in_ok-table.ensures.got.0, λ checked. subst (λ (x : Content). IsAccepted x) (sym same) (c.in_ok-plan.ensures.2 checked)) in
     let captures = texts_of c.in_ok-captures.captures.items in
     let got = subst (λ (x : Content). HasCaptures (g.F.Folder.files c.get_table.new.folder) paths.input.now x captures) c.table.ensures.table c.in_ok-captures.ensures.got.0 in
     let led = rw c.deref.ensures.value at c.lead.ensures in
-    gathered paths files _ t _ _ _ plan c.in_ok-table.ensures.same c.in_ok-table.ensures.got.1 captures got c.in_ok-captures.ensures.got.1 c.lead.result led
+    gathered paths files _ t _ _ _ plan c.in_ok-table.ensures.same c.in_ok-table.ensures.got.1 captures got c.in_ok-captures.ensures.got.1 (is_cleared c.in_ok-plan.plan) c.in_ok-plan.ensures.1 c.lead.result led
