@@ -43,20 +43,25 @@ def longest_delay(port, link, passed, left, bound):
     return max(delays, default=0)
 
 
-def main(table_path, source, target):
-    with open(table_path, encoding="utf-8") as file:
-        table = model.table_of(file.read())
+def compare(table, source, target):
+    """The longest delay of each port and priority that has a bound, beside it."""
     bounds, longest = bounds_of(table), {}
+    passed = {link.id: passed_of(table, link, source) for link in table.links}
     for port in table.ports:
         out = records_of(target, port.id)
         for link in table.links:
             left = [record for record in out if record.data[4:6] == link.id.to_bytes(2, "big")]
-            passed = passed_of(table, link, source) if port.id in link.to else []
             place = (port.id, link.priority)
-            delay = longest_delay(port, link, passed, left, bounds.get(place, 0))
+            delay = longest_delay(port, link, passed[link.id] if port.id in link.to else [], left, bounds.get(place, 0))
             longest[place] = max(longest.get(place, 0), delay)
-    for (port, priority), bound in bounds.items():
-        print(f"port {port} {priority}: longest delay {longest.get((port, priority), 0)}, bound {bound}")
+    return {place: (longest.get(place, 0), bound) for place, bound in bounds.items()}
+
+
+def main(table_path, source, target):
+    with open(table_path, encoding="utf-8") as file:
+        table = model.table_of(file.read())
+    for (port, priority), (delay, bound) in compare(table, source, target).items():
+        print(f"port {port} {priority}: longest delay {delay}, bound {bound}")
 
 
 if __name__ == "__main__":

@@ -1,0 +1,261 @@
+#!/usr/bin/env bash
+# What stands where the outside fails: full, small and read-only file systems, links, what is no file, closed streams, calls
+# of the system that fail one after the other, and a program that is ended at any of them. Each name has the capture of an
+# older run or the whole new one, the status and the line say which, and no other file changes.
+. "$(dirname "$0")/common.sh"
+install text2pcap=wireshark-common python3=python3 cc=gcc unshare=util-linux
+export PYTHONDONTWRITEBYTECODE=1
+afdx=${AFDX:-$top/crates/afdx/out/afdx}
+as_root=()
+[ "$(id -u)" -eq 0 ] || as_root=(sudo)
+cd "$room" || exit 1
+
+# again: OUT has the captures of the older run, IN those of this one.
+again() {
+    rm -rf in out alias && cp -a given in && cp -a older out
+}
+
+# run_over IN OUT WORD..: runs afdx with these words before it, and keeps what it says.
+run_over() {
+    local source=$1 target=$2 status=0
+    shift 2
+    "$@" "$afdx" run table.toml "$source" "$target" >answer.txt 2>said.txt || status=$?
+    echo "$status" >status.txt
+    echo "status $status: $(cat said.txt)"
+}
+
+# said STATUS LINE: it ended so.
+said() {
+    [ "$(cat status.txt)" -eq "$1" ] && [ "$(cat said.txt)" = "$2" ]
+}
+
+# stands COUNT [FOLDER]: in the folder the first COUNT captures are those of this run, the others those of the older one, and
+# there is no other file; what came in is as it was.
+stands() {
+    local port
+    rm -rf wanted && cp -a older wanted
+    for port in $(seq "$1"); do
+        cp "newer/port-$port.pcap" wanted
+    done
+    diff -r wanted "${2:-out}" && diff -r given in
+}
+
+# leaves STATUS LINE COUNT WORD..: with these words before it, afdx ends so, and so many captures are those of this run.
+leaves() {
+    local status=$1 line=$2 count=$3
+    shift 3
+    again && run_over in out "$@" && said "$status" "$line" && stands "$count"
+}
+
+# --- What stands in the place of a file ---
+
+# all_but COUNT: each file and folder, what it is, which, and what it holds, but for the first COUNT captures in OUT.
+all_but() {
+    local port skipped=()
+    for port in $(seq "$1"); do
+        skipped+=(! -path "out/port-$port.pcap")
+    done
+    find in out table.toml elsewhere.pcap "${skipped[@]}" -printf '%p %y %l %i %m\n' | sort
+    find in out table.toml elsewhere.pcap "${skipped[@]}" \( -type f -o -type l \) -exec md5sum {} + | sort
+}
+
+# keeps IN OUT COUNT LINE COMMAND..: after this command has changed IN or OUT, a run ends with status 5 and this line; so many
+# captures are those of this run, and every other file is the one that it was.
+keeps() {
+    local source=$1 target=$2 count=$3 line=$4 port
+    shift 4
+    again && "$@" && all_but "$count" >before.txt || return 1
+    run_over "$source" "$target" && said 5 "$line" && all_but "$count" >after.txt && diff before.txt after.txt || return 1
+    for port in $(seq "$count"); do
+        cmp "newer/port-$port.pcap" "out/port-$port.pcap" || return 1
+    done
+}
+
+# instead KIND FILE: has what is no file in the place of a file.
+instead() {
+    rm -r "$2" && "$1" "$2"
+}
+
+# through_a_link TARGET: a link in OUT that leads to no file that was got is replaced, and what it leads to is as it was.
+through_a_link() {
+    again && ln -sf "$1" out/port-1.pcap && run_over in out && said 0 "" && [ ! -L out/port-1.pcap ] && stands 2 &&
+        cmp elsewhere.pcap table.toml
+}
+
+# from_a_fifo: a capture is read from a FIFO.
+from_a_fifo() {
+    again && instead mkfifo in/port-1.pcap && { cat given/port-1.pcap >in/port-1.pcap & } && run_over in out && said 0 "" &&
+        rm in/port-1.pcap && cp given/port-1.pcap in && stands 2
+}
+
+# --- File systems, streams and limits ---
+
+# mounted COUNT LINE COMMANDS: these shell commands make OUT another file system, in a namespace of its own.
+mounted() {
+    again && rm -rf after && mkdir after
+    "${as_root[@]}" unshare -m sh -c "$3 && { '$afdx' run table.toml in out >answer.txt 2>said.txt; echo \$? >status.txt; cp -a out/. after; }"
+    echo "status $(cat status.txt): $(cat said.txt)"
+    said 5 "$2" && stands "$1" after
+}
+
+small() { # small KIB: the commands for a file system of so many KiB that has the older captures
+    echo "mount -t tmpfs -o size=${1}k none out && cp -a older/. out"
+}
+
+limited() { # limited WORD..: no file may grow past 8 KiB
+    (trap '' XFSZ && ulimit -f 8 && "$@")
+}
+
+# limit_ends: the same, where the system ends the program: what was written so far is beside the name.
+limit_ends() {
+    again && run_over in out bash -c 'ulimit -c 0 -f 8 && exec "$@"' - && [ "$(cat status.txt)" -eq 153 ] &&
+        rm out/port-2.pcap.new-0 && stands 1
+}
+
+redirected() { # redirected REDIRECTION WORD..
+    local redirection=$1
+    shift
+    sh -c "exec \"\$@\" $redirection" - "$@"
+}
+
+# --- Calls of the system ---
+
+preloaded() { # preloaded VARIABLE=VALUE WORD..: see failing.c
+    rm -f calls.txt
+    env "$1" CALLS="$PWD/calls.txt" LD_PRELOAD="$PWD/failing.so" "${@:2}"
+}
+
+# new_ones: how many captures the line says are those of this run.
+new_ones() {
+    case $(cat said.txt) in
+        "afdx: device put out/port-1.pcap") echo 0 ;;
+        "afdx: device put out/port-2.pcap") echo 1 ;;
+        "afdx: device write" | "") echo 2 ;;
+        *) echo "no such line" ;;
+    esac
+}
+
+# each_fails CALL LINES: this call fails, the first time, the second and so on, until the program makes no more of them. What
+# the line and the status say stands, and so many of the lines are there.
+each_fails() {
+    local number lines=0
+    for number in $(seq 20); do
+        again && run_over in out preloaded "FAIL=$1:$number"
+        [ -s said.txt ] && lines=$((lines + 1))
+        [ "$(cat status.txt)" -eq "$([ -s said.txt ] && echo 5 || echo 0)" ] && stands "$(new_ones)" || return 1
+        [ "$(grep -c "^$1" calls.txt)" -lt "$number" ] && break
+    done
+    [ "$number" -gt 2 ] && [ "$lines" -eq "$2" ]
+}
+
+# each_half: each write takes half of its bytes, and the rest is written by the next.
+each_half() {
+    local number
+    for number in 1 2 3; do
+        leaves 0 "" 2 preloaded "HALF=write:$number" && cmp answer.txt report.txt || return 1
+    done
+}
+
+
+# each_kill: the program is ended at each call in turn. The captures that were moved are those of this run; what is left
+# beside them is in no one's way, and stays where the next run is done.
+each_kill() {
+    local number moved
+    for number in $(seq 40); do
+        again && run_over in out preloaded "KILL=$number"
+        moved=$(head -n "$((number - 1))" calls.txt | grep -c rename)
+        [ "$(cat status.txt)" -eq 0 ] && break
+        rm -rf left && mkdir left
+        find out -name '*.new-*' -exec mv {} left \;
+        echo "call $number, $(tail -1 calls.txt): $moved new, left beside: $(ls left)"
+        [ "$(cat status.txt)" -eq 137 ] && stands "$moved" || return 1
+        cp -a left/. out && run_over in out && said 0 "" && rm -rf found && mkdir found || return 1
+        find out -name '*.new-*' -exec mv {} found \;
+        diff -r left found && stands 2 || return 1
+    done
+    echo "$((number - 1)) calls"
+    [ "$number" -gt 10 ] && stands 2
+}
+
+cat >table.toml <<'END'
+[[port]]
+id = 1
+mbit = 100
+buffer = 100000
+max_delay_us = 500000
+
+[[port]]
+id = 2
+mbit = 100
+buffer = 100000
+max_delay_us = 500000
+
+[[link]]
+id = 10
+from = 1
+to = [2]
+bag_ms = 1
+jitter_us = 0
+max_size = 1000
+priority = "low"
+
+[[link]]
+id = 20
+from = 2
+to = [1]
+bag_ms = 1
+jitter_us = 0
+max_size = 1000
+priority = "low"
+END
+mkdir old_in older given newer
+frames old_in/port-1.pcap 0.001000000:10:900 0.003000000:10:900
+frames old_in/port-2.pcap 0.000000000:20:200
+frames given/port-1.pcap $(seq -f '0.%03g000000:10:1000' 40)
+frames given/port-2.pcap 0.000000000:20:64 0.002000000:20:64
+"$afdx" run table.toml old_in older >report.txt && "$afdx" run table.toml given newer >report.txt || exit 1
+cp table.toml elsewhere.pcap
+cc -shared -fPIC -O1 -o failing.so "$top/end_to_end/failing.c" || exit 1
+
+put_1="afdx: device put out/port-1.pcap"
+put_2="afdx: device put out/port-2.pcap"
+check "older captures are replaced" leaves 0 "" 2
+check "OUT is IN" keeps in in 0 "afdx: device put in/port-1.pcap" true
+check "OUT is IN by another spelling" keeps in ./in/ 0 "afdx: device put ./in//port-1.pcap" true
+check "OUT is IN by its whole path" keeps in "$PWD/in" 0 "afdx: device put $PWD/in/port-1.pcap" true
+check "OUT is a link to IN" keeps in alias 0 "afdx: device put alias/port-1.pcap" ln -s in alias
+check "IN is a link to OUT" keeps alias out 0 "$put_1" ln -s out alias
+check "a link from OUT into IN" keeps in out 0 "$put_1" ln -sf ../in/port-1.pcap out/port-1.pcap
+check "a link from IN into OUT" keeps in out 0 "$put_1" ln -sf ../out/port-1.pcap in/port-1.pcap
+check "a hard link from OUT into IN" keeps in out 0 "$put_1" ln -f in/port-1.pcap out/port-1.pcap
+check "a hard link to another port's capture" keeps in out 1 "$put_2" ln -f in/port-1.pcap out/port-2.pcap
+check "a hard link to the table" keeps in out 0 "$put_1" ln -f table.toml out/port-1.pcap
+check "a link to a file that was not got is replaced" through_a_link ../elsewhere.pcap
+check "so is a link to nothing" through_a_link ../nothing.pcap
+check "a FIFO in OUT" keeps in out 0 "$put_1" instead mkfifo out/port-1.pcap
+check "a FIFO in IN is read" from_a_fifo
+check "a folder in a capture's place in OUT" keeps in out 1 "$put_2" instead mkdir out/port-2.pcap
+check "a folder in a capture's place in IN" keeps in out 0 "afdx: device get in/port-2.pcap" instead mkdir in/port-2.pcap
+check "a file in the place of OUT" keeps in out 0 "$put_1" instead touch out
+check "a capture that may not be written" keeps in out 0 "$put_1" chmod a-w out/port-1.pcap
+check "OUT is an empty word" ends 2 "afdx: usage" /dev/null run table.toml in ""
+check "IN is an empty word" ends 2 "afdx: usage" /dev/null run table.toml "" out
+
+check "a read-only file system" mounted 0 "$put_1" "mount --bind out out && mount -o remount,bind,ro out"
+check "a file system without room for the first capture" mounted 0 "$put_1" "$(small 8)"
+check "a file system without room for the second" mounted 1 "$put_2" "$(small 12)"
+check "a limit of a file's size" leaves 5 "$put_2" 1 limited
+check "the limit ends the program" limit_ends
+check "standard output is full" leaves 5 "afdx: device write" 2 redirected ">/dev/full"
+check "standard output is closed" leaves 5 "afdx: device write" 2 redirected ">&-"
+check "standard input and error are closed" leaves 0 "" 2 redirected "<&- 2>&-"
+check "all three are closed" leaves 5 "" 2 redirected "<&- >&- 2>&-"
+
+check "each open fails in turn" each_fails open 2
+check "each write fails in turn" each_fails write 3
+check "each sync fails in turn" each_fails fsync 2
+check "each rename fails in turn" each_fails rename 2
+check "each close fails in turn, after the sync" each_fails close 0
+check "each write takes half in turn" each_half
+check "the program is ended at each call in turn" each_kill
+finish
