@@ -1,5 +1,5 @@
 -- The verdict is the first case that holds.
-use Rattle.std.proofs.Common.{◌≡◌, ◌≢◌, ℕ, ◌+◌, ◌<◌, ◌≤◌, nat_eq, nat_lt, Bool, true, not, cond, length, Option, Some, None, refl, sym, ap, ◌∙◌, subst, inl, inr, arith}
+use Rattle.std.proofs.Common.{◌≡◌, ℕ, ◌+◌, ◌<◌, ◌≤◌, nat_eq, true, not, cond, length, Option, Some, None, refl, sym, ap, ◌∙◌, subst, inl, inr, arith}
 use Rattle.std.specs.Str.{bytes_eq}
 use Rattle.std.proofs.lemmas.Bool.{cases_Bool, cases_lt, lt-ltb, le-ltb}
 use Rattle.std.proofs.lemmas.Bool.Decides.{nat_tests}
@@ -77,19 +77,19 @@ of_link table port frame (Some link) is none =
       | inr other ↦ rw other (record { holds = (link, is, grind (arith, nat_tests)); none_before = linked })
       | inl same ↦
           let at_port : NoneBefore table port frame 6 = none_more table port frame WrongPort (omega arith) (λ wrong.
-            let e : Some wrong.0 ≡ Some link = sym wrong.1 ∙ is in
-            let one : wrong.0 ≡ link = cc in
-            wrong.2 (ap (λ (l : Link). l.from) one ∙ number link.from port same)) linked in
+          let e : Some wrong.0 ≡ Some link = sym wrong.1 ∙ is in
+          let one : wrong.0 ≡ link = cc in
+          wrong.2 (ap (λ (l : Link). l.from) one ∙ number link.from port same)) linked in
           elim (cases_lt link.max_size (size_of (length frame.bytes))) [
             | inl big ↦ rw (same, lt-ltb link.max_size (size_of (length frame.bytes)) big) (record { holds = (link, is, big); none_before = at_port })
             | inr fits ↦ rw (same, le-ltb link.max_size (size_of (length frame.bytes)) fits) (record {
-                holds = (link, is, refl);
-                none_before = none_more table port frame TooBig (omega arith) (λ big.
+              holds = (link, is, refl);
+              none_before = none_more table port frame TooBig (omega arith) (λ big.
                   let e : Some big.0 ≡ Some link = sym big.1 ∙ is in
                   let one : big.0 ≡ link = cc in
                   let lt : link.max_size < size_of (length frame.bytes) = subst (λ (l : Link). l.max_size < size_of (length frame.bytes)) one big.2 in
                   absurd (omega (arith, lt, fits))) at_port;
-              })
+            })
           ]
     ]
   where
@@ -133,19 +133,19 @@ only table port frame v w a b =
     elim (cases_lt (place_of v) (place_of w)) [
       | inl before ↦ absurd (b.none_before v before a.holds)
       | inr le ↦ elim (cases_lt (place_of w) (place_of v)) [
-          | inl after ↦ absurd (a.none_before w after b.holds)
-          | inr ge ↦ elim (cases_lt (place_of v) 7) [
-              | inl low ↦ same_place v w low (omega (arith, le, ge))
-              | inr high ↦
-                  let c = last_place v high in
-                  let d = last_place w (omega (arith, high, le)) in
-                  let x = subst (HasCase table port frame) c.1 a.holds in
-                  let y = subst (HasCase table port frame) d.1 b.holds in
-                  let e : Some x.0 ≡ Some y.0 = sym x.1 ∙ y.1 in
-                  let one : x.0 ≡ y.0 = cc in
-                  c.1 ∙ ap Clean (sym x.2 ∙ ap (λ (l : Link). l.id) one ∙ y.2) ∙ sym d.1
-            ]
+        | inl after ↦ absurd (a.none_before w after b.holds)
+        | inr ge ↦ elim (cases_lt (place_of v) 7) [
+          | inl low ↦ same_place v w low (omega (arith, le, ge))
+          | inr high ↦
+              let c = last_place v high in
+              let d = last_place w (omega (arith, high, le)) in
+              let x = subst (HasCase table port frame) c.1 a.holds in
+              let y = subst (HasCase table port frame) d.1 b.holds in
+              let e : Some x.0 ≡ Some y.0 = sym x.1 ∙ y.1 in
+              let one : x.0 ≡ y.0 = cc in
+              c.1 ∙ ap Clean (sym x.2 ∙ ap (λ (l : Link). l.id) one ∙ y.2) ∙ sym d.1
         ]
+      ]
     ]
 
 pub is_first : VerdictIsTheFirstCase
