@@ -2,7 +2,7 @@
 
 ghost use Rattle.afdx_table.specs.WellFormed.{TablesAreWellFormed};
 ghost use Rattle.afdx_table.specs.Holds.{TablesHoldTheirTexts};
-ghost use Rattle.afdx_table.specs.Found.{LinksAreFound};
+ghost use Rattle.afdx_table.specs.Found.{LinksAreFound, LinksStandAtTheirPlaces};
 
 /// Every table of a text is well formed.
 pub fn tables_are_well_formed()
@@ -19,4 +19,9 @@ pub fn tables_hold_their_texts()
 /// number.
 pub fn links_are_found()
     ensures { LinksAreFound }
+{}
+
+/// The link at the place of a number is the link of that number; where there is no place, there is no link.
+pub fn links_stand_at_their_places()
+    ensures { LinksStandAtTheirPlaces }
 {}

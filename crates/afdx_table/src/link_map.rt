@@ -4,7 +4,7 @@ ghost use Rattle.std.specs.Prelude.{◌≡◌, ◌==◌, false, [], ◌∷◌, �
 ghost use Rattle.afdx_table.specs.Links.{has_link};
 
 use crate::rows::LinkRow;
-use indexmap::IndexMap;
+use afdx_numbers::Numbers;
 use std::alloc::{AllocError, Global};
 use std::marker::Model;
 
@@ -13,19 +13,19 @@ use std::marker::Model;
 /// Contracts see the list of their rows in order.
 #[derive(Drop)]
 pub(crate) struct Links {
-    rows: IndexMap<u16, LinkRow>,
+    numbers: Numbers<Global>,
+    rows: Vec<LinkRow>,
 }
 
 impl Model for Links {
     ghost use Rattle.std.specs.Prelude.{◌≡◌, List, map};
-    ghost use Rattle.std.specs.List.{AllByRecursion};
     ghost use Rattle.afdx_table.specs.Link.{Link};
 
     ghost Value = { List Link };
 
-    ghost view = { λ l. map (λ e. e.1) l.rows.entries };
+    ghost view = { λ l. l.rows.items };
 
-    ghost invariant = { λ l. AllByRecursion (λ e. e.0 ≡ e.1.id) l.rows.entries };
+    ghost invariant = { λ l. l.numbers ≡ map (λ r. r.id) l.rows.items };
 }
 
 impl Links {
@@ -33,7 +33,8 @@ impl Links {
         ensures { result ≡ [] }
     {
         Links {
-            rows: IndexMap::new(alloc),
+            numbers: Numbers::new(alloc),
+            rows: Vec::new(alloc),
         }
     }
 
@@ -47,32 +48,31 @@ impl Links {
     pub(crate) fn at(&self, index: usize) -> Option<&LinkRow>
         ensures { option_copied result ≡ slice_get self.now index }
     {
-        let (_, row) = self.rows.get_index(index)?;
-        Some(row)
+        self.rows.get(index)
     }
 
     /// Whether there is a link of this number.
-    #[tactic(auto, using(crate::proofs::LinkLemmas::contained))]
     pub(crate) fn contains(&self, id: u16) -> bool
         ensures { result ≡ has_link self.now id }
     {
-        self.rows.contains_key(&id)
+        self.place(id).is_some()
     }
 
     /// The link of a number.
-    #[tactic(auto, using(crate::proofs::LinkLemmas::found))]
     pub(crate) fn get(&self, id: u16) -> Option<&LinkRow>
         ensures { option_copied result ≡ find (λ l. l.id == id) self.now }
     {
-        self.rows.get(&id)
+        match self.place(id) {
+            Some(place) => self.at(place),
+            None => None,
+        }
     }
 
     /// The place of a number in the order, from 0.
-    #[tactic(auto, using(crate::proofs::LinkLemmas::placed))]
     pub(crate) fn place(&self, id: u16) -> Option<usize>
         ensures { result ≡ position (λ l. l.id == id) self.now }
     {
-        self.rows.get_index_of(&id)
+        self.numbers.place(id)
     }
 
     /// Adds a link of a new number at the end.
@@ -81,7 +81,9 @@ impl Links {
         ensures ok { OnOk result (self.new ≡ self.old ++ row ∷ []) }
         ensures err { OnErr result (self.new ≡ self.old) }
     {
-        self.rows.insert(row.id, row)?;
+        self.rows.reserve(1)?;
+        self.numbers.push(row.id)?;
+        self.rows.push_reserved(row);
         Ok(())
     }
 }
