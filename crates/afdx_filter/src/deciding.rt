@@ -1,12 +1,15 @@
 //! How the verdict on a frame is found.
 
-ghost use Rattle.std.specs.Prelude.{◌≡◌};
-ghost use Rattle.afdx_filter.specs.Verdict.{verdict_of};
+ghost use Rattle.std.specs.Prelude.{◌≡◌, None};
+ghost use Rattle.afdx_table.specs.Content.{link_row};
+ghost use Rattle.afdx_filter.specs.Verdict.{verdict_of, link_verdict};
+ghost use Rattle.afdx_filter.specs.Place.{place_named};
 
 use crate::outcome::Verdict;
 use afdx_frame::view;
 use afdx_pcap::Record;
 use afdx_table::Table;
+use afdx_table::laws::{links_are_found, links_stand_at_their_places};
 use afdx_units::size;
 use std::alloc::Allocator;
 
@@ -16,35 +19,81 @@ const MIN_SIZE: u32 = 64;
 /// The greatest size of a frame, in bytes (IEEE 802.3).
 const MAX_SIZE: u32 = 1518;
 
+/// The verdict on a frame that arrives at a port, and where the frame's link stands in the table.
+///
+/// One look-up gives both, so that what handles a clean frame needs no second one.
+#[derive(Clone, Copy, Debug, PartialEq, Eq)]
+pub struct Judged {
+    /// The first case of [`Verdict`] that holds.
+    pub verdict: Verdict,
+    /// The place of a clean frame's link in file order, from 0; none of any other frame.
+    pub place: Option<usize>,
+}
+
+impl Judged {
+    fn refused(verdict: Verdict) -> Judged
+        ensures { result ≡ record { verdict = verdict; place = None } }
+    {
+        Judged {
+            verdict,
+            place: None,
+        }
+    }
+}
+
+/// The verdict on a frame that arrives at a port, with the place of a clean frame's link.
+///
+/// O(1), whatever the table, with one look-up of the link; it takes no memory.
+pub fn judge<A: Allocator>(table: &Table, in_port: u8, frame: &Record<A>) -> Judged
+    ensures verdict { result.verdict ≡ verdict_of table.now in_port frame.now }
+    ensures place { result.place ≡ place_named table.now result.verdict }
+{
+    let bytes = frame.bytes();
+    if frame.original() as usize > bytes.len() {
+        return Judged::refused(Verdict::Cut);
+    }
+    let size = size(bytes.len() as u32);
+    if size < MIN_SIZE {
+        return Judged::refused(Verdict::Short);
+    }
+    if size > MAX_SIZE {
+        return Judged::refused(Verdict::Long);
+    }
+    let address = view(bytes).unwrap();
+    if address.constant() != table.constant() {
+        return Judged::refused(Verdict::Foreign);
+    }
+    judge_number(table, in_port, size, address.link())
+}
+
+/// The same of a frame of this size and link number, which passed the tests before that of its link.
+fn judge_number(table: &Table, in_port: u8, size: u32, number: u16) -> Judged
+    ensures verdict { result.verdict ≡ link_verdict in_port size (link_row table.now number) }
+    ensures place { result.place ≡ place_named table.now result.verdict }
+{
+    links_stand_at_their_places();
+    links_are_found();
+    let Some(place) = table.link_place(number) else {
+        return Judged::refused(Verdict::NoLink);
+    };
+    let link = table.link_at(place).unwrap();
+    if link.from != in_port {
+        return Judged::refused(Verdict::WrongPort);
+    }
+    if size > link.max_size {
+        return Judged::refused(Verdict::TooBig);
+    }
+    Judged {
+        verdict: Verdict::Clean(link.id),
+        place: Some(place),
+    }
+}
+
 /// The verdict on a frame that arrives at a port: the first case of [`Verdict`] that holds.
 ///
 /// O(1), whatever the table; it takes no memory.
 pub fn verdict<A: Allocator>(table: &Table, in_port: u8, frame: &Record<A>) -> Verdict
     ensures { result ≡ verdict_of table.now in_port frame.now }
 {
-    let bytes = frame.bytes();
-    if frame.original() as usize > bytes.len() {
-        return Verdict::Cut;
-    }
-    let size = size(bytes.len() as u32);
-    if size < MIN_SIZE {
-        return Verdict::Short;
-    }
-    if size > MAX_SIZE {
-        return Verdict::Long;
-    }
-    let address = view(bytes).unwrap();
-    if address.constant() != table.constant() {
-        return Verdict::Foreign;
-    }
-    let Some(link) = table.link(address.link()) else {
-        return Verdict::NoLink;
-    };
-    if link.from != in_port {
-        return Verdict::WrongPort;
-    }
-    if size > link.max_size {
-        return Verdict::TooBig;
-    }
-    Verdict::Clean(link.id)
+    judge(table, in_port, frame).verdict
 }

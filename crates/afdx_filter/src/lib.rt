@@ -5,7 +5,7 @@ mod deciding;
 pub mod laws;
 mod outcome;
 
-pub use deciding::verdict;
+pub use deciding::{Judged, judge, verdict};
 pub use outcome::Verdict;
 
 #[cfg(test)]
