@@ -1,5 +1,7 @@
 //! Which frames a switch holds: those of which a copy waits, is being sent, or was not handed out.
 
+ghost use Rattle.std.specs.Prelude.{◌<◌};
+
 use crate::traffic::{advances, arrive, next, offers, switch_of};
 use afdx_core::Fate;
 use afdx_filter::Verdict;
@@ -88,15 +90,28 @@ fn keys_used_again(rt: HostRuntime) -> Result<(), Fail> {
     let alloc = rt.alloc();
     let mut switch = switch_of(alloc, &single(alloc)?)?;
     for number in 0..2 {
-        let _early = arrive(alloc, &mut switch, 1, frame(10, length(number), number * 100_000));
+        let _early = arrive(
+            alloc,
+            &mut switch,
+            1,
+            frame(10, length(number), number * 100_000),
+        );
     }
     for number in 2..1000 {
-        let came = arrive(alloc, &mut switch, 1, frame(10, length(number), number * 100_000));
+        let came = arrive(
+            alloc,
+            &mut switch,
+            1,
+            frame(10, length(number), number * 100_000),
+        );
         assert_eq!(rt; came.0, Some(Fate::Passed(10)));
         assert_eq!(rt; switch.held(), 3);
         let first = number - 2;
         let end = first * 100_000 + (length(first) + 24) * 80;
-        assert_eq!(rt; next(&mut switch, 2), Ok(Some((end as u64, length(first) as usize))));
+        assert_eq!(rt;
+            next(&mut switch, 2),
+            Ok(Some((end as u64, length(first) as usize)))
+        );
         assert_eq!(rt; switch.held(), 2);
     }
     Ok(())
