@@ -17,6 +17,7 @@ const NEVER: u64 = u64::MAX;
 ///
 /// Contracts see the list of these instants in nanoseconds, none where nothing is due. It keeps them as the leaves
 /// of a tree in an array: each node is the earlier of its two children, so the root is the first of all.
+#[derive(Drop)]
 pub(crate) struct Dues {
     earliest: [u64; 64],
     places: usize,

@@ -10,10 +10,11 @@ ghost use Rattle.afdx_isolation.specs.Table.{settings_of};
 ghost use Rattle.afdx_port.specs.Content.{fresh, done, answer};
 ghost use Rattle.afdx_port.specs.Service.{sent_of};
 ghost use Rattle.afdx_store.specs.Seen.{copies_of};
-ghost use Rattle.afdx_core.specs.Outlets.{seen, offered_to, offered_at, BecameAt, touched, carried_due, ended, CanTake, CanCarry, IsCounted, Became, answer_at, queued_by, counted};
+ghost use Rattle.afdx_core.specs.Outlets.{seen, PlacesAre, dues_of, offered_to, offered_at, BecameAt, touched, carried, carried_due, ended, CanTake, CanCarry, IsCounted, Became, answer_at, queued_by, counted};
 ghost use Rattle.afdx_core.specs.Copies.{copies_at, copies_in, newly_aged, GaveUp, HoldsCopies, Thinned, Enough, AddsCopies};
 ghost use Rattle.afdx_core.specs.declared.outlet.Outlet.{Outlet as OneOutlet};
 
+use crate::dues::Dues;
 use afdx_port::laws::{each_has_one_event, events_follow_the_line, lagging_ports_follow};
 use afdx_port::{Aged, Item, Offer, Port, Sent};
 use afdx_store::Store;
@@ -60,29 +61,11 @@ impl<A: Allocator + Copy> Outlet<A> {
         }
     }
 
-    /// Whether these port numbers have this port.
-    fn is_among(&self, to: &[u8]) -> bool
-        ensures { result ≡ names_port self.now.row.id to.now }
-    {
-        to.contains(&self.row.id)
-    }
-
-    /// Makes room for one more item, where it leads here.
-    fn make_room(&mut self, to: &[u8]) -> Result<(), AllocError>
-        ensures room { OnOk result (names_port self.new.row.id to.now ≡ true → 0 < self.new.port.room) }
-        ensures seen { seen self.new ≡ seen self.old }
-    {
-        if self.is_among(to) {
-            self.port.reserve(1)?;
-        }
-        Ok(())
-    }
-
     /// Carries out the starts before the instant, and gives up the copies that are aged.
     fn carry(&mut self, at: Stamp, store: &mut Store<A>)
         requires can { CanCarry at self.old }
         requires holds { (i : ℕ) → copies_at self.old.port.content self.old.handed i ≤ copies_of (slice_index_or store.old.held i None) }
-        ensures seen { seen self.new ≡ carried_due at (seen self.old) }
+        ensures seen { seen self.new ≡ carried at (seen self.old) }
         ensures store { GaveUp (newly_aged self.old.port.content self.new.port.content) store.old.held store.new.held }
         ensures room { store.new.room ≡ store.old.room }
         ensures port_room { self.old.port.room ≤ self.new.port.room }
@@ -90,11 +73,9 @@ impl<A: Allocator + Copy> Outlet<A> {
         lagging_ports_follow();
         each_has_one_event();
         events_follow_the_line();
-        if self.port.is_due(at) {
-            let before = self.port.aged().len();
-            self.port.advance(at);
-            give_up_all(behind(self.port.aged(), before), store);
-        }
+        let before = self.port.aged().len();
+        self.port.advance(at);
+        give_up_all(behind(self.port.aged(), before), store);
     }
 
     /// Carries out all that is left, and gives up the copies that are aged.
@@ -135,29 +116,83 @@ impl<A: Allocator + Copy> Outlet<A> {
     }
 }
 
-/// Makes room for one more item at the ports that it leads to.
+/// The place of the port of a number among these.
+fn search(ports: &[PortRow], number: u8) -> Option<usize>
+    ensures { result ≡ position (λ p. p.id == number) ports.now }
+{
+    ports.iter().position(|port| port.id == number)
+}
+
+/// The places of these ports, by their numbers. O(ports) for each number that there may be.
+pub(crate) fn places_of(ports: &[PortRow]) -> [Option<usize>; 25]
+    requires { All IsPort ports.now }
+    ensures { PlacesAre result ports.now }
+{
+    let mut places = [None; 25];
+    for number in 0..25u8 {
+        places[number as usize] = search(ports, number);
+    }
+    places
+}
+
+/// The place of a port. O(1).
+pub(crate) fn place_of(places: &[Option<usize>; 25], port: u8) -> Option<usize>
+    ensures { result ≡ slice_index_or places.now port None }
+{
+    match places.get(port as usize) {
+        Some(place) => *place,
+        None => None,
+    }
+}
+
+/// Makes room for one more item at a port, where there is such a port.
+fn make_room_at<A: Allocator + Copy>(
+    outlets: &mut [Outlet<A>],
+    places: &[Option<usize>; 25],
+    port: u8,
+) -> Result<(), AllocError>
+    requires places { PlacesAre places.now (map (λ o. o.row) outlets.old) }
+    requires once { IsDistinct nat_eq (map (λ o. o.row.id) outlets.old) }
+    ensures room { OnOk result (All (λ o. (o.row.id == port) ≡ true → 0 < o.port.room) outlets.new) }
+    ensures more { (k : ℕ) → (d : OneOutlet A) → (slice_index_or outlets.old k d).port.room ≤ (slice_index_or outlets.new k d).port.room }
+    ensures seen { Became (λ o. o) outlets.old outlets.new }
+{
+    match place_of(places, port) {
+        Some(place) => outlets[place].port.reserve(1),
+        None => Ok(()),
+    }
+}
+
+/// Makes room for one more item at the ports that it leads to. O(ports that it leads to), and what lists take to move.
 pub(crate) fn make_room<A: Allocator + Copy>(
     outlets: &mut [Outlet<A>],
+    places: &[Option<usize>; 25],
     to: &[u8],
 ) -> Result<(), AllocError>
+    requires places { PlacesAre places.now (map (λ o. o.row) outlets.old) }
+    requires once { IsDistinct nat_eq (map (λ o. o.row.id) outlets.old) }
     ensures room { OnOk result (All (λ o. names_port o.row.id to.now ≡ true → 0 < o.port.room) outlets.new) }
     ensures seen { Became (λ o. o) outlets.old outlets.new }
 {
-    for outlet in outlets.iter_mut() {
-        outlet.make_room(to)?;
+    for port in to {
+        make_room_at(outlets, places, *port)?;
     }
     Ok(())
 }
 
-/// Carries out the starts before the instant at the ports that are due.
+/// Carries out the starts before the instant at the ports that are due before it, and at no other.
+/// O(1) for each start, and O(log ports) for each port that is due.
 pub(crate) fn carry_all<A: Allocator + Copy>(
     outlets: &mut [Outlet<A>],
+    dues: &mut Dues,
     at: Stamp,
     store: &mut Store<A>,
 )
     requires can { All (λ o. CanCarry at o) outlets.old }
+    requires dues { dues.old ≡ dues_of outlets.old }
     requires holds { HoldsCopies store.old.held outlets.old }
     ensures outlets { Became (carried_due at) outlets.old outlets.new }
+    ensures dues { dues.new ≡ dues_of outlets.new }
     ensures holds { HoldsCopies store.new.held outlets.new }
     ensures thinned { Thinned store.old.held store.new.held }
     ensures room { store.new.room ≡ store.old.room }
@@ -166,8 +201,10 @@ pub(crate) fn carry_all<A: Allocator + Copy>(
     lagging_ports_follow();
     each_has_one_event();
     events_follow_the_line();
-    for outlet in outlets.iter_mut() {
+    while let Some(place) = dues.first_before(at.ns()) {
+        let outlet = &mut outlets[place];
         outlet.carry(at, store);
+        dues.set(place, outlet.port.due());
     }
 }
 
@@ -195,35 +232,54 @@ pub(crate) fn outlet_of<A: Allocator + Copy>(outlets: &[Outlet<A>], port: u8) ->
 }
 
 /// Offers an item to the port at a place.
-fn offer_place<A: Allocator + Copy>(outlets: &mut [Outlet<A>], place: usize, item: &Item) -> Offer
+fn offer_place<A: Allocator + Copy>(
+    outlets: &mut [Outlet<A>],
+    dues: &mut Dues,
+    place: usize,
+    item: &Item,
+) -> Offer
     requires place { place < length outlets.old }
     requires can { (d : OneOutlet A) → CanTake item.now (slice_index_or outlets.old place d) }
     requires not_late { item.now.stamp < last_second }
     requires least { 64 ≤ item.now.size }
     requires largest { item.now.size ≤ 1518 }
+    requires dues { dues.old ≡ dues_of outlets.old }
     ensures answer { (d : OneOutlet A) → result ≡ answer item.now (slice_index_or outlets.old place d).port.content }
     ensures outlets { BecameAt (offered_to item.now) place outlets.old outlets.new }
+    ensures dues { dues.new ≡ dues_of outlets.new }
 {
-    outlets[place].port.offer(*item)
+    let outlet = &mut outlets[place];
+    let answer = outlet.port.offer(*item);
+    dues.set(place, outlet.port.due());
+    answer
 }
 
 /// Offers an item to a port, where there is such a port; without one, it is `Full`.
-fn offer_to<A: Allocator + Copy>(outlets: &mut [Outlet<A>], item: &Item, port: u8) -> Offer
+fn offer_to<A: Allocator + Copy>(
+    outlets: &mut [Outlet<A>],
+    dues: &mut Dues,
+    places: &[Option<usize>; 25],
+    item: &Item,
+    port: u8,
+) -> Offer
     requires can { All (λ o. (o.row.id == port) ≡ true → CanTake item.now o) outlets.old }
     requires once { IsDistinct nat_eq (map (λ o. o.row.id) outlets.old) }
     requires not_late { item.now.stamp < last_second }
     requires least { 64 ≤ item.now.size }
     requires largest { item.now.size ≤ 1518 }
+    requires dues { dues.old ≡ dues_of outlets.old }
+    requires places { PlacesAre places.now (map (λ o. o.row) outlets.old) }
     ensures answer { result ≡ answer_at item.now outlets.old port }
     ensures outlets { Became (offered_at item.now port) outlets.old outlets.new }
     ensures others { (k : ℕ) → (d : OneOutlet A) → ((slice_index_or outlets.old k d).row.id == port) ≡ false → slice_index_or outlets.new k d ≡ slice_index_or outlets.old k d }
     ensures copies { AddsCopies item.now.number (queued_by result) outlets.old outlets.new }
+    ensures dues { dues.new ≡ dues_of outlets.new }
 {
     lagging_ports_follow();
     each_has_one_event();
     events_follow_the_line();
-    match place_of(outlets, port) {
-        Some(place) => offer_place(outlets, place, item),
+    match place_of(places, port) {
+        Some(place) => offer_place(outlets, dues, place, item),
         None => Offer::Full,
     }
 }
@@ -242,6 +298,8 @@ fn copies_by(answer: Offer) -> usize
 /// It answers how many queued it.
 pub(crate) fn offer_all<A: Allocator + Copy>(
     outlets: &mut [Outlet<A>],
+    dues: &mut Dues,
+    places: &[Option<usize>; 25],
     item: &Item,
     to: &[u8],
     answers: &mut Vec<(u8, Offer), A>,
@@ -253,24 +311,20 @@ pub(crate) fn offer_all<A: Allocator + Copy>(
     requires least { 64 ≤ item.now.size }
     requires largest { item.now.size ≤ 1518 }
     requires room { vec_len answers.old + length to.now ≤ vec_capacity answers.old }
+    requires dues { dues.old ≡ dues_of outlets.old }
+    requires places { PlacesAre places.now (map (λ o. o.row) outlets.old) }
     ensures outlets { Became (touched item.now to.now) outlets.old outlets.new }
     ensures answers { answers.new.items ≡ answers.old.items ++ map (λ port. (port, answer_at item.now outlets.old port)) to.now }
     ensures copies { AddsCopies item.now.number result outlets.old outlets.new }
+    ensures dues { dues.new ≡ dues_of outlets.new }
 {
     let mut queued = 0;
     for port in to {
-        let answer = offer_to(outlets, item, *port);
+        let answer = offer_to(outlets, dues, places, item, *port);
         queued += copies_by(answer);
         answers.push_reserved((*port, answer));
     }
     queued
-}
-
-/// The place of the outlet of a port.
-pub(crate) fn place_of<A: Allocator + Copy>(outlets: &[Outlet<A>], port: u8) -> Option<usize>
-    ensures { result ≡ position (λ o. o.row.id == port) outlets.now }
-{
-    outlets.iter().position(|outlet| outlet.row.id == port)
 }
 
 /// The next sent item of the outlet at a place.

@@ -1,24 +1,33 @@
-use Rattle.std.proofs.Common.{◌≡◌, ◌<◌, true, arith}
-use Rattle.afdx_table.specs.Link.{names_port}
-use Rattle.afdx_core.specs.declared.outlet.Outlet.{Outlet}
+use Rattle.std.proofs.Common.{◌≡◌, ◌<◌, ◌≤◌, ℕ, List, length, take, subst, arith}
+use Rattle.std.proofs.lemmas.List.{take_all}
 use Rattle.afdx_core.specs.Outlets.{Out}
-use Rattle.afdx_core.proofs.Outs.{became_step, became_stays, all_step}
+use Rattle.afdx_core.proofs.Outs.{became_then}
+use Rattle.afdx_core.proofs.Keeping.{became_self}
+use Rattle.afdx_core.proofs.Rooms.{HaveRoomFor, room_none, room_next, places_same, once_same}
 use Rattle.afdx_core.proofs.outlet.make_room.Goals as goal
 
-pub returns-in_err-make_room-clause-seen : goal.returns-in_err-make_room-clause-seen
-returns-in_err-make_room-clause-seen g c =
-    let old = c.args.outlets.now in
-    let here = became_step (λ (o : Out). o) old c.loop-outlet.outlets c.loop-outlet.outlet-index c.make_room.new.self c.outlet-item.result (omega (arith, c.loop-outlet-test.true)) c.loop-outlet.invariant.became c.make_room.ensures.seen in
-    became_stays old _ _ here
+pub loop-port-init : goal.loop-port-init
+loop-port-init g c = record { became = became_self c.args.outlets.now; room = room_none c.args.outlets.now }
 
-pub loop-outlet-preserved : goal.loop-outlet-preserved
-loop-outlet-preserved g c = record {
-  became = became_step (λ (o : Out). o) c.args.outlets.now c.loop-outlet.outlets c.loop-outlet.outlet-index c.make_room.new.self c.outlet-item.result (omega (arith, c.loop-outlet-test.true)) c.loop-outlet.invariant.became c.make_room.ensures.seen;
-  room = all_step (λ (o : Outlet _). names_port o.row.id c.args.to.now ≡ true → 0 < o.port.room) c.loop-outlet.outlets c.loop-outlet.outlet-index c.make_room.new.self (omega (arith, c.loop-outlet-test.true)) c.loop-outlet.invariant.room c.in_ok-make_room.ensures.room;
+pub make_room_at-requires-clause-places : goal.make_room_at-requires-clause-places
+make_room_at-requires-clause-places g c = places_same c.args.places.now c.args.outlets.now c.loop-port.outlets c.loop-port.invariant.became c.requires.places
+
+pub make_room_at-requires-clause-once : goal.make_room_at-requires-clause-once
+make_room_at-requires-clause-once g c = once_same c.args.outlets.now c.loop-port.outlets c.loop-port.invariant.became c.requires.once
+
+pub returns-in_err-make_room_at-clause-seen : goal.returns-in_err-make_room_at-clause-seen
+returns-in_err-make_room_at-clause-seen g c =
+    became_then (λ (o : Out). o) (λ (o : Out). o) c.args.outlets.now c.loop-port.outlets c.make_room_at.new.outlets c.loop-port.invariant.became c.make_room_at.ensures.seen
+
+pub loop-port-preserved : goal.loop-port-preserved
+loop-port-preserved g c = record {
+  became = became_then (λ (o : Out). o) (λ (o : Out). o) c.args.outlets.now c.loop-port.outlets c.make_room_at.new.outlets c.loop-port.invariant.became c.make_room_at.ensures.seen;
+  room = room_next c.args.to.now c.loop-port.port-index c.loop-port.outlets c.make_room_at.new.outlets (omega (arith, c.loop-port-test.true)) c.loop-port.invariant.room c.make_room_at.ensures.seen c.make_room_at.ensures.more c.in_ok-make_room_at.ensures.room;
 }
 
 pub returns-clause-room : goal.returns-clause-room
-returns-clause-room g c k d lt = c.loop-outlet.invariant.room k d (omega (arith, lt, c.loop-outlet-test.false))
+returns-clause-room g c =
+    subst (λ (ports : List ℕ). HaveRoomFor ports c.loop-port.outlets) (take_all c.loop-port.port-index c.args.to.now (omega (arith, c.loop-port-test.false))) c.loop-port.invariant.room
 
 pub returns-clause-seen : goal.returns-clause-seen
-returns-clause-seen g c = became_stays c.args.outlets.now c.loop-outlet.outlets c.loop-outlet.outlet-index c.loop-outlet.invariant.became
+returns-clause-seen g c = c.loop-port.invariant.became
