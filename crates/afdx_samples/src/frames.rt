@@ -5,7 +5,7 @@ ghost use Rattle.afdx_units.specs.Time.{last_second};
 
 use afdx_pcap::Record;
 use afdx_units::Stamp;
-use std::alloc::Global;
+use std::alloc::Allocator;
 
 /// A frame in a capture: its stamp, its captured and original length, the first byte of its address and its link. The other
 /// bytes of the address are 0; so are those after the EtherType.
@@ -74,7 +74,7 @@ pub fn one_of_each() -> [Sample; 9] {
 
 /// The record of a frame; none where its stamp is no stamp or in the last second, where it is too long, and for want of
 /// memory.
-pub fn record(alloc: Global, sample: Sample) -> Option<Record<Global>>
+pub fn record<A: Allocator + Copy>(alloc: A, sample: Sample) -> Option<Record<A>>
     ensures { IfSome result (λ frame. frame.stamp < last_second) }
 {
     let stamp = Stamp::new(sample.seconds, sample.nanos)?;

@@ -10,6 +10,8 @@ mod devices;
 #[cfg(test)]
 mod fixtures;
 #[cfg(test)]
+mod growths;
+#[cfg(test)]
 mod memory_folder;
 #[cfg(test)]
 mod names;

@@ -46,15 +46,15 @@ fn six_links_fit(rt: HostRuntime) -> Result<(), Fail> {
         large(6, 0),
     ];
     let came = capture(alloc, &frames)?;
-    let ends = [
-        (123_040, 1514, 1),
-        (246_080, 1514, 2),
-        (369_120, 1514, 3),
-        (492_160, 1514, 4),
-        (615_200, 1514, 5),
-        (738_240, 1514, 6),
+    let left = [
+        large(1, 123_040),
+        large(2, 246_080),
+        large(3, 369_120),
+        large(4, 492_160),
+        large(5, 615_200),
+        large(6, 738_240),
     ];
-    assert!(rt; leaves(alloc, &text, &[&came, &HEADER], 2, &ends, "")?);
+    assert!(rt; leaves(alloc, &text, &[&came, &HEADER], &[&[], &left], "")?);
     assert_eq!(rt; bounds_at(alloc, &text, 2)?.low, Some(956_340));
     Ok(())
 }
@@ -71,8 +71,8 @@ fn high_bound_but_a_nanosecond(rt: HostRuntime) -> Result<(), Fail> {
     };
     let text = table(alloc, &[port(1), port(2)], &[link(10, 1, "[2]"), high])?;
     let came = capture(alloc, &[large(10, 0), small(12, 1), small(12, 1)])?;
-    let ends = [(123_040, 1514, 10), (129_760, 60, 12), (136_480, 60, 12)];
-    assert!(rt; leaves(alloc, &text, &[&came, &HEADER], 2, &ends, "")?);
+    let left = [large(10, 123_040), small(12, 129_760), small(12, 136_480)];
+    assert!(rt; leaves(alloc, &text, &[&came, &HEADER], &[&[], &left], "")?);
     assert_eq!(rt; bounds_at(alloc, &text, 2)?.high, Some(136_480));
     Ok(())
 }
@@ -91,13 +91,13 @@ fn low_bound_exactly(rt: HostRuntime) -> Result<(), Fail> {
         alloc,
         &[small(10, 0), small(10, 0), small(11, 0), small(11, 0)],
     )?;
-    let ends = [
-        (6_720, 60, 10),
-        (13_440, 60, 10),
-        (20_160, 60, 11),
-        (26_880, 60, 11),
+    let left = [
+        small(10, 6_720),
+        small(10, 13_440),
+        small(11, 20_160),
+        small(11, 26_880),
     ];
-    assert!(rt; leaves(alloc, &text, &[&came, &HEADER], 2, &ends, "")?);
+    assert!(rt; leaves(alloc, &text, &[&came, &HEADER], &[&[], &left], "")?);
     assert_eq!(rt; bounds_at(alloc, &text, 2)?.low, Some(26_880));
     Ok(())
 }

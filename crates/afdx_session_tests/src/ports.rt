@@ -21,9 +21,8 @@ fn buffer_at_the_edge(rt: HostRuntime) -> Result<(), Fail> {
             alloc,
             &text,
             &[&first, &at_end, &HEADER],
-            3,
-            &[(123_040, 1514, 10), (246_080, 1514, 20)],
-            ""
+            &[&[], &[], &[large(10, 123_040), large(20, 246_080)]],
+            "out 3 low offered 2 full 0 aged 0 sent 2\n"
         )?
     );
     let before_end = capture(alloc, &[large(20, 123_039)])?;
@@ -32,9 +31,8 @@ fn buffer_at_the_edge(rt: HostRuntime) -> Result<(), Fail> {
             alloc,
             &text,
             &[&first, &before_end, &HEADER],
-            3,
-            &[(123_040, 1514, 10)],
-            ""
+            &[&[], &[], &[large(10, 123_040)]],
+            "out 3 low offered 2 full 1 aged 0 sent 1\n"
         )?
     );
     Ok(())
@@ -56,9 +54,8 @@ fn buffer_beside_an_aged_frame(rt: HostRuntime) -> Result<(), Fail> {
             alloc,
             &text,
             &[&first, &at_once, &HEADER],
-            3,
-            &[(122_960, 1513, 10)],
-            ""
+            &[&[], &[], &[frame(10, 1513, 122_960)]],
+            "out 3 low offered 3 full 1 aged 1 sent 1\n"
         )?
     );
     let later = capture(alloc, &[small(20, 0), large(20, 122_961)])?;
@@ -67,9 +64,8 @@ fn buffer_beside_an_aged_frame(rt: HostRuntime) -> Result<(), Fail> {
             alloc,
             &text,
             &[&first, &later, &HEADER],
-            3,
-            &[(122_960, 1513, 10), (246_001, 1514, 20)],
-            ""
+            &[&[], &[], &[frame(10, 1513, 122_960), large(20, 246_001)]],
+            "out 3 low offered 3 full 0 aged 1 sent 2\n"
         )?
     );
     Ok(())
@@ -90,9 +86,8 @@ fn age_at_the_edge(rt: HostRuntime) -> Result<(), Fail> {
             alloc,
             &text,
             &[&first, &second, &HEADER],
-            3,
-            &[(123_040, 1514, 10), (129_760, 60, 20)],
-            ""
+            &[&[], &[], &[large(10, 123_040), small(20, 129_760)]],
+            "out 3 low offered 3 full 0 aged 1 sent 2\n"
         )?
     );
     Ok(())
@@ -111,8 +106,7 @@ fn every_verdict(rt: HostRuntime) -> Result<(), Fail> {
             alloc,
             &text,
             &[&first, &second, &HEADER],
-            3,
-            &[(6_720, 60, 10)],
+            &[&[], &[], &[small(10, 6_720)]],
             line
         )?
     );
@@ -130,8 +124,7 @@ fn babbler_beside_a_quiet_link(rt: HostRuntime) -> Result<(), Fail> {
             alloc,
             &text,
             &[&quiet, &babble, &HEADER],
-            3,
-            &[(6_720, 60, 10), (129_760, 1514, 20)],
+            &[&[], &[], &[small(10, 6_720), large(20, 129_760)]],
             "link 20 passed 1 policed 999\n"
         )?
     );
@@ -140,8 +133,7 @@ fn babbler_beside_a_quiet_link(rt: HostRuntime) -> Result<(), Fail> {
             alloc,
             &text,
             &[&quiet, &HEADER, &HEADER],
-            3,
-            &[(6_720, 60, 10)],
+            &[&[], &[], &[small(10, 6_720)]],
             ""
         )?
     );

@@ -96,9 +96,9 @@ fn nearly_capture_faults(rt: HostRuntime) -> Result<(), Fail> {
     let alloc = rt.alloc();
     let text = single(alloc)?;
     let cut = damaged(alloc, 0, &HEADER_START, 24)?;
-    assert!(rt; leaves(alloc, &text, &[&cut, &HEADER], 2, &[], "")?);
+    assert!(rt; leaves(alloc, &text, &[&cut, &HEADER], &[&[], &[]], "")?);
     let largest = capture(alloc, &[frame(10, 262_144, 0)])?;
-    assert!(rt; leaves(alloc, &text, &[&largest, &HEADER], 2, &[], "")?);
+    assert!(rt; leaves(alloc, &text, &[&largest, &HEADER], &[&[], &[]], "")?);
     Ok(())
 }
 
@@ -113,5 +113,17 @@ fn wrong_ports_come_first(rt: HostRuntime) -> Result<(), Fail> {
     );
     let both = refusal(alloc, &text, &[&nothing, &nothing])?;
     assert_eq!(rt; both, Some(RunFault::Capture(1, PcapFault::NoHeader)));
+    Ok(())
+}
+
+#[test]
+fn messages(rt: HostRuntime) -> Result<(), Fail> {
+    for (fault, name) in [
+        (RunFault::Memory, "Memory"),
+        (RunFault::Capture(1, PcapFault::Magic), "Capture"),
+        (RunFault::WrongPorts, "WrongPorts"),
+    ] {
+        assert_eq!(rt; format!(in rt.alloc(); "{fault}")?.as_str(), name);
+    }
     Ok(())
 }

@@ -1,9 +1,6 @@
 //! One link, or several from one port to another.
 
-use crate::traffic::{
-    checked, leave, leaves, leaves_unchecked, links_of, outcome, outcome_unchecked, puts_out,
-    unchecked,
-};
+use crate::traffic::{checked, leaves, leaves_unchecked, links_of, outcome, puts_out, unchecked};
 use afdx_samples::{
     FRAME, HEADER, Link, Port, Sample, capture, joined, large, link, mixed, port, single, slow,
     small, table,
@@ -62,8 +59,7 @@ fn policed_a_nanosecond_early(rt: HostRuntime) -> Result<(), Fail> {
             alloc,
             &text,
             &[&came, &HEADER],
-            2,
-            &[(123_040, 1514, 10), (1_123_040, 1514, 10)],
+            &[&[], &[large(10, 123_040), large(10, 1_123_040)]],
             "link 10 passed 2 policed 1\n"
         )?
     );
@@ -79,8 +75,12 @@ fn far_apart(rt: HostRuntime) -> Result<(), Fail> {
         ..large(10, 0)
     };
     let came = capture(alloc, &[large(10, 0), late])?;
-    let ends = [(123_040, 1514, 10), (4_000_000_000_000_123_040, 1514, 10)];
-    assert!(rt; leaves(alloc, &text, &[&came, &HEADER], 2, &ends, "")?);
+    let late_end = Sample {
+        nanos: 123_040,
+        ..late
+    };
+    let left = [large(10, 123_040), late_end];
+    assert!(rt; leaves(alloc, &text, &[&came, &HEADER], &[&[], &left], "")?);
     Ok(())
 }
 
@@ -89,14 +89,14 @@ fn burst_of_small_frames(rt: HostRuntime) -> Result<(), Fail> {
     let alloc = rt.alloc();
     let text = single(alloc)?;
     let came = capture(alloc, &[small(10, 0); 24])?;
-    let mut ends = [(0, 60, 10); 23];
-    let mut end = 0u64;
+    let mut left = [small(10, 0); 23];
+    let mut end = 0u32;
     for place in 0..23 {
         end = end.saturating_add(6_720);
-        ends[place].0 = end;
+        left[place].nanos = end;
     }
     assert_eq!(rt; end, 154_560);
-    assert!(rt; leaves(alloc, &text, &[&came, &HEADER], 2, &ends, "")?);
+    assert!(rt; leaves(alloc, &text, &[&came, &HEADER], &[&[], &left], "")?);
     Ok(())
 }
 
@@ -105,8 +105,8 @@ fn high_overtakes(rt: HostRuntime) -> Result<(), Fail> {
     let alloc = rt.alloc();
     let text = mixed(alloc)?;
     let came = capture(alloc, &[large(10, 0), small(11, 1), small(12, 1)])?;
-    let ends = [(123_040, 1514, 10), (129_760, 60, 12), (136_480, 60, 11)];
-    assert!(rt; leaves(alloc, &text, &[&came, &HEADER], 2, &ends, "")?);
+    let left = [large(10, 123_040), small(12, 129_760), small(11, 136_480)];
+    assert!(rt; leaves(alloc, &text, &[&came, &HEADER], &[&[], &left], "")?);
     Ok(())
 }
 
@@ -115,8 +115,8 @@ fn high_at_the_instant_of_the_end(rt: HostRuntime) -> Result<(), Fail> {
     let alloc = rt.alloc();
     let text = mixed(alloc)?;
     let came = capture(alloc, &[large(10, 0), small(11, 1), small(12, 123_040)])?;
-    let ends = [(123_040, 1514, 10), (129_760, 60, 12), (136_480, 60, 11)];
-    assert!(rt; leaves(alloc, &text, &[&came, &HEADER], 2, &ends, "")?);
+    let left = [large(10, 123_040), small(12, 129_760), small(11, 136_480)];
+    assert!(rt; leaves(alloc, &text, &[&came, &HEADER], &[&[], &left], "")?);
     Ok(())
 }
 
@@ -138,8 +138,7 @@ fn buffer_of_one_frame(rt: HostRuntime) -> Result<(), Fail> {
             alloc,
             &text,
             &[&came, &HEADER],
-            2,
-            &[(123_040, 1514, 10), (1_123_040, 1514, 10)],
+            &[&[], &[large(10, 123_040), large(10, 1_123_040)]],
             "out 2 low offered 3 full 1 aged 0 sent 2\n"
         )?
     );
@@ -151,9 +150,19 @@ fn full_at_one_port_only(rt: HostRuntime) -> Result<(), Fail> {
     let alloc = rt.alloc();
     let text = slow(alloc)?;
     let came = capture(alloc, &[small(10, 0), small(10, 0)])?;
-    let done = outcome_unchecked(alloc, &text, &[&came, &HEADER, &HEADER])?;
-    assert!(rt; leave(alloc, &done, 2, &[(67_200, 60, 10)])?);
-    assert!(rt; leave(alloc, &done, 3, &[(6_720, 60, 10), (13_440, 60, 10)])?);
+    assert!(rt;
+        leaves_unchecked(
+            alloc,
+            &text,
+            &[&came, &HEADER, &HEADER],
+            &[
+                &[],
+                &[small(10, 67_200)],
+                &[small(10, 6_720), small(10, 13_440)]
+            ],
+            "out 2 low offered 2 full 1 aged 0 sent 1\n"
+        )?
+    );
     Ok(())
 }
 

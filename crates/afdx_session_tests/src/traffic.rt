@@ -1,7 +1,7 @@
 //! Captures that come in, runs, and what they put out.
 
 use afdx_load::check;
-use afdx_pcap::read_all;
+use afdx_samples::{Sample, capture};
 use afdx_session::{Outcome, Plan, RunFault, run};
 use afdx_table::read;
 use std::alloc::Global;
@@ -68,11 +68,7 @@ pub(crate) fn refusal(
 }
 
 /// The outcome of a run over a table that is not checked.
-pub(crate) fn outcome_unchecked(
-    alloc: Global,
-    table: &str,
-    texts: &[&[u8]],
-) -> Result<Outcome<Global>, Fail> {
+fn outcome_unchecked(alloc: Global, table: &str, texts: &[&[u8]]) -> Result<Outcome<Global>, Fail> {
     let plan = unchecked(alloc, table)?;
     let captures = of_ports(alloc, texts)?;
     let outcome = run(alloc, plan, &captures)?;
@@ -80,7 +76,7 @@ pub(crate) fn outcome_unchecked(
 }
 
 /// Whether the report of a run has this line.
-pub(crate) fn tells(alloc: Global, outcome: &Outcome<Global>, line: &str) -> Result<bool, Fail> {
+fn tells(alloc: Global, outcome: &Outcome<Global>, line: &str) -> Result<bool, Fail> {
     let report = outcome.counts.report(alloc)?;
     Ok(report.as_str().contains(line))
 }
@@ -95,51 +91,30 @@ pub(crate) fn puts_out(outcome: &Outcome<Global>, port: u8, expected: &[u8]) -> 
     false
 }
 
-/// Whether exactly these frames leave in a capture: the nanoseconds of each end, its bytes and its link.
-fn holds(alloc: Global, text: &[u8], expected: &[(u64, usize, u8)]) -> Result<bool, Fail> {
-    let records = read_all(alloc, text)?;
-    if records.len() != expected.len() {
-        return Ok(false);
-    }
-    for (record, (ns, captured, link)) in records.iter().zip(expected) {
-        let bytes = record.bytes();
-        if record.stamp().ns() != *ns || bytes.len() != *captured {
+/// Whether what the ports from 1 on put out is, byte by byte, the captures of these frames.
+fn leave(alloc: Global, outcome: &Outcome<Global>, expected: &[&[Sample]]) -> Result<bool, Fail> {
+    let mut port = 1u8;
+    for frames in expected {
+        let text = capture(alloc, frames)?;
+        if !puts_out(outcome, port, &text) {
             return Ok(false);
         }
-        if bytes.get(5) != Some(link) {
-            return Ok(false);
-        }
+        port = port.saturating_add(1);
     }
-    Ok(true)
+    Ok(outcome.captures.len() == expected.len())
 }
 
-/// Whether exactly these frames leave at a port.
-pub(crate) fn leave(
-    alloc: Global,
-    outcome: &Outcome<Global>,
-    port: u8,
-    expected: &[(u64, usize, u8)],
-) -> Result<bool, Fail> {
-    for (number, text) in &outcome.captures {
-        if *number == port {
-            return holds(alloc, text, expected);
-        }
-    }
-    Ok(false)
-}
-
-/// Whether exactly these frames leave at a port, where these captures come in and the table is checked, and the report has the
-/// line.
+/// Whether the ports from 1 on put out exactly the captures of these frames, where these captures come in and the table is
+/// checked, and the report has the line.
 pub(crate) fn leaves(
     alloc: Global,
     table: &str,
     texts: &[&[u8]],
-    port: u8,
-    expected: &[(u64, usize, u8)],
+    expected: &[&[Sample]],
     line: &str,
 ) -> Result<bool, Fail> {
     let done = outcome(alloc, table, texts)?;
-    Ok(leave(alloc, &done, port, expected)? && tells(alloc, &done, line)?)
+    Ok(leave(alloc, &done, expected)? && tells(alloc, &done, line)?)
 }
 
 /// The same where the table is not checked.
@@ -147,12 +122,11 @@ pub(crate) fn leaves_unchecked(
     alloc: Global,
     table: &str,
     texts: &[&[u8]],
-    port: u8,
-    expected: &[(u64, usize, u8)],
+    expected: &[&[Sample]],
     line: &str,
 ) -> Result<bool, Fail> {
     let done = outcome_unchecked(alloc, table, texts)?;
-    Ok(leave(alloc, &done, port, expected)? && tells(alloc, &done, line)?)
+    Ok(leave(alloc, &done, expected)? && tells(alloc, &done, line)?)
 }
 
 /// Whether a port puts out exactly these bytes, where these captures come in and the table is checked.
