@@ -59,17 +59,6 @@ named t NoLink = None
 named t WrongPort = None
 named t TooBig = None
 
--- the place of that link among the links
-abbrev pub place_named : Content → Verdict → Option ℕ
-place_named t (Clean i) = link_place t i
-place_named t Cut = None
-place_named t Short = None
-place_named t Long = None
-place_named t Foreign = None
-place_named t NoLink = None
-place_named t WrongPort = None
-place_named t TooBig = None
-
 -- what becomes of a frame, by its link
 abbrev pub fate_by : Option Link → List Row → Row → Fate
 fate_by None before row = Filtered row.verdict
