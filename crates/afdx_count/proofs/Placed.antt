@@ -24,11 +24,16 @@ some_none x h = cc
 same : {X : Type 0} (x y : X) → Some x ≡ Some y → x ≡ y
 same x y h = cc
 
-pub at_place : (n : ℕ) (ks : List ℕ) (o : Option ℕ) → o ≡ position (nat_eq n) ks → IfSome o (λ place. slice_get ks place ≡ Some n)
-at_place n ks None is = tt
-at_place n ks (Some i) is =
-    let s = position-Some (nat_eq n) ks i 0 (sym is) in
-    slice_get-get_or ks i 0 s.0 ∙ ap Some (sym (equal n (get_or ks i 0) s.1))
+-- the same search, asked the other way round
+turned_any : (n : ℕ) (ks : List ℕ) → list_any (λ k. nat_eq k n) ks ≡ list_any (nat_eq n) ks
+turned_any n [] = refl
+turned_any n (k ∷ ks) = (λ j. either_way k j || turned_any n ks j) where
+  either_way : (k : ℕ) → nat_eq k n ≡ nat_eq n k
+  either_way k = grind (arith, nat_tests)
+
+pub unlisted : (n : ℕ) (ks : List ℕ) (o : Option ℕ) → IfNone o (list_any (λ k. nat_eq k n) ks ≡ false) → IfNone o (list_any (nat_eq n) ks ≡ false)
+unlisted n ks None h = sym (turned_any n ks) ∙ h
+unlisted n ks (Some place) h = tt
 
 all_at : {X : Type 0} (P : X → Type 0) (xs : List X) (i : ℕ) (x : X) → AllByRecursion P xs → slice_get xs i ≡ Some x → P x
 all_at P [] i x all at = absurd (some_none x at)
@@ -131,8 +136,8 @@ module _ {X : Type 0} (number : X → ℕ) where
   pub numbers_kept : (ns : List ℕ) (xs : List X) (i : ℕ) (x y : X) → ns ≡ map number xs → number y ≡ number x → x ≡ get_or xs i x → ns ≡ map number (set xs i y)
   numbers_kept ns xs i x y ns-is same-number is = ns-is ∙ sym (numbers-set xs i x y (same-number ∙ ap number is))
 
-  pub none_listed : (n : ℕ) (ns : List ℕ) (xs seen : List X) → ns ≡ map number xs → xs ≡ seen → list_any (λ x. nat_eq n (number x)) seen ≡ false → list_any (nat_eq n) ns ≡ false
-  none_listed n ns xs seen ns-is view none = ap (list_any (nat_eq n)) (ns-is ∙ ap (map number) view) ∙ any_number n seen ∙ none
+  pub none_listed : (n : ℕ) (ns : List ℕ) (xs seen : List X) → ns ≡ map number xs → xs ≡ seen → list_any (λ x. nat_eq n (number x)) seen ≡ false → list_any (λ k. nat_eq k n) ns ≡ false
+  none_listed n ns xs seen ns-is view none = turned_any n ns ∙ ap (list_any (nat_eq n)) (ns-is ∙ ap (map number) view) ∙ any_number n seen ∙ none
 
   pub absent_in : (n : ℕ) (ns : List ℕ) (xs seen : List X) (o : Option ℕ) → ns ≡ map number xs → xs ≡ seen → IfNone o (list_any (nat_eq n) ns ≡ false) → IfNone o (list_any (λ x. nat_eq n (number x)) seen ≡ false)
   absent_in n ns xs seen None ns-is view none = sym (any_number n seen) ∙ sym (ap (list_any (nat_eq n)) (ns-is ∙ ap (map number) view)) ∙ none

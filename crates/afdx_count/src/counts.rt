@@ -50,9 +50,8 @@ impl<A: Allocator + Copy> Counts<A> {
         ensures { self.new ≡ noted step.now self.old }
     {
         self.ports.note_arrival(step.in_port, step.fate);
-        let class = self.links.class_of(step.fate);
+        let class = self.links.note(step.fate);
         self.ports.note_copies(class, &step.offers);
-        self.links.note(step.fate);
     }
 
     /// Counts what the ports sent and gave up. It takes no memory. O(copies that were sent or given up), and for each port

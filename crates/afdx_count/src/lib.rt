@@ -12,7 +12,6 @@ mod counters;
 mod counts;
 pub mod laws;
 mod link_tallies;
-mod numbers;
 mod port_tallies;
 mod report;
 

@@ -1,13 +1,13 @@
 //! The counters of links.
 
-ghost use Rattle.std.specs.Prelude.{◌≡◌, ◌==◌, ◌<◌, nat_eq, [], ◌∷◌, ◌++◌, false, length, map, IfSome, IfOk, IfNone, OnOk, find, slice_get};
+ghost use Rattle.std.specs.Prelude.{◌≡◌, ◌==◌, ◌<◌, nat_eq, [], ◌∷◌, ◌++◌, false, length, map, IfSome, IfOk, IfNone, OnOk, find, slice_get, option_map};
 ghost use Rattle.std.specs.List.{list_any, IsDistinct};
 ghost use Rattle.afdx_count.specs.Tally.{new_link, one_passed, one_policed, link_in, noted_link, class_of};
 ghost use Rattle.afdx_count.specs.Places.{IsPlaceOf, changed_at};
 
 use crate::counters::{LinkCount, up};
-use crate::numbers::Numbers;
 use afdx_core::Fate;
+use afdx_numbers::Numbers;
 use afdx_table::{LinkRow, Table};
 use afdx_units::Priority;
 use std::alloc::{AllocError, Allocator};
@@ -125,25 +125,18 @@ impl<A: Allocator + Copy> Links<A> {
         }
     }
 
-    /// The priority of the copies of a passed frame.
-    pub(crate) fn class_of(&self, fate: Fate) -> Option<Priority>
-        ensures { result ≡ class_of fate self.now }
+    /// Counts a passed frame at the link of a number, and gives the priority of its copies.
+    fn note_passed(&mut self, id: u16) -> Option<Priority>
+        ensures links { self.new ≡ changed_at (λ l. l.id) id one_passed self.old }
+        ensures class { result ≡ option_map (λ l. l.priority) (link_in id self.old) }
     {
-        match fate {
-            Fate::Passed(id) => match self.get(id) {
-                Some(link) => Some(link.priority),
-                None => None,
-            },
-            Fate::Filtered(_) => None,
-            Fate::Policed(_) => None,
-        }
-    }
-
-    fn note_passed(&mut self, id: u16)
-        ensures { self.new ≡ changed_at (λ l. l.id) id one_passed self.old }
-    {
-        if let Some(place) = self.place(id) {
-            self.tallies[place] = self.tallies[place].with_passed();
+        match self.place(id) {
+            Some(place) => {
+                let tally = self.tallies[place];
+                self.tallies[place] = tally.with_passed();
+                Some(tally.priority)
+            }
+            None => None,
         }
     }
 
@@ -155,14 +148,18 @@ impl<A: Allocator + Copy> Links<A> {
         }
     }
 
-    /// Counts an arrival at its link.
-    pub(crate) fn note(&mut self, fate: Fate)
-        ensures { self.new ≡ map (noted_link fate) self.old }
+    /// Counts an arrival at its link, and gives the priority of the copies of a passed frame.
+    pub(crate) fn note(&mut self, fate: Fate) -> Option<Priority>
+        ensures links { self.new ≡ map (noted_link fate) self.old }
+        ensures class { result ≡ class_of fate self.old }
     {
         match fate {
             Fate::Passed(id) => self.note_passed(id),
-            Fate::Policed(id) => self.note_policed(id),
-            Fate::Filtered(_) => {}
+            Fate::Policed(id) => {
+                self.note_policed(id);
+                None
+            }
+            Fate::Filtered(_) => None,
         }
     }
 }

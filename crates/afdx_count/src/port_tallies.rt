@@ -8,8 +8,8 @@ ghost use Rattle.afdx_count.specs.Tally.{new_port, with_arrival, with_copies, wi
 ghost use Rattle.afdx_count.specs.Places.{IsPlaceOf};
 
 use crate::counters::{InCount, OutCount};
-use crate::numbers::Numbers;
 use afdx_core::{Done, Fate};
+use afdx_numbers::Numbers;
 use afdx_port::Offer;
 use afdx_table::{PortRow, Table};
 use afdx_units::Priority;
