@@ -4,9 +4,9 @@
 usage: refused.py LIBRARY STATUS LINE INPUT OUTPUT PROGRAM WORD..
 
 LIBRARY is refuse.c, built. Without a refusal the program, which reads INPUT and writes to OUTPUT (- is a pipe), ends with STATUS
-and, on standard error, LINE. With the Nth allocation refused, for each N until none is, it answers the same: status, both streams and the files of the folder
-`out`; or its status is 5, standard error is `afdx: memory`, nothing is on standard output, and of the files those before the last
-one are the right ones. Prints how many allocations were refused.
+and, on standard error, LINE. With the Nth allocation refused, for each N until none is, it answers the same: status, both streams
+and the files of the folder `out`; or its status is 5, standard error is `afdx: memory`, nothing is on standard output, and the
+files that stand are the first of the right ones. Prints how many allocations were refused.
 """
 import os
 import shutil
@@ -45,9 +45,8 @@ def answer(library, number, source, sink, words):
 
 
 def are_a_front(found, right):
-    """Whether the files are the first of those that are right, but that of the last one nothing is asked."""
-    names = list(found)
-    return names == list(right)[:len(names)] and all(found[name] == right[name] for name in names[:-1])
+    """Whether the files are the first of those that are right."""
+    return list(found.items()) == list(right.items())[:len(found)]
 
 
 def main(library, status, line, source, sink, *words):
