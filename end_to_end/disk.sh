@@ -238,8 +238,6 @@ check "a folder in a capture's place in OUT" keeps in out 1 "$put_2" instead mkd
 check "a folder in a capture's place in IN" keeps in out 0 "afdx: device get in/port-2.pcap" instead mkdir in/port-2.pcap
 check "a file in the place of OUT" keeps in out 0 "$put_1" instead touch out
 check "a capture that may not be written" keeps in out 0 "$put_1" chmod a-w out/port-1.pcap
-check "OUT is an empty word" ends 2 "afdx: usage" /dev/null run table.toml in ""
-check "IN is an empty word" ends 2 "afdx: usage" /dev/null run table.toml "" out
 
 check "a read-only file system" mounted 0 "$put_1" "mount --bind out out && mount -o remount,bind,ro out"
 check "a file system without room for the first capture" mounted 0 "$put_1" "$(small 8)"

@@ -19,28 +19,58 @@ const COMMANDS: [(&str, usize); 5] = [
 ];
 
 /// A writer for the line: how many bytes it takes at once, the call that fails, and whether it takes the line.
-type LineWriter = (usize, u64, bool);
+#[derive(Clone, Copy)]
+struct LineWriter {
+    most: usize,
+    failing: u64,
+    takes: bool,
+}
 
-const LINE_WRITERS: [LineWriter; 4] = [(50, 0, true), (1, 0, true), (0, 0, false), (50, 1, false)];
+const LINE_WRITERS: [LineWriter; 4] = [
+    LineWriter {
+        most: 50,
+        failing: 0,
+        takes: true,
+    },
+    LineWriter {
+        most: 1,
+        failing: 0,
+        takes: true,
+    },
+    LineWriter {
+        most: 0,
+        failing: 0,
+        takes: false,
+    },
+    LineWriter {
+        most: 50,
+        failing: 1,
+        takes: false,
+    },
+];
 
-/// The status and what is on standard error.
+impl LineWriter {
+    fn sink(self, alloc: Global) -> Sink {
+        Sink::new(alloc, self.most, self.failing, Some(ErrorKind::BrokenPipe))
+    }
+
+    /// What it holds after this line.
+    fn told(self, line: &'static str) -> &'static [u8] {
+        if self.takes { line.as_bytes() } else { b"" }
+    }
+}
+
+/// The status.
 fn served<R: Read>(
     alloc: Global,
     line: &str,
     input: &mut R,
     out: &mut Sink,
+    err: &mut Sink,
     folder: &mut MemoryFolder,
-    writer: LineWriter,
-) -> Result<(u8, Vec<u8>), AllocError> {
+) -> Result<u8, AllocError> {
     let words = split(alloc, line)?;
-    let mut err = Sink::new(alloc, writer.0, writer.1, Some(ErrorKind::BrokenPipe));
-    let status = serve(alloc, &words, input, out, &mut err, folder);
-    Ok((status, err.bytes))
-}
-
-/// What a writer for the line holds then.
-fn told(line: &'static str, writer: LineWriter) -> &'static [u8] {
-    if writer.2 { line.as_bytes() } else { b"" }
+    Ok(serve(alloc, &words, input, out, err, folder))
 }
 
 #[test]
@@ -76,16 +106,17 @@ fn stops_where_a_writer_fails(rt: HostRuntime) -> Result<(), Fail> {
                 let mut folder = run.sound()?;
                 let mut reader = run.came();
                 let mut out = Sink::new(alloc, most, failing, kind);
-                let got = served(alloc, line, &mut reader, &mut out, &mut folder, writer)?;
-                assert_eq!(rt; got.0, status, "{line} {most} {failing}");
+                let mut err = writer.sink(alloc);
+                let got = served(alloc, line, &mut reader, &mut out, &mut err, &mut folder)?;
+                assert_eq!(rt; got, status, "{line} {most} {failing}");
                 assert_eq!(rt;
                     Some(out.bytes.as_slice()),
                     whole.out.get(..written),
                     "{line} {most} {failing}"
                 );
                 assert_eq!(rt;
-                    got.1.as_slice(),
-                    told(said, writer),
+                    err.bytes.as_slice(),
+                    writer.told(said),
                     "{line} {most} {failing}"
                 );
                 assert!(rt;
@@ -125,10 +156,11 @@ fn stops_where_a_reader_fails(rt: HostRuntime) -> Result<(), Fail> {
             let mut folder = run.sound()?;
             let mut reader = Source::new(run.came(), failing, kind);
             let mut out = Sink::new(alloc, 50, 0, None);
-            let got = served(alloc, LINK_10, &mut reader, &mut out, &mut folder, writer)?;
-            assert_eq!(rt; got.0, status, "read {failing}");
+            let mut err = writer.sink(alloc);
+            let got = served(alloc, LINK_10, &mut reader, &mut out, &mut err, &mut folder)?;
+            assert_eq!(rt; got, status, "read {failing}");
             assert_eq!(rt; out.bytes.as_slice(), answer, "read {failing}");
-            assert_eq!(rt; got.1.as_slice(), told(said, writer), "read {failing}");
+            assert_eq!(rt; err.bytes.as_slice(), writer.told(said), "read {failing}");
             assert!(rt; folder.holds(&run.files(), 3), "read {failing}");
         }
     }
@@ -145,11 +177,11 @@ fn reads_for_alone_only(rt: HostRuntime) -> Result<(), Fail> {
             let mut folder = run.sound()?;
             let mut reader = Source::new(b"", 1, ErrorKind::BrokenPipe);
             let mut out = Sink::new(alloc, 50, 0, None);
-            let writer = (50, 0, true);
-            let got = served(alloc, line, &mut reader, &mut out, &mut folder, writer)?;
-            assert_eq!(rt; got.0, 0, "{line}");
+            let mut err = Sink::new(alloc, 50, 0, None);
+            let got = served(alloc, line, &mut reader, &mut out, &mut err, &mut folder)?;
+            assert_eq!(rt; got, 0, "{line}");
             assert_eq!(rt; out.bytes.as_slice(), whole.out.as_slice(), "{line}");
-            assert_eq!(rt; got.1.as_slice(), b"".as_slice(), "{line}");
+            assert_eq!(rt; err.bytes.as_slice(), b"".as_slice(), "{line}");
             assert_eq!(rt; reader.calls, 0, "{line}");
             assert!(rt; folder.holds(&run.files(), files), "{line}");
         }
@@ -164,17 +196,18 @@ fn gives_up_where_every_read_is_interrupted(rt: HostRuntime) -> Result<(), Fail>
     for writer in LINE_WRITERS {
         let mut folder = run.sound()?;
         let mut out = Sink::new(alloc, 50, 0, None);
+        let mut err = writer.sink(alloc);
         let got = served(
             alloc,
             LINK_10,
             &mut Interrupted,
             &mut out,
+            &mut err,
             &mut folder,
-            writer,
         )?;
-        assert_eq!(rt; got.0, 5);
+        assert_eq!(rt; got, 5);
         assert_eq!(rt; out.bytes.as_slice(), b"".as_slice());
-        assert_eq!(rt; got.1.as_slice(), told("afdx: device read\n", writer));
+        assert_eq!(rt; err.bytes.as_slice(), writer.told("afdx: device read\n"));
         assert!(rt; folder.holds(&run.files(), 3));
     }
     Ok(())
