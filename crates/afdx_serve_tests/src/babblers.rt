@@ -22,7 +22,7 @@ fn three_to_one(alloc: Global) -> Result<String, AllocError> {
 /// A thousand large frames of a port's own link, then a thousand small ones of another port's link, all at once.
 fn babble(alloc: Global, own: u8) -> Result<Vec<u8>, AllocError> {
     let mut samples = vec![in alloc; large(own, 0); 1000]?;
-    samples.resize(2000, small(30, 0))?;
+    samples.extend_from_slice(&[small(30, 0); 1000])?;
     capture(alloc, &samples)
 }
 

@@ -18,59 +18,37 @@ const COMMANDS: [(&str, usize); 5] = [
     (RUN, 5),
 ];
 
-/// A writer for the line: how many bytes it takes at once, the call that fails, and whether it takes the line.
-#[derive(Clone, Copy)]
-struct LineWriter {
-    most: usize,
-    failing: u64,
-    takes: bool,
-}
-
-const LINE_WRITERS: [LineWriter; 4] = [
-    LineWriter {
-        most: 50,
-        failing: 0,
-        takes: true,
-    },
-    LineWriter {
-        most: 1,
-        failing: 0,
-        takes: true,
-    },
-    LineWriter {
-        most: 0,
-        failing: 0,
-        takes: false,
-    },
-    LineWriter {
-        most: 50,
-        failing: 1,
-        takes: false,
-    },
+/// Those that read no input.
+const WITHOUT_INPUT: [(&str, usize); 4] = [
+    ("afdx --help", 3),
+    ("afdx check t", 3),
+    (CHECKED, 5),
+    (RUN, 5),
 ];
 
-impl LineWriter {
-    fn sink(self, alloc: Global) -> Sink {
-        Sink::new(alloc, self.most, self.failing, Some(ErrorKind::BrokenPipe))
-    }
+/// A writer for the line: how many bytes it takes at once, the call that fails, and whether it takes the line.
+type LineWriter = (usize, u64, bool);
 
-    /// What it holds after this line.
-    fn told(self, line: &'static str) -> &'static [u8] {
-        if self.takes { line.as_bytes() } else { b"" }
-    }
-}
+const LINE_WRITERS: [LineWriter; 4] = [(50, 0, true), (1, 0, true), (0, 0, false), (50, 1, false)];
 
-/// The status.
+/// The status and what is on standard error.
 fn served<R: Read>(
     alloc: Global,
     line: &str,
     input: &mut R,
     out: &mut Sink,
-    err: &mut Sink,
     folder: &mut MemoryFolder,
-) -> Result<u8, AllocError> {
+    writer: LineWriter,
+) -> Result<(u8, Vec<u8>), AllocError> {
     let words = split(alloc, line)?;
-    Ok(serve(alloc, &words, input, out, err, folder))
+    let mut err = Sink::new(alloc, writer.0, writer.1, Some(ErrorKind::BrokenPipe));
+    let status = serve(alloc, &words, input, out, &mut err, folder);
+    Ok((status, err.bytes))
+}
+
+/// What a writer for the line holds then.
+fn told(line: &'static str, writer: LineWriter) -> &'static [u8] {
+    if writer.2 { line.as_bytes() } else { b"" }
 }
 
 #[test]
@@ -106,17 +84,16 @@ fn stops_where_a_writer_fails(rt: HostRuntime) -> Result<(), Fail> {
                 let mut folder = run.sound()?;
                 let mut reader = run.came();
                 let mut out = Sink::new(alloc, most, failing, kind);
-                let mut err = writer.sink(alloc);
-                let got = served(alloc, line, &mut reader, &mut out, &mut err, &mut folder)?;
-                assert_eq!(rt; got, status, "{line} {most} {failing}");
+                let got = served(alloc, line, &mut reader, &mut out, &mut folder, writer)?;
+                assert_eq!(rt; got.0, status, "{line} {most} {failing}");
                 assert_eq!(rt;
                     Some(out.bytes.as_slice()),
                     whole.out.get(..written),
                     "{line} {most} {failing}"
                 );
                 assert_eq!(rt;
-                    err.bytes.as_slice(),
-                    writer.told(said),
+                    got.1.as_slice(),
+                    told(said, writer),
                     "{line} {most} {failing}"
                 );
                 assert!(rt;
@@ -156,11 +133,10 @@ fn stops_where_a_reader_fails(rt: HostRuntime) -> Result<(), Fail> {
             let mut folder = run.sound()?;
             let mut reader = Source::new(run.came(), failing, kind);
             let mut out = Sink::new(alloc, 50, 0, None);
-            let mut err = writer.sink(alloc);
-            let got = served(alloc, LINK_10, &mut reader, &mut out, &mut err, &mut folder)?;
-            assert_eq!(rt; got, status, "read {failing}");
+            let got = served(alloc, LINK_10, &mut reader, &mut out, &mut folder, writer)?;
+            assert_eq!(rt; got.0, status, "read {failing}");
             assert_eq!(rt; out.bytes.as_slice(), answer, "read {failing}");
-            assert_eq!(rt; err.bytes.as_slice(), writer.told(said), "read {failing}");
+            assert_eq!(rt; got.1.as_slice(), told(said, writer), "read {failing}");
             assert!(rt; folder.holds(&run.files(), 3), "read {failing}");
         }
     }
@@ -171,20 +147,18 @@ fn stops_where_a_reader_fails(rt: HostRuntime) -> Result<(), Fail> {
 fn reads_for_alone_only(rt: HostRuntime) -> Result<(), Fail> {
     let alloc = rt.alloc();
     let run = OneFrame::new(alloc)?;
-    for (line, files) in COMMANDS {
-        if line != LINK_10 {
-            let whole = answer_over(alloc, line, b"", &mut run.sound()?)?;
-            let mut folder = run.sound()?;
-            let mut reader = Source::new(b"", 1, ErrorKind::BrokenPipe);
-            let mut out = Sink::new(alloc, 50, 0, None);
-            let mut err = Sink::new(alloc, 50, 0, None);
-            let got = served(alloc, line, &mut reader, &mut out, &mut err, &mut folder)?;
-            assert_eq!(rt; got, 0, "{line}");
-            assert_eq!(rt; out.bytes.as_slice(), whole.out.as_slice(), "{line}");
-            assert_eq!(rt; err.bytes.as_slice(), b"".as_slice(), "{line}");
-            assert_eq!(rt; reader.calls, 0, "{line}");
-            assert!(rt; folder.holds(&run.files(), files), "{line}");
-        }
+    for (line, files) in WITHOUT_INPUT {
+        let whole = answer_over(alloc, line, b"", &mut run.sound()?)?;
+        let mut folder = run.sound()?;
+        let mut reader = Source::new(b"", 1, ErrorKind::BrokenPipe);
+        let mut out = Sink::new(alloc, 50, 0, None);
+        let writer = (50, 0, true);
+        let got = served(alloc, line, &mut reader, &mut out, &mut folder, writer)?;
+        assert_eq!(rt; got.0, 0, "{line}");
+        assert_eq!(rt; out.bytes.as_slice(), whole.out.as_slice(), "{line}");
+        assert_eq!(rt; got.1.as_slice(), b"".as_slice(), "{line}");
+        assert_eq!(rt; reader.calls, 0, "{line}");
+        assert!(rt; folder.holds(&run.files(), files), "{line}");
     }
     Ok(())
 }
@@ -196,18 +170,17 @@ fn gives_up_where_every_read_is_interrupted(rt: HostRuntime) -> Result<(), Fail>
     for writer in LINE_WRITERS {
         let mut folder = run.sound()?;
         let mut out = Sink::new(alloc, 50, 0, None);
-        let mut err = writer.sink(alloc);
         let got = served(
             alloc,
             LINK_10,
             &mut Interrupted,
             &mut out,
-            &mut err,
             &mut folder,
+            writer,
         )?;
-        assert_eq!(rt; got, 5);
+        assert_eq!(rt; got.0, 5);
         assert_eq!(rt; out.bytes.as_slice(), b"".as_slice());
-        assert_eq!(rt; err.bytes.as_slice(), writer.told("afdx: device read\n"));
+        assert_eq!(rt; got.1.as_slice(), told("afdx: device read\n", writer));
         assert!(rt; folder.holds(&run.files(), 3));
     }
     Ok(())
