@@ -1,6 +1,6 @@
 #!/usr/bin/env bash
 # afdx alone on captures that other programs wrote: what it passes is what Wireshark's tools filter, to the byte and the
-# nanosecond, and its refusals are the lines and statuses that docs/FORMATS.md says.
+# nanosecond, and its refusals are the lines and statuses that docs/use/FORMATS.md says.
 . "$(dirname "$0")/common.sh"
 install python3=python3 tcpdump=tcpdump text2pcap=wireshark-common editcap=wireshark-common mergecap=wireshark-common \
     tshark=tshark

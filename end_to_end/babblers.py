@@ -46,7 +46,7 @@ def draw_network(chance):
         others = [port.id for port in ports if port.id != source]
         to = chance.sample(others, chance.randint(1, len(others)))
         links.append(model.Link(number, source, to, MILLISECOND << chance.randint(0, 7), 1000 * chance.randint(0, 10_000),
-                                chance.randint(64, 1518), chance.choice(model.PRIORITIES)))
+                                chance.randint(64, 1518), chance.choice(model.PRIORITIES), chance.choice(model.POLICINGS)))
     return model.Table(bytes.fromhex("03000000"), ports, links)
 
 
@@ -67,13 +67,14 @@ def accepted_network(chance):
 
 
 def text_of(table):
-    text = ""
+    text = "version = 2\n"
     for port in table.ports:
         text += (f"[[port]]\nid = {port.id}\nmbit = {8000 // port.tick}\nbuffer = {port.buffer}\n"
                  f"max_delay_us = {port.max_delay // 1000}\n")
     for link in table.links:
         text += (f"[[link]]\nid = {link.id}\nfrom = {link.source}\nto = {link.to}\nbag_ms = {link.bag // MILLISECOND}\n"
-                 f"jitter_us = {link.jitter // 1000}\nmax_size = {link.max_size}\npriority = \"{link.priority}\"\n")
+                 f"jitter_us = {link.jitter // 1000}\nmax_size = {link.max_size}\npriority = \"{link.priority}\"\n"
+                 f"police = \"{link.police}\"\n")
     return text
 
 

@@ -156,6 +156,23 @@ each_half() {
     done
 }
 
+# stays_beside: where neither the move nor the removal can be done, the new file stays beside the name.
+stays_beside() {
+    again && run_over in out preloaded "FAIL=rename:1,unlink:1" && said 5 "$put_1" && rm out/port-1.pcap.new-0 && stands 0
+}
+
+# interrupted LINE WORD..: where each read is interrupted, afdx with these words gives up, ends with this line, and writes
+# nothing; so it does where standard error is full.
+interrupted() {
+    local line=$1 error
+    shift
+    for error in said.txt /dev/full; do
+        again && : >said.txt
+        INTERRUPTED=1 LD_PRELOAD="$PWD/failing.so" "$afdx" "$@" >answer.txt 2>"$error" <given/port-1.pcap
+        echo $? >status.txt
+        [ ! -s answer.txt ] && said 5 "$([ "$error" = /dev/full ] || echo "$line")" && stands 0 || return 1
+    done
+}
 
 # each_kill: the program is ended at each call in turn. The captures that were moved are those of this run; what is left
 # beside them is in no one's way, and stays where the next run is done.
@@ -238,6 +255,8 @@ check "a folder in a capture's place in OUT" keeps in out 1 "$put_2" instead mkd
 check "a folder in a capture's place in IN" keeps in out 0 "afdx: device get in/port-2.pcap" instead mkdir in/port-2.pcap
 check "a file in the place of OUT" keeps in out 0 "$put_1" instead touch out
 check "a capture that may not be written" keeps in out 0 "$put_1" chmod a-w out/port-1.pcap
+check "OUT is an empty word" ends 2 "afdx: usage" /dev/null run table.toml none ""
+check "IN is an empty word" ends 2 "afdx: usage" /dev/null run table.toml "" none
 
 check "a read-only file system" mounted 0 "$put_1" "mount --bind out out && mount -o remount,bind,ro out"
 check "a file system without room for the first capture" mounted 0 "$put_1" "$(small 8)"
@@ -255,5 +274,9 @@ check "each sync fails in turn" each_fails fsync 2
 check "each rename fails in turn" each_fails rename 2
 check "each close fails in turn, after the sync" each_fails close 0
 check "each write takes half in turn" each_half
+check "a new file that can be neither moved nor removed" stays_beside
+check "each read of alone is interrupted" interrupted "afdx: device read" alone --id 10 --bag 1 --jitter 0 --size 1000
+check "each read of check is interrupted" interrupted "afdx: device get table.toml" check table.toml
+check "each read of run is interrupted" interrupted "afdx: device get table.toml" run table.toml in out
 check "the program is ended at each call in turn" each_kill
 finish

@@ -2,6 +2,8 @@
  *
  * FAIL=write:3     the third write fails with EIO, and does nothing
  * FAIL=write:3+    so do all later ones
+ * FAIL=a:1,b:2     both of these
+ * INTERRUPTED=1    each read is interrupted
  * HALF=write:3     the third write takes half of the bytes that it is given
  * KILL=7           the program ends by SIGKILL at the seventh of all the calls below, a write after half of its bytes
  *
@@ -21,15 +23,24 @@ enum call { OPEN, WRITE, FSYNC, CLOSE, RENAME, UNLINK, CALLS };
 static const char *const names[CALLS] = {"open", "write", "fsync", "close", "rename", "unlink"};
 static long counts[CALLS], all;
 
-/* Whether the variable's word is this call: its name, a colon and its number, or a number from which on. */
-static int is_chosen(const char *variable, enum call call) {
-    const char *word = getenv(variable);
+/* Whether a word is this call: its name, a colon and its number, or a number from which on. */
+static int is_this(const char *word, enum call call) {
     size_t length = strlen(names[call]);
     char *end;
-    if (!word || strncmp(word, names[call], length) != 0 || word[length] != ':')
+    if (strncmp(word, names[call], length) != 0 || word[length] != ':')
         return 0;
     long number = strtol(word + length + 1, &end, 10);
     return counts[call] == number || (*end == '+' && counts[call] > number);
+}
+
+/* Whether one of the variable's words is. */
+static int is_chosen(const char *variable, enum call call) {
+    for (const char *word = getenv(variable); word; word = strchr(word, ',')) {
+        word += *word == ',';
+        if (is_this(word, call))
+            return 1;
+    }
+    return 0;
 }
 
 static void list(enum call call) {
@@ -69,6 +80,14 @@ ssize_t write(int file, const void *bytes, size_t count) {
     if (is_last())
         raise(SIGKILL);
     return taken;
+}
+
+ssize_t read(int file, void *bytes, size_t count) {
+    if (getenv("INTERRUPTED")) {
+        errno = EINTR;
+        return -1;
+    }
+    return syscall(SYS_read, file, bytes, count);
 }
 
 int open(const char *path, int flags, ...) {

@@ -59,6 +59,7 @@ alone=(alone --id 10 --bag 1 --jitter 0 --size 1518)
 check "the library is built" cc -Wall -Wextra -O1 -shared -fPIC -o refuse.so "$top/end_to_end/refuse.c"
 refuses "alone" 0 "" in/port-1.pcap "${alone[@]}"
 refuses "check" 0 "" /dev/null check table.toml
+refuses "size" 0 "" /dev/null size small.toml
 refuses "run" 0 "" /dev/null run table.toml in out
 refuses "run without the check" 0 "" /dev/null run table.toml in out --unchecked
 refuses "help" 0 "" /dev/null --help

@@ -1,7 +1,8 @@
 #!/usr/bin/env python3
-"""A plain and slow model of the switch, written from docs/RULES.md and docs/FORMATS.md and from nothing else.
+"""A plain and slow model of the switch, written from docs/use/RULES.md and docs/use/FORMATS.md and from nothing else.
 
 usage: model.py TABLE            prints the load of each port, then `accepted`
+       model.py --size TABLE     prints what each port needs and has, and the rules that it breaks
        model.py TABLE IN OUT     reads IN/port-K.pcap, writes OUT/port-K.pcap, prints the counts
 
 Accounts are windows, not levels; a port's whole list of frames is scheduled anew for each arrival. Instants are
@@ -22,6 +23,7 @@ CHECK_SEQUENCE = 4
 LINE_OVERHEAD = 20
 VERDICTS = ["cut", "short", "long", "foreign", "no-link", "wrong-port", "too-big", "clean"]
 PRIORITIES = ["high", "low"]
+POLICINGS = ["byte", "frame"]
 # A load of LOAD_UNIT is a line that is always busy.
 LOAD_UNIT = 16 * 128_000_000
 
@@ -54,6 +56,7 @@ class Link:
     jitter: int  # ns
     max_size: int  # bytes
     priority: str
+    police: str
 
 
 @dataclass
@@ -68,7 +71,7 @@ def table_of(text):
     ports = [Port(port["id"], {10: 800, 100: 80}[port["mbit"]], port["buffer"], port["max_delay_us"] * 1000)
              for port in tree.get("port", [])]
     links = [Link(link["id"], link["from"], link["to"], link["bag_ms"] * 1_000_000, link["jitter_us"] * 1000,
-                  link["max_size"], link["priority"])
+                  link["max_size"], link["priority"], link.get("police", "byte"))
              for link in tree.get("link", [])]
     return Table(bytes.fromhex(tree.get("constant", "03000000")), sorted(ports, key=lambda port: port.id), links)
 
@@ -179,12 +182,12 @@ def verdict_of(table, port, record):
 
 def conforms(link, passed, frame):
     """Whether each window that ends with this frame, and begins with a passed one or with itself, keeps to the link's
-    allowance."""
-    sent = 0
+    allowance: in bytes, or in frames."""
+    sent, each_gap = 0, link.max_size if link.police == "byte" else 1
     for first in [frame] + passed[::-1]:
-        sent += first.size
+        sent += first.size if link.police == "byte" else 1
         length = frame.stamp - first.stamp
-        if sent * link.bag > link.max_size * (link.bag + link.jitter + length):
+        if sent * link.bag > each_gap * (link.bag + link.jitter + length):
             return False
     return True
 
@@ -283,43 +286,84 @@ def run(table, captures):
 # --- The load ---
 
 
+@dataclass
+class Load:
+    """What the links of a port ask for, and the four rules."""
+    rate: int
+    buffer: int  # the least one, in bytes
+    high: int | None  # ns
+    low: int | None
+    rules: list  # of name, need and limit
+    lows: bool  # whether there are low links
+
+
+def load_of(table, port):
+    """The load of a port; None where it has no links."""
+    links = [link for link in table.links if port.id in link.to]
+    if not links:
+        return None
+
+    def sixteenths(link):
+        return 21 * link.max_size if link.police == "byte" else 16 * (link.max_size + LINE_OVERHEAD)
+
+    def rate(which):
+        return sum(port.tick * sixteenths(link) * (128_000_000 // link.bag) for link in which)
+
+    def burst(which):
+        return sum(rate([link]) * (link.bag + link.jitter) for link in which)
+
+    def largest(which):
+        return max(((link.max_size + LINE_OVERHEAD) * port.tick for link in which), default=0)
+
+    high, low = ([link for link in links if link.priority == priority] for priority in PRIORITIES)
+    need, byte = burst(links) + LOAD_UNIT * largest(links), LOAD_UNIT * port.tick
+    rules = [("L1 Rate", rate(links), LOAD_UNIT), ("L2 Buffer", need, byte * port.buffer)]
+    high_bound = low_bound = None
+    if high:
+        high_bound = (burst(high) + LOAD_UNIT * largest(low)) // LOAD_UNIT
+        rules.append(("L3 HighDelay", high_bound, port.max_delay))
+    if low and rate(high) < LOAD_UNIT:
+        low_bound = burst(links) // (LOAD_UNIT - rate(high))
+        rules.append(("L4 LowDelay", low_bound, port.max_delay))
+    return Load(rate(links), -(-need // byte), high_bound, low_bound, rules, bool(low))
+
+
+def loads_of(table):
+    """The ports that have links, each with its load."""
+    loads = ((port, load_of(table, port)) for port in table.ports)
+    return [(port, load) for port, load in loads if load]
+
+
 def check(table):
     """The lines of an accepted table, or the first rule that fails at the lowest port."""
     lines = []
-    for port in table.ports:
-        links = [link for link in table.links if port.id in link.to]
-        if not links:
-            continue
-
-        def rate(which):
-            return sum(21 * port.tick * link.max_size * (128_000_000 // link.bag) for link in which)
-
-        def burst(which):
-            return sum(rate([link]) * (link.bag + link.jitter) for link in which)
-
-        def largest(which):
-            return max(((link.max_size + LINE_OVERHEAD) * port.tick for link in which), default=0)
-
-        high, low = ([link for link in links if link.priority == priority] for priority in PRIORITIES)
-        need, byte = burst(links) + LOAD_UNIT * largest(links), LOAD_UNIT * port.tick
-        rules = [("L1 Rate", rate(links), LOAD_UNIT), ("L2 Buffer", need, byte * port.buffer)]
-        high_bound = low_bound = "-"
-        if high:
-            high_bound = (burst(high) + LOAD_UNIT * largest(low)) // LOAD_UNIT
-            rules.append(("L3 HighDelay", high_bound, port.max_delay))
-        if low and rate(high) < LOAD_UNIT:
-            low_bound = burst(links) // (LOAD_UNIT - rate(high))
-            rules.append(("L4 LowDelay", low_bound, port.max_delay))
-        for rule, needed, limit in rules:
-            if needed > limit:
-                raise Refused(f"afdx: load {rule}, port {port.id}, need {needed}, limit {limit}", 4)
-        lines.append(f"port {port.id} rate {rate(links)} buffer {-(-need // byte)} high {high_bound} low {low_bound}")
+    for port, load in loads_of(table):
+        for rule, need, limit in load.rules:
+            if need > limit:
+                raise Refused(f"afdx: load {rule}, port {port.id}, need {need}, limit {limit}", 4)
+        high, low = ("-" if bound is None else bound for bound in (load.high, load.low))
+        lines.append(f"port {port.id} rate {load.rate} buffer {load.buffer} high {high} low {low}")
     return "".join(line + "\n" for line in lines + ["accepted"])
 
 
+def size(table):
+    """The lines of a table, whether it is accepted or not."""
+    lines = []
+    for port, load in loads_of(table):
+        high = "-" if load.high is None else f"{load.high} of {port.max_delay}"
+        low = f"{'none' if load.low is None else load.low} of {port.max_delay}" if load.lows else "-"
+        broken = [rule.split()[0] for rule, need, limit in load.rules if need > limit]
+        lines.append(f"port {port.id} rate {load.rate} of {LOAD_UNIT} buffer {load.buffer} of {port.buffer} high {high} low {low} "
+                     + " ".join(["breaks"] + broken if broken else ["fits"]))
+    return "".join(line + "\n" for line in lines)
+
+
 def main(words):
-    with open(words[0], encoding="utf-8", newline="") as file:
+    sizes = words[0] == "--size"
+    with open(words[1 if sizes else 0], encoding="utf-8", newline="") as file:
         table = table_of(file.read())
+    if sizes:
+        return size(table)
     if len(words) == 1:
         return check(table)
     captures = {}
@@ -335,7 +379,7 @@ def main(words):
 
 
 if __name__ == "__main__":
-    if len(sys.argv) not in (2, 4):
+    if len(sys.argv) not in (2, 3, 4) or (len(sys.argv) == 3) != (sys.argv[1] == "--size"):
         sys.exit(__doc__)
     try:
         sys.stdout.write(main(sys.argv[1:]))

@@ -12,6 +12,15 @@ SINGLE = PORT.format(1) + PORT.format(2) + LINK.format(10, 1, 2, "low")
 DOUBLE = "".join(PORT.format(port) for port in (1, 2, 3)) + LINK.format(10, 1, 3, "low") + LINK.format(20, 2, 3, "low")
 MIXED = (PORT.format(1) + PORT.format(2) + LINK.format(10, 1, 2, "low") + LINK.format(11, 1, 2, "low")
          + LINK.format(12, 1, 2, "high"))
+
+def by_frames(text, links=1):
+    """The table in version 2, with its last links policed by frames."""
+    places = text.split("[[link]]")
+    return "version = 2\n" + "[[link]]".join(
+        place + 'police = "frame"\n' if place_number > len(places) - 1 - links else place
+        for place_number, place in enumerate(places))
+
+
 HEADER = bytes.fromhex("4d3cb2a1 02000400 00000000 00000000 00000400 01000000")
 differing = []
 
@@ -135,6 +144,26 @@ def ports():
     sees(name, outcome, "out 2 low offered 2 full 1 aged 0 sent 1", "out 3 low offered 2 full 0 aged 0 sent 2")
 
 
+def policing_by_frames():
+    name = "frame policing"
+    outcome = run(by_frames(SINGLE), capture(*[(10, 64, 0)] * 24), HEADER)
+    same(name, leaves(outcome, 2), [6_720])
+    sees(name, outcome, "link 10 passed 1 policed 23")
+    outcome = run(by_frames(SINGLE), capture(*((10, 1518, at) for at in (0, 999_999, 1_000_000))), HEADER)
+    same(name, leaves(outcome, 2), [123_040, 1_123_040])
+    jittered = by_frames(SINGLE.replace("jitter_us = 0", "jitter_us = 1000"))
+    outcome = run(jittered, capture(*[(10, 64, 0)] * 3), HEADER)
+    same(name, leaves(outcome, 2), [6_720, 13_440])
+    name, bytewise = "the police key", "version = 2\n" + SINGLE
+    frames = capture(*[(10, 64, 0)] * 24)
+    same(name, run(bytewise, frames, HEADER).captures, run(SINGLE, frames, HEADER).captures)
+    same(name, model.check(model.table_of(bytewise)), model.check(model.table_of(SINGLE)))
+    name = "both kinds of policing"
+    outcome = run(by_frames(DOUBLE), capture((10, 64, 0), (10, 64, 0)), capture((20, 64, 0), (20, 64, 0)), HEADER)
+    same(name, leaves(outcome, 3), [6_720, 13_440, 20_160])
+    sees(name, outcome, "link 10 passed 2 policed 0", "link 20 passed 1 policed 1")
+
+
 def captures():
     name, late = "last second", 4_294_967_295 * 10**9
     refuses(name, "afdx: capture P9 Late, port 1, record 1", 3, run, SINGLE, capture((10, 64, late)), HEADER)
@@ -211,9 +240,17 @@ def load():
     fails(name, with_port(text, 2, max_delay_us=282), "L3 HighDelay, port 2, need 282430, limit 282000")
     fails(name, with_port(text, 2, max_delay_us=283), "L4 LowDelay, port 2, need 379224, limit 283000")
     says(name, with_port(text, 2, max_delay_us=380), "port 2 rate 652861440 buffer 5523 high 282430 low 379224")
+    says("frame policing", by_frames(SINGLE), "port 2 rate 251985920 buffer 3076 high - low 123040")
+    name = "eight frame-policed links"
+    says(name, by_frames(equal_links(8), 8), "port 2 rate 2015887360 buffer 13842 high - low 984320")
+    fails(name, by_frames(equal_links(9), 9), "L1 Rate, port 2, need 2267873280, limit 2048000000")
+    whole = by_frames(equal_links(8) + LINK.format(9, 1, 2, "low").replace("1518", "176"), 9)
+    says(name, whole, "port 2 rate 2048000000 buffer 14038 high - low 1000000")
+    fails(name, whole.replace("= 176", "= 177"), "L1 Rate, port 2, need 2048163840, limit 2048000000")
+    says("both kinds of policing", by_frames(DOUBLE), "port 3 rate 578416640 buffer 5069 high - low 282430")
 
 
-for part in (frames_and_accounts, ports, captures, every_verdict, load):
+for part in (frames_and_accounts, ports, policing_by_frames, captures, every_verdict, load):
     part()
 print("\n".join(differing) or "the model gives every worked number")
 sys.exit(bool(differing))

@@ -1,8 +1,9 @@
 //! An AFDX switch (ARINC 664 Part 7) over captured traffic.
 //!
 //! `afdx alone` reads a capture of one ingress port on standard input and writes the capture of the
-//! frames that the account of one virtual link passes. `afdx run` gets a configuration table and one capture
-//! for each port, and puts one capture for each port.
+//! frames that the account of one virtual link passes. `afdx check` and `afdx size` tell of a configuration table whether its
+//! ports can give what the links ask for. `afdx run` gets a table and one capture for each port, and puts one capture for
+//! each port.
 #![tactic(auto)]
 
 use afdx_serve::{Disk, Failure, report, serve};

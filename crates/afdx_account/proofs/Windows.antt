@@ -7,7 +7,7 @@ use Rattle.std.proofs.lemmas.Bool.{cases_Bool, cond_both, leb-true, and_parts}
 use Rattle.std.proofs.lemmas.Bool.Decides.{nat_tests}
 use Rattle.afdx_account.specs.declared.frame.Frame.{Frame}
 use Rattle.afdx_account.specs.Policing.{Terms, paid, allowance, conforms, passed_after, passed_frames}
-use Rattle.afdx_account.specs.ByteLaws.{fills}
+use Rattle.afdx_account.specs.MeterLaws.{fills}
 use Rattle.afdx_account.specs.Level.{headroom, Stands, PassesWhatConforms, credited_level, stepped, InOrder}
 
 -- each window from one of these frames up to an instant keeps to its allowance
@@ -237,3 +237,19 @@ passes_what_conforms t since level at size passes left le passes-is left-is fram
     let kept : left ≡ (let there = credited_level t start (at - since) in cond (nat_le (t.price size) there) (there - t.price size) there) =
     left-is ∙ rw (test, same) refl in
     (test ∙ decides t since start frames f le s, rw (still, kept) (stands_on t since start frames f le s))
+
+-- an offer that passes gives up the price, which pays for the cost
+pub pays_what_passes : (t : Terms) (weight cost since level at size : ℕ) (passes : Bool) (left : ℕ) → cost ≤ weight * t.price size
+    → passes ≡ nat_le (t.price size) (credited_level t level (at - since))
+    → left ≡ cond passes (credited_level t level (at - since) - t.price size) (credited_level t level (at - since))
+    → IsTrue passes → cost + weight * credited_level t left (at - at) ≤ weight * credited_level t level (at - since)
+pays_what_passes t weight cost since level at size passes left pays passes-is left-is passed =
+    let now : ℕ = credited_level t level (at - since) in
+    let price : ℕ = t.price size in
+    let fits : price ≤ now = leb-true price now (sym passes-is ∙ passed) in
+    let less : left ≡ now - price = left-is ∙ ap (λ (b : Bool). cond b (now - price) now) passed in
+    let none : t.rate * (at - at) ≡ 0 = ap (λ (n : ℕ). t.rate * n) (let z : at - at ≡ 0 = omega arith in z) ∙ omega arith in
+    let still : credited_level t left (at - at) ≤ left = omega (arith, none) in
+    let most = mul-le-mul_left weight still in
+    let whole : weight * now ≡ weight * left + weight * price = ap (λ (n : ℕ). weight * n) (let e : now ≡ left + price = omega (arith, fits, less) in e) ∙ omega arith in
+    omega (arith, most, whole, pays)

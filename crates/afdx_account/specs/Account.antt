@@ -1,20 +1,67 @@
--- What contracts see of a byte account.
+-- What contracts see of an account.
 use Rattle.std.specs.Prelude.{ℕ, ◌-◌}
 use Rattle.afdx_units.specs.declared.line.Speed.{Speed}
 use Rattle.afdx_account.specs.declared.byte.ByteAccount.{ByteAccount}
-use Rattle.afdx_account.specs.Policing.{Terms, byte_terms, byte_weight}
+use Rattle.afdx_account.specs.declared.frames.FrameAccount.{FrameAccount}
+use Rattle.afdx_account.specs.declared.account.Account.{Account}
+use Rattle.afdx_account.specs.declared.account.Account.TheVariants as by
+use Rattle.afdx_account.specs.Policing.{Terms, byte_terms, byte_weight, frame_terms, frame_weight}
 use Rattle.afdx_account.specs.Level.{credited_level}
 
-abbrev pub account_terms : ByteAccount → Terms
-account_terms a = byte_terms a.max_size a.bag a.jitter
+-- ---- by bytes
+
+abbrev pub byte_account_terms : ByteAccount → Terms
+byte_account_terms a = byte_terms a.max_size a.bag a.jitter
 
 -- the instant of its last offer
-abbrev pub account_since : ByteAccount → ℕ
-account_since a = a.since
+abbrev pub byte_account_since : ByteAccount → ℕ
+byte_account_since a = a.since
 
 -- its level at an instant
-abbrev pub account_level : ByteAccount → ℕ → ℕ
-account_level a at = credited_level (account_terms a) a.level (at - a.since)
+abbrev pub byte_account_level : ByteAccount → ℕ → ℕ
+byte_account_level a at = credited_level (byte_account_terms a) a.level (at - a.since)
 
-abbrev pub account_weight : ByteAccount → Speed → ℕ
-account_weight a speed = byte_weight a.bag speed
+abbrev pub byte_account_weight : ByteAccount → Speed → ℕ
+byte_account_weight a speed = byte_weight a.bag speed
+
+abbrev pub byte_account_greatest : ByteAccount → ℕ
+byte_account_greatest a = a.max_size
+
+-- ---- by frames
+
+abbrev pub frame_account_terms : FrameAccount → Terms
+frame_account_terms a = frame_terms a.bag a.jitter
+
+abbrev pub frame_account_since : FrameAccount → ℕ
+frame_account_since a = a.since
+
+abbrev pub frame_account_level : FrameAccount → ℕ → ℕ
+frame_account_level a at = credited_level (frame_account_terms a) a.level (at - a.since)
+
+abbrev pub frame_account_weight : FrameAccount → Speed → ℕ
+frame_account_weight a speed = frame_weight a.max_size a.bag speed
+
+abbrev pub frame_account_greatest : FrameAccount → ℕ
+frame_account_greatest a = a.max_size
+
+-- ---- by either
+
+abbrev pub account_terms : Account → Terms
+account_terms (by.Byte a) = byte_account_terms a
+account_terms (by.Frame a) = frame_account_terms a
+
+abbrev pub account_since : Account → ℕ
+account_since (by.Byte a) = byte_account_since a
+account_since (by.Frame a) = frame_account_since a
+
+abbrev pub account_level : Account → ℕ → ℕ
+account_level (by.Byte a) at = byte_account_level a at
+account_level (by.Frame a) at = frame_account_level a at
+
+abbrev pub account_weight : Account → Speed → ℕ
+account_weight (by.Byte a) speed = byte_account_weight a speed
+account_weight (by.Frame a) speed = frame_account_weight a speed
+
+abbrev pub account_greatest : Account → ℕ
+account_greatest (by.Byte a) = byte_account_greatest a
+account_greatest (by.Frame a) = frame_account_greatest a

@@ -3,7 +3,9 @@ use Rattle.std.specs.Prelude.{◌≡◌, ℕ, ◌+◌, ◌*◌, ◌-◌, ◌/◌
 use Rattle.afdx_units.specs.declared.bag.Bag.{Bag}
 use Rattle.afdx_units.specs.declared.line.Speed.{Speed}
 use Rattle.afdx_units.specs.Time.{bag_ms, bag_ns}
-use Rattle.afdx_units.specs.Line.{tick_of}
+use Rattle.afdx_units.specs.Line.{tick_of, cost_of}
+use Rattle.afdx_units.specs.declared.police.Police.{Police}
+use Rattle.afdx_units.specs.declared.police.Police.TheVariants.{Byte, Frame as ByFrames}
 use Rattle.afdx_account.specs.declared.frame.Frame.{Frame}
 
 -- profile: what a link may send, in units: at most `cap` at once, `rate` more in each ns, and a price for each size
@@ -25,6 +27,29 @@ byte_terms max_size bag jitter = record {
 -- size + 20 <= size * 21 / 16 for sizes of at least 64
 abbrev pub byte_weight : Bag → Speed → ℕ
 byte_weight bag speed = 21 * tick_of speed * (128 / bag_ms bag)
+
+-- profile: policing by frames, where a frame is as many units as the gap has ns; a unit is credited in each ns, and at most
+-- BAG + J units are held
+abbrev pub frame_terms : Bag → ℕ → Terms
+frame_terms bag jitter = record {
+  cap = bag_ns bag + jitter;
+  rate = 1;
+  price = λ size. bag_ns bag;
+}
+
+-- profile: line time that a unit stands for, in the 2,048,000,000th part of a ns: a gap's units are the line time of the longest frame
+abbrev pub frame_weight : ℕ → Bag → Speed → ℕ
+frame_weight max_size bag speed = 16 * cost_of speed max_size * (128 / bag_ms bag)
+
+-- the terms of a link, by the kind of its policing
+abbrev pub terms_by : Police → ℕ → Bag → ℕ → Terms
+terms_by Byte max_size bag jitter = byte_terms max_size bag jitter
+terms_by ByFrames max_size bag jitter = frame_terms bag jitter
+
+-- and what a unit of them stands for
+abbrev pub weight_by : Police → ℕ → Bag → Speed → ℕ
+weight_by Byte max_size bag speed = byte_weight bag speed
+weight_by ByFrames max_size bag speed = frame_weight max_size bag speed
 
 -- the units that these frames cost together
 abbrev pub paid : Terms → List Frame → ℕ

@@ -34,6 +34,7 @@ impl ByteAccount {
         ensures full { Stands (byte_terms max_size bag jitter_ns) 0 (⟦<ByteAccount as Meter>⟧.level result 0) [] }
         ensures since { ⟦<ByteAccount as Meter>⟧.since result ≡ 0 }
         ensures weight { (speed : Speed) → ⟦<ByteAccount as Meter>⟧.weight_of result speed ≡ byte_weight bag speed }
+        ensures greatest { ⟦<ByteAccount as Meter>⟧.greatest result ≡ max_size }
     {
         ByteAccount {
             max_size,
@@ -46,22 +47,24 @@ impl ByteAccount {
 }
 
 impl Meter for ByteAccount {
-    ghost use Rattle.afdx_account.specs.Account.{account_terms, account_since, account_level, account_weight};
-    ghost use Rattle.afdx_account.specs.ByteLaws.{capped_by, fills, pays_for};
+    ghost use Rattle.afdx_account.specs.Account.{byte_account_terms, byte_account_since, byte_account_level, byte_account_weight, byte_account_greatest};
+    ghost use Rattle.afdx_account.specs.MeterLaws.{capped_by, fills, pays_for};
 
-    ghost terms = { account_terms };
+    ghost terms = { byte_account_terms };
 
-    ghost since = { account_since };
+    ghost since = { byte_account_since };
 
-    ghost level = { account_level };
+    ghost level = { byte_account_level };
 
-    ghost weight_of = { account_weight };
+    ghost weight_of = { byte_account_weight };
+
+    ghost greatest = { byte_account_greatest };
 
     ghost capped = { λ a at. capped_by (a.max_size * (bag_ns a.bag + a.jitter)) (a.level + a.max_size * (at - a.since)) };
 
     ghost credited = { λ a at later h k. fills (a.max_size * (bag_ns a.bag + a.jitter)) a.max_size a.level a.since at later h k };
 
-    ghost pays = { λ a speed size h. pays_for a.bag speed size h };
+    ghost pays = { λ a speed size h k. pays_for a.bag speed size h };
 
     fn cap(&self) -> u64 {
         self.rate() * (self.bag.ns() + self.jitter)

@@ -1,6 +1,7 @@
 //! Laws over the definitions: functions that do nothing, whose contracts are the laws.
 
-ghost use Rattle.afdx_account.specs.Laws.{StepsPassWhatConforms, ConformingIsTested, NextJoinsWhereItConforms, NextFrameJoinsWhereItConforms, PassedByTheirFrames, HeadroomIsCredited, HeadroomDecides, HeadroomIsDebited, BytePricesPay};
+ghost use Rattle.afdx_account.specs.Laws.{StepsPassWhatConforms, ConformingIsTested, NextJoinsWhereItConforms, NextFrameJoinsWhereItConforms, PassedByTheirFrames, HeadroomIsCredited, HeadroomDecides, HeadroomIsDebited};
+ghost use Rattle.afdx_account.specs.Laws.{BytePricesPay, FramePricesPay, PricesPay};
 
 /// A full account that goes step by step, over frames whose stamps don't fall, passes exactly the frames
 /// that keep to their allowances in all windows.
@@ -40,4 +41,14 @@ pub fn headroom_is_a_level()
 /// What a frame costs in bytes pays for its line time, at both speeds.
 pub fn byte_prices_pay()
     ensures { BytePricesPay }
+{}
+
+/// What a frame costs by frames pays for its line time, at both speeds, where it is no longer than the link allows.
+pub fn frame_prices_pay()
+    ensures { FramePricesPay }
+{}
+
+/// What a frame costs pays for its line time, whatever the kind of policing, where the link allows its size.
+pub fn prices_pay()
+    ensures { PricesPay }
 {}

@@ -5,13 +5,17 @@
 //! keeps one level; its `offer` is proved to answer by that definition. Every call is O(1) and takes no memory.
 #![tactic(auto)]
 
+mod account;
 mod byte;
 mod frame;
+mod frames;
 pub mod laws;
 mod meter;
 
+pub use account::Account;
 pub use byte::ByteAccount;
 pub use frame::Frame;
+pub use frames::FrameAccount;
 pub use meter::Meter;
 
 #[cfg(test)]

@@ -25,6 +25,9 @@ pub trait Meter {
     /// Line time that a unit stands for, in the 2,048,000,000th part of a nanosecond.
     ghost weight_of: { Self → Speed → ℕ };
 
+    /// The greatest size in bytes that its link allows.
+    ghost greatest: { Self → ℕ };
+
     /// The greatest level, in units.
     fn cap(&self) -> u64
         ensures { result ≡ (terms self.now).cap };
@@ -57,9 +60,11 @@ pub trait Meter {
         ensures since { since self.new ≡ at }
         ensures terms { terms self.new ≡ terms self.old }
         ensures weight { weight_of self.new ≡ weight_of self.old }
+        ensures greatest { greatest self.new ≡ greatest self.old }
 
-        // A frame that is passed adds its line time to a port's work, and the level gives up at least as much.
-        ensures paid { IsTrue result → (speed : Speed) → 64 ≤ size → 2048000000 * cost_of speed size + weight_of self.new speed * level self.new at ≤ weight_of self.old speed * level self.old at }
+        // A frame of the link that is passed adds its line time to a port's work, and the level gives up at least as much.
+        ensures paid { IsTrue result → (speed : Speed) → 64 ≤ size → size ≤ greatest self.old
+            → 2048000000 * cost_of speed size + weight_of self.new speed * level self.new at ≤ weight_of self.old speed * level self.old at }
 
         // Whatever frames were offered to a full account before, the frame is passed exactly where it
         // conforms to those that were passed.
@@ -72,7 +77,7 @@ pub trait Meter {
     ghost credited: { (m : Self) (at later : ℕ) → since m ≤ at → at ≤ later
         → level m later ≡ credited_level (terms m) (level m at) (later - at) };
 
-    /// What a frame costs pays for its line time.
-    ghost pays: { (m : Self) (speed : Speed) (size : ℕ) → 64 ≤ size
+    /// What a frame costs pays for its line time, where the link allows its size.
+    ghost pays: { (m : Self) (speed : Speed) (size : ℕ) → 64 ≤ size → size ≤ greatest m
         → 2048000000 * cost_of speed size ≤ weight_of m speed * (terms m).price size };
 }

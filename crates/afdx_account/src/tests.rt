@@ -3,7 +3,7 @@
 ghost use Rattle.std.specs.Prelude.{◌≡◌, ◌≤◌};
 
 use super::*;
-use afdx_units::{Bag, Speed, Stamp};
+use afdx_units::{Bag, Police, Speed, Stamp};
 use std::test::Fail;
 
 /// An account of BAG 1 ms, no jitter and frames of at most 1518 bytes.
@@ -63,5 +63,37 @@ fn a_long_silence_fills_the_account(rt: HostRuntime) -> Result<(), Fail> {
     assert!(rt; account.offer(Stamp::ZERO, 1518));
     assert!(rt; account.offer(late, 1518));
     assert_eq!(rt; account.level_at(late), 0);
+    Ok(())
+}
+
+/// An account by frames, of BAG 1 ms and frames of at most 1518 bytes.
+fn by_frames(jitter_ns: u64) -> Account
+    requires { jitter_ns ≤ 10000000 }
+    ensures { ⟦<Account as Meter>⟧.since result ≡ 0 }
+{
+    Account::new(Police::Frame, 1518, Bag::Ms1, jitter_ns)
+}
+
+#[test]
+fn a_full_account_by_frames(rt: HostRuntime) {
+    let account = by_frames(0);
+    let cap = 1_000_000;
+    assert_eq!(rt; told(&account, Stamp::ZERO), [cap, 1, cap, cap]);
+    assert_eq!(rt; account.weight(Speed::Hundred), 16 * 80 * 1538 * 128);
+}
+
+#[test]
+fn by_frames_each_frame_costs_the_same(rt: HostRuntime) -> Result<(), Fail> {
+    let early = Stamp::from_ns(999_999).ok_or("an instant")?;
+    let in_time = Stamp::from_ns(1_000_000).ok_or("an instant")?;
+    let mut account = by_frames(0);
+    assert!(rt; account.offer(Stamp::ZERO, 64));
+    assert!(rt; !account.offer(Stamp::ZERO, 64));
+    assert!(rt; !account.offer(early, 1518));
+    assert!(rt; account.offer(in_time, 1518));
+    let mut jittered = by_frames(1_000_000);
+    assert!(rt; jittered.offer(Stamp::ZERO, 64));
+    assert!(rt; jittered.offer(Stamp::ZERO, 64));
+    assert!(rt; !jittered.offer(Stamp::ZERO, 64));
     Ok(())
 }

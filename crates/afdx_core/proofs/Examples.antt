@@ -5,6 +5,7 @@ use Rattle.afdx_units.specs.declared.line.Speed.{Speed}
 use Rattle.afdx_units.specs.declared.line.Priority.TheVariants.{Low}
 use Rattle.afdx_units.specs.declared.bag.Bag.TheVariants.{Ms1}
 use Rattle.afdx_table.specs.declared.rows.PortRow.{PortRow}
+use Rattle.afdx_units.specs.declared.police.Police.TheVariants.{Byte}
 use Rattle.afdx_table.specs.Link.{Link}
 use Rattle.afdx_table.specs.Content.{Content, port_row}
 use Rattle.afdx_filter.specs.declared.outcome.Verdict.{Verdict}
@@ -27,7 +28,7 @@ port id speed buffer = record { id = id; speed = speed; buffer = buffer; max_del
 
 -- a link from port 1 to two ports, of which the second line is slow and has room for one small frame
 abbrev link : Link
-link = record { id = 10; from = 1; to = 2 ∷ 3 ∷ []; bag = Ms1; jitter = 0; max_size = 1518; priority = Low }
+link = record { id = 10; from = 1; to = 2 ∷ 3 ∷ []; bag = Ms1; jitter = 0; max_size = 1518; priority = Low; police = Byte }
 
 abbrev table : Content
 table = record { constant = 3 ∷ 0 ∷ 0 ∷ 0 ∷ []; ports = port 1 Hundred 100000 ∷ port 2 Ten 64 ∷ port 3 Hundred 100000 ∷ []; links = link ∷ [] }
@@ -40,7 +41,7 @@ run rows = record { table = table; rows = rows; latest = 0; handed = []; finishe
 
 -- two links of two ports, both to a third
 abbrev link_from : ℕ → ℕ → Link
-link_from id from = record { id = id; from = from; to = 3 ∷ []; bag = Ms1; jitter = 0; max_size = 1518; priority = Low }
+link_from id from = record { id = id; from = from; to = 3 ∷ []; bag = Ms1; jitter = 0; max_size = 1518; priority = Low; police = Byte }
 
 abbrev double : Content
 double = record { constant = 3 ∷ 0 ∷ 0 ∷ 0 ∷ []; ports = port 1 Hundred 100000 ∷ port 2 Hundred 100000 ∷ port 3 Hundred 100000 ∷ []; links = link_from 10 1 ∷ link_from 20 2 ∷ [] }

@@ -11,7 +11,7 @@ use Rattle.afdx_account.specs.declared.frame.Frame.{Frame}
 use Rattle.afdx_account.specs.Policing.{Terms, conforms, passed_frames}
 use Rattle.afdx_account.specs.Level.{Stands, PassesWhatConforms}
 use Rattle.afdx_account.specs.Account.{account_terms, account_since, account_level}
-use Rattle.afdx_account.specs.declared.byte.ByteAccount.{ByteAccount}
+use Rattle.afdx_account.specs.declared.account.Account.{Account}
 use Rattle.afdx_load.specs.Sums.{terms_of}
 use Rattle.afdx_core.specs.declared.kinds.Row.{Row}
 use Rattle.afdx_core.specs.Rows.{frame_of, account_frames, says_clean, passes}
@@ -19,11 +19,11 @@ use Rattle.afdx_core.specs.Kept.{AccountStands, AccountsStand, Polices}
 use Rattle.afdx_core.proofs.Feeds.{account-same, account-other}
 
 -- what an account's offer of a row's frame is to tell
-abbrev pub Conforming : Bool → Row → ByteAccount → ByteAccount → Type 0
+abbrev pub Conforming : Bool → Row → Account → Account → Type 0
 Conforming p row a b = PassesWhatConforms (account_terms a) (account_since a) (account_level a (account_since a)) row.stamp row.size p (account_level b row.stamp)
 
 -- the account of the frame's link
-policed_own : (l : Link) (a b : ByteAccount) (rows : List Row) (latest : ℕ) (row : Row) (p : Bool)
+policed_own : (l : Link) (a b : Account) (rows : List Row) (latest : ℕ) (row : Row) (p : Bool)
     → AccountStands l a rows latest → row.verdict ≡ Clean l.id → account_since b ≡ row.stamp → account_terms b ≡ account_terms a → Conforming p row a b
     → (p ≡ passes l rows row) × AccountStands l b (rows ++ row ∷ []) row.stamp
 unfolding passes
@@ -41,7 +41,7 @@ policed_own l a b rows latest row p stands clean since terms conforming =
     )
 
 -- the account of another link
-policed_other : (l : Link) (a : ByteAccount) (rows : List Row) (latest : ℕ) (row : Row) (i : ℕ)
+policed_other : (l : Link) (a : Account) (rows : List Row) (latest : ℕ) (row : Row) (i : ℕ)
     → AccountStands l a rows latest → row.verdict ≡ Clean i → i ≢ l.id → latest ≤ row.stamp → AccountStands l a (rows ++ row ∷ []) row.stamp
 policed_other l a rows latest row i stands clean other le = record {
   terms = stands.terms;
@@ -78,7 +78,7 @@ other_link links place k l m distinct within klt ne at =
       differ a b apart same = grind (arith, nat_tests)
 
 -- where no account is asked
-pub unpoliced : (links : List Link) (rows : List Row) (latest : ℕ) (row : Row) (accounts : List ByteAccount) → ((k : ℕ) (l : Link) → k < length links → says_clean (slice_index_or links k l).id row.verdict ≡ false) → latest ≤ row.stamp
+pub unpoliced : (links : List Link) (rows : List Row) (latest : ℕ) (row : Row) (accounts : List Account) → ((k : ℕ) (l : Link) → k < length links → says_clean (slice_index_or links k l).id row.verdict ≡ false) → latest ≤ row.stamp
     → AccountsStand links rows latest accounts → AccountsStand links (rows ++ row ∷ []) row.stamp accounts
 unpoliced links rows latest row accounts none le stand = record {
   len = stand.len;
@@ -89,7 +89,7 @@ unpoliced links rows latest row accounts none le stand = record {
   };
 }
 
-pub policed : (p : Bool) (row : Row) (place : ℕ) (old : List ByteAccount) (d b : ByteAccount) → place < length old
+pub policed : (p : Bool) (row : Row) (place : ℕ) (old : List Account) (d b : Account) → place < length old
     → account_since b ≡ row.stamp → account_terms b ≡ account_terms (get_or old place d) → Conforming p row (get_or old place d) b → Polices p row place old (set old place b)
 policed p row place old d b lt since terms conforming links rows latest l stand distinct within le at clean =
     let s = stand.each place l d within in
@@ -108,7 +108,7 @@ policed p row place old d b lt since terms conforming links rows latest l stand 
 
 -- ---- full accounts
 
-pub account_fresh : (l : Link) (a : ByteAccount) → account_terms a ≡ terms_of l → Stands (terms_of l) 0 (account_level a 0) [] → account_since a ≡ 0 → AccountStands l a [] 0
+pub account_fresh : (l : Link) (a : Account) → account_terms a ≡ terms_of l → Stands (terms_of l) 0 (account_level a 0) [] → account_since a ≡ 0 → AccountStands l a [] 0
 unfolding account_frames
 account_fresh l a terms full since = record {
   terms = terms;
@@ -116,17 +116,17 @@ account_fresh l a terms full since = record {
   stands = subst (λ (n : ℕ). Stands (terms_of l) n (account_level a n) []) (sym since) full;
 }
 
-pub accounts-push : (links : List Link) (accounts : List ByteAccount) (i : ℕ) (item : Link) (a : ByteAccount) → i < length links → length accounts ≡ i → item ≡ get_or links i item → AccountStands item a [] 0
-    → ((k : ℕ) (m : Link) (e : ByteAccount) → k < i → AccountStands (get_or links k m) (get_or accounts k e) [] 0)
-    → (k : ℕ) (m : Link) (e : ByteAccount) → k < i + 1 → AccountStands (get_or links k m) (get_or (accounts ++ a ∷ []) k e) [] 0
+pub accounts-push : (links : List Link) (accounts : List Account) (i : ℕ) (item : Link) (a : Account) → i < length links → length accounts ≡ i → item ≡ get_or links i item → AccountStands item a [] 0
+    → ((k : ℕ) (m : Link) (e : Account) → k < i → AccountStands (get_or links k m) (get_or accounts k e) [] 0)
+    → (k : ℕ) (m : Link) (e : Account) → k < i + 1 → AccountStands (get_or links k m) (get_or (accounts ++ a ∷ []) k e) [] 0
 accounts-push links accounts i item a lt len is new each k m e klt =
     ⊎_elim
-    (λ before. subst (λ (x : ByteAccount). AccountStands (get_or links k m) x [] 0) (sym (get_or_append_left accounts (a ∷ []) e k (omega (arith, len)))) (each k m e before))
+    (λ before. subst (λ (x : Account). AccountStands (get_or links k m) x [] 0) (sym (get_or_append_left accounts (a ∷ []) e k (omega (arith, len)))) (each k m e before))
     (λ after.
     let same : k ≡ i = omega arith in
     let link : item ≡ get_or links k m = is ∙ get_or_default links i item m lt ∙ ap (λ j. get_or links j m) (sym same) in
     let account : a ≡ get_or (accounts ++ a ∷ []) k e = sym (get_or-append_right accounts (a ∷ []) i k e len (omega arith) ∙ ap (λ j. get_or (a ∷ []) j e) (at_zero k i same)) in
-    subst₂ (λ (l : Link) (x : ByteAccount). AccountStands l x [] 0) link account new)
+    subst₂ (λ (l : Link) (x : Account). AccountStands l x [] 0) link account new)
     (cases_lt k i) where
       at_zero : (k i : ℕ) → k ≡ i → k - i ≡ 0
       at_zero k i e = omega (arith, e)

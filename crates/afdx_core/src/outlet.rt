@@ -39,7 +39,7 @@ fn behind(aged: &[Aged], count: usize) -> &[Aged]
 }
 
 /// Gives up a copy of each of these frames.
-fn give_up_all<A: Allocator + Copy>(aged: &[Aged], store: &mut Store<A>)
+fn give_up_all<A: Allocator + Copy>(aged: &[Aged], store: &mut Store<'_, A>)
     requires { Enough (map (λ a. a.item) aged.now) store.old.held }
     ensures store { GaveUp (map (λ a. a.item) aged.now) store.old.held store.new.held }
     ensures room { store.new.room ≡ store.old.room }
@@ -62,7 +62,7 @@ impl<A: Allocator + Copy> Outlet<A> {
     }
 
     /// Carries out the starts before the instant, and gives up the copies that are aged.
-    fn carry(&mut self, at: Stamp, store: &mut Store<A>)
+    fn carry(&mut self, at: Stamp, store: &mut Store<'_, A>)
         requires can { CanCarry at self.old }
         requires holds { (i : ℕ) → copies_at self.old.port.content self.old.handed i ≤ copies_of (slice_index_or store.old.held i None) }
         ensures seen { seen self.new ≡ carried at (seen self.old) }
@@ -79,7 +79,7 @@ impl<A: Allocator + Copy> Outlet<A> {
     }
 
     /// Carries out all that is left, and gives up the copies that are aged.
-    fn end(&mut self, store: &mut Store<A>)
+    fn end(&mut self, store: &mut Store<'_, A>)
         requires counted { IsCounted self.old }
         requires holds { (i : ℕ) → copies_at self.old.port.content self.old.handed i ≤ copies_of (slice_index_or store.old.held i None) }
         ensures seen { seen self.new ≡ ended (seen self.old) }
@@ -186,7 +186,7 @@ pub(crate) fn carry_all<A: Allocator + Copy>(
     outlets: &mut [Outlet<A>],
     dues: &mut Dues,
     at: Stamp,
-    store: &mut Store<A>,
+    store: &mut Store<'_, A>,
 )
     requires can { All (λ o. CanCarry at o) outlets.old }
     requires dues { dues.old ≡ dues_of outlets.old }
@@ -209,7 +209,7 @@ pub(crate) fn carry_all<A: Allocator + Copy>(
 }
 
 /// Carries out all that is left at all ports.
-pub(crate) fn end_all<A: Allocator + Copy>(outlets: &mut [Outlet<A>], store: &mut Store<A>)
+pub(crate) fn end_all<A: Allocator + Copy>(outlets: &mut [Outlet<A>], store: &mut Store<'_, A>)
     requires can { All (λ o. IsCounted o) outlets.old }
     requires holds { HoldsCopies store.old.held outlets.old }
     ensures outlets { Became ended outlets.old outlets.new }

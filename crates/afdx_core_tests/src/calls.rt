@@ -10,7 +10,11 @@ use std::process::Abort;
 use std::test::*;
 
 /// A switch over a table of one link answers these calls so, be its table checked or not.
-fn answers_calls(rt: &impl Abort, alloc: Global, mut switch: Switch<Global>) -> Result<(), Fail> {
+fn answers_calls(
+    rt: &impl Abort,
+    alloc: Global,
+    mut switch: Switch<'static, Global>,
+) -> Result<(), Fail> {
     let unknown = arrive(alloc, &mut switch, 7, small(10, 5));
     assert_eq!(rt; unknown, (None, None, Some(CoreFault::NoSuchPort), 5));
     let first = arrive(alloc, &mut switch, 1, small(10, 5));
@@ -54,14 +58,14 @@ fn checked_switch_by_calls(rt: HostRuntime) -> Result<(), Fail> {
 }
 
 /// What a switch tells of port 2, how many frames it sent and gave up, and of all arrivals, how many fates.
-fn told(switch: &Switch<Global>) -> (usize, usize, usize) {
+fn told(switch: &Switch<'static, Global>) -> (usize, usize, usize) {
     let sent = switch.sent(2).len();
     let aged = switch.aged(2).len();
     (sent, aged, switch.fates().len())
 }
 
 /// The same of a finished switch.
-fn told_at_the_end(done: &Done<Global>) -> (usize, usize, usize) {
+fn told_at_the_end(done: &Done<'static, Global>) -> (usize, usize, usize) {
     (done.sent(2).len(), done.aged(2).len(), done.fates().len())
 }
 

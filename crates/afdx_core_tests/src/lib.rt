@@ -8,6 +8,8 @@ mod calls;
 #[cfg(test)]
 mod held;
 #[cfg(test)]
+mod kept;
+#[cfg(test)]
 mod merges;
 #[cfg(test)]
 mod traffic;

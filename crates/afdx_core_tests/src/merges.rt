@@ -27,7 +27,7 @@ fn babbler_beside_a_quiet_link(rt: HostRuntime) -> Result<(), Fail> {
 }
 
 /// The first record of port 3, where a small frame comes and then so many of the babbler.
-fn first_record(alloc: Global, babbles: u32) -> Result<Record<Global>, Fail> {
+fn first_record(alloc: Global, babbles: u32) -> Result<Record<'static, Global>, Fail> {
     let mut switch = switch_of(alloc, &double(alloc, port(3))?)?;
     let _quiet = arrive(alloc, &mut switch, 1, small(10, 0));
     for _ in 0..babbles {
@@ -37,7 +37,7 @@ fn first_record(alloc: Global, babbles: u32) -> Result<Record<Global>, Fail> {
     whole(&mut done, 3)
 }
 
-fn are_same(one: &Record<Global>, other: &Record<Global>) -> bool {
+fn are_same(one: &Record<'static, Global>, other: &Record<'static, Global>) -> bool {
     one.stamp() == other.stamp()
         && one.original() == other.original()
         && one.bytes() == other.bytes()

@@ -16,13 +16,13 @@ fn table_of(alloc: Global, text: &str) -> Result<Table, Fail> {
 }
 
 /// A switch over the table of a text, which is not checked.
-pub(crate) fn switch_of(alloc: Global, text: &str) -> Result<Switch<Global>, Fail> {
+pub(crate) fn switch_of(alloc: Global, text: &str) -> Result<Switch<'static, Global>, Fail> {
     let switch = Switch::new(alloc, table_of(alloc, text)?)?;
     Ok(switch)
 }
 
 /// A switch over the table of a text, which is checked.
-pub(crate) fn checked(alloc: Global, text: &str) -> Result<Switch<Global>, Fail> {
+pub(crate) fn checked(alloc: Global, text: &str) -> Result<Switch<'static, Global>, Fail> {
     let cleared = check(table_of(alloc, text)?)
         .ok()
         .ok_or("an accepted table")?;
@@ -36,7 +36,7 @@ pub(crate) type Answer = (Option<Fate>, Option<(u8, Offer)>, Option<CoreFault>, 
 /// The answer to a frame; nothing where it is no record.
 pub(crate) fn arrive(
     alloc: Global,
-    switch: &mut Switch<Global>,
+    switch: &mut Switch<'static, Global>,
     in_port: u8,
     sample: Sample,
 ) -> Answer {
@@ -52,7 +52,7 @@ pub(crate) fn arrive(
 /// The first two offers, in the link's order.
 pub(crate) fn offers(
     alloc: Global,
-    switch: &mut Switch<Global>,
+    switch: &mut Switch<'static, Global>,
     in_port: u8,
     sample: Sample,
 ) -> (Option<(u8, Offer)>, Option<(u8, Offer)>) {
@@ -67,7 +67,7 @@ pub(crate) fn offers(
 
 /// The end and the number of bytes of the next frame that a port hands out.
 pub(crate) fn next(
-    switch: &mut Switch<Global>,
+    switch: &mut Switch<'static, Global>,
     port: u8,
 ) -> Result<Option<(u64, usize)>, AllocError> {
     let out = switch.next_out(port)?;
@@ -75,18 +75,21 @@ pub(crate) fn next(
 }
 
 /// The same of a finished switch.
-pub(crate) fn left(done: &mut Done<Global>, port: u8) -> Result<Option<(u64, usize)>, AllocError> {
+pub(crate) fn left(
+    done: &mut Done<'static, Global>,
+    port: u8,
+) -> Result<Option<(u64, usize)>, AllocError> {
     let out = done.next_out(port)?;
     Ok(sent_as(out))
 }
 
 /// The switch, finished.
-pub(crate) fn finished(switch: Switch<Global>) -> Done<Global> {
+pub(crate) fn finished(switch: Switch<'static, Global>) -> Done<'static, Global> {
     switch.finish()
 }
 
 /// The end and the number of bytes of a record that was handed out.
-pub(crate) fn sent_as(out: Option<Record<Global>>) -> Option<(u64, usize)> {
+pub(crate) fn sent_as(out: Option<Record<'static, Global>>) -> Option<(u64, usize)> {
     match out {
         Some(record) => Some((record.stamp().ns(), record.bytes().len())),
         None => None,
@@ -94,13 +97,16 @@ pub(crate) fn sent_as(out: Option<Record<Global>>) -> Option<(u64, usize)> {
 }
 
 /// The whole of it.
-pub(crate) fn whole(done: &mut Done<Global>, port: u8) -> Result<Record<Global>, Fail> {
+pub(crate) fn whole(
+    done: &mut Done<'static, Global>,
+    port: u8,
+) -> Result<Record<'static, Global>, Fail> {
     let out = done.next_out(port)?.ok_or("no record is left")?;
     Ok(out)
 }
 
 /// Whether the switch can advance to this instant.
-pub(crate) fn advances(switch: &mut Switch<Global>, ns: u64) -> bool {
+pub(crate) fn advances(switch: &mut Switch<'static, Global>, ns: u64) -> bool {
     match Stamp::from_ns(ns) {
         Some(to) => switch.advance(to).is_ok(),
         None => false,

@@ -5,6 +5,7 @@ use Rattle.afdx_units.specs.declared.line.Priority.{Priority}
 use Rattle.afdx_units.specs.declared.line.Priority.TheVariants.{High, Low}
 use Rattle.afdx_units.specs.declared.bag.Bag.TheVariants.{Ms1}
 use Rattle.afdx_table.specs.declared.rows.PortRow.{PortRow}
+use Rattle.afdx_units.specs.declared.police.Police.TheVariants.{Byte}
 use Rattle.afdx_table.specs.Link.{Link}
 use Rattle.afdx_table.specs.Content.{Content}
 use Rattle.afdx_filter.specs.declared.outcome.Verdict.{Verdict}
@@ -21,7 +22,7 @@ abbrev port : PortRow
 port = record { id = 2; speed = Hundred; buffer = 128; max_delay = 5000 }
 
 abbrev link : ℕ → Priority → Link
-link id priority = record { id = id; from = 1; to = 2 ∷ []; bag = Ms1; jitter = 0; max_size = 1518; priority = priority }
+link id priority = record { id = id; from = 1; to = 2 ∷ []; bag = Ms1; jitter = 0; max_size = 1518; priority = priority; police = Byte }
 
 abbrev table : Content
 table = record { constant = 3 ∷ 0 ∷ 0 ∷ 0 ∷ []; ports = record { id = 1; speed = Hundred; buffer = 100000; max_delay = 500000000 } ∷ port ∷ []; links = link 30 High ∷ link 10 Low ∷ [] }

@@ -56,7 +56,7 @@ impl<A: Allocator + Copy> Counts<A> {
 
     /// Counts what the ports sent and gave up. It takes no memory. O(copies that were sent or given up), and for each port
     /// two look-ups among the ports.
-    pub fn note_end<B: Allocator + Copy>(&mut self, done: &Done<B>)
+    pub fn note_end<B: Allocator + Copy>(&mut self, done: &Done<'_, B>)
         ensures { self.new ≡ ended done.now.run self.old }
     {
         self.ports.note_end(done);

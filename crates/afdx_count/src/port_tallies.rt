@@ -56,7 +56,7 @@ impl PortTally {
         tally
     }
 
-    fn with_end<B: Allocator + Copy>(self, done: &Done<B>) -> PortTally
+    fn with_end<B: Allocator + Copy>(self, done: &Done<'_, B>) -> PortTally
         ensures { result ≡ ended_port done.now.run self }
     {
         let sent = done.sent(self.id);
@@ -184,7 +184,7 @@ impl<A: Allocator + Copy> Ports<A> {
     }
 
     /// Counts what each port sent and gave up.
-    pub(crate) fn note_end<B: Allocator + Copy>(&mut self, done: &Done<B>)
+    pub(crate) fn note_end<B: Allocator + Copy>(&mut self, done: &Done<'_, B>)
         ensures { self.new ≡ map (ended_port done.now.run) self.old }
     {
         end_all(&mut self.tallies, done);
@@ -194,7 +194,7 @@ impl<A: Allocator + Copy> Ports<A> {
 /// Counts what each of the ports sent and gave up.
 fn end_all<A: Allocator + Copy, B: Allocator + Copy>(
     tallies: &mut Vec<PortTally, A>,
-    done: &Done<B>,
+    done: &Done<'_, B>,
 )
     ensures { tallies.new.items ≡ map (ended_port done.now.run) tallies.old.items }
 {

@@ -26,7 +26,7 @@ fn frame(
     link: u8,
     captured: usize,
     original: u32,
-) -> Result<Record<Global>, Fail> {
+) -> Result<Record<'static, Global>, Fail> {
     let header = [first, 0, 0, 0, 0, link, 2, 0, 0, 0, 0, 1, 8, 0];
     let mut bytes = header.to_vec(alloc)?;
     bytes.resize(captured, 0)?;

@@ -7,15 +7,11 @@ use Rattle.std.proofs.lemmas.Map.Made.{AllPairs-from_IsDistinct}
 use Rattle.std.proofs.lemmas.List.{length-map, get_or-map, get_or_default}
 use Rattle.std.proofs.lemmas.List.Sums.{sum_by-cons}
 use Rattle.std.proofs.lemmas.List.Elements.{filter_passes, All-nil, All-cons, All-map, All-filter, All-weaker, All-contains, All-contains_itself, All-from_recursion}
-use Rattle.std.proofs.Math.Nat.{mul-le-mul_left}
-use Rattle.afdx_units.specs.declared.bag.Bag.{Bag}
-use Rattle.afdx_units.specs.declared.bag.Bag.TheVariants.{Ms1, Ms2, Ms4, Ms8, Ms16, Ms32, Ms64, Ms128}
 use Rattle.afdx_units.specs.declared.line.Priority.{Priority}
 use Rattle.afdx_units.specs.declared.line.Priority.TheVariants.{High, Low}
 use Rattle.afdx_units.specs.declared.line.Speed.{Speed}
-use Rattle.afdx_units.specs.declared.line.Speed.TheVariants.{Ten, Hundred}
-use Rattle.afdx_account.specs.Policing.{byte_weight, conforms, passed_frames}
-use Rattle.afdx_account.specs.Laws.{PassedByTheirFrames, BytePricesPay}
+use Rattle.afdx_account.specs.Policing.{conforms, passed_frames}
+use Rattle.afdx_account.specs.Laws.{PassedByTheirFrames, PricesPay}
 use Rattle.afdx_port.specs.declared.Item.{Item}
 use Rattle.afdx_port.specs.declared.Sent.{Sent}
 use Rattle.afdx_port.specs.Service.{sent_of, is_high}
@@ -27,7 +23,7 @@ use Rattle.afdx_table.specs.Content.{Content}
 use Rattle.afdx_table.specs.WellFormed.{IsLink, IsWellFormed}
 use Rattle.afdx_load.specs.Sums.{parts, is_high_priority, is_high as is_high_link, is_low as is_low_link, routed, rate_of, burst_of, time_of, greatest, sums_of, load_of as sums_at, terms_of}
 use Rattle.afdx_load.specs.Accepted.{Carries as CarriesSums}
-use Rattle.afdx_load.specs.Laws.{AsksWhatItsAccountGives, AcceptedKeepsBounds}
+use Rattle.afdx_load.specs.Laws.{AsksWhatItsAccountGives, EachLinkAsks, AcceptedKeepsBounds}
 use Rattle.afdx_isolation.specs.Flow.{Flow, IsPaidFor, Carries, AreDistinct, high_flows, low_flows, rates, bursts, longest, load_of, bound}
 use Rattle.afdx_isolation.specs.Arrivals.{frame_of, IsClean, own, is_passed, joins, feed_of}
 use Rattle.afdx_isolation.specs.Claims.{Arrive, IsInBound, IsIsolatedSoFar, IsolatesSoFar}
@@ -204,36 +200,18 @@ module _ (row : PortRow) (asks : AsksWhatItsAccountGives) where
 
 -- ---- the links of a table
 
-weighs : (bag : Bag) (speed : Speed) → 0 < byte_weight bag speed
-weighs Ms1 Ten = omega arith
-weighs Ms1 Hundred = omega arith
-weighs Ms2 Ten = omega arith
-weighs Ms2 Hundred = omega arith
-weighs Ms4 Ten = omega arith
-weighs Ms4 Hundred = omega arith
-weighs Ms8 Ten = omega arith
-weighs Ms8 Hundred = omega arith
-weighs Ms16 Ten = omega arith
-weighs Ms16 Hundred = omega arith
-weighs Ms32 Ten = omega arith
-weighs Ms32 Hundred = omega arith
-weighs Ms64 Ten = omega arith
-weighs Ms64 Hundred = omega arith
-weighs Ms128 Ten = omega arith
-weighs Ms128 Hundred = omega arith
-
-above : (w n : ℕ) → 0 < w → 64 ≤ n → 0 < w * n
-above w n some le = let k : 1 ≤ n = omega arith in omega (arith, mul-le-mul_left w k, some)
-
 module _ (t : Content) (row : PortRow) (well : IsWellFormed t) where
   abbrev links : List Link
   links = routed row.id t.links
 
-  paid : BytePricesPay → All (IsPaidFor (settings_of row)) (flows_at t row)
-  paid pays = All-map (IsPaidFor (settings_of row)) (flow_of row.speed) links
+  paid : PricesPay → AsksWhatItsAccountGives → EachLinkAsks → All (IsPaidFor (settings_of row)) (flows_at t row)
+  paid pays gives asks = All-map (IsPaidFor (settings_of row)) (flow_of row.speed) links
       (All-filter (leads_to row.id) (λ l. IsPaidFor (settings_of row) (flow_of row.speed l)) t.links
       (All-weaker (IsLink t.ports) (λ l. IsPaidFor (settings_of row) (flow_of row.speed l))
-      (λ l is. record { pays = λ size least _. pays l.max_size l.bag l.jitter row.speed size least; credited = above (byte_weight l.bag row.speed) l.max_size (weighs l.bag row.speed) is.size_least })
+      (λ l is. record {
+        pays = λ size least most. pays l.police l.max_size l.bag l.jitter row.speed size least most;
+        credited = let some = asks row.speed l is.size_least in omega (arith, some, (gives row.speed l).0);
+      })
       t.links (All-from_recursion (IsLink t.ports) t.links well.links)))
 
   clean : (x : Item) → IsCleanIn t x → IsClean (flows_at t row) x
@@ -310,13 +288,13 @@ module _ (t : Content) (row : PortRow) (well : IsWellFormed t) where
 
 -- ---- the laws
 
-pub isolated_at : BytePricesPay → AsksWhatItsAccountGives → AcceptedKeepsBounds → IsolatesSoFar → AcceptedTablesIsolate
-isolated_at pays asks keeps isolates t arrivals h row among c settings is =
+pub isolated_at : PricesPay → AsksWhatItsAccountGives → EachLinkAsks → AcceptedKeepsBounds → IsolatesSoFar → AcceptedTablesIsolate
+isolated_at pays asks some keeps isolates t arrivals h row among c settings is =
     let s = settings_of row in
     let links = routed row.id t.links in
     let flows = flows_at t row in
     let arrive : Arrive s flows arrivals = record {
-      paid = paid t row h.well_formed pays;
+      paid = paid t row h.well_formed pays asks some;
       distinct = distinct t row h.well_formed;
       stamps = h.stamps;
       clean = All-weaker (IsCleanIn t) (IsClean flows) (λ x is. clean t row h.well_formed x is) arrivals h.clean;

@@ -5,7 +5,7 @@ use Rattle.afdx_units.specs.declared.line.Priority.TheVariants.{High, Low}
 use Rattle.afdx_units.specs.declared.line.Speed.{Speed}
 use Rattle.afdx_units.specs.Line.{cost_of}
 use Rattle.afdx_account.specs.declared.frame.Frame.{Frame}
-use Rattle.afdx_account.specs.Policing.{byte_weight, conforms, passed_of, passed_frames}
+use Rattle.afdx_account.specs.Policing.{conforms, passed_of, passed_frames}
 use Rattle.afdx_port.specs.declared.Settings.{Settings}
 use Rattle.afdx_port.specs.declared.Item.{Item}
 use Rattle.afdx_port.specs.declared.Sent.{Sent}
@@ -16,7 +16,7 @@ use Rattle.afdx_table.specs.declared.rows.PortRow.{PortRow}
 use Rattle.afdx_table.specs.Link.{Link, leads_to}
 use Rattle.afdx_table.specs.Content.{Content}
 use Rattle.afdx_table.specs.WellFormed.{IsWellFormed}
-use Rattle.afdx_load.specs.Sums.{Sums, routed, load_of, terms_of}
+use Rattle.afdx_load.specs.Sums.{Sums, routed, load_of, terms_of, weight_of}
 use Rattle.afdx_load.specs.Bounds.{high_bound, low_bound}
 use Rattle.afdx_load.specs.Accepted.{IsAccepted}
 use Rattle.afdx_isolation.specs.Flow.{Flow}
@@ -27,7 +27,7 @@ settings_of row = record { speed = row.speed; buffer = row.buffer; max_delay = r
 
 -- a link as a port of this speed sees it
 abbrev pub flow_of : Speed → Link → Flow
-flow_of speed link = record { id = link.id; terms = terms_of link; weight = byte_weight link.bag speed; largest = link.max_size; priority = link.priority }
+flow_of speed link = record { id = link.id; terms = terms_of link; weight = weight_of speed link; largest = link.max_size; priority = link.priority }
 
 -- the links of the table that lead to the port
 abbrev pub flows_at : Content → PortRow → List Flow

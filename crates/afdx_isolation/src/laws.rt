@@ -6,10 +6,9 @@ ghost use Rattle.afdx_isolation.specs.Table.{OffersWhatThePolicingPasses, Accept
 ghost use Rattle.afdx_isolation.specs.Claims.{PotentialsHold, NoneIsFull, HighKeepsBound, LowKeepsBound, Isolates, IsolatesSoFar, OthersChangeNothing};
 
 use afdx_account::laws::{
-    byte_prices_pay, headroom_is_a_level, next_frame_joins_where_it_conforms,
-    passed_by_their_frames,
+    headroom_is_a_level, next_frame_joins_where_it_conforms, passed_by_their_frames, prices_pay,
 };
-use afdx_load::laws::{accepted_keeps_bounds, asks_what_its_account_gives};
+use afdx_load::laws::{accepted_keeps_bounds, asks_what_its_account_gives, each_link_asks};
 use afdx_port::Item;
 use afdx_port::laws::{
     arrivals_change_nothing_earlier, arrivals_join_the_line, events_follow_the_line, keeps_order,
@@ -99,8 +98,9 @@ pub fn others_change_nothing()
 pub fn accepted_tables_isolate()
     ensures { AcceptedTablesIsolate }
 {
-    byte_prices_pay();
+    prices_pay();
     asks_what_its_account_gives();
+    each_link_asks();
     accepted_keeps_bounds();
     isolates_so_far();
 }

@@ -4,6 +4,7 @@ use Rattle.afdx_units.specs.declared.bag.Bag.TheVariants.{Ms1}
 use Rattle.afdx_units.specs.declared.line.Speed.TheVariants.{Ten, Hundred}
 use Rattle.afdx_units.specs.declared.line.Priority.{Priority}
 use Rattle.afdx_units.specs.declared.line.Priority.TheVariants.{High, Low}
+use Rattle.afdx_units.specs.declared.police.Police.TheVariants.{Byte, Frame}
 use Rattle.afdx_table.specs.Link.{Link}
 use Rattle.afdx_table.specs.declared.rows.PortRow.{PortRow}
 use Rattle.afdx_load.specs.Sums.{rate_of, burst_of, time_of, sums_of, load_of, parts}
@@ -13,7 +14,7 @@ use Rattle.afdx_load.specs.declared.fault.Rule.TheVariants.{Rate, LowDelay}
 
 -- 1518 bytes each millisecond from port 1 to port 2
 worked : Priority → Link
-worked priority = record { id = 10; from = 1; to = 2 ∷ []; bag = Ms1; jitter = 0; max_size = 1518; priority = priority }
+worked priority = record { id = 10; from = 1; to = 2 ∷ []; bag = Ms1; jitter = 0; max_size = 1518; priority = priority; police = Byte }
 
 mixed : List Link
 mixed = worked Low ∷ worked High ∷ []
@@ -30,6 +31,18 @@ burst = refl
 longest : time_of Hundred (worked Low) ≡ 123040
 unfolding worked
 longest = refl
+
+-- the same link, policed by frames
+framed : Link
+framed = record { id = 10; from = 1; to = 2 ∷ []; bag = Ms1; jitter = 0; max_size = 1518; priority = Low; police = Frame }
+
+frame_rate : rate_of Hundred framed ≡ 251985920
+unfolding framed
+frame_rate = refl
+
+frame_burst : burst_of Hundred framed ≡ 123040 * parts
+unfolding framed
+frame_burst = refl
 
 -- the bounds of a mixed port
 high : high_bound (load_of Hundred 2 mixed) ≡ Some 282430

@@ -5,20 +5,15 @@ use Rattle.std.proofs.lemmas.Bool.{lt-ltb}
 use Rattle.std.proofs.lemmas.List.Sums.{sum_by-cons, length-filter}
 use Rattle.std.proofs.lemmas.List.Filters.{sum_by-filter_both}
 use Rattle.std.proofs.lemmas.List.Elements.{All-filter, All-head}
-use Rattle.afdx_units.specs.declared.bag.Bag.{Bag}
-use Rattle.afdx_units.specs.declared.bag.Bag.TheVariants.{Ms1, Ms2, Ms4, Ms8, Ms16, Ms32, Ms64, Ms128}
 use Rattle.afdx_units.specs.declared.line.Speed.{Speed}
 use Rattle.afdx_units.specs.declared.line.Speed.TheVariants.{Ten, Hundred}
-use Rattle.afdx_units.specs.Time.{bag_ms}
-use Rattle.afdx_units.specs.Line.{tick_of}
-use Rattle.afdx_account.specs.Policing.{byte_weight}
 use Rattle.afdx_table.specs.Link.{Link, leads_to}
 use Rattle.afdx_load.specs.Sums.{parts, is_high, is_low, routed, rate_of, burst_of, time_of, Sums, sums_of, load_of}
 use Rattle.afdx_load.specs.Bounds.{high_bound, low_bound}
 use Rattle.afdx_load.specs.Accepted.{Carries}
 use Rattle.afdx_load.specs.Laws.{FactorCoversOverhead, AsksWhatItsAccountGives, SumsTakeEachLinkOnce, LongestShowsLinks, HighLinksLeaveAPart, AcceptedMeansNoFault, AcceptedKeepsBounds}
 use Rattle.afdx_load.proofs.RowLemmas.{IsLong, all_long}
-use Rattle.afdx_load.proofs.ShareLemmas.{rate_is, burst_is}
+use Rattle.afdx_load.proofs.ShareLemmas.{rate_is, burst_is, rate_above}
 use Rattle.afdx_load.proofs.SumLemmas.{all_counted}
 use Rattle.afdx_load.proofs.FaultLemmas.{accepted_none, none_accepted}
 
@@ -71,34 +66,6 @@ links_shown speed (link ∷ links) = (λ _. omega (arith, all_counted speed (lin
 
 pub shows_links : LongestShowsLinks
 shows_links speed port links = links_shown speed (routed port links)
-
-weight_is : (bag : Bag) (speed : Speed) → 0 < 21 * tick_of speed * (128 / bag_ms bag)
-weight_is Ms1 Ten = omega arith
-weight_is Ms2 Ten = omega arith
-weight_is Ms4 Ten = omega arith
-weight_is Ms8 Ten = omega arith
-weight_is Ms16 Ten = omega arith
-weight_is Ms32 Ten = omega arith
-weight_is Ms64 Ten = omega arith
-weight_is Ms128 Ten = omega arith
-weight_is Ms1 Hundred = omega arith
-weight_is Ms2 Hundred = omega arith
-weight_is Ms4 Hundred = omega arith
-weight_is Ms8 Hundred = omega arith
-weight_is Ms16 Hundred = omega arith
-weight_is Ms32 Hundred = omega arith
-weight_is Ms64 Hundred = omega arith
-weight_is Ms128 Hundred = omega arith
-
-product_above : (a b : ℕ) → 0 < a → 0 < b → 0 < a * b
-product_above zero b h k = absurd (omega arith)
-product_above (suc a) zero h k = absurd (omega arith)
-product_above (suc a) (suc b) h k = omega arith
-
-rate_above : (speed : Speed) (link : Link) → IsLong link → 0 < rate_of speed link
-rate_above speed link long =
-    let size : 0 < link.max_size = omega (arith, long) in
-    omega (arith, rate_is speed link, product_above (byte_weight link.bag speed) link.max_size (weight_is link.bag speed) size)
 
 sum_above : (speed : Speed) (links : List Link) → All IsLong links → 0 < length links → 0 < sum_by (rate_of speed) links
 sum_above speed [] long some = absurd (omega arith)

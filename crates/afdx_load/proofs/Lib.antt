@@ -4,5 +4,6 @@ pub mod SumLemmas
 pub mod ShareLemmas
 pub mod FaultLemmas
 pub mod LawLemmas
+pub mod FitLemmas
 pub mod SlotLemmas
 pub mod FirstLemmas

@@ -2,14 +2,13 @@
 use Rattle.std.specs.Prelude.{◌≡◌, ◌↔◌, ℕ, ◌+◌, ◌-◌, ◌*◌, ◌/◌, ◌<◌, ◌≤◌, ◌&&◌, List, None, All, sum_by, if◌then◌else◌}
 use Rattle.afdx_units.specs.declared.line.Speed.{Speed}
 use Rattle.afdx_units.specs.Line.{tick_of, cost_of}
-use Rattle.afdx_account.specs.Policing.{byte_weight}
 use Rattle.afdx_table.specs.Link.{Link, leads_to}
 use Rattle.afdx_table.specs.Content.{Content}
 use Rattle.afdx_table.specs.WellFormed.{IsWellFormed}
-use Rattle.afdx_load.specs.Sums.{parts, is_high, terms_of, rate_of, burst_of, load_of}
+use Rattle.afdx_load.specs.Sums.{parts, is_high, terms_of, weight_of, rate_of, burst_of, load_of}
 use Rattle.afdx_load.specs.Accepted.{IsAccepted, first_fault}
 
--- profile: the factor 21/16 of a link's rate covers the 20 bytes that go with each frame exactly for frames of 64 bytes
+-- profile: the factor 21/16 of the rate of a link policed by bytes covers the 20 bytes that go with each frame exactly for frames of 64 bytes
 -- and more, and at 64 there is nothing to spare
 abbrev pub FactorCoversOverhead : Type 0
 FactorCoversOverhead = (speed : Speed) →
@@ -19,8 +18,12 @@ FactorCoversOverhead = (speed : Speed) →
 -- what a link asks for is what its account gives: its credit and its greatest level, each by what a unit is worth
 abbrev pub AsksWhatItsAccountGives : Type 0
 AsksWhatItsAccountGives = (speed : Speed) (link : Link) →
-    (rate_of speed link ≡ byte_weight link.bag speed * (terms_of link).rate)
-    × (burst_of speed link ≡ byte_weight link.bag speed * (terms_of link).cap)
+    (rate_of speed link ≡ weight_of speed link * (terms_of link).rate)
+    × (burst_of speed link ≡ weight_of speed link * (terms_of link).cap)
+
+-- and each asks for something
+abbrev pub EachLinkAsks : Type 0
+EachLinkAsks = (speed : Speed) (link : Link) → 64 ≤ link.max_size → 0 < rate_of speed link
 
 -- each sum takes each link of the table that leads to the port once
 abbrev pub SumsTakeEachLinkOnce : Type 0

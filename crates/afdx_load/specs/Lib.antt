@@ -5,4 +5,5 @@ pub mod Accepted
 pub mod Small
 pub mod Slots
 pub mod First
+pub mod Fits
 pub mod Laws

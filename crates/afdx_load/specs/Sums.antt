@@ -1,11 +1,14 @@
 -- What the links of a port may ask of its line (profile: load numbers, in whole numbers).
 use Rattle.std.specs.Prelude.{ℕ, ◌+◌, ◌*◌, ◌/◌, Bool, true, false, not, List, [], ◌∷◌, filter, sum_by, count_by, max, Option, option_map}
+use Rattle.afdx_units.specs.declared.bag.Bag.{Bag}
 use Rattle.afdx_units.specs.declared.line.Speed.{Speed}
 use Rattle.afdx_units.specs.declared.line.Priority.{Priority}
 use Rattle.afdx_units.specs.declared.line.Priority.TheVariants.{High, Low}
+use Rattle.afdx_units.specs.declared.police.Police.{Police}
+use Rattle.afdx_units.specs.declared.police.Police.TheVariants.{Byte, Frame}
 use Rattle.afdx_units.specs.Line.{tick_of, cost_of}
 use Rattle.afdx_units.specs.Time.{bag_ms, bag_ns}
-use Rattle.afdx_account.specs.Policing.{Terms, byte_terms}
+use Rattle.afdx_account.specs.Policing.{Terms, terms_by, weight_by}
 use Rattle.afdx_table.specs.Link.{Link, leads_to}
 use Rattle.afdx_table.specs.Content.{Content, port_row}
 
@@ -29,14 +32,23 @@ is_low link = not (is_high link)
 abbrev pub routed : ℕ → List Link → List Link
 routed port links = filter (leads_to port) links
 
--- profile: the terms by which a link is policed, in bytes
+-- profile: the terms by which a link is policed, by the kind of its policing
 abbrev pub terms_of : Link → Terms
-terms_of link = byte_terms link.max_size link.bag link.jitter
+terms_of link = terms_by link.police link.max_size link.bag link.jitter
 
--- profile: the parts of a line that a link asks for in the long run. It sends Smax bytes in each gap; a frame is at
--- least 64 bytes, so that its size and the 20 bytes that go with it on the line are at most 21/16 of its size
+-- profile: line time that a unit of them stands for, in parts of a nanosecond
+abbrev pub weight_of : Speed → Link → ℕ
+weight_of speed link = weight_by link.police link.max_size link.bag speed
+
+-- profile: the parts of a line that a link asks for in the long run. By bytes it sends Smax bytes in each gap; a frame is at
+-- least 64 bytes, so that its size and the 20 bytes that go with it on the line are at most 21/16 of its size. By frames it
+-- sends one frame in each gap, of at most Smax bytes and these 20
+abbrev pub rate_by : Police → Speed → ℕ → Bag → ℕ
+rate_by Byte speed max_size bag = 21 * tick_of speed * max_size * (128 / bag_ms bag)
+rate_by Frame speed max_size bag = 16 * tick_of speed * (max_size + 20) * (128 / bag_ms bag)
+
 abbrev pub rate_of : Speed → Link → ℕ
-rate_of speed link = 21 * tick_of speed * link.max_size * (128 / bag_ms link.bag)
+rate_of speed link = rate_by link.police speed link.max_size link.bag
 
 -- profile: what it may ask for at once, in parts of a nanosecond
 abbrev pub burst_of : Speed → Link → ℕ

@@ -1,9 +1,11 @@
 //! Laws over the definitions: functions that do nothing, whose contracts are the laws.
 
-ghost use Rattle.afdx_load.specs.Laws.{FactorCoversOverhead, AsksWhatItsAccountGives, SumsTakeEachLinkOnce, LongestShowsLinks, HighLinksLeaveAPart, AcceptedMeansNoFault, AcceptedKeepsBounds};
+ghost use Rattle.afdx_load.specs.Laws.{FactorCoversOverhead, AsksWhatItsAccountGives, EachLinkAsks, SumsTakeEachLinkOnce, LongestShowsLinks, HighLinksLeaveAPart};
+ghost use Rattle.afdx_load.specs.Laws.{AcceptedMeansNoFault, AcceptedKeepsBounds};
 ghost use Rattle.afdx_load.specs.First.{FaultIsTheFirst};
+ghost use Rattle.afdx_load.specs.Fits.{AcceptedWhereEachPortFits};
 
-/// The factor 21/16 of a link's rate covers the line time of frames exactly from 64 bytes on.
+/// The factor 21/16 of the rate of a link policed by bytes covers the line time of frames exactly from 64 bytes on.
 pub fn factor_covers_overhead()
     ensures { FactorCoversOverhead }
 {}
@@ -11,6 +13,11 @@ pub fn factor_covers_overhead()
 /// What a link asks for is what its account gives: the weight of a unit by its credit, and by its greatest level.
 pub fn asks_what_its_account_gives()
     ensures { AsksWhatItsAccountGives }
+{}
+
+/// Each link whose frames are of 64 bytes and more asks for a part of the line.
+pub fn each_link_asks()
+    ensures { EachLinkAsks }
 {}
 
 /// Each sum takes each link that leads to the port once.
@@ -37,6 +44,11 @@ pub fn accepted_means_no_fault()
 /// of a lower number.
 pub fn fault_is_the_first()
     ensures { FaultIsTheFirst }
+{}
+
+/// A table is accepted exactly where each port with links breaks no rule.
+pub fn accepted_where_each_port_fits()
+    ensures { AcceptedWhereEachPortFits }
 {}
 
 /// In an accepted table each port keeps its two bounds.

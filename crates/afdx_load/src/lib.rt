@@ -6,6 +6,7 @@
 #![tactic(auto)]
 
 mod bounding;
+mod breaking;
 mod checking;
 mod cleared;
 mod delays;
@@ -17,6 +18,7 @@ mod share;
 mod sums;
 
 pub use bounding::{bounds, least_buffer};
+pub use breaking::breaks;
 pub use checking::check;
 pub use cleared::Cleared;
 pub use delays::Bounds;

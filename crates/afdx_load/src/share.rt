@@ -3,7 +3,7 @@
 ghost use Rattle.std.specs.Prelude.{◌≡◌, ◌≤◌, ◌^◌};
 ghost use Rattle.afdx_load.specs.Sums.{rate_of, burst_of, time_of};
 
-use afdx_account::{ByteAccount, Meter};
+use afdx_account::{Account, Meter};
 use afdx_table::LinkRow;
 use afdx_units::{Speed, cost};
 
@@ -29,7 +29,7 @@ pub(crate) fn share_of(speed: Speed, link: &LinkRow) -> Share
     ensures small_burst { result.burst ≤ 2 ^ 60 }
     ensures small_time { result.time ≤ 2 ^ 21 }
 {
-    let account = ByteAccount::new(link.max_size, link.bag, link.jitter);
+    let account = Account::new(link.police, link.max_size, link.bag, link.jitter);
     let weight = account.weight(speed);
     Share {
         rate: weight * account.rate(),

@@ -109,14 +109,14 @@ impl Load {
     }
 
     /// The number of its high links.
-    pub(crate) fn highs(&self) -> u32
+    pub fn highs(&self) -> u32
         ensures { result ≡ self.now.highs }
     {
         self.highs
     }
 
     /// The number of its low links.
-    pub(crate) fn lows(&self) -> u32
+    pub fn lows(&self) -> u32
         ensures { result ≡ self.now.lows }
     {
         self.lows

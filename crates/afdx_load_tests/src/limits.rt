@@ -1,6 +1,6 @@
 //! Each rule at its limit and one past it, and the greatest table.
 
-use crate::tables::{FIRST, HIGH, LOW, SECOND, broken, fault, table};
+use crate::tables::{FIRST, FRAMED, HIGH, LOW, SECOND, broken, fault, table};
 use afdx_load::{Rule, check};
 use afdx_samples::{Link, Port};
 use std::test::Fail;
@@ -19,7 +19,7 @@ fn nearly_all(size: u32) -> [Link; 8] {
     [LOW, LOW, LOW, LOW, LOW, LOW, more, last]
 }
 
-/// Rates are multiples of 1680 at 100 Mbit/s: those next to the limit lie 1040 below it and 640 above.
+/// Rates by bytes are multiples of 1680 at 100 Mbit/s: those next to the limit lie 1040 below it and 640 above.
 #[test]
 fn rate_at_its_limit(rt: HostRuntime) -> Result<(), Fail> {
     let alloc = rt.alloc();
@@ -28,6 +28,24 @@ fn rate_at_its_limit(rt: HostRuntime) -> Result<(), Fail> {
         fault(alloc, SECOND, &nearly_all(104))?,
         broken(Rule::Rate, 2_048_000_640, 2_048_000_000)
     );
+    Ok(())
+}
+
+/// Eight links by frames of 1518 bytes and one of 176, each millisecond, ask for exactly the whole line.
+#[test]
+fn rate_of_the_whole_line(rt: HostRuntime) -> Result<(), Fail> {
+    let alloc = rt.alloc();
+    for (max_size, want) in [
+        (176, None),
+        (177, broken(Rule::Rate, 2_048_163_840, 2_048_000_000)),
+        (1518, broken(Rule::Rate, 2_267_873_280, 2_048_000_000)),
+    ] {
+        let last = Link { max_size, ..FRAMED };
+        let links = [
+            FRAMED, FRAMED, FRAMED, FRAMED, FRAMED, FRAMED, FRAMED, FRAMED, last,
+        ];
+        assert_eq!(rt; fault(alloc, SECOND, &links)?, want, "at {max_size}");
+    }
     Ok(())
 }
 

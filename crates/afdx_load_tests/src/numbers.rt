@@ -1,6 +1,6 @@
 //! Load numbers, each reckoned by hand.
 
-use crate::tables::{FIRST, HIGH, LOW, SECOND, table};
+use crate::tables::{FIRST, FRAMED, HIGH, LOW, SECOND, table};
 use afdx_load::{bounds, check, least_buffer, load, loads};
 use afdx_samples::{Link, Port};
 use afdx_table::Table;
@@ -53,6 +53,19 @@ const WORKED: &[(Port, &[Link], Numbers)] = &[
     ),
     (SECOND, &[HIGH], (326_430_720, 3531, Some(159_390), None)),
     (SLOW, &[RARE], (1_632_153_600, 3531, None, Some(1_593_900))),
+    // by frames: one frame of 1518 bytes and its overhead each millisecond
+    (SECOND, &[FRAMED], (251_985_920, 3076, None, Some(123_040))),
+    (
+        SECOND,
+        &[FRAMED; 8],
+        (2_015_887_360, 13_842, None, Some(984_320)),
+    ),
+    // by bytes and by frames
+    (
+        SECOND,
+        &[LOW, FRAMED],
+        (578_416_640, 5069, None, Some(282_430)),
+    ),
 ];
 
 #[test]

@@ -26,11 +26,18 @@ pub(crate) const LOW: Link = Link {
     jitter_us: 0,
     max_size: 1518,
     priority: "low",
+    police: "",
 };
 
 /// The high link of the worked tables.
 pub(crate) const HIGH: Link = Link {
     priority: "high",
+    ..LOW
+};
+
+/// The low link of the worked tables, policed by frames.
+pub(crate) const FRAMED: Link = Link {
+    police: "frame",
     ..LOW
 };
 

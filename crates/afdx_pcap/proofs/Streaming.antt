@@ -1,11 +1,11 @@
 -- A reader's place in its bytes, and what it tells of them.
-use Rattle.std.proofs.Common.{◌≡◌, ℕ, ◌+◌, ◌-◌, ◌<◌, Bool, true, false, List, [], ◌∷◌, ◌++◌, length, drop, Option, Some, None, Result, Ok, Err, sym, ap, subst, ◌∙◌, arith, inl, inr, refl, cond, not, ◌||◌, ◌≢◌}
+use Rattle.std.proofs.Common.{◌≡◌, ℕ, ◌+◌, ◌-◌, ◌<◌, Bool, true, false, List, [], ◌∷◌, ◌++◌, length, drop, Option, Some, None, Result, Ok, Err, sym, ap, subst, ◌∙◌, arith, inl, inr, refl, cond, not, ◌||◌}
 use Rattle.std.proofs.lemmas.List.{length-drop, length-append, drop-append-le, drop-drop, nil_from_length}
 use Rattle.std.specs.Prelude.{IfNone, IfErr, IsErr, IsErrAnd}
 use Rattle.afdx_pcap.specs.declared.format.Format.{Format}
 use Rattle.afdx_pcap.specs.declared.progress.Progress.{Progress}
 use Rattle.afdx_pcap.specs.declared.fault.PcapFault.{PcapFault}
-use Rattle.afdx_pcap.specs.declared.fault.PcapFault.TheVariants.{Memory, CutHeader}
+use Rattle.afdx_pcap.specs.declared.fault.PcapFault.TheVariants.{CutHeader}
 use Rattle.afdx_pcap.specs.Entry.{Entry}
 use Rattle.afdx_pcap.specs.Capture.{header_of, Begins, after, Splits, IsCapture}
 use Rattle.afdx_pcap.specs.Fault.{record_fault, IsFault, IsEarlyFault, is_cut, Breaks, last_stamp}
@@ -136,13 +136,11 @@ done_at_end bytes n false p at end =
     (no_next bytes n p (CutHeader (n + 1)) at cut, none_early bytes n p (CutHeader (n + 1)) at cut refl)
 
 -- a rest that is no record is a fault, or waits for more bytes
-pub rest_answer : (bytes : List ℕ) (n : ℕ) (p : Progress) (e : PcapFault) (closed cut : Bool) → At bytes n p → (e ≢ Memory → RestFault bytes p n e) → (p.place ≡ length bytes → ⊥) → is_cut e ≡ cut
+pub rest_answer : (bytes : List ℕ) (n : ℕ) (p : Progress) (e : PcapFault) (closed cut : Bool) → At bytes n p → RestFault bytes p n e → (p.place ≡ length bytes → ⊥) → is_cut e ≡ cut
     → Answers bytes n closed (answer_of (cond (closed || not cut) (Err e) (Ok None)))
-rest_answer bytes n p e true cut at fault more is = λ real. (no_next bytes n p e at (fault real), rest_is_fault bytes n p e at (fault real) more)
-rest_answer bytes n p e false false at fault more is = λ real. (no_next bytes n p e at (fault real), (rest_is_fault bytes n p e at (fault real) more, is))
-rest_answer bytes n p e false true at fault more is =
-    let real : e ≢ Memory = λ same. not_cut e Memory is refl same in
-    (no_next bytes n p e at (fault real), none_early bytes n p e at (fault real) is)
+rest_answer bytes n p e true cut at fault more is = λ real. (no_next bytes n p e at fault, rest_is_fault bytes n p e at fault more)
+rest_answer bytes n p e false false at fault more is = λ real. (no_next bytes n p e at fault, (rest_is_fault bytes n p e at fault more, is))
+rest_answer bytes n p e false true at fault more is = (no_next bytes n p e at fault, none_early bytes n p e at fault is)
 
 pub header_answer : (bytes : List ℕ) (n : ℕ) (e : PcapFault) (closed cut : Bool) → header_of bytes ≡ Err e → is_cut e ≡ cut → Answers bytes n closed (answer_of (cond (closed || not cut) (Err e) (Ok None)))
 header_answer bytes n e true cut h is = λ real. (no_header_no_next bytes n e h, inl h)

@@ -1,11 +1,13 @@
 -- Records that are taken one by one.
-use Rattle.std.proofs.Common.{◌≡◌, ℕ, ◌+◌, ◌≤◌, List, [], ◌∷◌, ◌++◌, length, drop, true, subst, sym, ap, ◌∙◌, refl, length-append}
+use Rattle.std.proofs.Common.{◌≡◌, ℕ, ◌+◌, ◌<◌, ◌≤◌, arith, List, [], ◌∷◌, ◌++◌, length, drop, true, subst, sym, ap, ◌∙◌, refl, length-append}
+use Rattle.std.proofs.Common.{Option, Some, Ok, cond}
+use Rattle.std.specs.Prelude.{IfNone, is_some}
 use Rattle.afdx_pcap.specs.declared.format.Format.{Format}
 use Rattle.afdx_pcap.specs.Entry.{Entry}
-use Rattle.afdx_pcap.specs.Capture.{Splits, Holds, IsCapture, after}
+use Rattle.afdx_pcap.specs.Capture.{header_of, Splits, Holds, IsCapture, after}
 use Rattle.afdx_pcap.specs.Fault.{last_stamp}
-use Rattle.afdx_pcap.specs.Reading.{AreFirst, HasTaken, IsNext, IsSound, Taking, taking_on}
-use Rattle.afdx_pcap.proofs.Unique.{one_front, next_after}
+use Rattle.afdx_pcap.specs.Reading.{Answers, AreFirst, HasTaken, IsNext, IsSound, Reading, Taking, taking_on, whole_reading}
+use Rattle.afdx_pcap.proofs.Unique.{one_format, one_front, one_record, next_after, same_tail}
 use Rattle.afdx_pcap.proofs.More.{Holds-more}
 
 none_of : (rs : List Entry) → length rs ≡ 0 → rs ≡ []
@@ -55,3 +57,33 @@ first_are_all bytes (q ∷ qs) first sound = subst (IsCapture bytes) (one_front 
 
 pub taken_are_all : (t : Taking) (rs : List Entry) → HasTaken t rs → IsSound t.bytes t.given true → IsCapture t.bytes rs
 taken_are_all t rs taken sound = first_are_all t.bytes rs taken.first (subst (λ (n : ℕ). IsSound t.bytes n true) (sym taken.count) sound)
+
+-- a file that holds all these records and nothing else has no record after them
+more_than : (f : Format) (last : ℕ) (bytes : List ℕ) (rs before : List Entry) (r : Entry) (rest : List ℕ) → Splits f last bytes rs [] → Splits f last bytes (before ++ r ∷ []) rest → length before < length rs
+more_than f last bytes [] [] r rest all some = let whole = some.0.whole in let none = ap length all in omega (arith, whole, none)
+more_than f last bytes [] (q ∷ qs) r rest all some = let whole = some.0.whole in let none = ap length all in omega (arith, whole, none)
+more_than f last bytes (p ∷ ps) [] r rest all some = omega arith
+more_than f last bytes (p ∷ ps) (q ∷ qs) r rest all some =
+    let one = one_record f last last bytes p q all.0 some.0 in
+    omega (arith, more_than f p.stamp (after p bytes) ps qs r rest all.1 (same_tail f bytes p q (qs ++ r ∷ []) rest one some.1))
+
+pub fewer_than_all : (bytes : List ℕ) (n : ℕ) (rs : List Entry) (r : Entry) → IsCapture bytes rs → IsNext bytes n r → n < length rs
+fewer_than_all bytes n rs r all next =
+    let held = next.2 in
+    let same = one_format (header_of bytes) all.format held.format all.header held.header in
+    let some = subst (λ (f : Format). Splits f 0 (drop 24 bytes) (next.0 ++ r ∷ []) next.1) (sym same) held.records in
+    subst (λ (k : ℕ). k < length rs) next.3 (more_than all.format 0 (drop 24 bytes) rs next.0 r next.1 all.records some)
+
+-- ---- a reader over a whole capture
+
+pub whole_answers : (r : Reading) (bytes : List ℕ) (n : ℕ) (found what : Option Entry) → r ≡ whole_reading bytes n
+    → IfNone r.fault (Answers r.bytes r.given r.closed (Ok found)) → found ≡ what → Answers bytes n true (Ok what)
+whole_answers r bytes n found what is h same =
+    let told : Answers bytes n true (Ok found) = subst (λ (x : Reading). IfNone x.fault (Answers x.bytes x.given x.closed (Ok found))) is h in
+    subst (λ (o : Option Entry). Answers bytes n true (Ok o)) same told
+
+pub whole_goes_on : (old new : Reading) (bytes : List ℕ) (n : ℕ) (found : Option Entry) (r : Entry) → old ≡ whole_reading bytes n
+    → new ≡ record old { given = cond (is_some found) (old.given + 1) old.given } → found ≡ Some r → new ≡ whole_reading bytes (n + 1)
+whole_goes_on old new bytes n found r is came some =
+    let on : new ≡ whole_reading bytes (cond (is_some found) (n + 1) n) = subst (λ (x : Reading). new ≡ record x { given = cond (is_some found) (x.given + 1) x.given }) is came in
+    subst (λ (o : Option Entry). new ≡ whole_reading bytes (cond (is_some o) (n + 1) n)) some on

@@ -7,18 +7,26 @@ use Rattle.afdx_pcap.specs.Entry.{Entry}
 use Rattle.afdx_pcap.specs.Capture.{header_of, Splits, Holds, IsCapture}
 use Rattle.afdx_pcap.specs.Fault.{record_fault, last_stamp, IsFault, IsEarlyFault}
 
--- a reader, as contracts see it: the bytes that it was fed, how many records it gave, whether it is closed,
--- and the fault that it answered
+-- a reader, as contracts see it: the bytes that it was fed or lent, how many records it gave, whether it is
+-- closed, the fault that it answered, and whether the bytes are lent, so that no record is copied
 pub record Reading : Type 0 where
   pub bytes : List ℕ
   pub given : ℕ
   pub closed : Bool
   pub fault : Option PcapFault
+  pub lent : Bool
 
--- a whole capture whose records are taken one by one, as contracts see it: its bytes, and how many it gave
+-- a reader of a whole capture that was lent, after so many records
+abbrev pub whole_reading : List ℕ → ℕ → Reading
+whole_reading bytes n = record { bytes = bytes; given = n; closed = true; fault = None; lent = true }
+
+-- bytes whose records are taken one by one: the bytes, and how many were taken
 pub record Taking : Type 0 where
   pub bytes : List ℕ
   pub given : ℕ
+
+abbrev pub taken_in : Reading → Taking
+taken_in r = record { bytes = r.bytes; given = r.given }
 
 -- the record after the first n whole ones
 abbrev pub IsNext : List ℕ → ℕ → Entry → Type 0

@@ -1,10 +1,11 @@
 //! Captures in the pcap file format, version 2.4, over Ethernet (link type 1).
 //!
-//! [`read_all`] reads a whole capture and [`write_all`] writes one. [`Records`] gives the records of a whole
-//! capture one by one, a [`Reader`] those of one that comes in pieces; [`write_header`], [`write_record`]
-//! and [`write_frame`] write one piece by piece. Instants are [`afdx_units::Stamp`]s, lengths are numbers of bytes.
+//! [`read_all`] reads a whole capture and [`write_all`] writes one. A [`Reader`] gives the records one by one,
+//! of a whole capture or of one that comes in pieces; [`write_header`], [`write_record`] and [`write_frame`]
+//! write one piece by piece. Instants are [`afdx_units::Stamp`]s, lengths are numbers of bytes.
 #![tactic(auto)]
 
+mod bytes;
 mod fault;
 mod format;
 pub mod laws;
@@ -12,13 +13,13 @@ mod progress;
 mod reader;
 mod reading;
 mod record;
-mod records;
+mod whole;
 mod writing;
 
 pub use fault::PcapFault;
 pub use reader::Reader;
 pub use record::Record;
-pub use records::{Records, read_all};
+pub use whole::read_all;
 pub use writing::{write_all, write_frame, write_header, write_record};
 
 #[cfg(test)]

@@ -1,11 +1,13 @@
 //! How far a capture was read, and the step to its next record.
 
-ghost use Rattle.std.specs.Prelude.{◌≡◌, ◌≢◌, ◌+◌, Ok, Err, None, IfOk, IfErr, IfSome, not, ◌||◌, if◌then◌else◌};
+ghost use Rattle.std.specs.Prelude.{◌≡◌, ◌≢◌, ◌+◌, false, Ok, Err, None, IfOk, IfErr, IfSome, not, ◌||◌, if◌then◌else◌};
 ghost use Rattle.afdx_pcap.specs.declared.fault.PcapFault.TheVariants.{Memory};
+ghost use Rattle.afdx_pcap.specs.Bytes.{bytes_of, is_lent};
 ghost use Rattle.afdx_pcap.specs.Capture.{header_of};
 ghost use Rattle.afdx_pcap.specs.Fault.{is_cut};
 ghost use Rattle.afdx_pcap.specs.Reading.{Answers, At, HasNext, IsNext, RestFault, Stands, answer_of};
 
+use crate::bytes::Bytes;
 use crate::fault::PcapFault;
 use crate::format::{Format, HEADER_LENGTH};
 use crate::reading::{read_header, read_record};
@@ -37,19 +39,18 @@ impl Progress {
     }
 
     /// The record at the front of the rest, and how far it leads.
-    fn read_on<A: Allocator>(
+    fn read_on<'b, A: Allocator>(
         self,
-        alloc: A,
-        bytes: &[u8],
+        bytes: &'b [u8],
         given: usize,
-    ) -> Result<(Record<A>, Progress), PcapFault>
+    ) -> Result<(Record<'b, A>, Progress), PcapFault>
         requires { At bytes.now given self }
         ensures found { IfOk result (λ x. IsNext bytes.now given x.0 × At bytes.now (given + 1) x.1) }
-        ensures fault { IfErr result (λ fault. fault ≢ Memory → RestFault bytes.now self given fault) }
-        ensures memory { IfErr result (λ fault. fault ≡ Memory → HasNext bytes.now given) }
+        ensures fault { IfErr result (λ fault. RestFault bytes.now self given fault) }
+        ensures no_memory { IfErr result (λ fault. fault ≢ Memory) }
     {
         let rest = &bytes[self.place..];
-        let (record, after) = read_record(alloc, self.format, self.last, given + 1, rest)?;
+        let (record, after) = read_record(self.format, self.last, given + 1, rest)?;
         let last = record.stamp();
         let place = bytes.len() - after.len();
         Ok((
@@ -77,10 +78,10 @@ fn place_in(bytes: &[u8], given: usize, progress: Option<Progress>) -> Result<Pr
 }
 
 /// A fault, unless bytes that may still come can mend it.
-fn unless_it_waits<A: Allocator>(
+fn unless_it_waits<'b, A: Allocator>(
     closed: bool,
     fault: PcapFault,
-) -> Result<Option<(Record<A>, Progress)>, PcapFault>
+) -> Result<Option<(Record<'b, A>, Progress)>, PcapFault>
     ensures { result ≡ (if closed || not (is_cut fault) then Err fault else Ok None) }
 {
     if closed || !fault.is_cut() {
@@ -90,19 +91,18 @@ fn unless_it_waits<A: Allocator>(
     }
 }
 
-/// The next record after the `given` ones and how far it leads; none where the bytes hold no more.
+/// The next record after the `given` ones, its bytes lent, and how far it leads; none where the bytes hold no more.
 ///
 /// Only the 24 bytes of the header and the 16 of a record's header are looked at again by a later call.
-pub fn next_record<A: Allocator + Copy>(
-    alloc: A,
-    bytes: &[u8],
+fn next_lent<'b, A: Allocator>(
+    bytes: &'b [u8],
     given: usize,
     closed: bool,
     progress: Option<Progress>,
-) -> Result<Option<(Record<A>, Progress)>, PcapFault>
+) -> Result<Option<(Record<'b, A>, Progress)>, PcapFault>
     requires { Stands bytes.now given progress }
     ensures answer { Answers bytes.now given closed (answer_of result) }
-    ensures memory { IfErr result (λ fault. fault ≡ Memory → HasNext bytes.now given) }
+    ensures no_memory { IfErr result (λ fault. fault ≢ Memory) }
     ensures progress { IfOk result (λ o. IfSome o (λ x. At bytes.now (given + 1) x.1)) }
 {
     let progress = match place_in(bytes, given, progress) {
@@ -112,8 +112,31 @@ pub fn next_record<A: Allocator + Copy>(
     if progress.place == bytes.len() {
         return Ok(None);
     }
-    match progress.read_on(alloc, bytes, given) {
+    match progress.read_on(bytes, given) {
         Ok(found) => Ok(Some(found)),
         Err(fault) => unless_it_waits(closed, fault),
+    }
+}
+
+/// The same, of bytes that are owned or lent: a record of those that are owned has its own copy.
+pub fn next_record<'a, A: Allocator>(
+    alloc: A,
+    bytes: &Bytes<'a, A>,
+    given: usize,
+    closed: bool,
+    progress: Option<Progress>,
+) -> Result<Option<(Record<'a, A>, Progress)>, PcapFault>
+    requires { Stands (bytes_of bytes.now) given progress }
+    ensures answer { Answers (bytes_of bytes.now) given closed (answer_of result) }
+    ensures memory { IfErr result (λ fault. fault ≡ Memory
+        → HasNext (bytes_of bytes.now) given × (is_lent bytes.now ≡ false)) }
+    ensures progress { IfOk result (λ o. IfSome o (λ x. At (bytes_of bytes.now) (given + 1) x.1)) }
+{
+    match bytes {
+        Bytes::Lent(bytes) => next_lent(bytes, given, closed, progress),
+        Bytes::Owned(bytes) => match next_lent::<A>(bytes, given, closed, progress)? {
+            Some((record, progress)) => Ok(Some((record.owned(alloc)?, progress))),
+            None => Ok(None),
+        },
     }
 }

@@ -1,54 +1,76 @@
 //! A capture that comes in pieces.
 
-ghost use Rattle.std.specs.Prelude.{◌≡◌, ◌+◌, ◌++◌, [], true, false, Err, Some, None, IfOk, IfErr, OnOk, IfSome, IfNone, is_some, if◌then◌else◌};
+ghost use Rattle.std.specs.Prelude.{◌≡◌, ◌+◌, ◌<◌, ◌++◌, [], length, true, false, Err, Some, None, IfOk, IfErr, OnOk, OnSome, IfSome, IfNone, is_some, if◌then◌else◌};
 ghost use Rattle.afdx_pcap.specs.declared.fault.PcapFault.TheVariants.{Memory};
-ghost use Rattle.afdx_pcap.specs.Reading.{Answers, HasNext};
+ghost use Rattle.afdx_pcap.specs.Reading.{Answers, HasNext, whole_reading};
 
+use crate::bytes::Bytes;
 use crate::fault::PcapFault;
 use crate::progress::{Progress, next_record};
 use crate::record::Record;
 use std::alloc::Allocator;
 use std::marker::Model;
 
-/// Reads the records of a capture that comes in pieces, each as soon as its last byte is there.
+/// Reads the records of a capture: of one that comes in pieces, each as soon as its last byte is there; or of
+/// a whole one, which stays where it is.
 ///
-/// It keeps all bytes that it was fed. However they were cut, feeding them and taking the records is O(bytes).
+/// A reader keeps all bytes that it was fed, and its records have copies of theirs. However they were cut, feeding
+/// them and taking the records is O(bytes). One over a whole capture copies nothing: its records are lent.
 #[derive(Drop)]
-pub struct Reader<A: Allocator> {
+pub struct Reader<'a, A: Allocator> {
     alloc: A,
-    bytes: Vec<u8, A>,
+    bytes: Bytes<'a, A>,
     given: usize,
     progress: Option<Progress>,
     closed: bool,
     fault: Option<PcapFault>,
 }
 
-impl<A: Allocator> Model for Reader<A> {
+impl<'a, A: Allocator> Model for Reader<'a, A> {
+    ghost use Rattle.std.specs.Prelude.{◌≡◌, true};
+    ghost use Rattle.afdx_pcap.specs.Bytes.{bytes_of, is_lent};
     ghost use Rattle.afdx_pcap.specs.Reading.{Reading, Stands};
 
     ghost Value = { Reading };
 
     ghost view = { λ r. record {
-      bytes = r.bytes.items;
+      bytes = bytes_of r.bytes;
       given = r.given;
       closed = r.closed;
       fault = r.fault;
+      lent = is_lent r.bytes;
     } };
 
-    ghost invariant = { λ r. Stands r.bytes.items r.given r.progress };
+    // What is lent is whole, so that nothing is fed behind it.
+    ghost invariant = { λ r. Stands (bytes_of r.bytes) r.given r.progress
+        × (is_lent r.bytes ≡ true → r.closed ≡ true) };
 }
 
-impl<A: Allocator + Copy> Reader<A> {
+impl<'a, A: Allocator + Copy> Reader<'a, A> {
     /// A reader of no bytes so far, open, which takes its memory from `alloc`. O(1), no memory.
-    pub fn new(alloc: A) -> Reader<A>
-        ensures { result ≡ record { bytes = []; given = 0; closed = false; fault = None } }
+    pub fn new(alloc: A) -> Reader<'a, A>
+        ensures { result ≡ record { bytes = []; given = 0; closed = false; fault = None; lent = false } }
     {
         Reader {
             alloc,
-            bytes: Vec::new(alloc),
+            bytes: Bytes::Owned(Vec::new(alloc)),
             given: 0,
             progress: None,
             closed: false,
+            fault: None,
+        }
+    }
+
+    /// A reader of these bytes, which are the whole input; it is closed. O(1), no memory, nor is any taken later.
+    pub fn over(alloc: A, bytes: &'a [u8]) -> Reader<'a, A>
+        ensures { result ≡ whole_reading bytes.now 0 }
+    {
+        Reader {
+            alloc,
+            bytes: Bytes::Lent(bytes),
+            given: 0,
+            progress: None,
+            closed: true,
             fault: None,
         }
     }
@@ -75,7 +97,7 @@ impl<A: Allocator + Copy> Reader<A> {
         if let Some(fault) = self.fault {
             return Err(fault);
         }
-        if self.bytes.extend_from_slice(piece).is_err() {
+        if self.bytes.extend(piece).is_err() {
             self.fault = Some(PcapFault::Memory);
             return Err(PcapFault::Memory);
         }
@@ -88,21 +110,25 @@ impl<A: Allocator + Copy> Reader<A> {
     ///
     /// The fault of the bytes, with the record's number, after all whole records before it; while the reader
     /// is open only one that no further bytes can mend, so not P2, P6 or P11. `Memory` where the copy of the
-    /// record's bytes was refused. The same fault is then answered for good.
+    /// record's bytes was refused, so never where the bytes are lent. The same fault is then answered for good.
     ///
-    /// O(bytes of the record), and O(1) where there is none: no byte of an earlier record is read again.
-    pub fn next(&mut self) -> Result<Option<Record<A>>, PcapFault>
+    /// O(bytes of the record), and O(1) where these are lent or there is none: no byte of an earlier record is read
+    /// again.
+    pub fn next(&mut self) -> Result<Option<Record<'a, A>>, PcapFault>
         ensures ok { IfOk result (λ found. self.new ≡ record self.old {
           given = (if is_some found then self.old.given + 1 else self.old.given);
         }) }
         ensures err { IfErr result (λ fault. self.new ≡ record self.old { fault = Some fault }) }
 
         // A fault that was answered stays the answer; else this is what the bytes tell, and memory is wanted for
-        // a whole record alone.
+        // the copy of a whole record alone.
         ensures failed { IfSome self.old.fault (λ fault. result ≡ Err fault) }
         ensures answer { IfNone self.old.fault (Answers self.old.bytes self.old.given self.old.closed result) }
         ensures memory { IfNone self.old.fault (IfErr result (λ fault. fault ≡ Memory
-            → HasNext self.old.bytes self.old.given)) }
+            → HasNext self.old.bytes self.old.given × (self.old.lent ≡ false))) }
+
+        // Each record takes some of the bytes, so that a loop over them ends.
+        ensures fewer { IfOk result (λ found. OnSome found (self.old.given < length self.old.bytes)) }
     {
         if let Some(fault) = self.fault {
             return Err(fault);

@@ -71,20 +71,17 @@ fn stamp_of_head(
 
 /// The record at the front, which is the `number`th, and what comes after it.
 ///
-/// Its bytes are copied once, as one slice, after all tests.
+/// Its bytes are lent, so no memory is taken.
 #[tactic(auto, unfolding(crate::specs::Fault::record_fault))]
-pub fn read_record<A: Allocator>(
-    alloc: A,
+pub fn read_record<'b, A: Allocator>(
     format: Format,
     last: Stamp,
     number: usize,
-    bytes: &[u8],
-) -> Result<(Record<A>, &[u8]), PcapFault>
+    bytes: &'b [u8],
+) -> Result<(Record<'b, A>, &'b [u8]), PcapFault>
     ensures record { IfOk result (λ x. Begins format last bytes.now x.0 × (x.1.now ≡ after x.0 bytes.now)) }
-    ensures fault { IfErr result (λ fault. fault ≢ Memory
-        → record_fault format last number bytes.now ≡ Some fault) }
-    ensures memory { IfErr result (λ fault. fault ≡ Memory
-        → record_fault format last number bytes.now ≡ None) }
+    ensures fault { IfErr result (λ fault. record_fault format last number bytes.now ≡ Some fault) }
+    ensures no_memory { IfErr result (λ fault. fault ≢ Memory) }
 {
     if bytes.len() < HEAD_LENGTH {
         return Err(PcapFault::CutHeader(number));
@@ -95,8 +92,7 @@ pub fn read_record<A: Allocator>(
     if bytes.len() < end {
         return Err(PcapFault::CutData(number));
     }
-    let data = Vec::from_slice(alloc, &bytes[HEAD_LENGTH..end])?;
-    let Ok(record) = Record::new(stamp, head.original, data) else {
+    let Some(record) = Record::lent(stamp, head.original, &bytes[HEAD_LENGTH..end]) else {
         unreachable!()
     };
     Ok((record, &bytes[end..]))

@@ -1,39 +1,43 @@
 //! Records.
 
-ghost use Rattle.std.specs.Prelude.{◌≡◌, ◌<◌, ◌≤◌, length, IfOk, IfErr};
+ghost use Rattle.std.specs.Prelude.{◌≡◌, ◌<◌, ◌≤◌, length, IfOk, IfErr, IfSome, IfNone};
 ghost use Rattle.afdx_pcap.specs.Entry.{captured_limit, IsWithinLimit};
 
+use crate::bytes::Bytes;
 use afdx_units::Stamp;
-use std::alloc::Allocator;
+use std::alloc::{AllocError, Allocator};
 use std::marker::Model;
 
 /// The most bytes that a record holds.
 pub const MAX_CAPTURED: u32 = 262_144;
 
 /// A frame as it was captured: when, how long it was on the line, and which of its bytes were kept.
+///
+/// It owns these bytes, or they are lent from the capture that it was read from.
 #[derive(Debug, Drop)]
-pub struct Record<A: Allocator> {
+pub struct Record<'a, A: Allocator> {
     stamp: Stamp,
     original: u32,
-    bytes: Vec<u8, A>,
+    bytes: Bytes<'a, A>,
 }
 
-impl<A: Allocator> Model for Record<A> {
+impl<'a, A: Allocator> Model for Record<'a, A> {
     ghost use Rattle.std.specs.Prelude.{◌≤◌, length};
+    ghost use Rattle.afdx_pcap.specs.Bytes.{bytes_of};
     ghost use Rattle.afdx_pcap.specs.Entry.{Entry, captured_limit};
 
     ghost Value = { Entry };
 
-    ghost view = { λ r. record { stamp = r.stamp; original = r.original; bytes = r.bytes.items } };
+    ghost view = { λ r. record { stamp = r.stamp; original = r.original; bytes = bytes_of r.bytes } };
 
-    ghost invariant = { λ r. length r.bytes.items ≤ captured_limit };
+    ghost invariant = { λ r. length (bytes_of r.bytes) ≤ captured_limit };
 }
 
-impl<A: Allocator> Record<A> {
+impl<'a, A: Allocator> Record<'a, A> {
     /// A record of these bytes, captured at `stamp`, of a frame of `original` bytes on the line.
     ///
     /// The bytes are moved, and come back where they are more than 262,144. O(1).
-    pub fn new(stamp: Stamp, original: u32, bytes: Vec<u8, A>) -> Result<Record<A>, Vec<u8, A>>
+    pub fn new(stamp: Stamp, original: u32, bytes: Vec<u8, A>) -> Result<Record<'a, A>, Vec<u8, A>>
         ensures ok { IfOk result (λ r. (length bytes.items ≤ captured_limit)
             × (r ≡ record { stamp = stamp; original = original; bytes = bytes.items })) }
         ensures err { IfErr result (λ back. (captured_limit < length bytes.items) × (back ≡ bytes)) }
@@ -44,7 +48,37 @@ impl<A: Allocator> Record<A> {
         Ok(Record {
             stamp,
             original,
-            bytes,
+            bytes: Bytes::Owned(bytes),
+        })
+    }
+
+    /// A record of these bytes, which stay where they are, captured at `stamp`, of a frame of `original` bytes on
+    /// the line; none where they are more than 262,144. O(1), no memory.
+    pub fn lent(stamp: Stamp, original: u32, bytes: &'a [u8]) -> Option<Record<'a, A>>
+        ensures some { IfSome result (λ r. (length bytes.now ≤ captured_limit)
+            × (r ≡ record { stamp = stamp; original = original; bytes = bytes.now })) }
+        ensures none { IfNone result (captured_limit < length bytes.now) }
+    {
+        if bytes.len() <= MAX_CAPTURED as usize {
+            Some(Record {
+                stamp,
+                original,
+                bytes: Bytes::Lent(bytes),
+            })
+        } else {
+            None
+        }
+    }
+
+    /// The same record with its own copy of the bytes.
+    pub(crate) fn owned<'b>(&self, alloc: A) -> Result<Record<'b, A>, AllocError>
+        ensures { IfOk result (λ r. r ≡ self.now) }
+    {
+        let bytes = Vec::from_slice(alloc, self.bytes.as_slice())?;
+        Ok(Record {
+            stamp: self.stamp,
+            original: self.original,
+            bytes: Bytes::Owned(bytes),
         })
     }
 
@@ -67,6 +101,6 @@ impl<A: Allocator> Record<A> {
         ensures bytes { result.now ≡ self.now.bytes }
         ensures limit { IsWithinLimit self.now }
     {
-        &self.bytes
+        self.bytes.as_slice()
     }
 }

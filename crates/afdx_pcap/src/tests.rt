@@ -62,9 +62,9 @@ fn read_whole(alloc: Global, bytes: &[u8]) -> Result<usize, PcapFault> {
     Ok(read_all(alloc, bytes)?.len())
 }
 
-fn take_records(
-    reader: &mut Reader<Global>,
-    records: &mut Vec<Record<Global>>,
+fn take_records<'a>(
+    reader: &mut Reader<'a, Global>,
+    records: &mut Vec<Record<'a, Global>>,
 ) -> Result<(), PcapFault> {
     for _ in 0..u16::MAX {
         let Some(record) = reader.next()? else {
@@ -99,7 +99,7 @@ fn random_lengths(alloc: Global, count: usize, seed: u32) -> Result<Vec<usize>, 
 }
 
 /// The records of these pieces, each taken as soon as it is there; then the input ends.
-fn read_pieces(alloc: Global, pieces: &[&[u8]]) -> Result<Vec<Record<Global>>, PcapFault> {
+fn read_pieces(alloc: Global, pieces: &[&[u8]]) -> Result<Vec<Record<'static, Global>>, PcapFault> {
     let mut records = Vec::new(alloc);
     let mut reader = Reader::new(alloc);
     for piece in pieces {
@@ -163,7 +163,8 @@ fn four_magics(rt: HostRuntime) -> Result<(), Fail> {
             [0, 0, 0, 1, 0, 0, 0x13, 0x88, 0, 0, 0, 60, 0, 0, 0, 60],
         ),
     ] {
-        let records = read_all(rt.alloc(), &joined(rt.alloc(), &[&header, &head, &FRAME])?)?;
+        let bytes = joined(rt.alloc(), &[&header, &head, &FRAME])?;
+        let records = read_all(rt.alloc(), &bytes)?;
         let stamp = records.first().ok_or("a record")?.stamp();
         assert_eq!(rt; stamp.ns(), 1_000_005_000, "in {header:?}");
         assert_eq!(rt;
@@ -247,6 +248,7 @@ fn largest_record(rt: HostRuntime) -> Result<(), Fail> {
     let record = records.first().ok_or("a record")?;
     assert_eq!(rt; record.bytes(), data.as_slice());
     data.push(7)?;
+    assert!(rt; Record::<Global>::lent(Stamp::ZERO, 60, &data).is_none());
     let back = Record::new(Stamp::ZERO, 60, data)
         .err()
         .ok_or("too many bytes")?;

@@ -33,7 +33,7 @@ fn head_bytes(stamp: Stamp, bytes: &[u8]) -> [u8; HEAD_LENGTH]
 }
 
 /// The number of bytes of the whole text; the greatest number where it is more.
-fn text_length<A: Allocator>(records: &[Record<A>]) -> usize
+fn text_length<A: Allocator>(records: &[Record<'_, A>]) -> usize
     ensures { result ≡ min (length (capture_text records.now)) usize.MAX }
 {
     let mut total = HEADER_LENGTH;
@@ -63,7 +63,7 @@ pub fn write_header<A: Allocator>(out: &mut Vec<u8, A>) -> Result<(), AllocError
 #[tactic(auto, unfolding(crate::specs::Text::head_text))]
 pub fn write_record<A: Allocator, B: Allocator>(
     out: &mut Vec<u8, A>,
-    source: &Record<B>,
+    source: &Record<'_, B>,
 ) -> Result<(), AllocError>
     ensures ok { OnOk result (out.new.items ≡ out.old.items ++ record_text source.now) }
     ensures limit { OnOk result (IsWithinLimit source.now) }
@@ -103,7 +103,7 @@ pub fn write_frame<A: Allocator>(
 /// Room is made once for the whole text, and each record's bytes are copied once: O(bytes).
 pub fn write_all<A: Allocator, B: Allocator>(
     alloc: A,
-    records: &[Record<B>],
+    records: &[Record<'_, B>],
 ) -> Result<Vec<u8, A>, PcapFault>
     ensures text { IfOk result (λ v. v.items ≡ capture_text records.now) }
     ensures again { IfOk result (λ v. AreReadable 0 records.now → IsCapture v.items records.now) }

@@ -74,7 +74,7 @@ pub fn one_of_each() -> [Sample; 9] {
 
 /// The record of a frame; none where its stamp is no stamp or in the last second, where it is too long, and for want of
 /// memory.
-pub fn record<A: Allocator + Copy>(alloc: A, sample: Sample) -> Option<Record<A>>
+pub fn record<A: Allocator + Copy>(alloc: A, sample: Sample) -> Option<Record<'static, A>>
     ensures { IfSome result (λ frame. frame.stamp < last_second) }
 {
     let stamp = Stamp::new(sample.seconds, sample.nanos)?;

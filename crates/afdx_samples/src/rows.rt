@@ -9,7 +9,8 @@ pub struct Port {
     pub max_delay_us: u32,
 }
 
-/// A link as the table has it: milliseconds of gap, microseconds of jitter, bytes of the greatest size.
+/// A link as the table has it: milliseconds of gap, microseconds of jitter, bytes of the greatest size; the kind of its
+/// policing, which is not stated where it is empty.
 #[derive(Clone, Copy)]
 pub struct Link {
     pub id: u16,
@@ -19,4 +20,5 @@ pub struct Link {
     pub jitter_us: u32,
     pub max_size: u32,
     pub priority: &'static str,
+    pub police: &'static str,
 }

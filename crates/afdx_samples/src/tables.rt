@@ -14,7 +14,7 @@ pub fn port(id: u8) -> Port {
     }
 }
 
-/// A low link without jitter, for frames of every size each millisecond.
+/// A low link without jitter, for frames of every size each millisecond, whose kind of policing is not stated.
 pub fn link(id: u16, from: u8, to: &'static str) -> Link {
     Link {
         id,
@@ -24,12 +24,16 @@ pub fn link(id: u16, from: u8, to: &'static str) -> Link {
         jitter_us: 0,
         max_size: 1518,
         priority: "low",
+        police: "",
     }
 }
 
-/// The text of a table.
+/// The text of a table, of the second version where a link states the kind of its policing.
 pub fn table(alloc: Global, ports: &[Port], links: &[Link]) -> Result<String, AllocError> {
     let mut text = String::new(alloc);
+    if links.iter().any(|link| !link.police.is_empty()) {
+        writeln!(text, "version = 2")?;
+    }
     for port in ports {
         writeln!(text, "[[port]]")?;
         writeln!(text, "id = {}", port.id)?;
@@ -46,6 +50,9 @@ pub fn table(alloc: Global, ports: &[Port], links: &[Link]) -> Result<String, Al
         writeln!(text, "jitter_us = {}", link.jitter_us)?;
         writeln!(text, "max_size = {}", link.max_size)?;
         writeln!(text, "priority = \"{}\"", link.priority)?;
+        if !link.police.is_empty() {
+            writeln!(text, "police = \"{}\"", link.police)?;
+        }
     }
     Ok(text)
 }

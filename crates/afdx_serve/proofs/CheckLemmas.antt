@@ -4,10 +4,8 @@ use Rattle.std.specs.Prelude.{find}
 use Rattle.std.specs.List.{AllByRecursion}
 use Rattle.std.proofs.lemmas.Bool.Decides.{nat_tests}
 use Rattle.afdx_table.specs.declared.rows.PortRow.{PortRow}
-use Rattle.afdx_table.specs.Link.{Link}
 use Rattle.afdx_table.specs.WellFormed.{Rises}
-use Rattle.afdx_load.specs.Sums.{load_of}
-use Rattle.afdx_serve.specs.Checks.{IsLineOf, AreLinesOf}
+use Rattle.afdx_serve.specs.Checks.{AreTextsOf}
 
 same : (a : ℕ) → (a == a) ≡ true
 same a = grind (arith, nat_tests)
@@ -41,16 +39,19 @@ none_left [] (suc i) le = refl
 none_left (p ∷ ps) zero le = absurd (omega (arith, le))
 none_left (p ∷ ps) (suc i) le = none_left ps i (omega (arith, le))
 
--- one more line
-pub one_more_line : (links : List Link) (ports : List PortRow) (i : ℕ) (d : PortRow) (text line longer : List ℕ) → longer ≡ text ++ line → i < length ports
-    → ((rest : List ℕ) → AreLinesOf links (drop i ports) rest → AreLinesOf links ports (text ++ rest)) → IsLineOf (get_or ports i d) (load_of (get_or ports i d).speed (get_or ports i d).id links) line
-    → (rest : List ℕ) → AreLinesOf links (drop (i + 1) ports) rest → AreLinesOf links ports (longer ++ rest)
-one_more_line links ports i d text line longer grown lt before is rest more =
-    subst (λ (t : List ℕ). AreLinesOf links ports t) (sym (ap (λ (t : List ℕ). t ++ rest) grown ∙ append_assoc text line rest))
-    (before (line ++ rest) (subst (λ (ps : List PortRow). AreLinesOf links ps (line ++ rest)) (sym (from_place ports i d lt)) (line, rest, is, more, refl)))
+module _ (Is : PortRow → List ℕ → Type 0) (ports : List PortRow) (i : ℕ) (text : List ℕ) where
+  -- what is to come completes what is there
+  abbrev pub Completes : Type 0
+  Completes = (rest : List ℕ) → AreTextsOf Is (drop i ports) rest → AreTextsOf Is ports (text ++ rest)
 
--- no port is left
-pub last_line : (links : List Link) (ports : List PortRow) (i : ℕ) (text : List ℕ) → length ports ≤ i
-    → ((rest : List ℕ) → AreLinesOf links (drop i ports) rest → AreLinesOf links ports (text ++ rest)) → AreLinesOf links ports text
-last_line links ports i text le before =
-    subst (λ (t : List ℕ). AreLinesOf links ports t) (append-nil text) (before [] (subst (λ (ps : List PortRow). AreLinesOf links ps []) (sym (none_left ports i le)) refl))
+  -- one more line
+  pub one_more_line : (d : PortRow) (line longer : List ℕ) → longer ≡ text ++ line → i < length ports
+      → Completes → Is (get_or ports i d) line → (rest : List ℕ) → AreTextsOf Is (drop (i + 1) ports) rest → AreTextsOf Is ports (longer ++ rest)
+  one_more_line d line longer grown lt before is rest more =
+      subst (λ (t : List ℕ). AreTextsOf Is ports t) (sym (ap (λ (t : List ℕ). t ++ rest) grown ∙ append_assoc text line rest))
+      (before (line ++ rest) (subst (λ (ps : List PortRow). AreTextsOf Is ps (line ++ rest)) (sym (from_place ports i d lt)) (line, rest, is, more, refl)))
+
+  -- no port is left
+  pub last_line : length ports ≤ i → Completes → AreTextsOf Is ports text
+  last_line le before =
+      subst (λ (t : List ℕ). AreTextsOf Is ports t) (append-nil text) (before [] (subst (λ (ps : List PortRow). AreTextsOf Is ps []) (sym (none_left ports i le)) refl))

@@ -5,7 +5,7 @@ use Rattle.std.proofs.lemmas.List.{map-append}
 use Rattle.std.proofs.lemmas.List.Elements.{filter-append}
 use Rattle.afdx_account.specs.declared.byte.ByteAccount.{ByteAccount}
 use Rattle.afdx_account.specs.declared.frame.Frame.{Frame}
-use Rattle.afdx_account.specs.Account.{account_terms, account_since, account_level}
+use Rattle.afdx_account.specs.Account.{byte_account_terms, byte_account_since, byte_account_level}
 use Rattle.afdx_account.specs.Policing.{Terms, conforms, passed_of}
 use Rattle.afdx_account.specs.Level.{PassesWhatConforms, Stands}
 use Rattle.afdx_pcap.specs.Entry.{Entry}
@@ -27,9 +27,9 @@ own_frames link seen = map frame_of (filter (is_own link) seen)
 
 -- the account, after these frames of a capture
 pub record Progress (link : Alone) (seen : List Entry) (account : ByteAccount) : Type 0 where
-  pub terms : account_terms account ≡ terms_of link
-  pub since : account_since account ≤ last_stamp 0 seen
-  pub stands : Stands (terms_of link) (account_since account) (account_level account (account_since account)) (own_frames link seen)
+  pub terms : byte_account_terms account ≡ terms_of link
+  pub since : byte_account_since account ≤ last_stamp 0 seen
+  pub stands : Stands (terms_of link) (byte_account_since account) (byte_account_level account (byte_account_since account)) (own_frames link seen)
 
 -- the account with one more frame, which this one is passed or not
 pub record Taken (link : Alone) (seen : List Entry) (r : Entry) (account : ByteAccount) (passes : Bool) : Type 0 where
@@ -48,7 +48,7 @@ skipped g link seen r account order other p =
       progress = record {
         terms = p.terms;
         since = let old = p.since in omega (arith, latest, old, order);
-        stands = subst (λ (own : List Entry). Stands (terms_of link) (account_since account) (account_level account (account_since account)) (map frame_of own)) (sym same) p.stands;
+        stands = subst (λ (own : List Entry). Stands (terms_of link) (byte_account_since account) (byte_account_level account (byte_account_since account)) (map frame_of own)) (sym same) p.stands;
       };
       passed = ap (passed_of frame_of (terms_of link)) same;
     }
@@ -63,7 +63,7 @@ offered g link seen r old new answer own o p =
     let more : filter (is_own link) (seen ++ r ∷ []) ≡ before ++ r ∷ [] =
     filter-append (is_own link) seen (r ∷ []) ∙ ap (λ b. before ++ cond b (r ∷ []) []) own in
     let frames : own_frames link (seen ++ r ∷ []) ≡ own_frames link seen ++ f ∷ [] = ap (map frame_of) more ∙ map-append frame_of before (r ∷ []) in
-    let told = subst (λ (s : Terms). PassesWhatConforms s (account_since old) (account_level old (account_since old)) f.stamp f.size answer (account_level new f.stamp)) p.terms o.answers (own_frames link seen) p.stands in
+    let told = subst (λ (s : Terms). PassesWhatConforms s (byte_account_since old) (byte_account_level old (byte_account_since old)) f.stamp f.size answer (byte_account_level new f.stamp)) p.terms o.answers (own_frames link seen) p.stands in
     let joins : answer ≡ conforms t (map frame_of (passed_of frame_of t before)) f = told.0 ∙ ap (λ ps. conforms t ps f) (sym (g.by_frames frame_of t before)) in
     let latest = g.latest seen r in
     let since = o.since in
@@ -71,8 +71,8 @@ offered g link seen r old new answer own o p =
       progress = record {
         terms = o.terms ∙ p.terms;
         since = omega (arith, latest, since);
-        stands = subst (λ (n : ℕ). Stands t n (account_level new n) (own_frames link (seen ++ r ∷ []))) (sym o.since)
-            (subst (λ (fs : List Frame). Stands t f.stamp (account_level new f.stamp) fs) (sym frames) told.1);
+        stands = subst (λ (n : ℕ). Stands t n (byte_account_level new n) (own_frames link (seen ++ r ∷ []))) (sym o.since)
+            (subst (λ (fs : List Frame). Stands t f.stamp (byte_account_level new f.stamp) fs) (sym frames) told.1);
       };
       passed = rw joins (ap (passed_of frame_of t) more ∙ g.next frame_of t before r);
     }
@@ -105,7 +105,7 @@ pub record Polices (link : Alone) (bytes : List ℕ) (frames : Taking) (account 
 
 -- the next frame may be offered
 pub may_be_offered : Ground → (link : Alone) (bytes : List ℕ) (frames : Taking) (account : ByteAccount) (answer : List ℕ) (r : Entry)
-    → Polices link bytes frames account answer → IsNext frames.bytes frames.given r → account_since account ≤ r.stamp
+    → Polices link bytes frames account answer → IsNext frames.bytes frames.given r → byte_account_since account ≤ r.stamp
 may_be_offered g link bytes frames account answer r p next =
     let order = g.in_order frames p.seen r p.taken next in
     let since = p.progress.since in

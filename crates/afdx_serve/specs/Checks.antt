@@ -29,11 +29,14 @@ IsLineOf row s line =
     (0 < s.highs + s.lows → (least : ℕ) × IsLeastBuffer row s least × (line ≡ ended (load_text row s least)))
     × ((0 < s.highs + s.lows → ⊥) → line ≡ [])
 
+-- the text has what each of these ports has, in their order
+abbrev pub AreTextsOf : (PortRow → List ℕ → Type 0) → List PortRow → List ℕ → Type 0
+AreTextsOf Is [] text = text ≡ []
+AreTextsOf Is (row ∷ rows) text = (line : List ℕ) × (rest : List ℕ) × Is row line × AreTextsOf Is rows rest × (text ≡ line ++ rest)
+
 -- the lines of these ports, in their order
 abbrev pub AreLinesOf : List Link → List PortRow → List ℕ → Type 0
-AreLinesOf links [] text = text ≡ []
-AreLinesOf links (row ∷ rows) text =
-    (line : List ℕ) × (rest : List ℕ) × IsLineOf row (load_of row.speed row.id links) line × AreLinesOf links rows rest × (text ≡ line ++ rest)
+AreLinesOf links = AreTextsOf (λ row line. IsLineOf row (load_of row.speed row.id links) line)
 
 -- the lines of a table's ports by rising number, and that it is accepted
 abbrev pub IsCheckOf : Content → List ℕ → Type 0

@@ -32,3 +32,5 @@ abbrev pub run_failure : RunFault → Failure
 run_failure run.Memory = failure.Memory
 run_failure (run.Capture port fault) = failure.PortCapture port fault
 run_failure run.WrongPorts = failure.Usage
+run_failure run.Closed = failure.Usage
+run_failure run.Failed = failure.Usage

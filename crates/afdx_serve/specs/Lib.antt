@@ -10,4 +10,5 @@ pub mod Failures
 pub mod Lines
 pub mod Runs
 pub mod Checks
+pub mod Sizes
 pub mod Serving

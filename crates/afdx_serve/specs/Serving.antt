@@ -13,6 +13,7 @@ use Rattle.afdx_serve.specs.Answer.{IsAnswer}
 use Rattle.afdx_table.specs.Content.{Content}
 use Rattle.afdx_load.specs.Accepted.{IsAccepted, first_fault}
 use Rattle.afdx_serve.specs.Checks.{IsCheckOf}
+use Rattle.afdx_serve.specs.Sizes.{AreSizesIn}
 use Rattle.afdx_serve.specs.Files.{Files, DeviceLog, KeepsFiles, PutsFiles, one_more}
 use Rattle.afdx_session.specs.Outcome.{Results}
 use Rattle.afdx_serve.specs.Output.{AppendsFront}
@@ -83,6 +84,23 @@ FailsToCheck failure.Write path old new =
 FailsToCheck failure.Memory path old new = KeepsFiles old.files new.files × WritesNothing old new
 FailsToCheck _ path old new = ⊥
 
+-- ---- the size of a table's ports
+
+-- the lines of the file's table were written, whether it fits or not
+abbrev pub Sizes : List ℕ → World → World → Type 0
+Sizes path old new =
+    (t : Content) × (text : List ℕ) × HasTable old.files path t × AreSizesIn t text × Appends old.written new.written text × KeepsFolder old new
+
+-- why they were not, and what was written
+abbrev pub FailsToSize : Failure → List ℕ → World → World → Type 0
+FailsToSize (failure.Get name) path old new =
+    (string_bytes name ≡ path) × (new.failed ≡ one_more path old.failed) × KeepsFiles old.files new.files × WritesNothing old new
+FailsToSize (failure.Table refusal) path old new = HasNoTable old.files path refusal × KeepsFolder old new × WritesNothing old new
+FailsToSize failure.Write path old new =
+    (t : Content) × (text : List ℕ) × HasTable old.files path t × AreSizesIn t text × AppendsFront old.written new.written text × KeepsFolder old new
+FailsToSize failure.Memory path old new = KeepsFiles old.files new.files × WritesNothing old new
+FailsToSize _ path old new = ⊥
+
 -- ---- runs
 
 -- the files lead to results, which were put
@@ -105,12 +123,14 @@ FailsToRunAll f paths old new = FailsToRun f paths old.files new.files old.faile
 abbrev pub Performs : Request → Option (List ℕ) → World → World → Type 0
 Performs (request.Alone link) input old new = Answers link input old.written new.written × KeepsFolder old new
 Performs (request.Check path) input old new = Checks path.now old new
+Performs (request.Size path) input old new = Sizes path.now old new
 Performs (request.Run paths) input old new = Runs paths old new
 
 -- why it was not done, and what was done
 abbrev pub FailsToPerform : Failure → Request → Option (List ℕ) → World → World → Type 0
 FailsToPerform f (request.Alone link) input old new = FailsToAnswer f link input old.written new.written × KeepsFolder old new
 FailsToPerform f (request.Check path) input old new = FailsToCheck f path.now old new
+FailsToPerform f (request.Size path) input old new = FailsToSize f path.now old new
 FailsToPerform f (request.Run paths) input old new = FailsToRunAll f paths old new
 
 -- help was asked for and some text was written, or a request, which was done

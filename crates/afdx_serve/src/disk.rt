@@ -65,7 +65,7 @@ fn read_file<R: Files, A: Allocator + Copy>(
     let Ok(metadata) = file.metadata() else {
         return Err(FolderFault::Device);
     };
-    let bytes = read_to_end(alloc, &mut file)?;
+    let bytes = read_to_end(alloc, &mut file, metadata.len() as usize)?;
     Ok((FileId::of(&metadata), bytes))
 }
 

@@ -125,8 +125,8 @@ impl From<RunFault> for Failure {
         match e {
             RunFault::Memory => Failure::Memory,
             RunFault::Capture(port, fault) => Failure::PortCapture(port, fault),
-            // Captures are got by the table's own ports, so that it is not met.
-            RunFault::WrongPorts => Failure::Usage,
+            // Captures are got by the table's own ports, and given whole, so that none of these is met.
+            RunFault::WrongPorts | RunFault::Closed | RunFault::Failed => Failure::Usage,
         }
     }
 }

@@ -37,18 +37,20 @@ fn zeros<A: Allocator + Copy>(alloc: A, count: usize) -> Result<Vec<u8, A>, Allo
     vec![in alloc; 0u8; count]
 }
 
-/// All the bytes that are left, by at most this many reads into the chunk.
+/// All the bytes that are left, by at most this many reads into the chunk; room for `expected` of them is made
+/// at once.
 fn read_turns<R: Read, A: Allocator + Copy>(
     alloc: A,
     input: &mut R,
     turns: u32,
     chunk: &mut [u8],
+    expected: usize,
 ) -> Result<Vec<u8, A>, InputFault>
     requires { 0 < length chunk.old }
     ensures bytes { IfOk result (λ v. AreGiven (R.remaining input.old) v.items) }
     ensures end { OnOk result (IsAtEnd (R.remaining input.new)) }
 {
-    let mut bytes = Vec::new(alloc);
+    let mut bytes = Vec::with_capacity(alloc, expected)?;
     for _turn in 0..turns {
         match input.read(chunk) {
             Ok(0) => return Ok(bytes),
@@ -66,14 +68,16 @@ fn read_turns<R: Read, A: Allocator + Copy>(
 /// All the bytes that are left, by at most 16,777,216 reads of at most 65,536 bytes (profile).
 ///
 /// An interrupted read, and one that finds the end, is one of them. Where a read fails or they are used
-/// up, `Device`; some of the input may then have been read. O(input).
+/// up, `Device`; some of the input may then have been read. Room for `expected` bytes is made at once, which is the
+/// length of a file and 0 where none is known; more or fewer may come. O(input).
 pub(crate) fn read_to_end<R: Read, A: Allocator + Copy>(
     alloc: A,
     input: &mut R,
+    expected: usize,
 ) -> Result<Vec<u8, A>, InputFault>
     ensures bytes { IfOk result (λ v. AreGiven (R.remaining input.old) v.items) }
     ensures end { OnOk result (IsAtEnd (R.remaining input.new)) }
 {
     let mut chunk = zeros(alloc, CHUNK)?;
-    read_turns(alloc, input, TURNS, &mut chunk)
+    read_turns(alloc, input, TURNS, &mut chunk, expected)
 }

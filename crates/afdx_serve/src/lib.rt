@@ -21,6 +21,7 @@ mod policing;
 mod put;
 mod run;
 mod serving;
+mod size;
 mod table_line;
 mod telling;
 mod whole_file;

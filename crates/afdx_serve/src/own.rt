@@ -14,7 +14,7 @@ use std::alloc::Allocator;
 const CONSTANT: [u8; 4] = [3, 0, 0, 0];
 
 /// The size in bytes of a captured frame.
-pub(crate) fn frame_size<A: Allocator>(frame: &Record<A>) -> u32
+pub(crate) fn frame_size<A: Allocator>(frame: &Record<'_, A>) -> u32
     ensures { result ≡ size_of (length frame.now.bytes) }
 {
     size(frame.bytes().len() as u32)
@@ -31,7 +31,7 @@ fn is_addressed(bytes: &[u8], id: u16) -> bool
 
 /// Whether a frame is the link's own: whole, of a size that frames have, addressed to the link, and not
 /// too big for it.
-pub(crate) fn is_own<A: Allocator>(link: &Alone, frame: &Record<A>) -> bool
+pub(crate) fn is_own<A: Allocator>(link: &Alone, frame: &Record<'_, A>) -> bool
     ensures { result ≡ is_own link.now frame.now }
 {
     let bytes = frame.bytes();

@@ -1,7 +1,7 @@
 //! The policing of one link, from bytes to bytes.
 
 ghost use Rattle.std.specs.Prelude.{◌≡◌, ◌≤◌, false, IsTrue, IfOk, IfErr};
-ghost use Rattle.afdx_account.specs.Account.{account_since};
+ghost use Rattle.afdx_account.specs.Account.{byte_account_since};
 ghost use Rattle.afdx_serve.specs.Own.{is_own};
 ghost use Rattle.afdx_serve.specs.Answer.{IsAnswer, frame_of};
 ghost use Rattle.afdx_serve.specs.Offer.{IsOffered};
@@ -12,7 +12,7 @@ use crate::own::{frame_size, is_own};
 use afdx_account::laws::{next_joins_where_it_conforms, passed_by_their_frames};
 use afdx_account::{ByteAccount, Meter};
 use afdx_pcap::laws::{one_more_record_is_appended, taken_records_are_the_first};
-use afdx_pcap::{PcapFault, Record, Records, write_header, write_record};
+use afdx_pcap::{PcapFault, Reader, Record, write_header, write_record};
 use afdx_words::Alone;
 use std::alloc::{AllocError, Allocator};
 use thiserror::Error;
@@ -52,8 +52,8 @@ impl From<PcapFault> for AloneFault {
 }
 
 /// Offers a frame that is the link's own to its account, and says whether it passes it.
-fn passes<A: Allocator>(link: &Alone, account: &mut ByteAccount, frame: &Record<A>) -> bool
-    requires { account_since account.old ≤ frame.now.stamp }
+fn passes<A: Allocator>(link: &Alone, account: &mut ByteAccount, frame: &Record<'_, A>) -> bool
+    requires { byte_account_since account.old ≤ frame.now.stamp }
     ensures own { IsTrue (is_own link.now frame.now) → IsOffered account.old account.new (frame_of frame.now) result }
 
     // A frame that is not is not passed, and the account is left alone.
@@ -66,8 +66,8 @@ fn passes<A: Allocator>(link: &Alone, account: &mut ByteAccount, frame: &Record<
 fn ground<A: Allocator>()
     ensures { Ground }
 {
-    next_joins_where_it_conforms::<Record<A>>();
-    passed_by_their_frames::<Record<A>>();
+    next_joins_where_it_conforms::<Record<'_, A>>();
+    passed_by_their_frames::<Record<'_, A>>();
     one_more_record_is_appended();
     taken_records_are_the_first();
 }
@@ -82,8 +82,7 @@ fn ground<A: Allocator>()
 ///
 /// `Capture` with the first fault of an input that is no capture; `Memory` where a growth was refused.
 ///
-/// One pass, which keeps one frame at a time: each frame's bytes are copied once into a record and, where it
-/// passes, once into the answer. O(input).
+/// One pass; a frame's bytes are copied once, into the answer, where it passes. O(frames + bytes of the answer).
 pub fn alone<A: Allocator + Copy>(
     alloc: A,
     link: &Alone,
@@ -96,7 +95,7 @@ pub fn alone<A: Allocator + Copy>(
     let mut answer = Vec::new(alloc);
     write_header(&mut answer)?;
     let mut account = ByteAccount::new(link.max_size, link.bag, link.jitter);
-    let mut frames = Records::new(alloc, input);
+    let mut frames = Reader::over(alloc, input);
     while let Some(frame) = frames.next()? {
         if passes(link, &mut account, &frame) {
             write_record(&mut answer, &frame)?;

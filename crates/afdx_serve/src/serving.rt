@@ -14,6 +14,7 @@ use crate::input::read_to_end;
 use crate::output::write_bytes;
 use crate::policing::alone;
 use crate::run::run;
+use crate::size::size;
 use crate::telling::report;
 use afdx_words::{Alone, NoRequest, Request, parse};
 use std::alloc::Global;
@@ -30,7 +31,7 @@ fn answer<R: Read, O: Write>(
         (λ _. Answers link.now (R.remaining input.old) (O.contents out.old) (O.contents out.new))
         (λ f. FailsToAnswer f link.now (R.remaining input.old) (O.contents out.old) (O.contents out.new)) }
 {
-    let bytes = read_to_end(alloc, input)?;
+    let bytes = read_to_end(alloc, input, 0)?;
     let text = alone(alloc, link, &bytes)?;
     write_bytes(out, &text)?;
     Ok(())
@@ -53,6 +54,7 @@ fn perform<R: Read, O: Write, F: Folder>(
     match request {
         Request::Alone(link) => answer(alloc, link, input, out),
         Request::Check(path) => check(alloc, path, out, folder),
+        Request::Size(path) => size(alloc, path, out, folder),
         Request::Run(paths) => run(alloc, paths, out, folder),
     }
 }
@@ -85,11 +87,12 @@ fn serve_words<R: Read, O: Write, F: Folder>(
 /// Serves what the words ask for, of which the first is the program's name, and gives the status: 0 done,
 /// 2 refused words, 3 a refused table or capture, 4 a refused load, 5 memory or a device.
 ///
-/// `afdx alone` reads `input` to its end and writes its answer on `out`; `afdx check TABLE` gets TABLE from `folder` and
-/// writes its lines on `out`; `afdx run TABLE IN OUT` gets TABLE, checks its load unless there is `--unchecked`, gets
-/// IN/port-1.pcap and so on, puts OUT/port-1.pcap and so on and writes the report on `out`; `--help` writes the help of `clap` on `out`. On another status than 0 one
-/// line goes to `err`, and a fault in writing it changes nothing. What is met before the answer is written leaves `out`
-/// as it was; where writing fails, a front of the answer was written.
+/// `afdx alone` reads `input` to its end and writes its answer on `out`; `afdx check TABLE` and `afdx size TABLE` get TABLE
+/// from `folder` and write their lines on `out`; `afdx run TABLE IN OUT` gets TABLE, checks its load unless there is
+/// `--unchecked`, gets IN/port-1.pcap and so on, puts OUT/port-1.pcap and so on and writes the report on `out`; `--help`
+/// and `--version` write the text of `clap` on `out`. On another status than 0 one line goes to `err`, and a fault in
+/// writing it changes nothing. What is met before the answer is written leaves `out` as it was; where writing fails, a front
+/// of the answer was written.
 ///
 /// No contract knows why a reader, a writer or a folder fails, or whether memory is left: that 5 comes only then, and
 /// that `err` holds its whole line where it takes it, is shown by tests.

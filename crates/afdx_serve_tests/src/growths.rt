@@ -22,7 +22,7 @@ fn polices(memory: &Refusing<Global>, link: &Alone, input: &[u8], expected: &[u8
     }
 }
 
-/// The second frame comes a nanosecond too early.
+/// The second frame comes a nanosecond too early. The answer alone is grown: the frames are lent.
 #[test]
 fn each_growth_refused(rt: HostRuntime) -> Result<(), Fail> {
     let alloc = rt.alloc();
@@ -41,7 +41,7 @@ fn each_growth_refused(rt: HostRuntime) -> Result<(), Fail> {
         }
         refused = n;
     }
-    assert!(rt; refused >= 4);
+    assert!(rt; refused >= 2);
     println!(rt; "alone: {refused} growths refused")?;
     Ok(())
 }

@@ -18,6 +18,8 @@ mod names;
 #[cfg(test)]
 mod runs;
 #[cfg(test)]
+mod sizes;
+#[cfg(test)]
 mod streams;
 #[cfg(test)]
 mod words;

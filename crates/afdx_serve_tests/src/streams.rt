@@ -10,18 +10,20 @@ use std::io::{ErrorKind, Read};
 use std::test::Fail;
 
 /// Each command, and how many files of the run of one frame stand where it is done.
-const COMMANDS: [(&str, usize); 5] = [
+const COMMANDS: [(&str, usize); 6] = [
     ("afdx --help", 3),
     (LINK_10, 3),
     ("afdx check t", 3),
+    ("afdx size t", 3),
     (CHECKED, 5),
     (RUN, 5),
 ];
 
 /// Those that read no input.
-const WITHOUT_INPUT: [(&str, usize); 4] = [
+const WITHOUT_INPUT: [(&str, usize); 5] = [
     ("afdx --help", 3),
     ("afdx check t", 3),
+    ("afdx size t", 3),
     (CHECKED, 5),
     (RUN, 5),
 ];

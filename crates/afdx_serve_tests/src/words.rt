@@ -15,11 +15,13 @@ Usage: afdx <COMMAND>
 Commands:
   alone  Polices one virtual link of the capture on standard input
   check  Checks the load of a configuration table
+  size   Tells what each port needs and has, whether it fits or not
   run    Runs the switch over one capture for each port
   help   Print this message or the help of the given subcommand(s)
 
 Options:
-  -h, --help  Print help
+  -h, --help     Print help
+  -V, --version  Print version
 ";
 
 const HELP_RUN: &str = "Runs the switch over one capture for each port
@@ -34,6 +36,39 @@ Arguments:
 Options:
       --unchecked  Runs a table whatever its load
   -h, --help       Print help
+
+All files are read before the first capture is written. OUT must be there. A
+capture is written to a new file beside its name, which is then moved onto the
+name: each name has what stood there or the whole new capture, also after a
+failure or a kill. After a failed put the captures of the ports before it are
+new, after a failed write all are. A file that was read is not replaced. Captures
+of ports that the table lacks are not looked at. Names are printed as they were
+given.
+
+Status: 0 done, 2 words, 3 no table or capture, 4 a port cannot give what its
+links ask for, 5 memory or a device.
+
+Example: mkdir out && afdx run table.toml in out
+";
+
+const HELP_SIZE: &str = "Tells what each port needs and has, whether it fits or not
+
+Usage: afdx size <TABLE>
+
+Arguments:
+  <TABLE>  The configuration table
+
+Options:
+  -h, --help  Print help
+
+For each port with links: what they need and what the port has, by rule (the
+line's rate in parts, the buffer in bytes, the delays in ns), and the rules that
+it breaks.
+
+Status: 0 told, whether each port fits or not, 2 words, 3 no table, 5 memory or a
+device.
+
+Example: afdx size table.toml
 ";
 
 const HELP_ALONE: &str = "Polices one virtual link of the capture on standard input
@@ -46,7 +81,16 @@ Options:
       --jitter <US>  Its greatest jitter in us, 0 to 10000
       --size <N>     Its greatest frame size in bytes, 64 to 1518
   -h, --help         Print help
+
+Reads a capture on standard input and writes the capture of the frames that the
+link's account passes on standard output.
+
+Status: 0 done, 2 words, 3 no capture, 5 memory or a device.
+
+Example: afdx alone --id 10 --bag 1 --jitter 0 --size 1000 < in.pcap > out.pcap
 ";
+
+const VERSION: &str = "afdx 0.1.0\nrattle-kit-13b logic dac8208d650f15bf\n";
 
 #[test]
 fn passes_what_conforms(rt: HostRuntime) -> Result<(), Fail> {
@@ -114,9 +158,11 @@ fn refuses_words(rt: HostRuntime) -> Result<(), Fail> {
     for line in [
         "",
         "afdx",
-        "afdx --version",
+        "afdx check --version",
         "afdx check",
         "afdx check t in",
+        "afdx size",
+        "afdx size t in",
         "afdx run t in --unchecked",
         "afdx run t in out more --unchecked",
         "afdx run t in out --unchecked --unchecked",
@@ -236,6 +282,9 @@ fn shows_help(rt: HostRuntime) -> Result<(), Fail> {
         ("afdx help alone", HELP_ALONE),
         ("afdx alone --help", HELP_ALONE),
         ("afdx run --help", HELP_RUN),
+        ("afdx size --help", HELP_SIZE),
+        ("afdx --version", VERSION),
+        ("afdx -V", VERSION),
     ] {
         let got = answer(alloc, line, b"")?;
         assert_eq!(rt; got.status, 0, "{line}");

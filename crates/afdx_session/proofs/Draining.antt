@@ -21,7 +21,7 @@ use Rattle.afdx_session.proofs.Numbered.{sent_numbered, all_slice_get}
 pub drop_at : {X : Type 0} (xs : List X) (n : ℕ) (x : X) → slice_get xs n ≡ Some x → drop n xs ≡ x ∷ drop (suc n) xs
 drop_at xs n x is = drop-cons xs n x (slice_get_within xs n x is) ∙ ap (λ y. y ∷ drop (suc n) xs) (get_or_from_slice_get xs n x x is)
 
-drop_none : {X : Type 0} (xs : List X) (n : ℕ) → slice_get xs n ≡ None → drop n xs ≡ []
+pub drop_none : {X : Type 0} (xs : List X) (n : ℕ) → slice_get xs n ≡ None → drop n xs ≡ []
 drop_none [] zero is = refl
 drop_none [] (suc n) is = refl
 drop_none (y ∷ xs) zero is = absurd cc
@@ -46,16 +46,16 @@ pub record Drains (port : ℕ) (start now : State) (text : List ℕ) : Type 0 wh
 
 pub drains_start : (port : ℕ) (start : State) (text : List ℕ) → text ≡ header_text → Drains port start start text
 drains_start port start text is = record {
-  drained = record { table = refl; rows = refl; finished = refl; latest = refl; handed = refl; others = λ place other. refl; frames = λ arrivals len has. has };
+  drained = record { table = refl; rows = refl; finished = refl; accepted = refl; latest = refl; handed = refl; others = λ place other. refl; frames = λ arrivals len has. has };
   rest = λ arrivals len has. ap (λ t. t ++ flat_map record_text (map (written arrivals) (left_at start.run (place_of start.run port)))) (sym is);
 }
 
 -- what is left before a frame is handed out, and after it
-left_before : (r : Run) (port place : ℕ) (s : Sent) → place_of r port ≡ Some place → next_at r place ≡ Some s
+pub left_before : (r : Run) (port place : ℕ) (s : Sent) → place_of r port ≡ Some place → next_at r place ≡ Some s
     → left_at r (place_of r port) ≡ s ∷ drop (suc (slice_index r.handed place)) (sent_in r (slice_get r.table.ports place))
 left_before r port place s at next = ap (left_at r) at ∙ drop_at (sent_in r (slice_get r.table.ports place)) (slice_index r.handed place) s next
 
-left_after : (r : Run) (port place : ℕ) → place_of r port ≡ Some place → place < length r.handed
+pub left_after : (r : Run) (port place : ℕ) → place_of r port ≡ Some place → place < length r.handed
     → left_at (after_handing place r) (place_of (after_handing place r) port) ≡ drop (suc (slice_index r.handed place)) (sent_in r (slice_get r.table.ports place))
 left_after r port place at lt =
     ap (left_at (after_handing place r)) at
@@ -74,7 +74,7 @@ place_within r port place at =
     let p = λ (row : PortRow). row.id == port in
     passed_within (nat_lt (position_or_len p r.table.ports) (length r.table.ports)) (position_or_len p r.table.ports) (length r.table.ports) place refl at
 
-written_out : (arrivals : List Arrival) (now new : State) (port place : ℕ) (out : Entry) (s : Sent) → length arrivals ≡ length now.run.rows → HasBytesOf arrivals now → IsHanded now new port out place s → written arrivals s ≡ out
+pub written_out : (arrivals : List Arrival) (now new : State) (port place : ℕ) (out : Entry) (s : Sent) → length arrivals ≡ length now.run.rows → HasBytesOf arrivals now → IsHanded now new port out place s → written arrivals s ≡ out
 written_out arrivals now new port place out s len has handed =
     let found = handed_bytes (slice_get now.frames s.item.number) s out handed.record_is in
     let within : s.item.number < length now.run.rows =
@@ -96,6 +96,7 @@ drains_on port start now new text more out place s len drains handed is =
         rows = ap (λ (r : Run). r.rows) handed.run ∙ d.rows;
         latest = ap (λ (r : Run). r.latest) handed.run ∙ d.latest;
         finished = ap (λ (r : Run). r.finished) handed.run ∙ d.finished;
+        accepted = handed.keeps.accepted ∙ d.accepted;
         handed = ap (λ (r : Run). length r.handed) handed.run ∙ length-set now.run.handed place (slice_index now.run.handed place + 1) ∙ d.handed;
         others = λ other differs.
             ap (λ (r : Run). slice_index r.handed other) handed.run
@@ -121,7 +122,7 @@ fewer_left port now new out place s len handed =
     let left_now = ap length (left_before now.run port place s handed.at handed.next) in
     omega (arith, left_new, left_now)
 
-none_left : (r : Run) (place : Option ℕ) → next_by r place ≡ None → left_at r place ≡ []
+pub none_left : (r : Run) (place : Option ℕ) → next_by r place ≡ None → left_at r place ≡ []
 none_left r None is = refl
 none_left r (Some place) is = drop_none (sent_in r (slice_get r.table.ports place)) (slice_index r.handed place) is
 

@@ -30,7 +30,7 @@ all-from : (n m : ℕ) (rs : List Entry) → m ≤ n → AllByRecursion (λ (r :
 all-from n m [] le all = tt
 all-from n m (r ∷ rs) le all = (omega (arith, le, all.0), all-from n m rs le all.1)
 
-splits_rise : (f : Format) (last : ℕ) (bytes : List ℕ) (rs : List Entry) (rest : List ℕ) → Splits f last bytes rs rest → AllByRecursion (λ (r : Entry). last ≤ r.stamp) rs × Rises rs
+pub splits_rise : (f : Format) (last : ℕ) (bytes : List ℕ) (rs : List Entry) (rest : List ℕ) → Splits f last bytes rs rest → AllByRecursion (λ (r : Entry). last ≤ r.stamp) rs × Rises rs
 splits_rise f last bytes [] rest splits = (tt, tt)
 splits_rise f last bytes (r ∷ rs) rest splits =
     let more = splits_rise f r.stamp (after r bytes) rs rest splits.1 in
@@ -44,7 +44,7 @@ stamp_early : (resolution : Resolution) (h : Head) → h.seconds ≤ 4294967294 
 stamp_early Micros h seconds fraction = omega (arith, seconds, fraction)
 stamp_early Nanos h seconds fraction = omega (arith, seconds, fraction)
 
-splits_early : (f : Format) (last : ℕ) (bytes : List ℕ) (rs : List Entry) (rest : List ℕ) → Splits f last bytes rs rest → AllByRecursion (λ (r : Entry). r.stamp < last_second) rs
+pub splits_early : (f : Format) (last : ℕ) (bytes : List ℕ) (rs : List Entry) (rest : List ℕ) → Splits f last bytes rs rest → AllByRecursion (λ (r : Entry). r.stamp < last_second) rs
 splits_early f last bytes [] rest splits = tt
 splits_early f last bytes (r ∷ rs) rest splits =
     let b = splits.0 in
@@ -73,6 +73,8 @@ pub one_fault : (texts : List Text) (port : ℕ) (bytes : List ℕ) (fault : Run
 one_fault texts port bytes run.Memory is at = tt
 one_fault texts port bytes (run.Capture p why) is at = rw is (inl (sym at.0, at.1))
 one_fault texts port bytes run.WrongPorts is at = at
+one_fault texts port bytes run.Closed is at = at
+one_fault texts port bytes run.Failed is at = at
 
 -- ---- several captures
 
@@ -104,6 +106,8 @@ pub fault_in_first : (texts xs ys : List Text) (fault : RunFault) → texts ≡ 
 fault_in_first texts xs ys run.Memory is fault = tt
 fault_in_first texts xs ys (run.Capture port why) is fault = rw is (first_fault_of xs ys port why fault)
 fault_in_first texts xs ys run.WrongPorts is fault = fault
+fault_in_first texts xs ys run.Closed is fault = fault
+fault_in_first texts xs ys run.Failed is fault = fault
 
 later_fault_of : (xs ys : List Text) (read : List Capture) (port : ℕ) (why : PcapFault) → AreCaptures xs read → IsFirstFault ys port why → IsFirstFault (xs ++ ys) port why
 later_fault_of [] ys read port why are fault = fault
@@ -114,6 +118,8 @@ pub fault_in_others : (texts xs ys : List Text) (low : List Arrival) (fault : Ru
 fault_in_others texts xs ys low run.Memory is first fault = tt
 fault_in_others texts xs ys low (run.Capture port why) is first fault = rw is (later_fault_of xs ys first.read port why first.are_read fault)
 fault_in_others texts xs ys low run.WrongPorts is first fault = fault
+fault_in_others texts xs ys low run.Closed is first fault = fault
+fault_in_others texts xs ys low run.Failed is first fault = fault
 
 pub want_of_memory : (texts : List Text) (fault : RunFault) → fault ≡ run.Memory → IsReadFault texts fault
 want_of_memory texts fault is = rw is tt
@@ -153,7 +159,7 @@ merged_early texts arrivals are = subst (AllByRecursion Early) (sym are.all) (by
 
 -- ---- ports that are the table's
 
-abbrev Known : List PortRow → ℕ → Type 0
+abbrev pub Known : List PortRow → ℕ → Type 0
 Known ports n = is_none (find (λ (p : PortRow). p.id == n) ports) ≡ false
 
 known_here : (p : PortRow) (ports : List PortRow) → Known (p ∷ ports) p.id
@@ -172,7 +178,7 @@ all_later : (p : PortRow) (ports : List PortRow) (ns : List ℕ) → AllByRecurs
 all_later p ports [] all = tt
 all_later p ports (n ∷ ns) all = (known_later p ports n all.0, all_later p ports ns all.1)
 
-all_known : (ports : List PortRow) → AllByRecursion (Known ports) (map (λ (p : PortRow). p.id) ports)
+pub all_known : (ports : List PortRow) → AllByRecursion (Known ports) (map (λ (p : PortRow). p.id) ports)
 all_known [] = tt
 all_known (p ∷ ports) = (known_here p ports, all_later p ports (map (λ (q : PortRow). q.id) ports) (all_known ports))
 

@@ -1,7 +1,16 @@
 pub mod Texts
 pub mod Reading
+pub mod OneMerge
 pub mod Merging
 pub mod Output
 pub mod Replay
 pub mod Outcome
 pub mod Headline
+pub mod Streams
+pub mod Settled
+pub mod Session
+pub mod Lanes
+pub mod Kept
+pub mod View
+pub mod Finish
+pub mod Pieces

@@ -1,9 +1,21 @@
 //! Laws over the definitions.
 
 ghost use Rattle.afdx_session.specs.Headline.{AcceptedRunsIsolate, OwnFramesAreTheLinksAlone, OthersChangeNothing};
+ghost use Rattle.afdx_session.specs.OneMerge.{MergedIsTheOnlyOne};
+ghost use Rattle.afdx_session.specs.Pieces.{CallsGoOn, NothingWasTaken, TakenStays, TakesJoin, TakenIsAFront, TakesAndRestAreTheOutput};
+ghost use Rattle.afdx_session.specs.Session.{OutputGrowsWithBytes, WholeRecordsAreUnique};
+ghost use Rattle.afdx_session.specs.Settled.{MergeIsUnique, SettledStays, SettledRecordsGo, RestComesAtTheFrontier, SwitchShowsWhatLeft};
+ghost use Rattle.afdx_session.specs.Streams.{LaterArrivalsChangeNothing, OutputGrows, TextGrows, OutputOfAll, IsFrontOfTheOutput, AllStartBeforeTheLastInstant};
 
-use afdx_core::laws::{accepted_tables_isolate, merged_is_a_merge, verdicts_name_links};
+use afdx_core::laws::{
+    accepted_tables_isolate, merged_is_a_merge, merged_is_by_stamp_and_port, verdicts_name_links,
+};
 use afdx_filter::laws::clean_frames_have_a_link;
+use afdx_pcap::laws::whole_records_stay;
+use afdx_port::laws::{
+    arrivals_change_nothing_earlier, ends_within_a_second, events_follow_the_line,
+    stamps_keep_their_order,
+};
 use afdx_table::laws::links_are_found;
 
 /// The headline: what leaves each port of an accepted table for a link is exactly what the link's policing passes
@@ -30,3 +42,97 @@ pub fn own_frames_are_the_links_alone()
 pub fn others_change_nothing()
     ensures { OthersChangeNothing }
 {}
+
+/// Arrivals at an instant or later change nothing of what a port sends before it.
+pub fn later_arrivals_change_nothing()
+    ensures { LaterArrivalsChangeNothing }
+{
+    arrivals_change_nothing_earlier();
+    stamps_keep_their_order();
+}
+
+/// What has left so far is a front of what has left later, and in the end of the output of all.
+pub fn output_so_far_grows()
+    ensures records { OutputGrows }
+    ensures texts { TextGrows }
+    ensures all { OutputOfAll }
+    ensures front { IsFrontOfTheOutput }
+{
+    arrivals_change_nothing_earlier();
+    stamps_keep_their_order();
+    events_follow_the_line();
+}
+
+/// There is one merge by stamp and port number.
+pub fn merge_is_unique()
+    ensures { MergeIsUnique }
+{}
+
+/// Of the captures of a table's ports there is one merge by stamp, then by port number: the program's.
+pub fn merged_is_the_only_one()
+    ensures { MergedIsTheOnlyOne }
+{
+    merged_is_a_merge();
+    merged_is_by_stamp_and_port();
+}
+
+/// What is settled keeps its place in the program's merge, whatever comes.
+pub fn settled_stays()
+    ensures { SettledStays }
+{
+    merged_is_a_merge();
+    merged_is_by_stamp_and_port();
+}
+
+/// What a switch sent is what has left so far, where the settled arrivals were given to it and it came to the
+/// frontier.
+pub fn switch_shows_what_left()
+    ensures { SwitchShowsWhatLeft }
+{
+    arrivals_change_nothing_earlier();
+    stamps_keep_their_order();
+}
+
+/// A record within the limit that is the first of what waits is the next in the merge; where the first one lies at
+/// the limit or past it, all that waits comes at the frontier or later.
+pub fn settled_records_go()
+    ensures goes { SettledRecordsGo }
+    ensures rest { RestComesAtTheFrontier }
+{}
+
+/// However the bytes come in pieces, what has gone out so far is a front of what has gone out later; the bytes so
+/// far have one list of whole records.
+pub fn output_grows_with_bytes()
+    ensures grows { OutputGrowsWithBytes }
+    ensures unique { WholeRecordsAreUnique }
+{
+    arrivals_change_nothing_earlier();
+    stamps_keep_their_order();
+    events_follow_the_line();
+    whole_records_stay();
+}
+
+/// However captures come in pieces, and whenever output is taken: the takes of a port, one after the other, are a
+/// front of the output of a run over the whole captures, and with what the end gives they are that output.
+pub fn takes_join_to_the_output()
+    ensures calls { CallsGoOn }
+    ensures none { NothingWasTaken }
+    ensures stays { TakenStays }
+    ensures joins { TakesJoin }
+    ensures front { TakenIsAFront }
+    ensures whole { TakesAndRestAreTheOutput }
+{
+    arrivals_change_nothing_earlier();
+    stamps_keep_their_order();
+    events_follow_the_line();
+    whole_records_stay();
+}
+
+/// Whatever is sent starts before the last instant that a stamp can tell.
+pub fn all_start_before_the_last_instant()
+    ensures { AllStartBeforeTheLastInstant }
+{
+    ends_within_a_second();
+    clean_frames_have_a_link();
+    verdicts_name_links();
+}

@@ -7,13 +7,18 @@
 #![tactic(auto)]
 
 mod arrival;
+mod drain;
+mod lane;
 pub mod laws;
+mod machine;
 mod merge;
 mod output;
 mod plan;
 mod read;
 mod replay;
 mod session;
+mod whole;
 
 pub use plan::{Outcome, Plan, RunFault};
-pub use session::run;
+pub use session::Session;
+pub use whole::run;

@@ -36,7 +36,10 @@ impl Plan {
     }
 
     /// A switch that took nothing, over the table.
-    pub(crate) fn into_switch<A: Allocator + Copy>(self, alloc: A) -> Result<Switch<A>, AllocError>
+    pub(crate) fn into_switch<'a, A: Allocator + Copy>(
+        self,
+        alloc: A,
+    ) -> Result<Switch<'a, A>, AllocError>
         ensures { IfOk result (λ s. s ≡ fresh_state (is_cleared self) (table_in self)) }
     {
         match self {
@@ -58,6 +61,12 @@ pub enum RunFault {
     /// The texts are not exactly those of the table's ports by rising number.
     #[error("WrongPorts")]
     WrongPorts,
+    /// The port's capture has ended already.
+    #[error("Closed")]
+    Closed,
+    /// An earlier call answered `Memory` or `Capture`.
+    #[error("Failed")]
+    Failed,
 }
 
 impl From<AllocError> for RunFault {

@@ -1,18 +1,9 @@
 //! Ports as busy as an accepted table lets them be.
 
-use crate::traffic::leaves;
-use afdx_load::{Bounds, bounds, load};
+use crate::traffic::{bounds_at, leaves};
 use afdx_samples::{HEADER, Link, Port, capture, large, link, port, small, table};
-use afdx_table::read;
 use std::alloc::{AllocError, Global};
 use std::test::*;
-
-/// The delay bounds at a port of a table.
-fn bounds_at(alloc: Global, table: &str, port: u8) -> Result<Bounds, Fail> {
-    let table = read(alloc, table.as_bytes())?;
-    let load = load(&table, port).ok_or("a port of the table")?;
-    Ok(bounds(&load))
-}
 
 /// Six links, and a buffer that holds exactly what they may ask for.
 fn six_links(alloc: Global) -> Result<String, AllocError> {

@@ -1,6 +1,6 @@
 //! Captures that come in, runs, and what they put out.
 
-use afdx_load::check;
+use afdx_load::{Bounds, bounds, check, load};
 use afdx_samples::{Sample, capture};
 use afdx_session::{Outcome, Plan, RunFault, run};
 use afdx_table::read;
@@ -67,9 +67,12 @@ pub(crate) fn refusal(
     Ok(answer(alloc, table, texts)?.err())
 }
 
-/// The outcome of a run over a table that is not checked.
-fn outcome_unchecked(alloc: Global, table: &str, texts: &[&[u8]]) -> Result<Outcome<Global>, Fail> {
-    let plan = unchecked(alloc, table)?;
+/// The outcome of a run of a plan with these captures of the ports from 1 on.
+pub(crate) fn outcome_of(
+    alloc: Global,
+    plan: Plan,
+    texts: &[&[u8]],
+) -> Result<Outcome<Global>, Fail> {
     let captures = of_ports(alloc, texts)?;
     let outcome = run(alloc, plan, &captures)?;
     Ok(outcome)
@@ -125,7 +128,7 @@ pub(crate) fn leaves_unchecked(
     expected: &[&[Sample]],
     line: &str,
 ) -> Result<bool, Fail> {
-    let done = outcome_unchecked(alloc, table, texts)?;
+    let done = outcome_of(alloc, unchecked(alloc, table)?, texts)?;
     Ok(leave(alloc, &done, expected)? && tells(alloc, &done, line)?)
 }
 
@@ -139,4 +142,11 @@ pub(crate) fn puts(
 ) -> Result<bool, Fail> {
     let done = outcome(alloc, table, texts)?;
     Ok(puts_out(&done, port, expected))
+}
+
+/// The delay bounds at a port of a table.
+pub(crate) fn bounds_at(alloc: Global, table: &str, port: u8) -> Result<Bounds, Fail> {
+    let table = read(alloc, table.as_bytes())?;
+    let load = load(&table, port).ok_or("a port of the table")?;
+    Ok(bounds(&load))
 }

@@ -14,21 +14,21 @@ use std::marker::Model;
 /// Contracts see, for each arrival in order, the frame that is held of it, if any, with the number of its copies that
 /// are left; and for how many further arrivals there is room. Only `make_room` takes memory.
 #[derive(Drop)]
-pub struct Store<A: Allocator> {
-    slots: Slab<Slot<A>, A>,
+pub struct Store<'a, A: Allocator> {
+    slots: Slab<Slot<'a, A>, A>,
     keys: Vec<usize, A>,
     room: usize,
 }
 
 /// A frame, the number of its arrival, and how many of its copies are left.
 #[derive(Drop)]
-struct Slot<A: Allocator> {
+struct Slot<'a, A: Allocator> {
     number: usize,
     copies: usize,
-    frame: Record<A>,
+    frame: Record<'a, A>,
 }
 
-impl<A: Allocator> Model for Store<A> {
+impl<'a, A: Allocator> Model for Store<'a, A> {
     ghost use Rattle.afdx_store.specs.Seen.{StoreValue};
 
     ghost Value = { StoreValue };
@@ -41,7 +41,7 @@ impl<A: Allocator> Model for Store<A> {
 }
 
 /// Empties the slot at a key.
-fn empty<A: Allocator + Copy>(slots: &mut Slab<Slot<A>, A>, key: usize)
+fn empty<A: Allocator + Copy>(slots: &mut Slab<Slot<'_, A>, A>, key: usize)
     requires { ContainsKey slots.old key }
     ensures updates { Updates slots.old slots.new key None }
     ensures len { slab_len slots.new + 1 ≡ slab_len slots.old }
@@ -50,7 +50,7 @@ fn empty<A: Allocator + Copy>(slots: &mut Slab<Slot<A>, A>, key: usize)
     slots.try_remove(key);
 }
 
-impl<A: Allocator + Copy> Store<A> {
+impl<'a, A: Allocator + Copy> Store<'a, A> {
     /// A store that holds nothing.
     pub fn new(alloc: A) -> Self
         ensures { result ≡ record { held = []; room = 0 } }
@@ -81,9 +81,9 @@ impl<A: Allocator + Copy> Store<A> {
     }
 
     /// Adds the next arrival, of whose frame so many copies are left; with none, the frame is dropped. O(1).
-    pub fn add(&mut self, copies: usize, frame: Record<A>)
+    pub fn add(&mut self, copies: usize, frame: Record<'a, A>)
         requires { 0 < self.old.room }
-        ensures { self.new.held ≡ self.old.held ++ newcomer copies frame ∷ [] }
+        ensures { self.new.held ≡ self.old.held ++ newcomer copies frame.entry ∷ [] }
     {
         if copies == 0 {
             self.skip();
@@ -102,10 +102,10 @@ impl<A: Allocator + Copy> Store<A> {
     }
 
     /// Adds the next arrival, which has some copies.
-    fn hold(&mut self, copies: usize, frame: Record<A>)
+    fn hold(&mut self, copies: usize, frame: Record<'a, A>)
         requires room { 0 < self.old.room }
         requires some { 0 < copies }
-        ensures { self.new.held ≡ self.old.held ++ Some (record { copies = copies; frame = frame }) ∷ [] }
+        ensures { self.new.held ≡ self.old.held ++ Some (record { copies = copies; frame = frame.entry }) ∷ [] }
     {
         let number = self.keys.len();
         let key = self.slots.insert_reserved(Slot {
@@ -124,7 +124,7 @@ impl<A: Allocator + Copy> Store<A> {
         ensures room { self.new.room ≡ self.old.room }
     {
         let key = self.keys[number];
-        let slot = self.slots.get_mut(key).unwrap();
+        let slot = &mut self.slots[key];
         slot.copies -= 1;
         if slot.copies == 0 {
             empty(&mut self.slots, key);
@@ -132,7 +132,7 @@ impl<A: Allocator + Copy> Store<A> {
     }
 
     /// The frame that is held of an arrival. O(1).
-    pub fn frame(&self, number: usize) -> &Record<A>
+    pub fn frame(&self, number: usize) -> &Record<'a, A>
         requires { is_held self.now.held number ≡ true }
         ensures { frame_at self.now.held number ≡ Some result.now }
     {

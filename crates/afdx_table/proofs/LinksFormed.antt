@@ -13,9 +13,9 @@ use Rattle.afdx_table.specs.declared.rows.PortRow.{PortRow}
 use Rattle.afdx_table.specs.Link.{Link}
 use Rattle.afdx_table.specs.Refusal.{or_refuse}
 use Rattle.afdx_table.specs.Names.{bag_of, priority_of}
-use Rattle.afdx_table.specs.Fields.{known_at, number_at, numbers_at, text_at, bounded_at}
+use Rattle.afdx_table.specs.Fields.{known_at, number_at, numbers_at, text_at, bounded_at, optional_text_at}
 use Rattle.afdx_table.specs.Ports.{has_port}
-use Rattle.afdx_table.specs.Links.{has_link, targets, link_keys, row_at, fitting, link_at, links_from}
+use Rattle.afdx_table.specs.Links.{has_link, targets, link_keys, police_from, row_at, fitting, link_at, links_from}
 use Rattle.afdx_table.specs.WellFormed.{AreTargets, IsLink}
 use Rattle.afdx_table.proofs.Steps.{steps, ok_inside}
 use Rattle.afdx_table.proofs.PortsFormed.{bounded_at-within}
@@ -100,10 +100,13 @@ pub record IsRow (l : Link) : Type 0 where
   pub size_least : 64 ≤ l.max_size
   pub size_most : l.max_size ≤ 1518
 
-pub row_at-formed : (at : At) (ms : Members) (row : Link) → row_at at ms ≡ Ok row → IsRow row
+in_nanos : (us : ℕ) → us ≤ 10000 → us * 1000 ≤ 10000000
+in_nanos us h = omega arith
+
+pub row_at-formed : (version : ℕ) (at : At) (ms : Members) (row : Link) → row_at version at ms ≡ Ok row → IsRow row
 unfolding row_at
-row_at-formed at ms row h =
-    let s1 = steps (known_at at link_keys ms) _ row h in
+row_at-formed version at ms row h =
+    let s1 = steps (known_at at (link_keys version) ms) _ row h in
     let s2 = steps (bounded_at at key.Id 0 65535 ms) _ row s1.rest in
     let s3 = steps (bounded_at at key.From 1 24 ms) _ row s2.rest in
     let s4 = steps (numbers_at at key.To 1 24 ms) _ row s3.rest in
@@ -113,12 +116,14 @@ row_at-formed at ms row h =
     let s8 = steps (bounded_at at key.MaxSize 64 1518 ms) _ row s7.rest in
     let s9 = steps (text_at at key.Priority ms) _ row s8.rest in
     let s10 = steps (or_refuse (Range at key.Priority) (priority_of s9.value)) _ row s9.rest in
-    let new : Link = record { id = s2.value; from = s3.value; to = s4.value; bag = s6.value; jitter = s7.value * 1000; max_size = s8.value; priority = s10.value } in
-    let same : new ≡ row = ok_inside new row s10.rest in
+    let s11 = steps (optional_text_at at key.Police ms) _ row s10.rest in
+    let s12 = steps (police_from at s11.value) _ row s11.rest in
+    let new : Link = record { id = s2.value; from = s3.value; to = s4.value; bag = s6.value; jitter = s7.value * 1000; max_size = s8.value; priority = s10.value; police = s12.value } in
+    let same : new ≡ row = ok_inside new row s12.rest in
     let id = bounded_at-within at key.Id 0 65535 ms s2.value s2.first in
     let jitter = bounded_at-within at key.Jitter 0 10000 ms s7.value s7.first in
     let size = bounded_at-within at key.MaxSize 64 1518 ms s8.value s8.first in
-    let good : IsRow new = record { id_most = id.1; jitter_most = omega arith; size_least = size.0; size_most = size.1 } in
+    let good : IsRow new = record { id_most = id.1; jitter_most = in_nanos s7.value jitter.1; size_least = size.0; size_most = size.1 } in
     subst IsRow {x = new} same good
 
 -- ---- a link beside the others
@@ -194,14 +199,14 @@ are_links-push ports links l good new = record {
   distinct = rw (ids-push links l) (distinct-push (map (λ k. k.id) links) l.id good.distinct (new-from_links l.id links new.is_new));
 }
 
-pub links_from-formed : (ports : List PortRow) (n : ℕ) (before : List Link) (tables : List Members) (links : List Link) → AreLinks ports before → links_from ports n before tables ≡ Ok links → AreLinks ports links × (length links ≡ length before + length tables)
+pub links_from-formed : (version : ℕ) (ports : List PortRow) (n : ℕ) (before : List Link) (tables : List Members) (links : List Link) → AreLinks ports before → links_from version ports n before tables ≡ Ok links → AreLinks ports links × (length links ≡ length before + length tables)
 unfolding links_from link_at
-links_from-formed ports n before [] links good h =
+links_from-formed version ports n before [] links good h =
     let same : before ≡ links = cc in
     (subst (AreLinks ports) same good, omega (arith, ap length same))
-links_from-formed ports n before (ms ∷ rest) links good h =
-    let s = steps (link_at (place.Link (n + 1)) ports before ms) _ links h in
-    let t = steps (row_at (place.Link (n + 1)) ms) (fitting (place.Link (n + 1)) ports before) s.value s.first in
-    let new = fitting-formed (place.Link (n + 1)) ports before t.value s.value (row_at-formed (place.Link (n + 1)) ms t.value t.first) t.rest in
-    let all = links_from-formed ports (n + 1) (before ++ s.value ∷ []) rest links (are_links-push ports before s.value good new) s.rest in
+links_from-formed version ports n before (ms ∷ rest) links good h =
+    let s = steps (link_at version (place.Link (n + 1)) ports before ms) _ links h in
+    let t = steps (row_at version (place.Link (n + 1)) ms) (fitting (place.Link (n + 1)) ports before) s.value s.first in
+    let new = fitting-formed (place.Link (n + 1)) ports before t.value s.value (row_at-formed version (place.Link (n + 1)) ms t.value t.first) t.rest in
+    let all = links_from-formed version ports (n + 1) (before ++ s.value ∷ []) rest links (are_links-push ports before s.value good new) s.rest in
     (all.0, omega (arith, all.1, length-append before (s.value ∷ [])))

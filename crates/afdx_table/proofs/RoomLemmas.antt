@@ -46,7 +46,7 @@ top_wants ms top h some =
     let s7 = steps (tables_at place.Top key.Link ms) _ top s6.rest in
     let s8 = steps (at_most 24 key.Port s6.value) _ top s7.rest in
     let s9 = steps (at_most 4096 key.Link s7.value) _ top s8.rest in
-    let new : Top = record { constant = s5.value; ports = s6.value; links = s7.value } in
+    let new : Top = record { version = s3.value; constant = s5.value; ports = s6.value; links = s7.value } in
     let same : new ≡ top = ok_inside new top s9.rest in
     let rows : (t : Top) → new ≡ t → (0 < length t.ports) ⊎ (0 < length t.links) → HasRows ms = λ t e has.
     has_rows ms s6.value s7.value (tables_at-says place.Top key.Port ms s6.value s6.first) (tables_at-says place.Top key.Link ms s7.value s7.first)

@@ -12,14 +12,18 @@ use Rattle.afdx_units.specs.declared.line.Speed.{Speed}
 use Rattle.afdx_units.specs.declared.line.Speed.TheVariants.{Ten, Hundred}
 use Rattle.afdx_units.specs.declared.line.Priority.{Priority}
 use Rattle.afdx_units.specs.declared.line.Priority.TheVariants.{High, Low}
+use Rattle.afdx_units.specs.declared.police.Police.{Police}
+use Rattle.afdx_units.specs.declared.police.Police.TheVariants.{Byte, Frame}
 use Rattle.afdx_table.specs.declared.fault.At.{At}
 use Rattle.afdx_table.specs.declared.fault.Key.{Key}
+use Rattle.afdx_table.specs.declared.fault.Key.TheVariants as key
 use Rattle.afdx_table.specs.declared.fault.TableFault.{TableFault}
-use Rattle.afdx_table.specs.declared.fault.TableFault.TheVariants.{MissingKey, Kind, Range}
-use Rattle.afdx_table.specs.Names.{key_text, speed_of, bags, bag_of, priority_of}
-use Rattle.afdx_table.specs.Refusal.{or_refuse}
+use Rattle.afdx_table.specs.declared.fault.TableFault.TheVariants.{MissingKey, Kind, Range, UnknownKey}
+use Rattle.afdx_table.specs.Names.{key_text, speed_of, bags, bag_of, priority_of, police_of}
+use Rattle.afdx_table.specs.Refusal.{◌>>=◌, or_refuse}
 use Rattle.afdx_table.specs.Fields.{natural_of, are_known, known_at, all_of, value_at, number_in, text_in, number_at, bounded, bounded_at, text_at, if_present, optional_number_at, optional_text_at, tables_in, tables_at, as_natural, bounded_natural, all_bounded, numbers_at}
-use Rattle.afdx_table.specs.Holds.{Has, HasNone, HasNumber, HasText, number_items, HasNumbers, table_items, HasTables, mbit_of, priority_text}
+use Rattle.afdx_table.specs.Links.{police_from}
+use Rattle.afdx_table.specs.Holds.{Has, HasNone, HasNumber, HasText, number_items, HasNumbers, table_items, HasTables, mbit_of, priority_text, police_text, HasPolice}
 use Rattle.afdx_table.proofs.Steps.{steps, ok_inside}
 
 -- ---- values of one kind
@@ -278,3 +282,23 @@ priority-says text priority h = elim (cases_Bool (bytes_eq text (codes "high")))
     | inr not_low ↦ let g = rw (not_high, not_low) at h in absurd cc
   ]
 ]
+
+police_named : (text : List ℕ) (police : Police) → police_of text ≡ Some police → text ≡ police_text police
+police_named text police h = elim (cases_Bool (bytes_eq text (codes "byte"))) [
+  | inl by_bytes ↦
+      let g : Some Byte ≡ Some police = rw by_bytes at h in
+      let same : Byte ≡ police = cc in
+      (bytes_eq-Decides text (codes "byte")).0 by_bytes ∙ ap police_text same
+  | inr other ↦ elim (cases_Bool (bytes_eq text (codes "frame"))) [
+    | inl by_frames ↦
+        let g : Some Frame ≡ Some police = rw (other, by_frames) at h in
+        let same : Frame ≡ police = cc in
+        (bytes_eq-Decides text (codes "frame")).0 by_frames ∙ ap police_text same
+    | inr neither ↦ let g = rw (other, neither) at h in absurd cc
+  ]
+]
+
+pub police-says : (at : At) (ms : Members) (stated : Option (List ℕ)) (police : Police) → optional_text_at at key.Police ms ≡ Ok stated → police_from at stated ≡ Ok police → HasPolice ms police
+police-says at ms None police h p = inl (no_text at key.Police ms h, sym (ok_inside Byte police p))
+police-says at ms (Some text) police h p =
+    inr (optional_text_at-says at key.Police ms text h ∙ ap (λ t. Some (string t)) (police_named text police (there (Range at key.Police) (police_of text) police p)))

@@ -77,7 +77,7 @@ top_at-formed ms t h =
     let s7 = steps (tables_at place.Top key.Link ms) _ t s6.rest in
     let s8 = steps (at_most 24 key.Port s6.value) _ t s7.rest in
     let s9 = steps (at_most 4096 key.Link s7.value) _ t s8.rest in
-    let new : Top = record { constant = s5.value; ports = s6.value; links = s7.value } in
+    let new : Top = record { version = s3.value; constant = s5.value; ports = s6.value; links = s7.value } in
     let good : IsTop new = record {
       constant = constant_from-formed s4.value s5.value s5.first;
       few_ports = at_most-formed 24 key.Port s6.value s8.value s8.first;
@@ -94,11 +94,11 @@ no_links : (ports : List PortRow) → AreLinks ports []
 unfolding IsDistinct
 no_links ports = record { limits = tt; distinct = tt }
 
-pub parts-formed : (ms : Members) (t : Top) (ports : List PortRow) (links : List Link) → top_at ms ≡ Ok t → ports_from 0 [] t.ports ≡ Ok ports → links_from ports 0 [] t.links ≡ Ok links → IsWellFormed (record { constant = t.constant; ports = ports; links = links })
+pub parts-formed : (ms : Members) (t : Top) (ports : List PortRow) (links : List Link) → top_at ms ≡ Ok t → ports_from 0 [] t.ports ≡ Ok ports → links_from t.version ports 0 [] t.links ≡ Ok links → IsWellFormed (record { constant = t.constant; ports = ports; links = links })
 parts-formed ms t ports links h p l =
     let top = top_at-formed ms t h in
     let all_ports = ports_from-formed 0 [] t.ports ports no_ports p in
-    let all_links = links_from-formed ports 0 [] t.links links (no_links ports) l in
+    let all_links = links_from-formed t.version ports 0 [] t.links links (no_links ports) l in
     record {
       constant_length = top.constant.constant_length;
       constant_first = top.constant.constant_first;
@@ -115,7 +115,7 @@ unfolding content_of
 content_of-formed ms c h =
     let s1 = steps (top_at ms) _ c h in
     let s2 = steps (ports_from 0 [] s1.value.ports) _ c s1.rest in
-    let s3 = steps (links_from s2.value 0 [] s1.value.links) _ c s2.rest in
+    let s3 = steps (links_from s1.value.version s2.value 0 [] s1.value.links) _ c s2.rest in
     let new : Content = record { constant = s1.value.constant; ports = s2.value; links = s3.value } in
     subst IsWellFormed {x = new} (ok_inside new c s3.rest) (parts-formed ms s1.value s2.value s3.value s1.first s2.first s3.first)
 

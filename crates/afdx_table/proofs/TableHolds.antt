@@ -1,9 +1,9 @@
 -- A table holds what its text says.
-use Rattle.std.proofs.Common.{◌≡◌, ℕ, pos, ◌+◌, ◌*◌, ◌%◌, nat_eq, nat_lt, true, Bool, cond, List, [], ◌∷◌, ◌++◌, Option, Some, None, Result, Ok, Err, refl, sym, ◌∙◌, ap, subst, inl, inr, arith, append_assoc}
+use Rattle.std.proofs.Common.{◌≡◌, ◌⊎◌, ℕ, pos, ◌≤◌, ◌+◌, ◌*◌, ◌%◌, nat_eq, nat_lt, true, Bool, cond, List, [], ◌∷◌, ◌++◌, Option, Some, None, Result, Ok, Err, refl, sym, ◌∙◌, ap, subst, inl, inr, arith, append_assoc}
 use Rattle.std.specs.List.{AllZip, count_by}
 use Rattle.std.proofs.lemmas.List.{append-nil}
 use Rattle.std.proofs.lemmas.List.Sums.{sum_by-cons}
-use Rattle.std.proofs.lemmas.Bool.{cases_Bool}
+use Rattle.std.proofs.lemmas.Bool.{cases_Bool, cases_lt}
 use Rattle.std.proofs.lemmas.Bool.Decides.{nat_tests}
 use Rattle.hex.specs.Hex.{decode_sized}
 use Rattle.hex.specs.declared.error.FromHexError.{FromHexError}
@@ -20,11 +20,11 @@ use Rattle.afdx_table.specs.Names.{speed_of, bag_of, priority_of}
 use Rattle.afdx_table.specs.Fields.{are_known, known_at, number_at, numbers_at, text_at, bounded, bounded_at, optional_number_at, optional_text_at, tables_at}
 use Rattle.afdx_table.specs.Top.{Top, top_keys, version_from, group_address, constant_from, at_most, top_at}
 use Rattle.afdx_table.specs.Ports.{with_port, port_keys, port_at, ports_from}
-use Rattle.afdx_table.specs.Links.{link_keys, row_at, fitting, link_at, links_from}
+use Rattle.afdx_table.specs.Links.{link_keys, police_from, row_at, fitting, link_at, links_from}
 use Rattle.afdx_table.specs.Text.{content_of, tree_of, table_of}
 use Rattle.afdx_table.specs.Holds.{IsPortOf, IsLinkOf, HasVersion, HasConstant, HasTables, Holds, TablesHoldTheirTexts}
 use Rattle.afdx_table.proofs.Steps.{steps, ok_inside}
-use Rattle.afdx_table.proofs.Says.{there, known_at-says, number_at-says, bounded_at-says, text_at-says, optional_number_at-says, no_number, optional_text_at-says, no_text, tables_at-says, numbers_at-says, speed-says, bag-says, priority-says}
+use Rattle.afdx_table.proofs.Says.{there, known_at-says, number_at-says, bounded_at-says, text_at-says, optional_number_at-says, no_number, optional_text_at-says, no_text, tables_at-says, numbers_at-says, speed-says, bag-says, priority-says, police-says}
 use Rattle.afdx_table.proofs.PortsFormed.{fresh_port}
 use Rattle.afdx_table.proofs.LinksFormed.{fitting-fits}
 
@@ -86,10 +86,10 @@ ports_from-rows n before (ms ∷ rest) ports h =
 
 -- ---- links
 
-row_at-says : (at : At) (ms : Members) (row : Link) → row_at at ms ≡ Ok row → IsLinkOf ms row
+row_at-says : (version : ℕ) (at : At) (ms : Members) (row : Link) → row_at version at ms ≡ Ok row → IsLinkOf version ms row
 unfolding row_at
-row_at-says at ms row h =
-    let s1 = steps (known_at at link_keys ms) _ row h in
+row_at-says version at ms row h =
+    let s1 = steps (known_at at (link_keys version) ms) _ row h in
     let s2 = steps (bounded_at at key.Id 0 65535 ms) _ row s1.rest in
     let s3 = steps (bounded_at at key.From 1 24 ms) _ row s2.rest in
     let s4 = steps (numbers_at at key.To 1 24 ms) _ row s3.rest in
@@ -99,8 +99,10 @@ row_at-says at ms row h =
     let s8 = steps (bounded_at at key.MaxSize 64 1518 ms) _ row s7.rest in
     let s9 = steps (text_at at key.Priority ms) _ row s8.rest in
     let s10 = steps (or_refuse (Range at key.Priority) (priority_of s9.value)) _ row s9.rest in
-    let new : Link = record { id = s2.value; from = s3.value; to = s4.value; bag = s6.value; jitter = s7.value * 1000; max_size = s8.value; priority = s10.value } in
-    let says : IsLinkOf ms new = record {
+    let s11 = steps (optional_text_at at key.Police ms) _ row s10.rest in
+    let s12 = steps (police_from at s11.value) _ row s11.rest in
+    let new : Link = record { id = s2.value; from = s3.value; to = s4.value; bag = s6.value; jitter = s7.value * 1000; max_size = s8.value; priority = s10.value; police = s12.value } in
+    let says : IsLinkOf version ms new = record {
       id = bounded_at-says at key.Id 0 65535 ms s2.value s2.first;
       from = bounded_at-says at key.From 1 24 ms s3.value s3.first;
       to = numbers_at-says at key.To 1 24 ms s4.value s4.first;
@@ -110,43 +112,54 @@ row_at-says at ms row h =
       priority =
           text_at-says at key.Priority ms s9.value s9.first
           ∙ ap (λ text. Some (string text)) (priority-says s9.value s10.value (there (Range at key.Priority) (priority_of s9.value) s10.value s10.first));
-      no_other = known_at-says at link_keys ms s1.value s1.first;
+      police = police-says at ms s11.value s12.value s11.first s12.first;
+      no_other = known_at-says at (link_keys version) ms s1.value s1.first;
     } in
-    subst (IsLinkOf ms) {x = new} (ok_inside new row s10.rest) says
+    subst (IsLinkOf version ms) {x = new} (ok_inside new row s12.rest) says
 
 -- the links are those before and the rows of the tables
-record AreLinksOf (before : List Link) (tables : List Members) (links : List Link) : Type 0 where
+record AreLinksOf (version : ℕ) (before : List Link) (tables : List Members) (links : List Link) : Type 0 where
   rows : List Link
-  rows_of : AllZip IsLinkOf tables rows
+  rows_of : AllZip (IsLinkOf version) tables rows
   all : before ++ rows ≡ links
 
-links_from-rows : (ports : List PortRow) (n : ℕ) (before : List Link) (tables : List Members) (links : List Link) → links_from ports n before tables ≡ Ok links → AreLinksOf before tables links
+links_from-rows : (version : ℕ) (ports : List PortRow) (n : ℕ) (before : List Link) (tables : List Members) (links : List Link) → links_from version ports n before tables ≡ Ok links → AreLinksOf version before tables links
 unfolding links_from link_at
-links_from-rows ports n before [] links h =
+links_from-rows version ports n before [] links h =
     let same : before ≡ links = ok_inside before links h in
     record { rows = []; rows_of = tt; all = append-nil before ∙ same }
-links_from-rows ports n before (ms ∷ rest) links h =
+links_from-rows version ports n before (ms ∷ rest) links h =
     let at : At = place.Link (n + 1) in
-    let s = steps (link_at at ports before ms) _ links h in
-    let t = steps (row_at at ms) (fitting at ports before) s.value s.first in
+    let s = steps (link_at version at ports before ms) _ links h in
+    let t = steps (row_at version at ms) (fitting at ports before) s.value s.first in
     let same = (fitting-fits at ports before t.value s.value t.rest).same in
-    let more = links_from-rows ports (n + 1) (before ++ s.value ∷ []) rest links s.rest in
+    let more = links_from-rows version ports (n + 1) (before ++ s.value ∷ []) rest links s.rest in
     let all = more.all in
     record {
       rows = s.value ∷ more.rows;
-      rows_of = (subst (IsLinkOf ms) same (row_at-says at ms t.value t.first), more.rows_of);
+      rows_of = (subst (IsLinkOf version ms) same (row_at-says version at ms t.value t.first), more.rows_of);
       all = rw append_assoc at all;
     }
 
 -- ---- the top
 
-only_one : (m n : ℕ) → bounded place.Top key.Version 1 1 m ≡ Ok n → m ≡ 1
+one_or_two : (m n : ℕ) → bounded place.Top key.Version 1 2 m ≡ Ok n → (m ≡ n) × (1 ≤ n) × (n ≤ 2)
 unfolding bounded
-only_one m n v = grind (arith, nat_tests)
+one_or_two m n v = grind (arith, nat_tests)
 
-version-says : (ms : Members) (stated : Option ℕ) (n : ℕ) → optional_number_at place.Top key.Version ms ≡ Ok stated → version_from stated ≡ Ok n → HasVersion ms
-version-says ms None n h v = inl (no_number place.Top key.Version ms h)
-version-says ms (Some m) n h v = inr (optional_number_at-says place.Top key.Version ms m h ∙ ap stands (only_one m n v))
+either : (n : ℕ) → 1 ≤ n → n ≤ 2 → (n ≡ 1) ⊎ (n ≡ 2)
+either n least most = elim (cases_lt n 2) [
+  | inl one ↦ inl (omega (arith, one, least))
+  | inr two ↦ inr (omega (arith, two, most))
+]
+
+version-says : (ms : Members) (stated : Option ℕ) (n : ℕ) → optional_number_at place.Top key.Version ms ≡ Ok stated → version_from stated ≡ Ok n → HasVersion ms n
+version-says ms None n h v =
+    let first : n ≡ 1 = sym (ok_inside 1 n v) in
+    (inl first, inl (no_number place.Top key.Version ms h, first))
+version-says ms (Some m) n h v =
+    let is = one_or_two m n v in
+    (either n is.1 is.2, inr (optional_number_at-says place.Top key.Version ms m h ∙ ap stands is.0))
 
 group-says : (r : Result (List ℕ) FromHexError) (bytes : List ℕ) → group_address r ≡ Ok bytes → r ≡ Ok bytes
 group-says (Err e) bytes h = absurd cc
@@ -161,7 +174,7 @@ constant-says ms None bytes h c = inl (no_text place.Top key.Constant ms h, sym 
 constant-says ms (Some text) bytes h c = inr (text, optional_text_at-says place.Top key.Constant ms text h, group-says (decode_sized text 4) bytes c)
 
 record Tops (ms : Members) (top : Top) : Type 0 where
-  version : HasVersion ms
+  version : HasVersion ms top.version
   constant : HasConstant ms top.constant
   ports : HasTables ms key.Port top.ports
   links : HasTables ms key.Link top.links
@@ -179,7 +192,7 @@ top_at-says ms top h =
     let s7 = steps (tables_at place.Top key.Link ms) _ top s6.rest in
     let s8 = steps (at_most 24 key.Port s6.value) _ top s7.rest in
     let s9 = steps (at_most 4096 key.Link s7.value) _ top s8.rest in
-    let new : Top = record { constant = s5.value; ports = s6.value; links = s7.value } in
+    let new : Top = record { version = s3.value; constant = s5.value; ports = s6.value; links = s7.value } in
     let says : Tops ms new = record {
       version = version-says ms s2.value s3.value s2.first s3.first;
       constant = constant-says ms s4.value s5.value s4.first s5.first;
@@ -196,13 +209,14 @@ unfolding content_of
 content_of-holds ms c h =
     let s1 = steps (top_at ms) _ c h in
     let s2 = steps (ports_from 0 [] s1.value.ports) _ c s1.rest in
-    let s3 = steps (links_from s2.value 0 [] s1.value.links) _ c s2.rest in
+    let s3 = steps (links_from s1.value.version s2.value 0 [] s1.value.links) _ c s2.rest in
     let new : Content = record { constant = s1.value.constant; ports = s2.value; links = s3.value } in
     let top = top_at-says ms s1.value s1.first in
     let ports = ports_from-rows 0 [] s1.value.ports s2.value s2.first in
-    let links = links_from-rows s2.value 0 [] s1.value.links s3.value s3.first in
+    let links = links_from-rows s1.value.version s2.value 0 [] s1.value.links s3.value s3.first in
     let good : Holds ms new = record {
-      version = top.version;
+      version = s1.value.version;
+      has_version = top.version;
       constant = top.constant;
       port_tables = s1.value.ports;
       has_ports = top.ports;
@@ -211,7 +225,7 @@ content_of-holds ms c h =
       ports = λ test. omega (arith, ports.all test);
       link_tables = s1.value.links;
       has_links = top.links;
-      links = subst (AllZip IsLinkOf s1.value.links) links.all links.rows_of;
+      links = subst (AllZip (IsLinkOf s1.value.version) s1.value.links) links.all links.rows_of;
       no_other = top.no_other;
     } in
     subst (Holds ms) {x = new} (ok_inside new c s3.rest) good

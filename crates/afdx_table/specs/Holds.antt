@@ -8,6 +8,8 @@ use Rattle.afdx_units.specs.declared.line.Speed.{Speed}
 use Rattle.afdx_units.specs.declared.line.Speed.TheVariants.{Ten, Hundred}
 use Rattle.afdx_units.specs.declared.line.Priority.{Priority}
 use Rattle.afdx_units.specs.declared.line.Priority.TheVariants.{High, Low}
+use Rattle.afdx_units.specs.declared.police.Police.{Police}
+use Rattle.afdx_units.specs.declared.police.Police.TheVariants.{Byte, Frame}
 use Rattle.afdx_table.specs.declared.fault.Key.{Key}
 use Rattle.afdx_table.specs.declared.fault.Key.TheVariants as key
 use Rattle.afdx_table.specs.declared.rows.PortRow.{PortRow}
@@ -71,8 +73,17 @@ pub record IsPortOf (ms : Members) (p : PortRow) : Type 0 where
   pub max_delay : (us : ℕ) × HasNumber ms key.MaxDelay us × (p.max_delay ≡ us * 1000)
   pub no_other : are_known port_keys ms ≡ true
 
+-- profile: the names of the kinds of policing
+abbrev pub police_text : Police → List ℕ
+police_text Byte = codes "byte"
+police_text Frame = codes "frame"
+
+-- the kind of policing is stated, or by bytes
+abbrev pub HasPolice : Members → Police → Type 0
+HasPolice ms police = (HasNone ms key.Police × (police ≡ Byte)) ⊎ HasText ms key.Police (police_text police)
+
 -- the link that these members tell, whose jitter is written in microseconds and kept in nanoseconds
-pub record IsLinkOf (ms : Members) (l : Link) : Type 0 where
+pub record IsLinkOf (version : ℕ) (ms : Members) (l : Link) : Type 0 where
   pub id : HasNumber ms key.Id l.id
   pub from : HasNumber ms key.From l.from
   pub to : HasNumbers ms key.To l.to
@@ -80,13 +91,15 @@ pub record IsLinkOf (ms : Members) (l : Link) : Type 0 where
   pub jitter : (us : ℕ) × HasNumber ms key.Jitter us × (l.jitter ≡ us * 1000)
   pub max_size : HasNumber ms key.MaxSize l.max_size
   pub priority : HasText ms key.Priority (priority_text l.priority)
-  pub no_other : are_known link_keys ms ≡ true
+  pub police : HasPolice ms l.police
+  -- a key of policing is there from the second version on
+  pub no_other : are_known (link_keys version) ms ≡ true
 
 -- ---- the whole
 
--- the version is the first, stated or not
-abbrev pub HasVersion : Members → Type 0
-HasVersion ms = HasNone ms key.Version ⊎ HasNumber ms key.Version 1
+-- the version is the first or the second, and the first where it is not stated
+abbrev pub HasVersion : Members → ℕ → Type 0
+HasVersion ms version = ((version ≡ 1) ⊎ (version ≡ 2)) × ((HasNone ms key.Version × (version ≡ 1)) ⊎ HasNumber ms key.Version version)
 
 -- the constant field is stated as eight hexadecimal digits, or 03 00 00 00
 abbrev pub HasConstant : Members → List ℕ → Type 0
@@ -99,7 +112,8 @@ abbrev pub AreSamePorts : List PortRow → List PortRow → Type 0
 AreSamePorts ps qs = (test : PortRow → Bool) → count_by test ps ≡ count_by test qs
 
 pub record Holds (ms : Members) (c : Content) : Type 0 where
-  pub version : HasVersion ms
+  pub version : ℕ
+  pub has_version : HasVersion ms version
   pub constant : HasConstant ms c.constant
   -- one port for each TOML table of `port`: the ports in file order
   pub port_tables : List Members
@@ -110,7 +124,7 @@ pub record Holds (ms : Members) (c : Content) : Type 0 where
   -- one link for each TOML table of `link`, in file order
   pub link_tables : List Members
   pub has_links : HasTables ms key.Link link_tables
-  pub links : AllZip IsLinkOf link_tables c.links
+  pub links : AllZip (IsLinkOf version) link_tables c.links
   pub no_other : are_known top_keys ms ≡ true
 
 -- every table of a text holds what the text says, and nothing else

@@ -3,6 +3,7 @@ use Rattle.std.specs.Prelude.{ℕ, ◌==◌, Bool, List}
 use Rattle.std.specs.List.{list_any}
 use Rattle.afdx_units.specs.declared.bag.Bag.{Bag}
 use Rattle.afdx_units.specs.declared.line.Priority.{Priority}
+use Rattle.afdx_units.specs.declared.police.Police.{Police}
 
 pub record Link : Type 0 where
   pub id : ℕ
@@ -16,6 +17,7 @@ pub record Link : Type 0 where
   -- in bytes, the frame check sequence counted and the line overhead not
   pub max_size : ℕ
   pub priority : Priority
+  pub police : Police
 
 -- whether a list of port numbers names a port
 abbrev pub names_port : ℕ → List ℕ → Bool

@@ -9,6 +9,8 @@ use Rattle.afdx_units.specs.declared.line.Speed.{Speed}
 use Rattle.afdx_units.specs.declared.line.Speed.TheVariants.{Ten, Hundred}
 use Rattle.afdx_units.specs.declared.line.Priority.{Priority}
 use Rattle.afdx_units.specs.declared.line.Priority.TheVariants.{High, Low}
+use Rattle.afdx_units.specs.declared.police.Police.{Police}
+use Rattle.afdx_units.specs.declared.police.Police.TheVariants.{Byte, Frame}
 use Rattle.afdx_table.specs.declared.fault.At.{At}
 use Rattle.afdx_table.specs.declared.fault.At.TheVariants as place
 use Rattle.afdx_table.specs.declared.fault.Key.{Key}
@@ -30,6 +32,7 @@ key_text key.Bag = codes "bag_ms"
 key_text key.Jitter = codes "jitter_us"
 key_text key.MaxSize = codes "max_size"
 key_text key.Priority = codes "priority"
+key_text key.Police = codes "police"
 
 -- profile: a place of the table in the line of a fault
 abbrev pub place_text : At → List ℕ
@@ -51,3 +54,7 @@ bag_of ms = find (λ bag. bag_ms bag == ms) bags
 -- ARINC 664 Part 7 has two priorities; profile: their names
 abbrev pub priority_of : List ℕ → Option Priority
 priority_of text = if bytes_eq text (codes "high") then Some High else if bytes_eq text (codes "low") then Some Low else None
+
+-- ARINC 664 Part 7 has two kinds of policing; profile: their names
+abbrev pub police_of : List ℕ → Option Police
+police_of text = if bytes_eq text (codes "byte") then Some Byte else if bytes_eq text (codes "frame") then Some Frame else None

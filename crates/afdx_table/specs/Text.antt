@@ -20,7 +20,7 @@ unfoldable pub content_of : Members → Result Content TableFault
 content_of ms = do
   top ← top_at ms
   ports ← ports_from 0 [] top.ports
-  links ← links_from ports 0 [] top.links
+  links ← links_from top.version ports 0 [] top.links
   Ok (record { constant = top.constant; ports = ports; links = links })
 
 -- the table of a text's bytes

@@ -14,8 +14,9 @@ use Rattle.afdx_table.specs.Fields.{known_at, bounded, tables_at, optional_numbe
 abbrev pub top_keys : List Key
 top_keys = key.Version ∷ key.Constant ∷ key.Port ∷ key.Link ∷ []
 
--- what the top says: the constant field, and the TOML tables of the ports and of the links
+-- what the top says: the version, the constant field, and the TOML tables of the ports and of the links
 pub record Top : Type 0 where
+  pub version : ℕ
   pub constant : List ℕ
   pub ports : List Members
   pub links : List Members
@@ -23,7 +24,7 @@ pub record Top : Type 0 where
 -- a table that states no version is of the first
 abbrev pub version_from : Option ℕ → Result ℕ TableFault
 version_from None = Ok 1
-version_from (Some n) = bounded place.Top key.Version 1 1 n
+version_from (Some n) = bounded place.Top key.Version 1 2 n
 
 -- ARINC 664 Part 7: the first byte of the constant field has its two lowest bits set, since the address is a group's and locally administered
 abbrev pub group_address : Result (List ℕ) FromHexError → Result (List ℕ) TableFault
@@ -52,4 +53,4 @@ top_at ms = do
   links ← tables_at place.Top key.Link ms
   few_ports ← at_most 24 key.Port ports
   few_links ← at_most 4096 key.Link links
-  Ok (record { constant = constant; ports = ports; links = links })
+  Ok (record { version = version; constant = constant; ports = ports; links = links })

@@ -35,6 +35,7 @@ pub enum Key {
     Jitter,
     MaxSize,
     Priority,
+    Police,
 }
 
 /// Why a table is refused; each is printed as its name.
@@ -104,6 +105,7 @@ impl Key {
             Key::Jitter => "jitter_us",
             Key::MaxSize => "max_size",
             Key::Priority => "priority",
+            Key::Police => "police",
         }
     }
 }

@@ -1,5 +1,8 @@
 //! The limits of a table (profile, save the numbers of links).
 
+/// The versions of the table's format that are read are 1 to this.
+pub(crate) const MAX_VERSION: u64 = 2;
+
 pub(crate) const MAX_PORTS: usize = 24;
 
 /// Ports are numbered from 1 to this.

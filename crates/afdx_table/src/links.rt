@@ -1,17 +1,19 @@
 //! The links of a table, in file order.
 
-ghost use Rattle.std.specs.Prelude.{◌≡◌, ◌<◌, false, [], length, map, Err, IfOk};
+ghost use Rattle.std.specs.Prelude.{◌≡◌, ◌<◌, false, [], length, map, option_map, Err, IfOk};
 ghost use Rattle.toml.specs.View.{table_view};
 ghost use Rattle.afdx_table.specs.Refusal.{Gives};
 ghost use Rattle.afdx_table.specs.declared.fault.TableFault.TheVariants.{Memory};
-ghost use Rattle.afdx_table.specs.Links.{has_link, targets, row_at, fitting, link_at, links_from};
+ghost use Rattle.afdx_table.specs.Fields.{known_at};
+ghost use Rattle.afdx_table.specs.Links.{has_link, targets, link_keys, police_from, row_at, fitting, link_at, links_from};
 
 use crate::fault::{At, Key, TableFault};
 use crate::fields::Fields;
 use crate::limits::{MAX_JITTER, MAX_LINK_ID, MAX_PORT_ID, MAX_SIZE, MIN_SIZE};
 use crate::link_map::Links;
 use crate::ports::has_port;
-use crate::rows::{LinkRow, PortRow, bag_from_ms, nanos, priority_from_text};
+use crate::rows::{LinkRow, PortRow, bag_from_ms, nanos, police_from_text, priority_from_text};
+use afdx_units::Police;
 use std::alloc::Global;
 use toml::Table;
 
@@ -34,20 +36,50 @@ fn check_targets(at: At, ports: &[PortRow], from: u8, to: &[u8]) -> Result<(), T
     Ok(())
 }
 
+/// Refuses a key that no link has in this version.
+fn known_keys(version: u64, fields: &Fields<'_>) -> Result<(), TableFault>
+    ensures { result ≡ known_at fields.now.at (link_keys version) (table_view fields.now.table.now) }
+{
+    if version == 1 {
+        fields.known(&[
+            Key::Id,
+            Key::From,
+            Key::To,
+            Key::Bag,
+            Key::Jitter,
+            Key::MaxSize,
+            Key::Priority,
+        ])
+    } else {
+        fields.known(&[
+            Key::Id,
+            Key::From,
+            Key::To,
+            Key::Bag,
+            Key::Jitter,
+            Key::MaxSize,
+            Key::Priority,
+            Key::Police,
+        ])
+    }
+}
+
+/// The kind of policing that is stated; where it is missing, by bytes.
+fn police_from(at: At, stated: Option<&str>) -> Result<Police, TableFault>
+    ensures { Gives (λ p. p) result (police_from at (option_map (λ s. s.now) stated.entry)) }
+{
+    match stated {
+        Some(text) => police_from_text(text).ok_or(TableFault::Range(at, Key::Police)),
+        None => Ok(Police::Byte),
+    }
+}
+
 /// The row of a link's fields.
 #[tactic(auto, unfolding(crate::specs::Links::row_at))]
-fn read_row(alloc: Global, fields: &Fields<'_>) -> Result<LinkRow, TableFault>
-    ensures { Gives (λ r. r) result (row_at fields.now.at (table_view fields.now.table.now)) }
+fn read_row(alloc: Global, version: u64, fields: &Fields<'_>) -> Result<LinkRow, TableFault>
+    ensures { Gives (λ r. r) result (row_at version fields.now.at (table_view fields.now.table.now)) }
 {
-    fields.known(&[
-        Key::Id,
-        Key::From,
-        Key::To,
-        Key::Bag,
-        Key::Jitter,
-        Key::MaxSize,
-        Key::Priority,
-    ])?;
+    known_keys(version, fields)?;
     let id = fields.bounded(Key::Id, 0, MAX_LINK_ID)? as u16;
     let from = fields.port_id(Key::From)?;
     let to = fields.numbers(alloc, Key::To, 1, MAX_PORT_ID)?;
@@ -57,6 +89,7 @@ fn read_row(alloc: Global, fields: &Fields<'_>) -> Result<LinkRow, TableFault>
     let max_size = fields.bounded(Key::MaxSize, MIN_SIZE, MAX_SIZE)? as u32;
     let text = fields.text(Key::Priority)?;
     let priority = priority_from_text(text).ok_or(TableFault::Range(fields.at, Key::Priority))?;
+    let police = police_from(fields.at, fields.optional_text(Key::Police)?)?;
     Ok(LinkRow {
         id,
         from,
@@ -65,6 +98,7 @@ fn read_row(alloc: Global, fields: &Fields<'_>) -> Result<LinkRow, TableFault>
         jitter: nanos(jitter_us),
         max_size,
         priority,
+        police,
     })
 }
 
@@ -91,14 +125,15 @@ fn fit(at: At, ports: &[PortRow], before: &Links, row: LinkRow) -> Result<LinkRo
 #[tactic(auto, unfolding(crate::specs::Links::link_at))]
 fn read_link(
     alloc: Global,
+    version: u64,
     fields: &Fields<'_>,
     ports: &[PortRow],
     before: &Links,
 ) -> Result<LinkRow, TableFault>
     ensures fresh { IfOk result (λ r. has_link before.now r.id ≡ false) }
-    ensures row { Gives (λ r. r) result (link_at fields.now.at ports.now before.now (table_view fields.now.table.now)) }
+    ensures row { Gives (λ r. r) result (link_at version fields.now.at ports.now before.now (table_view fields.now.table.now)) }
 {
-    let row = read_row(alloc, fields)?;
+    let row = read_row(alloc, version, fields)?;
     fit(fields.at, ports, before, row)
 }
 
@@ -106,10 +141,11 @@ fn read_link(
 #[tactic(auto, unfolding(crate::specs::Links::links_from))]
 pub(crate) fn read_links(
     alloc: Global,
+    version: u64,
     ports: &[PortRow],
     tables: &[&Table],
 ) -> Result<Links, TableFault>
-    ensures links { Gives (λ v. v) result (links_from ports.now 0 [] (map (λ t. table_view t.now) tables.now)) }
+    ensures links { Gives (λ v. v) result (links_from version ports.now 0 [] (map (λ t. table_view t.now) tables.now)) }
     ensures memory { result ≡ Err Memory → 0 < length tables.now }
 {
     let mut links = Links::new(alloc);
@@ -118,7 +154,7 @@ pub(crate) fn read_links(
             at: At::Link(index + 1),
             table: *table,
         };
-        let row = read_link(alloc, &fields, ports, &links)?;
+        let row = read_link(alloc, version, &fields, ports, &links)?;
         links.push(row)?;
     }
     Ok(links)

@@ -1,10 +1,10 @@
 //! The rows of a table, and what its numbers and words name.
 
 ghost use Rattle.std.specs.Prelude.{◌≡◌, ◌≤◌, ◌*◌};
-ghost use Rattle.afdx_table.specs.Names.{speed_of, bag_of, priority_of};
+ghost use Rattle.afdx_table.specs.Names.{speed_of, bag_of, priority_of, police_of};
 
 use crate::limits::NANOS_PER_MICROSECOND;
-use afdx_units::{Bag, Priority, Speed};
+use afdx_units::{Bag, Police, Priority, Speed};
 use std::marker::Model;
 
 /// A port of the switch.
@@ -39,6 +39,8 @@ pub struct LinkRow {
     pub max_size: u32,
     /// The queue that its frames wait in.
     pub priority: Priority,
+    /// How it is policed.
+    pub police: Police,
 }
 
 impl Model for LinkRow {
@@ -54,6 +56,7 @@ impl Model for LinkRow {
       jitter = l.jitter;
       max_size = l.max_size;
       priority = l.priority;
+      police = l.police;
     } };
 }
 
@@ -91,6 +94,19 @@ pub(crate) fn priority_from_text(text: &str) -> Option<Priority>
         Some(Priority::High)
     } else if text == "low" {
         Some(Priority::Low)
+    } else {
+        None
+    }
+}
+
+/// The kind of policing of a name.
+pub(crate) fn police_from_text(text: &str) -> Option<Police>
+    ensures { result ≡ police_of text.now }
+{
+    if text == "byte" {
+        Some(Police::Byte)
+    } else if text == "frame" {
+        Some(Police::Frame)
     } else {
         None
     }

@@ -115,7 +115,7 @@ fn read_tree(alloc: Global, tree: &Tree) -> Result<Table, TableFault>
 {
     let top = read_top(alloc, tree)?;
     let ports = read_ports(alloc, &top.ports)?;
-    let links = read_links(alloc, &ports, &top.links)?;
+    let links = read_links(alloc, top.version, &ports, &top.links)?;
     Ok(Table {
         constant: top.constant,
         ports,
@@ -149,8 +149,9 @@ fn read_text(alloc: Global, bytes: &[u8]) -> Result<Tree, TableFault>
 ///    `link`, `Kind`; of `port`, then of `link`, `TooMany`.
 /// 3. At each port in array order: `UnknownKey`; of `id`, `mbit`, `buffer` and `max_delay_us`, in this order,
 ///    `MissingKey`, `Kind`, `Range`; `TwicePort`.
-/// 4. At each link in array order: `UnknownKey`; of `id`, `from`, `to`, `bag_ms`, `jitter_us`, `max_size` and
-///    `priority`, in this order, `MissingKey`, `Kind`, `Range`; `TwiceLink`; `NoSuchPort` of `from`; `ToEmpty`; then, of
+/// 4. At each link in array order: `UnknownKey`, in version 1 of `police` too; of `id`, `from`, `to`, `bag_ms`,
+///    `jitter_us`, `max_size` and `priority`, in this order, `MissingKey`, `Kind`, `Range`; of `police` `Kind`, `Range`;
+///    `TwiceLink`; `NoSuchPort` of `from`; `ToEmpty`; then, of
 ///    each member of `to` from the left, `NoSuchPort`, `ToOwnPort`, `ToTwice`.
 ///
 /// O(n) time and memory in the length of the text; only where a text has many keys at one place does their sorting add a

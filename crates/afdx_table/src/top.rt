@@ -10,14 +10,15 @@ ghost use Rattle.afdx_table.specs.Top.{at_most, version_from, group_address, con
 
 use crate::fault::{At, Key, TableFault};
 use crate::fields::{Fields, bounded};
-use crate::limits::{MAX_LINKS, MAX_PORTS};
+use crate::limits::{MAX_LINKS, MAX_PORTS, MAX_VERSION};
 use hex::FromHex;
 use std::alloc::Global;
 use toml::Table as Tree;
 
-/// What the top says: the constant field, and the tables of the ports and of the links.
+/// What the top says: the version, the constant field, and the tables of the ports and of the links.
 #[derive(Drop)]
 pub(crate) struct Top<'a> {
+    pub(crate) version: u64,
     pub(crate) constant: [u8; 4],
     pub(crate) ports: Vec<&'a Tree>,
     pub(crate) links: Vec<&'a Tree>,
@@ -29,7 +30,7 @@ fn version_from(stated: Option<u64>) -> Result<u64, TableFault>
     ensures keeps_nothing { IfErr result (λ e. e ≢ Memory) }
 {
     match stated {
-        Some(version) => bounded(At::Top, Key::Version, 1, 1, version),
+        Some(version) => bounded(At::Top, Key::Version, 1, MAX_VERSION, version),
         None => Ok(1),
     }
 }
@@ -72,6 +73,7 @@ fn at_most(limit: usize, key: Key, tables: &[&Tree]) -> Result<(), TableFault>
 #[tactic(auto, unfolding(crate::specs::Top::top_at))]
 pub(crate) fn read_top<'a>(alloc: Global, tree: &'a Tree) -> Result<Top<'a>, TableFault>
     ensures top { Gives (λ t. record {
+      version = t.version;
       constant = t.constant;
       ports = map (λ p. table_view p.now) t.ports.items;
       links = map (λ l. table_view l.now) t.links.items;
@@ -83,13 +85,14 @@ pub(crate) fn read_top<'a>(alloc: Global, tree: &'a Tree) -> Result<Top<'a>, Tab
         table: tree,
     };
     fields.known(&[Key::Version, Key::Constant, Key::Port, Key::Link])?;
-    version_from(fields.optional_number(Key::Version)?)?;
+    let version = version_from(fields.optional_number(Key::Version)?)?;
     let constant = constant_from(fields.optional_text(Key::Constant)?)?;
     let ports = fields.tables(alloc, Key::Port)?;
     let links = fields.tables(alloc, Key::Link)?;
     at_most(MAX_PORTS, Key::Port, &ports)?;
     at_most(MAX_LINKS, Key::Link, &links)?;
     Ok(Top {
+        version,
         constant,
         ports,
         links,

@@ -1,8 +1,8 @@
 //! Tables that are read, to their rows.
 
-use crate::texts::{DOUBLE, MIXED, OTHER_FORMS, SINGLE};
+use crate::texts::{DOUBLE, FRAMED, MIXED, OTHER_FORMS, SINGLE};
 use afdx_table::{LinkRow, PortRow, read};
-use afdx_units::{Bag, Priority, Speed};
+use afdx_units::{Bag, Police, Priority, Speed};
 use std::alloc::Global;
 use std::test::Fail;
 
@@ -25,6 +25,7 @@ fn is_worked_link(row: &LinkRow, id: u16, from: u8, to: u8, priority: Priority) 
         && row.jitter == 0
         && row.max_size == 1518
         && row.priority == priority
+        && row.police == Police::Byte
 }
 
 #[test]
@@ -60,6 +61,23 @@ fn worked_tables(rt: HostRuntime) -> Result<(), Fail> {
         assert!(rt; table.link(13).is_none());
         assert!(rt; table.link_at(links.len()).is_none());
         assert_eq!(rt; table.link_place(13), None);
+    }
+    Ok(())
+}
+
+#[test]
+fn the_police_of_a_link(rt: HostRuntime) -> Result<(), Fail> {
+    let alloc = rt.alloc();
+    let stated = FRAMED.replace(alloc, "frame", "byte")?;
+    let silent = FRAMED.replace(alloc, "police = \"frame\"\n", "")?;
+    for (text, police) in [
+        (FRAMED, Police::Frame),
+        (stated.as_str(), Police::Byte),
+        (silent.as_str(), Police::Byte),
+        (SINGLE, Police::Byte),
+    ] {
+        let table = read(alloc, text.as_bytes())?;
+        assert_eq!(rt; table.link(10).map(|link| link.police), Some(police));
     }
     Ok(())
 }

@@ -56,7 +56,7 @@ pub(crate) const WORKED: &[(Change, TableFault)] = &[
         TableFault::Constant,
     ),
     (
-        ("[[port]]\nid = 1\n", "version = 2\n[[port]]\nid = 1\n"),
+        ("[[port]]\nid = 1\n", "version = 3\n[[port]]\nid = 1\n"),
         TableFault::Range(At::Top, Key::Version),
     ),
     (
@@ -158,7 +158,7 @@ pub(crate) const TOPS: &[(&str, TableFault)] = &[
         TableFault::Kind(At::Top, Key::Version),
     ),
     (
-        "version = 2\nconstant = 3",
+        "version = 3\nconstant = 3",
         TableFault::Range(At::Top, Key::Version),
     ),
     (
@@ -314,5 +314,45 @@ pub(crate) const SECOND_LINKS: &[(Change, TableFault)] = &[
     (
         ("from = 2\n", "from = 2\npolice = \"byte\"\n"),
         TableFault::UnknownKey(At::Link(2)),
+    ),
+];
+
+/// The table with one link in the second version, with another last key.
+pub(crate) const POLICED: &[(Change, TableFault)] = &[
+    (
+        ("police = \"frame\"", "police = 1"),
+        TableFault::Kind(At::Link(1), Key::Police),
+    ),
+    (
+        ("police = \"frame\"", "police = \"none\""),
+        TableFault::Range(At::Link(1), Key::Police),
+    ),
+    (
+        ("police = \"frame\"", "police = \"Frame\""),
+        TableFault::Range(At::Link(1), Key::Police),
+    ),
+    (
+        ("version = 2", "version = 1"),
+        TableFault::UnknownKey(At::Link(1)),
+    ),
+    (("version = 2\n", ""), TableFault::UnknownKey(At::Link(1))),
+    (
+        ("police = \"frame\"", "policy = \"frame\""),
+        TableFault::UnknownKey(At::Link(1)),
+    ),
+    // two faults at once: the earlier stands
+    (
+        (
+            "priority = \"low\"\npolice = \"frame\"",
+            "priority = \"none\"\npolice = 1",
+        ),
+        TableFault::Range(At::Link(1), Key::Priority),
+    ),
+    (
+        (
+            "to = [2]\nbag_ms = 1\njitter_us = 0\nmax_size = 1518\npriority = \"low\"\npolice = \"frame\"",
+            "to = [1]\nbag_ms = 1\njitter_us = 0\nmax_size = 1518\npriority = \"low\"\npolice = \"none\"",
+        ),
+        TableFault::Range(At::Link(1), Key::Police),
     ),
 ];

@@ -1,7 +1,7 @@
 //! Each refusal, and the order of two.
 
-use crate::refused::{Change, KEYS, PAIRS, SECOND_LINKS, TOPS, WORKED};
-use crate::texts::{DOUBLE, SINGLE};
+use crate::refused::{Change, KEYS, PAIRS, POLICED, SECOND_LINKS, TOPS, WORKED};
+use crate::texts::{DOUBLE, FRAMED, SINGLE};
 use afdx_table::{At, Key, TableFault, read};
 use std::alloc::Global;
 use std::test::Fail;
@@ -26,6 +26,15 @@ fn changed_tables(rt: HostRuntime) -> Result<(), Fail> {
     }
     for ((old, new), fault) in SECOND_LINKS {
         assert_eq!(rt; refusal(alloc, DOUBLE, old, new)?, Some(*fault), "at {new}");
+    }
+    Ok(())
+}
+
+#[test]
+fn the_police_key(rt: HostRuntime) -> Result<(), Fail> {
+    let alloc = rt.alloc();
+    for ((old, new), fault) in POLICED {
+        assert_eq!(rt; refusal(alloc, FRAMED, old, new)?, Some(*fault), "at {new}");
     }
     Ok(())
 }

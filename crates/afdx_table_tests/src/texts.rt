@@ -115,3 +115,29 @@ link = [{ id = 0xffff, from = 2, to = [\r
   1, # the only one\r
 ], bag_ms = 128, jitter_us = 10_000, max_size = 64, priority = \"high\" }]\r
 ";
+
+/// The table with one link in the second version, the link policed by frames.
+pub(crate) const FRAMED: &str = "version = 2
+
+[[port]]
+id = 1
+mbit = 100
+buffer = 100000
+max_delay_us = 500000
+
+[[port]]
+id = 2
+mbit = 100
+buffer = 100000
+max_delay_us = 500000
+
+[[link]]
+id = 10
+from = 1
+to = [2]
+bag_ms = 1
+jitter_us = 0
+max_size = 1518
+priority = \"low\"
+police = \"frame\"
+";

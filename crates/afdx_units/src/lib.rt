@@ -1,14 +1,16 @@
-//! The units of the switch: instants, bandwidth allocation gaps, line speeds, sizes and line times.
+//! The units of the switch: instants, bandwidth allocation gaps, kinds of policing, line speeds, sizes and line times.
 //!
 //! Every call here is O(1), takes no memory and always answers.
 #![tactic(auto)]
 
 mod bag;
 mod line;
+mod police;
 mod stamp;
 
 pub use bag::Bag;
 pub use line::{Priority, Speed, cost, size};
+pub use police::Police;
 pub use stamp::Stamp;
 
 #[cfg(test)]

@@ -3,12 +3,11 @@ use Rattle.std.proofs.Common.{◌≡◌, ℕ, ap, get_or, arith, Global, List, t
 use Rattle.std.specs.Prelude.{IfOk, false, MatchOption, Box, codes, option_map}
 use Rattle.std.specs.Box.{box_value}
 use Rattle.std.specs.Str.Parse.{ParsesUnsigned}
-use Rattle.clap.specs.Words.{AddsSubcommand, App, app_of, shape_of, with_subcommand, HasKind, IsAmong, Row, Text, fault_of, first_of, is_simple, is_simple_and_free, kind_of, one_text, rows_of, subcommand_name_of, subcommand_rows, subcommand_rows_of, ReadsOne}
+use Rattle.clap.specs.Words.{AddsSubcommand, App, app_of, shape_of, with_subcommand, HasKind, Row, Text, fault_of, first_of, is_simple, is_simple_and_free, kind_of, one_text, rows_of, subcommand_name_of, subcommand_rows, subcommand_rows_of, ReadsOne}
 use Rattle.clap.specs.declared.builder.command.Command.{Command}
 use Rattle.clap.specs.declared.builder.command.Command.TheViews.{out-Command}
 use Rattle.clap.specs.declared.error.Error.{Error}
-use Rattle.clap.specs.declared.error.kind.ErrorKind.{ErrorKind}
-use Rattle.clap.specs.declared.error.kind.ErrorKind.TheVariants.{DisplayHelp, OutOfMemory}
+use Rattle.clap.specs.declared.error.kind.ErrorKind.TheVariants.{DisplayHelp, DisplayVersion, OutOfMemory}
 use Rattle.clap.specs.declared.parser.matches.ArgMatches.{ArgMatches}
 use Rattle.clap.specs.declared.parser.matches.ArgMatches.TheViews.{out-ArgMatches, out-SubCommand}
 use Rattle.clap.specs.declared.parser.matches.Found.{Found}
@@ -20,15 +19,15 @@ use Rattle.afdx_words.specs.declared.request.NoRequest.TheVariants.{Help, Usage,
 use Rattle.afdx_words.specs.declared.request.Paths.{Paths}
 use Rattle.afdx_words.specs.declared.request.Request.{Request}
 use Rattle.afdx_words.specs.declared.request.Request.TheVariants as request
-use Rattle.afdx_words.specs.Commands.{alone_app, check_app, run_app, program}
+use Rattle.afdx_words.specs.Commands.{alone_app, check_app, size_app, run_app, program}
 use Rattle.afdx_words.specs.Requests.{HasNumber, HasLink, HasPaths, AsksFor, Explains, Reads}
 
 pub simple : is_simple program ≡ true
-unfolding program alone_app check_app run_app
+unfolding program alone_app check_app size_app run_app
 simple = refl
 
 pub simple_and_free : is_simple_and_free program ≡ true
-unfolding program alone_app check_app run_app
+unfolding program alone_app check_app size_app run_app
 simple_and_free = refl
 
 -- a text is one number, or none
@@ -77,38 +76,55 @@ module _ (sub : Option (Text × List Row)) (name : Text) (rows : List Row) (is :
   asks_none : ((r : Request) → AsksFor (Some (name, rows)) r → ⊥) → (r : Request) → AsksFor sub r → ⊥
   asks_none none r h = none r (subst (λ (s : Option (Text × List Row)). AsksFor s r) is h)
 
+  -- the name of another subcommand begins with another letter
+  other : (a b : Text) → (get_or a 0 0 ≡ get_or b 0 0 → ⊥) → name ≡ a → name ≡ b → ⊥
+  other a b differ is_a is_b = differ (begins name a b is_a is_b)
+
   pub no_link : name ≡ codes "alone" → ((link : Alone) → HasLink rows link → ⊥) → (r : Request) → AsksFor sub r → ⊥
   no_link named none = asks_none go where
     go : (r : Request) → AsksFor (Some (name, rows)) r → ⊥
     go (request.Alone link) h = none link h.1
-    go (request.Check table) h = let bad : 97 ≡ 99 = begins name (codes "alone") (codes "check") named h.0 in absurd (omega (arith, bad))
-    go (request.Run paths) h = let bad : 97 ≡ 114 = begins name (codes "alone") (codes "run") named h.0 in absurd (omega (arith, bad))
+    go (request.Check table) h = other (codes "alone") (codes "check") (λ bad. omega (arith, bad)) named h.0
+    go (request.Size table) h = other (codes "alone") (codes "size") (λ bad. omega (arith, bad)) named h.0
+    go (request.Run paths) h = other (codes "alone") (codes "run") (λ bad. omega (arith, bad)) named h.0
 
   pub no_table : name ≡ codes "check" → None ≡ first_of (codes "TABLE") rows → (r : Request) → AsksFor sub r → ⊥
   no_table named none = asks_none go where
     go : (r : Request) → AsksFor (Some (name, rows)) r → ⊥
-    go (request.Alone link) h = let bad : 99 ≡ 97 = begins name (codes "check") (codes "alone") named h.0 in absurd (omega (arith, bad))
+    go (request.Alone link) h = other (codes "check") (codes "alone") (λ bad. omega (arith, bad)) named h.0
     go (request.Check table) h = let bad = none ∙ h.1 in absurd (cc)
-    go (request.Run paths) h = let bad : 99 ≡ 114 = begins name (codes "check") (codes "run") named h.0 in absurd (omega (arith, bad))
+    go (request.Size table) h = other (codes "check") (codes "size") (λ bad. omega (arith, bad)) named h.0
+    go (request.Run paths) h = other (codes "check") (codes "run") (λ bad. omega (arith, bad)) named h.0
+
+  pub no_size : name ≡ codes "size" → None ≡ first_of (codes "TABLE") rows → (r : Request) → AsksFor sub r → ⊥
+  no_size named none = asks_none go where
+    go : (r : Request) → AsksFor (Some (name, rows)) r → ⊥
+    go (request.Alone link) h = other (codes "size") (codes "alone") (λ bad. omega (arith, bad)) named h.0
+    go (request.Check table) h = other (codes "size") (codes "check") (λ bad. omega (arith, bad)) named h.0
+    go (request.Size table) h = let bad = none ∙ h.1 in absurd (cc)
+    go (request.Run paths) h = other (codes "size") (codes "run") (λ bad. omega (arith, bad)) named h.0
 
   pub no_paths : name ≡ codes "run" → ((paths : Paths) → HasPaths rows paths → ⊥) → (r : Request) → AsksFor sub r → ⊥
   no_paths named none = asks_none go where
     go : (r : Request) → AsksFor (Some (name, rows)) r → ⊥
-    go (request.Alone link) h = let bad : 114 ≡ 97 = begins name (codes "run") (codes "alone") named h.0 in absurd (omega (arith, bad))
-    go (request.Check table) h = let bad : 114 ≡ 99 = begins name (codes "run") (codes "check") named h.0 in absurd (omega (arith, bad))
+    go (request.Alone link) h = other (codes "run") (codes "alone") (λ bad. omega (arith, bad)) named h.0
+    go (request.Check table) h = other (codes "run") (codes "check") (λ bad. omega (arith, bad)) named h.0
+    go (request.Size table) h = other (codes "run") (codes "size") (λ bad. omega (arith, bad)) named h.0
     go (request.Run paths) h = none paths h.1
 
-  pub no_command : (name ≡ codes "alone" → ⊥) → (name ≡ codes "check" → ⊥) → (name ≡ codes "run" → ⊥) → (r : Request) → AsksFor sub r → ⊥
-  no_command alone check run = asks_none go where
+  pub no_command : (name ≡ codes "alone" → ⊥) → (name ≡ codes "check" → ⊥) → (name ≡ codes "size" → ⊥) → (name ≡ codes "run" → ⊥) → (r : Request) → AsksFor sub r → ⊥
+  no_command alone check size run = asks_none go where
     go : (r : Request) → AsksFor (Some (name, rows)) r → ⊥
     go (request.Alone link) h = alone h.0
     go (request.Check table) h = check h.0
+    go (request.Size table) h = size h.0
     go (request.Run paths) h = run h.0
 
 -- an error of `clap`
 pub refused : (words : List Text) (e : Error) (n : NoRequest) → HasKind (fault_of program words) e → Explains (kind_of e) n → Reads words (Err n)
-refused words e (Help text) (inl memory) is = absurd (let bad : OutOfMemory ≡ DisplayHelp = sym memory ∙ is in cc)
-refused words e (Help text) (inr among) is = subst (λ (k : ErrorKind). IsAmong k (fault_of program words)) is among
+refused words e (Help text) (inl memory) (inl is) = absurd (let bad : OutOfMemory ≡ DisplayHelp = sym memory ∙ is in cc)
+refused words e (Help text) (inl memory) (inr is) = absurd (let bad : OutOfMemory ≡ DisplayVersion = sym memory ∙ is in cc)
+refused words e (Help text) (inr among) is = (kind_of e, among, is)
 refused words e Usage (inl memory) is = absurd (is.1 memory)
 refused words e Usage (inr among) is = inl (kind_of e, among, is.0)
 refused words e Memory h is = tt

@@ -26,13 +26,19 @@ alone_app =
 unfoldable pub check_app : App
 check_app = with_rule (new_app (codes "check")) (path_rule (codes "TABLE"))
 
+-- afdx size TABLE
+unfoldable pub size_app : App
+size_app = with_rule (new_app (codes "size")) (path_rule (codes "TABLE"))
+
 -- afdx run TABLE IN OUT [--unchecked]
 unfoldable pub run_app : App
 run_app =
     with_rule (with_rule (with_rule (with_rule (new_app (codes "run")) (path_rule (codes "TABLE"))) (path_rule (codes "IN"))) (path_rule (codes "OUT")))
     (flag_rule (codes "unchecked"))
 
+-- afdx, which wants a subcommand and tells its version
+abbrev pub bare_program : App
+bare_program = on_top (λ s. record s { subcommand_required = true; has_version = true }) (new_app (codes "afdx"))
+
 unfoldable pub program : App
-program =
-    with_subcommand (with_subcommand (with_subcommand (on_top (λ s. record s { subcommand_required = true }) (new_app (codes "afdx"))) alone_app.top) check_app.top)
-    run_app.top
+program = with_subcommand (with_subcommand (with_subcommand (with_subcommand bare_program alone_app.top) check_app.top) size_app.top) run_app.top

@@ -5,7 +5,7 @@ use Rattle.std.specs.Str.{bytes_eq}
 use Rattle.std.specs.Str.Parse.{ParsesUnsigned}
 use Rattle.clap.specs.Words.{IsAmong, Row, Text, fault_of, first_of, one_of, subcommand_of}
 use Rattle.clap.specs.declared.error.kind.ErrorKind.{ErrorKind}
-use Rattle.clap.specs.declared.error.kind.ErrorKind.TheVariants.{DisplayHelp, OutOfMemory}
+use Rattle.clap.specs.declared.error.kind.ErrorKind.TheVariants.{DisplayHelp, DisplayVersion, OutOfMemory}
 use Rattle.afdx_words.specs.declared.link.Alone.{Alone}
 use Rattle.afdx_words.specs.declared.request.Paths.{Paths}
 use Rattle.afdx_words.specs.declared.request.Request.{Request}
@@ -35,11 +35,13 @@ pub record HasLink (rows : List Row) (link : Alone) : Type 0 where
   pub has_size : HasNumber (codes "size") rows size
   pub numbers : HasNumbers link id bag jitter size
 
--- the entries name the files of a run, and whether it is unchecked
+-- the entries name the files of a run, and whether it is unchecked; profile: an empty word names no folder
 pub record HasPaths (rows : List Row) (paths : Paths) : Type 0 where
   pub table : first_of (codes "TABLE") rows ≡ Some paths.table.now
   pub input : first_of (codes "IN") rows ≡ Some paths.input.now
   pub output : first_of (codes "OUT") rows ≡ Some paths.output.now
+  pub has_input : paths.input.now ≢ []
+  pub has_output : paths.output.now ≢ []
   pub unchecked : paths.unchecked ≡ is_set (codes "unchecked") rows
 
 -- the subcommand and its entries ask for this
@@ -47,26 +49,31 @@ abbrev pub AsksFor : Option (Text × List Row) → Request → Type 0
 AsksFor None r = ⊥
 AsksFor (Some (name, rows)) (request.Alone link) = (name ≡ codes "alone") × HasLink rows link
 AsksFor (Some (name, rows)) (request.Check table) = (name ≡ codes "check") × (first_of (codes "TABLE") rows ≡ Some table.now)
+AsksFor (Some (name, rows)) (request.Size table) = (name ≡ codes "size") × (first_of (codes "TABLE") rows ≡ Some table.now)
 AsksFor (Some (name, rows)) (request.Run paths) = (name ≡ codes "run") × HasPaths rows paths
 
 -- `clap` takes the words, and its entries ask for this
 abbrev pub Asks : List Text → Request → Type 0
 Asks words r = (fault_of program words ≡ []) × AsksFor (subcommand_of program words) r
 
--- the words ask `clap` for help
+-- an error of this kind has the text of help or of the version
+abbrev pub IsShown : ErrorKind → Type 0
+IsShown kind = (kind ≡ DisplayHelp) ⊎ (kind ≡ DisplayVersion)
+
+-- the words ask `clap` for help, or for the version
 abbrev pub AskForHelp : List Text → Type 0
-AskForHelp words = IsAmong DisplayHelp (fault_of program words)
+AskForHelp words = (kind : ErrorKind) × IsAmong kind (fault_of program words) × IsShown kind
 
 -- `clap` refuses the words, or takes them and its entries ask for nothing within the limits
 abbrev pub AreRefused : List Text → Type 0
 AreRefused words =
-    ((kind : ErrorKind) × IsAmong kind (fault_of program words) × (kind ≢ DisplayHelp))
+    ((kind : ErrorKind) × IsAmong kind (fault_of program words) × (IsShown kind → ⊥))
     ⊎ ((fault_of program words ≡ []) × ((r : Request) → AsksFor (subcommand_of program words) r → ⊥))
 
 -- why an error of a kind leaves the words with no request
 abbrev pub Explains : ErrorKind → NoRequest → Type 0
-Explains kind (Help text) = kind ≡ DisplayHelp
-Explains kind Usage = (kind ≢ DisplayHelp) × (kind ≢ OutOfMemory)
+Explains kind (Help text) = IsShown kind
+Explains kind Usage = (IsShown kind → ⊥) × (kind ≢ OutOfMemory)
 Explains kind Memory = Unit {0}
 
 -- what the words ask for, or why they ask for nothing

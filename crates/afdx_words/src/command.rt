@@ -1,9 +1,9 @@
 //! The command line, as `clap` reads it.
 
 ghost use Rattle.std.specs.Prelude.{◌≡◌, false, IfOk};
-ghost use Rattle.clap.specs.Words.{app_of, rule_of};
+ghost use Rattle.clap.specs.Words.{app_of, new_app, rule_of};
 ghost use Rattle.clap.specs.declared.builder.command.Command.TheViews.{out-Command};
-ghost use Rattle.afdx_words.specs.Commands.{number_rule, path_rule, flag_rule, alone_app, check_app, run_app, program};
+ghost use Rattle.afdx_words.specs.Commands.{number_rule, path_rule, flag_rule, alone_app, check_app, size_app, run_app, bare_program, program};
 
 use clap::builder::ValueParser;
 use clap::{Arg, ArgAction, Command};
@@ -40,13 +40,63 @@ fn flag<'a>(alloc: Global, name: &'a str, about: &'a str) -> Arg<'a>
         .action(ArgAction::SetTrue)
 }
 
+/// What the help of `alone` says at its end.
+const ALONE: &str = "Reads a capture on standard input and writes the capture of the frames that the
+link's account passes on standard output.
+
+Status: 0 done, 2 words, 3 no capture, 5 memory or a device.
+
+Example: afdx alone --id 10 --bag 1 --jitter 0 --size 1000 < in.pcap > out.pcap";
+
+/// What the help of `check` says at its end.
+const CHECK: &str =
+    "Status: 0 accepted, 2 words, 3 no table, 4 a port cannot give what its links ask
+for, 5 memory or a device.
+
+Example: afdx check table.toml";
+
+/// What the help of `size` says at its end.
+const SIZE: &str = "For each port with links: what they need and what the port has, by rule (the
+line's rate in parts, the buffer in bytes, the delays in ns), and the rules that
+it breaks.
+
+Status: 0 told, whether each port fits or not, 2 words, 3 no table, 5 memory or a
+device.
+
+Example: afdx size table.toml";
+
+/// What the help of `run` says at its end.
+const RUN: &str = "All files are read before the first capture is written. OUT must be there. A
+capture is written to a new file beside its name, which is then moved onto the
+name: each name has what stood there or the whole new capture, also after a
+failure or a kill. After a failed put the captures of the ports before it are
+new, after a failed write all are. A file that was read is not replaced. Captures
+of ports that the table lacks are not looked at. Names are printed as they were
+given.
+
+Status: 0 done, 2 words, 3 no table or capture, 4 a port cannot give what its
+links ask for, 5 memory or a device.
+
+Example: mkdir out && afdx run table.toml in out";
+
+/// What the program says of its version: its own number, and the kit that it is proved with.
+const VERSION: &str = "0.1.0\nrattle-kit-13b logic dac8208d650f15bf";
+
+/// A command without its words.
+fn wordless<'a>(alloc: Global, name: &'a str, about: &'a str, more: &'a str) -> Command<'a>
+    ensures app { app_of result ≡ new_app name.entry.now }
+    ensures local { (out-Command result).has_globals ≡ false }
+{
+    Command::new(alloc, name).about(about).after_help(more)
+}
+
 #[tactic(auto, unfolding(crate::specs::Commands::alone_app))]
 fn alone<'a>(alloc: Global) -> Result<Command<'a>, AllocError>
     ensures app { IfOk result (λ c. app_of c ≡ alone_app) }
     ensures local { IfOk result (λ c. (out-Command c).has_globals ≡ false) }
 {
-    Command::new(alloc, "alone")
-        .about("Polices one virtual link of the capture on standard input")
+    let about = "Polices one virtual link of the capture on standard input";
+    wordless(alloc, "alone", about, ALONE)
         .arg(number_option(alloc, "id", "N", "The link's number, 0 to 65535"))?
         .arg(number_option(
             alloc,
@@ -73,9 +123,17 @@ fn check<'a>(alloc: Global) -> Result<Command<'a>, AllocError>
     ensures app { IfOk result (λ c. app_of c ≡ check_app) }
     ensures local { IfOk result (λ c. (out-Command c).has_globals ≡ false) }
 {
-    Command::new(alloc, "check")
-        .about("Checks the load of a configuration table")
-        .arg(path(alloc, "TABLE", "The configuration table"))
+    let about = "Checks the load of a configuration table";
+    wordless(alloc, "check", about, CHECK).arg(path(alloc, "TABLE", "The configuration table"))
+}
+
+#[tactic(auto, unfolding(crate::specs::Commands::size_app))]
+fn size<'a>(alloc: Global) -> Result<Command<'a>, AllocError>
+    ensures app { IfOk result (λ c. app_of c ≡ size_app) }
+    ensures local { IfOk result (λ c. (out-Command c).has_globals ≡ false) }
+{
+    let about = "Tells what each port needs and has, whether it fits or not";
+    wordless(alloc, "size", about, SIZE).arg(path(alloc, "TABLE", "The configuration table"))
 }
 
 #[tactic(auto, unfolding(crate::specs::Commands::run_app))]
@@ -83,8 +141,8 @@ fn run<'a>(alloc: Global) -> Result<Command<'a>, AllocError>
     ensures app { IfOk result (λ c. app_of c ≡ run_app) }
     ensures local { IfOk result (λ c. (out-Command c).has_globals ≡ false) }
 {
-    Command::new(alloc, "run")
-        .about("Runs the switch over one capture for each port")
+    let about = "Runs the switch over one capture for each port";
+    wordless(alloc, "run", about, RUN)
         .arg(path(alloc, "TABLE", "The configuration table"))?
         .arg(path(alloc, "IN", "The folder of port-1.pcap and so on"))?
         .arg(path(
@@ -95,6 +153,16 @@ fn run<'a>(alloc: Global) -> Result<Command<'a>, AllocError>
         .arg(flag(alloc, "unchecked", "Runs a table whatever its load"))
 }
 
+/// The program without its commands.
+fn bare_program<'a>(alloc: Global) -> Command<'a>
+    ensures { app_of result ≡ bare_program }
+{
+    Command::new(alloc, "afdx")
+        .about("An AFDX switch over captured traffic")
+        .version(VERSION)
+        .subcommand_required(true)
+}
+
 /// The whole program.
 #[tactic(auto, unfolding(crate::specs::Commands::program))]
 pub(crate) fn program<'a>(alloc: Global) -> Result<Command<'a>, AllocError>
@@ -102,11 +170,11 @@ pub(crate) fn program<'a>(alloc: Global) -> Result<Command<'a>, AllocError>
 {
     let alone = alone(alloc)?;
     let check = check(alloc)?;
+    let size = size(alloc)?;
     let run = run(alloc)?;
-    Command::new(alloc, "afdx")
-        .about("An AFDX switch over captured traffic")
-        .subcommand_required(true)
+    bare_program(alloc)
         .subcommand(alone)?
         .subcommand(check)?
+        .subcommand(size)?
         .subcommand(run)
 }

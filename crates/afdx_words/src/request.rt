@@ -22,6 +22,8 @@ pub enum Request<'a> {
     Alone(Alone),
     /// The check of the table in this file.
     Check(&'a str),
+    /// The need and the limit of each rule at the ports of the table in this file.
+    Size(&'a str),
     /// The switch over captures.
     Run(Paths<'a>),
 }
@@ -29,7 +31,7 @@ pub enum Request<'a> {
 /// Why the words ask for no command.
 #[derive(Debug, Drop)]
 pub enum NoRequest {
-    /// They ask for help, and this is its text.
+    /// They ask for help or the version, and this is its text.
     Help(String),
     /// They are refused.
     Usage,

@@ -51,7 +51,7 @@ fn alone_of(matches: &ArgMatches<'_>) -> Option<Alone>
     Alone::of_numbers(id, bag, jitter, size)
 }
 
-/// The files of a run.
+/// The files of a run. An empty word names no folder.
 fn paths_of<'a>(matches: &ArgMatches<'a>) -> Option<Paths<'a>>
     ensures { MatchOption result ((paths : Files) → HasPaths (rows_of (found_of matches.now)) paths → ⊥)
         (HasPaths (rows_of (found_of matches.now))) }
@@ -59,6 +59,9 @@ fn paths_of<'a>(matches: &ArgMatches<'a>) -> Option<Paths<'a>>
     let table = word(matches, "TABLE")?;
     let input = word(matches, "IN")?;
     let output = word(matches, "OUT")?;
+    if input.is_empty() || output.is_empty() {
+        return None;
+    }
     let unchecked = flag(matches, "unchecked");
     Some(Paths {
         table,
@@ -80,6 +83,9 @@ fn asked<'a>(matches: &ArgMatches<'a>) -> Option<Request<'a>>
     } else if name == "check" {
         let table = word(inner, "TABLE")?;
         Some(Request::Check(table))
+    } else if name == "size" {
+        let table = word(inner, "TABLE")?;
+        Some(Request::Size(table))
     } else if name == "run" {
         let paths = paths_of(inner)?;
         Some(Request::Run(paths))
@@ -93,7 +99,7 @@ fn refusal(alloc: Global, error: &Error) -> NoRequest
     ensures { Explains (kind_of error.now) result }
 {
     match error.kind() {
-        ErrorKind::DisplayHelp => match error.to_string(alloc) {
+        ErrorKind::DisplayHelp | ErrorKind::DisplayVersion => match error.to_string(alloc) {
             Ok(text) => NoRequest::Help(text),
             Err(_) => NoRequest::Memory,
         },
@@ -106,8 +112,8 @@ fn refusal(alloc: Global, error: &Error) -> NoRequest
 ///
 /// # Errors
 ///
-/// `Help` with its text where `clap` is asked for it; `Memory` where a growth was refused; `Usage` where `clap` refuses
-/// the words for another cause, or an option's number is out of its limits.
+/// `Help` with its text where `clap` is asked for help or the version; `Memory` where a growth was refused; `Usage` where `clap` refuses
+/// the words for another cause, an option's number is out of its limits, or IN or OUT is empty.
 pub fn parse<'a>(alloc: Global, words: &'a [String]) -> Result<Request<'a>, NoRequest>
     ensures { Reads (map string_bytes words.entry.now) result }
 {

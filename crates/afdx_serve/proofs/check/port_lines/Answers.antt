@@ -16,7 +16,7 @@ loop-row-preserved c =
     let grown = c.in_ok-push_str.ensures.bytes ∙ ap (λ (line : List ℕ). string_bytes c.loop-row.text ++ line) c.deref.ensures in
     let line = rw c.loads-loads.ensures at c.in_ok-port_line.ensures in
     record {
-      lines = one_more_line c.args.table.now.links c.ports-row-items.result.now c.loop-row.row-index _ _ _ _ grown within c.loop-row.invariant.lines line;
+      lines = one_more_line _ c.ports-row-items.result.now c.loop-row.row-index _ _ _ _ grown within c.loop-row.invariant.lines line;
       all = c.loop-row.invariant.all;
     }
 
@@ -24,4 +24,4 @@ pub returns : goal.returns
 returns c =
     let past : length c.ports-row-items.result.now ≤ c.loop-row.row-index = search rules in
     subst (λ (ports : List PortRow). AreLinesOf c.args.table.now.links ports (string_bytes c.loop-row.text)) c.loop-row.invariant.all
-    (last_line c.args.table.now.links c.ports-row-items.result.now c.loop-row.row-index _ past c.loop-row.invariant.lines)
+    (last_line _ c.ports-row-items.result.now c.loop-row.row-index _ past c.loop-row.invariant.lines)

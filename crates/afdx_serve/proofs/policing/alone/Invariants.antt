@@ -1,9 +1,10 @@
-use Rattle.std.proofs.Common.{◌-◌, length}
+use Rattle.std.proofs.Common.{◌≡◌, ◌-◌, length, true, None}
+use Rattle.afdx_pcap.specs.Reading.{taken_in}
 use Rattle.afdx_serve.proofs.Progress.{Polices}
 use Rattle.afdx_serve.proofs.policing.alone.Given as goal
 
-abbrev pub invariant-loop-answer : goal.invariant-loop-answer
-invariant-loop-answer g l = Polices l.link l.input l.frames l.account l.answer.items
+abbrev pub invariant-loop-frames : goal.invariant-loop-frames
+invariant-loop-frames g l = (l.frames.fault ≡ None) × (l.frames.closed ≡ true) × Polices l.link l.input (taken_in l.frames) l.account l.answer.items
 
-abbrev pub decreases-loop-answer : goal.decreases-loop-answer
-decreases-loop-answer g l = length l.frames.bytes - l.frames.given
+abbrev pub decreases-loop-frames : goal.decreases-loop-frames
+decreases-loop-frames g l = length l.frames.bytes - l.frames.given

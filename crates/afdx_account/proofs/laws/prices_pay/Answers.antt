@@ -1,0 +1,17 @@
+use Rattle.std.proofs.Common.{ℕ, ◌*◌, ◌≤◌}
+use Rattle.afdx_units.specs.declared.bag.Bag.{Bag}
+use Rattle.afdx_units.specs.declared.line.Speed.{Speed}
+use Rattle.afdx_units.specs.declared.police.Police.{Police}
+use Rattle.afdx_units.specs.declared.police.Police.TheVariants.{Byte, Frame}
+use Rattle.afdx_units.specs.Line.{cost_of}
+use Rattle.afdx_account.specs.Policing.{terms_by, weight_by}
+use Rattle.afdx_account.specs.Laws.{PricesPay}
+use Rattle.afdx_account.specs.MeterLaws.{pays_for, frame_pays_for}
+use Rattle.afdx_account.proofs.laws.prices_pay.Goals as goal
+
+either : PricesPay
+either Byte max_size bag jitter speed size least most = pays_for bag speed size least
+either Frame max_size bag jitter speed size least most = frame_pays_for bag speed max_size size most
+
+pub returns : goal.returns
+returns c = either

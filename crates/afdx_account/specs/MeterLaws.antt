@@ -1,0 +1,77 @@
+-- The proofs that the accounts give to the laws of the trait; they stand here because an impl can cite nothing else of its crate.
+use Rattle.std.proofs.Common.{◌≡◌, ℕ, ◌+◌, ◌*◌, ◌-◌, ◌≤◌, min, arith, ap, ◌∙◌}
+use Rattle.afdx_units.specs.declared.bag.Bag.{Bag}
+use Rattle.afdx_units.specs.declared.bag.Bag.TheVariants.{Ms1, Ms2, Ms4, Ms8, Ms16, Ms32, Ms64, Ms128}
+use Rattle.afdx_units.specs.declared.line.Speed.{Speed}
+use Rattle.afdx_units.specs.declared.line.Speed.TheVariants.{Ten, Hundred}
+use Rattle.afdx_units.specs.Time.{bag_ns}
+use Rattle.afdx_units.specs.Line.{cost_of}
+use Rattle.afdx_account.specs.declared.account.Account.{Account}
+use Rattle.afdx_account.specs.declared.account.Account.TheVariants.{Byte, Frame}
+use Rattle.afdx_account.specs.Policing.{Terms, byte_weight, frame_weight}
+use Rattle.afdx_account.specs.Level.{credited_level}
+use Rattle.afdx_account.specs.Account.{account_terms, account_since, account_level, account_weight, account_greatest}
+
+pub fills : (cap rate level since at later : ℕ) → since ≤ at → at ≤ later
+    → min cap (level + rate * (later - since)) ≡ min cap (min cap (level + rate * (at - since)) + rate * (later - at))
+fills cap rate level since at later h k =
+    let whole : later - since ≡ (at - since) + (later - at) = omega arith in
+    let parts : rate * (later - since) ≡ rate * (at - since) + rate * (later - at) = ap (λ (n : ℕ). rate * n) whole ∙ omega arith in
+    omega (arith, parts)
+
+pub pays_for : (bag : Bag) (speed : Speed) (size : ℕ) → 64 ≤ size
+    → 2048000000 * cost_of speed size ≤ byte_weight bag speed * (size * bag_ns bag)
+pays_for Ms1 Ten size h = omega arith
+pays_for Ms1 Hundred size h = omega arith
+pays_for Ms2 Ten size h = omega arith
+pays_for Ms2 Hundred size h = omega arith
+pays_for Ms4 Ten size h = omega arith
+pays_for Ms4 Hundred size h = omega arith
+pays_for Ms8 Ten size h = omega arith
+pays_for Ms8 Hundred size h = omega arith
+pays_for Ms16 Ten size h = omega arith
+pays_for Ms16 Hundred size h = omega arith
+pays_for Ms32 Ten size h = omega arith
+pays_for Ms32 Hundred size h = omega arith
+pays_for Ms64 Ten size h = omega arith
+pays_for Ms64 Hundred size h = omega arith
+pays_for Ms128 Ten size h = omega arith
+pays_for Ms128 Hundred size h = omega arith
+
+pub frame_pays_for : (bag : Bag) (speed : Speed) (max_size size : ℕ) → size ≤ max_size
+    → 2048000000 * cost_of speed size ≤ frame_weight max_size bag speed * bag_ns bag
+frame_pays_for Ms1 Ten max_size size h = omega arith
+frame_pays_for Ms1 Hundred max_size size h = omega arith
+frame_pays_for Ms2 Ten max_size size h = omega arith
+frame_pays_for Ms2 Hundred max_size size h = omega arith
+frame_pays_for Ms4 Ten max_size size h = omega arith
+frame_pays_for Ms4 Hundred max_size size h = omega arith
+frame_pays_for Ms8 Ten max_size size h = omega arith
+frame_pays_for Ms8 Hundred max_size size h = omega arith
+frame_pays_for Ms16 Ten max_size size h = omega arith
+frame_pays_for Ms16 Hundred max_size size h = omega arith
+frame_pays_for Ms32 Ten max_size size h = omega arith
+frame_pays_for Ms32 Hundred max_size size h = omega arith
+frame_pays_for Ms64 Ten max_size size h = omega arith
+frame_pays_for Ms64 Hundred max_size size h = omega arith
+frame_pays_for Ms128 Ten max_size size h = omega arith
+frame_pays_for Ms128 Hundred max_size size h = omega arith
+
+pub capped_by : (cap n : ℕ) → min cap n ≤ cap
+capped_by cap n = omega arith
+
+-- ---- either account
+
+pub account_capped : (a : Account) (at : ℕ) → account_level a at ≤ (account_terms a).cap
+account_capped (Byte a) at = capped_by (a.max_size * (bag_ns a.bag + a.jitter)) (a.level + a.max_size * (at - a.since))
+account_capped (Frame a) at = capped_by (bag_ns a.bag + a.jitter) (a.level + 1 * (at - a.since))
+
+pub account_credited : (a : Account) (at later : ℕ) → account_since a ≤ at → at ≤ later
+    → account_level a later ≡ credited_level (account_terms a) (account_level a at) (later - at)
+account_credited (Byte a) at later h k = fills (a.max_size * (bag_ns a.bag + a.jitter)) a.max_size a.level a.since at later h k
+account_credited (Frame a) at later h k = fills (bag_ns a.bag + a.jitter) 1 a.level a.since at later h k
+
+pub account_pays : (a : Account) (speed : Speed) (size : ℕ) → 64 ≤ size → size ≤ account_greatest a
+    → 2048000000 * cost_of speed size ≤ account_weight a speed * (account_terms a).price size
+account_pays (Byte a) speed size h k = pays_for a.bag speed size h
+account_pays (Frame a) speed size h k = frame_pays_for a.bag speed a.max_size size k

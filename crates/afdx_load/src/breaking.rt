@@ -1,0 +1,38 @@
+//! Which rules a port's load breaks.
+
+ghost use Rattle.std.specs.Prelude.{◌≡◌, nat_lt, false};
+ghost use Rattle.std.specs.Option.{option_map_or};
+ghost use Rattle.afdx_load.specs.Fits.{is_broken};
+
+use crate::bounding::{PARTS, backlog, bounds};
+use crate::fault::Rule;
+use crate::sums::Load;
+use afdx_table::PortRow;
+
+/// Whether a bound is above a limit; one that is not there is not.
+fn is_above(bound: Option<u128>, limit: u64) -> bool
+    ensures { result ≡ option_map_or (λ need. nat_lt limit need) bound false }
+{
+    match bound {
+        Some(need) => need > u128::from(limit),
+        None => false,
+    }
+}
+
+/// Whether a port's load breaks a rule: whether it needs more than the port can give. O(1).
+///
+/// A bound that is not there breaks nothing. So where the high links alone ask for the whole line or more, `Rate` is broken
+/// and `LowDelay` is not.
+pub fn breaks(row: &PortRow, load: &Load, rule: Rule) -> bool
+    ensures { result ≡ is_broken row.now load.now rule }
+{
+    match rule {
+        Rule::Rate => load.rate() > PARTS,
+        Rule::Buffer => {
+            let room = u128::from(PARTS) * u128::from(row.speed.tick()) * u128::from(row.buffer);
+            backlog(load) > room
+        }
+        Rule::HighDelay => is_above(bounds(load).high, row.max_delay),
+        Rule::LowDelay => is_above(bounds(load).low, row.max_delay),
+    }
+}

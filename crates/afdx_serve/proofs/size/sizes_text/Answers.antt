@@ -1,0 +1,27 @@
+use Rattle.std.proofs.Common.{◌<◌, ◌≤◌, ℕ, List, ◌++◌, length, string_bytes, ap, subst, ◌∙◌, rules}
+use Rattle.afdx_table.specs.declared.rows.PortRow.{PortRow}
+use Rattle.afdx_serve.specs.Sizes.{AreSizesOf}
+use Rattle.afdx_serve.proofs.CheckLemmas.{found, one_more_line, last_line}
+use Rattle.afdx_serve.proofs.size.sizes_text.Goals as goal
+
+pub port_size-requires : goal.port_size-requires
+port_size-requires c =
+    let within : c.loop-row.row-index < length c.args.table.now.ports = search rules in
+    rw c.loads-loads.ensures
+    (rw c.loop-row.invariant.all (found c.args.table.now.ports c.loop-row.row-index _ c.ports-row-items.ensures.well_formed.ports_rise within))
+
+pub loop-row-preserved : goal.loop-row-preserved
+loop-row-preserved c =
+    let within : c.loop-row.row-index < length c.ports-row-items.result.now = search rules in
+    let grown = c.in_ok-push_str.ensures.bytes ∙ ap (λ (line : List ℕ). string_bytes c.loop-row.text ++ line) c.deref.ensures in
+    let line = rw c.loads-loads.ensures at c.in_ok-port_size.ensures in
+    record {
+      lines = one_more_line _ c.ports-row-items.result.now c.loop-row.row-index _ _ _ _ grown within c.loop-row.invariant.lines line;
+      all = c.loop-row.invariant.all;
+    }
+
+pub returns : goal.returns
+returns c =
+    let past : length c.ports-row-items.result.now ≤ c.loop-row.row-index = search rules in
+    subst (λ (ports : List PortRow). AreSizesOf c.args.table.now.links ports (string_bytes c.loop-row.text)) c.loop-row.invariant.all
+    (last_line _ c.ports-row-items.result.now c.loop-row.row-index _ past c.loop-row.invariant.lines)

@@ -1,0 +1,69 @@
+-- What is told of the size of a table's ports: what each needs and has, and the rules that it breaks.
+use Rattle.std.specs.Prelude.{◌≡◌, ℕ, codes, nat_lt, ◌<◌, ◌+◌, List, [], ◌∷◌, ◌++◌, Option, Some, None, if◌then◌else◌}
+use Rattle.std.specs.Fmt.{decimal}
+use Rattle.afdx_table.specs.declared.rows.PortRow.{PortRow}
+use Rattle.afdx_table.specs.Link.{Link}
+use Rattle.afdx_table.specs.Content.{Content}
+use Rattle.afdx_load.specs.Sums.{parts, Sums, load_of}
+use Rattle.afdx_load.specs.Bounds.{high_bound, low_bound}
+use Rattle.afdx_load.specs.Fits.{broken_rules}
+use Rattle.afdx_load.specs.declared.fault.Rule.{Rule}
+use Rattle.afdx_load.specs.declared.fault.Rule.TheVariants.{Rate, Buffer, HighDelay, LowDelay}
+use Rattle.afdx_serve.specs.Lines.{ended}
+use Rattle.afdx_serve.specs.Checks.{IsLeastBuffer, AreTextsOf}
+
+-- a need beside its limit, in one unit
+abbrev pub pair_text : List ℕ → ℕ → List ℕ
+pair_text need limit = need ++ codes " of " ++ decimal limit
+
+-- a bound in nanoseconds; there is none where the high links ask for the whole line
+abbrev pub need_text : Option ℕ → List ℕ
+need_text None = codes "none"
+need_text (Some bound) = decimal bound
+
+-- the bound of a priority beside the greatest delay; only a priority with links has one
+abbrev pub delay_text : ℕ → Option ℕ → ℕ → List ℕ
+delay_text links bound limit = if nat_lt 0 links then pair_text (need_text bound) limit else codes "-"
+
+-- the letter of a rule
+abbrev pub letter_of : Rule → List ℕ
+letter_of Rate = codes " L1"
+letter_of Buffer = codes " L2"
+letter_of HighDelay = codes " L3"
+letter_of LowDelay = codes " L4"
+
+abbrev pub letters_of : List Rule → List ℕ
+letters_of [] = []
+letters_of (rule ∷ rules) = letter_of rule ++ letters_of rules
+
+-- the rules that are broken, all of them in their order
+abbrev pub verdict_text : List Rule → List ℕ
+verdict_text [] = codes " fits"
+verdict_text (rule ∷ rules) = codes " breaks" ++ letters_of (rule ∷ rules)
+
+-- what a port's links need of the line and of the buffer, and what it has, in parts of the line and in bytes
+abbrev pub amounts_text : PortRow → Sums → ℕ → List ℕ
+amounts_text row s least =
+    codes "port " ++ decimal row.id ++ codes " rate " ++ pair_text (decimal s.rate) parts ++ codes " buffer " ++ pair_text (decimal least) row.buffer
+
+-- their bounds beside the greatest delay, in nanoseconds
+abbrev pub delays_text : PortRow → Sums → List ℕ
+delays_text row s = codes " high " ++ delay_text s.highs (high_bound s) row.max_delay ++ codes " low " ++ delay_text s.lows (low_bound s) row.max_delay
+
+-- these, and the rules that are broken
+abbrev pub size_text : PortRow → Sums → ℕ → List ℕ
+size_text row s least = amounts_text row s least ++ delays_text row s ++ verdict_text (broken_rules row s)
+
+-- the line of a port; a port without links has none
+abbrev pub IsSizeOf : PortRow → Sums → List ℕ → Type 0
+IsSizeOf row s line =
+    (0 < s.highs + s.lows → (least : ℕ) × IsLeastBuffer row s least × (line ≡ ended (size_text row s least)))
+    × ((0 < s.highs + s.lows → ⊥) → line ≡ [])
+
+-- the lines of these ports, in their order
+abbrev pub AreSizesOf : List Link → List PortRow → List ℕ → Type 0
+AreSizesOf links = AreTextsOf (λ row line. IsSizeOf row (load_of row.speed row.id links) line)
+
+-- the lines of a table's ports by rising number
+abbrev pub AreSizesIn : Content → List ℕ → Type 0
+AreSizesIn t text = AreSizesOf t.links t.ports text

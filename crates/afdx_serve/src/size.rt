@@ -1,0 +1,186 @@
+//! The command `size`.
+
+ghost use Rattle.std.specs.Prelude.{◌≡◌, ℕ, ◌++◌, [], Some, IfOk, OnOk, MatchResult, string_bytes, if◌then◌else◌};
+ghost use Rattle.afdx_table.specs.Content.{port_row};
+ghost use Rattle.afdx_load.specs.Sums.{load_of};
+ghost use Rattle.afdx_load.specs.Fits.{is_broken, broken_rules};
+ghost use Rattle.afdx_serve.specs.Lines.{ended};
+ghost use Rattle.afdx_serve.specs.Checks.{IsLeastBuffer};
+ghost use Rattle.afdx_serve.specs.Sizes.{delay_text, letter_of, letters_of, verdict_text, amounts_text, delays_text, size_text, IsSizeOf, AreSizesOf};
+ghost use Rattle.afdx_serve.specs.Serving.{world, Sizes, FailsToSize};
+
+use crate::failure::Failure;
+use crate::folder::Folder;
+use crate::get::get_table;
+use crate::output::write_bytes;
+use afdx_load::laws::longest_shows_links;
+use afdx_load::{Load, Loads, Rule, bounds, breaks, least_buffer, loads};
+use afdx_table::{PortRow, Table};
+use std::alloc::{AllocError, Global};
+use std::io::Write;
+
+/// The parts of a whole line.
+const LINE: u64 = 2_048_000_000;
+
+/// Appends the bound of a priority with so many links, beside the greatest delay.
+fn push_delay(
+    line: &mut String,
+    links: u32,
+    bound: Option<u128>,
+    limit: u64,
+) -> Result<(), AllocError>
+    ensures { OnOk result (string_bytes line.new ≡ string_bytes line.old ++ delay_text links bound limit) }
+{
+    if links == 0 {
+        line.push_str("-")?;
+        return Ok(());
+    }
+    match bound {
+        Some(nanos) => write!(line, "{nanos} of ")?,
+        None => line.push_str("none of ")?,
+    }
+    write!(line, "{limit}")
+}
+
+/// The letter of a rule, after a space.
+fn letter_of(rule: Rule) -> &'static str
+    ensures { result.now ≡ letter_of rule }
+{
+    match rule {
+        Rule::Rate => " L1",
+        Rule::Buffer => " L2",
+        Rule::HighDelay => " L3",
+        Rule::LowDelay => " L4",
+    }
+}
+
+/// Appends the letter of a rule that the load breaks.
+fn push_broken(
+    letters: &mut String,
+    row: &PortRow,
+    load: &Load,
+    rule: Rule,
+) -> Result<(), AllocError>
+    ensures { OnOk result (string_bytes letters.new
+        ≡ string_bytes letters.old ++ (if is_broken row.now load.now rule then letter_of rule else [])) }
+{
+    if breaks(row, load, rule) {
+        letters.push_str(letter_of(rule))?;
+    }
+    Ok(())
+}
+
+/// The letters of all rules that the load breaks.
+fn letters(alloc: Global, row: &PortRow, load: &Load) -> Result<String, AllocError>
+    ensures { IfOk result (λ text. string_bytes text ≡ letters_of (broken_rules row.now load.now)) }
+{
+    let mut letters = String::new(alloc);
+    push_broken(&mut letters, row, load, Rule::Rate)?;
+    push_broken(&mut letters, row, load, Rule::Buffer)?;
+    push_broken(&mut letters, row, load, Rule::HighDelay)?;
+    push_broken(&mut letters, row, load, Rule::LowDelay)?;
+    Ok(letters)
+}
+
+/// Appends whether the load fits, or which rules it breaks.
+fn push_verdict(
+    alloc: Global,
+    line: &mut String,
+    row: &PortRow,
+    load: &Load,
+) -> Result<(), AllocError>
+    ensures { OnOk result (string_bytes line.new ≡ string_bytes line.old ++ verdict_text (broken_rules row.now load.now)) }
+{
+    let letters = letters(alloc, row, load)?;
+    if letters.is_empty() {
+        line.push_str(" fits")
+    } else {
+        line.push_str(" breaks")?;
+        line.push_str(&letters)
+    }
+}
+
+/// What a port's links need of the line and of the buffer, beside what it has.
+fn amounts(alloc: Global, row: &PortRow, load: &Load, least: u128) -> Result<String, AllocError>
+    ensures { IfOk result (λ line. string_bytes line ≡ amounts_text row.now load.now least) }
+{
+    let mut line = format!(in alloc; "port {}", row.id)?;
+    write!(line, " rate {} of ", load.rate())?;
+    write!(line, "{LINE} buffer ")?;
+    write!(line, "{least} of ")?;
+    write!(line, "{}", row.buffer)?;
+    Ok(line)
+}
+
+/// Appends the two bounds beside the port's greatest delay.
+fn push_delays(line: &mut String, row: &PortRow, load: &Load) -> Result<(), AllocError>
+    ensures { OnOk result (string_bytes line.new ≡ string_bytes line.old ++ delays_text row.now load.now) }
+{
+    let bounds = bounds(load);
+    line.push_str(" high ")?;
+    push_delay(line, load.highs(), bounds.high, row.max_delay)?;
+    line.push_str(" low ")?;
+    push_delay(line, load.lows(), bounds.low, row.max_delay)
+}
+
+/// The line of a port with links.
+fn size_line(alloc: Global, row: &PortRow, load: &Load) -> Result<String, AllocError>
+    ensures { IfOk result (λ line. (least : ℕ) × IsLeastBuffer row.now load.now least × (string_bytes line ≡ ended (size_text row.now load.now least))) }
+{
+    let least = least_buffer(load, row.speed);
+    let mut line = amounts(alloc, row, load, least)?;
+    push_delays(&mut line, row, load)?;
+    push_verdict(alloc, &mut line, row, load)?;
+    line.push_str("\n")?;
+    Ok(line)
+}
+
+/// The line of a port of the loads' table; where no link leads to it, no text.
+fn port_size(alloc: Global, loads: &Loads<'_>, row: &PortRow) -> Result<String, AllocError>
+    requires { port_row loads.now row.now.id ≡ Some row.now }
+    ensures { IfOk result (λ line. IsSizeOf row.now (load_of row.now.speed row.now.id loads.now.links) (string_bytes line)) }
+{
+    longest_shows_links();
+    match loads.at(row.id) {
+        Some(load) if load.largest() > 0 => size_line(alloc, row, &load),
+        _ => Ok(String::new(alloc)),
+    }
+}
+
+/// The lines of the table's ports with links.
+///
+/// One pass over the links serves all ports: O(p + m) for p ports, of which there are at most 24, and links that
+/// together name m output ports.
+fn sizes_text(alloc: Global, table: &Table) -> Result<String, AllocError>
+    ensures { IfOk result (λ text. AreSizesOf table.now.links table.now.ports (string_bytes text)) }
+{
+    let loads = loads(table);
+    let mut text = String::new(alloc);
+    for row in table.ports() {
+        text.push_str(&port_size(alloc, &loads, row)?)?;
+    }
+    Ok(text)
+}
+
+/// Writes for each port of a file's table that has links what they need and what the port has, whether it fits or not.
+///
+/// # Errors
+///
+/// What is met first: `Get`, `Table`, `Write`; `Memory` where a growth was refused.
+pub(crate) fn size<O: Write, F: Folder>(
+    alloc: Global,
+    path: &str,
+    out: &mut O,
+    folder: &mut F,
+) -> Result<(), Failure>
+    ensures { MatchResult result
+        (λ _. Sizes path.now
+        (world (O.contents out.old) (F.files folder.old) (F.failed folder.old)) (world (O.contents out.new) (F.files folder.new) (F.failed folder.new)))
+        (λ f. FailsToSize f path.now
+        (world (O.contents out.old) (F.files folder.old) (F.failed folder.old)) (world (O.contents out.new) (F.files folder.new) (F.failed folder.new))) }
+{
+    let table = get_table(alloc, folder, path)?;
+    let text = sizes_text(alloc, &table)?;
+    write_bytes(out, text.as_bytes())?;
+    Ok(())
+}

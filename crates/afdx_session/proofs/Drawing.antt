@@ -1,0 +1,229 @@
+-- What one port hands out, where some was handed out before.
+use Rattle.std.proofs.Common.{◌≡◌, ℕ, zero, suc, ◌+◌, ◌<◌, ◌≤◌, ◌==◌, List, [], ◌∷◌, ◌++◌, map, length, drop, slice_get, slice_index, Option, Some, None, refl, ap, sym, ◌∙◌, arith, append_assoc, subst, get_or-set_same, get_or-set_other}
+use Rattle.std.specs.List.{flat_map, position}
+use Rattle.std.proofs.lemmas.List.{length-set, append-nil, map-append}
+use Rattle.std.proofs.lemmas.Grind.{flat_map-append}
+use Rattle.afdx_pcap.specs.Entry.{Entry}
+use Rattle.afdx_pcap.specs.Text.{header_text, record_text, capture_text}
+use Rattle.afdx_table.specs.declared.rows.PortRow.{PortRow}
+use Rattle.afdx_table.specs.Content.{Content}
+use Rattle.afdx_port.specs.declared.Sent.{Sent}
+use Rattle.afdx_port.specs.Order.{ReachesInOrder}
+use Rattle.afdx_port.specs.Course.{EventsAreInParts}
+use Rattle.afdx_core.specs.declared.kinds.Row.{Row}
+use Rattle.afdx_core.specs.Handling.{Handling}
+use Rattle.afdx_core.specs.Rows.{row_of}
+use Rattle.afdx_core.specs.State.{Run, State, sent_in, place_of, next_by, after_advance, after_handing}
+use Rattle.afdx_core.specs.Held.{Keeps, IsTaken, IsHanded}
+use Rattle.afdx_core.specs.Merge.{Arrival}
+use Rattle.afdx_session.specs.Output.{rows_of, written}
+use Rattle.afdx_session.specs.Replay.{HasBytesOf, left_at, IsDrained}
+use Rattle.afdx_session.specs.Streams.{sent_up_to}
+use Rattle.afdx_session.specs.Settled.{IsGiven, IsAt, Draws}
+use Rattle.afdx_session.specs.declared.lane.Lane.{Lane}
+use Rattle.afdx_session.specs.Kept.{text_up_to, IsOut}
+use Rattle.afdx_session.proofs.Replaying.{bytes_stay, bytes_more}
+use Rattle.afdx_session.proofs.Draining.{left_before, left_after, place_within, written_out, none_left}
+use Rattle.afdx_session.proofs.Growing.{sent_later}
+use Rattle.afdx_session.proofs.Showing.{sent_is}
+use Rattle.std.proofs.lemmas.List.{length-append}
+use Rattle.std.proofs.lemmas.List.{length-map}
+
+-- ---- the calls of a switch
+
+long_rows : (t : Content) (given : List Arrival) (s : State) → IsGiven t given s → length s.run.rows ≡ length given
+long_rows t given s is = ap length is.rows ∙ length-map given (λ (b : Arrival). row_of t b.port b.frame)
+
+-- one more arrival is given
+pub gives : (t : Content) (given : List Arrival) (a : Arrival) (old new : State) (step : Handling) → IsGiven t given old → IsTaken old new (row_of old.run.table a.port a.frame) a.frame step → IsGiven t (given ++ a ∷ []) new
+gives t given a old new step is taken = record {
+  table = ap (λ (r : Run). r.table) taken.run ∙ is.table;
+  rows = ap (λ (r : Run). r.rows) taken.run ∙ ap (λ (rows : List Row). rows ++ row_of old.run.table a.port a.frame ∷ []) is.rows
+      ∙ ap (λ (c : Content). rows_of t given ++ row_of c a.port a.frame ∷ []) is.table
+      ∙ sym (map-append (λ (b : Arrival). row_of t b.port b.frame) given (a ∷ []));
+  still_open = ap (λ (r : Run). r.finished) taken.run ∙ is.still_open;
+  frames = bytes_more given a old new (row_of old.run.table a.port a.frame) step (long_rows t given old is) taken is.frames;
+}
+
+-- the switch comes to an instant
+pub comes : (t : Content) (given : List Arrival) (h : ℕ) (old new : State) → IsGiven t given old → new.run ≡ after_advance h old.run → Keeps old new → IsAt t given h new
+comes t given h old new is run keeps = record {
+  is_given = record {
+    table = ap (λ (r : Run). r.table) run ∙ is.table;
+    rows = ap (λ (r : Run). r.rows) run ∙ is.rows;
+    still_open = ap (λ (r : Run). r.finished) run ∙ is.still_open;
+    frames = bytes_stay given old new (let long = long_rows t given old is in omega (arith, long)) keeps is.frames;
+  };
+  latest = ap (λ (r : Run). r.latest) run;
+}
+
+-- it hands out frames of a port
+pub drains_at : (t : Content) (given : List Arrival) (h port : ℕ) (old new : State) → IsAt t given h old → IsDrained port old new → IsAt t given h new
+drains_at t given h port old new is drained = record {
+  is_given = record {
+    table = drained.table ∙ is.is_given.table;
+    rows = drained.rows ∙ is.is_given.rows;
+    still_open = drained.finished ∙ is.is_given.still_open;
+    frames = drained.frames given (sym (long_rows t given old is.is_given)) is.is_given.frames;
+  };
+  latest = drained.latest ∙ is.latest;
+}
+
+-- ---- one port is drained
+
+pub draws_start : (given : List Arrival) (port place : ℕ) (start : State) (before : List ℕ) → Draws given port place start start before before
+draws_start given port place start before = record {
+  drained = record { table = refl; rows = refl; finished = refl; accepted = refl; latest = refl; handed = refl; others = λ place other. refl; frames = λ arrivals len has. has };
+  count = refl;
+  rest = refl;
+}
+
+same_place : (a b : ℕ) → Some a ≡ Some b → a ≡ b
+same_place a b e = cc
+
+pub draws_on : (given : List Arrival) (port place : ℕ) (start now new : State) (before text more : List ℕ) (out : Entry) (k : ℕ) (s : Sent) → place_of start.run port ≡ Some place → length start.run.handed ≡ length start.run.table.ports
+    → length given ≡ length start.run.rows → HasBytesOf given start → Draws given port place start now before text → IsHanded now new port out k s → more ≡ text ++ record_text out → Draws given port place start new before more
+draws_on given port place start now new before text more out k s at len long has draws handed is =
+    let d = draws.drained in
+    let place_now : place_of now.run port ≡ Some place = ap (λ (c : Content). position (λ (p : PortRow). p.id == port) c.ports) d.table ∙ at in
+    let same : k ≡ place = same_place k place (sym handed.at ∙ place_now) in
+    let own : IsHanded now new port out place s = subst (λ n. IsHanded now new port out n s) same handed in
+    let same_length : length now.run.handed ≡ length now.run.table.ports = d.handed ∙ len ∙ ap (λ (c : Content). length c.ports) (sym d.table) in
+    let within : place < length now.run.handed = omega (arith, same_length, place_within now.run port place place_now) in
+    let after = drop (suc (slice_index now.run.handed place)) (sent_in now.run (slice_get now.run.table.ports place)) in
+    let place_after : place_of (after_handing place now.run) port ≡ Some place = place_now in
+    let left_now : left_at now.run (Some place) ≡ s ∷ after = ap (left_at now.run) (sym place_now) ∙ left_before now.run port place s place_now own.next in
+    let left_new : left_at new.run (Some place) ≡ after = ap (λ (r : Run). left_at r (Some place)) own.run ∙ ap (left_at (after_handing place now.run)) (sym place_after) ∙ left_after now.run port place place_now within in
+    let counted : slice_index new.run.handed place ≡ slice_index now.run.handed place + 1 = ap (λ (r : Run). slice_index r.handed place) own.run ∙ get_or-set_same now.run.handed place (slice_index now.run.handed place + 1) 0 within in
+    let texts : List Sent → List ℕ = λ left. flat_map record_text (map (written given) left) in
+    record {
+      drained = record {
+        table = ap (λ (r : Run). r.table) own.run ∙ d.table;
+        rows = ap (λ (r : Run). r.rows) own.run ∙ d.rows;
+        latest = ap (λ (r : Run). r.latest) own.run ∙ d.latest;
+        finished = ap (λ (r : Run). r.finished) own.run ∙ d.finished;
+        accepted = own.keeps.accepted ∙ d.accepted;
+        handed = ap (λ (r : Run). length r.handed) own.run ∙ length-set now.run.handed place (slice_index now.run.handed place + 1) ∙ d.handed;
+        others = λ other differs.
+            ap (λ (r : Run). slice_index r.handed other) own.run
+            ∙ get_or-set_other now.run.handed place other (slice_index now.run.handed place + 1) 0 (λ (e : other ≡ place). differs (at ∙ ap Some (sym e)))
+            ∙ d.others other differs;
+        frames = λ arrivals l h. bytes_stay arrivals now new (omega (arith, l, ap length d.rows)) own.keeps (d.frames arrivals l h);
+      };
+      count =
+          let old_left = ap length left_now in
+          let new_left = ap length left_new in
+          let total = draws.count in
+          omega (arith, old_left, new_left, total, counted);
+      rest =
+          draws.rest
+          ∙ ap (λ left. text ++ texts left) left_now
+          ∙ ap (λ (e : Entry). text ++ (record_text e ++ texts after)) (written_out given now new port place out s (long ∙ sym (ap length d.rows)) (d.frames given long has) own)
+          ∙ sym (append_assoc text (record_text out) (texts after))
+          ∙ ap (λ t. t ++ texts after) (sym is)
+          ∙ ap (λ left. more ++ texts left) (sym left_new);
+    }
+
+-- ---- all goes out
+
+sent-front : (xs ys : List Sent) → drop (length xs) (xs ++ ys) ≡ ys
+sent-front [] ys = refl
+sent-front (x ∷ xs) ys = sent-front xs ys
+
+capture-append : (es more : List Entry) → capture_text (es ++ more) ≡ capture_text es ++ flat_map record_text more
+capture-append es more = ap (λ text. header_text ++ text) (flat_map-append record_text es more) ∙ sym (append_assoc header_text (flat_map record_text es) (flat_map record_text more))
+
+drop-within : (n : ℕ) (xs ys : List ℕ) → n ≤ length xs → drop n (xs ++ ys) ≡ drop n xs ++ ys
+drop-within zero xs ys le = refl
+drop-within (suc n) [] ys le = absurd (omega (arith, le))
+drop-within (suc n) (x ∷ xs) ys le = drop-within n xs ys (omega (arith, le))
+
+-- a port that had handed out all up to an instant hands out all up to the one that the switch has come to
+pub goes_out : {Z : Type 0} → EventsAreInParts → ReachesInOrder → (t : Content) (given : List Arrival) (h k : ℕ) (start now : State) (p : PortRow) (place : ℕ) (old new : Lane Z)
+    → IsAt t given k start → h ≤ k → place_of start.run p.id ≡ Some place → slice_get t.ports place ≡ Some p → IsOut t given h start p place old
+    → Draws given p.id place start now old.out.items new.out.items → next_by now.run (place_of now.run p.id) ≡ None → new.taken ≡ old.taken → IsOut t given k now p place new
+goes_out {Z} parts reaches t given h k start now p place old new at le place_start row out draws none taken = record {
+  count = omega (arith, total, left_none, out.count, all_long, sent_long);
+  taken = let here = ap length text_is in let both = length-append (text_up_to t given h p) rest_text in let was = out.taken in omega (arith, taken, here, both, was);
+  left =
+      sym (append-nil new.out.items)
+      ∙ ap (λ left. new.out.items ++ flat_map record_text (map (written given) left)) (sym none_now)
+      ∙ sym draws.rest
+      ∙ ap (λ left. old.out.items ++ flat_map record_text (map (written given) left)) left_start
+      ∙ ap (λ text. text ++ rest_text) out.left
+      ∙ sym (drop-within old.taken (text_up_to t given h p) rest_text out.taken)
+      ∙ ap (λ n. drop n (text_up_to t given h p ++ rest_text)) (sym taken)
+      ∙ ap (drop new.taken) (sym text_is);
+} where
+  first : List Sent
+  first = sent_up_to t given (Some h) p
+
+  rest : (more_sent : List Sent) × (sent_up_to t given (Some k) p ≡ first ++ more_sent)
+  rest = sent_later parts reaches t given h (Some k) p le
+
+  rest_text : List ℕ
+  rest_text = flat_map record_text (map (written given) rest.0)
+
+  text_is : text_up_to t given k p ≡ text_up_to t given h p ++ rest_text
+  text_is = ap (λ sent. capture_text (map (written given) sent)) rest.1 ∙ ap capture_text (map-append (written given) first rest.0) ∙ capture-append (map (written given) first) (map (written given) rest.0)
+
+  row_start : slice_get start.run.table.ports place ≡ Some p
+  row_start = ap (λ (c : Content). slice_get c.ports place) at.is_given.table ∙ row
+
+  place_now : place_of now.run p.id ≡ Some place
+  place_now = ap (λ (c : Content). position (λ (q : PortRow). q.id == p.id) c.ports) draws.drained.table ∙ place_start
+
+  sent_start : sent_in start.run (Some p) ≡ first ++ rest.0
+  sent_start = sent_is t given k start p at ∙ rest.1
+
+  left_start : left_at start.run (Some place) ≡ rest.0
+  left_start =
+      ap (λ (o : Option PortRow). drop (slice_index start.run.handed place) (sent_in start.run o)) row_start
+      ∙ ap (λ n. drop n (sent_in start.run (Some p))) out.count
+      ∙ ap (drop (length first)) sent_start
+      ∙ sent-front first rest.0
+
+  none_now : left_at now.run (Some place) ≡ []
+  none_now = ap (left_at now.run) (sym place_now) ∙ none_left now.run (place_of now.run p.id) none
+
+  total : slice_index now.run.handed place + length (left_at now.run (Some place)) ≡ slice_index start.run.handed place + length (left_at start.run (Some place))
+  total = draws.count
+
+  left_none : length (left_at now.run (Some place)) ≡ 0
+  left_none = ap length none_now
+
+  all_long : length (left_at start.run (Some place)) ≡ length rest.0
+  all_long = ap length left_start
+
+  sent_long : length (sent_up_to t given (Some k) p) ≡ length first + length rest.0
+  sent_long = ap length rest.1 ∙ length-append first rest.0
+
+-- ---- the loop
+
+pub drained_on : (port : ℕ) (start now new : State) (out : Entry) (place : ℕ) (s : Sent) → length start.run.handed ≡ length start.run.table.ports → IsDrained port start now → IsHanded now new port out place s → IsDrained port start new
+drained_on port start now new out place s len d handed =
+    let place_start : place_of start.run port ≡ Some place = ap (λ (c : Content). position (λ (p : PortRow). p.id == port) c.ports) (sym d.table) ∙ handed.at in
+    record {
+      table = ap (λ (r : Run). r.table) handed.run ∙ d.table;
+      rows = ap (λ (r : Run). r.rows) handed.run ∙ d.rows;
+      latest = ap (λ (r : Run). r.latest) handed.run ∙ d.latest;
+      finished = ap (λ (r : Run). r.finished) handed.run ∙ d.finished;
+      accepted = handed.keeps.accepted ∙ d.accepted;
+      handed = ap (λ (r : Run). length r.handed) handed.run ∙ length-set now.run.handed place (slice_index now.run.handed place + 1) ∙ d.handed;
+      others = λ other differs.
+          ap (λ (r : Run). slice_index r.handed other) handed.run
+          ∙ get_or-set_other now.run.handed place other (slice_index now.run.handed place + 1) 0 (λ (same : other ≡ place). differs (place_start ∙ ap Some (sym same)))
+          ∙ d.others other differs;
+      frames = λ arrivals long has. bytes_stay arrivals now new (omega (arith, long, ap length d.rows)) handed.keeps (d.frames arrivals long has);
+    }
+
+pub starts_drained : (port : ℕ) (start : State) → IsDrained port start start
+starts_drained port start = record { table = refl; rows = refl; finished = refl; accepted = refl; latest = refl; handed = refl; others = λ place other. refl; frames = λ arrivals len has. has }
+
+pub same_handed : (port : ℕ) (start now : State) → length start.run.handed ≡ length start.run.table.ports → IsDrained port start now → length now.run.handed ≡ length now.run.table.ports
+same_handed port start now len d = d.handed ∙ len ∙ ap (λ (c : Content). length c.ports) (sym d.table)
+
+-- nothing changed in the last step
+pub draws_same : (given : List Arrival) (port place : ℕ) (start now new : State) (before text more : List ℕ) → new ≡ now → more ≡ text → Draws given port place start now before text → Draws given port place start new before more
+draws_same given port place start now new before text more same is draws =
+    subst (λ (s : State). Draws given port place start s before more) (sym same) (subst (λ (t : List ℕ). Draws given port place start now before t) (sym is) draws)

@@ -1,0 +1,144 @@
+-- A session as contracts see it: what it was fed, and what its calls do to that.
+use Rattle.std.specs.Prelude.{ℕ, ◌≡◌, ◌⊎◌, ◌==◌, Bool, true, false, if◌then◌else◌, List, [], ◌∷◌, ◌++◌, map, find, Option, Some, None}
+use Rattle.afdx_table.specs.declared.rows.PortRow.{PortRow}
+use Rattle.afdx_table.specs.Content.{Content}
+use Rattle.afdx_pcap.specs.declared.fault.PcapFault.{PcapFault}
+use Rattle.afdx_pcap.specs.Fault.{IsEarlyFault}
+use Rattle.afdx_session.specs.declared.plan.RunFault.{RunFault}
+use Rattle.afdx_session.specs.declared.plan.RunFault.TheVariants as run
+use Rattle.afdx_session.specs.Streams.{Stream, AreWhole, text_so_far}
+
+-- what a session took of a port, and what was taken of it there
+pub record Intake : Type 0 where
+  pub port : ℕ
+  -- the bytes of the port's capture that came by calls that answered Ok
+  pub bytes : List ℕ
+  pub closed : Bool
+  -- how many bytes of the port's output were taken
+  pub taken : ℕ
+
+pub record Seen : Type 0 where
+  pub table : Content
+  -- the table was checked, and accepted
+  pub accepted : Bool
+  -- by rising port
+  pub intakes : List Intake
+  -- a feed or a close has answered Ok
+  pub begun : Bool
+  -- a call has answered want of memory or a capture's fault
+  pub failed : Bool
+
+abbrev pub fresh_intake : PortRow → Intake
+fresh_intake p = record { port = p.id; bytes = []; closed = false; taken = 0 }
+
+abbrev pub fresh_session : Bool → Content → Seen
+fresh_session accepted t = record { table = t; accepted = accepted; intakes = map fresh_intake t.ports; begun = false; failed = false }
+
+-- ---- what has gone out
+
+-- the whole records that are there
+pub record IsStream (i : Intake) (s : Stream) : Type 0 where
+  pub port : s.port ≡ i.port
+  pub records : AreWhole i.bytes s.records
+  pub closed : s.closed ≡ i.closed
+
+abbrev pub AreStreams : List Intake → List Stream → Type 0
+AreStreams [] [] = Unit {0}
+AreStreams [] (s ∷ streams) = ⊥
+AreStreams (i ∷ intakes) [] = ⊥
+AreStreams (i ∷ intakes) (s ∷ streams) = IsStream i s × AreStreams intakes streams
+
+-- the bytes that have gone out for a port: nothing before the first call that answered Ok
+pub record HasGoneOut (v : Seen) (p : PortRow) (text : List ℕ) : Type 0 where
+  pub streams : List Stream
+  pub are : AreStreams v.intakes streams
+  pub text_is : text ≡ (if v.begun then text_so_far v.table streams p else [])
+
+-- ---- what calls do
+
+-- the intake of a port
+abbrev pub intake_at : Seen → ℕ → Option Intake
+intake_at v port = find (λ i. i.port == port) v.intakes
+
+abbrev pub bytes_in : Option Intake → List ℕ
+bytes_in None = []
+bytes_in (Some i) = i.bytes
+
+abbrev pub taken_in : Option Intake → ℕ
+taken_in None = 0
+taken_in (Some i) = i.taken
+
+-- the bytes of a port's capture so far, and how many were taken there
+abbrev pub bytes_of : Seen → ℕ → List ℕ
+bytes_of v port = bytes_in (intake_at v port)
+
+abbrev pub taken_of : Seen → ℕ → ℕ
+taken_of v port = taken_in (intake_at v port)
+
+-- the first refusal that is none of memory or of the bytes
+abbrev pub refusal_at : Option Intake → Option RunFault
+refusal_at None = Some run.WrongPorts
+refusal_at (Some i) = if i.closed then Some run.Closed else None
+
+abbrev pub refusal : Seen → ℕ → Option RunFault
+refusal v port = if v.failed then Some run.Failed else refusal_at (intake_at v port)
+
+-- the intakes where that of a port is another
+abbrev pub changed : ℕ → (Intake → Intake) → List Intake → List Intake
+changed port f [] = []
+changed port f (i ∷ intakes) = if i.port == port then f i ∷ intakes else i ∷ changed port f intakes
+
+abbrev pub fed : List ℕ → Intake → Intake
+fed piece i = record { port = i.port; bytes = i.bytes ++ piece; closed = i.closed; taken = i.taken }
+
+abbrev pub ended : Intake → Intake
+ended i = record { port = i.port; bytes = i.bytes; closed = true; taken = i.taken }
+
+abbrev pub took : ℕ → Intake → Intake
+took n i = record { port = i.port; bytes = i.bytes; closed = i.closed; taken = n }
+
+-- a piece of a port's capture came; the capture ended; so many bytes were taken; a call failed
+abbrev pub after_feed : Seen → ℕ → List ℕ → Seen
+after_feed v port piece = record { table = v.table; accepted = v.accepted; intakes = changed port (fed piece) v.intakes; begun = true; failed = v.failed }
+
+abbrev pub after_close : Seen → ℕ → Seen
+after_close v port = record { table = v.table; accepted = v.accepted; intakes = changed port ended v.intakes; begun = true; failed = v.failed }
+
+abbrev pub after_take : Seen → ℕ → ℕ → Seen
+after_take v port n = record { table = v.table; accepted = v.accepted; intakes = changed port (took n) v.intakes; begun = v.begun; failed = v.failed }
+
+abbrev pub after_failure : Seen → Seen
+after_failure v = record { table = v.table; accepted = v.accepted; intakes = v.intakes; begun = v.begun; failed = true }
+
+-- some bytes have no early fault
+abbrev pub IsSoundSoFar : List ℕ → Type 0
+IsSoundSoFar bytes = (fault : PcapFault) → IsEarlyFault bytes fault → ⊥
+
+-- a call at a port is refused: for the session's state, and nothing changes; or for want of memory or a fault of the bytes, and nothing
+-- changes but that a call has failed
+abbrev pub IsRefused : Seen → Seen → ℕ → RunFault → Type 0 → Type 0
+IsRefused old new port fault Why = ((refusal old port ≡ Some fault) × (new ≡ old)) ⊎ ((refusal old port ≡ None) × (new ≡ after_failure old) × Why)
+
+-- ---- how intakes go on
+
+-- more bytes came while it was open, or it was closed, or nothing happened
+pub record IsFedOn (i later : Intake) : Type 0 where
+  pub port : later.port ≡ i.port
+  pub more : List ℕ
+  pub bytes : later.bytes ≡ i.bytes ++ more
+  pub ended : i.closed ≡ true → (more ≡ []) × (later.closed ≡ true)
+
+abbrev pub AreFedOn : List Intake → List Intake → Type 0
+AreFedOn [] [] = Unit {0}
+AreFedOn [] (n ∷ later) = ⊥
+AreFedOn (i ∷ intakes) [] = ⊥
+AreFedOn (i ∷ intakes) (n ∷ later) = IsFedOn i n × AreFedOn intakes later
+
+-- however the bytes come in pieces, what has gone out so far is a front of what has gone out later
+abbrev pub OutputGrowsWithBytes : Type 0
+OutputGrowsWithBytes = (t : Content) (intakes later : List Intake) (streams others : List Stream) (p : PortRow) → AreFedOn intakes later → AreStreams intakes streams → AreStreams later others
+    → (rest : List ℕ) × (text_so_far t others p ≡ text_so_far t streams p ++ rest)
+
+-- some bytes have one list of whole records
+abbrev pub WholeRecordsAreUnique : Type 0
+WholeRecordsAreUnique = (intakes : List Intake) (streams others : List Stream) → AreStreams intakes streams → AreStreams intakes others → streams ≡ others

@@ -1,0 +1,297 @@
+//! What a session has of one port.
+
+ghost use Rattle.std.specs.Prelude.{◌≡◌, ◌<◌, ◌≤◌, ◌-◌, ◌^◌, ◌==◌, ◌++◌, [], ℕ, true, false, take, None, Some, Ok, List, length, IfOk, IfErr, OnOk, OnErr, IfSome, IfNone, Option, is_some, if◌then◌else◌, ◌+◌, IsTrue, ◌↔◌, position, find};
+ghost use Rattle.afdx_pcap.specs.Entry.{Entry};
+ghost use Rattle.afdx_pcap.specs.Reading.{Answers};
+ghost use Rattle.afdx_session.specs.Lanes.{HasRead, HasReadAll, IsReadOn, Adds, IsLaneFault, limit_at, best_place, IsFirstOf, IsWithinPlace, head_of, sooner_of, IsStill, IsPieceFault, Goes, NoneGoes};
+ghost use Rattle.afdx_session.specs.Reading.{IsFaultAt};
+ghost use Rattle.afdx_session.specs.View.{IsFreshLane, AreFreshLanes, IsSettledLane, IsTaken, IsOpenAt, intakes_of};
+ghost use Rattle.afdx_session.specs.Session.{refusal_at};
+
+use crate::plan::RunFault;
+use afdx_pcap::laws::taken_records_are_the_first;
+use afdx_pcap::{PcapFault, Reader, Record, write_header};
+use afdx_table::PortRow;
+use afdx_units::Stamp;
+use std::alloc::{AllocError, Allocator};
+use std::collections::VecDeque;
+use std::mem;
+
+/// A port's capture as far as it has come, and its output as far as it was not taken.
+///
+/// `undone`, `closed`, `ready` and `taken` tell of the calls that answered Ok: what a call that failed has
+/// changed besides does not count.
+#[derive(Drop)]
+pub(crate) struct Lane<'a, A: Allocator> {
+    pub(crate) port: u8,
+    pub(crate) reader: Reader<'a, A>,
+    /// The stamp of the last whole record, 0 where there is none.
+    pub(crate) last: Stamp,
+    /// Whole records that the switch did not take yet, in order.
+    pub(crate) waiting: VecDeque<Record<'a, A>, A>,
+    /// The port's output that was not taken.
+    pub(crate) out: Vec<u8, A>,
+    /// The bytes at the end of the reader's that a call brought that has not answered Ok.
+    pub(crate) undone: usize,
+    pub(crate) closed: bool,
+    /// The bytes of `out` that have gone out.
+    pub(crate) ready: usize,
+    pub(crate) taken: u128,
+}
+
+impl<'a, A: Allocator + Copy> Lane<'a, A> {
+    /// A port of which nothing has come.
+    pub(crate) fn new(alloc: A, port: u8) -> Result<Lane<'a, A>, AllocError>
+        ensures { IfOk result (λ l. IsFreshLane port l) }
+    {
+        let mut out = Vec::new(alloc);
+        write_header(&mut out)?;
+        Ok(Lane {
+            port,
+            reader: Reader::new(alloc),
+            last: Stamp::ZERO,
+            waiting: VecDeque::new(alloc),
+            out,
+            undone: 0,
+            closed: false,
+            ready: 0,
+            taken: 0,
+        })
+    }
+
+    /// The reader's next whole record.
+    fn next(&mut self) -> Result<Option<Record<'a, A>>, RunFault>
+        requires { self.old.reader.fault ≡ None }
+        ensures read_on { IsReadOn self.old self.new }
+        ensures waiting { self.new.waiting ≡ self.old.waiting }
+        ensures last { self.new.last ≡ self.old.last }
+        ensures ok { IfOk result (λ found. (self.new.reader.fault ≡ None)
+            × (self.new.reader.given ≡ (if is_some found then self.old.reader.given + 1 else self.old.reader.given))
+            × Answers self.old.reader.bytes self.old.reader.given self.old.reader.closed (Ok found)) }
+        ensures err { IfErr result (λ fault. IsLaneFault self.old fault) }
+    {
+        match self.reader.next() {
+            Ok(found) => Ok(found),
+            Err(PcapFault::Memory) => Err(RunFault::Memory),
+            Err(fault) => Err(RunFault::Capture(self.port, fault)),
+        }
+    }
+
+    /// Whole records that are there join those that wait. O(their bytes).
+    fn read_on(&mut self) -> Result<(), RunFault>
+        requires { self.old.reader.fault ≡ None }
+        ensures read_on { IsReadOn self.old self.new }
+        ensures ok { OnOk result ((more : List Entry) × Adds self.old self.new more × HasReadAll self.new) }
+        ensures err { IfErr result (λ fault. IsLaneFault self.old fault) }
+    {
+        taken_records_are_the_first();
+        while let Some(record) = self.next()? {
+            self.last = record.stamp();
+            self.waiting.push_back(record)?;
+        }
+        Ok(())
+    }
+
+    /// The next piece comes.
+    pub(crate) fn feed(&mut self, piece: &[u8]) -> Result<(), RunFault>
+        requires still_open { self.old.reader.closed ≡ false }
+        requires no_fault { self.old.reader.fault ≡ None }
+        requires done { self.old.undone ≡ 0 }
+        ensures still { IsStill self.old self.new }
+        ensures bytes { take (length self.new.reader.bytes - self.new.undone) self.new.reader.bytes ≡ self.old.reader.bytes }
+        ensures ok { OnOk result ((self.new.reader.bytes ≡ self.old.reader.bytes ++ piece.now) × (self.new.reader.closed ≡ false)
+            × ((more : List Entry) × Adds self.old self.new more) × HasReadAll self.new) }
+        ensures err { IfErr result (λ fault. IsPieceFault (self.old.reader.bytes ++ piece.now) self.old.port fault) }
+    {
+        match self.reader.feed(piece) {
+            Ok(()) => {}
+            Err(_) => return Err(RunFault::Memory),
+        }
+        taken_records_are_the_first();
+        self.undone = piece.len();
+        self.read_on()
+    }
+
+    /// The capture ends.
+    pub(crate) fn close(&mut self) -> Result<(), RunFault>
+        requires { self.old.reader.fault ≡ None }
+        ensures still { IsStill self.old self.new }
+        ensures undone { self.new.undone ≡ self.old.undone }
+        ensures bytes { self.new.reader.bytes ≡ self.old.reader.bytes }
+        ensures ended { self.new.reader.closed ≡ true }
+        ensures ok { OnOk result ((more : List Entry) × Adds self.old self.new more × HasReadAll self.new) }
+        ensures err { IfErr result (λ fault. IsFaultAt self.old.reader.bytes self.old.port fault) }
+    {
+        self.reader.close();
+        self.read_on()
+    }
+
+    /// The call has answered Ok.
+    pub(crate) fn settle(&mut self)
+        ensures { IsSettledLane self.old self.new }
+    {
+        self.undone = 0;
+        self.closed = self.reader.is_closed();
+        self.ready = self.out.len();
+    }
+
+    /// What has gone out and was not taken. It takes no memory.
+    pub(crate) fn take(&mut self, alloc: A) -> Vec<u8, A>
+        requires bound { self.old.taken + self.old.ready < 2 ^ 128 }
+        ensures gives { result.items ≡ take self.old.ready self.old.out.items }
+        ensures taken { IsTaken self.old self.new }
+    {
+        if self.ready == 0 {
+            return Vec::new(alloc);
+        }
+        let mut bytes = mem::replace(&mut self.out, Vec::new(alloc));
+        bytes.truncate(self.ready);
+        self.taken += self.ready as u128;
+        self.ready = 0;
+        bytes
+    }
+}
+
+/// A lane for each port.
+pub(crate) fn lanes_of<'a, A: Allocator + Copy>(
+    alloc: A,
+    ports: &[PortRow],
+) -> Result<Vec<Lane<'a, A>, A>, AllocError>
+    ensures { IfOk result (λ lanes. AreFreshLanes ports.now lanes.items) }
+{
+    let mut lanes = Vec::new(alloc);
+    for row in ports {
+        let lane = Lane::new(alloc, row.id)?;
+        lanes.push(lane)?;
+    }
+    Ok(lanes)
+}
+
+/// The place of a port's lane. O(ports).
+pub(crate) fn place_of<A: Allocator>(lanes: &[Lane<'_, A>], port: u8) -> Option<usize>
+    ensures { result ≡ position (λ l. l.port == port) lanes.now }
+{
+    lanes.iter().position(|lane| lane.port == port)
+}
+
+/// The place of the lane of a port that may be fed or closed. O(ports).
+pub(crate) fn open_place<A: Allocator>(lanes: &[Lane<'_, A>], port: u8) -> Result<usize, RunFault>
+    ensures ok { IfOk result (λ place. IsOpenAt lanes.now port place) }
+    ensures err { IfErr result (λ fault. refusal_at (find (λ i. i.port == port) (intakes_of lanes.now)) ≡ Some fault) }
+{
+    match place_of(lanes, port) {
+        Some(place) => {
+            if lanes[place].closed {
+                return Err(RunFault::Closed);
+            }
+            Ok(place)
+        }
+        None => Err(RunFault::WrongPorts),
+    }
+}
+
+/// Of two places in the order by stamp the first; the former where the stamps are equal.
+fn first_place(former: Option<(Stamp, u8)>, place: (Stamp, u8)) -> (Stamp, u8)
+    ensures { result ≡ best_place former place }
+{
+    match former {
+        Some((stamp, port)) => {
+            if stamp <= place.0 {
+                (stamp, port)
+            } else {
+                place
+            }
+        }
+        None => place,
+    }
+}
+
+/// The place in the order by stamp and port that nothing can come before any more: the least of the last
+/// records' of captures that have not ended; none where all have. O(ports).
+pub(crate) fn limit_of<A: Allocator + Copy>(lanes: &[Lane<'_, A>]) -> Option<(Stamp, u8)>
+    ensures { result ≡ limit_at lanes.now }
+{
+    let mut limit: Option<(Stamp, u8)> = None;
+    for lane in lanes {
+        if !lane.reader.is_closed() {
+            limit = Some(first_place(limit, (lane.last, lane.port)));
+        }
+    }
+    limit
+}
+
+/// The stamp of the first record that waits at a lane.
+fn head_of<A: Allocator>(lane: &Lane<'_, A>) -> Option<Stamp>
+    ensures { result ≡ head_of lane.now.waiting.items }
+{
+    match lane.waiting.front() {
+        Some(record) => Some(record.stamp()),
+        None => None,
+    }
+}
+
+/// The first by stamp of what was found and of the head at a place; the former of equal ones.
+fn sooner_of(
+    former: Option<(usize, Stamp)>,
+    place: usize,
+    head: Option<Stamp>,
+) -> Option<(usize, Stamp)>
+    ensures { result ≡ sooner_of former place head }
+{
+    match (former, head) {
+        (Some((at, stamp)), Some(next)) => {
+            if stamp <= next {
+                Some((at, stamp))
+            } else {
+                Some((place, next))
+            }
+        }
+        (None, Some(next)) => Some((place, next)),
+        (_, None) => former,
+    }
+}
+
+/// The place of the lane whose first record comes first by stamp, of equal ones the first lane, and the stamp;
+/// none where nothing waits. O(ports).
+pub(crate) fn first_of<A: Allocator>(lanes: &[Lane<'_, A>]) -> Option<(usize, Stamp)>
+    ensures { IsFirstOf lanes.now result }
+{
+    let mut first: Option<(usize, Stamp)> = None;
+    for place in 0..lanes.len() {
+        first = sooner_of(first, place, head_of(&lanes[place]));
+    }
+    first
+}
+
+/// Whether an arrival at this stamp and port lies at the limit or before it.
+pub(crate) fn is_within(limit: Option<(Stamp, u8)>, stamp: Stamp, port: u8) -> bool
+    ensures { IsTrue result ↔ IsWithinPlace limit stamp port }
+{
+    match limit {
+        Some((last, at)) => stamp < last || (stamp == last && port <= at),
+        None => true,
+    }
+}
+
+/// Takes the first of all records that wait, where it lies within the limit, and its port. O(ports).
+pub(crate) fn take_settled<'a, A: Allocator>(
+    lanes: &mut [Lane<'a, A>],
+    limit: Option<(Stamp, u8)>,
+) -> Option<(u8, Record<'a, A>)>
+    ensures some { IfSome result (λ x. Goes limit lanes.old lanes.new x.0 x.1) }
+    ensures none { IfNone result ((lanes.new ≡ lanes.old) × ((first : Option (ℕ × ℕ)) × NoneGoes limit lanes.old first)) }
+{
+    let first = first_of(lanes);
+    let (place, stamp) = match first {
+        Some(found) => found,
+        None => return None,
+    };
+    let port = lanes[place].port;
+    if !is_within(limit, stamp, port) {
+        return None;
+    }
+    match lanes[place].waiting.pop_front() {
+        Some(record) => Some((port, record)),
+        None => None,
+    }
+}

@@ -1,0 +1,265 @@
+//! Records that go from the lanes through the switch, and out again.
+
+ghost use Rattle.std.specs.Prelude.{◌≡◌, ◌<◌, ◌≤◌, ◌^◌, ◌==◌, ℕ, Bool, true, None, Some, List, [], length, map, vec_capacity, IfOk, IfErr, OnOk, IfSome, option_map, Option};
+ghost use Rattle.afdx_units.specs.Time.{last_second};
+ghost use Rattle.afdx_table.specs.WellFormed.{IsWellFormed};
+ghost use Rattle.afdx_load.specs.Accepted.{IsAccepted};
+ghost use Rattle.afdx_session.specs.Outcome.{table_in, is_cleared};
+ghost use Rattle.afdx_core.specs.Handling.{Handling};
+ghost use Rattle.afdx_core.specs.Held.{told, IsTaken};
+ghost use Rattle.afdx_core.specs.Rows.{row_of};
+ghost use Rattle.afdx_core.specs.State.{refusal_of, fresh_state, after_finish};
+ghost use Rattle.afdx_count.specs.Tally.{noted, fresh, ended};
+ghost use Rattle.afdx_session.specs.Kept.{AreOfTable, AreTouched, IsOfSameTable, IsGoing, HasCome, IsRunning, come_to};
+ghost use Rattle.afdx_session.specs.Lanes.{limit_at, NoneGoes};
+ghost use Rattle.afdx_session.specs.View.{IsRound, IsReady, IsOpenAt, IsFed, IsNotFed, IsEnded, IsNotEnded, AreSettledLanes, AreFreshLanes, AreHalfDone, AreEndedLanes, texts_at};
+ghost use Rattle.afdx_session.specs.Reading.{IsReadFault};
+
+use crate::drain::drain_all;
+use crate::lane::{Lane, lanes_of, limit_of, take_settled};
+use crate::plan::{Outcome, Plan, RunFault};
+use afdx_core::laws::{merged_is_a_merge, merged_is_by_stamp_and_port};
+use afdx_core::{CoreFault, Switch};
+use afdx_count::Counts;
+use afdx_count::laws::note_counts_one_more;
+use afdx_pcap::Record;
+use afdx_pcap::laws::taken_records_are_the_first;
+use afdx_port::laws::{arrivals_change_nothing_earlier, stamps_keep_their_order};
+use afdx_units::Stamp;
+use std::alloc::{AllocError, Allocator};
+
+/// A switch, its counters, and what there is of each port.
+#[derive(Drop)]
+pub(crate) struct Machine<'a, A: Allocator> {
+    pub(crate) switch: Switch<'a, A>,
+    pub(crate) counts: Counts<A>,
+    /// By rising port.
+    pub(crate) lanes: Vec<Lane<'a, A>, A>,
+}
+
+/// The fault that an arrival is refused for where its port is the table's and its stamp does not go back.
+fn want_of_memory(fault: CoreFault) -> AllocError
+    requires { told fault ≡ None }
+{
+    match fault {
+        CoreFault::Memory => AllocError,
+        CoreFault::Earlier | CoreFault::NoSuchPort => unreachable!(),
+    }
+}
+
+/// The last instant that a stamp can tell: whatever is sent starts before it.
+fn last_instant() -> Stamp
+    ensures { result ≡ 4294967295999999999 }
+{
+    match Stamp::from_ns(4_294_967_295_999_999_999) {
+        Some(stamp) => stamp,
+        None => unreachable!(),
+    }
+}
+
+/// The instant that the switch comes to where this place in the merge is the least that a capture has come to.
+fn instant_of(limit: Option<(Stamp, u8)>) -> Stamp
+    ensures { result ≡ come_to (option_map (λ p. p.0) limit) }
+{
+    match limit {
+        Some((stamp, _)) => stamp,
+        None => last_instant(),
+    }
+}
+
+impl<'a, A: Allocator + Copy> Machine<'a, A> {
+    /// A switch over a plan that took nothing.
+    pub(crate) fn new(alloc: A, plan: Plan) -> Result<Machine<'a, A>, AllocError>
+        ensures fresh { IfOk result (λ m. (m.switch ≡ fresh_state (is_cleared plan) (table_in plan)) × (m.counts ≡ fresh (table_in plan))
+            × AreFreshLanes (table_in plan).ports m.lanes.items) }
+        ensures formed { IsWellFormed (table_in plan) }
+        ensures accepted { is_cleared plan ≡ true → IsAccepted (table_in plan) }
+    {
+        let lanes = lanes_of(alloc, plan.table().ports())?;
+        let counts = Counts::new(alloc, plan.table())?;
+        let switch = plan.into_switch(alloc)?;
+        Ok(Machine {
+            switch,
+            counts,
+            lanes,
+        })
+    }
+
+    /// A record goes to the switch, and is counted.
+    fn give(&mut self, port: u8, frame: Record<'a, A>) -> Result<(), AllocError>
+        requires early { frame.stamp < last_second }
+        requires none_else { refusal_of self.old.switch.run port frame.stamp ≡ None }
+        ensures lanes { self.new.lanes ≡ self.old.lanes }
+        ensures same { IsOfSameTable self.old.switch self.new.switch }
+        ensures ok { OnOk result ((step : Handling) × (step.number < 2 ^ 64)
+            × IsTaken self.old.switch self.new.switch (row_of self.old.switch.run.table port frame.entry) frame.entry step
+            × (self.new.counts ≡ noted step self.old.counts)) }
+    {
+        match self.switch.arrive(port, frame) {
+            Ok(step) => {
+                self.counts.note(&step);
+                Ok(())
+            }
+            Err((fault, _)) => Err(want_of_memory(fault)),
+        }
+    }
+
+    /// The first of all records that wait goes to the switch where its place is settled. Whether it did. O(ports).
+    fn give_next(&mut self) -> Result<bool, AllocError>
+        requires of { AreOfTable self.old.switch.run.table self.old.lanes.items }
+        requires going { IsGoing self.old.switch.run.table self.old.lanes.items self.old.switch self.old.counts }
+        ensures touched { AreTouched self.old.lanes.items self.new.lanes.items }
+        ensures same { IsOfSameTable self.old.switch self.new.switch }
+        ensures ok { IfOk result (λ went. IsRound went self.old self.new) }
+    {
+        arrivals_change_nothing_earlier();
+        stamps_keep_their_order();
+        note_counts_one_more();
+        let limit = limit_of(&self.lanes);
+        match take_settled(&mut self.lanes, limit) {
+            Some((port, frame)) => {
+                self.give(port, frame)?;
+                Ok(true)
+            }
+            None => Ok(false),
+        }
+    }
+
+    /// All records whose place is settled go to the switch, by stamp and then by port.
+    fn give_settled(&mut self) -> Result<(), AllocError>
+        requires of { AreOfTable self.old.switch.run.table self.old.lanes.items }
+        requires going { IsGoing self.old.switch.run.table self.old.lanes.items self.old.switch self.old.counts }
+        ensures touched { AreTouched self.old.lanes.items self.new.lanes.items }
+        ensures same { IsOfSameTable self.old.switch self.new.switch }
+        ensures ok { OnOk result (IsGoing self.new.switch.run.table self.new.lanes.items self.new.switch self.new.counts
+            × ((first : Option (ℕ × ℕ)) × NoneGoes (limit_at self.new.lanes.items) self.new.lanes.items first)) }
+    {
+        while self.give_next()? {}
+        Ok(())
+    }
+
+    /// What is settled goes to the switch, which comes to the frontier; what then has left goes out.
+    ///
+    /// O(ports) for each record, beside the switch's own work on it, and O(ports * ports).
+    pub(crate) fn go_on(&mut self) -> Result<(), AllocError>
+        requires of { AreOfTable self.old.switch.run.table self.old.lanes.items }
+        requires going { IsGoing self.old.switch.run.table self.old.lanes.items self.old.switch self.old.counts }
+        requires handed { length self.old.switch.run.handed ≡ length self.old.switch.run.table.ports }
+        ensures touched { AreTouched self.old.lanes.items self.new.lanes.items }
+        ensures same { IsOfSameTable self.old.switch self.new.switch }
+        ensures ok { OnOk result (IsRunning self.new.switch.run.table self.new.lanes.items self.new.switch self.new.counts) }
+    {
+        self.give_settled()?;
+        let frontier = instant_of(limit_of(&self.lanes));
+        if self.switch.advance(frontier).is_err() {
+            unreachable!();
+        }
+        drain_all(&mut self.switch, &mut self.lanes)
+    }
+
+    /// All that was read so far counts.
+    fn settle(&mut self)
+        ensures lanes { AreSettledLanes self.old.lanes.items self.new.lanes.items }
+        ensures switch { self.new.switch ≡ self.old.switch }
+        ensures counts { self.new.counts ≡ self.old.counts }
+    {
+        for lane in self.lanes.iter_mut() {
+            lane.settle();
+        }
+    }
+
+    /// The next piece comes to the lane at a place.
+    pub(crate) fn feed(&mut self, place: usize, piece: &[u8]) -> Result<(), RunFault>
+        requires of { AreOfTable self.old.switch.run.table self.old.lanes.items }
+        requires handed { length self.old.switch.run.handed ≡ length self.old.switch.run.table.ports }
+        requires ready { (begun : Bool) × IsReady self.old begun }
+        requires still_open { (port : ℕ) × IsOpenAt self.old.lanes.items port place }
+        ensures same { IsOfSameTable self.old.switch self.new.switch }
+        ensures ok { OnOk result (IsReady self.new true × IsFed self.old.lanes.items self.new.lanes.items place piece.now) }
+        ensures err { IfErr result (λ fault. IsNotFed self.old.lanes.items self.new.lanes.items place piece.now fault) }
+    {
+        merged_is_a_merge();
+        merged_is_by_stamp_and_port();
+        self.lanes[place].feed(piece)?;
+        self.go_on()?;
+        self.settle();
+        Ok(())
+    }
+
+    /// The capture of the lane at a place ends.
+    pub(crate) fn close(&mut self, place: usize) -> Result<(), RunFault>
+        requires of { AreOfTable self.old.switch.run.table self.old.lanes.items }
+        requires handed { length self.old.switch.run.handed ≡ length self.old.switch.run.table.ports }
+        requires ready { (begun : Bool) × IsReady self.old begun }
+        requires still_open { (port : ℕ) × IsOpenAt self.old.lanes.items port place }
+        ensures same { IsOfSameTable self.old.switch self.new.switch }
+        ensures ok { OnOk result (IsReady self.new true × IsEnded self.old.lanes.items self.new.lanes.items place) }
+        ensures err { IfErr result (λ fault. IsNotEnded self.old.lanes.items self.new.lanes.items place fault) }
+    {
+        merged_is_a_merge();
+        merged_is_by_stamp_and_port();
+        self.lanes[place].close()?;
+        self.go_on()?;
+        self.settle();
+        Ok(())
+    }
+
+    /// All captures that have not ended end, by rising port.
+    fn close_all(&mut self) -> Result<(), RunFault>
+        requires of { AreOfTable self.old.switch.run.table self.old.lanes.items }
+        requires ready { (begun : Bool) × IsReady self.old begun }
+        ensures switch { self.new.switch ≡ self.old.switch }
+        ensures half { AreHalfDone self.old.lanes.items self.new.lanes.items }
+        ensures ok { OnOk result (IsGoing self.new.switch.run.table self.new.lanes.items self.new.switch self.new.counts
+            × AreEndedLanes self.old.lanes.items self.new.lanes.items) }
+        ensures err { IfErr result (λ fault. IsReadFault (texts_at self.old.lanes.items) fault) }
+    {
+        merged_is_a_merge();
+        merged_is_by_stamp_and_port();
+        taken_records_are_the_first();
+        for lane in self.lanes.iter_mut() {
+            if !lane.closed {
+                lane.close()?;
+            }
+        }
+        Ok(())
+    }
+
+    /// All captures end, and all goes out; room for as many outputs as there are ports.
+    pub(crate) fn end(&mut self, alloc: A) -> Result<Vec<(u8, Vec<u8, A>), A>, RunFault>
+        requires of { AreOfTable self.old.switch.run.table self.old.lanes.items }
+        requires handed { length self.old.switch.run.handed ≡ length self.old.switch.run.table.ports }
+        requires ready { (begun : Bool) × IsReady self.old begun }
+        ensures same { IsOfSameTable self.old.switch self.new.switch }
+        ensures half { AreHalfDone self.old.lanes.items self.new.lanes.items }
+        ensures ok { IfOk result (λ room. IsRunning self.new.switch.run.table self.new.lanes.items self.new.switch self.new.counts
+            × AreEndedLanes self.old.lanes.items self.new.lanes.items
+            × (room.items ≡ []) × (length self.new.lanes.items ≤ vec_capacity room)) }
+        ensures err { IfErr result (λ fault. IsReadFault (texts_at self.old.lanes.items) fault) }
+    {
+        self.close_all()?;
+        self.go_on()?;
+        Ok(Vec::with_capacity(alloc, self.lanes.len())?)
+    }
+
+    /// What is left of each port, and the counts.
+    pub(crate) fn into_outcome(self, room: Vec<(u8, Vec<u8, A>), A>) -> Outcome<A>
+        requires none { room.items ≡ [] }
+        requires room { length self.lanes.items ≤ vec_capacity room }
+        ensures captures { result.captures ≡ map (λ l. (l.port, l.out.items)) self.entry.lanes.items }
+        ensures counts { result.counts ≡ ended (after_finish self.entry.switch.run) self.entry.counts }
+    {
+        let Machine {
+            switch,
+            mut counts,
+            lanes,
+        } = self;
+        counts.note_end(&switch.finish());
+        let mut captures = room;
+        for lane in lanes {
+            let Lane { port, out, .. } = lane;
+            captures.push_reserved((port, out));
+        }
+        Outcome { captures, counts }
+    }
+}

@@ -1,0 +1,355 @@
+#!/usr/bin/env python3
+"""Keeps the quotes of SPECIFICATION.md and PROGRAM.md as their sources have them.
+
+    docs/trust/quotes.py           writes each quote anew from its source, also where that has moved to another file
+    docs/trust/quotes.py --check   changes nothing; fails where a quote is not its source's text, where a name is not found, and
+                                   where something that the contracts of ROOTS rest on is not quoted, or something else is, and
+                                   where a word of the kit has no meaning in the table of these words
+    docs/trust/quotes.py --list    prints what the contracts of ROOTS rest on, and where it stands
+
+A quote is a line `<!-- quote FILE NAME.. -->`, and after it the file's name and the block of code, which this script writes. In a
+file of specs/ a NAME is that of a definition. In a file of src/ it is that of a type, a trait or a function (its docstring and
+contract), or `TYPE.Model` (what contracts see of the type). The line `<!-- kit -->` stands before a table whose first column has
+the words of the kit that the quotes use, in backticks.
+"""
+
+import re
+import sys
+from itertools import groupby
+from pathlib import Path
+
+TOP = Path(__file__).resolve().parents[2]
+PAGES = [Path(__file__).resolve().parent / name for name in ("SPECIFICATION.md", "PROGRAM.md")]
+
+# What the pages are about: whatever the contracts of these public functions name, directly or not, is quoted.
+ROOTS = [
+    ("afdx_session", "run"),
+    ("afdx_session", "own_frames_are_the_links_alone"),
+    ("afdx_session", "others_change_nothing"),
+    ("afdx_serve", "serve"),
+]
+
+WORD = r"[A-Za-z_][A-Za-z0-9_']*"
+DEFINITION = re.compile(r"^(?:(?:abbrev|unfoldable|opaque) )?(?:pub )?(?:(?:record|data) )?(?P<name>\S+) ")
+
+
+class Missing(Exception):
+    """A name that its file has not."""
+
+
+def read(file):
+    try:
+        return (TOP / file).read_text(encoding="utf-8")
+    except OSError:
+        raise Missing(f"{file} is not there") from None
+
+
+# ---- definitions, specs/*.antt
+
+
+def paragraphs(text):
+    return [part.strip("\n") for part in re.split(r"\n\s*\n(?=\S)", text)]
+
+
+def defined_in(file):
+    """The definitions of a file by their names: each is a paragraph, with the comment above it."""
+    found = {}
+    for part in paragraphs(read(file)):
+        for line in part.split("\n"):
+            if re.match(r"(abbrev|unfoldable|opaque|pub record|pub data|record |data )", line):
+                found[DEFINITION.match(line)["name"]] = part
+                break
+    return found
+
+
+def owner_of(file, name):
+    """The definition that a name of a file belongs to: itself, or the type that it constructs."""
+    definitions = defined_in(file)
+    for other, text in definitions.items():
+        if re.search(r"^pub data ", text, re.M) and re.search(rf"^  {re.escape(name)} : ", text, re.M):
+            return other
+    if name not in definitions:
+        raise Missing(f"{file} has no {name}")
+    return name
+
+
+def without_comments(text, mark):
+    return "\n".join(line.split(mark)[0] for line in text.split("\n"))
+
+
+def imports(text, keyword):
+    """What `use` lines bring: each word with the path of what it stands for."""
+    brought = {}
+    for path, names in re.findall(rf"^\s*{keyword} (Rattle\.[\w.]+?)\.\{{([^}}]*)\}}", text, re.M):
+        for name in names.split(","):
+            original, _, other = name.strip().partition(" as ")
+            brought[other or original] = f"{path}.{original}"
+    for path, other in re.findall(rf"^\s*{keyword} (Rattle\.[\w.]+) as (\w+)", text, re.M):
+        brought[other] = path
+    return brought
+
+
+def words_of(text):
+    """The words of a definition or clause that may name another one: all but the fields. A bound name counts as well, so that
+    more may be found than is named, and never less."""
+    text = re.sub(rf"^ *(?:pub )?{WORD} : ", "", text, flags=re.M)
+    text = re.sub(rf"(^ *|[{{;] ){WORD} (?:=|←) ", r"\1", text, flags=re.M)
+    return set(re.findall(rf"(?<![\w.'])({WORD})", text))
+
+
+def place_of(path):
+    """The file and the name of what a path stands for; none where it is the kit's."""
+    parts = path.split(".")
+    crate = TOP / "crates" / parts[1]
+    if not crate.is_dir() or parts[2] != "specs":
+        return None
+    if parts[3] == "declared":
+        inner = [part for part in parts[4:] if part != "TheVariants"]
+        if parts[-1] != "TheVariants":
+            inner.pop()
+        return type_in(crate, inner[-1], inner[:-1])
+    file = f"crates/{parts[1]}/specs/{'/'.join(parts[3:-1])}.antt"
+    return (file, owner_of(file, parts[-1]))
+
+
+def type_in(crate, name, modules):
+    named = crate / "src" / f"{'/'.join(modules)}.rt"
+    for file in [named] if modules else sorted(crate.glob("src/**/*.rt")):
+        if re.search(rf"^pub(?:\(crate\))? (?:struct|enum|trait) {name}\b", file.read_text(encoding="utf-8"), re.M):
+            return (str(file.relative_to(TOP)), name)
+    raise Missing(f"no type {name} in {named.relative_to(TOP)}")
+
+
+def uses_of_definition(file, name, kit):
+    text, definitions = read(file), defined_in(file)
+    body = without_comments(definitions[name], "--")
+    brought = imports(text, "use")
+    words = words_of(body) - {name}
+    for sign in set(brought) | set(definitions):
+        part = sign.strip("◌").split("◌")[0] if "◌" in sign else None
+        if part and sign != name and (part in body or (part == ">>=" and "←" in body)):
+            words.add(sign)
+    return named(words, brought, {word: (file, word) for word in definitions}, kit)
+
+
+def named(words, brought, here, kit):
+    found = set()
+    for word in words:
+        if word in here:
+            found.add(here[word])
+        elif word in brought:
+            place = place_of(brought[word])
+            if place is None:
+                kit.add(brought[word])
+            else:
+                found.add(place)
+    return found
+
+
+# ---- types, traits and functions, src/*.rt
+
+
+def head_of(lines, start):
+    """The first line of the docstring and attributes above an item."""
+    while start > 0 and re.match(r"(///|#\[)", lines[start - 1]):
+        start -= 1
+    return start
+
+
+def item_at(lines, start):
+    """The lines of a type, a trait or an impl that begins here, with the docstring and attributes above it."""
+    end = start
+    if not lines[start].endswith((";", "}")):
+        while not lines[end].startswith("}"):
+            end += 1
+    return lines[head_of(lines, start) : end + 1]
+
+
+def contract_at(lines, start):
+    """The lines of a function that begins here, but for its body."""
+    end = start
+    while not lines[end].startswith("{"):
+        end += 1
+    return lines[head_of(lines, start) : end]
+
+
+def rust_item(file, name):
+    """A type or trait, a function's docstring and contract, or TYPE.Model, as it stands in a file."""
+    lines = read(file).split("\n")
+    type_name, _, model = name.partition(".")
+    if model == "Model":
+        pattern = rf"impl.* Model for {type_name}\b"
+    else:
+        pattern = rf"pub(?:\(crate\))? (?:(?:struct|enum|trait) {name}\b|fn {name}[<(])"
+    for start, line in enumerate(lines):
+        if re.match(pattern, line):
+            return "\n".join(contract_at(lines, start) if " fn " in line else item_at(lines, start))
+    raise Missing(f"{file} has no {name}")
+
+
+def rust_imports(file):
+    """The types that `use` lines bring: the crate and the modules of each."""
+    brought = {}
+    crate = TOP / file.split("/src/")[0]
+    for path, names in re.findall(r"^use ([\w:]+)::\{?([\w, ]+)\}?;", read(file), re.M):
+        first = path.split("::")[0]
+        if first != "crate" and not (TOP / "crates" / first).is_dir():
+            continue
+        base, modules = (crate, path.split("::")[1:]) if first == "crate" else (TOP / "crates" / first, [])
+        for name in names.split(","):
+            name = name.strip().split(" as ")[0]
+            if name[:1].isupper():
+                brought[name] = (base, modules)
+    return brought
+
+
+def has_model(file, name):
+    return re.search(rf"^impl.* Model for {name}\b", read(file), re.M) is not None
+
+
+def uses_of_item(file, name, kit):
+    text = rust_item(file, name)
+    code = without_comments(text, "//")
+    brought = imports(read(file), "ghost use") | imports(text, "ghost use")
+    clauses = re.sub(r"^\s*ghost use .*$", "", code, flags=re.M)
+    if not re.search(r"\bghost\b|\bensures\b|\brequires\b", clauses):
+        ghost = set()
+    else:
+        ghost = named(words_of(clauses), brought, {}, kit)
+    return ghost | types_in(file, name, code)
+
+
+def types_in(file, name, code):
+    """The types that a reader meets in a signature or in public fields: of one that contracts see otherwise, what they see."""
+    if name.endswith(".Model"):
+        shown = "\n".join(re.findall(r"^    pub .*$", rust_item(file, name[: -len(".Model")]), re.M))
+    else:
+        shown = re.sub(r"^\s*(ghost|ensures|requires|#).*$", "", code, flags=re.M)
+        shown = shown if " fn " in shown.split("{")[0] else shown.partition("{")[2] or shown.partition("(")[2]
+    brought = rust_imports(file)
+    here = set(re.findall(r"^pub(?:\(crate\))? (?:struct|enum|trait) (\w+)", read(file), re.M))
+    words = set(re.findall(r"\b([A-Z]\w*)", shown))
+    return {(file, word) for word in words & here} | {type_in(brought[w][0], w, brought[w][1]) for w in words & set(brought) - here}
+
+
+def has(file, name):
+    """Whether a file of the repository has this definition or item."""
+    try:
+        return name in defined_in(file) if file.endswith(".antt") else bool(rust_item(file, name))
+    except Missing:
+        return False
+
+
+def home_of(file, name):
+    """The file itself where it has the name; else the one file of its crate, or of all crates, that has it."""
+    if has(file, name):
+        return file
+    crate, kind = file.split("/")[1], "specs/**/*.antt" if file.endswith(".antt") else "src/**/*.rt"
+    for folder in (f"crates/{crate}", "crates/*"):
+        homes = [str(path.relative_to(TOP)) for path in sorted(TOP.glob(f"{folder}/{kind}"))]
+        homes = [home for home in homes if has(home, name)]
+        if len(homes) == 1:
+            return homes[0]
+        if homes:
+            raise Missing(f"{file} has no {name}; it may be that of {' or '.join(homes)}")
+    raise Missing(f"{file} has no {name}, and no other file has")
+
+
+# ---- what the contracts rest on
+
+
+def closure():
+    """Each thing that the roots name, directly or not, and the kit's words among them."""
+    kit, seen = set(), {}
+    waiting = [(home_of(f"crates/{crate}/src/lib.rt", name), name) for crate, name in ROOTS]
+    while waiting:
+        file, name = waiting.pop()
+        if file.endswith(".rt") and "." not in name and name[0].isupper() and has_model(file, name):
+            name = f"{name}.Model"
+        if (file, name) in seen:
+            continue
+        uses = uses_of_definition if file.endswith(".antt") else uses_of_item
+        seen[(file, name)] = uses(file, name, kit)
+        waiting.extend(seen[(file, name)])
+    return seen, kit
+
+
+# ---- the page
+
+MARK = re.compile(r"^<!-- quote (?P<file>\S+) (?P<names>.*?) -->\n(?:`[^`\n]+`\n\n)?(?:```\w*\n.*?^```\n)?", re.M | re.S)
+KIT = re.compile(r"^<!-- kit -->\n(?P<table>(?:\|.*\n)*)", re.M)
+
+
+def quoted(file, names):
+    if file.endswith(".antt"):
+        definitions = defined_in(file)
+        language, texts = "text", [definitions[name] for name in names]
+    else:
+        language, texts = "rust", [rust_item(file, name) for name in names]
+    text = "\n\n".join(texts)
+    return f"<!-- quote {file} {' '.join(names)} -->\n`{file}`\n\n```{language}\n{text}\n```\n"
+
+
+def rewritten(page):
+    """The page with each quote as its source has it, what is quoted, and what is wrong. A quote follows what has moved to
+    another file, and becomes several where only a part has."""
+    there, wrong = [], []
+
+    def block(mark):
+        try:
+            homes = [(home_of(mark["file"], name), name) for name in mark["names"].split()]
+        except Missing as error:
+            wrong.append(str(error))
+            return mark[0]
+        there.extend(homes)
+        parts = groupby(homes, key=lambda home: home[0])
+        return "\n".join(quoted(file, [name for _, name in part]) for file, part in parts)
+
+    return MARK.sub(block, page), there, wrong
+
+
+def judged(there, needed):
+    """What is wrong with a choice of quotes."""
+    wrong = [f"not quoted: {file} {name}" for file, name in sorted(set(needed) - set(there))]
+    seen_types = {(file, name.removesuffix(".Model")) for file, name in needed}
+    wrong += [f"quoted, but nothing rests on it: {file} {name}" for file, name in sorted(set(there) - set(needed) - seen_types)]
+    return wrong + [f"quoted twice: {file} {name}" for file, name in sorted({q for q in there if there.count(q) > 1})]
+
+
+def without_meaning(pages, kit):
+    """The words of the kit that no table tells."""
+    told = set()
+    for page in pages:
+        for mark in KIT.finditer(page):
+            for row in mark["table"].splitlines():
+                told |= set(re.findall(r"`([^`]+)`", row.split(" | ")[0]))
+    words = {path.rpartition(".")[2].replace("◌", " ").strip() for path in kit}
+    return [f"a word of the kit without a meaning: {word}" for word in sorted(words - told)]
+
+
+def main(words):
+    try:
+        needed, kit = closure()
+    except Missing as error:
+        sys.exit(f"quotes.py: {error}")
+    if words == ["--list"]:
+        print("\n".join([f"{file} {name}" for file, name in sorted(needed)] + sorted(kit)))
+        return
+    there, wrong, texts = [], [], []
+    for page in PAGES:
+        old = page.read_text(encoding="utf-8")
+        new, quotes, faults = rewritten(old)
+        there += quotes
+        wrong += faults
+        texts.append(new)
+        if not words:
+            page.write_text(new, encoding="utf-8")
+        elif new != old:
+            wrong.append(f"{page.name}: a quote is not its source's text: run docs/trust/quotes.py")
+    wrong += judged(there, needed) + without_meaning(texts, kit)
+    print("\n".join([*wrong, f"{len(there)} quotes, {len(needed)} needed"]))
+    sys.exit(1 if wrong else 0)
+
+
+if __name__ == "__main__":
+    main(sys.argv[1:])

@@ -1,0 +1,79 @@
+#!/usr/bin/env python3
+"""Fails where a page names a file of the repository that is not there, or a section that its page has not.
+
+    pages.py PAGE
+
+Read are the targets of links, and in backticks what looks like a path of this repository: it begins with one of its folders, or
+ends as its sources and pages do. A word in capitals stands for any name (`crates/NAME/src`), and so does `*`. A file may be named
+from the top, from the page's own folder, or by the end of its path (`specs/Headline.antt`). What programs make (`out/`) isn't
+looked for.
+"""
+
+import os
+import re
+import sys
+from fnmatch import fnmatch
+from pathlib import Path
+
+TOP = Path(__file__).resolve().parents[1]
+FOLDERS = ("bench/", "crates/", "docs/", "end_to_end/", "examples/", ".ci/")
+ENDINGS = (".md", ".py", ".sh", ".rt", ".antt", ".edit", ".c")
+
+
+def there():
+    """The files and folders of the repository, but for what programs make."""
+    names = set()
+    for folder, folders, files in os.walk(TOP):
+        folders[:] = [name for name in folders if name not in ("out", ".git", "__pycache__")]
+        names |= {os.path.relpath(os.path.join(folder, name), TOP) for name in folders + files}
+    return names
+
+
+def is_path(word):
+    if " " in word or "out/" in word or word.startswith("http"):
+        return False
+    return word.startswith(FOLDERS) or (word.endswith(ENDINGS) and len(Path(word).stem) > 0)
+
+
+def is_there(word, folder, names):
+    pattern = re.sub(r"(?<![A-Za-z_.])[A-Z]{4,}(?![A-Za-z_.])", "*", word).rstrip("/")
+    near = os.path.normpath(folder / pattern)
+    return any(fnmatch(name, form) for form in (pattern, near, f"*/{pattern}") for name in names)
+
+
+def anchors(page):
+    """The sections of a page, as links name them."""
+    heads = re.findall(r"^#+ (.*)$", page.read_text(encoding="utf-8"), re.M)
+    return {re.sub(r"[^\w\- ]", "", head.lower()).replace(" ", "-") for head in heads}
+
+
+def links(text):
+    return [link for link in re.findall(r"\]\(([^)\s]+)\)", text) if not link.startswith("http")]
+
+
+def faults(page):
+    names = there()
+    folder = page.parent
+    prose = re.sub(r"^```.*?^```$", "", page.read_text(encoding="utf-8"), flags=re.M | re.S)
+    plain = re.sub(r"`[^`\n]*`", "", prose)
+    for link in links(plain):
+        file, _, anchor = link.partition("#")
+        target = (TOP / folder / file).resolve() if file else TOP / page
+        if not target.exists():
+            yield f"{page}: no {link}"
+        elif anchor and anchor not in anchors(target):
+            yield f"{page}: no section {link}"
+    for word in re.findall(r"`([^`\n]+)`", prose) + re.findall(r"<!-- quote (\S+)", prose):
+        if is_path(word) and not is_there(word, folder, names):
+            yield f"{page}: no {word}"
+
+
+def main():
+    page = Path(sys.argv[1])
+    found = list(faults(page.resolve().relative_to(TOP)))
+    print("\n".join(found))
+    sys.exit(1 if found else 0)
+
+
+if __name__ == "__main__":
+    main()
