@@ -1,11 +1,11 @@
 -- The proofs that the accounts give to the laws of the trait; they stand here because an impl can cite nothing else of its crate.
-use Rattle.std.proofs.Common.{◌≡◌, ℕ, ◌+◌, ◌*◌, ◌-◌, ◌≤◌, min, arith, ap, ◌∙◌}
+use Rattle.std.proofs.Common.{◌≡◌, ℕ, ◌+◌, ◌*◌, ◌/◌, ◌-◌, ◌≤◌, min, arith, ap, refl, ◌∙◌}
+use Rattle.std.proofs.Math.Nat.{mul-le-mul_left}
 use Rattle.afdx_units.specs.declared.bag.Bag.{Bag}
 use Rattle.afdx_units.specs.declared.bag.Bag.TheVariants.{Ms1, Ms2, Ms4, Ms8, Ms16, Ms32, Ms64, Ms128}
 use Rattle.afdx_units.specs.declared.line.Speed.{Speed}
-use Rattle.afdx_units.specs.declared.line.Speed.TheVariants.{Ten, Hundred}
-use Rattle.afdx_units.specs.Time.{bag_ns}
-use Rattle.afdx_units.specs.Line.{cost_of}
+use Rattle.afdx_units.specs.Time.{bag_ms, bag_ns}
+use Rattle.afdx_units.specs.Line.{tick_of, cost_of}
 use Rattle.afdx_account.specs.declared.account.Account.{Account}
 use Rattle.afdx_account.specs.declared.account.Account.TheVariants.{Byte, Frame}
 use Rattle.afdx_account.specs.Policing.{Terms, byte_weight, frame_weight}
@@ -19,43 +19,39 @@ fills cap rate level since at later h k =
     let parts : rate * (later - since) ≡ rate * (at - since) + rate * (later - at) = ap (λ (n : ℕ). rate * n) whole ∙ omega arith in
     omega (arith, parts)
 
+-- a gap's parts of 128 ms, each as long as the gap
+parts_of_gap : (bag : Bag) → 128 / bag_ms bag * bag_ns bag ≡ 128000000
+parts_of_gap Ms1 = refl
+parts_of_gap Ms2 = refl
+parts_of_gap Ms4 = refl
+parts_of_gap Ms8 = refl
+parts_of_gap Ms16 = refl
+parts_of_gap Ms32 = refl
+parts_of_gap Ms64 = refl
+parts_of_gap Ms128 = refl
+
+-- whatever a byte takes on the line
+bytes_pay : (t k b size : ℕ) → k * b ≡ 128000000 → 64 ≤ size → 2048000000 * ((size + 20) * t) ≤ 21 * t * k * (size * b)
+bytes_pay t k b size is h =
+    let more : t * 64 ≤ t * size = mul-le-mul_left t h in
+    let whole : 21 * t * k * (size * b) ≡ 21 * t * size * (k * b) = omega arith in
+    let parts : 21 * t * size * (k * b) ≡ 21 * t * size * 128000000 = ap (λ (n : ℕ). 21 * t * size * n) is in
+    omega (arith, more, whole, parts)
+
+frames_pay : (t k b max_size size : ℕ) → k * b ≡ 128000000 → size ≤ max_size → 2048000000 * ((size + 20) * t) ≤ 16 * ((max_size + 20) * t) * k * b
+frames_pay t k b max_size size is h =
+    let more : t * size ≤ t * max_size = mul-le-mul_left t h in
+    let whole : 16 * ((max_size + 20) * t) * k * b ≡ 16 * ((max_size + 20) * t) * (k * b) = omega arith in
+    let parts : 16 * ((max_size + 20) * t) * (k * b) ≡ 16 * ((max_size + 20) * t) * 128000000 = ap (λ (n : ℕ). 16 * ((max_size + 20) * t) * n) is in
+    omega (arith, more, whole, parts)
+
 pub pays_for : (bag : Bag) (speed : Speed) (size : ℕ) → 64 ≤ size
     → 2048000000 * cost_of speed size ≤ byte_weight bag speed * (size * bag_ns bag)
-pays_for Ms1 Ten size h = omega arith
-pays_for Ms1 Hundred size h = omega arith
-pays_for Ms2 Ten size h = omega arith
-pays_for Ms2 Hundred size h = omega arith
-pays_for Ms4 Ten size h = omega arith
-pays_for Ms4 Hundred size h = omega arith
-pays_for Ms8 Ten size h = omega arith
-pays_for Ms8 Hundred size h = omega arith
-pays_for Ms16 Ten size h = omega arith
-pays_for Ms16 Hundred size h = omega arith
-pays_for Ms32 Ten size h = omega arith
-pays_for Ms32 Hundred size h = omega arith
-pays_for Ms64 Ten size h = omega arith
-pays_for Ms64 Hundred size h = omega arith
-pays_for Ms128 Ten size h = omega arith
-pays_for Ms128 Hundred size h = omega arith
+pays_for bag speed size h = bytes_pay (tick_of speed) (128 / bag_ms bag) (bag_ns bag) size (parts_of_gap bag) h
 
 pub frame_pays_for : (bag : Bag) (speed : Speed) (max_size size : ℕ) → size ≤ max_size
     → 2048000000 * cost_of speed size ≤ frame_weight max_size bag speed * bag_ns bag
-frame_pays_for Ms1 Ten max_size size h = omega arith
-frame_pays_for Ms1 Hundred max_size size h = omega arith
-frame_pays_for Ms2 Ten max_size size h = omega arith
-frame_pays_for Ms2 Hundred max_size size h = omega arith
-frame_pays_for Ms4 Ten max_size size h = omega arith
-frame_pays_for Ms4 Hundred max_size size h = omega arith
-frame_pays_for Ms8 Ten max_size size h = omega arith
-frame_pays_for Ms8 Hundred max_size size h = omega arith
-frame_pays_for Ms16 Ten max_size size h = omega arith
-frame_pays_for Ms16 Hundred max_size size h = omega arith
-frame_pays_for Ms32 Ten max_size size h = omega arith
-frame_pays_for Ms32 Hundred max_size size h = omega arith
-frame_pays_for Ms64 Ten max_size size h = omega arith
-frame_pays_for Ms64 Hundred max_size size h = omega arith
-frame_pays_for Ms128 Ten max_size size h = omega arith
-frame_pays_for Ms128 Hundred max_size size h = omega arith
+frame_pays_for bag speed max_size size h = frames_pay (tick_of speed) (128 / bag_ms bag) (bag_ns bag) max_size size (parts_of_gap bag) h
 
 pub capped_by : (cap n : ℕ) → min cap n ≤ cap
 capped_by cap n = omega arith

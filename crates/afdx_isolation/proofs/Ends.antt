@@ -16,7 +16,7 @@ use Rattle.afdx_port.specs.Service.{came, Event, sending, aging, item_of, free_a
 use Rattle.afdx_port.specs.Order.{in_line, highs, lows, line_up}
 use Rattle.afdx_port.specs.Work.{item_cost}
 use Rattle.afdx_load.specs.Sums.{parts}
-use Rattle.afdx_isolation.specs.Flow.{Load, bound}
+use Rattle.afdx_isolation.specs.Flow.{Load, queue_bound, bound}
 use Rattle.afdx_isolation.specs.Potential.{costs, Ahead, HighEnds, LowEnds, EndsBy, IsWithinPotentials, BeginsAs}
 use Rattle.afdx_isolation.specs.Claims.{IsTimely}
 use Rattle.afdx_isolation.proofs.Numbers.{ahead_weaker, ahead_with, ahead_append, high_sooner, low_sooner}
@@ -90,7 +90,7 @@ fate_sent s b x short = choose _ _ short where
   choose : {m n : ℕ} (x y : Event) → n ≤ m → cond (nat_lt m n) x y ≡ y
   choose x y h = grind (arith, nat_tests)
 
-in_bound : (s : Settings) (load : Load) (e : ℕ) (y : Item) (priority : Priority) → (priority ≡ Low → load.high_rate < parts) → y.priority ≡ priority → came s y ≤ e → EndsBy parts s load e y → e ≤ came s y + bound load priority
+in_bound : (s : Settings) (load : Load) (e : ℕ) (y : Item) (priority : Priority) → (priority ≡ Low → load.high_rate < parts) → y.priority ≡ priority → came s y ≤ e → EndsBy parts s load e y → e ≤ came s y + queue_bound load priority
 in_bound s load e y High some is le h =
     let within = high_within parts (came s y) e load.low_largest load.high_burst (omega arith) le (h.0 (ap is_high is)) in
     omega (arith, within)
@@ -99,12 +99,12 @@ in_bound s load e y Low some is le h =
     omega (arith, within)
 
 -- where the bound is within the greatest delay, the item is sent in time; here alone is the stamp what time is counted from
-pub timely : (s : Settings) (load : Load) (priority : Priority) (event : Event) → (priority ≡ Low → load.high_rate < parts) → bound load priority ≤ s.max_delay → (item_of event).priority ≡ priority → BeginsAs s (EndsBy parts s load) event → IsTimely s load event
-timely s load priority event some quick class h =
+pub timely : (s : Settings) (load : Load) (priority : Priority) (event : Event) → load.latency ≡ s.latency → (priority ≡ Low → load.high_rate < parts) → bound load priority ≤ s.max_delay → (item_of event).priority ≡ priority → BeginsAs s (EndsBy parts s load) event → IsTimely s load event
+timely s load priority event late some quick class h =
     let same : h.item.priority ≡ priority = sym (ap (λ (e : Event). (item_of e).priority) h.is ∙ ap (λ (y : Item). y.priority) (item_fate s h.at h.item)) ∙ class in
     let since = h.since in
     let stamp = came-is s h.item in
     let le = in_bound s load (h.at + item_cost s h.item) h.item priority some same (omega (arith, since)) h.ends in
-    let short : h.at - h.item.stamp ≤ s.max_delay = omega (arith, le, quick, stamp) in
+    let short : h.at - h.item.stamp ≤ s.max_delay = omega (arith, le, quick, stamp, late) in
     subst (λ e. IsTimely s load e) (sym (h.is ∙ fate_sent s h.at h.item short))
-    (record { least = omega (arith, since, stamp); most = subst (λ p. h.at + item_cost s h.item ≤ h.item.stamp + bound load p) (sym same) (omega (arith, le, stamp)) })
+    (record { least = omega (arith, since, stamp); most = subst (λ p. h.at + item_cost s h.item ≤ h.item.stamp + bound load p) (sym same) (omega (arith, le, stamp, late)) })

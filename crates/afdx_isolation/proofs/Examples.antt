@@ -19,7 +19,7 @@ abbrev bulk : Flow
 bulk = record { id = 2; terms = byte_terms 500 Ms1 0; weight = byte_weight Ms1 Hundred; largest = 500; priority = Low }
 
 abbrev port : Settings
-port = record { speed = Hundred; buffer = 2989; max_delay = 175977 }
+port = record { speed = Hundred; buffer = 2989; max_delay = 175977; latency = 0 }
 
 paid : All (IsPaidFor port) (control ∷ bulk ∷ [])
 paid = All-cons (IsPaidFor port) control (bulk ∷ []) (record { pays = λ size le _. omega arith; credited = omega arith })

@@ -10,7 +10,7 @@ use Rattle.std.proofs.Math.Nat.{mul-le-mul_left}
 use Rattle.afdx_units.specs.declared.line.Priority.{Priority}
 use Rattle.afdx_units.specs.declared.line.Priority.TheVariants.{High, Low}
 use Rattle.afdx_units.specs.declared.line.Speed.{Speed}
-use Rattle.afdx_units.specs.declared.line.Speed.TheVariants.{Ten, Hundred}
+use Rattle.afdx_units.specs.declared.line.Speed.TheVariants.{Ten, Hundred, Thousand}
 use Rattle.afdx_units.specs.Line.{tick_of}
 use Rattle.afdx_port.specs.declared.Settings.{Settings}
 use Rattle.afdx_port.specs.declared.Item.{Item}
@@ -181,6 +181,7 @@ module _ (g : Ground) (s : Settings) (flows : List Flow) (paid : All (IsPaidFor 
         tick_some : (speed : Speed) → 0 < tick_of speed
         tick_some Ten = omega arith
         tick_some Hundred = omega arith
+        tick_some Thousand = omega arith
 
         within' : (a b : ℕ) → a ≤ b → nat_le a b ≡ true
         within' a b h = grind (arith, nat_tests)
@@ -210,7 +211,7 @@ module _ (g : Ground) (s : Settings) (flows : List Flow) (paid : All (IsPaidFor 
       let r = All-contains (IsOfAFlow flows) items (item_of event) h.of_flows (g.events s 0 items k d lt) in
       let is : r.flow.priority ≡ priority = r.priority ∙ class in
       let bound' = All-contains (λ (flow : Flow). flow.priority ≡ priority → bound load priority ≤ s.max_delay) flows r.flow quick r.among is in
-      timely s load priority event (leaves r.flow r.among priority is) bound' class (h.ends k d lt)
+      timely s load priority event refl (leaves r.flow r.among priority is) bound' class (h.ends k d lt)
 
   delay_of : Carries s flows → (priority : Priority) → IsWithinDelay s flows priority
   delay_of a High = a.high

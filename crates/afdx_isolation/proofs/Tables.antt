@@ -21,7 +21,7 @@ use Rattle.afdx_table.specs.declared.rows.PortRow.{PortRow}
 use Rattle.afdx_table.specs.Link.{Link, leads_to}
 use Rattle.afdx_table.specs.Content.{Content}
 use Rattle.afdx_table.specs.WellFormed.{IsLink, IsWellFormed}
-use Rattle.afdx_load.specs.Sums.{parts, is_high_priority, is_high as is_high_link, is_low as is_low_link, routed, rate_of, burst_of, time_of, greatest, sums_of, load_of as sums_at, terms_of}
+use Rattle.afdx_load.specs.Sums.{behind, parts, is_high_priority, is_high as is_high_link, is_low as is_low_link, routed, rate_of, burst_of, time_of, greatest, sums_of, load_of as sums_at, terms_of}
 use Rattle.afdx_load.specs.Accepted.{Carries as CarriesSums}
 use Rattle.afdx_load.specs.Laws.{AsksWhatItsAccountGives, EachLinkAsks, AcceptedKeepsBounds}
 use Rattle.afdx_isolation.specs.Flow.{Flow, IsPaidFor, Carries, AreDistinct, high_flows, low_flows, rates, bursts, longest, load_of, bound}
@@ -89,18 +89,18 @@ module _ (speed : Speed) where
     bursts_seen links = sum_seen (λ (flow : Flow). flow.weight * flow.terms.cap) (burst_of speed) (λ l. sym (asks speed l).1) links
 
 -- a port and the links that lead there
-module _ (row : PortRow) (asks : AsksWhatItsAccountGives) where
-  longest_seen : (links : List Link) → longest (settings_of row) (map (flow_of row.speed) links) ≡ greatest (time_of row.speed) links
+module _ (latency : ℕ) (row : PortRow) (asks : AsksWhatItsAccountGives) where
+  longest_seen : (links : List Link) → longest (settings_of latency row) (map (flow_of row.speed) links) ≡ greatest (time_of row.speed) links
   longest_seen [] = refl
   longest_seen (l ∷ links) = ap (λ n. max (time_of row.speed l) n) (longest_seen links)
 
   pub record SameLoad (links : List Link) : Type 0 where
-    pub rate : (load_of (settings_of row) (map (flow_of row.speed) links)).rate ≡ (sums_of row.speed links).rate
-    pub high_rate : (load_of (settings_of row) (map (flow_of row.speed) links)).high_rate ≡ (sums_of row.speed links).high_rate
-    pub burst : (load_of (settings_of row) (map (flow_of row.speed) links)).burst ≡ (sums_of row.speed links).burst
-    pub high_burst : (load_of (settings_of row) (map (flow_of row.speed) links)).high_burst ≡ (sums_of row.speed links).high_burst
-    pub largest : (load_of (settings_of row) (map (flow_of row.speed) links)).largest ≡ (sums_of row.speed links).largest
-    pub low_largest : (load_of (settings_of row) (map (flow_of row.speed) links)).low_largest ≡ (sums_of row.speed links).low_largest
+    pub rate : (load_of (settings_of latency row) (map (flow_of row.speed) links)).rate ≡ (sums_of row.speed links).rate
+    pub high_rate : (load_of (settings_of latency row) (map (flow_of row.speed) links)).high_rate ≡ (sums_of row.speed links).high_rate
+    pub burst : (load_of (settings_of latency row) (map (flow_of row.speed) links)).burst ≡ (sums_of row.speed links).burst
+    pub high_burst : (load_of (settings_of latency row) (map (flow_of row.speed) links)).high_burst ≡ (sums_of row.speed links).high_burst
+    pub largest : (load_of (settings_of latency row) (map (flow_of row.speed) links)).largest ≡ (sums_of row.speed links).largest
+    pub low_largest : (load_of (settings_of latency row) (map (flow_of row.speed) links)).low_largest ≡ (sums_of row.speed links).low_largest
 
   same_load : (links : List Link) → SameLoad links
   unfolding sums_of
@@ -110,21 +110,21 @@ module _ (row : PortRow) (asks : AsksWhatItsAccountGives) where
     burst = bursts_seen row.speed asks links;
     high_burst = ap bursts (highs_seen row.speed links) ∙ bursts_seen row.speed asks (filter is_high_link links);
     largest = longest_seen links;
-    low_largest = ap (longest (settings_of row)) (lows_seen row.speed links) ∙ longest_seen (filter is_low_link links);
+    low_largest = ap (longest (settings_of latency row)) (lows_seen row.speed links) ∙ longest_seen (filter is_low_link links);
   }
 
   -- the two bounds are those of the load
-  high_is : (links : List Link) → bound (load_of (settings_of row) (map (flow_of row.speed) links)) High ≡ ((sums_of row.speed links).high_burst + parts * (sums_of row.speed links).low_largest) / parts
+  high_is : (links : List Link) → bound (load_of (settings_of latency row) (map (flow_of row.speed) links)) High ≡ ((sums_of row.speed links).high_burst + parts * (sums_of row.speed links).low_largest) / parts + latency
   high_is links =
       let same = same_load links in
-      ap (λ n. (n + parts * (load_of (settings_of row) (map (flow_of row.speed) links)).low_largest) / parts) same.high_burst
-      ∙ ap (λ n. ((sums_of row.speed links).high_burst + parts * n) / parts) same.low_largest
+      ap (λ n. (n + parts * (load_of (settings_of latency row) (map (flow_of row.speed) links)).low_largest) / parts + latency) same.high_burst
+      ∙ ap (λ n. ((sums_of row.speed links).high_burst + parts * n) / parts + latency) same.low_largest
 
-  low_is : (links : List Link) → bound (load_of (settings_of row) (map (flow_of row.speed) links)) Low ≡ (sums_of row.speed links).burst / (parts - (sums_of row.speed links).high_rate)
+  low_is : (links : List Link) → bound (load_of (settings_of latency row) (map (flow_of row.speed) links)) Low ≡ (sums_of row.speed links).burst / (parts - (sums_of row.speed links).high_rate) + latency
   low_is links =
       let same = same_load links in
-      ap (λ n. n / (parts - (load_of (settings_of row) (map (flow_of row.speed) links)).high_rate)) same.burst
-      ∙ ap (λ n. (sums_of row.speed links).burst / (parts - n)) same.high_rate
+      ap (λ n. n / (parts - (load_of (settings_of latency row) (map (flow_of row.speed) links)).high_rate) + latency) same.burst
+      ∙ ap (λ n. (sums_of row.speed links).burst / (parts - n) + latency) same.high_rate
 
   -- a flow of a priority is counted
   count_more : (p : Link → Bool) (l : Link) (links : List Link) → count_by p (l ∷ links) ≡ cond (p l) 1 0 + count_by p links
@@ -153,16 +153,16 @@ module _ (row : PortRow) (asks : AsksWhatItsAccountGives) where
       omega (arith, one, count_more is_high_link l links, count_more is_low_link l links)
 
   abbrev KeepsBounds : List Link → Type 0
-  KeepsBounds links = (0 < (sums_of row.speed links).highs → ((sums_of row.speed links).high_burst + parts * (sums_of row.speed links).low_largest) / parts ≤ row.max_delay)
-      × (0 < (sums_of row.speed links).lows → ((sums_of row.speed links).high_rate < parts) × ((sums_of row.speed links).burst / (parts - (sums_of row.speed links).high_rate) ≤ row.max_delay))
+  KeepsBounds links = (0 < (sums_of row.speed links).highs → ((sums_of row.speed links).high_burst + parts * (sums_of row.speed links).low_largest) / parts + latency ≤ row.max_delay)
+      × (0 < (sums_of row.speed links).lows → ((sums_of row.speed links).high_rate < parts) × ((sums_of row.speed links).burst / (parts - (sums_of row.speed links).high_rate) + latency ≤ row.max_delay))
 
-  carries : (links : List Link) → (0 < (sums_of row.speed links).highs + (sums_of row.speed links).lows → CarriesSums row (sums_of row.speed links)) → KeepsBounds links
-      → Carries (settings_of row) (map (flow_of row.speed) links)
+  carries : (links : List Link) → (0 < (sums_of row.speed links).highs + (sums_of row.speed links).lows → CarriesSums row (behind latency (sums_of row.speed links))) → KeepsBounds links
+      → Carries (settings_of latency row) (map (flow_of row.speed) links)
   carries [] h bounds = record {
     rate = omega arith;
     buffer = omega arith;
-    high = All-nil (λ (flow : Flow). flow.priority ≡ High → bound (load_of (settings_of row) []) High ≤ row.max_delay);
-    low = All-nil (λ (flow : Flow). flow.priority ≡ Low → bound (load_of (settings_of row) []) Low ≤ row.max_delay);
+    high = All-nil (λ (flow : Flow). flow.priority ≡ High → bound (load_of (settings_of latency row) []) High ≤ row.max_delay);
+    low = All-nil (λ (flow : Flow). flow.priority ≡ Low → bound (load_of (settings_of latency row) []) Low ≤ row.max_delay);
   }
   carries (l ∷ more) h bounds =
       let links = l ∷ more in
@@ -172,15 +172,15 @@ module _ (row : PortRow) (asks : AsksWhatItsAccountGives) where
       record {
         rate = omega (arith, all.rate, same.rate);
         buffer = omega (arith, all.buffer, same.burst, same.largest);
-        high = All-weaker (λ (flow : Flow). flow.priority ≡ High → 0 < (sums_of row.speed links).highs) (λ (flow : Flow). flow.priority ≡ High → bound (load_of (settings_of row) flows) High ≤ row.max_delay)
+        high = All-weaker (λ (flow : Flow). flow.priority ≡ High → 0 < (sums_of row.speed links).highs) (λ (flow : Flow). flow.priority ≡ High → bound (load_of (settings_of latency row) flows) High ≤ row.max_delay)
             (λ flow some is. let le = bounds.0 (some is) in omega (arith, le, high_is links)) flows (some_high links);
-        low = All-weaker (λ (flow : Flow). flow.priority ≡ Low → 0 < (sums_of row.speed links).lows) (λ (flow : Flow). flow.priority ≡ Low → bound (load_of (settings_of row) flows) Low ≤ row.max_delay)
+        low = All-weaker (λ (flow : Flow). flow.priority ≡ Low → 0 < (sums_of row.speed links).lows) (λ (flow : Flow). flow.priority ≡ Low → bound (load_of (settings_of latency row) flows) Low ≤ row.max_delay)
             (λ flow some is. let le = (bounds.1 (some is)).1 in omega (arith, le, low_is links)) flows (some_low links);
       }
 
   -- a bound of a priority that has a flow
   bound_some : (links : List Link) → KeepsBounds links → (flow : Flow) → Contains (map (flow_of row.speed) links) flow → (priority : Priority) → flow.priority ≡ priority
-      → bound_of (sums_of row.speed links) priority ≡ Some (bound (load_of (settings_of row) (map (flow_of row.speed) links)) priority)
+      → bound_of (behind latency (sums_of row.speed links)) priority ≡ Some (bound (load_of (settings_of latency row) (map (flow_of row.speed) links)) priority)
   bound_some links bounds flow among High is =
       let some = All-contains (λ (flow : Flow). flow.priority ≡ High → 0 < (sums_of row.speed links).highs) (map (flow_of row.speed) links) flow (some_high links) among is in
       given (nat_lt 0 (sums_of row.speed links).highs) _ (positive _ some) ∙ ap Some (sym (high_is links)) where
@@ -204,10 +204,10 @@ module _ (t : Content) (row : PortRow) (well : IsWellFormed t) where
   abbrev links : List Link
   links = routed row.id t.links
 
-  paid : PricesPay → AsksWhatItsAccountGives → EachLinkAsks → All (IsPaidFor (settings_of row)) (flows_at t row)
-  paid pays gives asks = All-map (IsPaidFor (settings_of row)) (flow_of row.speed) links
-      (All-filter (leads_to row.id) (λ l. IsPaidFor (settings_of row) (flow_of row.speed l)) t.links
-      (All-weaker (IsLink t.ports) (λ l. IsPaidFor (settings_of row) (flow_of row.speed l))
+  paid : PricesPay → AsksWhatItsAccountGives → EachLinkAsks → All (IsPaidFor (settings_of t.latency row)) (flows_at t row)
+  paid pays gives asks = All-map (IsPaidFor (settings_of t.latency row)) (flow_of row.speed) links
+      (All-filter (leads_to row.id) (λ l. IsPaidFor (settings_of t.latency row) (flow_of row.speed l)) t.links
+      (All-weaker (IsLink t.ports) (λ l. IsPaidFor (settings_of t.latency row) (flow_of row.speed l))
       (λ l is. record {
         pays = λ size least most. pays l.police l.max_size l.bag l.jitter row.speed size least most;
         credited = let some = asks row.speed l is.size_least in omega (arith, some, (gives row.speed l).0);
@@ -290,7 +290,7 @@ module _ (t : Content) (row : PortRow) (well : IsWellFormed t) where
 
 pub isolated_at : PricesPay → AsksWhatItsAccountGives → EachLinkAsks → AcceptedKeepsBounds → IsolatesSoFar → AcceptedTablesIsolate
 isolated_at pays asks some keeps isolates t arrivals h row among c settings is =
-    let s = settings_of row in
+    let s = settings_of t.latency row in
     let links = routed row.id t.links in
     let flows = flows_at t row in
     let arrive : Arrive s flows arrivals = record {
@@ -299,9 +299,9 @@ isolated_at pays asks some keeps isolates t arrivals h row among c settings is =
       stamps = h.stamps;
       clean = All-weaker (IsCleanIn t) (IsClean flows) (λ x is. clean t row h.well_formed x is) arrivals h.clean;
     } in
-    let bounds : KeepsBounds row asks links = All-contains (λ (row : PortRow). KeepsBounds row asks (routed row.id t.links)) t.ports row (keeps t h.well_formed h.accepted) among in
-    let accepted = All-contains (λ (row : PortRow). 0 < (sums_at row.speed row.id t.links).highs + (sums_at row.speed row.id t.links).lows → CarriesSums row (sums_at row.speed row.id t.links)) t.ports row h.accepted among in
-    let load : Carries s flows = carries row asks links accepted bounds in
+    let bounds : KeepsBounds t.latency row asks links = All-contains (λ (row : PortRow). KeepsBounds t.latency row asks (routed row.id t.links)) t.ports row (keeps t h.well_formed h.accepted) among in
+    let accepted = All-contains (λ (row : PortRow). 0 < (sums_at t.latency row.speed row.id t.links).highs + (sums_at t.latency row.speed row.id t.links).lows → CarriesSums row (sums_at t.latency row.speed row.id t.links)) t.ports row h.accepted among in
+    let load : Carries s flows = carries t.latency row asks links accepted bounds in
     let all : IsIsolatedSoFar flows arrivals c = isolates c flows arrivals (subst (λ s. Arrive s flows arrivals) (sym settings) arrive) (subst (λ s. Carries s flows) (sym settings) load) (subst (λ s. c.admitted ≡ admitted s (feed_of flows arrivals)) (sym settings) is) in
     let in_bound : All (IsInBound s (load_of s flows)) (sent_of (done c)) = subst (λ s. All (IsInBound s (load_of s flows)) (sent_of (done c))) settings all.in_bound in
     record {
@@ -313,7 +313,7 @@ isolated_at pays asks some keeps isolates t arrivals h row among c settings is =
           let within = in_bound k d lt in
           record {
             bound = bound (load_of s flows) x.item.priority;
-            bound_is = bound_some row asks links bounds of.flow of.among x.item.priority of.priority;
+            bound_is = bound_some t.latency row asks links bounds of.flow of.among x.item.priority of.priority;
             least = within.least;
             most = within.most;
           };
@@ -327,7 +327,7 @@ others_in_tables by_frames isolate t t' arrivals arrivals' h h' row row' among a
     ∙ ap (λ terms. passed_frames terms (map frame_of (own link'.id arrivals'))) terms
     ∙ sym (all t' arrivals' h' row' among' link' in_table' leads' c' settings' admits' ends') where
       all : (t : Content) (arrivals : List Item) → ArriveAt t arrivals → (row : PortRow) → Contains t.ports row → (link : Link) → Contains t.links link → leads_to row.id link ≡ true
-          → (c : PortContent) → c.settings ≡ settings_of row → c.admitted ≡ admitted (settings_of row) (feed_of (flows_at t row) arrivals) → c.finished ≡ true
+          → (c : PortContent) → c.settings ≡ settings_of t.latency row → c.admitted ≡ admitted (settings_of t.latency row) (feed_of (flows_at t row) arrivals) → c.finished ≡ true
           → frames_for link.id c ≡ passed_frames (terms_of link) (map frame_of (own link.id arrivals))
       all t arrivals h row among link in_table leads c settings admits ends =
           let front = (isolate t arrivals h row among c settings admits).front_of_passed link in_table leads in

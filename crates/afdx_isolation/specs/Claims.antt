@@ -24,9 +24,9 @@ pub record Arrive (s : Settings) (flows : List Flow) (arrivals : List Item) : Ty
   pub stamps : StampsDoNotFall arrivals
   pub clean : All (IsClean flows) arrivals
 
--- a sending that ends no sooner than its line time and no later than its bound after its item came
+-- a sending that ends no sooner than the latency and its line time, and no later than its bound, after its item came
 pub record IsInBound (s : Settings) (load : Load) (x : Sent) : Type 0 where
-  pub least : x.item.stamp + item_cost s x.item ≤ x.end
+  pub least : x.item.stamp + s.latency + item_cost s x.item ≤ x.end
   pub most : x.end ≤ x.item.stamp + bound load x.item.priority
 
 -- the item is not given up for its age, but sent within its bound

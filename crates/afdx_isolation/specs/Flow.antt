@@ -40,7 +40,7 @@ abbrev pub longest : Settings → List Flow → ℕ
 longest s [] = 0
 longest s (flow ∷ flows) = max (cost_of s.speed flow.largest) (longest s flows)
 
--- the load of a port: of all its flows, and of those of one priority
+-- the load of a port: of all its flows, and of those of one priority; and its latency
 pub record Load : Type 0 where
   pub rate : ℕ
   pub high_rate : ℕ
@@ -48,6 +48,7 @@ pub record Load : Type 0 where
   pub high_burst : ℕ
   pub largest : ℕ
   pub low_largest : ℕ
+  pub latency : ℕ
 
 abbrev pub load_of : Settings → List Flow → Load
 load_of s flows = record {
@@ -57,13 +58,18 @@ load_of s flows = record {
   high_burst = bursts (high_flows flows);
   largest = longest s flows;
   low_largest = longest s (low_flows flows);
+  latency = s.latency;
 }
 
--- the most nanoseconds from a frame's arrival to its end: a high frame waits for the high bursts and one low frame that
--- was begun before it came; a low one for all bursts, on the part of the line that the high ones leave
+-- the most nanoseconds from the instant at which a frame is queued to its end: a high frame waits for the high bursts and one
+-- low frame that was begun before it came; a low one for all bursts, on the part of the line that the high ones leave
+abbrev pub queue_bound : Load → Priority → ℕ
+queue_bound load High = (load.high_burst + parts * load.low_largest) / parts
+queue_bound load Low = load.burst / (parts - load.high_rate)
+
+-- from its arrival, one latency before that instant
 abbrev pub bound : Load → Priority → ℕ
-bound load High = (load.high_burst + parts * load.low_largest) / parts
-bound load Low = load.burst / (parts - load.high_rate)
+bound load priority = queue_bound load priority + load.latency
 
 -- the flows ask for no more than the line gives
 abbrev pub IsWithinRate : Settings → List Flow → Type 0

@@ -22,8 +22,9 @@ use Rattle.afdx_load.specs.Accepted.{IsAccepted}
 use Rattle.afdx_isolation.specs.Flow.{Flow}
 use Rattle.afdx_isolation.specs.Arrivals.{frame_of, StampsDoNotFall, own, joins, feed_of}
 
-abbrev pub settings_of : PortRow → Settings
-settings_of row = record { speed = row.speed; buffer = row.buffer; max_delay = row.max_delay }
+-- a port of a switch of this latency
+abbrev pub settings_of : ℕ → PortRow → Settings
+settings_of latency row = record { speed = row.speed; buffer = row.buffer; max_delay = row.max_delay; latency = latency }
 
 -- a link as a port of this speed sees it
 abbrev pub flow_of : Speed → Link → Flow
@@ -49,11 +50,12 @@ abbrev pub bound_of : Sums → Priority → Option ℕ
 bound_of load High = high_bound load
 bound_of load Low = low_bound load
 
--- a sending that ends no sooner than its line time after its item came, and no later than the port's bound for its priority
+-- a sending that ends no sooner than the latency and its line time after its item came, and no later than the port's bound for
+-- its priority
 pub record IsInBoundAt (t : Content) (row : PortRow) (x : Sent) : Type 0 where
   pub bound : ℕ
-  pub bound_is : bound_of (load_of row.speed row.id t.links) x.item.priority ≡ Some bound
-  pub least : x.item.stamp + cost_of row.speed x.item.size ≤ x.end
+  pub bound_is : bound_of (load_of t.latency row.speed row.id t.links) x.item.priority ≡ Some bound
+  pub least : x.item.stamp + t.latency + cost_of row.speed x.item.size ≤ x.end
   pub most : x.end ≤ x.item.stamp + bound
 
 -- the arrivals of a link that its policing passes
@@ -75,7 +77,7 @@ pub record IsIsolatedAt (t : Content) (row : PortRow) (arrivals : List Item) (c 
 
 abbrev pub AcceptedTablesIsolate : Type 0
 AcceptedTablesIsolate = (t : Content) (arrivals : List Item) → ArriveAt t arrivals → (row : PortRow) → Contains t.ports row
-    → (c : PortContent) → c.settings ≡ settings_of row → c.admitted ≡ admitted (settings_of row) (feed_of (flows_at t row) arrivals)
+    → (c : PortContent) → c.settings ≡ settings_of t.latency row → c.admitted ≡ admitted (settings_of t.latency row) (feed_of (flows_at t row) arrivals)
     → IsIsolatedAt t row arrivals c
 
 -- a copy of an arrival of a link is offered to a port exactly where the link leads there and its policing passes the frame
@@ -94,6 +96,6 @@ OthersChangeNothingInTables = (t t' : Content) (arrivals arrivals' : List Item) 
     → (row row' : PortRow) → Contains t.ports row → Contains t'.ports row'
     → (link link' : Link) → Contains t.links link → Contains t'.links link' → leads_to row.id link ≡ true → leads_to row'.id link' ≡ true
     → terms_of link ≡ terms_of link' → map frame_of (own link.id arrivals) ≡ map frame_of (own link'.id arrivals')
-    → (c c' : PortContent) → c.settings ≡ settings_of row → c'.settings ≡ settings_of row'
-    → c.admitted ≡ admitted (settings_of row) (feed_of (flows_at t row) arrivals) → c'.admitted ≡ admitted (settings_of row') (feed_of (flows_at t' row') arrivals')
+    → (c c' : PortContent) → c.settings ≡ settings_of t.latency row → c'.settings ≡ settings_of t'.latency row'
+    → c.admitted ≡ admitted (settings_of t.latency row) (feed_of (flows_at t row) arrivals) → c'.admitted ≡ admitted (settings_of t'.latency row') (feed_of (flows_at t' row') arrivals')
     → c.finished ≡ true → c'.finished ≡ true → frames_for link.id c ≡ frames_for link'.id c'

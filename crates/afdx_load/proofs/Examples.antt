@@ -45,16 +45,16 @@ unfolding framed
 frame_burst = refl
 
 -- the bounds of a mixed port
-high : high_bound (load_of Hundred 2 mixed) ≡ Some 282430
+high : high_bound (load_of 0 Hundred 2 mixed) ≡ Some 282430
 unfolding mixed worked sums_of
 high = refl
 
-low : low_bound (load_of Hundred 2 mixed) ≡ Some 379224
+low : low_bound (load_of 0 Hundred 2 mixed) ≡ Some 379224
 unfolding mixed worked sums_of
 low = refl
 
 -- a port to which nothing leads has none
-elsewhere : low_bound (load_of Hundred 1 mixed) ≡ None
+elsewhere : low_bound (load_of 0 Hundred 1 mixed) ≡ None
 unfolding mixed worked sums_of
 elsewhere = refl
 
@@ -62,14 +62,14 @@ port : ℕ → PortRow
 port max_delay = record { id = 2; speed = Hundred; buffer = 100000; max_delay = max_delay }
 
 -- the first fault
-late : first_fault mixed (port 283000 ∷ []) ≡ Some (record { port = 2; rule = LowDelay; need = 379224; limit = 283000 })
+late : first_fault 0 mixed (port 283000 ∷ []) ≡ Some (record { port = 2; rule = LowDelay; need = 379224; limit = 283000 })
 unfolding mixed worked port sums_of fault_at
 late = refl
 
-in_time : first_fault mixed (port 380000 ∷ []) ≡ None
+in_time : first_fault 0 mixed (port 380000 ∷ []) ≡ None
 unfolding mixed worked port sums_of fault_at
 in_time = refl
 
-slow : first_fault (worked Low ∷ []) (record { id = 2; speed = Ten; buffer = 100000; max_delay = 500000000 } ∷ []) ≡ Some (record { port = 2; rule = Rate; need = 3264307200; limit = 2048000000 })
+slow : first_fault 0 (worked Low ∷ []) (record { id = 2; speed = Ten; buffer = 100000; max_delay = 500000000 } ∷ []) ≡ Some (record { port = 2; rule = Rate; need = 3264307200; limit = 2048000000 })
 unfolding worked sums_of fault_at
 slow = refl

@@ -11,7 +11,7 @@ use Rattle.afdx_units.specs.declared.line.Speed.{Speed}
 use Rattle.afdx_load.specs.declared.fault.Rule.{Rule}
 use Rattle.afdx_load.specs.declared.fault.Rule.TheVariants.{Rate, Buffer, HighDelay, LowDelay}
 use Rattle.afdx_load.specs.declared.fault.LoadFault.{LoadFault}
-use Rattle.afdx_load.specs.Sums.{parts, Sums, sums_of, load_of, routed}
+use Rattle.afdx_load.specs.Sums.{parts, Sums, sums_of, behind, load_of, routed}
 use Rattle.afdx_load.specs.Bounds.{high_bound, low_bound, backlog, byte_time}
 use Rattle.afdx_load.specs.Accepted.{Carries, IsAccepted, past, past_bound, fault_at, first_fault}
 use Rattle.afdx_load.proofs.SumLemmas.{load_none, all_counted}
@@ -66,39 +66,36 @@ none_fine row s h =
       low = none_bound row.id LowDelay row.max_delay (low_bound s) d.1;
     }
 
-nothing : Sums
-nothing = record { highs = 0; lows = 0; rate = 0; high_rate = 0; burst = 0; high_burst = 0; largest = 0; low_largest = 0 }
-
-nothing_fine : (row : PortRow) (s : Sums) → s ≡ record { highs = 0; lows = 0; rate = 0; high_rate = 0; burst = 0; high_burst = 0; largest = 0; low_largest = 0 } → Carries row s
-nothing_fine row s h = rw h (record { rate = omega arith; buffer = omega arith; high = tt; low = tt })
+nothing_fine : (row : PortRow) (latency : ℕ) (s : Sums) → s ≡ record { highs = 0; lows = 0; rate = 0; high_rate = 0; burst = 0; high_burst = 0; largest = 0; low_largest = 0; latency = latency } → Carries row s
+nothing_fine row latency s h = rw h (record { rate = omega arith; buffer = omega arith; high = tt; low = tt })
 
 -- a port without links carries its load
-with_links : (row : PortRow) (speed : Speed) (links : List Link) → (0 < (sums_of speed links).highs + (sums_of speed links).lows → Carries row (sums_of speed links)) → Carries row (sums_of speed links)
-with_links row speed [] h = nothing_fine row (sums_of speed []) (load_none speed)
-with_links row speed (link ∷ links) h = h (omega (arith, all_counted speed (link ∷ links)))
+with_links : (row : PortRow) (latency : ℕ) (speed : Speed) (links : List Link) → (0 < (sums_of speed links).highs + (sums_of speed links).lows → Carries row (behind latency (sums_of speed links))) → Carries row (behind latency (sums_of speed links))
+with_links row latency speed [] h = nothing_fine row latency (behind latency (sums_of speed [])) (ap (behind latency) (load_none speed))
+with_links row latency speed (link ∷ links) h = h (omega (arith, all_counted speed (link ∷ links)))
 
-abbrev pub CarriesAt : List Link → PortRow → Type 0
-CarriesAt links row = let s = load_of row.speed row.id links in 0 < s.highs + s.lows → Carries row s
+abbrev pub CarriesAt : ℕ → List Link → PortRow → Type 0
+CarriesAt latency links row = let s = load_of latency row.speed row.id links in 0 < s.highs + s.lows → Carries row s
 
-pub accepted_none : (links : List Link) (rows : List PortRow) → All (CarriesAt links) rows → first_fault links rows ≡ None
-accepted_none links [] h = refl
-accepted_none links (row ∷ rows) h =
+pub accepted_none : (latency : ℕ) (links : List Link) (rows : List PortRow) → All (CarriesAt latency links) rows → first_fault latency links rows ≡ None
+accepted_none latency links [] h = refl
+accepted_none latency links (row ∷ rows) h =
     none_or _ _
-    (fine_none row (load_of row.speed row.id links) (with_links row row.speed (routed row.id links) (All-head (CarriesAt links) row rows h)))
-    (accepted_none links rows (All-tail (CarriesAt links) row rows h))
+    (fine_none row (load_of latency row.speed row.id links) (with_links row latency row.speed (routed row.id links) (All-head (CarriesAt latency links) row rows h)))
+    (accepted_none latency links rows (All-tail (CarriesAt latency links) row rows h))
 
-pub none_accepted : (links : List Link) (rows : List PortRow) → first_fault links rows ≡ None → All (CarriesAt links) rows
-none_accepted links [] h = All-nil (CarriesAt links)
-none_accepted links (row ∷ rows) h =
-    let both = or_none (fault_at row (load_of row.speed row.id links)) (first_fault links rows) h in
-    All-cons (CarriesAt links) row rows (λ _. none_fine row (load_of row.speed row.id links) both.0) (none_accepted links rows both.1)
+pub none_accepted : (latency : ℕ) (links : List Link) (rows : List PortRow) → first_fault latency links rows ≡ None → All (CarriesAt latency links) rows
+none_accepted latency links [] h = All-nil (CarriesAt latency links)
+none_accepted latency links (row ∷ rows) h =
+    let both = or_none (fault_at row (load_of latency row.speed row.id links)) (first_fault latency links rows) h in
+    All-cons (CarriesAt latency links) row rows (λ _. none_fine row (load_of latency row.speed row.id links) both.0) (none_accepted latency links rows both.1)
 
 -- ---- whole tables
 
 -- a table without a fault
-pub accepted_of : (c : Content) → None ≡ first_fault c.links c.ports → IsAccepted c
-accepted_of c h = none_accepted c.links c.ports (sym h)
+pub accepted_of : (c : Content) → None ≡ first_fault c.latency c.links c.ports → IsAccepted c
+accepted_of c h = none_accepted c.latency c.links c.ports (sym h)
 
 -- a table with one
-pub refused_of : (c : Content) (fault : LoadFault) → Some fault ≡ first_fault c.links c.ports → IsAccepted c → ⊥
-refused_of c fault h accepted = some_none fault (h ∙ accepted_none c.links c.ports accepted)
+pub refused_of : (c : Content) (fault : LoadFault) → Some fault ≡ first_fault c.latency c.links c.ports → IsAccepted c → ⊥
+refused_of c fault h accepted = some_none fault (h ∙ accepted_none c.latency c.links c.ports accepted)

@@ -136,42 +136,42 @@ none_broken row s h rule =
 
 -- ---- all ports
 
-abbrev load_at : List Link → PortRow → Sums
-load_at links row = load_of row.speed row.id links
+abbrev load_at : ℕ → List Link → PortRow → Sums
+load_at latency links row = load_of latency row.speed row.id links
 
 -- no port of a lower number breaks a rule
-abbrev IsFineBelow : List Link → ℕ → PortRow → Type 0
-IsFineBelow links id other = other.id < id → (rule : Rule) → Broken other (load_at links other) rule → ⊥
+abbrev IsFineBelow : ℕ → List Link → ℕ → PortRow → Type 0
+IsFineBelow latency links id other = other.id < id → (rule : Rule) → Broken other (load_at latency links other) rule → ⊥
 
-record IsFirstIn (links : List Link) (rows : List PortRow) (f : LoadFault) : Type 0 where
+record IsFirstIn (latency : ℕ) (links : List Link) (rows : List PortRow) (f : LoadFault) : Type 0 where
   row : PortRow
   is_port : Contains rows row
-  here : IsFirstAt row (load_at links row) f
-  lower : All (IsFineBelow links row.id) rows
+  here : IsFirstAt row (load_at latency links row) f
+  lower : All (IsFineBelow latency links row.id) rows
 
-first_in : (links : List Link) (rows : List PortRow) (f : LoadFault) → Rises rows → first_fault links rows ≡ Some f → IsFirstIn links rows f
-first_in links [] f rises h = absurd (some_none f (sym h))
-first_in links (row ∷ rows) f rises h = elim (some_or (fault_at row (load_at links row)) (first_fault links rows) f h) [
+first_in : (latency : ℕ) (links : List Link) (rows : List PortRow) (f : LoadFault) → Rises rows → first_fault latency links rows ≡ Some f → IsFirstIn latency links rows f
+first_in latency links [] f rises h = absurd (some_none f (sym h))
+first_in latency links (row ∷ rows) f rises h = elim (some_or (fault_at row (load_at latency links row)) (first_fault latency links rows) f h) [
   | inl now ↦ record {
     row = row;
     is_port = (0, omega arith, refl);
-    here = first_at row (load_at links row) f now;
-    lower = All-cons (IsFineBelow links row.id) row rows (λ lt. absurd (omega (arith, lt)))
+    here = first_at row (load_at latency links row) f now;
+    lower = All-cons (IsFineBelow latency links row.id) row rows (λ lt. absurd (omega (arith, lt)))
         (λ k d within lt. absurd (let above = All-from_recursion (λ (q : PortRow). row.id < q.id) rows rises.0 k d within in omega (arith, above, lt)));
   }
   | inr later ↦
-      let rest = first_in links rows f rises.1 later.1 in
+      let rest = first_in latency links rows f rises.1 later.1 in
       record {
         row = rest.row;
         is_port = Contains-append_right (row ∷ []) rows rest.row rest.is_port;
         here = rest.here;
-        lower = All-cons (IsFineBelow links rest.row.id) row rows (λ lt. none_broken row (load_at links row) later.0) rest.lower;
+        lower = All-cons (IsFineBelow latency links rest.row.id) row rows (λ lt. none_broken row (load_at latency links row) later.0) rest.lower;
       }
 ]
 
-is_first : (c : Content) (f : LoadFault) → IsWellFormed c → first_fault c.links c.ports ≡ Some f → IsFirstFault c f
+is_first : (c : Content) (f : LoadFault) → IsWellFormed c → first_fault c.latency c.links c.ports ≡ Some f → IsFirstFault c f
 is_first c f well h =
-    let first = first_in c.links c.ports f well.ports_rise h in
+    let first = first_in c.latency c.links c.ports f well.ports_rise h in
     let says = first.here.says in
     record {
       row = first.row;
@@ -181,7 +181,7 @@ is_first c f well h =
       limit = says.limit_is;
       above = says.above;
       no_rule_before = first.here.none_before;
-      no_lower_port = λ other among. All-contains (IsFineBelow c.links first.row.id) c.ports other first.lower among;
+      no_lower_port = λ other among. All-contains (IsFineBelow c.latency c.links first.row.id) c.ports other first.lower among;
     }
 
 -- ---- there is one such fault
@@ -215,7 +215,7 @@ same_rule : (a b : Rule) → place_of a ≡ place_of b → a ≡ b
 same_rule a b h = placed a ∙ ap rule_at h ∙ sym (placed b)
 
 -- a fault breaks its rule
-breaks : (c : Content) (f : LoadFault) (first : IsFirstFault c f) → Broken first.row (load_at c.links first.row) f.rule
+breaks : (c : Content) (f : LoadFault) (first : IsFirstFault c f) → Broken first.row (load_at c.latency c.links first.row) f.rule
 breaks c f first = (f.need, first.need, let above = first.above in rw first.limit above)
 
 -- of two first faults, neither is at a lower port, nor of an earlier rule
@@ -227,7 +227,7 @@ no_higher c f g a b = elim (cases_lt a.row.id b.row.id) [
 
 no_later : (c : Content) (f g : LoadFault) (a : IsFirstFault c f) (b : IsFirstFault c g) → a.row ≡ b.row → place_of g.rule ≤ place_of f.rule
 no_later c f g a b same = elim (cases_lt (place_of f.rule) (place_of g.rule)) [
-  | inl lt ↦ absurd (b.no_rule_before f.rule lt (subst (λ (row : PortRow). Broken row (load_at c.links row) f.rule) same (breaks c f a)))
+  | inl lt ↦ absurd (b.no_rule_before f.rule lt (subst (λ (row : PortRow). Broken row (load_at c.latency c.links row) f.rule) same (breaks c f a)))
   | inr le ↦ le
 ]
 
@@ -242,22 +242,22 @@ unfolding fault
 one_fault c f g well a b =
     let row : a.row ≡ b.row = one_port c.ports a.row b.row well.ports_rise a.is_port b.is_port (omega (arith, no_higher c f g a b, no_higher c g f b a)) in
     let rule : f.rule ≡ g.rule = same_rule f.rule g.rule (omega (arith, no_later c f g a b row, no_later c g f b a (sym row))) in
-    let need : Some f.need ≡ Some g.need = sym a.need ∙ ap (λ (r : Rule). need_of r (load_at c.links a.row)) rule ∙ ap (λ (p : PortRow). need_of g.rule (load_at c.links p)) row ∙ b.need in
+    let need : Some f.need ≡ Some g.need = sym a.need ∙ ap (λ (r : Rule). need_of r (load_at c.latency c.links a.row)) rule ∙ ap (λ (p : PortRow). need_of g.rule (load_at c.latency c.links p)) row ∙ b.need in
     let limit : f.limit ≡ g.limit = sym a.limit ∙ ap (λ (r : Rule). limit_of r a.row) rule ∙ ap (limit_of g.rule) row ∙ b.limit in
     let port : f.port ≡ g.port = sym a.number ∙ ap (λ (p : PortRow). p.id) row ∙ b.number in
     same_fault f.port g.port f.rule g.rule f.need g.need f.limit g.limit port rule (let n : f.need ≡ g.need = cc in n) limit
 
 -- no port of a table without faults breaks a rule
-none_in : (links : List Link) (rows : List PortRow) → first_fault links rows ≡ None → All (λ row. (rule : Rule) → Broken row (load_at links row) rule → ⊥) rows
-none_in links [] h = All-nil (λ row. (rule : Rule) → Broken row (load_at links row) rule → ⊥)
-none_in links (row ∷ rows) h =
-    let both = or_none (fault_at row (load_at links row)) (first_fault links rows) h in
-    All-cons (λ r. (rule : Rule) → Broken r (load_at links r) rule → ⊥) row rows (none_broken row (load_at links row) both.0) (none_in links rows both.1)
+none_in : (latency : ℕ) (links : List Link) (rows : List PortRow) → first_fault latency links rows ≡ None → All (λ row. (rule : Rule) → Broken row (load_at latency links row) rule → ⊥) rows
+none_in latency links [] h = All-nil (λ row. (rule : Rule) → Broken row (load_at latency links row) rule → ⊥)
+none_in latency links (row ∷ rows) h =
+    let both = or_none (fault_at row (load_at latency links row)) (first_fault latency links rows) h in
+    All-cons (λ r. (rule : Rule) → Broken r (load_at latency links r) rule → ⊥) row rows (none_broken row (load_at latency links row) both.0) (none_in latency links rows both.1)
 
-is_named : (c : Content) (f : LoadFault) → IsWellFormed c → IsFirstFault c f → first_fault c.links c.ports ≡ Some f
-is_named c f well first = by (first_fault c.links c.ports) refl where
-  by : (o : Option LoadFault) → first_fault c.links c.ports ≡ o → first_fault c.links c.ports ≡ Some f
-  by None e = absurd (All-contains (λ row. (rule : Rule) → Broken row (load_at c.links row) rule → ⊥) c.ports first.row (none_in c.links c.ports e) first.is_port f.rule (breaks c f first))
+is_named : (c : Content) (f : LoadFault) → IsWellFormed c → IsFirstFault c f → first_fault c.latency c.links c.ports ≡ Some f
+is_named c f well first = by (first_fault c.latency c.links c.ports) refl where
+  by : (o : Option LoadFault) → first_fault c.latency c.links c.ports ≡ o → first_fault c.latency c.links c.ports ≡ Some f
+  by None e = absurd (All-contains (λ row. (rule : Rule) → Broken row (load_at c.latency c.links row) rule → ⊥) c.ports first.row (none_in c.latency c.links c.ports e) first.is_port f.rule (breaks c f first))
   by (Some g) e = e ∙ ap Some (one_fault c g f well (is_first c g well e) first)
 
 pub fault_is_first : FaultIsTheFirst

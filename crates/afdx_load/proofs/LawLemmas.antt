@@ -6,7 +6,7 @@ use Rattle.std.proofs.lemmas.List.Sums.{sum_by-cons, length-filter}
 use Rattle.std.proofs.lemmas.List.Filters.{sum_by-filter_both}
 use Rattle.std.proofs.lemmas.List.Elements.{All-filter, All-head}
 use Rattle.afdx_units.specs.declared.line.Speed.{Speed}
-use Rattle.afdx_units.specs.declared.line.Speed.TheVariants.{Ten, Hundred}
+use Rattle.afdx_units.specs.declared.line.Speed.TheVariants.{Ten, Hundred, Thousand}
 use Rattle.afdx_table.specs.Link.{Link, leads_to}
 use Rattle.afdx_load.specs.Sums.{parts, is_high, is_low, routed, rate_of, burst_of, time_of, Sums, sums_of, load_of}
 use Rattle.afdx_load.specs.Bounds.{high_bound, low_bound}
@@ -20,6 +20,7 @@ use Rattle.afdx_load.proofs.FaultLemmas.{accepted_none, none_accepted}
 pub covers : FactorCoversOverhead
 covers Ten = (λ size. (λ h. omega arith, λ h. omega arith), refl)
 covers Hundred = (λ size. (λ h. omega arith, λ h. omega arith), refl)
+covers Thousand = (λ size. (λ h. omega arith, λ h. omega arith), refl)
 
 pub asks : AsksWhatItsAccountGives
 asks speed link = (sym (rate_is speed link), sym (burst_is speed link))
@@ -48,7 +49,7 @@ high-sum f port links = ap (sum_by f) (filter-filter (leads_to port) is_high lin
 
 pub each_once : SumsTakeEachLinkOnce
 unfolding sums_of
-each_once speed port links = (
+each_once latency speed port links = (
   sum-filter (rate_of speed) (leads_to port) links,
   sum-filter (burst_of speed) (leads_to port) links,
   high-sum (rate_of speed) port links,
@@ -58,6 +59,7 @@ each_once speed port links = (
 time_above : (speed : Speed) (link : Link) → 0 < time_of speed link
 time_above Ten link = omega arith
 time_above Hundred link = omega arith
+time_above Thousand link = omega arith
 
 links_shown : (speed : Speed) (links : List Link) → (0 < (sums_of speed links).largest) ↔ (0 < (sums_of speed links).highs + (sums_of speed links).lows)
 unfolding sums_of
@@ -65,7 +67,7 @@ links_shown speed [] = (λ h. h, λ h. h)
 links_shown speed (link ∷ links) = (λ _. omega (arith, all_counted speed (link ∷ links)), λ _. omega (arith, time_above speed link))
 
 pub shows_links : LongestShowsLinks
-shows_links speed port links = links_shown speed (routed port links)
+shows_links latency speed port links = links_shown speed (routed port links)
 
 sum_above : (speed : Speed) (links : List Link) → All IsLong links → 0 < length links → 0 < sum_by (rate_of speed) links
 sum_above speed [] long some = absurd (omega arith)
@@ -81,18 +83,18 @@ pub leave_a_part : HighLinksLeaveAPart
 leave_a_part c speed port well rate lows = part_left speed (routed port c.links) (All-filter (leads_to port) IsLong c.links (all_long c well)) rate lows
 
 pub no_fault : AcceptedMeansNoFault
-no_fault c = (accepted_none c.links c.ports, none_accepted c.links c.ports)
+no_fault c = (accepted_none c.latency c.links c.ports, none_accepted c.latency c.links c.ports)
 
-high_kept : (s : Sums) (most : ℕ) → IfSome (high_bound s) (λ bound. bound ≤ most) → 0 < s.highs → (s.high_burst + parts * s.low_largest) / parts ≤ most
+high_kept : (s : Sums) (most : ℕ) → IfSome (high_bound s) (λ bound. bound ≤ most) → 0 < s.highs → (s.high_burst + parts * s.low_largest) / parts + s.latency ≤ most
 high_kept s most h highs = rw (lt-ltb 0 s.highs highs) at h
 
-low_kept : (s : Sums) (most : ℕ) → IfSome (low_bound s) (λ bound. bound ≤ most) → 0 < s.lows → s.high_rate < parts → s.burst / (parts - s.high_rate) ≤ most
+low_kept : (s : Sums) (most : ℕ) → IfSome (low_bound s) (λ bound. bound ≤ most) → 0 < s.lows → s.high_rate < parts → s.burst / (parts - s.high_rate) + s.latency ≤ most
 low_kept s most h lows rate = rw (lt-ltb 0 s.lows lows, lt-ltb s.high_rate parts rate) at h
 
 pub keeps_bounds : AcceptedKeepsBounds
 keeps_bounds c well accepted k d within =
     let row = get_or c.ports k d in
-    let s = load_of row.speed row.id c.links in
+    let s = load_of c.latency row.speed row.id c.links in
     let carries : 0 < s.highs + s.lows → Carries row s = accepted k d within in (
       λ highs. high_kept s row.max_delay (carries (omega arith)).high highs,
       λ lows. let fine : Carries row s = carries (omega arith) in

@@ -4,7 +4,7 @@ use Rattle.std.proofs.Math.Nat.{mul-le-mul_left}
 use Rattle.afdx_units.specs.declared.bag.Bag.{Bag}
 use Rattle.afdx_units.specs.declared.bag.Bag.TheVariants.{Ms1, Ms2, Ms4, Ms8, Ms16, Ms32, Ms64, Ms128}
 use Rattle.afdx_units.specs.declared.line.Speed.{Speed}
-use Rattle.afdx_units.specs.declared.line.Speed.TheVariants.{Ten, Hundred}
+use Rattle.afdx_units.specs.declared.line.Speed.TheVariants.{Ten, Hundred, Thousand}
 use Rattle.afdx_units.specs.declared.police.Police.{Police}
 use Rattle.afdx_units.specs.declared.police.Police.TheVariants.{Byte, Frame}
 use Rattle.afdx_units.specs.Time.{bag_ms, bag_ns}
@@ -48,90 +48,69 @@ burst_is speed link = burst_is_by link.police speed link.max_size link.bag link.
 
 -- ---- each asks for something
 
-bytes_above : (bag : Bag) (speed : Speed) (size : ℕ) → 64 ≤ size → 0 < 21 * tick_of speed * size * (128 / bag_ms bag)
-bytes_above Ms1 Ten size h = omega arith
-bytes_above Ms1 Hundred size h = omega arith
-bytes_above Ms2 Ten size h = omega arith
-bytes_above Ms2 Hundred size h = omega arith
-bytes_above Ms4 Ten size h = omega arith
-bytes_above Ms4 Hundred size h = omega arith
-bytes_above Ms8 Ten size h = omega arith
-bytes_above Ms8 Hundred size h = omega arith
-bytes_above Ms16 Ten size h = omega arith
-bytes_above Ms16 Hundred size h = omega arith
-bytes_above Ms32 Ten size h = omega arith
-bytes_above Ms32 Hundred size h = omega arith
-bytes_above Ms64 Ten size h = omega arith
-bytes_above Ms64 Hundred size h = omega arith
-bytes_above Ms128 Ten size h = omega arith
-bytes_above Ms128 Hundred size h = omega arith
+tick_least : (speed : Speed) → 8 ≤ tick_of speed
+tick_least Ten = omega arith
+tick_least Hundred = omega arith
+tick_least Thousand = omega arith
 
-frames_above : (bag : Bag) (speed : Speed) (size : ℕ) → 0 < 16 * tick_of speed * (size + 20) * (128 / bag_ms bag)
-frames_above Ms1 Ten size = omega arith
-frames_above Ms1 Hundred size = omega arith
-frames_above Ms2 Ten size = omega arith
-frames_above Ms2 Hundred size = omega arith
-frames_above Ms4 Ten size = omega arith
-frames_above Ms4 Hundred size = omega arith
-frames_above Ms8 Ten size = omega arith
-frames_above Ms8 Hundred size = omega arith
-frames_above Ms16 Ten size = omega arith
-frames_above Ms16 Hundred size = omega arith
-frames_above Ms32 Ten size = omega arith
-frames_above Ms32 Hundred size = omega arith
-frames_above Ms64 Ten size = omega arith
-frames_above Ms64 Hundred size = omega arith
-frames_above Ms128 Ten size = omega arith
-frames_above Ms128 Hundred size = omega arith
+parts_least : (bag : Bag) → 1 ≤ 128 / bag_ms bag
+parts_least Ms1 = omega arith
+parts_least Ms2 = omega arith
+parts_least Ms4 = omega arith
+parts_least Ms8 = omega arith
+parts_least Ms16 = omega arith
+parts_least Ms32 = omega arith
+parts_least Ms64 = omega arith
+parts_least Ms128 = omega arith
+
+product_large : (a b m n : ℕ) → m ≤ a → n ≤ b → m * n ≤ a * b
+product_large a b m n h k = grind arith
+
+-- whatever a byte takes on the line
+rate_large : (c t k size : ℕ) → 8 ≤ t → 1 ≤ k → 1 ≤ size → c * (8 * 1 * 1) ≤ c * t * size * k
+rate_large c t k size tick part some =
+    let two = product_large t size 8 1 tick some in
+    let three = product_large (t * size) k (8 * 1) 1 two part in
+    let whole : c * (t * size * k) ≡ c * t * size * k = omega arith in
+    omega (arith, whole, mul-le-mul_left c three)
 
 above_by : (police : Police) (speed : Speed) (size : ℕ) (bag : Bag) → 64 ≤ size → 0 < rate_by police speed size bag
-above_by Byte speed size bag h = bytes_above bag speed size h
-above_by Frame speed size bag h = frames_above bag speed size
+above_by Byte speed size bag h = omega (arith, rate_large 21 (tick_of speed) (128 / bag_ms bag) size (tick_least speed) (parts_least bag) (omega (arith, h)))
+above_by Frame speed size bag h = omega (arith, rate_large 16 (tick_of speed) (128 / bag_ms bag) (size + 20) (tick_least speed) (parts_least bag) (omega arith))
 
 pub rate_above : (speed : Speed) (link : Link) → 64 ≤ link.max_size → 0 < rate_of speed link
 rate_above speed link h = above_by link.police speed link.max_size link.bag h
 
 -- ---- and none asks for much
 
-bytes_small : (bag : Bag) (speed : Speed) (size : ℕ) → size ≤ 1518 → 21 * tick_of speed * size * (128 / bag_ms bag) ≤ 2 ^ 32
-bytes_small Ms1 Ten size h = omega arith
-bytes_small Ms1 Hundred size h = omega arith
-bytes_small Ms2 Ten size h = omega arith
-bytes_small Ms2 Hundred size h = omega arith
-bytes_small Ms4 Ten size h = omega arith
-bytes_small Ms4 Hundred size h = omega arith
-bytes_small Ms8 Ten size h = omega arith
-bytes_small Ms8 Hundred size h = omega arith
-bytes_small Ms16 Ten size h = omega arith
-bytes_small Ms16 Hundred size h = omega arith
-bytes_small Ms32 Ten size h = omega arith
-bytes_small Ms32 Hundred size h = omega arith
-bytes_small Ms64 Ten size h = omega arith
-bytes_small Ms64 Hundred size h = omega arith
-bytes_small Ms128 Ten size h = omega arith
-bytes_small Ms128 Hundred size h = omega arith
+tick_most : (speed : Speed) → tick_of speed ≤ 800
+tick_most Ten = omega arith
+tick_most Hundred = omega arith
+tick_most Thousand = omega arith
 
-frames_small : (bag : Bag) (speed : Speed) (size : ℕ) → size ≤ 1518 → 16 * tick_of speed * (size + 20) * (128 / bag_ms bag) ≤ 2 ^ 32
-frames_small Ms1 Ten size h = omega arith
-frames_small Ms1 Hundred size h = omega arith
-frames_small Ms2 Ten size h = omega arith
-frames_small Ms2 Hundred size h = omega arith
-frames_small Ms4 Ten size h = omega arith
-frames_small Ms4 Hundred size h = omega arith
-frames_small Ms8 Ten size h = omega arith
-frames_small Ms8 Hundred size h = omega arith
-frames_small Ms16 Ten size h = omega arith
-frames_small Ms16 Hundred size h = omega arith
-frames_small Ms32 Ten size h = omega arith
-frames_small Ms32 Hundred size h = omega arith
-frames_small Ms64 Ten size h = omega arith
-frames_small Ms64 Hundred size h = omega arith
-frames_small Ms128 Ten size h = omega arith
-frames_small Ms128 Hundred size h = omega arith
+parts_most : (bag : Bag) → 128 / bag_ms bag ≤ 128
+parts_most Ms1 = omega arith
+parts_most Ms2 = omega arith
+parts_most Ms4 = omega arith
+parts_most Ms8 = omega arith
+parts_most Ms16 = omega arith
+parts_most Ms32 = omega arith
+parts_most Ms64 = omega arith
+parts_most Ms128 = omega arith
+
+product_small : (a b m n : ℕ) → a ≤ m → b ≤ n → a * b ≤ m * n
+product_small a b m n h k = product_large m n a b h k
+
+rate_within : (c t k size most : ℕ) → t ≤ 800 → k ≤ 128 → size ≤ most → c * t * size * k ≤ c * (800 * most * 128)
+rate_within c t k size most tick part small =
+    let two = product_small t size 800 most tick small in
+    let three = product_small (t * size) k (800 * most) 128 two part in
+    let whole : c * (t * size * k) ≡ c * t * size * k = omega arith in
+    omega (arith, whole, mul-le-mul_left c three)
 
 small_by : (police : Police) (speed : Speed) (size : ℕ) (bag : Bag) → size ≤ 1518 → rate_by police speed size bag ≤ 2 ^ 32
-small_by Byte speed size bag h = bytes_small bag speed size h
-small_by Frame speed size bag h = frames_small bag speed size h
+small_by Byte speed size bag h = omega (arith, rate_within 21 (tick_of speed) (128 / bag_ms bag) size 1518 (tick_most speed) (parts_most bag) h)
+small_by Frame speed size bag h = omega (arith, rate_within 16 (tick_of speed) (128 / bag_ms bag) (size + 20) 1538 (tick_most speed) (parts_most bag) (omega (arith, h)))
 
 pub rate_small : (speed : Speed) (link : Link) → link.max_size ≤ 1518 → rate_of speed link ≤ 2 ^ 32
 rate_small speed link h = small_by link.police speed link.max_size link.bag h
@@ -145,9 +124,6 @@ bag_small Ms16 = omega arith
 bag_small Ms32 = omega arith
 bag_small Ms64 = omega arith
 bag_small Ms128 = omega arith
-
-product_small : (a b m n : ℕ) → a ≤ m → b ≤ n → a * b ≤ m * n
-product_small a b m n h k = grind arith
 
 pub burst_small : (speed : Speed) (link : Link) → link.max_size ≤ 1518 → link.jitter ≤ 10000000 → burst_of speed link ≤ 2 ^ 60
 burst_small speed link h k =

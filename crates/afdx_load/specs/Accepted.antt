@@ -20,7 +20,7 @@ pub record Carries (row : PortRow) (s : Sums) : Type 0 where
 
 -- each port with links carries their load
 abbrev pub IsAccepted : Content → Type 0
-IsAccepted c = All (λ row. let s = load_of row.speed row.id c.links in 0 < s.highs + s.lows → Carries row s) c.ports
+IsAccepted c = All (λ row. let s = load_of c.latency row.speed row.id c.links in 0 < s.highs + s.lows → Carries row s) c.ports
 
 -- the fault of a need past its limit
 abbrev pub past : ℕ → Rule → ℕ → ℕ → Option LoadFault
@@ -41,6 +41,6 @@ fault_at row s =
     (past_bound row.id LowDelay row.max_delay (low_bound s))
 
 -- the fault of the first port that has one; a table's ports rise, so that it is the lowest
-abbrev pub first_fault : List Link → List PortRow → Option LoadFault
-first_fault links [] = None
-first_fault links (row ∷ rows) = option_or (fault_at row (load_of row.speed row.id links)) (first_fault links rows)
+abbrev pub first_fault : ℕ → List Link → List PortRow → Option LoadFault
+first_fault latency links [] = None
+first_fault latency links (row ∷ rows) = option_or (fault_at row (load_of latency row.speed row.id links)) (first_fault latency links rows)

@@ -16,6 +16,7 @@ counted High rate burst time s = record {
   high_burst = s.high_burst + burst;
   largest = max s.largest time;
   low_largest = s.low_largest;
+  latency = s.latency;
 }
 counted Low rate burst time s = record {
   highs = s.highs;
@@ -26,6 +27,7 @@ counted Low rate burst time s = record {
   high_burst = s.high_burst;
   largest = max s.largest time;
   low_largest = max s.low_largest time;
+  latency = s.latency;
 }
 
 abbrev pub with_link : Speed → Sums → Link → Sums

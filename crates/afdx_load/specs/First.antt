@@ -26,7 +26,7 @@ limit_of LowDelay row = row.max_delay
 
 -- the port's load breaks the rule
 abbrev pub Breaks : Content → PortRow → Rule → Type 0
-Breaks c row rule = (need : ℕ) × (need_of rule (load_of row.speed row.id c.links) ≡ Some need) × (limit_of rule row < need)
+Breaks c row rule = (need : ℕ) × (need_of rule (load_of c.latency row.speed row.id c.links) ≡ Some need) × (limit_of rule row < need)
 
 -- profile: the order of the rules
 abbrev pub place_of : Rule → ℕ
@@ -40,11 +40,11 @@ pub record IsFirstFault (c : Content) (f : LoadFault) : Type 0 where
   pub is_port : Contains c.ports row
   pub number : row.id ≡ f.port
   -- the rule is broken there, and this is the need and the limit
-  pub need : need_of f.rule (load_of row.speed row.id c.links) ≡ Some f.need
+  pub need : need_of f.rule (load_of c.latency row.speed row.id c.links) ≡ Some f.need
   pub limit : limit_of f.rule row ≡ f.limit
   pub above : f.limit < f.need
   pub no_rule_before : (rule : Rule) → place_of rule < place_of f.rule → Breaks c row rule → ⊥
   pub no_lower_port : (other : PortRow) → Contains c.ports other → other.id < row.id → (rule : Rule) → Breaks c other rule → ⊥
 
 abbrev pub FaultIsTheFirst : Type 0
-FaultIsTheFirst = (c : Content) (f : LoadFault) → IsWellFormed c → (first_fault c.links c.ports ≡ Some f) ↔ IsFirstFault c f
+FaultIsTheFirst = (c : Content) (f : LoadFault) → IsWellFormed c → (first_fault c.latency c.links c.ports ≡ Some f) ↔ IsFirstFault c f

@@ -27,7 +27,7 @@ EachLinkAsks = (speed : Speed) (link : Link) → 64 ≤ link.max_size → 0 < ra
 
 -- each sum takes each link of the table that leads to the port once
 abbrev pub SumsTakeEachLinkOnce : Type 0
-SumsTakeEachLinkOnce = (speed : Speed) (port : ℕ) (links : List Link) → let s = load_of speed port links in
+SumsTakeEachLinkOnce = (latency : ℕ) (speed : Speed) (port : ℕ) (links : List Link) → let s = load_of latency speed port links in
     (s.rate ≡ sum_by (λ link. if leads_to port link then rate_of speed link else 0) links)
     × (s.burst ≡ sum_by (λ link. if leads_to port link then burst_of speed link else 0) links)
     × (s.high_rate ≡ sum_by (λ link. if leads_to port link && is_high link then rate_of speed link else 0) links)
@@ -35,20 +35,20 @@ SumsTakeEachLinkOnce = (speed : Speed) (port : ℕ) (links : List Link) → let 
 
 -- a port has links exactly where its longest frame takes time
 abbrev pub LongestShowsLinks : Type 0
-LongestShowsLinks = (speed : Speed) (port : ℕ) (links : List Link) → let s = load_of speed port links in
+LongestShowsLinks = (latency : ℕ) (speed : Speed) (port : ℕ) (links : List Link) → let s = load_of latency speed port links in
     (0 < s.largest) ↔ (0 < s.highs + s.lows)
 
 -- where the line can give the rate and there is a low link, the high links leave a part of the line
 abbrev pub HighLinksLeaveAPart : Type 0
-HighLinksLeaveAPart = (c : Content) (speed : Speed) (port : ℕ) → IsWellFormed c → let s = load_of speed port c.links in
+HighLinksLeaveAPart = (c : Content) (speed : Speed) (port : ℕ) → IsWellFormed c → let s = load_of c.latency speed port c.links in
     s.rate ≤ parts → 0 < s.lows → s.high_rate < parts
 
 -- a table is accepted exactly where it has no fault
 abbrev pub AcceptedMeansNoFault : Type 0
-AcceptedMeansNoFault = (c : Content) → IsAccepted c ↔ (first_fault c.links c.ports ≡ None)
+AcceptedMeansNoFault = (c : Content) → IsAccepted c ↔ (first_fault c.latency c.links c.ports ≡ None)
 
 -- in an accepted table each port keeps its two bounds
 abbrev pub AcceptedKeepsBounds : Type 0
-AcceptedKeepsBounds = (c : Content) → IsWellFormed c → IsAccepted c → All (λ row. let s = load_of row.speed row.id c.links in
-    (0 < s.highs → (s.high_burst + parts * s.low_largest) / parts ≤ row.max_delay)
-    × (0 < s.lows → (s.high_rate < parts) × (s.burst / (parts - s.high_rate) ≤ row.max_delay))) c.ports
+AcceptedKeepsBounds = (c : Content) → IsWellFormed c → IsAccepted c → All (λ row. let s = load_of c.latency row.speed row.id c.links in
+    (0 < s.highs → (s.high_burst + parts * s.low_largest) / parts + c.latency ≤ row.max_delay)
+    × (0 < s.lows → (s.high_rate < parts) × (s.burst / (parts - s.high_rate) + c.latency ≤ row.max_delay))) c.ports

@@ -5,7 +5,7 @@ use Rattle.afdx_units.specs.declared.line.Speed.{Speed}
 use Rattle.afdx_units.specs.declared.line.Speed.TheVariants.{Ten}
 use Rattle.afdx_table.specs.Link.{Link, leads_to}
 use Rattle.afdx_table.specs.declared.rows.PortRow.{PortRow}
-use Rattle.afdx_load.specs.Sums.{Sums, load_of}
+use Rattle.afdx_load.specs.Sums.{Sums, asked_of}
 use Rattle.afdx_load.specs.Adding.{with_link}
 
 -- each is a place, and stands once
@@ -30,4 +30,4 @@ with_routed speeds loads link port d =
 
 -- each port's load stands in the place of its number
 abbrev pub AreLoads : List Link → List PortRow → List Sums → Type 0
-AreLoads links ports loads = All (λ row. (row.id < 25) × ((d : Sums) → slice_index_or loads row.id d ≡ load_of row.speed row.id links)) ports
+AreLoads links ports loads = All (λ row. (row.id < 25) × ((d : Sums) → slice_index_or loads row.id d ≡ asked_of row.speed row.id links)) ports

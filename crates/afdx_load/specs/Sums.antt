@@ -64,7 +64,7 @@ greatest f [] = 0
 greatest f (link ∷ links) = max (f link) (greatest f links)
 
 -- a load: how many links of each priority; the sums over all links and over the high ones; the line times of the
--- longest frames of all links and of the low ones
+-- longest frames of all links and of the low ones; the nanoseconds from a frame's arrival until it is queued
 pub record Sums : Type 0 where
   pub highs : ℕ
   pub lows : ℕ
@@ -74,8 +74,9 @@ pub record Sums : Type 0 where
   pub high_burst : ℕ
   pub largest : ℕ
   pub low_largest : ℕ
+  pub latency : ℕ
 
--- the load of some links
+-- the load of some links, each frame of which is queued at once
 unfoldable pub sums_of : Speed → List Link → Sums
 sums_of speed links = record {
   highs = count_by is_high links;
@@ -86,12 +87,21 @@ sums_of speed links = record {
   high_burst = sum_by (burst_of speed) (filter is_high links);
   largest = greatest (time_of speed) links;
   low_largest = greatest (time_of speed) (filter is_low links);
+  latency = 0;
 }
 
--- the load of a port of this speed and number
-abbrev pub load_of : Speed → ℕ → List Link → Sums
-load_of speed port links = sums_of speed (routed port links)
+-- of those that lead to a port of this speed and number
+abbrev pub asked_of : Speed → ℕ → List Link → Sums
+asked_of speed port links = sums_of speed (routed port links)
+
+-- the same load where a frame is queued one latency after its arrival
+abbrev pub behind : ℕ → Sums → Sums
+behind latency s = record s { latency = latency }
+
+-- the load of a port at a switch of this latency
+abbrev pub load_of : ℕ → Speed → ℕ → List Link → Sums
+load_of latency speed port links = behind latency (asked_of speed port links)
 
 -- the load of the port of this number, where there is one
 abbrev pub port_load : Content → ℕ → Option Sums
-port_load table port = option_map (λ row. load_of row.speed row.id table.links) (port_row table port)
+port_load table port = option_map (λ row. load_of table.latency row.speed row.id table.links) (port_row table port)

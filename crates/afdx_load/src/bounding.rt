@@ -18,18 +18,19 @@ pub(crate) fn backlog(load: &Load) -> u128
     load.burst() + u128::from(PARTS) * u128::from(load.largest())
 }
 
-/// The bounds of a port's frames, in nanoseconds. O(1).
+/// The bounds of a port's frames, in nanoseconds, from a frame's arrival to its end on the line. O(1).
 pub fn bounds(load: &Load) -> Bounds
     ensures { result ≡ bounds_of load.now }
 {
     let parts = u128::from(PARTS);
+    let latency = u128::from(load.latency());
     let high = if load.highs() > 0 {
-        Some((load.high_burst() + parts * u128::from(load.low_largest())) / parts)
+        Some((load.high_burst() + parts * u128::from(load.low_largest())) / parts + latency)
     } else {
         None
     };
     let low = if load.lows() > 0 && load.high_rate() < PARTS {
-        Some(load.burst() / (parts - u128::from(load.high_rate())))
+        Some(load.burst() / (parts - u128::from(load.high_rate())) + latency)
     } else {
         None
     };

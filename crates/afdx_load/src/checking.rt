@@ -56,10 +56,10 @@ fn fault_at(row: &PortRow, load: &Load) -> Option<LoadFault>
 /// The fault of the first port that has one.
 fn first_fault_in(table: &Table, slots: &[Load; SLOTS]) -> Option<LoadFault>
     requires { AreLoads table.now.links table.now.ports slots.now }
-    ensures { result ≡ first_fault table.now.links table.now.ports }
+    ensures { result ≡ first_fault table.now.latency table.now.links table.now.ports }
 {
     for row in table.ports() {
-        let load = slots[usize::from(row.id)];
+        let load = slots[usize::from(row.id)].behind(table.latency());
         let fault = fault_at(row, &load);
         if fault.is_some() {
             return fault;
@@ -70,7 +70,7 @@ fn first_fault_in(table: &Table, slots: &[Load; SLOTS]) -> Option<LoadFault>
 
 /// The fault of a table.
 fn first_fault(table: &Table) -> Option<LoadFault>
-    ensures { result ≡ first_fault table.now.links table.now.ports }
+    ensures { result ≡ first_fault table.now.latency table.now.links table.now.ports }
 {
     first_fault_in(table, &slots(table))
 }
@@ -89,7 +89,7 @@ fn first_fault(table: &Table) -> Option<LoadFault>
 pub fn check(table: Table) -> Result<Cleared, (Table, LoadFault)>
     ensures { MatchResult result
         (λ cleared. (cleared ≡ table) × IsAccepted table)
-        (λ refused. (refused.0 ≡ table) × (first_fault table.links table.ports ≡ Some refused.1) × (IsAccepted table → ⊥)) }
+        (λ refused. (refused.0 ≡ table) × (first_fault table.latency table.links table.ports ≡ Some refused.1) × (IsAccepted table → ⊥)) }
 {
     match first_fault(&table) {
         Some(fault) => Err((table, fault)),

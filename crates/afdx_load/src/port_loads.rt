@@ -39,7 +39,7 @@ fn load_in(table: &Table, slots: &[Load; SLOTS], port: u8) -> Option<Load>
     ensures { result ≡ port_load table.now port }
 {
     let row = table.port(port)?;
-    Some(slots[usize::from(row.id)])
+    Some(slots[usize::from(row.id)].behind(table.latency()))
 }
 
 impl<'a> Loads<'a> {

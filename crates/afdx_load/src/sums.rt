@@ -1,7 +1,7 @@
 //! The load of a port.
 
 ghost use Rattle.std.specs.Prelude.{◌≡◌, ◌+◌, ◌<◌, ◌≤◌, ◌^◌, []};
-ghost use Rattle.afdx_load.specs.Sums.{sums_of};
+ghost use Rattle.afdx_load.specs.Sums.{sums_of, behind};
 ghost use Rattle.afdx_load.specs.Adding.{with_link};
 ghost use Rattle.afdx_units.specs.declared.line.Speed.{Speed};
 
@@ -21,6 +21,7 @@ pub struct Load {
     high_burst: u128,
     largest: u64,
     low_largest: u64,
+    latency: u64,
 }
 
 impl Model for Load {
@@ -39,6 +40,7 @@ impl Model for Load {
       high_burst = l.high_burst;
       largest = l.largest;
       low_largest = l.low_largest;
+      latency = l.latency;
     } };
 
     ghost invariant = { λ l. IsSmall l.highs l.lows l.rate l.high_rate l.burst l.high_burst l.largest l.low_largest };
@@ -52,11 +54,12 @@ impl Model for Load {
       high_burst = s.high_burst;
       largest = s.largest;
       low_largest = s.low_largest;
+      latency = s.latency;
     } };
 }
 
 impl Load {
-    /// The load of no links.
+    /// The load of no links, at a switch without latency.
     #[tactic(auto, unfolding(crate::specs::Sums::sums_of))]
     pub(crate) fn none() -> Load
         ensures { (speed : Speed) → result ≡ sums_of speed [] }
@@ -70,6 +73,7 @@ impl Load {
             high_burst: 0,
             largest: 0,
             low_largest: 0,
+            latency: 0,
         }
     }
 
@@ -94,6 +98,7 @@ impl Load {
                 high_burst: self.high_burst + share.burst,
                 largest,
                 low_largest: self.low_largest,
+                latency: self.latency,
             },
             Priority::Low => Load {
                 highs: self.highs,
@@ -104,8 +109,16 @@ impl Load {
                 high_burst: self.high_burst,
                 largest,
                 low_largest: self.low_largest.max(share.time),
+                latency: self.latency,
             },
         }
+    }
+
+    /// The same load at a switch of this latency in nanoseconds.
+    pub(crate) fn behind(self, latency: u64) -> Load
+        ensures { result ≡ behind latency self }
+    {
+        Load { latency, ..self }
     }
 
     /// The number of its high links.
@@ -166,5 +179,12 @@ impl Load {
         ensures small { result ≤ 2 ^ 21 }
     {
         self.low_largest
+    }
+
+    /// Nanoseconds from a frame's arrival until its copies are queued.
+    pub fn latency(&self) -> u64
+        ensures { result ≡ self.now.latency }
+    {
+        self.latency
     }
 }

@@ -4,7 +4,7 @@ use Rattle.std.specs.Prelude.{sum_by, All, SomeIff, IsSome}
 use Rattle.std.proofs.lemmas.List.Sums.{sum_by-cons, sum_by_push}
 use Rattle.std.proofs.lemmas.List.Elements.{All-head, All-tail, All-cons, All-push}
 use Rattle.afdx_units.specs.declared.line.Speed.{Speed}
-use Rattle.afdx_units.specs.declared.line.Speed.TheVariants.{Ten, Hundred}
+use Rattle.afdx_units.specs.declared.line.Speed.TheVariants.{Ten, Hundred, Thousand}
 use Rattle.afdx_units.specs.Line.{cost_of}
 use Rattle.afdx_port.specs.declared.Settings.{Settings}
 use Rattle.afdx_port.specs.declared.Item.{Item}
@@ -53,6 +53,12 @@ some_waits b [] [] some = absurd (omega (arith, some))
 some_waits b [] (x ∷ ls) some = refl
 some_waits b (x ∷ hs) ls some = refl
 
+-- where items wait and none is due before t, the next start is at t or later
+pub waits_from : (t b : ℕ) (hs ls : List Item) → 0 < length hs + length ls → starts_before t (first_start b (hs ++ ls)) ≡ false → t ≤ b
+waits_from t b [] [] some late = absurd (omega (arith, some))
+waits_from t b [] (x ∷ ls) some late = above b t late
+waits_from t b (x ∷ hs) ls some late = above b t late
+
 -- an item behind the first of two lists
 pub all_insert : (P : Item → Type 0) (x : Item) (hs ls : List Item) → P x → All P (hs ++ ls) → All P ((hs ++ x ∷ []) ++ ls)
 all_insert P x [] ls h all = All-cons P x ls h all
@@ -73,7 +79,12 @@ sum_joined f false x hs ls = ap (sum_by f) (sym (append_assoc hs ls (x ∷ [])))
 pub cost_small : (speed : Speed) (size : ℕ) → size ≤ 1518 → cost_of speed size ≤ 1230400
 cost_small Ten size le = omega arith
 cost_small Hundred size le = omega arith
+cost_small Thousand size le = omega arith
 
 pub some_if : (o : Option ℕ) (P : Type 0) (v : ℕ) → SomeIff o P v → P → IsSome o
 some_if None P v h p = absurd (h p)
 some_if (Some x) P v h p = refl
+
+pub some_is : (o : Option ℕ) (P : Type 0) (v : ℕ) → SomeIff o P v → P → o ≡ Some v
+some_is None P v h p = absurd (h p)
+some_is (Some x) P v h p = ap Some h.1

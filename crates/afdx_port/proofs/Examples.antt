@@ -12,7 +12,7 @@ use Rattle.afdx_port.specs.Service.{reach, next, others, service, sent_of, aged_
 use Rattle.afdx_port.specs.Admission.{admitted}
 
 settings : ℕ → ℕ → Settings
-settings buffer max_delay = record { speed = Hundred; buffer = buffer; max_delay = max_delay }
+settings buffer max_delay = record { speed = Hundred; buffer = buffer; max_delay = max_delay; latency = 0 }
 
 item : ℕ → ℕ → ℕ → Priority → Item
 item number stamp size priority = record { number = number; link = 1; stamp = stamp; size = size; priority = priority }

@@ -1,9 +1,10 @@
 -- What a port keeps is kept by each of its calls.
-use Rattle.std.proofs.Common.{◌≡◌, ℕ, ◌+◌, ◌≤◌, true, false, [], ◌∷◌, ◌++◌, refl, ap, sym, ◌∙◌, arith, vec_len, subst}
-use Rattle.std.specs.Prelude.{nat_le, sum_by}
+use Rattle.std.proofs.Common.{◌≡◌, ℕ, ◌+◌, ◌<◌, ◌≤◌, true, false, [], ◌∷◌, ◌++◌, refl, ap, sym, ◌∙◌, arith, vec_len, subst}
+use Rattle.std.specs.Prelude.{nat_le, max, sum_by}
 use Rattle.std.specs.Vec.{vec_capacity}
 use Rattle.std.proofs.lemmas.List.Elements.{All-nil, All-push, All-weaker}
 use Rattle.std.specs.declared.vec.Vec.{Vec}
+use Rattle.afdx_units.specs.Time.{stamp_end}
 use Rattle.afdx_port.specs.declared.Settings.{Settings}
 use Rattle.afdx_port.specs.declared.Item.{Item}
 use Rattle.afdx_port.specs.declared.line.Line.{Line}
@@ -37,6 +38,7 @@ kept_fresh s line admitted settings sound has fits sent aged state none = record
   sent = sent ∙ rw none refl;
   aged = aged ∙ rw none refl;
   come = rw none (All-nil (λ (item : Item). came line.settings item ≤ reach line.settings 0));
+  start = λ _. rw settings (omega (arith, ap (λ (q : LineState). q.free) state));
   state = λ _. state ∙ rw (none, settings) (fresh_line s (reach s 0));
 }
 
@@ -54,8 +56,9 @@ pub kept_before : {Z : Type 0} (p : Inside Z) (line : Line Z) (to : ℕ) → IsK
     → line.sent.items ≡ p.line.sent.items ++ sent_of (before (reach p.line.settings to) (in_line p.line.settings p.line.ready (queue_of p.line)))
     → line.aged.items ≡ p.line.aged.items ++ aged_of (before (reach p.line.settings to) (in_line p.line.settings p.line.ready (queue_of p.line)))
     → state_of line ≡ reached (reach p.line.settings to) (rest_in_line p.line.settings (reach p.line.settings to) p.line.ready (queue_of p.line))
+    → line.ready < max stamp_end (max p.line.ready (reach p.line.settings to) + 1)
     → IsKept (record { line = line; admitted = p.admitted; horizon = to; finished = p.finished; room = p.room })
-kept_before p line to kept open' le sound room settings sent aged state =
+kept_before p line to kept open' le sound room settings sent aged state start =
     let s = p.line.settings in
     let items = p.admitted.items in
     let all = service s 0 items in
@@ -75,6 +78,7 @@ kept_before p line to kept open' le sound room settings sent aged state =
       sent = picked sent_of sent_of-append from on all rest p.line.sent.items line.sent.items le (parted p kept open') (kept.sent ∙ ap sent_of was) sent ∙ sym (ap sent_of now);
       aged = picked aged_of aged_of-append from on all rest p.line.aged.items line.aged.items le (parted p kept open') (kept.aged ∙ ap aged_of was) aged ∙ sym (ap aged_of now);
       come = rw settings come;
+      start = λ _. rw settings (omega (arith, start, kept.start open', le));
       state = λ _. rw settings follows;
     }
 
@@ -98,6 +102,7 @@ kept_all p line kept open' sound room settings sent aged =
       sent = picked_all sent_of sent_of-append (reach s p.horizon) all rest p.line.sent.items line.sent.items (parted p kept open') (kept.sent ∙ ap sent_of was) sent ∙ sym (ap sent_of now);
       aged = picked_all aged_of aged_of-append (reach s p.horizon) all rest p.line.aged.items line.aged.items (parted p kept open') (kept.aged ∙ ap aged_of was) aged ∙ sym (ap aged_of now);
       come = rw settings kept.come;
+      start = λ no. (cc);
       state = λ no. (cc);
     }
 
@@ -114,6 +119,7 @@ kept_reserved p line admitted room kept sound has settings sent aged state same 
       sent = sent ∙ kept.sent ∙ rw (same, settings) refl;
       aged = aged ∙ kept.aged ∙ rw (same, settings) refl;
       come = rw (same, settings) kept.come;
+      start = λ open'. rw settings (omega (arith, ap (λ (q : LineState). q.free) state, kept.start open'));
       state = λ open'. state ∙ kept.state open' ∙ rw (same, settings) refl;
     }
 
@@ -146,6 +152,7 @@ kept_queued {Z} p line admitted x room kept open' at less sound has settings sta
       sent = sent ∙ rw (items', settings) (kept.sent ∙ ap sent_of (was ∙ sym events ∙ sym now));
       aged = aged ∙ rw (items', settings) (kept.aged ∙ ap aged_of (was ∙ sym events ∙ sym now));
       come = rw (items', settings) come;
+      start = λ _. rw settings (omega (arith, ap (λ (q : LineState). q.free) state, kept.start open'));
       state = λ _. rw (items', settings) follows;
     }
 

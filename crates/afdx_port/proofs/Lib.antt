@@ -19,4 +19,5 @@ pub mod LineUp
 pub mod AtLine
 pub mod Keeping
 pub mod Lagging
+pub mod Shifted
 pub mod Ends

@@ -10,10 +10,14 @@ use Rattle.afdx_port.specs.Order.{InOrder}
 use Rattle.afdx_port.specs.Content.{done}
 use Rattle.afdx_port.proofs.Parts.{before_on}
 
--- all that the proofs know of `reach`
+-- all that the proofs know of `reach`: it keeps the order, and lies at most one latency later
 pub reach-le : (s : Settings) (t u : ℕ) → t ≤ u → reach s t ≤ reach s u
 unfolding reach
-reach-le s t u le = le
+reach-le s t u le = omega (arith, le)
+
+pub reach-most : (s : Settings) (t : ℕ) → s.latency ≤ 100000 → reach s t ≤ t + 100000
+unfolding reach
+reach-most s t le = omega (arith, le)
 
 -- items whose stamps do not fall are queued in their order
 pub in_order : (s : Settings) (items : List Item) → AllPairs (λ a b. a.stamp ≤ b.stamp) items → InOrder s items

@@ -6,7 +6,7 @@ use Rattle.std.proofs.lemmas.Bool.Decides.{nat_tests}
 use Rattle.std.proofs.lemmas.List.Sums.{sum_by-cons, sum_by-append, sum_by-remove}
 use Rattle.std.proofs.lemmas.List.Elements.{filter-append}
 use Rattle.afdx_units.specs.declared.line.Speed.{Speed}
-use Rattle.afdx_units.specs.declared.line.Speed.TheVariants.{Ten, Hundred}
+use Rattle.afdx_units.specs.declared.line.Speed.TheVariants.{Ten, Hundred, Thousand}
 use Rattle.afdx_units.specs.Line.{cost_of}
 use Rattle.afdx_port.specs.declared.Settings.{Settings}
 use Rattle.afdx_port.specs.declared.Item.{Item}
@@ -43,6 +43,7 @@ sum_by-service f s = by_events s (λ free items. sum_by (λ event. f (item_of ev
 cost-positive : (speed : Speed) (size : ℕ) → 0 < cost_of speed size
 cost-positive Ten size = omega arith
 cost-positive Hundred size = omega arith
+cost-positive Thousand size = omega arith
 
 -- an event at t or later has not gone at t
 stays_fate : (s : Settings) (t b : ℕ) (x : Item) → t ≤ b → stays t (fate s b x) ≡ true

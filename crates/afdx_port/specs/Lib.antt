@@ -9,4 +9,5 @@ pub mod Course
 pub mod Queued
 pub mod Sound
 pub mod Lagging
+pub mod Shift
 pub mod Kept

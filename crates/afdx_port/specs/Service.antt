@@ -35,9 +35,9 @@ abbrev pub is_high : Priority → Bool
 is_high High = true
 is_high Low = false
 
--- profile: the instant by which all is queued that came by the stamp t: t itself, as a switch takes no time
+-- profile: the instant by which all is queued that came by the stamp t, one latency later
 unfoldable pub reach : Settings → ℕ → ℕ
-reach s t = t
+reach s t = t + s.latency
 
 -- the instant at which an item is queued
 abbrev pub came : Settings → Item → ℕ

@@ -3,6 +3,7 @@
 //! A port has one line, a queue for each of the two priorities and one buffer for both. The line takes
 //! high items before low ones, each priority in order of arrival, and interrupts none (ARINC 664 Part 7);
 //! an item that has waited for more than the greatest delay is given up where it would start (profile).
+//! An item is queued one latency after its stamp, from which its age is counted (profile).
 //!
 //! Contracts speak of the *service* of all items that the port admitted: a list of events that is
 //! chosen anew from the whole list, with no queue and no count. The module `laws` has what holds of it.
@@ -12,7 +13,7 @@
 #![tactic(auto)]
 
 ghost use Rattle.std.specs.Prelude.{◌≡◌, ◌≤◌};
-ghost use Rattle.afdx_port.specs.Service.{reach, came, is_urgent, fate};
+ghost use Rattle.afdx_port.specs.Service.{reach, came, fate};
 ghost use Rattle.afdx_port.specs.Progress.{event_of};
 ghost use Rattle.afdx_port.specs.Sound.{IsSmall};
 
@@ -33,8 +34,10 @@ pub struct Settings {
     pub speed: Speed,
     /// Bytes that may wait or be on the line: at most 16,777,216.
     pub buffer: u32,
-    /// Nanoseconds that an item may wait for its start: at most 500,000,000.
+    /// Nanoseconds from an item's stamp to its start, past which it is given up: at most 500,000,000.
     pub max_delay: u64,
+    /// Nanoseconds from an item's stamp until it is queued: at most 100,000.
+    pub latency: u64,
 }
 
 /// A copy of a frame that is offered to a port.
@@ -79,11 +82,12 @@ pub enum Offer {
 }
 
 impl Settings {
-    /// The instant by which all is queued that came by the stamp.
-    fn reach(&self, to: Stamp) -> Stamp
+    /// The instant in nanoseconds by which all is queued that came by the stamp. It may lie past the last stamp.
+    fn reach(&self, to: Stamp) -> u64
+        requires { self.now.latency ≤ 100000 }
         ensures { result ≡ reach self.now to }
     {
-        to
+        to.ns() + self.latency
     }
 
     /// What becomes of an item whose turn it is at the instant: it is sent, or given up for its age.
@@ -107,20 +111,11 @@ impl Settings {
 }
 
 impl Item {
-    /// The instant at which this is queued.
-    fn came(&self, settings: &Settings) -> Stamp
+    /// The instant in nanoseconds at which this is queued.
+    fn came(&self, settings: &Settings) -> u64
+        requires { settings.now.latency ≤ 100000 }
         ensures { result ≡ came settings.now self.now }
     {
         settings.reach(self.stamp)
-    }
-
-    /// Whether this is a high item that is queued by the instant.
-    fn is_urgent(&self, settings: &Settings, at: Stamp) -> bool
-        ensures { result ≡ is_urgent settings.now at self.now }
-    {
-        match self.priority {
-            Priority::High => self.came(settings) <= at,
-            Priority::Low => false,
-        }
     }
 }

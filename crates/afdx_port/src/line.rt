@@ -1,6 +1,7 @@
 //! The line of a port and what waits for it.
 
-ghost use Rattle.std.specs.Prelude.{◌≡◌, ℕ, ◌+◌, ◌<◌, ◌≤◌, ◌++◌, [], ◌∷◌, Some, None, if◌then◌else◌, sum_by, vec_len, nat_le, OnOk};
+ghost use Rattle.std.specs.Prelude.{◌≡◌, ℕ, ◌+◌, ◌<◌, ◌≤◌, ◌++◌, [], ◌∷◌, Some, None, if◌then◌else◌, sum_by, vec_len, nat_le, max, false, OnOk};
+ghost use Rattle.afdx_units.specs.Time.{stamp_end};
 ghost use Rattle.std.specs.Vec.{vec_capacity};
 ghost use Rattle.afdx_port.specs.Service.{reach, came, before, sent_of, aged_of};
 ghost use Rattle.afdx_port.specs.Order.{in_line};
@@ -19,8 +20,9 @@ use std::alloc::{AllocError, Allocator};
 #[derive(Drop)]
 pub(crate) struct Line<A: Allocator> {
     pub(crate) settings: Settings,
-    /// The instant at which an item that waits would start. All that wait have come by then.
-    pub(crate) ready: Stamp,
+    /// The instant in nanoseconds at which an item that waits would start. All that wait have come by then.
+    /// Where none waits, it may lie past the last stamp.
+    pub(crate) ready: u64,
     pub(crate) waiting: Queues<A>,
     pub(crate) sent: Vec<Sent, A>,
     pub(crate) aged: Vec<Aged, A>,
@@ -31,6 +33,7 @@ impl<A: Allocator + Copy> Line<A> {
     pub(crate) fn new(alloc: A, settings: Settings) -> Self
         requires buffer { settings.buffer ≤ 16777216 }
         requires delay { settings.max_delay ≤ 500000000 }
+        requires latency { settings.latency ≤ 100000 }
         ensures settings { result.settings ≡ settings }
         ensures sound { IsSound result }
         ensures state { state_of result ≡ record { free = reach settings 0; waiting = [] } }
@@ -69,6 +72,7 @@ impl<A: Allocator + Copy> Line<A> {
         requires room { HasRoom 1 self.old }
         requires sound { IsSound self.old }
         requires small { IsSmall item }
+        requires start { self.old.ready < stamp_end }
         requires bytes { sum_by (λ other. other.size) (queue_of self.old) + item.size ≤ self.old.settings.buffer }
         ensures sound { IsSound self.new }
         ensures room { (room : ℕ) → HasRoom (room + 1) self.old → HasRoom room self.new }
@@ -82,21 +86,23 @@ impl<A: Allocator + Copy> Line<A> {
 
     /// The instant of the next event, where one is to come.
     pub(crate) fn due(&self) -> Option<Stamp>
+        requires { IsSound self.now }
         ensures { result ≡ first_start self.now.ready (queue_of self.now) }
     {
         if self.waiting.is_empty() {
             None
         } else {
-            Some(self.ready)
+            Stamp::from_ns(self.ready)
         }
     }
 
     /// Whether an event lies before the instant.
-    fn is_due(&self, to: Stamp) -> bool
+    fn is_due(&self, to: u64) -> bool
+        requires { IsSound self.now }
         ensures { result ≡ starts_before to (first_start self.now.ready (queue_of self.now)) }
     {
         match self.due() {
-            Some(start) => start < to,
+            Some(start) => start.ns() < to,
             None => false,
         }
     }
@@ -113,11 +119,13 @@ impl<A: Allocator + Copy> Line<A> {
         ensures sent { self.new.sent.items ≡ self.old.sent.items ++ sent_of (next_in_line self.old.settings self.old.ready (queue_of self.old)) }
         ensures aged { self.new.aged.items ≡ self.old.aged.items ++ aged_of (next_in_line self.old.settings self.old.ready (queue_of self.old)) }
         ensures state { state_of self.new ≡ after_next self.old.settings self.old.ready (queue_of self.old) }
+        ensures start { self.new.ready < stamp_end }
     {
         if let Some(item) = self.waiting.pop() {
-            match self.settings.fate(self.ready, item) {
+            let start = Stamp::from_ns(self.ready).unwrap();
+            match self.settings.fate(start, item) {
                 Ok(sent) => {
-                    self.ready = sent.end;
+                    self.ready = sent.end.ns();
                     self.sent.push_reserved(sent);
                 }
                 Err(aged) => self.aged.push_reserved(aged),
@@ -126,7 +134,7 @@ impl<A: Allocator + Copy> Line<A> {
     }
 
     /// Carries out all events before the instant.
-    fn serve_due(&mut self, to: Stamp)
+    fn serve_due(&mut self, to: u64)
         requires sound { IsSound self.old }
         requires room { HasRoom 0 self.old }
         ensures sound { IsSound self.new }
@@ -135,6 +143,8 @@ impl<A: Allocator + Copy> Line<A> {
         ensures sent { self.new.sent.items ≡ self.old.sent.items ++ sent_of (before to (in_line self.old.settings self.old.ready (queue_of self.old))) }
         ensures aged { self.new.aged.items ≡ self.old.aged.items ++ aged_of (before to (in_line self.old.settings self.old.ready (queue_of self.old))) }
         ensures state { state_of self.new ≡ rest_in_line self.old.settings to self.old.ready (queue_of self.old) }
+        ensures start { self.new.ready < max stamp_end (self.old.ready + 1) }
+        ensures none_due { starts_before to (first_start self.new.ready (queue_of self.new)) ≡ false }
     {
         while self.is_due(to) {
             self.serve_next();
@@ -151,6 +161,7 @@ impl<A: Allocator + Copy> Line<A> {
         ensures sent { self.new.sent.items ≡ self.old.sent.items ++ sent_of (before (reach self.old.settings at) (in_line self.old.settings self.old.ready (queue_of self.old))) }
         ensures aged { self.new.aged.items ≡ self.old.aged.items ++ aged_of (before (reach self.old.settings at) (in_line self.old.settings self.old.ready (queue_of self.old))) }
         ensures state { state_of self.new ≡ reached (reach self.old.settings at) (rest_in_line self.old.settings (reach self.old.settings at) self.old.ready (queue_of self.old)) }
+        ensures start { self.new.ready < max stamp_end (max self.old.ready (reach self.old.settings at) + 1) }
     {
         let to = self.settings.reach(at);
         self.serve_due(to);
@@ -184,11 +195,11 @@ impl<A: Allocator + Copy> Line<A> {
 }
 
 /// The size of the last item sent, until its end.
-pub(crate) fn on_line_at(sent: &[Sent], at: Stamp) -> u32
+pub(crate) fn on_line_at(sent: &[Sent], at: u64) -> u32
     ensures { result ≡ on_line at sent.now }
 {
     match sent.last() {
-        Some(last) if at < last.end => last.item.size,
+        Some(last) if at < last.end.ns() => last.item.size,
         _ => 0,
     }
 }

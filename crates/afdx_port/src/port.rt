@@ -21,8 +21,9 @@ use std::marker::Model;
 /// how many offers it has room.
 ///
 /// What was carried out so far is, of the service of all items that were admitted, the events that
-/// lie before the horizon; once finished, all of them. Each call is O(1), and O(1) for each event
-/// that it carries out; an item has one event. Only `reserve` takes memory.
+/// lie before the instant that the horizon reaches, one latency later; once finished, all of them. Each
+/// call is O(1), and O(1) for each event that it carries out; an item has one event. Only `reserve`
+/// takes memory.
 #[derive(Drop)]
 pub struct Port<A: Allocator> {
     line: Line<A>,
@@ -45,13 +46,14 @@ impl<A: Allocator> Model for Port<A> {
 }
 
 impl<A: Allocator + Copy> Port<A> {
-    /// A port that was offered nothing yet, with a buffer of so many bytes and a greatest delay in nanoseconds.
+    /// A port that was offered nothing yet, with a buffer of so many bytes, and a greatest delay and a latency in nanoseconds.
     ///
     /// It keeps the allocator for `reserve`, and takes no memory. O(1).
-    pub fn new(alloc: A, speed: Speed, buffer: u32, max_delay: u64) -> Self
+    pub fn new(alloc: A, speed: Speed, buffer: u32, max_delay: u64, latency: u64) -> Self
         requires buffer { buffer ≤ 16777216 }
         requires delay { max_delay ≤ 500000000 }
-        ensures { result ≡ record { content = fresh (record { speed = speed; buffer = buffer; max_delay = max_delay }); room = 0 } }
+        requires latency { latency ≤ 100000 }
+        ensures { result ≡ record { content = fresh (record { speed = speed; buffer = buffer; max_delay = max_delay; latency = latency }); room = 0 } }
     {
         Port {
             line: Line::new(
@@ -60,6 +62,7 @@ impl<A: Allocator + Copy> Port<A> {
                     speed,
                     buffer,
                     max_delay,
+                    latency,
                 },
             ),
             admitted: Vec::new(alloc),
@@ -101,7 +104,8 @@ impl<A: Allocator + Copy> Port<A> {
         self.finished
     }
 
-    /// Carries out the events before the item's stamp, and queues the item where the buffer has room.
+    /// Carries out the events before the instant at which the item is queued, one latency after its stamp, and queues it
+    /// where the buffer has room.
     ///
     /// An item occupies its size until its end, or until the instant at which it is given up has
     /// passed (profile). O(1), and O(1) for each event.
@@ -149,7 +153,7 @@ impl<A: Allocator + Copy> Port<A> {
         self.room -= 1;
     }
 
-    /// Carries out the events before the instant. O(1), and O(1) for each event.
+    /// Carries out the events before the instant that the stamp reaches, one latency later. O(1), and O(1) for each event.
     pub fn advance(&mut self, to: Stamp)
         requires open { self.old.content.finished ≡ false }
         requires in_order { self.old.content.horizon ≤ to }
@@ -183,7 +187,7 @@ impl<A: Allocator + Copy> Port<A> {
         ensures { result ≡ has_due to self.now.content }
     {
         match self.due() {
-            Some(due) => due < self.line.settings.reach(to),
+            Some(due) => due.ns() < self.line.settings.reach(to),
             None => false,
         }
     }

@@ -44,11 +44,12 @@ fn aged_at(port: &Port<Global>, place: usize) -> Option<(usize, u64)> {
 }
 
 /// A port that sent a low item of 1518 bytes that came at 0, one of 64 at 1, and a high one that came then.
-fn port_with_high_at(alloc: Global, at: u64) -> Result<Port<Global>, AllocError>
+fn port_with_high_at(alloc: Global, at: u64, latency: u64) -> Result<Port<Global>, AllocError>
     requires later { 1 ≤ at }
     requires not_late { at < last_second }
+    requires latency { latency ≤ 100000 }
 {
-    let mut port = Port::new(alloc, Speed::Hundred, 100_000, 500_000_000);
+    let mut port = Port::new(alloc, Speed::Hundred, 100_000, 500_000_000, latency);
     port.reserve(3)?;
     offer(&mut port, 1, 0, 1518, Priority::Low);
     offer(&mut port, 2, 1, 64, Priority::Low);
@@ -59,7 +60,7 @@ fn port_with_high_at(alloc: Global, at: u64) -> Result<Port<Global>, AllocError>
 
 #[test]
 fn high_overtakes(rt: HostRuntime) -> Result<(), Fail> {
-    let port = port_with_high_at(rt.alloc(), 1)?;
+    let port = port_with_high_at(rt.alloc(), 1, 0)?;
     assert_eq!(rt; end_at(&port, 0), Some((1, 123_040)));
     assert_eq!(rt; end_at(&port, 1), Some((3, 129_760)));
     assert_eq!(rt; end_at(&port, 2), Some((2, 136_480)));
@@ -68,10 +69,63 @@ fn high_overtakes(rt: HostRuntime) -> Result<(), Fail> {
 
 #[test]
 fn high_at_the_instant_of_the_end(rt: HostRuntime) -> Result<(), Fail> {
-    let port = port_with_high_at(rt.alloc(), 123_040)?;
+    let port = port_with_high_at(rt.alloc(), 123_040, 0)?;
     assert_eq!(rt; end_at(&port, 0), Some((1, 123_040)));
     assert_eq!(rt; end_at(&port, 1), Some((3, 129_760)));
     assert_eq!(rt; end_at(&port, 2), Some((2, 136_480)));
+    Ok(())
+}
+
+#[test]
+fn all_leave_one_latency_later(rt: HostRuntime) -> Result<(), Fail> {
+    for at in [1, 123_040] {
+        let port = port_with_high_at(rt.alloc(), at, 50_000)?;
+        assert_eq!(rt; end_at(&port, 0), Some((1, 173_040)));
+        assert_eq!(rt; end_at(&port, 1), Some((3, 179_760)));
+        assert_eq!(rt; end_at(&port, 2), Some((2, 186_480)));
+    }
+    Ok(())
+}
+
+/// What becomes of an item of 64 bytes that came at 0, where the latency is 100,000 ns.
+fn one_behind_latency(
+    alloc: Global,
+    max_delay: u64,
+) -> Result<[Option<(usize, u64)>; 2], AllocError>
+    requires { max_delay ≤ 500000000 }
+{
+    let mut port = Port::new(alloc, Speed::Hundred, 100_000, max_delay, 100_000);
+    port.reserve(1)?;
+    offer(&mut port, 1, 0, 64, Priority::Low);
+    port.finish();
+    Ok([end_at(&port, 0), aged_at(&port, 0)])
+}
+
+#[test]
+fn age_counts_from_the_stamp(rt: HostRuntime) -> Result<(), Fail> {
+    assert_eq!(rt;
+        one_behind_latency(rt.alloc(), 100_000)?,
+        [Some((1, 106_720)), None]
+    );
+    assert_eq!(rt;
+        one_behind_latency(rt.alloc(), 99_000)?,
+        [None, Some((1, 100_000))]
+    );
+    Ok(())
+}
+
+#[test]
+fn an_advance_reaches_one_latency_further(rt: HostRuntime) -> Result<(), Fail> {
+    let mut port = Port::new(rt.alloc(), Speed::Hundred, 100_000, 500_000_000, 50_000);
+    port.reserve(1)?;
+    offer(&mut port, 1, 10, 64, Priority::Low);
+    assert_eq!(rt; port.due(), Stamp::from_ns(50_010));
+    port.advance(Stamp::from_ns(10).unwrap());
+    assert_eq!(rt; end_at(&port, 0), None);
+    port.advance(Stamp::from_ns(11).unwrap());
+    assert_eq!(rt; end_at(&port, 0), Some((1, 56_730)));
+    port.advance(Stamp::from_ns(4_294_967_295_999_999_999).unwrap());
+    assert_eq!(rt; port.due(), None);
     Ok(())
 }
 
@@ -79,7 +133,7 @@ fn high_at_the_instant_of_the_end(rt: HostRuntime) -> Result<(), Fail> {
 fn second_in_buffer(alloc: Global, at: u64) -> Result<(Offer, Option<(usize, u64)>), AllocError>
     requires { at < last_second }
 {
-    let mut port = Port::new(alloc, Speed::Hundred, 1518, 500_000_000);
+    let mut port = Port::new(alloc, Speed::Hundred, 1518, 500_000_000, 0);
     port.reserve(2)?;
     offer(&mut port, 1, 0, 1518, Priority::Low);
     let answer = offer(&mut port, 2, at, 1518, Priority::Low);
@@ -94,7 +148,7 @@ fn third_beside_aged(
 ) -> Result<(Offer, [Option<(usize, u64)>; 2]), AllocError>
     requires { at < last_second }
 {
-    let mut port = Port::new(alloc, Speed::Hundred, 1581, 100_000);
+    let mut port = Port::new(alloc, Speed::Hundred, 1581, 100_000, 0);
     port.reserve(3)?;
     offer(&mut port, 1, 0, 1517, Priority::Low);
     offer(&mut port, 2, 0, 64, Priority::Low);
@@ -124,7 +178,7 @@ fn buffer_at_the_edge(rt: HostRuntime) -> Result<(), Fail> {
 
 #[test]
 fn age_at_the_edge(rt: HostRuntime) -> Result<(), Fail> {
-    let mut port = Port::new(rt.alloc(), Speed::Hundred, 100_000, 100_000);
+    let mut port = Port::new(rt.alloc(), Speed::Hundred, 100_000, 100_000, 0);
     port.reserve(3)?;
     offer(&mut port, 1, 0, 1518, Priority::Low);
     offer(&mut port, 2, 0, 64, Priority::Low);
@@ -137,7 +191,7 @@ fn age_at_the_edge(rt: HostRuntime) -> Result<(), Fail> {
 
 #[test]
 fn port_of_switch_by_calls(rt: HostRuntime) -> Result<(), Fail> {
-    let mut port = Port::new(rt.alloc(), Speed::Hundred, 64, 500_000);
+    let mut port = Port::new(rt.alloc(), Speed::Hundred, 64, 500_000, 0);
     port.reserve(2)?;
     assert!(rt; port.room() >= 2);
     assert_eq!(rt; offer(&mut port, 1, 0, 64, Priority::Low), Offer::Queued);
@@ -148,7 +202,7 @@ fn port_of_switch_by_calls(rt: HostRuntime) -> Result<(), Fail> {
 
 #[test]
 fn due_is_the_next_start(rt: HostRuntime) -> Result<(), Fail> {
-    let mut port = Port::new(rt.alloc(), Speed::Hundred, 100_000, 100_000);
+    let mut port = Port::new(rt.alloc(), Speed::Hundred, 100_000, 100_000, 0);
     port.reserve(2)?;
     assert_eq!(rt; port.due(), None);
     offer(&mut port, 1, 10, 1518, Priority::Low);

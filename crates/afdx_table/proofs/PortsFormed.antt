@@ -22,7 +22,7 @@ use Rattle.afdx_table.proofs.Steps.{steps}
 abbrev pub IsWithin : ℕ → ℕ → ℕ → Type 0
 IsWithin low high n = (low ≤ n) × (n ≤ high)
 
-bounded-within : (at : At) (k : Key) (low high m n : ℕ) → bounded at k low high m ≡ Ok n → IsWithin low high n
+pub bounded-within : (at : At) (k : Key) (low high m n : ℕ) → bounded at k low high m ≡ Ok n → IsWithin low high n
 unfolding bounded
 bounded-within at k low high m n h = grind (arith, nat_tests)
 
@@ -43,13 +43,13 @@ fresh_port at before new row h = elim (cases_Bool (has_port before new.id)) [
   | inr fresh ↦ let g = rw fresh at h in (cc, fresh)
 ]
 
-pub port_at-formed : (at : At) (before : List PortRow) (ms : Members) (row : PortRow) → port_at at before ms ≡ Ok row → IsNewPort before row
+pub port_at-formed : (version : ℕ) (at : At) (before : List PortRow) (ms : Members) (row : PortRow) → port_at version at before ms ≡ Ok row → IsNewPort before row
 unfolding port_at
-port_at-formed at before ms row h =
+port_at-formed version at before ms row h =
     let s1 = steps (known_at at port_keys ms) _ row h in
     let s2 = steps (bounded_at at key.Id 1 24 ms) _ row s1.rest in
     let s3 = steps (number_at at key.Mbit ms) _ row s2.rest in
-    let s4 = steps (or_refuse (Range at key.Mbit) (speed_of s3.value)) _ row s3.rest in
+    let s4 = steps (or_refuse (Range at key.Mbit) (speed_of version s3.value)) _ row s3.rest in
     let s5 = steps (bounded_at at key.Buffer 0 16777216 ms) _ row s4.rest in
     let s6 = steps (bounded_at at key.MaxDelay 1 500000 ms) _ row s5.rest in
     let new : PortRow = record { id = s2.value; speed = s4.value; buffer = s5.value; max_delay = s6.value * 1000 } in
@@ -118,17 +118,17 @@ pub record ArePorts (ps : List PortRow) : Type 0 where
   pub limits : AllByRecursion IsPort ps
   pub rise : Rises ps
 
-pub ports_from-formed : (n : ℕ) (before : List PortRow) (tables : List Members) (ports : List PortRow) → ArePorts before → ports_from n before tables ≡ Ok ports → ArePorts ports × (length ports ≡ length before + length tables)
+pub ports_from-formed : (version n : ℕ) (before : List PortRow) (tables : List Members) (ports : List PortRow) → ArePorts before → ports_from version n before tables ≡ Ok ports → ArePorts ports × (length ports ≡ length before + length tables)
 unfolding ports_from
-ports_from-formed n before [] ports good h =
+ports_from-formed version n before [] ports good h =
     let same : before ≡ ports = cc in
     (subst ArePorts same good, omega (arith, ap length same))
-ports_from-formed n before (ms ∷ rest) ports good h =
-    let s = steps (port_at (place.Port (n + 1)) before ms) _ ports h in
-    let new = port_at-formed (place.Port (n + 1)) before ms s.value s.first in
+ports_from-formed version n before (ms ∷ rest) ports good h =
+    let s = steps (port_at version (place.Port (n + 1)) before ms) _ ports h in
+    let new = port_at-formed version (place.Port (n + 1)) before ms s.value s.first in
     let more : ArePorts (with_port s.value before) = record {
       limits = are_ports-with s.value before new.0 good.limits;
       rise = rises-with s.value before good.rise new.1;
     } in
-    let all = ports_from-formed (n + 1) (with_port s.value before) rest ports more s.rest in
+    let all = ports_from-formed version (n + 1) (with_port s.value before) rest ports more s.rest in
     (all.0, omega (arith, all.1, length-with s.value before))

@@ -9,7 +9,7 @@ use Rattle.toml.specs.Data.{Data, string, integer, float, boolean, datetime, arr
 use Rattle.afdx_units.specs.Time.{bag_ms}
 use Rattle.afdx_units.specs.declared.bag.Bag.{Bag}
 use Rattle.afdx_units.specs.declared.line.Speed.{Speed}
-use Rattle.afdx_units.specs.declared.line.Speed.TheVariants.{Ten, Hundred}
+use Rattle.afdx_units.specs.declared.line.Speed.TheVariants.{Ten, Hundred, Thousand}
 use Rattle.afdx_units.specs.declared.line.Priority.{Priority}
 use Rattle.afdx_units.specs.declared.line.Priority.TheVariants.{High, Low}
 use Rattle.afdx_units.specs.declared.police.Police.{Police}
@@ -23,7 +23,7 @@ use Rattle.afdx_table.specs.Names.{key_text, speed_of, bags, bag_of, priority_of
 use Rattle.afdx_table.specs.Refusal.{◌>>=◌, or_refuse}
 use Rattle.afdx_table.specs.Fields.{natural_of, are_known, known_at, all_of, value_at, number_in, text_in, number_at, bounded, bounded_at, text_at, if_present, optional_number_at, optional_text_at, tables_in, tables_at, as_natural, bounded_natural, all_bounded, numbers_at}
 use Rattle.afdx_table.specs.Links.{police_from}
-use Rattle.afdx_table.specs.Holds.{Has, HasNone, HasNumber, HasText, number_items, HasNumbers, table_items, HasTables, mbit_of, priority_text, police_text, HasPolice}
+use Rattle.afdx_table.specs.Holds.{Has, HasNone, HasNumber, HasText, number_items, HasNumbers, table_items, HasTables, mbit_of, priority_text, police_text, HasPolice, HasSpeed}
 use Rattle.afdx_table.proofs.Steps.{steps, ok_inside}
 
 -- ---- values of one kind
@@ -250,9 +250,10 @@ numbers_at-says at k low high ms ns h =
 
 -- ---- what numbers and words name
 
-pub speed-says : (mbit : ℕ) (speed : Speed) → speed_of mbit ≡ Some speed → mbit ≡ mbit_of speed
-speed-says mbit Ten h = grind (arith, nat_tests)
-speed-says mbit Hundred h = grind (arith, nat_tests)
+pub speed-says : (version mbit : ℕ) (speed : Speed) → speed_of version mbit ≡ Some speed → (mbit ≡ mbit_of speed) × HasSpeed version speed
+speed-says version mbit Ten h = (grind (arith, nat_tests), tt)
+speed-says version mbit Hundred h = (grind (arith, nat_tests), tt)
+speed-says version mbit Thousand h = (grind (arith, nat_tests), grind (arith, nat_tests))
 
 found-passes : {A : Type 0} (test : A → Bool) (xs : List A) (x : A) → find test xs ≡ Some x → test x ≡ true
 found-passes test [] x h = absurd cc

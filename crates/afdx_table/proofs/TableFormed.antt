@@ -14,13 +14,13 @@ use Rattle.afdx_table.specs.declared.rows.PortRow.{PortRow}
 use Rattle.afdx_table.specs.Link.{Link}
 use Rattle.afdx_table.specs.Content.{Content}
 use Rattle.afdx_table.specs.Fields.{known_at, tables_at, optional_number_at, optional_text_at}
-use Rattle.afdx_table.specs.Top.{Top, top_keys, version_from, group_address, constant_from, at_most, top_at}
+use Rattle.afdx_table.specs.Top.{Top, all_keys, top_keys, version_from, group_address, constant_from, latency_from, at_most, top_at}
 use Rattle.afdx_table.specs.Ports.{ports_from}
 use Rattle.afdx_table.specs.Links.{links_from}
 use Rattle.afdx_table.specs.Text.{content_of, tree_of, table_of}
 use Rattle.afdx_table.specs.WellFormed.{IsWellFormed, TablesAreWellFormed}
 use Rattle.afdx_table.proofs.Steps.{steps, ok_inside}
-use Rattle.afdx_table.proofs.PortsFormed.{ArePorts, ports_from-formed}
+use Rattle.afdx_table.proofs.PortsFormed.{bounded-within, ArePorts, ports_from-formed}
 use Rattle.afdx_table.proofs.LinksFormed.{AreLinks, links_from-formed}
 
 -- ---- the top
@@ -60,26 +60,35 @@ at_most-formed : (n : ℕ) (k : Key) (tables : List Members) (u : Unit {0}) → 
 unfolding at_most
 at_most-formed n k tables u h = grind (arith, nat_tests)
 
+latency_from-formed : (stated : Option ℕ) (us : ℕ) → latency_from stated ≡ Ok us → us ≤ 100
+latency_from-formed None us h = let same : 0 ≡ us = ok_inside 0 us h in omega (arith, same)
+latency_from-formed (Some n) us h = (bounded-within place.Top key.Latency 0 100 n us h).1
+
 pub record IsTop (t : Top) : Type 0 where
   pub constant : IsConstant t.constant
+  pub latency_most : t.latency ≤ 100000
   pub few_ports : length t.ports ≤ 24
   pub few_links : length t.links ≤ 4096
 
 pub top_at-formed : (ms : Members) (t : Top) → top_at ms ≡ Ok t → IsTop t
 unfolding top_at
 top_at-formed ms t h =
-    let s1 = steps (known_at place.Top top_keys ms) _ t h in
+    let s1 = steps (known_at place.Top all_keys ms) _ t h in
     let s2 = steps (optional_number_at place.Top key.Version ms) _ t s1.rest in
     let s3 = steps (version_from s2.value) _ t s2.rest in
-    let s4 = steps (optional_text_at place.Top key.Constant ms) _ t s3.rest in
+    let k = steps (known_at place.Top (top_keys s3.value) ms) _ t s3.rest in
+    let s4 = steps (optional_text_at place.Top key.Constant ms) _ t k.rest in
     let s5 = steps (constant_from s4.value) _ t s4.rest in
-    let s6 = steps (tables_at place.Top key.Port ms) _ t s5.rest in
+    let l1 = steps (optional_number_at place.Top key.Latency ms) _ t s5.rest in
+    let l2 = steps (latency_from l1.value) _ t l1.rest in
+    let s6 = steps (tables_at place.Top key.Port ms) _ t l2.rest in
     let s7 = steps (tables_at place.Top key.Link ms) _ t s6.rest in
     let s8 = steps (at_most 24 key.Port s6.value) _ t s7.rest in
     let s9 = steps (at_most 4096 key.Link s7.value) _ t s8.rest in
-    let new : Top = record { version = s3.value; constant = s5.value; ports = s6.value; links = s7.value } in
+    let new : Top = record { version = s3.value; constant = s5.value; latency = l2.value * 1000; ports = s6.value; links = s7.value } in
     let good : IsTop new = record {
       constant = constant_from-formed s4.value s5.value s5.first;
+      latency_most = let most = latency_from-formed l1.value l2.value l2.first in omega (arith, most);
       few_ports = at_most-formed 24 key.Port s6.value s8.value s8.first;
       few_links = at_most-formed 4096 key.Link s7.value s9.value s9.first;
     } in
@@ -94,14 +103,15 @@ no_links : (ports : List PortRow) → AreLinks ports []
 unfolding IsDistinct
 no_links ports = record { limits = tt; distinct = tt }
 
-pub parts-formed : (ms : Members) (t : Top) (ports : List PortRow) (links : List Link) → top_at ms ≡ Ok t → ports_from 0 [] t.ports ≡ Ok ports → links_from t.version ports 0 [] t.links ≡ Ok links → IsWellFormed (record { constant = t.constant; ports = ports; links = links })
+pub parts-formed : (ms : Members) (t : Top) (ports : List PortRow) (links : List Link) → top_at ms ≡ Ok t → ports_from t.version 0 [] t.ports ≡ Ok ports → links_from t.version ports 0 [] t.links ≡ Ok links → IsWellFormed (record { constant = t.constant; latency = t.latency; ports = ports; links = links })
 parts-formed ms t ports links h p l =
     let top = top_at-formed ms t h in
-    let all_ports = ports_from-formed 0 [] t.ports ports no_ports p in
+    let all_ports = ports_from-formed t.version 0 [] t.ports ports no_ports p in
     let all_links = links_from-formed t.version ports 0 [] t.links links (no_links ports) l in
     record {
       constant_length = top.constant.constant_length;
       constant_first = top.constant.constant_first;
+      latency_most = top.latency_most;
       few_ports = omega (arith, top.few_ports, all_ports.1);
       ports = all_ports.0.limits;
       ports_rise = all_ports.0.rise;
@@ -114,9 +124,9 @@ pub content_of-formed : (ms : Members) (c : Content) → content_of ms ≡ Ok c 
 unfolding content_of
 content_of-formed ms c h =
     let s1 = steps (top_at ms) _ c h in
-    let s2 = steps (ports_from 0 [] s1.value.ports) _ c s1.rest in
+    let s2 = steps (ports_from s1.value.version 0 [] s1.value.ports) _ c s1.rest in
     let s3 = steps (links_from s1.value.version s2.value 0 [] s1.value.links) _ c s2.rest in
-    let new : Content = record { constant = s1.value.constant; ports = s2.value; links = s3.value } in
+    let new : Content = record { constant = s1.value.constant; latency = s1.value.latency; ports = s2.value; links = s3.value } in
     subst IsWellFormed {x = new} (ok_inside new c s3.rest) (parts-formed ms s1.value s2.value s3.value s1.first s2.first s3.first)
 
 pub table_of-formed : TablesAreWellFormed

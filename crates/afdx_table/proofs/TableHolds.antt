@@ -3,13 +3,14 @@ use Rattle.std.proofs.Common.{◌≡◌, ◌⊎◌, ℕ, pos, ◌≤◌, ◌+◌
 use Rattle.std.specs.List.{AllZip, count_by}
 use Rattle.std.proofs.lemmas.List.{append-nil}
 use Rattle.std.proofs.lemmas.List.Sums.{sum_by-cons}
-use Rattle.std.proofs.lemmas.Bool.{cases_Bool, cases_lt}
+use Rattle.std.proofs.lemmas.Bool.{cases_Bool}
 use Rattle.std.proofs.lemmas.Bool.Decides.{nat_tests}
 use Rattle.hex.specs.Hex.{decode_sized}
 use Rattle.hex.specs.declared.error.FromHexError.{FromHexError}
 use Rattle.toml.specs.Data.{Data, integer, string, Members}
 use Rattle.afdx_table.specs.declared.fault.At.{At}
 use Rattle.afdx_table.specs.declared.fault.At.TheVariants as place
+use Rattle.afdx_table.specs.declared.fault.Key.{Key}
 use Rattle.afdx_table.specs.declared.fault.Key.TheVariants as key
 use Rattle.afdx_table.specs.declared.fault.TableFault.TheVariants.{Range}
 use Rattle.afdx_table.specs.declared.rows.PortRow.{PortRow}
@@ -18,11 +19,11 @@ use Rattle.afdx_table.specs.Link.{Link}
 use Rattle.afdx_table.specs.Content.{Content}
 use Rattle.afdx_table.specs.Names.{speed_of, bag_of, priority_of}
 use Rattle.afdx_table.specs.Fields.{are_known, known_at, number_at, numbers_at, text_at, bounded, bounded_at, optional_number_at, optional_text_at, tables_at}
-use Rattle.afdx_table.specs.Top.{Top, top_keys, version_from, group_address, constant_from, at_most, top_at}
+use Rattle.afdx_table.specs.Top.{Top, all_keys, top_keys, version_from, group_address, constant_from, latency_from, at_most, top_at}
 use Rattle.afdx_table.specs.Ports.{with_port, port_keys, port_at, ports_from}
 use Rattle.afdx_table.specs.Links.{link_keys, police_from, row_at, fitting, link_at, links_from}
 use Rattle.afdx_table.specs.Text.{content_of, tree_of, table_of}
-use Rattle.afdx_table.specs.Holds.{IsPortOf, IsLinkOf, HasVersion, HasConstant, HasTables, Holds, TablesHoldTheirTexts}
+use Rattle.afdx_table.specs.Holds.{IsPortOf, IsLinkOf, HasNumber, HasVersion, HasConstant, HasLatency, HasTables, Holds, TablesHoldTheirTexts}
 use Rattle.afdx_table.proofs.Steps.{steps, ok_inside}
 use Rattle.afdx_table.proofs.Says.{there, known_at-says, number_at-says, bounded_at-says, text_at-says, optional_number_at-says, no_number, optional_text_at-says, no_text, tables_at-says, numbers_at-says, speed-says, bag-says, priority-says, police-says}
 use Rattle.afdx_table.proofs.PortsFormed.{fresh_port}
@@ -34,25 +35,27 @@ stands n = Some (integer (pos n))
 
 -- ---- ports
 
-port_at-says : (at : At) (before : List PortRow) (ms : Members) (row : PortRow) → port_at at before ms ≡ Ok row → IsPortOf ms row
+port_at-says : (version : ℕ) (at : At) (before : List PortRow) (ms : Members) (row : PortRow) → port_at version at before ms ≡ Ok row → IsPortOf version ms row
 unfolding port_at
-port_at-says at before ms row h =
+port_at-says version at before ms row h =
     let s1 = steps (known_at at port_keys ms) _ row h in
     let s2 = steps (bounded_at at key.Id 1 24 ms) _ row s1.rest in
     let s3 = steps (number_at at key.Mbit ms) _ row s2.rest in
-    let s4 = steps (or_refuse (Range at key.Mbit) (speed_of s3.value)) _ row s3.rest in
+    let s4 = steps (or_refuse (Range at key.Mbit) (speed_of version s3.value)) _ row s3.rest in
     let s5 = steps (bounded_at at key.Buffer 0 16777216 ms) _ row s4.rest in
     let s6 = steps (bounded_at at key.MaxDelay 1 500000 ms) _ row s5.rest in
     let new : PortRow = record { id = s2.value; speed = s4.value; buffer = s5.value; max_delay = s6.value * 1000 } in
     let last = fresh_port at before new row s6.rest in
-    let says : IsPortOf ms new = record {
+    let speed = speed-says version s3.value s4.value (there (Range at key.Mbit) (speed_of version s3.value) s4.value s4.first) in
+    let says : IsPortOf version ms new = record {
       id = bounded_at-says at key.Id 1 24 ms s2.value s2.first;
-      speed = number_at-says at key.Mbit ms s3.value s3.first ∙ ap stands (speed-says s3.value s4.value (there (Range at key.Mbit) (speed_of s3.value) s4.value s4.first));
+      speed = number_at-says at key.Mbit ms s3.value s3.first ∙ ap stands speed.0;
+      has_speed = speed.1;
       buffer = bounded_at-says at key.Buffer 0 16777216 ms s5.value s5.first;
       max_delay = (s6.value, bounded_at-says at key.MaxDelay 1 500000 ms s6.value s6.first, refl);
       no_other = known_at-says at port_keys ms s1.value s1.first;
     } in
-    subst (IsPortOf ms) {x = new} last.0 says
+    subst (IsPortOf version ms) {x = new} last.0 says
 
 count-with : (test : PortRow → Bool) (row : PortRow) (ps : List PortRow) → count_by test (with_port row ps) ≡ cond (test row) 1 0 + count_by test ps
 count-with test row [] = sum_by-cons (λ p. cond (test p) 1 0) row []
@@ -65,22 +68,22 @@ count-with test row (p ∷ ps) =
     ]
 
 -- the ports are those before and the rows of the tables
-record ArePortsOf (before : List PortRow) (tables : List Members) (ports : List PortRow) : Type 0 where
+record ArePortsOf (version : ℕ) (before : List PortRow) (tables : List Members) (ports : List PortRow) : Type 0 where
   rows : List PortRow
-  rows_of : AllZip IsPortOf tables rows
+  rows_of : AllZip (IsPortOf version) tables rows
   all : (test : PortRow → Bool) → count_by test before + count_by test rows ≡ count_by test ports
 
-ports_from-rows : (n : ℕ) (before : List PortRow) (tables : List Members) (ports : List PortRow) → ports_from n before tables ≡ Ok ports → ArePortsOf before tables ports
+ports_from-rows : (version n : ℕ) (before : List PortRow) (tables : List Members) (ports : List PortRow) → ports_from version n before tables ≡ Ok ports → ArePortsOf version before tables ports
 unfolding ports_from
-ports_from-rows n before [] ports h =
+ports_from-rows version n before [] ports h =
     let same : before ≡ ports = ok_inside before ports h in
     record { rows = []; rows_of = tt; all = λ test. omega (arith, ap (count_by test) same) }
-ports_from-rows n before (ms ∷ rest) ports h =
-    let s = steps (port_at (place.Port (n + 1)) before ms) _ ports h in
-    let more = ports_from-rows (n + 1) (with_port s.value before) rest ports s.rest in
+ports_from-rows version n before (ms ∷ rest) ports h =
+    let s = steps (port_at version (place.Port (n + 1)) before ms) _ ports h in
+    let more = ports_from-rows version (n + 1) (with_port s.value before) rest ports s.rest in
     record {
       rows = s.value ∷ more.rows;
-      rows_of = (port_at-says (place.Port (n + 1)) before ms s.value s.first, more.rows_of);
+      rows_of = (port_at-says version (place.Port (n + 1)) before ms s.value s.first, more.rows_of);
       all = λ test. omega (arith, more.all test, count-with test s.value before, sum_by-cons (λ p. cond (test p) 1 0) s.value more.rows);
     }
 
@@ -143,23 +146,17 @@ links_from-rows version ports n before (ms ∷ rest) links h =
 
 -- ---- the top
 
-one_or_two : (m n : ℕ) → bounded place.Top key.Version 1 2 m ≡ Ok n → (m ≡ n) × (1 ≤ n) × (n ≤ 2)
+bounded-same : (k : Key) (low high m n : ℕ) → bounded place.Top k low high m ≡ Ok n → (m ≡ n) × (low ≤ n) × (n ≤ high)
 unfolding bounded
-one_or_two m n v = grind (arith, nat_tests)
-
-either : (n : ℕ) → 1 ≤ n → n ≤ 2 → (n ≡ 1) ⊎ (n ≡ 2)
-either n least most = elim (cases_lt n 2) [
-  | inl one ↦ inl (omega (arith, one, least))
-  | inr two ↦ inr (omega (arith, two, most))
-]
+bounded-same k low high m n v = grind (arith, nat_tests)
 
 version-says : (ms : Members) (stated : Option ℕ) (n : ℕ) → optional_number_at place.Top key.Version ms ≡ Ok stated → version_from stated ≡ Ok n → HasVersion ms n
 version-says ms None n h v =
     let first : n ≡ 1 = sym (ok_inside 1 n v) in
-    (inl first, inl (no_number place.Top key.Version ms h, first))
+    (omega (arith, first), omega (arith, first), inl (no_number place.Top key.Version ms h, first))
 version-says ms (Some m) n h v =
-    let is = one_or_two m n v in
-    (either n is.1 is.2, inr (optional_number_at-says place.Top key.Version ms m h ∙ ap stands is.0))
+    let is = bounded-same key.Version 1 3 m n v in
+    (is.1, is.2, inr (optional_number_at-says place.Top key.Version ms m h ∙ ap stands is.0))
 
 group-says : (r : Result (List ℕ) FromHexError) (bytes : List ℕ) → group_address r ≡ Ok bytes → r ≡ Ok bytes
 group-says (Err e) bytes h = absurd cc
@@ -173,32 +170,41 @@ constant-says : (ms : Members) (stated : Option (List ℕ)) (bytes : List ℕ) �
 constant-says ms None bytes h c = inl (no_text place.Top key.Constant ms h, sym (ok_inside (3 ∷ 0 ∷ 0 ∷ 0 ∷ []) bytes c))
 constant-says ms (Some text) bytes h c = inr (text, optional_text_at-says place.Top key.Constant ms text h, group-says (decode_sized text 4) bytes c)
 
+latency-says : (ms : Members) (stated : Option ℕ) (us : ℕ) → optional_number_at place.Top key.Latency ms ≡ Ok stated → latency_from stated ≡ Ok us → HasLatency ms (us * 1000)
+latency-says ms None us h l = let same : 0 ≡ us = ok_inside 0 us l in inl (no_number place.Top key.Latency ms h, omega (arith, same))
+latency-says ms (Some n) us h l = let same : n ≡ us = (bounded-same key.Latency 0 100 n us l).0 in inr (us, subst (HasNumber ms key.Latency) same (optional_number_at-says place.Top key.Latency ms n h), refl)
+
 record Tops (ms : Members) (top : Top) : Type 0 where
   version : HasVersion ms top.version
   constant : HasConstant ms top.constant
   ports : HasTables ms key.Port top.ports
   links : HasTables ms key.Link top.links
-  no_other : are_known top_keys ms ≡ true
+  latency : HasLatency ms top.latency
+  no_other : are_known (top_keys top.version) ms ≡ true
 
 top_at-says : (ms : Members) (top : Top) → top_at ms ≡ Ok top → Tops ms top
 unfolding top_at
 top_at-says ms top h =
-    let s1 = steps (known_at place.Top top_keys ms) _ top h in
+    let s1 = steps (known_at place.Top all_keys ms) _ top h in
     let s2 = steps (optional_number_at place.Top key.Version ms) _ top s1.rest in
     let s3 = steps (version_from s2.value) _ top s2.rest in
-    let s4 = steps (optional_text_at place.Top key.Constant ms) _ top s3.rest in
+    let k = steps (known_at place.Top (top_keys s3.value) ms) _ top s3.rest in
+    let s4 = steps (optional_text_at place.Top key.Constant ms) _ top k.rest in
     let s5 = steps (constant_from s4.value) _ top s4.rest in
-    let s6 = steps (tables_at place.Top key.Port ms) _ top s5.rest in
+    let l1 = steps (optional_number_at place.Top key.Latency ms) _ top s5.rest in
+    let l2 = steps (latency_from l1.value) _ top l1.rest in
+    let s6 = steps (tables_at place.Top key.Port ms) _ top l2.rest in
     let s7 = steps (tables_at place.Top key.Link ms) _ top s6.rest in
     let s8 = steps (at_most 24 key.Port s6.value) _ top s7.rest in
     let s9 = steps (at_most 4096 key.Link s7.value) _ top s8.rest in
-    let new : Top = record { version = s3.value; constant = s5.value; ports = s6.value; links = s7.value } in
+    let new : Top = record { version = s3.value; constant = s5.value; latency = l2.value * 1000; ports = s6.value; links = s7.value } in
     let says : Tops ms new = record {
       version = version-says ms s2.value s3.value s2.first s3.first;
       constant = constant-says ms s4.value s5.value s4.first s5.first;
       ports = tables_at-says place.Top key.Port ms s6.value s6.first;
       links = tables_at-says place.Top key.Link ms s7.value s7.first;
-      no_other = known_at-says place.Top top_keys ms s1.value s1.first;
+      latency = latency-says ms l1.value l2.value l1.first l2.first;
+      no_other = known_at-says place.Top (top_keys s3.value) ms k.value k.first;
     } in
     subst (Tops ms) {x = new} (ok_inside new top s9.rest) says
 
@@ -208,16 +214,17 @@ content_of-holds : (ms : Members) (c : Content) → content_of ms ≡ Ok c → H
 unfolding content_of
 content_of-holds ms c h =
     let s1 = steps (top_at ms) _ c h in
-    let s2 = steps (ports_from 0 [] s1.value.ports) _ c s1.rest in
+    let s2 = steps (ports_from s1.value.version 0 [] s1.value.ports) _ c s1.rest in
     let s3 = steps (links_from s1.value.version s2.value 0 [] s1.value.links) _ c s2.rest in
-    let new : Content = record { constant = s1.value.constant; ports = s2.value; links = s3.value } in
+    let new : Content = record { constant = s1.value.constant; latency = s1.value.latency; ports = s2.value; links = s3.value } in
     let top = top_at-says ms s1.value s1.first in
-    let ports = ports_from-rows 0 [] s1.value.ports s2.value s2.first in
+    let ports = ports_from-rows s1.value.version 0 [] s1.value.ports s2.value s2.first in
     let links = links_from-rows s1.value.version s2.value 0 [] s1.value.links s3.value s3.first in
     let good : Holds ms new = record {
       version = s1.value.version;
       has_version = top.version;
       constant = top.constant;
+      latency = top.latency;
       port_tables = s1.value.ports;
       has_ports = top.ports;
       rows = ports.rows;

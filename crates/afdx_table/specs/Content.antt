@@ -6,6 +6,8 @@ use Rattle.afdx_table.specs.Link.{Link}
 pub record Content : Type 0 where
   -- ARINC 664 Part 7: the first four bytes of the destination address of each link's frames
   pub constant : List ℕ
+  -- profile: nanoseconds from the instant at which a frame has come until its copies are queued
+  pub latency : ℕ
   -- by rising number
   pub ports : List PortRow
   -- in file order

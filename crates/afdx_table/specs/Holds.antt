@@ -1,11 +1,11 @@
 -- A table holds what its text says: each number, word and list is told by the value under its key.
-use Rattle.std.specs.Prelude.{◌≡◌, ◌⊎◌, ℕ, pos, codes, true, Bool, ◌*◌, List, [], ◌∷◌, Some, None, Ok}
+use Rattle.std.specs.Prelude.{◌≡◌, ◌⊎◌, ℕ, pos, codes, true, Bool, ◌*◌, ◌≤◌, List, [], ◌∷◌, Some, None, Ok}
 use Rattle.std.specs.List.{AllZip, count_by}
 use Rattle.hex.specs.Hex.{decode_sized}
 use Rattle.toml.specs.Data.{Data, integer, string, array, table, Items, no_items, item, Members, get_member}
 use Rattle.afdx_units.specs.Time.{bag_ms}
 use Rattle.afdx_units.specs.declared.line.Speed.{Speed}
-use Rattle.afdx_units.specs.declared.line.Speed.TheVariants.{Ten, Hundred}
+use Rattle.afdx_units.specs.declared.line.Speed.TheVariants.{Ten, Hundred, Thousand}
 use Rattle.afdx_units.specs.declared.line.Priority.{Priority}
 use Rattle.afdx_units.specs.declared.line.Priority.TheVariants.{High, Low}
 use Rattle.afdx_units.specs.declared.police.Police.{Police}
@@ -59,6 +59,13 @@ HasTables ms k tables = (HasNone ms k × (tables ≡ [])) ⊎ Has ms k (array (t
 abbrev pub mbit_of : Speed → ℕ
 mbit_of Ten = 10
 mbit_of Hundred = 100
+mbit_of Thousand = 1000
+
+-- profile: a line of 1000 Mbit/s is there from the third version on
+abbrev pub HasSpeed : ℕ → Speed → Type 0
+HasSpeed version Ten = Unit {0}
+HasSpeed version Hundred = Unit {0}
+HasSpeed version Thousand = 3 ≤ version
 
 -- profile: the names of the priorities
 abbrev pub priority_text : Priority → List ℕ
@@ -66,9 +73,10 @@ priority_text High = codes "high"
 priority_text Low = codes "low"
 
 -- the port that these members tell, whose delay is written in microseconds and kept in nanoseconds
-pub record IsPortOf (ms : Members) (p : PortRow) : Type 0 where
+pub record IsPortOf (version : ℕ) (ms : Members) (p : PortRow) : Type 0 where
   pub id : HasNumber ms key.Id p.id
   pub speed : HasNumber ms key.Mbit (mbit_of p.speed)
+  pub has_speed : HasSpeed version p.speed
   pub buffer : HasNumber ms key.Buffer p.buffer
   pub max_delay : (us : ℕ) × HasNumber ms key.MaxDelay us × (p.max_delay ≡ us * 1000)
   pub no_other : are_known port_keys ms ≡ true
@@ -97,15 +105,19 @@ pub record IsLinkOf (version : ℕ) (ms : Members) (l : Link) : Type 0 where
 
 -- ---- the whole
 
--- the version is the first or the second, and the first where it is not stated
+-- the version is one of the first three, and the first where it is not stated
 abbrev pub HasVersion : Members → ℕ → Type 0
-HasVersion ms version = ((version ≡ 1) ⊎ (version ≡ 2)) × ((HasNone ms key.Version × (version ≡ 1)) ⊎ HasNumber ms key.Version version)
+HasVersion ms version = (1 ≤ version) × (version ≤ 3) × ((HasNone ms key.Version × (version ≡ 1)) ⊎ HasNumber ms key.Version version)
 
 -- the constant field is stated as eight hexadecimal digits, or 03 00 00 00
 abbrev pub HasConstant : Members → List ℕ → Type 0
 HasConstant ms bytes =
     (HasNone ms key.Constant × (bytes ≡ 3 ∷ 0 ∷ 0 ∷ 0 ∷ []))
     ⊎ ((text : List ℕ) × HasText ms key.Constant text × (decode_sized text 4 ≡ Ok bytes))
+
+-- the latency is stated in microseconds and kept in nanoseconds, or 0
+abbrev pub HasLatency : Members → ℕ → Type 0
+HasLatency ms latency = (HasNone ms key.Latency × (latency ≡ 0)) ⊎ ((us : ℕ) × HasNumber ms key.Latency us × (latency ≡ us * 1000))
 
 -- the same ports in any order: as many of the one list as of the other pass each test
 abbrev pub AreSamePorts : List PortRow → List PortRow → Type 0
@@ -115,17 +127,19 @@ pub record Holds (ms : Members) (c : Content) : Type 0 where
   pub version : ℕ
   pub has_version : HasVersion ms version
   pub constant : HasConstant ms c.constant
+  pub latency : HasLatency ms c.latency
   -- one port for each TOML table of `port`: the ports in file order
   pub port_tables : List Members
   pub has_ports : HasTables ms key.Port port_tables
   pub rows : List PortRow
-  pub rows_of : AllZip IsPortOf port_tables rows
+  pub rows_of : AllZip (IsPortOf version) port_tables rows
   pub ports : AreSamePorts rows c.ports
   -- one link for each TOML table of `link`, in file order
   pub link_tables : List Members
   pub has_links : HasTables ms key.Link link_tables
   pub links : AllZip (IsLinkOf version) link_tables c.links
-  pub no_other : are_known top_keys ms ≡ true
+  -- a key of the latency is there from the third version on
+  pub no_other : are_known (top_keys version) ms ≡ true
 
 -- every table of a text holds what the text says, and nothing else
 abbrev pub TablesHoldTheirTexts : Type 0

@@ -1,12 +1,12 @@
 -- What the words and numbers of a table name.
-use Rattle.std.specs.Prelude.{ℕ, codes, ◌==◌, ◌++◌, if◌then◌else◌, List, [], ◌∷◌, Option, Some, None, find}
+use Rattle.std.specs.Prelude.{nat_le, ◌&&◌, ℕ, codes, ◌==◌, ◌++◌, if◌then◌else◌, List, [], ◌∷◌, Option, Some, None, find}
 use Rattle.std.specs.Fmt.{decimal}
 use Rattle.std.specs.Str.{bytes_eq}
 use Rattle.afdx_units.specs.Time.{bag_ms}
 use Rattle.afdx_units.specs.declared.bag.Bag.{Bag}
 use Rattle.afdx_units.specs.declared.bag.Bag.TheVariants.{Ms1, Ms2, Ms4, Ms8, Ms16, Ms32, Ms64, Ms128}
 use Rattle.afdx_units.specs.declared.line.Speed.{Speed}
-use Rattle.afdx_units.specs.declared.line.Speed.TheVariants.{Ten, Hundred}
+use Rattle.afdx_units.specs.declared.line.Speed.TheVariants.{Ten, Hundred, Thousand}
 use Rattle.afdx_units.specs.declared.line.Priority.{Priority}
 use Rattle.afdx_units.specs.declared.line.Priority.TheVariants.{High, Low}
 use Rattle.afdx_units.specs.declared.police.Police.{Police}
@@ -20,6 +20,7 @@ use Rattle.afdx_table.specs.declared.fault.Key.TheVariants as key
 abbrev pub key_text : Key → List ℕ
 key_text key.Version = codes "version"
 key_text key.Constant = codes "constant"
+key_text key.Latency = codes "latency_us"
 key_text key.Port = codes "port"
 key_text key.Link = codes "link"
 key_text key.Id = codes "id"
@@ -40,9 +41,13 @@ place_text place.Top = codes "top"
 place_text (place.Port n) = codes "port " ++ decimal n
 place_text (place.Link n) = codes "link " ++ decimal n
 
--- IEEE 802.3: the line of so many Mbit/s
-abbrev pub speed_of : ℕ → Option Speed
-speed_of mbit = if mbit == 10 then Some Ten else if mbit == 100 then Some Hundred else None
+-- IEEE 802.3: the line of so many Mbit/s; profile: 1000 Mbit/s from the third version on
+abbrev pub speed_of : ℕ → ℕ → Option Speed
+speed_of version mbit =
+    if mbit == 10 then Some Ten
+    else if mbit == 100 then Some Hundred
+    else if mbit == 1000 && nat_le 3 version then Some Thousand
+    else None
 
 abbrev pub bags : List Bag
 bags = Ms1 ∷ Ms2 ∷ Ms4 ∷ Ms8 ∷ Ms16 ∷ Ms32 ∷ Ms64 ∷ Ms128 ∷ []

@@ -24,20 +24,20 @@ with_port row (p ∷ ps) = if nat_lt row.id p.id then row ∷ p ∷ ps else p �
 abbrev pub port_keys : List Key
 port_keys = key.Id ∷ key.Mbit ∷ key.Buffer ∷ key.MaxDelay ∷ []
 
--- the port of these fields, after the ports before it; its delay is written in microseconds and kept in nanoseconds
-unfoldable pub port_at : At → List PortRow → Members → Result PortRow TableFault
-port_at at before ms = do
+-- the port of these fields in a table of this version, after the ports before it; its delay is written in microseconds and kept in nanoseconds
+unfoldable pub port_at : ℕ → At → List PortRow → Members → Result PortRow TableFault
+port_at version at before ms = do
   known ← known_at at port_keys ms
   id ← bounded_at at key.Id 1 24 ms
   mbit ← number_at at key.Mbit ms
-  speed ← or_refuse (Range at key.Mbit) (speed_of mbit)
+  speed ← or_refuse (Range at key.Mbit) (speed_of version mbit)
   buffer ← bounded_at at key.Buffer 0 16777216 ms
   max_delay_us ← bounded_at at key.MaxDelay 1 500000 ms
   if has_port before id then Err (TwicePort at) else Ok (record { id = id; speed = speed; buffer = buffer; max_delay = max_delay_us * 1000 })
 
 -- the ports, where n of them were read before and these are the rest
-unfoldable pub ports_from : ℕ → List PortRow → List Members → Result (List PortRow) TableFault
-ports_from n before [] = Ok before
-ports_from n before (ms ∷ rest) = do
-  row ← port_at (place.Port (n + 1)) before ms
-  ports_from (n + 1) (with_port row before) rest
+unfoldable pub ports_from : ℕ → ℕ → List PortRow → List Members → Result (List PortRow) TableFault
+ports_from version n before [] = Ok before
+ports_from version n before (ms ∷ rest) = do
+  row ← port_at version (place.Port (n + 1)) before ms
+  ports_from version (n + 1) (with_port row before) rest

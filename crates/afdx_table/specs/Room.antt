@@ -10,20 +10,23 @@ use Rattle.afdx_table.specs.declared.fault.TableFault.{TableFault}
 use Rattle.afdx_table.specs.Refusal.{◌>>=◌}
 use Rattle.afdx_table.specs.Names.{key_text}
 use Rattle.afdx_table.specs.Fields.{known_at, optional_number_at, optional_text_at}
-use Rattle.afdx_table.specs.Top.{top_keys, version_from, constant_from}
+use Rattle.afdx_table.specs.Top.{all_keys, top_keys, version_from, constant_from, latency_from}
 
 -- a text that has more than white space and comments
 abbrev pub SaysSomething : List ℕ → Type 0
 SaysSomething bytes = IsUtf8 bytes × (IsBlank bytes → ⊥)
 
--- the constant field, where the keys of the top and the version are refused for nothing
-unfoldable pub head_at : Members → Result (List ℕ) TableFault
+-- the latency in microseconds, where nothing of the top before the ports is refused
+unfoldable pub head_at : Members → Result ℕ TableFault
 head_at ms = do
-  known ← known_at place.Top top_keys ms
+  known ← known_at place.Top all_keys ms
   stated_version ← optional_number_at place.Top key.Version ms
   version ← version_from stated_version
+  known_there ← known_at place.Top (top_keys version) ms
   stated_constant ← optional_text_at place.Top key.Constant ms
-  constant_from stated_constant
+  constant ← constant_from stated_constant
+  stated_latency ← optional_number_at place.Top key.Latency ms
+  latency_from stated_latency
 
 -- an array with an item
 abbrev pub HasItems : Key → Members → Type 0
@@ -31,4 +34,4 @@ HasItems k ms = (first : Data) × (rest : Items) × (get_member (key_text k) ms 
 
 -- a tree of which something is to be kept: what comes before the ports is refused for nothing, and there is a port or a link
 abbrev pub WantsRoom : Members → Type 0
-WantsRoom ms = (constant : List ℕ) × (head_at ms ≡ Ok constant) × (HasItems key.Port ms ⊎ HasItems key.Link ms)
+WantsRoom ms = (latency_us : ℕ) × (head_at ms ≡ Ok latency_us) × (HasItems key.Port ms ⊎ HasItems key.Link ms)

@@ -19,9 +19,9 @@ tree_of bytes = if is_utf8 bytes then or_refuse Toml (parse_document bytes) else
 unfoldable pub content_of : Members → Result Content TableFault
 content_of ms = do
   top ← top_at ms
-  ports ← ports_from 0 [] top.ports
+  ports ← ports_from top.version 0 [] top.ports
   links ← links_from top.version ports 0 [] top.links
-  Ok (record { constant = top.constant; ports = ports; links = links })
+  Ok (record { constant = top.constant; latency = top.latency; ports = ports; links = links })
 
 -- the table of a text's bytes
 unfoldable pub table_of : List ℕ → Result Content TableFault

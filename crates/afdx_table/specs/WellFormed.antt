@@ -41,6 +41,8 @@ pub record IsWellFormed (c : Content) : Type 0 where
   pub constant_length : length c.constant ≡ 4
   -- ARINC 664 Part 7: its two lowest bits are set
   pub constant_first : slice_index c.constant 0 % 4 ≡ 3
+  -- profile
+  pub latency_most : c.latency ≤ 100000
   pub few_ports : length c.ports ≤ 24
   pub ports : AllByRecursion IsPort c.ports
   pub ports_rise : Rises c.ports

@@ -23,6 +23,7 @@ pub enum At {
 pub enum Key {
     Version,
     Constant,
+    Latency,
     Port,
     Link,
     Id,
@@ -93,6 +94,7 @@ impl Key {
         match self {
             Key::Version => "version",
             Key::Constant => "constant",
+            Key::Latency => "latency_us",
             Key::Port => "port",
             Key::Link => "link",
             Key::Id => "id",

@@ -1,7 +1,10 @@
 //! The limits of a table (profile, save the numbers of links).
 
 /// The versions of the table's format that are read are 1 to this.
-pub(crate) const MAX_VERSION: u64 = 2;
+pub(crate) const MAX_VERSION: u64 = 3;
+
+/// The first version that has a latency and lines of 1000 Mbit/s.
+pub(crate) const LATENCY_VERSION: u64 = 3;
 
 pub(crate) const MAX_PORTS: usize = 24;
 
@@ -18,6 +21,9 @@ pub(crate) const MAX_BUFFER: u64 = 16_777_216;
 
 /// In microseconds.
 pub(crate) const MAX_DELAY: u64 = 500_000;
+
+/// In microseconds.
+pub(crate) const MAX_LATENCY: u64 = 100;
 
 /// In microseconds.
 pub(crate) const MAX_JITTER: u64 = 10_000;

@@ -53,13 +53,13 @@ fn insert_port(ports: &mut Vec<PortRow>, row: PortRow) -> Result<(), AllocError>
 
 /// A port, after the ports before it.
 #[tactic(auto, unfolding(crate::specs::Ports::port_at))]
-fn read_port(fields: &Fields<'_>, before: &[PortRow]) -> Result<PortRow, TableFault>
-    ensures { Gives (λ r. r) result (port_at fields.now.at before.now (table_view fields.now.table.now)) }
+fn read_port(version: u64, fields: &Fields<'_>, before: &[PortRow]) -> Result<PortRow, TableFault>
+    ensures { Gives (λ r. r) result (port_at version fields.now.at before.now (table_view fields.now.table.now)) }
 {
     fields.known(&[Key::Id, Key::Mbit, Key::Buffer, Key::MaxDelay])?;
     let id = fields.port_id(Key::Id)?;
     let mbit = fields.number(Key::Mbit)?;
-    let speed = speed_from_mbit(mbit).ok_or(TableFault::Range(fields.at, Key::Mbit))?;
+    let speed = speed_from_mbit(version, mbit).ok_or(TableFault::Range(fields.at, Key::Mbit))?;
     let buffer = fields.bounded(Key::Buffer, 0, MAX_BUFFER)? as u32;
     let max_delay_us = fields.bounded(Key::MaxDelay, 1, MAX_DELAY)?;
     if has_port(before, id) {
@@ -75,8 +75,12 @@ fn read_port(fields: &Fields<'_>, before: &[PortRow]) -> Result<PortRow, TableFa
 
 /// The ports, by rising number.
 #[tactic(auto, unfolding(crate::specs::Ports::ports_from))]
-pub(crate) fn read_ports(alloc: Global, tables: &[&Table]) -> Result<Vec<PortRow>, TableFault>
-    ensures ports { Gives (λ v. v.items) result (ports_from 0 [] (map (λ t. table_view t.now) tables.now)) }
+pub(crate) fn read_ports(
+    alloc: Global,
+    version: u64,
+    tables: &[&Table],
+) -> Result<Vec<PortRow>, TableFault>
+    ensures ports { Gives (λ v. v.items) result (ports_from version 0 [] (map (λ t. table_view t.now) tables.now)) }
     ensures memory { result ≡ Err Memory → 0 < length tables.now }
 {
     let mut ports = Vec::new(alloc);
@@ -85,7 +89,7 @@ pub(crate) fn read_ports(alloc: Global, tables: &[&Table]) -> Result<Vec<PortRow
             at: At::Port(index + 1),
             table: *table,
         };
-        let row = read_port(&fields, &ports)?;
+        let row = read_port(version, &fields, &ports)?;
         insert_port(&mut ports, row)?;
     }
     Ok(ports)

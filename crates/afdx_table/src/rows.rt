@@ -3,7 +3,7 @@
 ghost use Rattle.std.specs.Prelude.{◌≡◌, ◌≤◌, ◌*◌};
 ghost use Rattle.afdx_table.specs.Names.{speed_of, bag_of, priority_of, police_of};
 
-use crate::limits::NANOS_PER_MICROSECOND;
+use crate::limits::{LATENCY_VERSION, NANOS_PER_MICROSECOND};
 use afdx_units::{Bag, Police, Priority, Speed};
 use std::marker::Model;
 
@@ -68,13 +68,14 @@ pub(crate) fn nanos(micros: u64) -> u64
     micros * NANOS_PER_MICROSECOND
 }
 
-/// The speed of a line of so many Mbit/s.
-pub(crate) fn speed_from_mbit(mbit: u64) -> Option<Speed>
-    ensures { result ≡ speed_of mbit }
+/// The speed of a line of so many Mbit/s, which a table of this version may have.
+pub(crate) fn speed_from_mbit(version: u64, mbit: u64) -> Option<Speed>
+    ensures { result ≡ speed_of version mbit }
 {
     match mbit {
         10 => Some(Speed::Ten),
         100 => Some(Speed::Hundred),
+        1000 if LATENCY_VERSION <= version => Some(Speed::Thousand),
         _ => None,
     }
 }

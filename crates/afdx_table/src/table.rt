@@ -21,10 +21,11 @@ use toml::Table as Tree;
 
 /// A configuration table that was read: it is well formed.
 ///
-/// Contracts see what it says: the constant field, the ports by rising number, and the links in file order.
+/// Contracts see what it says: the constant field, the latency, the ports by rising number, and the links in file order.
 #[derive(Drop)]
 pub struct Table {
     constant: [u8; 4],
+    latency: u64,
     ports: Vec<PortRow>,
     links: Links,
 }
@@ -35,10 +36,11 @@ impl Model for Table {
 
     ghost Value = { Content };
 
-    ghost view = { λ t. record { constant = t.constant; ports = t.ports.items; links = t.links } };
+    ghost view = { λ t. record { constant = t.constant; latency = t.latency; ports = t.ports.items; links = t.links } };
 
     ghost invariant = { λ t. IsWellFormed (record {
       constant = t.constant;
+      latency = t.latency;
       ports = t.ports.items;
       links = t.links;
     }) };
@@ -52,6 +54,14 @@ impl Table {
         ensures well_formed { IsWellFormed self.now }
     {
         self.constant
+    }
+
+    /// The latency: nanoseconds from the instant at which a frame has come until its copies are queued. O(1).
+    pub fn latency(&self) -> u64
+        ensures latency { result ≡ self.now.latency }
+        ensures well_formed { IsWellFormed self.now }
+    {
+        self.latency
     }
 
     /// The ports, by rising number. O(1).
@@ -114,10 +124,11 @@ fn read_tree(alloc: Global, tree: &Tree) -> Result<Table, TableFault>
     ensures well_formed { IfOk result (λ t. IsWellFormed t) }
 {
     let top = read_top(alloc, tree)?;
-    let ports = read_ports(alloc, &top.ports)?;
+    let ports = read_ports(alloc, top.version, &top.ports)?;
     let links = read_links(alloc, top.version, &ports, &top.links)?;
     Ok(Table {
         constant: top.constant,
+        latency: top.latency,
         ports,
         links,
     })
@@ -145,8 +156,9 @@ fn read_text(alloc: Global, bytes: &[u8]) -> Result<Tree, TableFault>
 /// later; never for bytes that are not UTF-8, nor for a text of white space and comments alone:
 ///
 /// 1. `Toml`: bytes that are not UTF-8, or a text that the library `toml` refuses for another cause than memory.
-/// 2. At the top: `UnknownKey`; of `version` `Kind`, `Range`; of `constant` `Kind`, `Constant`; of `port`, then of
-///    `link`, `Kind`; of `port`, then of `link`, `TooMany`.
+/// 2. At the top: `UnknownKey`; of `version` `Kind`, `Range`; in versions 1 and 2 `UnknownKey` of `latency_us`; of
+///    `constant` `Kind`, `Constant`; of `latency_us` `Kind`, `Range`; of `port`, then of `link`, `Kind`; of `port`, then of
+///    `link`, `TooMany`.
 /// 3. At each port in array order: `UnknownKey`; of `id`, `mbit`, `buffer` and `max_delay_us`, in this order,
 ///    `MissingKey`, `Kind`, `Range`; `TwicePort`.
 /// 4. At each link in array order: `UnknownKey`, in version 1 of `police` too; of `id`, `from`, `to`, `bag_ms`,

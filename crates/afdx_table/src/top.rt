@@ -1,25 +1,28 @@
 //! The top of a table.
 
-ghost use Rattle.std.specs.Prelude.{◌≡◌, ◌≢◌, Err, IfErr, map, option_map};
+ghost use Rattle.std.specs.Prelude.{◌≡◌, ◌≢◌, ◌≤◌, Err, IfErr, IfOk, map, option_map};
 ghost use Rattle.hex.specs.Hex.{decode_sized};
 ghost use Rattle.toml.specs.View.{table_view};
 ghost use Rattle.afdx_table.specs.Refusal.{Gives};
 ghost use Rattle.afdx_table.specs.Room.{WantsRoom};
 ghost use Rattle.afdx_table.specs.declared.fault.TableFault.TheVariants.{Memory};
-ghost use Rattle.afdx_table.specs.Top.{at_most, version_from, group_address, constant_from, top_at};
+ghost use Rattle.afdx_table.specs.Top.{top_keys, at_most, version_from, group_address, constant_from, latency_from, top_at};
+ghost use Rattle.afdx_table.specs.Fields.{known_at};
 
 use crate::fault::{At, Key, TableFault};
 use crate::fields::{Fields, bounded};
-use crate::limits::{MAX_LINKS, MAX_PORTS, MAX_VERSION};
+use crate::limits::{LATENCY_VERSION, MAX_LATENCY, MAX_LINKS, MAX_PORTS, MAX_VERSION};
+use crate::rows::nanos;
 use hex::FromHex;
 use std::alloc::Global;
 use toml::Table as Tree;
 
-/// What the top says: the version, the constant field, and the tables of the ports and of the links.
+/// What the top says: the version, the constant field, the latency in nanoseconds, and the tables of the ports and of the links.
 #[derive(Drop)]
 pub(crate) struct Top<'a> {
     pub(crate) version: u64,
     pub(crate) constant: [u8; 4],
+    pub(crate) latency: u64,
     pub(crate) ports: Vec<&'a Tree>,
     pub(crate) links: Vec<&'a Tree>,
 }
@@ -57,6 +60,36 @@ fn constant_from(stated: Option<&str>) -> Result<[u8; 4], TableFault>
     }
 }
 
+/// Refuses a key that the top has not in this version.
+fn known_keys(version: u64, fields: &Fields<'_>) -> Result<(), TableFault>
+    ensures known { result ≡ known_at fields.now.at (top_keys version) (table_view fields.now.table.now) }
+    ensures keeps_nothing { IfErr result (λ e. e ≢ Memory) }
+{
+    if version < LATENCY_VERSION {
+        fields.known(&[Key::Version, Key::Constant, Key::Port, Key::Link])
+    } else {
+        fields.known(&[
+            Key::Version,
+            Key::Constant,
+            Key::Latency,
+            Key::Port,
+            Key::Link,
+        ])
+    }
+}
+
+/// The latency in microseconds that is stated; a missing one is 0.
+fn latency_from(stated: Option<u64>) -> Result<u64, TableFault>
+    ensures latency { Gives (λ n. n) result (latency_from stated) }
+    ensures keeps_nothing { IfErr result (λ e. e ≢ Memory) }
+    ensures within { IfOk result (λ n. n ≤ 100) }
+{
+    match stated {
+        Some(latency) => bounded(At::Top, Key::Latency, 0, MAX_LATENCY, latency),
+        None => Ok(0),
+    }
+}
+
 /// Refuses more tables than these.
 #[tactic(auto, unfolding(crate::specs::Top::at_most))]
 fn at_most(limit: usize, key: Key, tables: &[&Tree]) -> Result<(), TableFault>
@@ -75,6 +108,7 @@ pub(crate) fn read_top<'a>(alloc: Global, tree: &'a Tree) -> Result<Top<'a>, Tab
     ensures top { Gives (λ t. record {
       version = t.version;
       constant = t.constant;
+      latency = t.latency;
       ports = map (λ p. table_view p.now) t.ports.items;
       links = map (λ l. table_view l.now) t.links.items;
     }) result (top_at (table_view tree.now)) }
@@ -84,9 +118,17 @@ pub(crate) fn read_top<'a>(alloc: Global, tree: &'a Tree) -> Result<Top<'a>, Tab
         at: At::Top,
         table: tree,
     };
-    fields.known(&[Key::Version, Key::Constant, Key::Port, Key::Link])?;
+    fields.known(&[
+        Key::Version,
+        Key::Constant,
+        Key::Latency,
+        Key::Port,
+        Key::Link,
+    ])?;
     let version = version_from(fields.optional_number(Key::Version)?)?;
+    known_keys(version, &fields)?;
     let constant = constant_from(fields.optional_text(Key::Constant)?)?;
+    let latency_us = latency_from(fields.optional_number(Key::Latency)?)?;
     let ports = fields.tables(alloc, Key::Port)?;
     let links = fields.tables(alloc, Key::Link)?;
     at_most(MAX_PORTS, Key::Port, &ports)?;
@@ -94,6 +136,7 @@ pub(crate) fn read_top<'a>(alloc: Global, tree: &'a Tree) -> Result<Top<'a>, Tab
     Ok(Top {
         version,
         constant,
+        latency: nanos(latency_us),
         ports,
         links,
     })

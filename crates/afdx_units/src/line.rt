@@ -16,6 +16,8 @@ pub enum Speed {
     Ten,
     /// 100 Mbit/s.
     Hundred,
+    /// 1000 Mbit/s.
+    Thousand,
 }
 
 /// The two priorities of an output port (ARINC 664 Part 7).
@@ -33,6 +35,7 @@ impl Speed {
         match self {
             Speed::Ten => 800,
             Speed::Hundred => 80,
+            Speed::Thousand => 8,
         }
     }
 }

@@ -9,6 +9,7 @@ fn line_times(rt: HostRuntime) {
         (Speed::Hundred, 64, 6_720),
         (Speed::Hundred, 1518, 123_040),
         (Speed::Ten, 1518, 1_230_400),
+        (Speed::Thousand, 64, 672),
     ] {
         assert_eq!(rt; cost(speed, bytes), nanoseconds, "{bytes} bytes");
     }

@@ -1,4 +1,22 @@
+use Rattle.std.proofs.Common.{◌≡◌, ℕ, ◌<◌, ◌≤◌, false, List, [], ◌∷◌, ◌++◌, length, arith}
+use Rattle.afdx_port.specs.declared.Item.{Item}
+use Rattle.afdx_port.specs.Course.{first_start, starts_before}
+use Rattle.afdx_port.proofs.Course.{waits_from}
 use Rattle.afdx_port.proofs.line.Line.serve_before.Goals as goal
+
+pub returns-clause-sound : goal.returns-clause-sound
+returns-clause-sound g c =
+    let e = c.serve_due.ensures in
+    let q = c.serve_due.new.self.waiting in
+    record {
+      delay = e.sound.delay;
+      latency = e.sound.latency;
+      buffer = e.sound.buffer;
+      queued = e.sound.queued;
+      small = e.sound.small;
+      bytes = e.sound.bytes;
+      start = λ some. omega (arith, e.sound.start some, waits_from c.reach-to.result c.serve_due.new.self.ready q.high.items q.low.items (omega (arith, some)) e.none_due);
+    }
 
 pub returns-clause-room : goal.returns-clause-room
 returns-clause-room g c = λ room h. let k = c.serve_due.ensures.room room h in record { place = k.place; sent = k.sent; aged = k.aged }

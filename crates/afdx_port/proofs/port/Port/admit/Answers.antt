@@ -1,6 +1,6 @@
 use Rattle.std.proofs.Common.{◌≡◌, ◌-◌, ◌<◌, false, ap, ◌∙◌, arith}
 use Rattle.afdx_port.specs.Content.{PortValue}
-use Rattle.afdx_port.proofs.Picked.{room_for}
+use Rattle.afdx_port.proofs.Picked.{reach-most, room_for}
 use Rattle.afdx_port.proofs.Keeping.{fits_kept, kept_queued}
 use Rattle.afdx_port.proofs.port.Port.admit.Goals as goal
 
@@ -9,6 +9,13 @@ queue-requires-clause-room g c =
     let some : 0 < c.self.inside.room = omega (arith, ap (λ (v : PortValue). v.room) c.self.view_is, c.requires.room) in
     let has = c.self.invariant.room in
     record { place = record { high = omega (arith, has.place.high); low = omega (arith, has.place.low) }; sent = omega (arith, has.sent); aged = omega (arith, has.aged) }
+
+pub queue-requires-clause-start : goal.queue-requires-clause-start
+queue-requires-clause-start g c =
+    let p = c.self.inside in
+    let open' : p.finished ≡ false = ap (λ (v : PortValue). v.content.finished) c.self.view_is ∙ c.requires.open in
+    let at : p.horizon ≡ c.args.item.now.stamp = ap (λ (v : PortValue). v.content.horizon) c.self.view_is ∙ c.requires.at_once in
+    omega (arith, c.self.invariant.start open', reach-most p.line.settings p.horizon c.self.invariant.sound.latency, at, c.requires.small.0)
 
 pub queue-requires-clause-bytes : goal.queue-requires-clause-bytes
 queue-requires-clause-bytes g c = room_for c.args.item.now.size _ _ _ (fits_kept c.self.inside c.args.self.now.content c.args.item.now c.self.invariant (ap (λ (v : PortValue). v.content) c.self.view_is) c.requires.open c.requires.at_once ∙ c.requires.fits)
