@@ -38,7 +38,7 @@ def longest_delay(port, link, passed, left, bound):
         sys.exit(f"link {link.id} at port {port.id}: {len(passed)} frames passed, {len(left)} left, or others")
     delays = [record.stamp - frame.stamp for frame, record in zip(passed, left)]
     for frame, delay in zip(passed, delays):
-        if not (frame.size + model.LINE_OVERHEAD) * port.tick <= delay <= int(bound):
+        if not port.latency + (frame.size + model.LINE_OVERHEAD) * port.tick <= delay <= int(bound):
             sys.exit(f"link {link.id} at port {port.id}: a delay of {delay} ns, bound {bound}")
     return max(delays, default=0)
 

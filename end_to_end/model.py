@@ -45,6 +45,7 @@ class Port:
     tick: int  # ns of a byte
     buffer: int  # bytes
     max_delay: int  # ns
+    latency: int  # ns, that of the switch
 
 
 @dataclass
@@ -68,7 +69,8 @@ class Table:
 
 def table_of(text):
     tree = tomllib.loads(text)
-    ports = [Port(port["id"], {10: 800, 100: 80}[port["mbit"]], port["buffer"], port["max_delay_us"] * 1000)
+    latency = tree.get("latency_us", 0) * 1000
+    ports = [Port(port["id"], {10: 800, 100: 80, 1000: 8}[port["mbit"]], port["buffer"], port["max_delay_us"] * 1000, latency)
              for port in tree.get("port", [])]
     links = [Link(link["id"], link["from"], link["to"], link["bag_ms"] * 1_000_000, link["jitter_us"] * 1000,
                   link["max_size"], link["priority"], link.get("police", "byte"))
@@ -217,8 +219,8 @@ def service(port, frames):
     """All events of a port that is offered these frames and has room for them."""
     events, waiting, free = [], list(frames), 0
     while waiting:
-        begin = max(free, waiting[0].stamp)
-        there = list(takewhile(lambda frame: frame.stamp <= begin, waiting))
+        begin = max(free, waiting[0].stamp + port.latency)
+        there = list(takewhile(lambda frame: frame.stamp + port.latency <= begin, waiting))
         high = [frame for frame in there if frame.link.priority == "high"]
         frame = (high or there)[0]
         waiting.remove(frame)
@@ -234,8 +236,9 @@ def admission(port, frames):
     """The frames that find room, each judged against a schedule of all that were admitted before it."""
     admitted = []
     for frame in frames:
+        queued = frame.stamp + port.latency
         gone = sum(event.frame.size for event in service(port, admitted)
-                   if (event.sent and event.end <= frame.stamp) or (not event.sent and event.begin < frame.stamp))
+                   if (event.sent and event.end <= queued) or (not event.sent and event.begin < queued))
         if sum(other.size for other in admitted) - gone + frame.size <= port.buffer:
             admitted.append(frame)
     return admitted
@@ -320,10 +323,10 @@ def load_of(table, port):
     rules = [("L1 Rate", rate(links), LOAD_UNIT), ("L2 Buffer", need, byte * port.buffer)]
     high_bound = low_bound = None
     if high:
-        high_bound = (burst(high) + LOAD_UNIT * largest(low)) // LOAD_UNIT
+        high_bound = (burst(high) + LOAD_UNIT * largest(low)) // LOAD_UNIT + port.latency
         rules.append(("L3 HighDelay", high_bound, port.max_delay))
     if low and rate(high) < LOAD_UNIT:
-        low_bound = burst(links) // (LOAD_UNIT - rate(high))
+        low_bound = burst(links) // (LOAD_UNIT - rate(high)) + port.latency
         rules.append(("L4 LowDelay", low_bound, port.max_delay))
     return Load(rate(links), -(-need // byte), high_bound, low_bound, rules, bool(low))
 

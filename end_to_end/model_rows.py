@@ -21,6 +21,11 @@ def by_frames(text, links=1):
         for place_number, place in enumerate(places))
 
 
+def later(text, latency_us):
+    """The table in version 3, with this latency."""
+    return f"version = 3\nlatency_us = {latency_us}\n" + text
+
+
 HEADER = bytes.fromhex("4d3cb2a1 02000400 00000000 00000000 00000400 01000000")
 differing = []
 
@@ -144,6 +149,22 @@ def ports():
     sees(name, outcome, "out 2 low offered 2 full 1 aged 0 sent 1", "out 3 low offered 2 full 0 aged 0 sent 2")
 
 
+def latency():
+    gigabit = with_port(SINGLE, 2, mbit=1000)
+    one = capture((10, 64, 0)), HEADER
+    same("gigabit", leaves(run(later(gigabit, 50), *one), 2), [50_672])
+    same("gigabit", leaves(run(later(SINGLE, 50), *one), 2), [56_720])
+    for high in (1, 123_040):
+        outcome = run(later(MIXED, 50), capture((10, 1518, 0), (11, 64, 1), (12, 64, high)), HEADER)
+        same("latency on M", leaves(outcome, 2), [173_040, 179_760, 186_480])
+    name = "latency and age"
+    outcome = run(later(with_port(SINGLE, 2, max_delay_us=100), 100), *one)
+    same(name, leaves(outcome, 2), [106_720])
+    outcome = run(later(with_port(SINGLE, 2, max_delay_us=99), 100), *one)
+    same(name, leaves(outcome, 2), [])
+    sees(name, outcome, "out 2 low offered 1 full 0 aged 1 sent 0")
+
+
 def policing_by_frames():
     name = "frame policing"
     outcome = run(by_frames(SINGLE), capture(*[(10, 64, 0)] * 24), HEADER)
@@ -240,6 +261,12 @@ def load():
     fails(name, with_port(text, 2, max_delay_us=282), "L3 HighDelay, port 2, need 282430, limit 282000")
     fails(name, with_port(text, 2, max_delay_us=283), "L4 LowDelay, port 2, need 379224, limit 283000")
     says(name, with_port(text, 2, max_delay_us=380), "port 2 rate 652861440 buffer 5523 high 282430 low 379224")
+    gigabit = with_port(SINGLE, 2, mbit=1000)
+    says("gigabit", later(gigabit, 0), "port 2 rate 32643072 buffer 3531 high - low 15939")
+    says("gigabit", later(gigabit, 50), "port 2 rate 32643072 buffer 3531 high - low 65939")
+    name = "latency and age"
+    fails(name, later(with_port(SINGLE, 2, max_delay_us=259), 100), "L4 LowDelay, port 2, need 259390, limit 259000")
+    says(name, later(with_port(SINGLE, 2, max_delay_us=260), 100), "port 2 rate 326430720 buffer 3531 high - low 259390")
     says("frame policing", by_frames(SINGLE), "port 2 rate 251985920 buffer 3076 high - low 123040")
     name = "eight frame-policed links"
     says(name, by_frames(equal_links(8), 8), "port 2 rate 2015887360 buffer 13842 high - low 984320")
@@ -250,7 +277,7 @@ def load():
     says("both kinds of policing", by_frames(DOUBLE), "port 3 rate 578416640 buffer 5069 high - low 282430")
 
 
-for part in (frames_and_accounts, ports, policing_by_frames, captures, every_verdict, load):
+for part in (frames_and_accounts, ports, latency, policing_by_frames, captures, every_verdict, load):
     part()
 print("\n".join(differing) or "the model gives every worked number")
 sys.exit(bool(differing))

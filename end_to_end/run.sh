@@ -61,9 +61,9 @@ policed_alone() {
         ! grep -qE '^out .* (full|aged) [1-9]' report.txt
 }
 
-# within_bounds IN: under the example's table, each link's passed frames left, none else, and within the bounds.
+# within_bounds IN [TABLE]: under the example's table, each link's passed frames left, none else, and within the bounds.
 within_bounds() {
-    python3 "$top/end_to_end/bounds.py" "$network/table.toml" "$1" out
+    python3 "$top/end_to_end/bounds.py" "${2:-$network/table.toml}" "$1" out
 }
 
 # tied_as_modelled: captures full of ties.
@@ -71,6 +71,26 @@ tied_as_modelled() {
     local seed
     for seed in 1 2 3 4 5 6; do
         python3 "$top/end_to_end/ties.py" ties "$seed" && as_modelled ties/table.toml ties/in || return 1
+    done
+}
+
+# third_version TABLE LATENCY_US: the table in version 3, with this latency.
+third_version() {
+    echo "version = 3"
+    echo "latency_us = $2"
+    grep -v '^version' "$1"
+}
+
+# later_as_modelled: captures full of ties, on switches with a latency; without one, all is as in the first version.
+later_as_modelled() {
+    local seed
+    for seed in 1 2 3 4 5 6; do
+        python3 "$top/end_to_end/ties.py" ties "$seed" || return 1
+        third_version ties/table.toml "$((seed * 2))" >later.toml && as_modelled later.toml ties/in || return 1
+        third_version ties/table.toml 0 >third.toml && rm -rf first third && mkdir first third &&
+            "$afdx" run ties/table.toml ties/in first --unchecked >first.txt &&
+            "$afdx" run third.toml ties/in third --unchecked >third.txt &&
+            cmp first.txt third.txt && diff -r first third || return 1
     done
 }
 
@@ -124,11 +144,15 @@ check "its load is checked first" checked_as_modelled "$network/table.toml" "$ne
 check "Wireshark's tools read its outputs" are_read
 check "the babbler alone is policed, and nothing is lost" policed_alone 401
 check "what was passed left within the bounds" within_bounds "$network/in"
+check "the example network on a faster switch" as_modelled "$network/faster.toml" "$network/in"
+check "its load is checked first" checked_as_modelled "$network/faster.toml" "$network/in"
+check "what was passed left within the bounds" within_bounds "$network/in" "$network/faster.toml"
 check "the example network on tight ports" as_modelled tight.toml "$network/in"
 check "frames are full, aged and sent there" shows '^out .* full [1-9]' '^out .* aged [1-9]' '^out .* sent [1-9]'
 check "Wireshark's tools read these outputs" are_read
 
 check "ends, arrivals, starts and ages at one instant" tied_as_modelled
+check "the same on switches with a latency" later_as_modelled
 
 check "the frames are recorded" record 3>&1
 for kind in nanos micros; do

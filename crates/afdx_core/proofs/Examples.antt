@@ -31,7 +31,7 @@ abbrev link : Link
 link = record { id = 10; from = 1; to = 2 ∷ 3 ∷ []; bag = Ms1; jitter = 0; max_size = 1518; priority = Low; police = Byte }
 
 abbrev table : Content
-table = record { constant = 3 ∷ 0 ∷ 0 ∷ 0 ∷ []; ports = port 1 Hundred 100000 ∷ port 2 Ten 64 ∷ port 3 Hundred 100000 ∷ []; links = link ∷ [] }
+table = record { constant = 3 ∷ 0 ∷ 0 ∷ 0 ∷ []; latency = 0; ports = port 1 Hundred 100000 ∷ port 2 Ten 64 ∷ port 3 Hundred 100000 ∷ []; links = link ∷ [] }
 
 abbrev row : ℕ → ℕ → Verdict → Row
 row stamp size verdict = record { in_port = 1; stamp = stamp; size = size; verdict = verdict }
@@ -44,7 +44,7 @@ abbrev link_from : ℕ → ℕ → Link
 link_from id from = record { id = id; from = from; to = 3 ∷ []; bag = Ms1; jitter = 0; max_size = 1518; priority = Low; police = Byte }
 
 abbrev double : Content
-double = record { constant = 3 ∷ 0 ∷ 0 ∷ 0 ∷ []; ports = port 1 Hundred 100000 ∷ port 2 Hundred 100000 ∷ port 3 Hundred 100000 ∷ []; links = link_from 10 1 ∷ link_from 20 2 ∷ [] }
+double = record { constant = 3 ∷ 0 ∷ 0 ∷ 0 ∷ []; latency = 0; ports = port 1 Hundred 100000 ∷ port 2 Hundred 100000 ∷ port 3 Hundred 100000 ∷ []; links = link_from 10 1 ∷ link_from 20 2 ∷ [] }
 
 abbrev run_of_two : List Row → Run
 run_of_two rows = record { table = double; rows = rows; latest = 0; handed = []; finished = true }

@@ -197,7 +197,7 @@ module _ (links : LinksAreFound) (have_link : CleanFramesHaveALink) (offers : Of
   at_port : (p : PortRow) → Contains r.table.ports p → IsIsolatedAt r.table p arrivals (port_in r p)
   at_port p among = isolate r.table arrivals
       (record { well_formed = well; accepted = accepted; stamps = in_order links r.table r.rows run.stamps; clean = all_clean links r.table well have_link r.rows run.arrivals })
-      p among (port_in r p) refl (ap (admitted (settings_of p)) (offered_is links r.table well offers p r.rows))
+      p among (port_in r p) refl (ap (admitted (settings_of r.table.latency p)) (offered_is links r.table well offers p r.rows))
 
   pub isolated : IsIsolated r
   isolated = record {

@@ -120,7 +120,7 @@ module _ (links : LinksAreFound) (isolate : AcceptedTablesIsolate) (r : Run) (po
   queued : (l : Link) → named r.table row.verdict ≡ Some l → passes l r.rows row ≡ true → (q : ℕ) → leads_to q l ≡ true → (p : PortRow) → port_row r.table q ≡ Some p
       → answer_of r (item_of l r.rows row) (Some p) ≡ Queued
   queued l is pass q leads p found =
-      let s = settings_of p in
+      let s = settings_of r.table.latency p in
       let x = item_of l r.rows row in
       let at = port_true q r.table.ports p found in
       let same : p.id ≡ q = equal p.id q at.0 in

@@ -19,10 +19,10 @@ use Rattle.afdx_core.proofs.Keeping.{more_sent}
 
 -- ---- what is due before an instant
 
--- the table compares with the instant itself, as a port reaches it at once
-reached : (at : ℕ) (c : Content) → has_due at c ≡ starts_before at (due c)
+-- the table compares with the instant that the ports reach, one latency later
+reached : (latency at : ℕ) (c : Content) → c.settings.latency ≡ latency → has_due at c ≡ starts_before (at + latency) (due c)
 unfolding reach
-reached at c = refl
+reached latency at c same = ap (λ d. starts_before (at + d) (due c)) same
 
 abbrev pub is_late : ℕ → Option ℕ → ℕ
 is_late at next = cond (starts_before at next) 1 0
@@ -32,19 +32,22 @@ abbrev pub lates : ℕ → List (Option ℕ) → ℕ
 lates at dues = sum_by (is_late at) dues
 
 -- an outlet that is carried no longer is
-pub fewer : AdvanceLeavesNothingDue → (at place : ℕ) (dues : List (Option ℕ)) (c : Content) → c.finished ≡ false → IsFirstBefore at dues place → suc (lates at (set dues place (due (advanced at c)))) ≡ lates at dues
-fewer leaves at place dues c open' first =
-    let all = sum_by-set (is_late at) dues place (due (advanced at c)) None first.within in
-    let was : is_late at (get_or dues place None) ≡ 1 = ap (is_late at) first.due ∙ ap (λ b. cond b 1 0) (before first.at at first.before) in
-    let now : is_late at (due (advanced at c)) ≡ 0 = ap (λ b. cond b 1 0) (sym (reached at (advanced at c)) ∙ leaves c at open') in
+pub fewer : AdvanceLeavesNothingDue → (latency at place : ℕ) (dues : List (Option ℕ)) (c : Content) → c.finished ≡ false → c.settings.latency ≡ latency → IsFirstBefore (at + latency) dues place
+    → suc (lates (at + latency) (set dues place (due (advanced at c)))) ≡ lates (at + latency) dues
+fewer leaves latency at place dues c open' same first =
+    let until = at + latency in
+    let all = sum_by-set (is_late until) dues place (due (advanced at c)) None first.within in
+    let was : is_late until (get_or dues place None) ≡ 1 = ap (is_late until) first.due ∙ ap (λ b. cond b 1 0) (before first.at until first.before) in
+    let now : is_late until (due (advanced at c)) ≡ 0 = ap (λ b. cond b 1 0) (sym (reached latency at (advanced at c) same) ∙ leaves c at open') in
     omega (arith, all, was, now) where
       before : (a b : ℕ) → a < b → nat_lt a b ≡ true
       before a b lt = grind (arith)
 
-pub smaller : AdvanceLeavesNothingDue → (at place : ℕ) (dues new : List (Option ℕ)) (next : Option ℕ) (c : Content) → c.finished ≡ false → IsFirstBefore at dues place → new ≡ set dues place next → next ≡ due (advanced at c) → lates at new < lates at dues
-smaller leaves at place dues new next c open' first is next_is =
-    let n = fewer leaves at place dues c open' first in
-    let m = ap (lates at) (is ∙ ap (set dues place) next_is) in
+pub smaller : AdvanceLeavesNothingDue → (latency at place : ℕ) (dues new : List (Option ℕ)) (next : Option ℕ) (c : Content) → c.finished ≡ false → c.settings.latency ≡ latency → IsFirstBefore (at + latency) dues place
+    → new ≡ set dues place next → next ≡ due (advanced at c) → lates (at + latency) new < lates (at + latency) dues
+smaller leaves latency at place dues new next c open' same first is next_is =
+    let n = fewer leaves latency at place dues c open' same first in
+    let m = ap (lates (at + latency)) (is ∙ ap (set dues place) next_is) in
     omega (arith, n, m)
 
 carried_again : (at : ℕ) (o : Out) → carried_due at (carried at o) ≡ carried at o
@@ -58,11 +61,16 @@ module _ {Z : Type 0} where
   pub within_dues : (at place : ℕ) (dues : List (Option ℕ)) (os : List (Outlet Z)) → dues ≡ dues_of os → IsFirstBefore at dues place → place < length os
   within_dues at place dues os are first = let n = ap length are in let m = length-map os (λ (o : Outlet Z). due o.port.content) in omega (arith, first.within, n, m)
 
-  pub is_due_first : (at place : ℕ) (d : Outlet Z) (dues : List (Option ℕ)) (os : List (Outlet Z)) → dues ≡ dues_of os → IsFirstBefore at dues place → has_due at (get_or os place d).port.content ≡ true
-  is_due_first at place d dues os are first =
-      reached at (get_or os place d).port.content
-      ∙ ap (starts_before at) (sym (get_or-map (λ (o : Outlet Z). due o.port.content) os place d None (within_dues at place dues os are first)) ∙ ap (λ ds. get_or ds place None) (sym are) ∙ first.due)
-      ∙ before first.at at first.before where
+  -- the outlets of a switch of this latency
+  abbrev pub HaveLatency : ℕ → List (Outlet Z) → Type 0
+  HaveLatency latency os = All (λ (o : Outlet Z). o.port.content.settings.latency ≡ latency) os
+
+  pub is_due_first : (latency at place : ℕ) (d : Outlet Z) (dues : List (Option ℕ)) (os : List (Outlet Z)) → HaveLatency latency os → dues ≡ dues_of os → IsFirstBefore (at + latency) dues place → has_due at (get_or os place d).port.content ≡ true
+  is_due_first latency at place d dues os same are first =
+      let within = within_dues (at + latency) place dues os are first in
+      reached latency at (get_or os place d).port.content (same place d within)
+      ∙ ap (starts_before (at + latency)) (sym (get_or-map (λ (o : Outlet Z). due o.port.content) os place d None within) ∙ ap (λ ds. get_or ds place None) (sym are) ∙ first.due)
+      ∙ before first.at (at + latency) first.before where
         before : (a b : ℕ) → a < b → nat_lt a b ≡ true
         before a b lt = grind (arith)
 
@@ -93,17 +101,22 @@ module _ {Z : Type 0} where
   }
 
   -- where nothing is due any more, the walk is at its end
-  pub way_end : (at : ℕ) (dues : List (Option ℕ)) (old new : List (Outlet Z)) → dues ≡ dues_of new → All (λ next. starts_before at next ≡ false) dues → OnTheWay at old new → Became (carried_due at) old new
-  way_end at dues old new are none way = record {
+  pub way_end : (latency at : ℕ) (dues : List (Option ℕ)) (old new : List (Outlet Z)) → HaveLatency latency new → dues ≡ dues_of new → All (λ next. starts_before (at + latency) next ≡ false) dues → OnTheWay at old new → Became (carried_due at) old new
+  way_end latency at dues old new same are none way = record {
     len = way.len;
     at = λ k d lt.
         let here : k < length new = omega (arith, lt, way.len) in
         let n = ap length are in
         let m = length-map new (λ (o : Outlet Z). due o.port.content) in
         let next : get_or dues k None ≡ due (get_or new k d).port.content = ap (λ ds. get_or ds k None) are ∙ get_or-map (λ (o : Outlet Z). due o.port.content) new k d None here in
-        carried_no at (seen (get_or new k d)) (reached at (get_or new k d).port.content ∙ ap (starts_before at) (sym next) ∙ none k None (omega (arith, here, n, m)))
+        carried_no at (seen (get_or new k d)) (reached latency at (get_or new k d).port.content (same k d here) ∙ ap (starts_before (at + latency)) (sym next) ∙ none k None (omega (arith, here, n, m)))
         ∙ way.same k d lt;
   }
+
+  -- what is carried keeps its latency
+  pub latency_still : (latency at place : ℕ) (d o : Outlet Z) (os : List (Outlet Z)) → place < length os → HaveLatency latency os → seen o ≡ carried at (seen (get_or os place d)) → HaveLatency latency (set os place o)
+  latency_still latency at place d o os lt same is =
+      All-set (λ (x : Outlet Z). x.port.content.settings.latency ≡ latency) os place o (ap (λ (r : Out). r.content.settings.latency) is ∙ same place d lt) same
 
   pub can_still : AdvanceAdds → (at place : ℕ) (d o : Outlet Z) (os : List (Outlet Z)) → place < length os → All (λ (x : Outlet Z). CanCarry at x) os → seen o ≡ carried at (seen (get_or os place d)) → All (λ (x : Outlet Z). CanCarry at x) (set os place o)
   can_still adds at place d o os lt can is =
@@ -119,11 +132,11 @@ module _ {Z : Type 0} where
         counted = rw (content, handed) (omega (arith, sent, was.counted));
       }) can
 
-pub dues_fresh : {Z : Type 0} (ports : List PortRow) (os : List (Outlet Z)) → map seen os ≡ map fresh_out ports → replicate (length ports) None ≡ dues_of os
-dues_fresh [] [] made = refl
-dues_fresh [] (o ∷ os) made = absurd (omega (arith, ap length made))
-dues_fresh (p ∷ ps) [] made = absurd (omega (arith, ap length made))
-dues_fresh (p ∷ ps) (o ∷ os) made =
-    let head : seen o ≡ fresh_out p = (cc) in
-    let tail : map seen os ≡ map fresh_out ps = (cc) in
-    ap₂ {A = Option ℕ} {B = List (Option ℕ)} (λ next more. next ∷ more) (sym (ap (λ (r : Out). due r.content) head)) (dues_fresh ps os tail)
+pub dues_fresh : {Z : Type 0} (latency : ℕ) (ports : List PortRow) (os : List (Outlet Z)) → map seen os ≡ map (fresh_out latency) ports → replicate (length ports) None ≡ dues_of os
+dues_fresh latency [] [] made = refl
+dues_fresh latency [] (o ∷ os) made = absurd (omega (arith, ap length made))
+dues_fresh latency (p ∷ ps) [] made = absurd (omega (arith, ap length made))
+dues_fresh latency (p ∷ ps) (o ∷ os) made =
+    let head : seen o ≡ fresh_out latency p = (cc) in
+    let tail : map seen os ≡ map (fresh_out latency) ps = (cc) in
+    ap₂ {A = Option ℕ} {B = List (Option ℕ)} (λ next more. next ∷ more) (sym (ap (λ (r : Out). due r.content) head)) (dues_fresh latency ps os tail)

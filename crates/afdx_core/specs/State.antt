@@ -47,7 +47,7 @@ fresh_state accepted t = record { run = fresh_run t; frames = []; accepted = acc
 
 -- an output port after these arrivals: it admits from its feed, and has come to the instant
 abbrev pub port_after : Content → List Row → ℕ → Bool → PortRow → PortContent
-port_after t rows latest finished p = record { settings = settings_of p; admitted = admitted (settings_of p) (feed_of t p.id rows); horizon = latest; finished = finished }
+port_after t rows latest finished p = record { settings = settings_of t.latency p; admitted = admitted (settings_of t.latency p) (feed_of t p.id rows); horizon = latest; finished = finished }
 
 abbrev pub port_in : Run → PortRow → PortContent
 port_in r p = port_after r.table r.rows r.latest r.finished p

@@ -50,18 +50,20 @@ fn give_up_all<A: Allocator + Copy>(aged: &[Aged], store: &mut Store<'_, A>)
 }
 
 impl<A: Allocator + Copy> Outlet<A> {
-    pub(crate) fn new(alloc: A, row: PortRow) -> Self
-        requires { IsPort row }
-        ensures { seen result ≡ record { row = row; content = fresh (settings_of row); handed = 0 } }
+    /// An outlet that was offered nothing, of a switch of this latency.
+    pub(crate) fn new(alloc: A, latency: u64, row: PortRow) -> Self
+        requires port { IsPort row }
+        requires latency { latency ≤ 100000 }
+        ensures { seen result ≡ record { row = row; content = fresh (settings_of latency row); handed = 0 } }
     {
         Outlet {
             row,
-            port: Port::new(alloc, row.speed, row.buffer, row.max_delay),
+            port: Port::new(alloc, row.speed, row.buffer, row.max_delay, latency),
             handed: 0,
         }
     }
 
-    /// Carries out the starts before the instant, and gives up the copies that are aged.
+    /// Carries out the starts before the instant that the stamp reaches, and gives up the copies that are aged.
     fn carry(&mut self, at: Stamp, store: &mut Store<'_, A>)
         requires can { CanCarry at self.old }
         requires holds { (i : ℕ) → copies_at self.old.port.content self.old.handed i ≤ copies_of (slice_index_or store.old.held i None) }
@@ -180,15 +182,19 @@ pub(crate) fn make_room<A: Allocator + Copy>(
     Ok(())
 }
 
-/// Carries out the starts before the instant at the ports that are due before it, and at no other.
+/// Carries out the starts before the instant that the stamp reaches, one latency later, at the ports that are due before
+/// it, and at no other.
 /// O(1) for each start, and O(log ports) for each port that is due.
 pub(crate) fn carry_all<A: Allocator + Copy>(
     outlets: &mut [Outlet<A>],
     dues: &mut Dues,
+    latency: u64,
     at: Stamp,
     store: &mut Store<'_, A>,
 )
     requires can { All (λ o. CanCarry at o) outlets.old }
+    requires latency { All (λ o. o.port.content.settings.latency ≡ latency) outlets.old }
+    requires small { latency ≤ 100000 }
     requires dues { dues.old ≡ dues_of outlets.old }
     requires holds { HoldsCopies store.old.held outlets.old }
     ensures outlets { Became (carried_due at) outlets.old outlets.new }
@@ -201,7 +207,8 @@ pub(crate) fn carry_all<A: Allocator + Copy>(
     lagging_ports_follow();
     each_has_one_event();
     events_follow_the_line();
-    while let Some(place) = dues.first_before(at.ns()) {
+    let reached = at.ns() + latency;
+    while let Some(place) = dues.first_before(reached) {
         let outlet = &mut outlets[place];
         outlet.carry(at, store);
         dues.set(place, outlet.port.due());

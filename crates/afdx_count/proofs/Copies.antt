@@ -123,7 +123,7 @@ module _ (r : Run) (row : Row) (p : PortRow) where
 
   -- the counts of the port, with this input and feed
   abbrev with_feed : InCount → List Item → PortTally
-  with_feed input items = record { id = p.id; input = input; high = output_counts High (settings_of p) items []; low = output_counts Low (settings_of p) items [] }
+  with_feed input items = record { id = p.id; input = input; high = output_counts High (settings_of r.table.latency p) items []; low = output_counts Low (settings_of r.table.latency p) items [] }
 
   abbrev added : Priority → List Offer → PortTally → PortTally
   added High offers q = record q { high = with_answers offers q.high }
@@ -134,16 +134,16 @@ module _ (r : Run) (row : Row) (p : PortRow) where
   added-is Low offers q = refl
 
   one_added : (class : Priority) (leads : Bool) (input : InCount) (x : Item) → x.priority ≡ class
-      → added class (cond leads (answer_after (settings_of p) feed x ∷ []) []) (with_feed input feed) ≡ with_feed input (feed ++ cond leads (x ∷ []) [])
+      → added class (cond leads (answer_after (settings_of r.table.latency p) feed x ∷ []) []) (with_feed input feed) ≡ with_feed input (feed ++ cond leads (x ∷ []) [])
   one_added High false input x is = ap (with_feed input) (sym (append-nil feed))
   one_added Low false input x is = ap (with_feed input) (sym (append-nil feed))
   one_added High true input x is =
-      let e1 = one_offered High (settings_of p) feed x [] (ap (is_of High) is) in
-      let e2 = other_offered Low (settings_of p) feed x [] (ap (is_of Low) is) in
+      let e1 = one_offered High (settings_of r.table.latency p) feed x [] (ap (is_of High) is) in
+      let e2 = other_offered Low (settings_of r.table.latency p) feed x [] (ap (is_of Low) is) in
       (λ j. record { id = p.id; input = input; high = sym e1 j; low = sym e2 j })
   one_added Low true input x is =
-      let e1 = other_offered High (settings_of p) feed x [] (ap (is_of High) is) in
-      let e2 = one_offered Low (settings_of p) feed x [] (ap (is_of Low) is) in
+      let e1 = other_offered High (settings_of r.table.latency p) feed x [] (ap (is_of High) is) in
+      let e2 = one_offered Low (settings_of r.table.latency p) feed x [] (ap (is_of Low) is) in
       (λ j. record { id = p.id; input = input; high = sym e1 j; low = sym e2 j })
 
   copied : (input : InCount) → IsWellFormed r.table → port_row r.table p.id ≡ Some p
@@ -213,14 +213,14 @@ ended_is : (r : Run) (p : PortRow) → port_row r.table p.id ≡ Some p → ende
 ended_is r p found = ap with_row found ∙ whole where
   with_row : Option PortRow → PortTally
   with_row o = record (port_counts r.table r.rows (λ q. []) p) {
-    high = with_ended High (sent_in (after_finish r) o) (aged_in (after_finish r) o) (output_counts High (settings_of p) (feed_of r.table p.id r.rows) []);
-    low = with_ended Low (sent_in (after_finish r) o) (aged_in (after_finish r) o) (output_counts Low (settings_of p) (feed_of r.table p.id r.rows) []);
+    high = with_ended High (sent_in (after_finish r) o) (aged_in (after_finish r) o) (output_counts High (settings_of r.table.latency p) (feed_of r.table p.id r.rows) []);
+    low = with_ended Low (sent_in (after_finish r) o) (aged_in (after_finish r) o) (output_counts Low (settings_of r.table.latency p) (feed_of r.table p.id r.rows) []);
   }
 
   whole : with_row (Some p) ≡ port_counts r.table r.rows (events_of r.table r.rows) p
   whole =
-      let high = ended_output High (settings_of p) (feed_of r.table p.id r.rows) (events_of r.table r.rows p) in
-      let low = ended_output Low (settings_of p) (feed_of r.table p.id r.rows) (events_of r.table r.rows p) in
+      let high = ended_output High (settings_of r.table.latency p) (feed_of r.table p.id r.rows) (events_of r.table r.rows p) in
+      let low = ended_output Low (settings_of r.table.latency p) (feed_of r.table p.id r.rows) (events_of r.table r.rows p) in
       (λ j. record { id = p.id; input = input_counts (arrivals_at p.id r.rows); high = high j; low = low j })
 
 pub end_counts_the_run : EndCountsTheRun

@@ -25,7 +25,7 @@ abbrev link : ℕ → Priority → Link
 link id priority = record { id = id; from = 1; to = 2 ∷ []; bag = Ms1; jitter = 0; max_size = 1518; priority = priority; police = Byte }
 
 abbrev table : Content
-table = record { constant = 3 ∷ 0 ∷ 0 ∷ 0 ∷ []; ports = record { id = 1; speed = Hundred; buffer = 100000; max_delay = 500000000 } ∷ port ∷ []; links = link 30 High ∷ link 10 Low ∷ [] }
+table = record { constant = 3 ∷ 0 ∷ 0 ∷ 0 ∷ []; latency = 0; ports = record { id = 1; speed = Hundred; buffer = 100000; max_delay = 500000000 } ∷ port ∷ []; links = link 30 High ∷ link 10 Low ∷ [] }
 
 abbrev row : ℕ → Verdict → Row
 row size verdict = record { in_port = 1; stamp = 0; size = size; verdict = verdict }
@@ -35,7 +35,7 @@ abbrev rows : List Row
 rows = row 64 (Clean 10) ∷ row 64 (Clean 30) ∷ row 64 (Clean 10) ∷ row 1518 (Clean 10) ∷ []
 
 outputs : Priority → List Row → OutCount
-outputs priority rs = output_counts priority (settings_of port) (feed_of table 2 rs) (events_of table rs port)
+outputs priority rs = output_counts priority (settings_of table.latency port) (feed_of table 2 rs) (events_of table rs port)
 
 low_copies : outputs Low rows ≡ record { offered = 2; full = 1; aged = 1; sent = 0 }
 unfolding outputs account_frames passes feed_of turned_away next others reach

@@ -120,8 +120,8 @@ abbrev pub port_counts : Content → List Row → (PortRow → List Event) → P
 port_counts t rows events p = record {
   id = p.id;
   input = input_counts (arrivals_at p.id rows);
-  high = output_counts High (settings_of p) (feed_of t p.id rows) (events p);
-  low = output_counts Low (settings_of p) (feed_of t p.id rows) (events p);
+  high = output_counts High (settings_of t.latency p) (feed_of t p.id rows) (events p);
+  low = output_counts Low (settings_of t.latency p) (feed_of t p.id rows) (events p);
 }
 
 abbrev pub link_tally : Content → List Row → Link → LinkTally
@@ -137,7 +137,7 @@ counts_so_far t rows = counts_with t rows (λ p. [])
 
 -- all that a port carries out
 abbrev pub events_of : Content → List Row → PortRow → List Event
-events_of t rows p = service (settings_of p) 0 (admitted (settings_of p) (feed_of t p.id rows))
+events_of t rows p = service (settings_of t.latency p) 0 (admitted (settings_of t.latency p) (feed_of t p.id rows))
 
 -- the counts of a run of these arrivals, at its end
 abbrev pub counts_of : Content → List Row → Tally

@@ -20,4 +20,4 @@ broken_rules row s = filter (is_broken row s) (Rate ∷ Buffer ∷ HighDelay ∷
 -- a table is accepted exactly where each port with links breaks none
 abbrev pub AcceptedWhereEachPortFits : Type 0
 AcceptedWhereEachPortFits = (c : Content) →
-    IsAccepted c ↔ All (λ row. let s = load_of row.speed row.id c.links in 0 < s.highs + s.lows → broken_rules row s ≡ []) c.ports
+    IsAccepted c ↔ All (λ row. let s = load_of c.latency row.speed row.id c.links in 0 < s.highs + s.lows → broken_rules row s ≡ []) c.ports

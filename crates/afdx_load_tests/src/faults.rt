@@ -1,6 +1,6 @@
 //! Tables that are refused, each with the fault that stands.
 
-use crate::tables::{FIRST, HIGH, LOW, SECOND, broken, fault, table};
+use crate::tables::{FIRST, HIGH, LOW, SECOND, broken, fault, fault_later, table};
 use afdx_load::{LoadFault, Rule, check};
 use afdx_samples::{Link, Port};
 use std::test::Fail;
@@ -59,6 +59,19 @@ fn bounds_of_a_mixed_port(rt: HostRuntime) -> Result<(), Fail> {
             want,
             "at {max_delay_us}"
         );
+    }
+    Ok(())
+}
+
+#[test]
+fn latency_in_the_bounds(rt: HostRuntime) -> Result<(), Fail> {
+    let alloc = rt.alloc();
+    for (max_delay_us, want) in [(259, broken(Rule::LowDelay, 259_390, 259_000)), (260, None)] {
+        let second = Port {
+            max_delay_us,
+            ..SECOND
+        };
+        assert_eq!(rt; fault_later(alloc, second, 100)?, want, "at {max_delay_us}");
     }
     Ok(())
 }

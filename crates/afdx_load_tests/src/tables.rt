@@ -61,6 +61,18 @@ pub(crate) fn fault(
     Ok(check(table).err().map(|refused| refused.1))
 }
 
+/// The same of a switch with this latency, where one low link leads to the port.
+pub(crate) fn fault_later(
+    alloc: Global,
+    second: Port,
+    latency_us: u32,
+) -> Result<Option<LoadFault>, Fail> {
+    let text = afdx_samples::table(alloc, &[FIRST, second], &[LOW])?;
+    let text = afdx_samples::later(alloc, &text, latency_us)?;
+    let table = read(alloc, text.as_bytes())?;
+    Ok(check(table).err().map(|refused| refused.1))
+}
+
 /// A fault at port 2.
 pub(crate) fn broken(rule: Rule, need: u128, limit: u128) -> Option<LoadFault> {
     Some(LoadFault {

@@ -11,4 +11,4 @@ mod tables;
 pub use captures::{FRAME, HEADER, capture, joined};
 pub use frames::{Sample, frame, large, one_of_each, record, small};
 pub use rows::{Link, Port};
-pub use tables::{double, link, mixed, narrow, port, single, slow, table};
+pub use tables::{double, later, link, mixed, narrow, port, single, slow, table};

@@ -57,6 +57,11 @@ pub fn table(alloc: Global, ports: &[Port], links: &[Link]) -> Result<String, Al
     Ok(text)
 }
 
+/// This table, which states no version, in the third version and with this latency.
+pub fn later(alloc: Global, table: &str, latency_us: u32) -> Result<String, AllocError> {
+    format!(in alloc; "version = 3\nlatency_us = {latency_us}\n{table}")
+}
+
 /// Ports 1 and 2, and link 10 from 1 to 2.
 pub fn single(alloc: Global) -> Result<String, AllocError> {
     table(alloc, &[port(1), port(2)], &[link(10, 1, "[2]")])

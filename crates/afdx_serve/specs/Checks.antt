@@ -35,9 +35,9 @@ AreTextsOf Is [] text = text ≡ []
 AreTextsOf Is (row ∷ rows) text = (line : List ℕ) × (rest : List ℕ) × Is row line × AreTextsOf Is rows rest × (text ≡ line ++ rest)
 
 -- the lines of these ports, in their order
-abbrev pub AreLinesOf : List Link → List PortRow → List ℕ → Type 0
-AreLinesOf links = AreTextsOf (λ row line. IsLineOf row (load_of row.speed row.id links) line)
+abbrev pub AreLinesOf : ℕ → List Link → List PortRow → List ℕ → Type 0
+AreLinesOf latency links = AreTextsOf (λ row line. IsLineOf row (load_of latency row.speed row.id links) line)
 
 -- the lines of a table's ports by rising number, and that it is accepted
 abbrev pub IsCheckOf : Content → List ℕ → Type 0
-IsCheckOf t text = (lines : List ℕ) × AreLinesOf t.links t.ports lines × (text ≡ lines ++ ended (codes "accepted"))
+IsCheckOf t text = (lines : List ℕ) × AreLinesOf t.latency t.links t.ports lines × (text ≡ lines ++ ended (codes "accepted"))

@@ -101,7 +101,7 @@ FailsToGetAll _ files path t before after = ⊥
 
 -- a table was not taken for a run that is unchecked or not
 abbrev pub FailsToPlan : Failure → Bool → Content → Type 0
-FailsToPlan (failure.Load fault) unchecked t = (unchecked ≡ false) × (first_fault t.links t.ports ≡ Some fault)
+FailsToPlan (failure.Load fault) unchecked t = (unchecked ≡ false) × (first_fault t.latency t.links t.ports ≡ Some fault)
 FailsToPlan _ unchecked t = ⊥
 
 -- captures lead to nothing
@@ -120,7 +120,7 @@ FailsToGather (failure.PortCapture port fault) paths files before after =
     (t : Content) × (captures : List Text) × HasPlan files paths t × HasCaptures files paths.input.now t captures
     × IsFirstFault captures port fault × (after ≡ before)
 FailsToGather (failure.Load fault) paths files before after =
-    (paths.unchecked ≡ false) × ((t : Content) × HasTable files paths.table.now t × (first_fault t.links t.ports ≡ Some fault) × (after ≡ before))
+    (paths.unchecked ≡ false) × ((t : Content) × HasTable files paths.table.now t × (first_fault t.latency t.links t.ports ≡ Some fault) × (after ≡ before))
 FailsToGather failure.Memory paths files before after = Unit {0}
 FailsToGather _ paths files before after = ⊥
 

@@ -63,7 +63,7 @@ FailsToAnswer _ link input old new = ⊥
 
 -- a table was not accepted
 abbrev pub FailsToAccept : Failure → Content → Type 0
-FailsToAccept (failure.Load fault) t = first_fault t.links t.ports ≡ Some fault
+FailsToAccept (failure.Load fault) t = first_fault t.latency t.links t.ports ≡ Some fault
 FailsToAccept failure.Memory t = Unit {0}
 FailsToAccept _ t = ⊥
 
@@ -78,7 +78,7 @@ FailsToCheck (failure.Get name) path old new =
     (string_bytes name ≡ path) × (new.failed ≡ one_more path old.failed) × KeepsFiles old.files new.files × WritesNothing old new
 FailsToCheck (failure.Table refusal) path old new = HasNoTable old.files path refusal × KeepsFolder old new × WritesNothing old new
 FailsToCheck (failure.Load fault) path old new =
-    (t : Content) × HasTable old.files path t × (first_fault t.links t.ports ≡ Some fault) × KeepsFolder old new × WritesNothing old new
+    (t : Content) × HasTable old.files path t × (first_fault t.latency t.links t.ports ≡ Some fault) × KeepsFolder old new × WritesNothing old new
 FailsToCheck failure.Write path old new =
     (t : Content) × (text : List ℕ) × HasTable old.files path t × IsAccepted t × IsCheckOf t text × AppendsFront old.written new.written text × KeepsFolder old new
 FailsToCheck failure.Memory path old new = KeepsFiles old.files new.files × WritesNothing old new

@@ -61,9 +61,9 @@ IsSizeOf row s line =
     × ((0 < s.highs + s.lows → ⊥) → line ≡ [])
 
 -- the lines of these ports, in their order
-abbrev pub AreSizesOf : List Link → List PortRow → List ℕ → Type 0
-AreSizesOf links = AreTextsOf (λ row line. IsSizeOf row (load_of row.speed row.id links) line)
+abbrev pub AreSizesOf : ℕ → List Link → List PortRow → List ℕ → Type 0
+AreSizesOf latency links = AreTextsOf (λ row line. IsSizeOf row (load_of latency row.speed row.id links) line)
 
 -- the lines of a table's ports by rising number
 abbrev pub AreSizesIn : Content → List ℕ → Type 0
-AreSizesIn t text = AreSizesOf t.links t.ports text
+AreSizesIn t text = AreSizesOf t.latency t.links t.ports text

@@ -138,7 +138,7 @@ fn size_line(alloc: Global, row: &PortRow, load: &Load) -> Result<String, AllocE
 /// The line of a port of the loads' table; where no link leads to it, no text.
 fn port_size(alloc: Global, loads: &Loads<'_>, row: &PortRow) -> Result<String, AllocError>
     requires { port_row loads.now row.now.id ≡ Some row.now }
-    ensures { IfOk result (λ line. IsSizeOf row.now (load_of row.now.speed row.now.id loads.now.links) (string_bytes line)) }
+    ensures { IfOk result (λ line. IsSizeOf row.now (load_of loads.now.latency row.now.speed row.now.id loads.now.links) (string_bytes line)) }
 {
     longest_shows_links();
     match loads.at(row.id) {
@@ -152,7 +152,7 @@ fn port_size(alloc: Global, loads: &Loads<'_>, row: &PortRow) -> Result<String, 
 /// One pass over the links serves all ports: O(p + m) for p ports, of which there are at most 24, and links that
 /// together name m output ports.
 fn sizes_text(alloc: Global, table: &Table) -> Result<String, AllocError>
-    ensures { IfOk result (λ text. AreSizesOf table.now.links table.now.ports (string_bytes text)) }
+    ensures { IfOk result (λ text. AreSizesOf table.now.latency table.now.links table.now.ports (string_bytes text)) }
 {
     let loads = loads(table);
     let mut text = String::new(alloc);

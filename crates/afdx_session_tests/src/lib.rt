@@ -8,6 +8,8 @@ mod bounds;
 #[cfg(test)]
 mod formats;
 #[cfg(test)]
+mod latency;
+#[cfg(test)]
 mod policing;
 #[cfg(test)]
 mod ports;

@@ -83,6 +83,32 @@ fn the_police_of_a_link(rt: HostRuntime) -> Result<(), Fail> {
 }
 
 #[test]
+fn the_latency_of_the_switch(rt: HostRuntime) -> Result<(), Fail> {
+    let alloc = rt.alloc();
+    for (head, latency) in [
+        ("", 0),
+        ("version = 2\n", 0),
+        ("version = 3\n", 0),
+        ("version = 3\nlatency_us = 0\n", 0),
+        ("version = 3\nlatency_us = 100\n", 100_000),
+    ] {
+        let text = format!(in alloc; "{head}{SINGLE}")?;
+        let table = read(alloc, text.as_bytes())?;
+        assert_eq!(rt; table.latency(), latency, "at {head}");
+        assert_eq!(rt; table.link_count(), 1);
+    }
+    Ok(())
+}
+
+#[test]
+fn a_line_of_1000_megabits(rt: HostRuntime) -> Result<(), Fail> {
+    let text = b"version = 3\nport = [{ id = 1, mbit = 1000, buffer = 0, max_delay_us = 1 }]";
+    let table = read(rt.alloc(), text)?;
+    assert_eq!(rt; table.port(1).map(|port| port.speed), Some(Speed::Thousand));
+    Ok(())
+}
+
+#[test]
 fn no_rows(rt: HostRuntime) -> Result<(), Fail> {
     for text in [
         b"".as_slice(),

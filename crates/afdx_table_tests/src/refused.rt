@@ -56,8 +56,12 @@ pub(crate) const WORKED: &[(Change, TableFault)] = &[
         TableFault::Constant,
     ),
     (
-        ("[[port]]\nid = 1\n", "version = 3\n[[port]]\nid = 1\n"),
+        ("[[port]]\nid = 1\n", "version = 4\n[[port]]\nid = 1\n"),
         TableFault::Range(At::Top, Key::Version),
+    ),
+    (
+        ("[[port]]\nid = 1\n", "latency_us = 0\n[[port]]\nid = 1\n"),
+        TableFault::UnknownKey(At::Top),
     ),
     (
         ("[[port]]\nid = 1\n", "x = \n[[port]]\nid = 1\n"),
@@ -158,8 +162,48 @@ pub(crate) const TOPS: &[(&str, TableFault)] = &[
         TableFault::Kind(At::Top, Key::Version),
     ),
     (
-        "version = 3\nconstant = 3",
+        "version = 4\nconstant = 3",
         TableFault::Range(At::Top, Key::Version),
+    ),
+    (
+        "version = 2\nlatency_us = 0",
+        TableFault::UnknownKey(At::Top),
+    ),
+    (
+        "version = 4\nlatency_us = 0",
+        TableFault::Range(At::Top, Key::Version),
+    ),
+    (
+        "version = 2\nlatency_us = \"1\"\nconstant = 3",
+        TableFault::UnknownKey(At::Top),
+    ),
+    (
+        "version = 3\nlatency_us = 101",
+        TableFault::Range(At::Top, Key::Latency),
+    ),
+    (
+        "version = 3\nlatency_us = -1",
+        TableFault::Range(At::Top, Key::Latency),
+    ),
+    (
+        "version = 3\nlatency_us = \"1\"",
+        TableFault::Kind(At::Top, Key::Latency),
+    ),
+    (
+        "version = 3\nlatency_us = 101\nconstant = \"\"",
+        TableFault::Constant,
+    ),
+    (
+        "version = 3\nlatency_us = 101\nport = 1",
+        TableFault::Range(At::Top, Key::Latency),
+    ),
+    (
+        "version = 2\n[[port]]\nid = 1\nmbit = 1000\nbuffer = \"0\"",
+        TableFault::Range(At::Port(1), Key::Mbit),
+    ),
+    (
+        "version = 3\n[[port]]\nid = 1\nmbit = 1000\nbuffer = \"0\"",
+        TableFault::Kind(At::Port(1), Key::Buffer),
     ),
     (
         "constant = 3\nport = 1",
