@@ -38,7 +38,8 @@ def capture(frames):
 
 
 def draw_network(chance):
-    ports = [model.Port(number, chance.choice([80, 80, 80, 800]), 16_777_216, 500_000_000)
+    latency = 1000 * chance.choice([0, chance.randint(1, 100)])
+    ports = [model.Port(number, chance.choice([8, 80, 80, 80, 800]), 16_777_216, 500_000_000, latency)
              for number in range(1, chance.randint(3, 8) + 1)]
     links = []
     for number in chance.sample(range(65_536), chance.randint(len(ports), 4 * len(ports))):
@@ -67,7 +68,7 @@ def accepted_network(chance):
 
 
 def text_of(table):
-    text = "version = 2\n"
+    text = f"version = 3\nlatency_us = {table.ports[0].latency // 1000}\n"
     for port in table.ports:
         text += (f"[[port]]\nid = {port.id}\nmbit = {8000 // port.tick}\nbuffer = {port.buffer}\n"
                  f"max_delay_us = {port.max_delay // 1000}\n")

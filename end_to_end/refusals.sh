@@ -66,6 +66,9 @@ sed 's/bag_ms = .*/bag_ms = 3/' table.toml >bag.toml
 sed 's/buffer = .*/buffer = 1518/; s/jitter_us = .*/jitter_us = 1000/' table.toml >small.toml
 { cat table.toml && echo 'police = "frame"'; } >police.toml
 { echo 'version = 2' && sed 's/frame/none/' police.toml; } >no_police.toml
+{ echo 'latency_us = 0' && cat table.toml; } >latency.toml
+{ echo 'version = 3' && sed 's/latency_us = .*/latency_us = 101/' latency.toml; } >late.toml
+sed 's/mbit = 100/mbit = 1000/' table.toml >gigabit.toml
 mkdir in half pcapng
 frames in/port-1.pcap 0.000000000:10:1000 0.000100000:10:500
 frames in/port-2.pcap 0.000000000:11:64
@@ -82,6 +85,9 @@ check "a gap that is none, before captures that are not there" \
     refused 3 "afdx: table C6 Range, link 1, bag_ms" run bag.toml none out --unchecked
 check "policing by frames in version 1" refused 3 "afdx: table C3 UnknownKey, link 1" check police.toml
 check "a kind of policing that is none" refused 3 "afdx: table C6 Range, link 1, police" check no_police.toml
+check "a latency in version 1" refused 3 "afdx: table C3 UnknownKey, top" check latency.toml
+check "a latency that is too long" refused 3 "afdx: table C6 Range, top, latency_us" check late.toml
+check "1000 Mbit/s in version 1" refused 3 "afdx: table C6 Range, port 1, mbit" check gigabit.toml
 check "no first capture" refused 5 "afdx: device get none/port-1.pcap" run table.toml none out --unchecked
 check "names are joined as they are" refused 5 "afdx: device get none//port-1.pcap" run table.toml none/ out --unchecked
 check "no second capture" refused 5 "afdx: device get half/port-2.pcap" run table.toml half out --unchecked

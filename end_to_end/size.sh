@@ -31,7 +31,7 @@ tells_its_version() {
 }
 
 sed 's/buffer = 8192/buffer = 4000/; s/max_delay_us = 10000/max_delay_us = 2000/' "$top/examples/network/table.toml" >small.toml
-echo 'version = 3' >other.toml
+echo 'version = 4' >other.toml
 
 check "the example network fits" fits "$top/examples/network/table.toml"
 check "a small buffer and a short delay" breaks \

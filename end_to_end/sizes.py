@@ -18,7 +18,7 @@ def draw(chance):
     """A network some of whose ports may have a slow line, a small buffer or a short delay."""
     table = babblers.draw_network(chance)
     for port in table.ports:
-        port.tick = chance.choice([80, 800])
+        port.tick = chance.choice([8, 80, 800])
         port.buffer = chance.choice([64, 1518, 20_000, 16_777_216])
         port.max_delay = 1000 * chance.choice([1, 300, 5_000, 500_000])
     return table

@@ -4,7 +4,7 @@
 --ppb N     the recorder's clock is slow by N parts in 10^9 (fast where N is negative): the time since the first frame
             is made longer by as much
 --tick NS   the stamps are those of the frames' starts: each is made later by NS nanoseconds for each byte of its frame
-            and its check sequence (80 at 100 Mbit/s, 800 at 10 Mbit/s)
+            and its check sequence (8 at 1000 Mbit/s, 80 at 100 Mbit/s, 800 at 10 Mbit/s)
 
 The capture is as `editcap -F nsecpcap` writes it: pcap 2.4, little-endian, nanoseconds.
 """

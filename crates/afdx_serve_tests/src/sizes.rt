@@ -139,7 +139,7 @@ fn has_no_lines_without_links(rt: HostRuntime) -> Result<(), Fail> {
 fn refuses_what_is_no_table(rt: HostRuntime) -> Result<(), Fail> {
     let alloc = rt.alloc();
     let mut folder = MemoryFolder::new(alloc);
-    folder.add("t", b"version = 3")?;
+    folder.add("t", b"version = 4")?;
     let got = answer_over(alloc, "afdx size t", b"", &mut folder)?;
     assert_eq!(rt; got.status, 3);
     assert_eq!(rt; got.out.as_slice(), b"".as_slice());

@@ -108,7 +108,7 @@ feed_few t port rows = length-each t port [] rows
 sent_few : (t : Content) (given : List Arrival) (h : ℕ) (p : PortRow) → length (sent_up_to t given (Some h) p) ≤ length given
 unfolding sent_up_to
 sent_few t given h p =
-    let s = settings_of p in
+    let s = settings_of t.latency p in
     let feed = feed_of t p.id (rows_of t given) in
     let items = admitted s feed in
     let events = service s 0 items in

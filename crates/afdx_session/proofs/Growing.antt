@@ -319,12 +319,12 @@ pub sent_later : EventsAreInParts → ReachesInOrder → (t : Content) (arrivals
     → (rest : List Sent) × (sent_up_to t arrivals k p ≡ sent_up_to t arrivals (Some h) p ++ rest)
 unfolding sent_up_to
 sent_later parts reaches t arrivals h None p beyond =
-    let s = settings_of p in
+    let s = settings_of t.latency p in
     let items = admitted s (feed_of t p.id (rows_of t arrivals)) in
     let split = parts s (reach s h) items in
     (sent_of split.0, ap sent_of split.1 ∙ sent-append (before (reach s h) (service s 0 items)) split.0)
 sent_later parts reaches t arrivals h (Some k) p beyond =
-    let s = settings_of p in
+    let s = settings_of t.latency p in
     let items = admitted s (feed_of t p.id (rows_of t arrivals)) in
     let split = parts s (reach s h) items in
     let u = reach s k in

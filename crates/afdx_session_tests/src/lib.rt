@@ -10,6 +10,8 @@ mod formats;
 #[cfg(test)]
 mod latency;
 #[cfg(test)]
+mod pieces;
+#[cfg(test)]
 mod policing;
 #[cfg(test)]
 mod ports;
