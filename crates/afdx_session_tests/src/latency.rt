@@ -1,7 +1,7 @@
 //! Lines of 1000 Mbit/s, and switches with a latency.
 
 use crate::traffic::{bounds_at, leaves, leaves_unchecked};
-use afdx_samples::{HEADER, Port, capture, large, later, link, mixed, port, single, small, table};
+use afdx_samples::{HEADER, Port, Sample, capture, large, later, link, mixed, port, single, small, table};
 use std::alloc::{AllocError, Global};
 use std::test::*;
 
@@ -92,8 +92,15 @@ fn latency_and_age(rt: HostRuntime) -> Result<(), Fail> {
 fn latency_in_the_last_second(rt: HostRuntime) -> Result<(), Fail> {
     let alloc = rt.alloc();
     let text = later(alloc, &single(alloc)?, 100)?;
-    let came = capture(alloc, &[small(10, 4_294_967_294_999_999_999)])?;
-    let left = [small(10, 4_294_967_295_000_106_719)];
+    let last = Sample {
+        seconds: 4_294_967_294,
+        ..small(10, 999_999_999)
+    };
+    let came = capture(alloc, &[last])?;
+    let left = [Sample {
+        seconds: 4_294_967_295,
+        ..small(10, 106_719)
+    }];
     assert!(rt; leaves(alloc, &text, &[&came, &HEADER], &[&[], &left], "")?);
     Ok(())
 }
