@@ -10,7 +10,7 @@ mod formats;
 #[cfg(test)]
 mod latency;
 #[cfg(test)]
-mod pieces;
+mod latency_in_pieces;
 #[cfg(test)]
 mod policing;
 #[cfg(test)]
