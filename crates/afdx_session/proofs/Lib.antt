@@ -17,6 +17,7 @@ pub mod Giving
 pub mod Showing
 pub mod WholeRecords
 pub mod Last
+pub mod Lending
 pub mod Drawing
 pub mod Laning
 pub mod Limits

@@ -126,6 +126,20 @@ impl<'a, A: Allocator + Copy> Lane<'a, A> {
         self.read_on()
     }
 
+    /// The whole capture comes, and stays where it is: its records are lent. O(their number).
+    pub(crate) fn read_whole(&mut self, alloc: A, text: &'a [u8]) -> Result<(), RunFault>
+        requires fresh { IsFreshLane self.old.port self.old }
+        ensures still { IsStill self.old self.new }
+        ensures undone { self.new.undone ≡ self.old.undone }
+        ensures bytes { self.new.reader.bytes ≡ text.now }
+        ensures ended { self.new.reader.closed ≡ true }
+        ensures ok { OnOk result ((more : List Entry) × Adds self.old self.new more × HasReadAll self.new) }
+        ensures err { IfErr result (λ fault. IsFaultAt text.now self.old.port fault) }
+    {
+        self.reader = Reader::over(alloc, text);
+        self.read_on()
+    }
+
     /// The call has answered Ok.
     pub(crate) fn settle(&mut self)
         ensures { IsSettledLane self.old self.new }
