@@ -1,5 +1,5 @@
 -- Captures that come whole, one lane after the other.
-use Rattle.std.proofs.Common.{◌≡◌, ℕ, zero, suc, ◌+◌, ◌<◌, ◌≤◌, Bool, true, false, List, [], ◌∷◌, ◌++◌, map, length, take, set, slice_get, Option, Some, None, inl, inr, refl, ap, sym, ◌∙◌, arith, subst}
+use Rattle.std.proofs.Common.{◌≡◌, ℕ, zero, suc, ◌+◌, ◌<◌, ◌≤◌, Bool, true, false, List, [], ◌∷◌, ◌++◌, map, length, take, get_or, set, slice_get, Option, Some, None, Vec, inl, inr, refl, ap, sym, ◌∙◌, arith, subst}
 use Rattle.std.proofs.lemmas.List.{length-map}
 use Rattle.afdx_pcap.specs.Entry.{Entry}
 use Rattle.afdx_pcap.specs.Capture.{IsCapture}
@@ -13,12 +13,14 @@ use Rattle.afdx_session.specs.declared.lane.Lane.{Lane}
 use Rattle.afdx_session.specs.declared.machine.Machine.{Machine}
 use Rattle.afdx_session.specs.declared.plan.RunFault.{RunFault}
 use Rattle.afdx_session.specs.declared.plan.RunFault.TheVariants as run
-use Rattle.afdx_session.specs.Texts.{Text}
+use Rattle.afdx_session.specs.Texts.{Text, texts_of, AreOfPorts}
 use Rattle.afdx_session.specs.Reading.{IsSound, IsFaultAt, IsFirstFault, IsReadFault}
 use Rattle.afdx_session.specs.Lanes.{IsStill, HasReadAll, Adds, HasRead}
 use Rattle.afdx_session.specs.Kept.{AreOfTable, IsGoing, AreTouched}
 use Rattle.afdx_session.specs.View.{IsFreshLane, AreFreshLanes, IsLent, AreLent, AreSettledLanes}
+use Rattle.afdx_session.proofs.Firsts.{get-map}
 use Rattle.afdx_session.proofs.Going.{some_same, reads_on}
+use Rattle.afdx_session.proofs.Gone.{at_index}
 use Rattle.afdx_session.proofs.Intakes.{still_of_table}
 
 -- ---- one lane
@@ -165,6 +167,16 @@ as_many f lanes ports captures of are =
     let a = sym (length-map lanes (λ l. l.port)) ∙ ap (λ (ns : List ℕ). length ns) of ∙ length-map ports (λ p. p.id) in
     let b = sym (length-map captures f) ∙ sym (length-map (map f captures) (λ text. text.0)) ∙ ap (λ (ns : List ℕ). length ns) are ∙ length-map ports (λ p. p.id) in
     omega (arith, a, b)
+
+-- the capture at the place of a lane
+pub text_at : {Z : Type 0} (start : Machine Z) (captures : List (ℕ × Vec ℕ Z)) (n : ℕ) (d : ℕ × Vec ℕ Z) → AreOfTable start.switch.run.table start.lanes.items → AreOfPorts start.switch.run.table (texts_of captures) → n < length start.lanes.items
+    → slice_get (texts_of captures) n ≡ Some ((get_or captures n d).0, (get_or captures n d).1.items)
+text_at {Z} start captures n d of ports lt = get-map text captures n (get_or captures n d) (at_index captures n d (omega (arith, lt, many))) where
+  text : ℕ × Vec ℕ Z → Text
+  text p = (p.0, p.1.items)
+
+  many : length captures ≡ length start.lanes.items
+  many = as_many text start.lanes.items start.switch.run.table.ports captures of.ports ports
 
 -- what goes on and is settled is still lent
 pub lent_settled : {Z : Type 0} (texts : List Text) (a b c : List (Lane Z)) → AreLent texts a → AreTouched a b → AreSettledLanes b c → AreLent texts c

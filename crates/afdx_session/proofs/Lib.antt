@@ -18,6 +18,7 @@ pub mod Showing
 pub mod WholeRecords
 pub mod Last
 pub mod Lending
+pub mod WholeRuns
 pub mod Drawing
 pub mod Laning
 pub mod Limits
