@@ -52,10 +52,10 @@ nothing_taken : {Z : Type 0} (texts : List Text) (lanes : List (Lane Z)) (port :
 nothing_taken [] [] port lent = refl
 nothing_taken [] (l ∷ lanes) port lent = absurd lent
 nothing_taken (text ∷ texts) [] port lent = absurd lent
-nothing_taken (text ∷ texts) (l ∷ lanes) port lent = by (l.port == port) where
-  by : (here : Bool) → taken_in (cond here (Some (intake_of l)) (find (λ (i : Intake). i.port == port) (intakes_of lanes))) ≡ 0
-  by true = lent.0.taken
-  by false = nothing_taken texts lanes port lent.1
+nothing_taken (text ∷ texts) (l ∷ lanes) port lent = by (l.port == port) (nothing_taken texts lanes port lent.1) where
+  by : (here : Bool) → taken_in (find (λ (i : Intake). i.port == port) (intakes_of lanes)) ≡ 0 → taken_in (cond here (Some (intake_of l)) (find (λ (i : Intake). i.port == port) (intakes_of lanes))) ≡ 0
+  by true rest = lent.0.taken
+  by false rest = rest
 
 -- where nothing was taken, the rest is all
 rest_is_all : (v : Seen) (texts : List Text) → ((port : ℕ) → taken_of v port ≡ 0) → map (rest_of v) texts ≡ texts
