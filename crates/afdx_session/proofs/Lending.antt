@@ -1,5 +1,5 @@
 -- Captures that come whole, one lane after the other.
-use Rattle.std.proofs.Common.{◌≡◌, ℕ, zero, suc, ◌+◌, ◌<◌, ◌≤◌, Bool, true, false, List, [], ◌∷◌, ◌++◌, map, length, take, get_or, set, slice_get, Option, Some, None, Vec, inl, inr, refl, ap, sym, ◌∙◌, arith, subst}
+use Rattle.std.proofs.Common.{◌≡◌, ℕ, zero, suc, ◌+◌, ◌<◌, ◌≤◌, true, List, [], ◌∷◌, ◌++◌, map, length, get_or, set, slice_get, Some, Vec, inl, inr, refl, ap, sym, ◌∙◌, arith, subst}
 use Rattle.std.proofs.lemmas.List.{length-map}
 use Rattle.afdx_pcap.specs.Entry.{Entry}
 use Rattle.afdx_pcap.specs.Capture.{IsCapture}
@@ -7,15 +7,14 @@ use Rattle.afdx_pcap.specs.Reading.{HasTaken, whole_reading}
 use Rattle.afdx_pcap.specs.Reading as pcap
 use Rattle.afdx_pcap.specs.declared.fault.PcapFault.{PcapFault}
 use Rattle.afdx_table.specs.declared.rows.PortRow.{PortRow}
-use Rattle.afdx_table.specs.Content.{Content}
 use Rattle.afdx_core.specs.Merge.{MergedIsAMerge, MergedIsByStampAndPort}
 use Rattle.afdx_session.specs.declared.lane.Lane.{Lane}
 use Rattle.afdx_session.specs.declared.machine.Machine.{Machine}
 use Rattle.afdx_session.specs.declared.plan.RunFault.{RunFault}
 use Rattle.afdx_session.specs.declared.plan.RunFault.TheVariants as run
 use Rattle.afdx_session.specs.Texts.{Text, texts_of, AreOfPorts}
-use Rattle.afdx_session.specs.Reading.{IsSound, IsFaultAt, IsFirstFault, IsReadFault}
-use Rattle.afdx_session.specs.Lanes.{IsStill, HasReadAll, Adds, HasRead}
+use Rattle.afdx_session.specs.Reading.{IsFaultAt, IsFirstFault, IsReadFault}
+use Rattle.afdx_session.specs.Lanes.{IsStill, HasReadAll, Adds}
 use Rattle.afdx_session.specs.Kept.{AreOfTable, IsGoing, AreTouched}
 use Rattle.afdx_session.specs.View.{IsFreshLane, AreFreshLanes, IsLent, AreLent, AreSettledLanes}
 use Rattle.afdx_session.proofs.Firsts.{get-map}

@@ -3,7 +3,7 @@
 ghost use Rattle.std.specs.Prelude.{◌≡◌, ◌<◌, ◌≤◌, ◌-◌, ◌^◌, ◌==◌, ◌++◌, [], ℕ, true, false, take, None, Some, Ok, List, length, IfOk, IfErr, OnOk, OnErr, IfSome, IfNone, Option, is_some, if◌then◌else◌, ◌+◌, IsTrue, ◌↔◌, position, find};
 ghost use Rattle.afdx_pcap.specs.Entry.{Entry};
 ghost use Rattle.afdx_pcap.specs.Reading.{Answers};
-ghost use Rattle.afdx_session.specs.Lanes.{HasRead, HasReadAll, IsReadOn, Adds, IsLaneFault, limit_at, best_place, IsFirstOf, IsWithinPlace, head_of, sooner_of, IsStill, IsPieceFault, Goes, NoneGoes};
+ghost use Rattle.afdx_session.specs.Lanes.{HasReadAll, IsReadOn, Adds, IsLaneFault, limit_at, best_place, IsFirstOf, IsWithinPlace, head_of, sooner_of, IsStill, IsPieceFault, Goes, NoneGoes};
 ghost use Rattle.afdx_session.specs.Reading.{IsFaultAt};
 ghost use Rattle.afdx_session.specs.View.{IsFreshLane, AreFreshLanes, IsSettledLane, IsTaken, IsOpenAt, intakes_of};
 ghost use Rattle.afdx_session.specs.Session.{refusal_at};
@@ -77,7 +77,7 @@ impl<'a, A: Allocator + Copy> Lane<'a, A> {
         }
     }
 
-    /// Whole records that are there join those that wait. O(their bytes).
+    /// Whole records that are there join those that wait. O(their bytes), and O(their number) where these are lent.
     fn read_on(&mut self) -> Result<(), RunFault>
         requires { self.old.reader.fault ≡ None }
         ensures read_on { IsReadOn self.old self.new }

@@ -10,7 +10,7 @@ ghost use Rattle.afdx_core.specs.Held.{told, IsTaken};
 ghost use Rattle.afdx_core.specs.Rows.{row_of};
 ghost use Rattle.afdx_core.specs.State.{refusal_of, fresh_state, after_finish};
 ghost use Rattle.afdx_count.specs.Tally.{noted, fresh, ended};
-ghost use Rattle.afdx_session.specs.Kept.{AreOfTable, AreTouched, IsOfSameTable, IsGoing, HasCome, IsRunning, come_to};
+ghost use Rattle.afdx_session.specs.Kept.{AreOfTable, AreTouched, IsOfSameTable, IsGoing, IsRunning, come_to};
 ghost use Rattle.afdx_session.specs.Lanes.{limit_at, NoneGoes};
 ghost use Rattle.afdx_session.specs.View.{IsRound, IsReady, IsOpenAt, IsFed, IsNotFed, IsEnded, IsNotEnded, AreSettledLanes, AreFreshLanes, AreHalfDone, AreEndedLanes, AreLent, texts_at};
 ghost use Rattle.afdx_session.specs.Texts.{texts_of, AreOfPorts};
@@ -141,7 +141,7 @@ impl<'a, A: Allocator + Copy> Machine<'a, A> {
 
     /// What is settled goes to the switch, which comes to the frontier; what then has left goes out.
     ///
-    /// O(ports) for each record, beside the switch's own work on it, and O(ports * ports).
+    /// O(ports), O(ports) for each record that goes, and O(bytes) of what goes out, beside the switch's own work.
     pub(crate) fn go_on(&mut self) -> Result<(), AllocError>
         requires of { AreOfTable self.old.switch.run.table self.old.lanes.items }
         requires going { IsGoing self.old.switch.run.table self.old.lanes.items self.old.switch self.old.counts }
