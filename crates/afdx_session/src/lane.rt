@@ -1,4 +1,4 @@
-//! What a session has of one port.
+//! What the machine has of one port.
 
 ghost use Rattle.std.specs.Prelude.{◌≡◌, ◌<◌, ◌≤◌, ◌-◌, ◌^◌, ◌==◌, ◌++◌, [], ℕ, true, false, take, None, Some, Ok, List, length, IfOk, IfErr, OnOk, OnErr, IfSome, IfNone, Option, is_some, if◌then◌else◌, ◌+◌, IsTrue, ◌↔◌, position, find};
 ghost use Rattle.afdx_pcap.specs.Entry.{Entry};
