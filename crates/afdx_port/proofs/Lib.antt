@@ -20,3 +20,5 @@ pub mod AtLine
 pub mod Keeping
 pub mod Lagging
 pub mod Ends
+pub mod Gone
+pub mod Admitted

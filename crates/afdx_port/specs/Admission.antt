@@ -1,5 +1,5 @@
 -- Which items a port admits to its buffer (profile).
-use Rattle.std.specs.Prelude.{ℕ, ◌+◌, ◌<◌, ◌≤◌, ◌≡◌, Bool, not, nat_lt, nat_le, if◌then◌else◌, List, [], ◌∷◌, ◌++◌, filter, sum_by}
+use Rattle.std.specs.Prelude.{ℕ, ◌+◌, ◌<◌, ◌≤◌, ◌≡◌, ⊤, Bool, not, nat_lt, nat_le, if◌then◌else◌, List, [], ◌∷◌, ◌++◌, filter, sum_by, AllPairs}
 use Rattle.afdx_port.specs.declared.Settings.{Settings}
 use Rattle.afdx_port.specs.declared.Item.{Item}
 use Rattle.afdx_port.specs.Service.{came, Event, sending, aging, item_of, service, before}
@@ -43,3 +43,16 @@ admit_all s admitted (x ∷ feed) = admit_all s (admit s admitted x) feed
 -- the items of a feed that are admitted
 abbrev pub admitted : Settings → List Item → List Item
 admitted s feed = admit_all s [] feed
+
+-- each of these fits beside those before it
+abbrev pub AllFit : Settings → List Item → List Item → Type 0
+AllFit s before [] = ⊤
+AllFit s before (x ∷ items) = (x.size + occupied s (came s x) before ≤ s.buffer) × AllFit s (before ++ x ∷ []) items
+
+-- the laws: so does each that was admitted
+abbrev pub AdmittedFit : Type 0
+AdmittedFit = (s : Settings) (feed : List Item) → AllFit s [] (admitted s feed)
+
+-- what is admitted of a feed whose stamps do not fall is in order
+abbrev pub AdmittedInOrder : Type 0
+AdmittedInOrder = (s : Settings) (feed : List Item) → AllPairs (λ a b. a.stamp ≤ b.stamp) feed → AllPairs (λ a b. a.stamp ≤ b.stamp) (admitted s feed)
