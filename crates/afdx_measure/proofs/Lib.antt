@@ -1,1 +1,4 @@
 pub mod DelayLemmas
+pub mod Going
+pub mod Fronts
+pub mod Levels

@@ -1,10 +1,13 @@
 //! What an integrator asks of a run: how long frames took, and how full buffers were (profile).
 //!
-//! [`delays_by_link`] tells of each link how many copies a port sent, and their least and greatest delay.
+//! [`delays_by_link`] tells of each link how many copies a port sent, and their least and greatest delay; [`peak`] how
+//! full a port's buffer was, and when first.
 //!
-//! Contracts say what the numbers are of the lists of what was admitted and sent. The module `laws` has what holds of them.
+//! Contracts say what the numbers are of the lists of what was admitted, sent and given up.
 #![tactic(auto)]
 
 mod delays;
+mod filling;
 
 pub use delays::{Delays, Range, delays_by_link};
+pub use filling::{Filling, peak};

@@ -107,8 +107,8 @@ impl Settings {
 }
 
 impl Item {
-    /// The instant at which this is queued.
-    fn came(&self, settings: &Settings) -> Stamp
+    /// The instant at which this is queued. O(1).
+    pub fn came(&self, settings: &Settings) -> Stamp
         ensures { result ≡ came settings.now self.now }
     {
         settings.reach(self.stamp)
