@@ -2,3 +2,5 @@ pub mod DelayLemmas
 pub mod Going
 pub mod Fronts
 pub mod Levels
+pub mod MeasureLaws
+pub mod TellLaws

@@ -1,2 +1,3 @@
 pub mod Delays
 pub mod Peak
+pub mod Ports

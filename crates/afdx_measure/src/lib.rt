@@ -1,6 +1,6 @@
 //! What an integrator asks of a run: how long frames took, and how full buffers were (profile).
 //!
-//! [`delays_by_link`] tells of each link how many copies a port sent, and their least and greatest delay; [`peak`] how
+//! [`delays_by_link`] tells of each link how many copies a port sent, and their least and greatest delay; [`peak_at`] how
 //! full a port's buffer was, and when first.
 //!
 //! Contracts say what the numbers are of the lists of what was admitted, sent and given up.
@@ -8,6 +8,9 @@
 
 mod delays;
 mod filling;
+pub mod laws;
+mod port;
 
 pub use delays::{Delays, Range, delays_by_link};
 pub use filling::{Filling, peak};
+pub use port::peak_at;
