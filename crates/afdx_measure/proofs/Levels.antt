@@ -103,14 +103,16 @@ module _ (s : Settings) (admitted : List Item) (sent : List Sent) (aged : List A
       let now : new.held ≡ occupied s t (take k admitted) = omega (arith, held, h.bytes, occupied_is, of_sent.0, of_aged.0) in
       let taken_sent = ap (λ (n : ℕ). sum_by sent_size (take n sent)) sent_new ∙ of_sent.1 in
       let taken_aged = ap (λ (n : ℕ). sum_by aged_size (take n aged)) aged_new ∙ of_aged.1 in
-      let later : (m : ℕ) (y : Item) → k + 1 ≤ m → m < length admitted → t ≤ came s (get_or admitted m y) = λ m y le within. subst (λ (u : ℕ). u ≤ came s (get_or admitted m y)) (start y) (order k m y (omega (arith, le)) within) in
-      (now, record {
-        sent_in = omega (arith, sent_new, more_sent.0);
-        aged_in = omega (arith, aged_new, more_aged.0);
-        bytes = omega (arith, now, occupied_is, of_sent.0, of_aged.0, taken_sent, taken_aged, sum_more k x lt is);
-        sent_gone = λ m n y d le within less. later_sent t (came s (get_or admitted m y)) (get_or sent n d) (later m y le within) (more_sent.1 n d (omega (arith, less, sent_new)));
-        aged_gone = λ m n y d le within less. later_aged t (came s (get_or admitted m y)) (get_or aged n d) (later m y le within) (more_aged.1 n d (omega (arith, less, aged_new)));
-      }) where
+      let later : (m : ℕ) (y : Item) → k + 1 ≤ m → m < length admitted → t ≤ came s (get_or admitted m y) = λ m y le within. subst (λ (u : ℕ). u ≤ came s (get_or admitted m y)) (start y) (order k m y (omega (arith, le)) within) in (
+        now,
+        record {
+          sent_in = omega (arith, sent_new, more_sent.0);
+          aged_in = omega (arith, aged_new, more_aged.0);
+          bytes = omega (arith, now, occupied_is, of_sent.0, of_aged.0, taken_sent, taken_aged, sum_more k x lt is);
+          sent_gone = λ m n y d le within less. later_sent t (came s (get_or admitted m y)) (get_or sent n d) (later m y le within) (more_sent.1 n d (omega (arith, less, sent_new)));
+          aged_gone = λ m n y d le within less. later_aged t (came s (get_or admitted m y)) (get_or aged n d) (later m y le within) (more_aged.1 n d (omega (arith, less, aged_new)));
+        },
+      ) where
         start : (y : Item) → came s (get_or admitted k y) ≡ came s x
         start y = ap (came s) (one y) where
           one : (y : Item) → get_or admitted k y ≡ x

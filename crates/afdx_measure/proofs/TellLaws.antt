@@ -16,7 +16,7 @@ use Rattle.afdx_measure.specs.Peak.{is_fuller, peak_of, IsPeak}
 -- ---- delays
 
 alone : (n v : ℕ) → Contains (n ∷ []) v → n ≡ v
-alone n v h = elim (Contains-push_cases [] n v h) [ | inl none ↦ absurd (let lt = none.1 in omega (arith, lt)) | inr is ↦ is ]
+alone n v h = elim (Contains-push_cases [] n v h) [ inl none ↦ absurd (let lt = none.1 in omega (arith, lt)) | inr is ↦ is ]
 
 picked_more : (n m p v : ℕ) (ns : List ℕ) → (p ≡ n) ⊎ (p ≡ m) → Contains (p ∷ ns) v → Contains (n ∷ m ∷ ns) v
 picked_more n m p v ns choice h = elim (Contains-append_cases (p ∷ []) ns v h) [
@@ -32,10 +32,10 @@ among pick choice n [] = Contains-push [] n
 among pick choice n (m ∷ ns) = picked_more n m (pick n m) (fold pick (pick n m) ns) ns (choice n m) (among pick choice (pick n m) ns)
 
 min_is : (a b : ℕ) → (min a b ≡ a) ⊎ (min a b ≡ b)
-min_is a b = elim (cases_lt a b) [ | inl lt ↦ inl (omega (arith, lt)) | inr le ↦ inr (omega (arith, le)) ]
+min_is a b = elim (cases_lt a b) [ inl lt ↦ inl (omega (arith, lt)) | inr le ↦ inr (omega (arith, le)) ]
 
 max_is : (a b : ℕ) → (max a b ≡ a) ⊎ (max a b ≡ b)
-max_is a b = elim (cases_lt a b) [ | inl lt ↦ inr (omega (arith, lt)) | inr le ↦ inl (omega (arith, le)) ]
+max_is a b = elim (cases_lt a b) [ inl lt ↦ inr (omega (arith, lt)) | inr le ↦ inl (omega (arith, le)) ]
 
 none_below : (n : ℕ) (ns : List ℕ) → (fold min n ns ≤ n) × All (λ k. fold min n ns ≤ k) ns
 none_below n [] = (omega arith, All-nil (λ k. n ≤ k))
@@ -82,9 +82,9 @@ peak_is (f ∷ fs) =
       slice_get-get_or (f ∷ fs) b f first.0 ∙ ap Some best.2,
       λ k d lt. subst (λ (p : Filling). (get_or (f ∷ fs) k d).bytes ≤ p.bytes) (at d) (not_fuller (get_or (f ∷ fs) k d) (get_or (f ∷ fs) b d) (first.1 k d lt)),
       λ k d lt.
-      let less : k < b = omega (arith, lt, length-take b (f ∷ fs)) in
-      subst (λ (p : Filling). p.bytes < (best_of is_fuller f fs).bytes) (sym (get_or-take b (f ∷ fs) k d less))
-      (subst (λ (p : Filling). (get_or (f ∷ fs) k d).bytes < p.bytes) (at d) (fuller_than (get_or (f ∷ fs) b d) (get_or (f ∷ fs) k d) (first.2 k d less))),
+          let less : k < b = omega (arith, lt, length-take b (f ∷ fs)) in
+          subst (λ (p : Filling). p.bytes < (best_of is_fuller f fs).bytes) (sym (get_or-take b (f ∷ fs) k d less))
+          (subst (λ (p : Filling). (get_or (f ∷ fs) k d).bytes < p.bytes) (at d) (fuller_than (get_or (f ∷ fs) b d) (get_or (f ∷ fs) k d) (first.2 k d less))),
     ) where
       one : {a b : Filling} → Some a ≡ Some b → a ≡ b
       one e = (cc)

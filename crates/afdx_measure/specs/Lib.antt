@@ -1,3 +1,4 @@
 pub mod Delays
 pub mod Peak
 pub mod Ports
+pub mod Lines

@@ -62,13 +62,7 @@ fn fuller(peak: Option<Filling>, next: Filling) -> Filling
 {
     match peak {
         None => next,
-        Some(peak) => {
-            if next.bytes > peak.bytes {
-                next
-            } else {
-                peak
-            }
-        }
+        Some(peak) => { if next.bytes > peak.bytes { next } else { peak } }
     }
 }
 
@@ -77,12 +71,7 @@ fn fuller(peak: Option<Filling>, next: Filling) -> Filling
 /// them in the end.
 ///
 /// O(admitted). It takes no memory.
-pub fn peak(
-    settings: Settings,
-    admitted: &[Item],
-    sent: &[Sent],
-    aged: &[Aged],
-) -> Option<Filling>
+pub fn peak(settings: Settings, admitted: &[Item], sent: &[Sent], aged: &[Aged]) -> Option<Filling>
     requires in_order { AllPairs (λ a b. a.stamp ≤ b.stamp) admitted.now }
     requires fit { AllFit settings [] admitted.now }
     requires sent { sent.now ≡ sent_of (service settings 0 admitted.now) }

@@ -9,8 +9,10 @@
 mod delays;
 mod filling;
 pub mod laws;
+mod lines;
 mod port;
 
 pub use delays::{Delays, Range, delays_by_link};
 pub use filling::{Filling, peak};
+pub use lines::{put_link_line, put_peak_line};
 pub use port::peak_at;

@@ -110,8 +110,10 @@ aged_step free (sending s) es le h = record {
 
 from_free : (s : Settings) (free : ℕ) (items : List Item) → SentFrom free (sent_of (service s free items)) × AgedFrom free (aged_of (service s free items))
 from_free s = by_events s (λ free items. SentFrom free (sent_of (service s free items)) × AgedFrom free (aged_of (service s free items)))
-    (λ free. (record { later = All-nil (λ (x : Sent). free ≤ x.end); order = λ i j d lt within. absurd (omega (arith, within)) },
-    record { later = All-nil (λ (x : Aged). free ≤ x.at); order = λ i j d lt within. absurd (omega (arith, within)) }))
+    (λ free. (
+      record { later = All-nil (λ (x : Sent). free ≤ x.end); order = λ i j d lt within. absurd (omega (arith, within)) },
+      record { later = All-nil (λ (x : Aged). free ≤ x.at); order = λ i j d lt within. absurd (omega (arith, within)) },
+    ))
     (λ free first rest ih.
     let e = next s free first rest in
     let more = service s (free_after e) (others s free first rest) in
