@@ -1,15 +1,14 @@
 -- The delays of copies, with one copy more.
-use Rattle.std.proofs.Common.{◌≡◌, ◌≢◌, ℕ, ◌+◌, ◌<◌, ◌≤◌, ◌==◌, min, max, Bool, true, false, cond, List, [], ◌∷◌, ◌++◌, length, take, get_or, set, replicate, map, Option, Some, None, refl, sym, ap, subst, ◌∙◌, arith, append-nil, inl, inr}
+use Rattle.std.proofs.Common.{◌≡◌, ◌≢◌, ℕ, ◌+◌, ◌<◌, ◌≤◌, ◌==◌, Bool, true, false, cond, List, [], ◌∷◌, ◌++◌, length, take, get_or, set, replicate, map, refl, sym, ap, subst, ◌∙◌, arith, append-nil, inl, inr}
 use Rattle.std.specs.Prelude.{filter}
 use Rattle.std.specs.List.{fold}
 use Rattle.std.proofs.lemmas.Bool.{cases_lt}
 use Rattle.std.proofs.lemmas.Bool.Decides.{nat_tests}
-use Rattle.std.proofs.lemmas.List.{length_push, length-set, length-take, length-replicate, map-append, get_or-set_same, get_or-set_other, get_or-replicate, take_more}
+use Rattle.std.proofs.lemmas.List.{length-set, length-take, length-replicate, map-append, get_or-set_same, get_or-set_other, get_or-replicate, take_more}
 use Rattle.std.proofs.lemmas.List.Elements.{filter-append}
 use Rattle.afdx_port.specs.declared.Sent.{Sent}
 use Rattle.afdx_measure.specs.declared.delays.Delays.{Delays}
-use Rattle.afdx_measure.specs.declared.delays.Range.{Range}
-use Rattle.afdx_measure.specs.Delays.{delay_of, delays_of, range_of, told, AreDelays}
+use Rattle.afdx_measure.specs.Delays.{delay_of, delays_of, told, AreDelays}
 
 pub fold_push : {X Y : Type 0} (f : Y → X → Y) (a : Y) (xs : List X) (x : X) → fold f a (xs ++ x ∷ []) ≡ f (fold f a xs) x
 fold_push f a [] x = refl

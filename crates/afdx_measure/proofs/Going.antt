@@ -1,10 +1,10 @@
 -- What passes a test, from a place on, goes.
-use Rattle.std.proofs.Common.{◌≡◌, ℕ, zero, suc, ◌+◌, ◌-◌, ◌<◌, ◌≤◌, Bool, true, false, cond, List, [], ◌∷◌, ◌++◌, length, take, drop, get_or, Some, refl, ap, sym, ◌∙◌, arith}
-use Rattle.std.specs.Prelude.{filter, sum_by}
+use Rattle.std.proofs.Common.{◌≡◌, ℕ, ◌+◌, ◌-◌, ◌<◌, ◌≤◌, Bool, true, false, cond, List, [], ◌∷◌, length, take, drop, get_or, Some, refl, ap, sym, ◌∙◌, arith}
+use Rattle.std.specs.Prelude.{sum_by}
 use Rattle.std.specs.List.{prefix_len, take_while}
 use Rattle.std.proofs.lemmas.List.{drop_more}
 use Rattle.std.proofs.lemmas.Option.{slice_get_read}
-use Rattle.std.proofs.lemmas.List.Sums.{sum_by-cons, sum_by-append, take_while-cons, prefix_len-drop_all, prefix_len-drop_no}
+use Rattle.std.proofs.lemmas.List.Sums.{sum_by-cons, take_while-cons, prefix_len-drop_all, prefix_len-drop_no}
 
 pub record IsOnTheWay {X : Type 0} (p : X → Bool) (f : X → ℕ) (xs : List X) (from full place held : ℕ) : Type 0 where
   pub within : place ≤ length xs

@@ -1,8 +1,7 @@
 -- What is told of the ports of a finished run (profile).
-use Rattle.std.specs.Prelude.{◌≡◌, ℕ, ◌≤◌, List, [], Option, Some, IfSome, All, Contains}
+use Rattle.std.specs.Prelude.{◌≡◌, ℕ, ◌≤◌, List, [], Option, Some, IfSome, All}
 use Rattle.afdx_units.specs.declared.line.Priority.{Priority}
 use Rattle.afdx_table.specs.declared.rows.PortRow.{PortRow}
-use Rattle.afdx_table.specs.Link.{Link}
 use Rattle.afdx_table.specs.Content.{Content}
 use Rattle.afdx_port.specs.declared.Sent.{Sent}
 use Rattle.afdx_load.specs.Sums.{load_of}

@@ -1,4 +1,4 @@
-use Rattle.std.proofs.Common.{◌≡◌, ◌+◌, ◌≤◌, [], take, arith, ap, sym, ◌∙◌}
+use Rattle.std.proofs.Common.{◌≡◌, ◌+◌, [], take, arith, ap, ◌∙◌}
 use Rattle.afdx_port.specs.Service.{came}
 use Rattle.afdx_port.specs.Admission.{occupied}
 use Rattle.afdx_measure.specs.Peak.{peak_of, fillings}

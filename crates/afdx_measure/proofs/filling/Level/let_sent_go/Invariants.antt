@@ -1,4 +1,4 @@
-use Rattle.std.proofs.Common.{length, ◌-◌, ◌≡◌, nat_lt, nat_le}
+use Rattle.std.proofs.Common.{length, ◌-◌, ◌≡◌, nat_le}
 use Rattle.afdx_measure.proofs.Going.{IsOnTheWay}
 use Rattle.afdx_measure.proofs.filling.Level.let_sent_go.Given as goal
 
