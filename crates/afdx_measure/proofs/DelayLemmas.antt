@@ -1,5 +1,6 @@
 -- The delays of copies, with one copy more.
-use Rattle.std.proofs.Common.{◌≡◌, ◌≢◌, ℕ, ◌+◌, ◌<◌, ◌≤◌, ◌==◌, Bool, true, false, cond, List, [], ◌∷◌, ◌++◌, length, take, get_or, set, replicate, map, refl, sym, ap, subst, ◌∙◌, arith, append-nil, inl, inr}
+use Rattle.std.proofs.Common.{◌≡◌, ◌≢◌, ℕ, ◌+◌, ◌<◌, ◌≤◌, ◌==◌, Bool, true, false, cond, List, [], ◌∷◌, ◌++◌}
+use Rattle.std.proofs.Common.{length, take, get_or, set, replicate, map, refl, sym, ap, subst, ◌∙◌, arith, append-nil, inl, inr}
 use Rattle.std.specs.Prelude.{filter}
 use Rattle.std.specs.List.{fold}
 use Rattle.std.proofs.lemmas.Bool.{cases_lt}
@@ -18,7 +19,8 @@ fold_push f a (y ∷ ys) x = fold_push f (f a y) ys x
 
 with_copy : (link : ℕ) (sent : List Sent) (x : Sent) → delays_of link (sent ++ x ∷ []) ≡ delays_of link sent ++ map delay_of (cond (x.item.link == link) (x ∷ []) [])
 with_copy link sent x =
-    ap (map delay_of) (filter-append (λ (y : Sent). y.item.link == link) sent (x ∷ [])) ∙ map-append delay_of (filter (λ (y : Sent). y.item.link == link) sent) (cond (x.item.link == link) (x ∷ []) [])
+    ap (map delay_of) (filter-append (λ (y : Sent). y.item.link == link) sent (x ∷ [])) ∙ map-append delay_of (filter (λ (y : Sent). y.item.link == link) sent) (cond (x.item.link ==
+    link) (x ∷ []) [])
 
 same : (a : ℕ) → (a == a) ≡ true
 same a = grind (arith, nat_tests)
@@ -36,10 +38,11 @@ of_another link sent x h =
 -- there are no more than were sent
 fewer : (link : ℕ) (sent : List Sent) → length (delays_of link sent) ≤ length sent
 fewer link [] = omega arith
-fewer link (x ∷ sent) = elim (x.item.link == link) as (λ b. length (map delay_of (cond b (x ∷ filter (λ (y : Sent). y.item.link == link) sent) (filter (λ (y : Sent). y.item.link == link) sent))) ≤ length (x ∷ sent)) [
-  | true ↦ omega (arith, fewer link sent)
-  | false ↦ omega (arith, fewer link sent)
-]
+fewer link (x ∷ sent) = elim (x.item.link == link) as (λ b. length (map delay_of (cond b (x ∷ filter (λ (y : Sent). y.item.link == link) sent) (filter (λ (y : Sent). y.item.link ==
+    link) sent))) ≤ length (x ∷ sent)) [
+      | true ↦ omega (arith, fewer link sent)
+      | false ↦ omega (arith, fewer link sent)
+    ]
 
 pub no_more_than_sent : (sent : List Sent) (all : List Delays) (link : ℕ) (d : Delays) → link < 65536 → AreDelays sent all → (get_or all link d).count ≤ length sent
 no_more_than_sent sent all link d lt h =
@@ -82,7 +85,8 @@ next_copy sent i x all place delay old new inside is lt place_is delay_is at mor
     let one : new ≡ told (so_far ++ delay_of x ∷ []) =
     more so_far (at ∙ ap (λ (n : ℕ). get_or all n old) place_is ∙ h.each x.item.link old lt) ∙ ap (λ (n : ℕ). told (so_far ++ n ∷ [])) delay_is in
     let longer = take_more sent i x inside ∙ ap (λ (y : Sent). take i sent ++ y ∷ []) (sym is) in
-    subst (λ (n : ℕ). AreDelays (take (i + 1) sent) (set all n new)) (sym place_is) (subst (λ (xs : List Sent). AreDelays xs (set all x.item.link new)) (sym longer) (copy_more (take i sent) x all new lt one h))
+    subst (λ (n : ℕ). AreDelays (take (i + 1) sent) (set all n new)) (sym place_is) (subst (λ (xs : List Sent). AreDelays xs (set all x.item.link new)) (sym longer) (copy_more (take i
+    sent) x all new lt one h))
 
 -- and how many there are so far
 pub still_fewer : (sent : List Sent) (i link : ℕ) (all : List Delays) (d : Delays) → i < length sent → link < 65536 → d ≡ get_or all link d → AreDelays (take i sent) all → d.count ≤ i

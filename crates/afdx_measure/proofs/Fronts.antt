@@ -24,7 +24,8 @@ module _ {X : Type 0} (p : X → Bool) where
   front_is (x ∷ xs) h =
       by (p x) refl (front_is xs (λ i j d lt within. h (suc i) (suc j) d (omega (arith, lt)) (omega (arith, within))))
       (λ no. none_passes xs (λ k d lt passes. apart (sym no ∙ h 0 (suc k) d (omega arith) (omega (arith, lt)) passes))) where
-        by : (b : Bool) → p x ≡ b → filter p xs ≡ take (prefix_len p xs) xs → (p x ≡ false → filter p xs ≡ []) → cond b (x ∷ filter p xs) (filter p xs) ≡ take (cond b (1 + prefix_len p xs) 0) (x ∷ xs)
+        by : (b : Bool) → p x ≡ b → filter p xs ≡ take (prefix_len p xs) xs → (p x ≡ false → filter p xs ≡ [])
+            → cond b (x ∷ filter p xs) (filter p xs) ≡ take (cond b (1 + prefix_len p xs) 0) (x ∷ xs)
         by true is more none =
             let one : 1 + prefix_len p xs ≡ suc (prefix_len p xs) = omega arith in
             ap (λ (ys : List X). x ∷ ys) more ∙ ap (λ (n : ℕ). take n (x ∷ xs)) (sym one)

@@ -81,7 +81,8 @@ module _ (s : Settings) (admitted : List Item) (sent : List Sent) (aged : List A
       ap (λ (xs : List Sent). gone (came s x) xs aged) sent_is ∙ ap (gone (came s x) (sent_of (service s 0 admitted))) aged_is in
       ap (λ (n : ℕ). occupied s (came s x) (take k admitted) + n) lists ∙ sym same ∙ all
 
-  sum_more : (k : ℕ) (x : Item) → k < length admitted → x ≡ get_or admitted k x → sum_by (λ (item : Item). item.size) (take (k + 1) admitted) ≡ sum_by (λ (item : Item). item.size) (take k admitted) + x.size
+  sum_more : (k : ℕ) (x : Item) → k < length admitted → x ≡ get_or admitted k x → sum_by (λ (item : Item). item.size) (take (k + 1) admitted) ≡ sum_by (λ (item : Item). item.size)
+      (take k admitted) + x.size
   sum_more k x lt is =
       ap (sum_by (λ (item : Item). item.size)) (take_more admitted k x lt ∙ ap (λ (y : Item). take k admitted ++ y ∷ []) (sym is)) ∙ sum_by_push (λ (item : Item). item.size) (take k admitted) x
 
@@ -93,8 +94,10 @@ module _ (s : Settings) (admitted : List Item) (sent : List Sent) (aged : List A
   let_go k x old new lt is h held sent_new aged_new =
       let t = came s x in
       let at : came s (get_or admitted k x) ≡ t = ap (came s) (sym is) in
-      let sent_passed : (n : ℕ) (d : Sent) → n < old.sent → ended t (get_or sent n d) ≡ true = λ n d less. ap (λ (u : ℕ). ended u (get_or sent n d)) (sym at) ∙ h.sent_gone k n x d (omega arith) lt less in
-      let aged_passed : (n : ℕ) (d : Aged) → n < old.aged → given_up t (get_or aged n d) ≡ true = λ n d less. ap (λ (u : ℕ). given_up u (get_or aged n d)) (sym at) ∙ h.aged_gone k n x d (omega arith) lt less in
+      let sent_passed : (n : ℕ) (d : Sent) → n < old.sent → ended t (get_or sent n d) ≡ true = λ n d less. ap (λ (u : ℕ). ended u (get_or sent n d)) (sym at) ∙ h.sent_gone k n x d
+      (omega arith) lt less in
+      let aged_passed : (n : ℕ) (d : Aged) → n < old.aged → given_up t (get_or aged n d) ≡ true = λ n d less. ap (λ (u : ℕ). given_up u (get_or aged n d)) (sym at) ∙ h.aged_gone k n x
+      d (omega arith) lt less in
       let of_sent = sum_of_front (ended t) sent_size sent old.sent (is_sent_front t) h.sent_in sent_passed in
       let of_aged = sum_of_front (given_up t) aged_size aged old.aged (is_aged_front t) h.aged_in aged_passed in
       let more_sent = passed_more (ended t) sent old.sent h.sent_in sent_passed in
@@ -103,7 +106,8 @@ module _ (s : Settings) (admitted : List Item) (sent : List Sent) (aged : List A
       let now : new.held ≡ occupied s t (take k admitted) = omega (arith, held, h.bytes, occupied_is, of_sent.0, of_aged.0) in
       let taken_sent = ap (λ (n : ℕ). sum_by sent_size (take n sent)) sent_new ∙ of_sent.1 in
       let taken_aged = ap (λ (n : ℕ). sum_by aged_size (take n aged)) aged_new ∙ of_aged.1 in
-      let later : (m : ℕ) (y : Item) → k + 1 ≤ m → m < length admitted → t ≤ came s (get_or admitted m y) = λ m y le within. subst (λ (u : ℕ). u ≤ came s (get_or admitted m y)) (start y) (order k m y (omega (arith, le)) within) in (
+      let later : (m : ℕ) (y : Item) → k + 1 ≤ m → m < length admitted → t ≤ came s (get_or admitted m y) = λ m y le within. subst (λ (u : ℕ). u ≤ came s (get_or admitted m y)) (start
+      y) (order k m y (omega (arith, le)) within) in (
         now,
         record {
           sent_in = omega (arith, sent_new, more_sent.0);
@@ -116,9 +120,10 @@ module _ (s : Settings) (admitted : List Item) (sent : List Sent) (aged : List A
         start : (y : Item) → came s (get_or admitted k y) ≡ came s x
         start y = ap (came s) (one y) where
           one : (y : Item) → get_or admitted k y ≡ x
-          one y = let both = slice_get-get_or admitted k y lt in let here = slice_get_read admitted (length admitted) k x refl lt is in (let e : Some (get_or admitted k y) ≡ Some x = sym both ∙ here in some e) where
-            some : {a b : Item} → Some a ≡ Some b → a ≡ b
-            some e = (cc)
+          one y = let both = slice_get-get_or admitted k y lt in let here = slice_get_read admitted (length admitted) k x refl lt is in (let e : Some (get_or admitted k y) ≡ Some x =
+              sym both ∙ here in some e) where
+                some : {a b : Item} → Some a ≡ Some b → a ≡ b
+                some e = (cc)
 
   -- the same, in two steps
   pub step : (k t size : ℕ) (x : Item) (old mid new : Level) → k < length admitted → x ≡ get_or admitted k x → t ≡ came s x → size ≡ x.size → IsLevel s admitted sent aged k old
@@ -138,12 +143,15 @@ module _ (s : Settings) (admitted : List Item) (sent : List Sent) (aged : List A
 pub fillings_push : (s : Settings) (before items : List Item) (x : Item) → fillings s before (items ++ x ∷ []) ≡ fillings s before items ++ filling s (before ++ items) x ∷ []
 fillings_push s before [] x = ap (λ (all : List Item). filling s all x ∷ []) (sym (append-nil before))
 fillings_push s before (y ∷ items) x =
-    ap (λ fs. filling s before y ∷ fs) (fillings_push s (before ++ y ∷ []) items x ∙ ap (λ (all : List Item). fillings s (before ++ y ∷ []) items ++ filling s all x ∷ []) (append_assoc before (y ∷ []) items))
+    ap (λ fs. filling s before y ∷ fs) (fillings_push s (before ++ y ∷ []) items x ∙ ap (λ (all : List Item). fillings s (before ++ y ∷ []) items ++ filling s all x ∷ []) (append_assoc
+    before (y ∷ []) items))
 
 -- each fits
-pub fits_at : (s : Settings) (before items : List Item) (k : ℕ) (x : Item) → k < length items → x ≡ get_or items k x → AllFit s before items → x.size + occupied s (came s x) (before ++ take k items) ≤ s.buffer
+pub fits_at : (s : Settings) (before items : List Item) (k : ℕ) (x : Item) → k < length items → x ≡ get_or items k x → AllFit s before items
+    → x.size + occupied s (came s x) (before ++ take k items) ≤ s.buffer
 fits_at s before [] k x lt is h = absurd (omega (arith, lt))
-fits_at s before (y ∷ items) zero x lt is h = subst (λ (all : List Item). x.size + occupied s (came s x) all ≤ s.buffer) (sym (append-nil before)) (subst (λ (z : Item). z.size + occupied s (came s z) before ≤ s.buffer) (sym is) h.0)
+fits_at s before (y ∷ items) zero x lt is h = subst (λ (all : List Item). x.size + occupied s (came s x) all ≤ s.buffer) (sym (append-nil before)) (subst (λ (z : Item). z.size +
+    occupied s (came s z) before ≤ s.buffer) (sym is) h.0)
 fits_at s before (y ∷ items) (suc k) x lt is h =
     subst (λ (all : List Item). x.size + occupied s (came s x) all ≤ s.buffer) (append_assoc before (y ∷ []) (take k items)) (fits_at s (before ++ y ∷ []) items k x (omega (arith, lt)) is h.1)
 

@@ -15,5 +15,6 @@ with-requires g c =
 pub loop-copy-preserved : goal.loop-copy-preserved
 loop-copy-preserved g c =
     let link : c.copy-item.result.item.link < 65536 = omega arith in
-    next_copy c.args.sent.now c.loop-copy.copy-index c.copy-item.result c.loop-copy.all.items c.from-place.result c.delay_of.result c.index.result.now c.with.result c.loop-copy-test.true c.copy-item.is link
+    next_copy c.args.sent.now c.loop-copy.copy-index c.copy-item.result c.loop-copy.all.items c.from-place.result c.delay_of.result c.index.result.now c.with.result
+    c.loop-copy-test.true c.copy-item.is link
     c.from-place.ensures c.delay_of.ensures c.index.ensures c.with.ensures c.loop-copy.invariant
