@@ -10,15 +10,17 @@ use Rattle.afdx_table.specs.Content.{Content}
 use Rattle.afdx_port.specs.declared.Settings.{Settings}
 use Rattle.afdx_port.specs.declared.Item.{Item}
 use Rattle.afdx_port.specs.declared.Sent.{Sent}
-use Rattle.afdx_port.specs.Admission.{AllFit, AdmittedFit}
+use Rattle.afdx_port.specs.Admission.{AllFitIn, AdmittedFit}
 use Rattle.afdx_load.specs.Sums.{load_of}
 use Rattle.afdx_isolation.specs.Table.{settings_of, bound_of, IsInBoundAt}
 use Rattle.afdx_core.specs.Rows.{feed_of}
-use Rattle.afdx_core.specs.State.{Run, port_in}
+use Rattle.afdx_core.specs.Agreement.{CopiesHaveTheirLinksPriority}
+use Rattle.afdx_core.specs.Isolation.{AcceptedTablesIsolate, BuffersHoldTheBacklog}
+use Rattle.afdx_core.specs.State.{Run, port_in, sent_in}
 use Rattle.afdx_measure.specs.declared.filling.Filling.{Filling}
 use Rattle.afdx_measure.specs.Delays.{delay_of, delays_of, range_of, told}
 use Rattle.afdx_measure.specs.Peak.{is_fuller, fillings, peak_of}
-use Rattle.afdx_measure.specs.Ports.{peak_at}
+use Rattle.afdx_measure.specs.Ports.{peak_at, AcceptedTablesStayWithinTheLoad}
 
 -- ---- delays
 
@@ -54,16 +56,16 @@ delays_within t p (x ∷ sent) link bound priority within of_one is =
           let bounds = one (sym bounded.bound_is ∙ ap (bound_of (load_of p.speed p.id t.links)) (of_it (same x.item.link link hit)) ∙ is) in
           All-cons (λ k. k ≤ bound) (delay_of x) (delays_of link sent) (omega (arith, bounded.most, bounds)) more
 
-pub delays_are_within : (t : Content) (p : PortRow) (sent : List Sent) (link bound : ℕ) (priority : Priority) → All (IsInBoundAt t p) sent
+delays_are_within : (t : Content) (p : PortRow) (sent : List Sent) (link bound : ℕ) (priority : Priority) → All (IsInBoundAt t p) sent
     → All (λ (x : Sent). x.item.link ≡ link → x.item.priority ≡ priority) sent → bound_of (load_of p.speed p.id t.links) priority ≡ Some bound
     → IfSome (told (delays_of link sent)).range (λ range. range.greatest ≤ bound)
 delays_are_within t p sent link bound priority within of_one is = range_within bound (delays_of link sent) (delays_within t p sent link bound priority within of_one is)
 
 -- ---- peaks
 
-all_fit : (s : Settings) (before items : List Item) → AllFit s before items → All (λ (f : Filling). f.bytes ≤ s.buffer) (fillings s before items)
-all_fit s before [] h = All-nil (λ (f : Filling). f.bytes ≤ s.buffer)
-all_fit s before (x ∷ items) h = All-cons (λ (f : Filling). f.bytes ≤ s.buffer) _ (fillings s (before ++ x ∷ []) items) h.0 (all_fit s (before ++ x ∷ []) items h.1)
+all_fit : (bytes : ℕ) (s : Settings) (before items : List Item) → AllFitIn bytes s before items → All (λ (f : Filling). f.bytes ≤ bytes) (fillings s before items)
+all_fit bytes s before [] h = All-nil (λ (f : Filling). f.bytes ≤ bytes)
+all_fit bytes s before (x ∷ items) h = All-cons (λ (f : Filling). f.bytes ≤ bytes) _ (fillings s (before ++ x ∷ []) items) h.0 (all_fit bytes s (before ++ x ∷ []) items h.1)
 
 best_within : (most : ℕ) (f : Filling) (fs : List Filling) → f.bytes ≤ most → All (λ (g : Filling). g.bytes ≤ most) fs → (best_of is_fuller f fs).bytes ≤ most
 best_within most f [] le h = le
@@ -81,4 +83,15 @@ peak_within most (f ∷ fs) h = best_within most f fs (All-head (λ (g : Filling
 pub peak_is_within : AdmittedFit → (r : Run) (p : PortRow) → IfSome (peak_at r p) (λ f. f.bytes ≤ p.buffer)
 peak_is_within law r p =
     let items = (port_in r p).admitted in
-    peak_within p.buffer (fillings (settings_of p) [] items) (all_fit (settings_of p) [] items (law (settings_of p) (feed_of r.table p.id r.rows)))
+    peak_within p.buffer (fillings (settings_of p) [] items) (all_fit p.buffer (settings_of p) [] items (law (settings_of p) (feed_of r.table p.id r.rows)))
+
+-- ---- accepted tables
+
+pub stay_within : AcceptedTablesIsolate → CopiesHaveTheirLinksPriority → BuffersHoldTheBacklog → AcceptedTablesStayWithinTheLoad
+stay_within isolate priorities hold r run well accepted p among = record {
+  delays = λ l in_table bound is.
+      delays_are_within r.table p (sent_in r (Some p)) l.id bound l.priority ((isolate r run well accepted).in_bound p among) (priorities r p l well in_table) is;
+  buffer = λ bytes holds.
+      let items = (port_in r p).admitted in
+      peak_within bytes (fillings (settings_of p) [] items) (all_fit bytes (settings_of p) [] items (hold r run well accepted p among bytes holds));
+}

@@ -34,7 +34,7 @@ impl Range {
 
 impl Delays {
     /// Those of no copies.
-    fn none() -> Delays
+    pub(crate) fn none() -> Delays
         ensures { result ≡ told [] }
     {
         Delays {

@@ -2,8 +2,11 @@
 
 ghost use Rattle.afdx_measure.specs.Delays.{RangeIsOfDelays};
 ghost use Rattle.afdx_measure.specs.Peak.{PeakIsTheFirstGreatest};
-ghost use Rattle.afdx_measure.specs.Ports.{PeakIsWithinTheBuffer, DelaysAreWithinTheBound};
+ghost use Rattle.afdx_measure.specs.Ports.{PeakIsWithinTheBuffer, AcceptedTablesStayWithinTheLoad};
 
+use afdx_core::laws::{
+    accepted_tables_isolate, buffers_hold_the_backlog, copies_have_their_links_priority,
+};
 use afdx_port::laws::admitted_fit_in_order;
 
 /// The least and the greatest delay are among the delays, and none is below or above them.
@@ -23,7 +26,12 @@ pub fn peak_is_within_the_buffer()
     admitted_fit_in_order();
 }
 
-/// Where each copy was sent within the port's bound, no delay of a link is greater than that of its priority.
-pub fn delays_are_within_the_bound()
-    ensures { DelaysAreWithinTheBound }
-{}
+/// Over an accepted table no delay of a link at a port is greater than the port's bound for its priority, and no port's
+/// buffer ever held more than the least one that its load asks for.
+pub fn accepted_tables_stay_within_the_load()
+    ensures { AcceptedTablesStayWithinTheLoad }
+{
+    accepted_tables_isolate();
+    copies_have_their_links_priority();
+    buffers_hold_the_backlog();
+}

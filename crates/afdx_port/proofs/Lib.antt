@@ -22,3 +22,4 @@ pub mod Lagging
 pub mod Ends
 pub mod Gone
 pub mod Admitted
+pub mod Alike
