@@ -4,3 +4,4 @@ pub mod Fronts
 pub mod Levels
 pub mod MeasureLaws
 pub mod TellLaws
+pub mod Gathered

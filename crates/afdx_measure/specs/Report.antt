@@ -18,23 +18,23 @@ abbrev pub bound_by : Option Sums → Priority → Option ℕ
 bound_by None priority = None
 bound_by (Some load) priority = bound_of load priority
 
--- a port's bound for a priority; none is promised where the load was not checked
+-- a port's bound for a priority, where bounds are promised
 abbrev pub bound_at : Bool → Content → ℕ → Priority → Option ℕ
-bound_at checked t port priority = if checked then bound_by (port_load t port) priority else None
+bound_at promised t port priority = if promised then bound_by (port_load t port) priority else None
 
 -- the line of a link at the port of a number
 abbrev pub line_at : Bool → Run → Link → ℕ → List ℕ
-line_at checked r l port = link_line l.id port (told (delays_of l.id (sent_in r (port_row r.table port)))) (bound_at checked r.table port l.priority)
+line_at promised r l port = link_line l.id port (told (delays_of l.id (sent_in r (port_row r.table port)))) (bound_at promised r.table port l.priority)
 
 -- the lines of a link, and that of a port
 abbrev pub link_lines : Bool → Run → Link → List ℕ
-link_lines checked r l = flat_map (line_at checked r l) l.to
+link_lines promised r l = flat_map (line_at promised r l) l.to
 
 abbrev pub port_line : Run → PortRow → List ℕ
 port_line r p = peak_line p.id p.buffer (peak_at r p)
 
 abbrev pub report_of : Bool → Run → List ℕ
-report_of checked r = flat_map (link_lines checked r) r.table.links ++ flat_map (port_line r) r.table.ports
+report_of promised r = flat_map (link_lines promised r) r.table.links ++ flat_map (port_line r) r.table.ports
 
 -- ---- on the way
 

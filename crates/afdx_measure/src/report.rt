@@ -58,11 +58,11 @@ fn delays_at<A: Allocator + Copy>(
     Delays::none()
 }
 
-/// The port's bound for a priority; none where the load was not checked.
-fn bound_at(checked: bool, loads: &Loads<'_>, port: u8, priority: Priority) -> Option<u128>
-    ensures { result ≡ bound_at checked loads.now port priority }
+/// The port's bound for a priority, where bounds are promised.
+fn bound_at(promised: bool, loads: &Loads<'_>, port: u8, priority: Priority) -> Option<u128>
+    ensures { result ≡ bound_at promised loads.now port priority }
 {
-    if !checked {
+    if !promised {
         return None;
     }
     let bounds = bounds(&loads.at(port)?);
@@ -78,15 +78,16 @@ fn put_link<A: Allocator + Copy>(
     done: &Done<'_, A>,
     all: &[AtPort<A>],
     loads: &Loads<'_>,
+    promised: bool,
     link: &LinkRow,
 ) -> Result<(), AllocError>
     requires all { AreGathered done.now.run done.now.run.table.ports all.now }
     requires loads { loads.now ≡ done.now.run.table }
-    ensures { OnOk result (string_bytes text.new ≡ string_bytes text.old ++ link_lines done.now.accepted done.now.run link.now) }
+    ensures { OnOk result (string_bytes text.new ≡ string_bytes text.old ++ link_lines promised done.now.run link.now) }
 {
     for port in link.to.as_slice() {
         let delays = delays_at(done, all, link.id, *port);
-        let bound = bound_at(done.accepted(), loads, *port, link.priority);
+        let bound = bound_at(promised, loads, *port, link.priority);
         put_link_line(text, link.id, *port, &delays, bound)?;
     }
     Ok(())
@@ -97,15 +98,16 @@ fn put_links<A: Allocator + Copy>(
     text: &mut String<A>,
     done: &Done<'_, A>,
     all: &[AtPort<A>],
+    promised: bool,
 ) -> Result<(), AllocError>
     requires { AreGathered done.now.run done.now.run.table.ports all.now }
     ensures { OnOk result (string_bytes text.new
-        ≡ string_bytes text.old ++ flat_map (link_lines done.now.accepted done.now.run) done.now.run.table.links) }
+        ≡ string_bytes text.old ++ flat_map (link_lines promised done.now.run) done.now.run.table.links) }
 {
     let table = done.table();
     let loads = loads(table);
     for place in 0..table.link_count() {
-        put_link(text, done, all, &loads, table.link_at(place).unwrap())?;
+        put_link(text, done, all, &loads, promised, table.link_at(place).unwrap())?;
     }
     Ok(())
 }
@@ -125,15 +127,20 @@ fn put_ports<A: Allocator + Copy>(
 }
 
 /// What is told of a finished switch: a line for each link and each of its output ports, then a line for each port.
+/// Bounds are told where they are promised: where the table was checked, and accepted.
 ///
 /// An error says that a growth was refused. O(copies) and O(ports) for each line; 2 MiB for each port.
-pub fn report<A: Allocator + Copy>(alloc: A, done: &Done<'_, A>) -> Result<String<A>, AllocError>
+pub fn report<A: Allocator + Copy>(
+    alloc: A,
+    done: &Done<'_, A>,
+    promised: bool,
+) -> Result<String<A>, AllocError>
     requires { done.now.run.finished ≡ true }
-    ensures { IfOk result (λ text. string_bytes text ≡ report_of done.now.accepted done.now.run) }
+    ensures { IfOk result (λ text. string_bytes text ≡ report_of promised done.now.run) }
 {
     let all = gather(alloc, done)?;
     let mut text = String::new(alloc);
-    put_links(&mut text, done, &all)?;
+    put_links(&mut text, done, &all, promised)?;
     put_ports(&mut text, done)?;
     Ok(text)
 }
