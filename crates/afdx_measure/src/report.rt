@@ -65,7 +65,8 @@ fn bound_at(promised: bool, loads: &Loads<'_>, port: u8, priority: Priority) -> 
     if !promised {
         return None;
     }
-    let bounds = bounds(&loads.at(port)?);
+    let load = loads.at(port)?;
+    let bounds = bounds(&load);
     match priority {
         Priority::High => bounds.high,
         Priority::Low => bounds.low,
