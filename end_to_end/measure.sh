@@ -21,6 +21,11 @@ within() {
         awk 'NR == FNR { least[$2] = $6; next } $1 == "out" && $2 in least && $4 + 0 > least[$2] + 0 { exit 1 }' loads.txt lines.txt
 }
 
+# shows_readme: the lines that README shows are among them.
+shows_readme() {
+    [ "$(grep -cxFf lines.txt "$top/README.md")" -eq 4 ]
+}
+
 # tied_as_modelled: captures full of ties, most of them at ports where frames are lost.
 tied_as_modelled() {
     local seed
@@ -41,6 +46,7 @@ sed 's/^mbit = .*/mbit = 10/; s/^buffer = .*/buffer = 1000/; s/^max_delay_us = .
 mkdir none && for port in 1 2 3 4; do head -c 24 "$network/in/port-$port.pcap" >"none/port-$port.pcap"; done
 
 check "the example network, within its bounds and its least buffers" within "$network/table.toml" "$network/in"
+check "README shows some of these lines" shows_readme
 check "the same with no bounds" as_modelled "$network/table.toml" "$network/in" --unchecked
 check "tight ports, where frames are full and aged" as_modelled tight.toml "$network/in" --unchecked
 check "nothing is sent" as_modelled "$network/table.toml" none
