@@ -4,7 +4,7 @@ use Rattle.std.specs.Prelude.{find}
 use Rattle.afdx_table.specs.declared.rows.PortRow.{PortRow}
 use Rattle.afdx_table.specs.Content.{port_row}
 use Rattle.afdx_core.specs.State.{Run, sent_in}
-use Rattle.afdx_measure.specs.declared.report.AtPort.{AtPort}
+use Rattle.afdx_measure.specs.declared.telling.AtPort.{AtPort}
 use Rattle.afdx_measure.specs.Delays.{delays_of, told, AreDelays}
 use Rattle.afdx_measure.specs.Report.{AreGathered}
 

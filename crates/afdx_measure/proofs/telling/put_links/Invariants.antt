@@ -1,7 +1,7 @@
 use Rattle.std.proofs.Common.{◌≡◌, ◌++◌, drop, string_bytes}
 use Rattle.std.specs.Prelude.{flat_map}
 use Rattle.afdx_measure.specs.Report.{link_lines}
-use Rattle.afdx_measure.proofs.report.put_links.Given as goal
+use Rattle.afdx_measure.proofs.telling.put_links.Given as goal
 
 abbrev pub invariant-loop-place : goal.invariant-loop-place
 invariant-loop-place g l =

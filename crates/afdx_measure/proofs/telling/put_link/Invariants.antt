@@ -1,7 +1,7 @@
 use Rattle.std.proofs.Common.{◌≡◌, ◌++◌, drop, string_bytes}
 use Rattle.std.specs.Prelude.{flat_map}
 use Rattle.afdx_measure.specs.Report.{line_at}
-use Rattle.afdx_measure.proofs.report.put_link.Given as goal
+use Rattle.afdx_measure.proofs.telling.put_link.Given as goal
 
 abbrev pub invariant-loop-port : goal.invariant-loop-port
 invariant-loop-port g l =
