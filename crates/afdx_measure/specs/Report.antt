@@ -8,7 +8,7 @@ use Rattle.afdx_table.specs.Content.{Content, port_row}
 use Rattle.afdx_load.specs.Sums.{Sums, port_load}
 use Rattle.afdx_isolation.specs.Table.{bound_of}
 use Rattle.afdx_core.specs.State.{Run, sent_in}
-use Rattle.afdx_measure.specs.declared.report.AtPort.{AtPort}
+use Rattle.afdx_measure.specs.declared.telling.AtPort.{AtPort}
 use Rattle.afdx_measure.specs.Delays.{delays_of, told, AreDelays}
 use Rattle.afdx_measure.specs.Ports.{peak_at}
 use Rattle.afdx_measure.specs.Lines.{link_line, peak_line}

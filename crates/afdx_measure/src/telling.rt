@@ -108,7 +108,14 @@ fn put_links<A: Allocator + Copy>(
     let table = done.table();
     let loads = loads(table);
     for place in 0..table.link_count() {
-        put_link(text, done, all, &loads, promised, table.link_at(place).unwrap())?;
+        put_link(
+            text,
+            done,
+            all,
+            &loads,
+            promised,
+            table.link_at(place).unwrap(),
+        )?;
     }
     Ok(())
 }
