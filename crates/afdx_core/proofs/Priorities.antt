@@ -16,8 +16,7 @@ use Rattle.afdx_port.specs.Course.{EventsAreOfItems}
 use Rattle.afdx_isolation.specs.Table.{settings_of}
 use Rattle.afdx_core.specs.declared.kinds.Row.{Row}
 use Rattle.afdx_core.specs.Rows.{named, passes, item_of as copy_of, copies_by, copies, each_after, feed_of}
-use Rattle.afdx_core.specs.State.{Run, port_in}
-use Rattle.afdx_core.specs.Agreement.{CopiesHaveTheirLinksPriority}
+use Rattle.afdx_core.specs.State.{Run, port_in, sent_in}
 use Rattle.afdx_core.proofs.Isolating.{named_by}
 
 -- what holds of all that is offered holds of all that is admitted, and of all that is sent
@@ -63,7 +62,8 @@ module _ (links : LinksAreFound) (t : Content) (well : IsWellFormed t) (l : Link
   unfolding feed_of
   feed_is port rows = offered_are port [] rows
 
-pub have_their_priority : LinksAreFound → EventsAreOfItems → CopiesHaveTheirLinksPriority
+pub have_their_priority : LinksAreFound → EventsAreOfItems → (r : Run) (p : PortRow) (l : Link) → IsWellFormed r.table → Contains r.table.links l
+    → All (λ (x : Sent). IsAs l x.item) (sent_in r (Some p))
 have_their_priority links events r p l well among =
     let items = (port_in r p).admitted in
     let all : All (IsAs l) items = all_admitted (IsAs l) (settings_of p) [] (feed_of r.table p.id r.rows) (All-nil (IsAs l)) (feed_is links r.table well l among p.id r.rows) in

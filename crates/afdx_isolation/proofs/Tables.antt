@@ -28,7 +28,7 @@ use Rattle.afdx_load.specs.Laws.{AsksWhatItsAccountGives, EachLinkAsks, Accepted
 use Rattle.afdx_isolation.specs.Flow.{Flow, IsPaidFor, Carries, AreDistinct, high_flows, low_flows, rates, bursts, longest, load_of, bound}
 use Rattle.afdx_isolation.specs.Arrivals.{frame_of, IsClean, own, is_passed, joins, feed_of}
 use Rattle.afdx_isolation.specs.Claims.{Arrive, IsInBound, IsIsolatedSoFar, IsolatesSoFar, NoneIsFull}
-use Rattle.afdx_isolation.specs.Table.{settings_of, flow_of, frames_for, flows_at, IsCleanIn, ArriveAt, bound_of, AcceptedTablesIsolate, BuffersHoldTheBacklog, OthersChangeNothingInTables}
+use Rattle.afdx_isolation.specs.Table.{settings_of, flow_of, frames_for, flows_at, IsCleanIn, ArriveAt, bound_of, AcceptedTablesIsolate, OthersChangeNothingInTables}
 use Rattle.afdx_isolation.proofs.Sums.{among_filter}
 use Rattle.afdx_isolation.proofs.Levels.{joined, none_joined, passed_link}
 
@@ -340,7 +340,9 @@ none_past pays asks some keeps full t arrivals h row among bytes holds =
     let load : Carries s flows = carries own asks (routed row.id t.links) (λ has. let c = accepted has in record { rate = c.rate; buffer = holds; high = c.high; low = c.low }) bounds in
     full s flows arrivals arrive load.rate load.buffer
 
-pub holds_backlog : PricesPay → AsksWhatItsAccountGives → EachLinkAsks → AcceptedKeepsBounds → NoneIsFull → AdmittedFit → BuffersServeAlike → AcceptedTablesIsolate → BuffersHoldTheBacklog
+pub holds_backlog : PricesPay → AsksWhatItsAccountGives → EachLinkAsks → AcceptedKeepsBounds → NoneIsFull → AdmittedFit → BuffersServeAlike → AcceptedTablesIsolate
+    → (t : Content) (arrivals : List Item) → ArriveAt t arrivals → (row : PortRow) → Contains t.ports row → (bytes : ℕ) → backlog (sums_at row.speed row.id t.links) ≤ byte_time row.speed bytes
+    → AllFitIn bytes (settings_of row) [] (admitted (settings_of row) (feed_of (flows_at t row) arrivals))
 holds_backlog pays asks some keeps full fit alike isolate t arrivals h row among bytes holds =
     let s = settings_of row in
     let feed = feed_of (flows_at t row) arrivals in

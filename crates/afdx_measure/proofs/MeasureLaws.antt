@@ -1,26 +1,30 @@
 -- The laws of what is told.
 use Rattle.std.proofs.Common.{◌≡◌, ℕ, ◌≤◌, ◌==◌, max, Bool, true, false, cond, List, [], ◌∷◌, ◌++◌, map, Some, refl, sym, ap, ◌∙◌, arith}
-use Rattle.std.specs.Prelude.{filter, IfSome, All}
+use Rattle.std.specs.Prelude.{filter, IfSome, All, Contains}
 use Rattle.std.specs.List.{fold, best_of}
 use Rattle.std.proofs.lemmas.Bool.Decides.{nat_tests}
 use Rattle.std.proofs.lemmas.List.Elements.{All-nil, All-cons, All-head, All-tail}
 use Rattle.afdx_units.specs.declared.line.Priority.{Priority}
 use Rattle.afdx_table.specs.declared.rows.PortRow.{PortRow}
+use Rattle.afdx_table.specs.Link.{Link}
 use Rattle.afdx_table.specs.Content.{Content}
+use Rattle.afdx_table.specs.WellFormed.{IsWellFormed}
 use Rattle.afdx_port.specs.declared.Settings.{Settings}
 use Rattle.afdx_port.specs.declared.Item.{Item}
 use Rattle.afdx_port.specs.declared.Sent.{Sent}
 use Rattle.afdx_port.specs.Admission.{AllFitIn, AdmittedFit}
 use Rattle.afdx_load.specs.Sums.{load_of}
+use Rattle.afdx_load.specs.Bounds.{backlog, byte_time}
+use Rattle.afdx_load.specs.Accepted.{IsAccepted}
 use Rattle.afdx_isolation.specs.Table.{settings_of, bound_of, IsInBoundAt}
 use Rattle.afdx_core.specs.Rows.{feed_of}
 use Rattle.afdx_core.specs.Agreement.{CopiesHaveTheirLinksPriority}
-use Rattle.afdx_core.specs.Isolation.{AcceptedTablesIsolate, BuffersHoldTheBacklog}
+use Rattle.afdx_core.specs.Isolation.{IsRun, AcceptedTablesIsolate, BuffersHoldTheBacklog}
 use Rattle.afdx_core.specs.State.{Run, port_in, sent_in}
 use Rattle.afdx_measure.specs.declared.filling.Filling.{Filling}
 use Rattle.afdx_measure.specs.Delays.{delay_of, delays_of, range_of, told}
 use Rattle.afdx_measure.specs.Peak.{is_fuller, fillings, peak_of}
-use Rattle.afdx_measure.specs.Ports.{peak_at, AcceptedTablesStayWithinTheLoad}
+use Rattle.afdx_measure.specs.Ports.{peak_at}
 
 -- ---- delays
 
@@ -87,11 +91,14 @@ peak_is_within law r p =
 
 -- ---- accepted tables
 
-pub stay_within : AcceptedTablesIsolate → CopiesHaveTheirLinksPriority → BuffersHoldTheBacklog → AcceptedTablesStayWithinTheLoad
-stay_within isolate priorities hold r run well accepted p among = record {
-  delays = λ l in_table bound is.
-      delays_are_within r.table p (sent_in r (Some p)) l.id bound l.priority ((isolate r run well accepted).in_bound p among) (priorities r p l well in_table) is;
-  buffer = λ bytes holds.
-      let items = (port_in r p).admitted in
-      peak_within bytes (fillings (settings_of p) [] items) (all_fit bytes (settings_of p) [] items (hold r run well accepted p among bytes holds));
-}
+pub bounded : AcceptedTablesIsolate → CopiesHaveTheirLinksPriority → (r : Run) → IsRun r → IsWellFormed r.table → IsAccepted r.table → (p : PortRow) → Contains r.table.ports p
+    → (l : Link) → Contains r.table.links l → (bound : ℕ) → bound_of (load_of p.speed p.id r.table.links) l.priority ≡ Some bound
+    → IfSome (told (delays_of l.id (sent_in r (Some p)))).range (λ range. range.greatest ≤ bound)
+bounded isolate priorities r run well accepted p among l in_table bound is =
+    delays_are_within r.table p (sent_in r (Some p)) l.id bound l.priority ((isolate r run well accepted).in_bound p among) (priorities r p l well in_table) is
+
+pub held : BuffersHoldTheBacklog → (r : Run) → IsRun r → IsWellFormed r.table → IsAccepted r.table → (p : PortRow) → Contains r.table.ports p
+    → (bytes : ℕ) → backlog (load_of p.speed p.id r.table.links) ≤ byte_time p.speed bytes → IfSome (peak_of (fillings (settings_of p) [] (port_in r p).admitted)) (λ f. f.bytes ≤ bytes)
+held hold r run well accepted p among bytes holds =
+    let items = (port_in r p).admitted in
+    peak_within bytes (fillings (settings_of p) [] items) (all_fit bytes (settings_of p) [] items (hold r run well accepted p among bytes holds))
