@@ -1,5 +1,5 @@
 -- A switch's rows as the arrivals of the ports' laws: the headline.
-use Rattle.std.proofs.Common.{◌≡◌, ℕ, ◌≤◌, ◌<◌, ◌==◌, Bool, true, false, cond, ◌&&◌, nat_eq, List, [], ◌∷◌, ◌++◌, length, map, filter, get_or, Option, Some, None, refl, ap, sym, ◌∙◌, arith, append-nil, append_assoc}
+use Rattle.std.proofs.Common.{◌≡◌, ℕ, ◌≤◌, ◌<◌, ◌==◌, Bool, true, false, cond, ◌&&◌, nat_eq, List, [], ◌∷◌, ◌++◌, length, map, filter, get_or, Option, Some, None, refl, ap, sym, ◌∙◌, subst, arith, append-nil, append_assoc}
 use Rattle.std.specs.Prelude.{All, Contains}
 use Rattle.std.proofs.lemmas.List.{map-append, get_or_default}
 use Rattle.std.proofs.lemmas.List.Elements.{All-nil, All-cons, All-head, All-tail, All-append, filter-append}
@@ -9,6 +9,7 @@ use Rattle.afdx_table.specs.Link.{Link, leads_to}
 use Rattle.afdx_table.specs.Content.{Content, link_row}
 use Rattle.afdx_table.specs.WellFormed.{IsWellFormed}
 use Rattle.afdx_table.specs.Found.{LinksAreFound}
+use Rattle.afdx_load.specs.Bounds.{backlog, byte_time}
 use Rattle.afdx_load.specs.Accepted.{IsAccepted}
 use Rattle.afdx_filter.specs.declared.outcome.Verdict.{Verdict}
 use Rattle.afdx_filter.specs.declared.outcome.Verdict.TheVariants.{Cut, Short, Long, Foreign, NoLink, WrongPort, TooBig, Clean}
@@ -18,10 +19,10 @@ use Rattle.afdx_account.specs.Policing.{Terms, conforms, passed_of, passed_frame
 use Rattle.afdx_account.specs.Level.{InOrder}
 use Rattle.afdx_account.specs.Laws.{NextJoinsWhereItConforms, PassedByTheirFrames}
 use Rattle.afdx_port.specs.declared.Item.{Item}
-use Rattle.afdx_port.specs.Admission.{admitted}
+use Rattle.afdx_port.specs.Admission.{admitted, AllFitIn}
 use Rattle.afdx_isolation.specs.Arrivals.{own, joins, feed_after, feed_of as offered_of}
-use Rattle.afdx_isolation.specs.Table.{flows_at, IsCleanIn, OffersWhatThePolicingPasses, AcceptedTablesIsolate as TablesIsolate, IsIsolatedAt, settings_of}
-use Rattle.afdx_load.specs.Sums.{terms_of}
+use Rattle.afdx_isolation.specs.Table.{flows_at, IsCleanIn, OffersWhatThePolicingPasses, AcceptedTablesIsolate as TablesIsolate, BuffersHoldTheBacklog as TablesHoldTheBacklog, ArriveAt, IsIsolatedAt, settings_of}
+use Rattle.afdx_load.specs.Sums.{terms_of, load_of}
 use Rattle.afdx_core.specs.declared.kinds.Row.{Row}
 use Rattle.afdx_core.specs.Rows.{frame_of, account_frames, says_clean, passes, named, item_of, copies_by, copies, each_after, feed_of}
 use Rattle.afdx_core.specs.State.{Run, port_in}
@@ -194,10 +195,16 @@ module _ (links : LinksAreFound) (have_link : CleanFramesHaveALink) (offers : Of
   abbrev arrivals : List Item
   arrivals = clean_copies r.table r.rows
 
+  arrive : ArriveAt r.table arrivals
+  arrive = record { well_formed = well; accepted = accepted; stamps = in_order links r.table r.rows run.stamps; clean = all_clean links r.table well have_link r.rows run.arrivals }
+
   at_port : (p : PortRow) → Contains r.table.ports p → IsIsolatedAt r.table p arrivals (port_in r p)
-  at_port p among = isolate r.table arrivals
-      (record { well_formed = well; accepted = accepted; stamps = in_order links r.table r.rows run.stamps; clean = all_clean links r.table well have_link r.rows run.arrivals })
-      p among (port_in r p) refl (ap (admitted (settings_of r.table.latency p)) (offered_is links r.table well offers p r.rows))
+  at_port p among = isolate r.table arrivals arrive p among (port_in r p) refl (ap (admitted (settings_of r.table.latency p)) (offered_is links r.table well offers p r.rows))
+
+  pub holds_backlog : TablesHoldTheBacklog → (p : PortRow) → Contains r.table.ports p → (bytes : ℕ) → backlog (load_of p.speed p.id r.table.links) ≤ byte_time p.speed bytes
+      → AllFitIn bytes (settings_of r.table.latency p) [] (port_in r p).admitted
+  holds_backlog hold p among bytes holds =
+      subst (λ (feed : List Item). AllFitIn bytes (settings_of r.table.latency p) [] (admitted (settings_of r.table.latency p) feed)) (sym (offered_is links r.table well offers p r.rows)) (hold r.table arrivals arrive p among bytes holds)
 
   pub isolated : IsIsolated r
   isolated = record {

@@ -1,7 +1,9 @@
--- What ports are offered of a link.
-use Rattle.std.specs.Prelude.{◌≡◌, ℕ, ◌==◌, true, List, map, filter, Some, Contains}
+-- What ports are offered of a link, and what they send of it.
+use Rattle.std.specs.Prelude.{◌≡◌, ℕ, ◌==◌, true, List, map, filter, Some, All, Contains}
+use Rattle.afdx_table.specs.declared.rows.PortRow.{PortRow}
 use Rattle.afdx_table.specs.Link.{Link, leads_to}
 use Rattle.afdx_table.specs.Content.{Content, link_row}
+use Rattle.afdx_table.specs.WellFormed.{IsWellFormed}
 use Rattle.afdx_filter.specs.declared.outcome.Verdict.{Verdict}
 use Rattle.afdx_filter.specs.declared.outcome.Verdict.TheVariants.{Clean}
 use Rattle.afdx_account.specs.declared.frame.Frame.{Frame}
@@ -10,6 +12,7 @@ use Rattle.afdx_port.specs.declared.Item.{Item}
 use Rattle.afdx_load.specs.Sums.{terms_of}
 use Rattle.afdx_core.specs.declared.kinds.Row.{Row}
 use Rattle.afdx_core.specs.Rows.{says_clean, named, account_frames, feed_of}
+use Rattle.afdx_core.specs.State.{Run, sent_in}
 
 abbrev pub frame_in : Item → Frame
 frame_in item = record { stamp = item.stamp; size = item.size }
@@ -27,3 +30,8 @@ FeedIsPassed = (t : Content) (i port : ℕ) (l : Link) (rows : List Row) → lin
 pub record VerdictsNameLinks : Type 0 where
   pub named_link : (t : Content) (v : Verdict) (l : Link) → named t v ≡ Some l → (v ≡ Clean l.id) × (link_row t l.id ≡ Some l) × Contains t.links l
   pub clean : (i : ℕ) (v : Verdict) → says_clean i v ≡ true → v ≡ Clean i
+
+-- a copy that a port sent of a link has the link's priority
+abbrev pub CopiesHaveTheirLinksPriority : Type 0
+CopiesHaveTheirLinksPriority = (r : Run) (p : PortRow) (l : Link) → IsWellFormed r.table → Contains r.table.links l
+    → All (λ x. x.item.link ≡ l.id → x.item.priority ≡ l.priority) (sent_in r (Some p))

@@ -6,6 +6,7 @@ use Rattle.afdx_table.specs.declared.rows.PortRow.{PortRow}
 use Rattle.afdx_table.specs.Link.{Link, leads_to}
 use Rattle.afdx_table.specs.Content.{Content}
 use Rattle.afdx_table.specs.WellFormed.{IsWellFormed}
+use Rattle.afdx_load.specs.Bounds.{backlog, byte_time}
 use Rattle.afdx_load.specs.Accepted.{IsAccepted}
 use Rattle.afdx_account.specs.declared.frame.Frame.{Frame}
 use Rattle.afdx_account.specs.Policing.{passed_of, passed_frames}
@@ -14,8 +15,9 @@ use Rattle.afdx_port.specs.declared.Item.{Item}
 use Rattle.afdx_port.specs.declared.Sent.{Sent}
 use Rattle.afdx_port.specs.declared.Offer.TheVariants.{Queued}
 use Rattle.afdx_isolation.specs.Arrivals.{own}
-use Rattle.afdx_isolation.specs.Table.{IsInBoundAt}
-use Rattle.afdx_load.specs.Sums.{terms_of}
+use Rattle.afdx_port.specs.Admission.{AllFitIn}
+use Rattle.afdx_isolation.specs.Table.{settings_of, IsInBoundAt}
+use Rattle.afdx_load.specs.Sums.{terms_of, load_of}
 use Rattle.afdx_core.specs.declared.kinds.Row.{Row}
 use Rattle.afdx_core.specs.Rows.{row_of, frame_of, account_frames, named, item_of, each_after, feed_of}
 use Rattle.afdx_core.specs.State.{Run, fresh_run, port_in, sent_in, aged_in, refusal_of, offers_of, after_row, after_advance, after_handing, after_finish}
@@ -75,6 +77,11 @@ pub record IsIsolated (r : Run) : Type 0 where
 
 abbrev pub AcceptedTablesIsolate : Type 0
 AcceptedTablesIsolate = (r : Run) → IsRun r → IsWellFormed r.table → IsAccepted r.table → IsIsolated r
+
+-- whatever number of bytes holds all that a port's links may ask for at once, its buffer never held more
+abbrev pub BuffersHoldTheBacklog : Type 0
+BuffersHoldTheBacklog = (r : Run) → IsRun r → IsWellFormed r.table → IsAccepted r.table → (p : PortRow) → Contains r.table.ports p
+    → (bytes : ℕ) → backlog (load_of p.speed p.id r.table.links) ≤ byte_time p.speed bytes → AllFitIn bytes (settings_of p) [] (port_in r p).admitted
 
 -- and no port answers Full to a copy of the next arrival
 abbrev pub NoStepIsFull : Type 0

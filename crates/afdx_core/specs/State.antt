@@ -52,7 +52,11 @@ port_after t rows latest finished p = record { settings = settings_of t.latency 
 abbrev pub port_in : Run → PortRow → PortContent
 port_in r p = port_after r.table r.rows r.latest r.finished p
 
--- what the port of a number sent so far, and what it gave up
+-- what the port of a number admitted so far, what it sent, and what it gave up
+abbrev pub admitted_in : Run → Option PortRow → List Item
+admitted_in r None = []
+admitted_in r (Some p) = (port_in r p).admitted
+
 abbrev pub sent_in : Run → Option PortRow → List Sent
 sent_in r None = []
 sent_in r (Some p) = sent_of (done (port_in r p))

@@ -1,7 +1,7 @@
 //! Laws over the definitions.
 
-ghost use Rattle.afdx_core.specs.Agreement.{FeedIsPassed, VerdictsNameLinks};
-ghost use Rattle.afdx_core.specs.Isolation.{PassedCopiesArePassedFrames, AcceptedTablesIsolate, NoStepIsFull, OthersChangeNothing, RunsBegin, RunsTakeArrivals, RunsAdvance, RunsHandOut, RunsFinish};
+ghost use Rattle.afdx_core.specs.Agreement.{FeedIsPassed, VerdictsNameLinks, CopiesHaveTheirLinksPriority};
+ghost use Rattle.afdx_core.specs.Isolation.{PassedCopiesArePassedFrames, AcceptedTablesIsolate, BuffersHoldTheBacklog, NoStepIsFull, OthersChangeNothing, RunsBegin, RunsTakeArrivals, RunsAdvance, RunsHandOut, RunsFinish};
 ghost use Rattle.afdx_core.specs.Merge.{MergedIsAMerge, MergedIsByStampAndPort};
 
 use afdx_account::laws::{
@@ -11,6 +11,7 @@ use afdx_filter::laws::clean_frames_have_a_link;
 use afdx_isolation::laws as isolation;
 use afdx_isolation::laws::offers_what_the_policing_passes;
 use afdx_port::Item;
+use afdx_port::laws::service_is_of_items;
 use afdx_table::laws::links_are_found;
 
 /// A port that a link leads to is offered exactly what the link's policing passes of its own frames.
@@ -25,6 +26,14 @@ pub fn verdicts_name_links()
     ensures { VerdictsNameLinks }
 {
     links_are_found();
+}
+
+/// What a port sent of a link has the link's priority.
+pub fn copies_have_their_links_priority()
+    ensures { CopiesHaveTheirLinksPriority }
+{
+    links_are_found();
+    service_is_of_items();
 }
 
 /// Where no port's stamps fall, the program's merge is a merge.
@@ -55,6 +64,18 @@ pub fn accepted_tables_isolate()
     clean_frames_have_a_link();
     offers_what_the_policing_passes();
     isolation::accepted_tables_isolate();
+}
+
+/// Over an accepted table no port's buffer ever holds more than any number of bytes that holds what its links may ask
+/// for at once.
+pub fn buffers_hold_the_backlog()
+    ensures { BuffersHoldTheBacklog }
+{
+    links_are_found();
+    clean_frames_have_a_link();
+    offers_what_the_policing_passes();
+    isolation::accepted_tables_isolate();
+    isolation::buffers_hold_the_backlog();
 }
 
 /// Whatever calls a switch takes, in any order, its rows are those of arrivals whose stamps did not fall.

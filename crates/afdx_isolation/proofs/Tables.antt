@@ -15,18 +15,19 @@ use Rattle.afdx_account.specs.Laws.{PassedByTheirFrames, PricesPay}
 use Rattle.afdx_port.specs.declared.Item.{Item}
 use Rattle.afdx_port.specs.declared.Sent.{Sent}
 use Rattle.afdx_port.specs.Service.{sent_of, is_high}
-use Rattle.afdx_port.specs.Admission.{admitted}
+use Rattle.afdx_port.specs.Admission.{admitted, AdmittedFit, AllFitIn, with_buffer, BuffersServeAlike}
 use Rattle.afdx_port.specs.Content.{Content as PortContent, done}
 use Rattle.afdx_table.specs.declared.rows.PortRow.{PortRow}
 use Rattle.afdx_table.specs.Link.{Link, leads_to}
 use Rattle.afdx_table.specs.Content.{Content}
 use Rattle.afdx_table.specs.WellFormed.{IsLink, IsWellFormed}
 use Rattle.afdx_load.specs.Sums.{behind, parts, is_high_priority, is_high as is_high_link, is_low as is_low_link, routed, rate_of, burst_of, time_of, greatest, sums_of, load_of as sums_at, terms_of}
+use Rattle.afdx_load.specs.Bounds.{backlog, byte_time}
 use Rattle.afdx_load.specs.Accepted.{Carries as CarriesSums}
 use Rattle.afdx_load.specs.Laws.{AsksWhatItsAccountGives, EachLinkAsks, AcceptedKeepsBounds}
 use Rattle.afdx_isolation.specs.Flow.{Flow, IsPaidFor, Carries, AreDistinct, high_flows, low_flows, rates, bursts, longest, load_of, bound}
 use Rattle.afdx_isolation.specs.Arrivals.{frame_of, IsClean, own, is_passed, joins, feed_of}
-use Rattle.afdx_isolation.specs.Claims.{Arrive, IsInBound, IsIsolatedSoFar, IsolatesSoFar}
+use Rattle.afdx_isolation.specs.Claims.{Arrive, IsInBound, IsIsolatedSoFar, IsolatesSoFar, NoneIsFull}
 use Rattle.afdx_isolation.specs.Table.{settings_of, flow_of, frames_for, flows_at, IsCleanIn, ArriveAt, bound_of, AcceptedTablesIsolate, OthersChangeNothingInTables}
 use Rattle.afdx_isolation.proofs.Sums.{among_filter}
 use Rattle.afdx_isolation.proofs.Levels.{joined, none_joined, passed_link}
@@ -325,6 +326,36 @@ isolated_at pays asks some keeps isolates t arrivals h row among c settings is =
           };
       front_of_passed = λ link in_table leads. all.front (flow_of row.speed link) (of_map (flow_of row.speed) links link (among_filter (leads_to row.id) t.links link in_table leads));
     }
+
+-- a row with a buffer of so many bytes admits all that its port is offered, where they hold the backlog
+none_past : PricesPay → AsksWhatItsAccountGives → EachLinkAsks → AcceptedKeepsBounds → NoneIsFull → (t : Content) (arrivals : List Item) → ArriveAt t arrivals → (row : PortRow) → Contains t.ports row
+    → (bytes : ℕ) → backlog (sums_at row.speed row.id t.links) ≤ byte_time row.speed bytes
+    → admitted (with_buffer bytes (settings_of row)) (feed_of (flows_at t row) arrivals) ≡ feed_of (flows_at t row) arrivals
+none_past pays asks some keeps full t arrivals h row among bytes holds =
+    let own : PortRow = record { id = row.id; speed = row.speed; buffer = bytes; max_delay = row.max_delay } in
+    let s = settings_of own in
+    let flows = flows_at t own in
+    let arrive : Arrive s flows arrivals = record {
+      paid = paid t own h.well_formed pays asks some;
+      distinct = distinct t own h.well_formed;
+      stamps = h.stamps;
+      clean = All-weaker (IsCleanIn t) (IsClean flows) (λ x is. clean t own h.well_formed x is) arrivals h.clean;
+    } in
+    let bounds : KeepsBounds own asks (routed row.id t.links) = All-contains (λ (row : PortRow). KeepsBounds row asks (routed row.id t.links)) t.ports row (keeps t h.well_formed h.accepted) among in
+    let accepted = All-contains (λ (row : PortRow). 0 < (sums_at row.speed row.id t.links).highs + (sums_at row.speed row.id t.links).lows → CarriesSums row (sums_at row.speed row.id t.links)) t.ports row h.accepted among in
+    let load : Carries s flows = carries own asks (routed row.id t.links) (λ has. let c = accepted has in record { rate = c.rate; buffer = holds; high = c.high; low = c.low }) bounds in
+    full s flows arrivals arrive load.rate load.buffer
+
+pub holds_backlog : PricesPay → AsksWhatItsAccountGives → EachLinkAsks → AcceptedKeepsBounds → NoneIsFull → AdmittedFit → BuffersServeAlike → AcceptedTablesIsolate
+    → (t : Content) (arrivals : List Item) → ArriveAt t arrivals → (row : PortRow) → Contains t.ports row → (bytes : ℕ) → backlog (sums_at row.speed row.id t.links) ≤ byte_time row.speed bytes
+    → AllFitIn bytes (settings_of row) [] (admitted (settings_of row) (feed_of (flows_at t row) arrivals))
+holds_backlog pays asks some keeps full fit alike isolate t arrivals h row among bytes holds =
+    let s = settings_of row in
+    let feed = feed_of (flows_at t row) arrivals in
+    let none = none_past pays asks some keeps full t arrivals h row among bytes holds in
+    let c : PortContent = record { settings = s; admitted = admitted s feed; horizon = 0; finished = true } in
+    let all : admitted s feed ≡ feed = (isolate t arrivals h row among c refl refl).none_full in
+    subst (λ (items : List Item). AllFitIn bytes s [] items) (none ∙ sym all) (alike s bytes (admitted (with_buffer bytes s) feed) (fit (with_buffer bytes s) feed))
 
 pub others_in_tables : PassedByTheirFrames Item → AcceptedTablesIsolate → OthersChangeNothingInTables
 others_in_tables by_frames isolate t t' arrivals arrivals' h h' row row' among among' link link' in_table in_table' leads leads' terms same c c' settings settings' admits admits' ends ends' =

@@ -10,14 +10,14 @@ use Rattle.afdx_port.specs.declared.Settings.{Settings}
 use Rattle.afdx_port.specs.declared.Item.{Item}
 use Rattle.afdx_port.specs.declared.Sent.{Sent}
 use Rattle.afdx_port.specs.Service.{sent_of, aged_of}
-use Rattle.afdx_port.specs.Admission.{admitted}
+use Rattle.afdx_port.specs.Admission.{admitted, AllFitIn}
 use Rattle.afdx_port.specs.Content.{Content as PortContent, done}
 use Rattle.afdx_table.specs.declared.rows.PortRow.{PortRow}
 use Rattle.afdx_table.specs.Link.{Link, leads_to}
 use Rattle.afdx_table.specs.Content.{Content}
 use Rattle.afdx_table.specs.WellFormed.{IsWellFormed}
 use Rattle.afdx_load.specs.Sums.{Sums, routed, load_of, terms_of, weight_of}
-use Rattle.afdx_load.specs.Bounds.{high_bound, low_bound}
+use Rattle.afdx_load.specs.Bounds.{high_bound, low_bound, backlog, byte_time}
 use Rattle.afdx_load.specs.Accepted.{IsAccepted}
 use Rattle.afdx_isolation.specs.Flow.{Flow}
 use Rattle.afdx_isolation.specs.Arrivals.{frame_of, StampsDoNotFall, own, joins, feed_of}
@@ -79,6 +79,12 @@ abbrev pub AcceptedTablesIsolate : Type 0
 AcceptedTablesIsolate = (t : Content) (arrivals : List Item) → ArriveAt t arrivals → (row : PortRow) → Contains t.ports row
     → (c : PortContent) → c.settings ≡ settings_of t.latency row → c.admitted ≡ admitted (settings_of t.latency row) (feed_of (flows_at t row) arrivals)
     → IsIsolatedAt t row arrivals c
+
+-- whatever number of bytes holds all that a port's links may ask for at once, its buffer never held more
+abbrev pub BuffersHoldTheBacklog : Type 0
+BuffersHoldTheBacklog = (t : Content) (arrivals : List Item) → ArriveAt t arrivals → (row : PortRow) → Contains t.ports row
+    → (bytes : ℕ) → backlog (load_of row.speed row.id t.links) ≤ byte_time row.speed bytes
+    → AllFitIn bytes (settings_of row) [] (admitted (settings_of row) (feed_of (flows_at t row) arrivals))
 
 -- a copy of an arrival of a link is offered to a port exactly where the link leads there and its policing passes the frame
 abbrev pub OffersWhatThePolicingPasses : Type 0

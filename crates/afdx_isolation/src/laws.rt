@@ -2,7 +2,7 @@
 
 ghost use Rattle.afdx_isolation.specs.Ground.{Ground};
 ghost use Rattle.afdx_isolation.specs.Kept.{IsKeptAtFirst, IsKeptOverTime, IsKeptByWhatIsPaidFor, WhatIsPaidForFits};
-ghost use Rattle.afdx_isolation.specs.Table.{OffersWhatThePolicingPasses, AcceptedTablesIsolate, OthersChangeNothingInTables};
+ghost use Rattle.afdx_isolation.specs.Table.{OffersWhatThePolicingPasses, AcceptedTablesIsolate, BuffersHoldTheBacklog, OthersChangeNothingInTables};
 ghost use Rattle.afdx_isolation.specs.Claims.{PotentialsHold, NoneIsFull, HighKeepsBound, LowKeepsBound, Isolates, IsolatesSoFar, OthersChangeNothing};
 
 use afdx_account::laws::{
@@ -11,8 +11,9 @@ use afdx_account::laws::{
 use afdx_load::laws::{accepted_keeps_bounds, asks_what_its_account_gives, each_link_asks};
 use afdx_port::Item;
 use afdx_port::laws::{
-    arrivals_change_nothing_earlier, arrivals_join_the_line, events_follow_the_line, keeps_order,
-    line_goes_on, service_is_of_items, work_bounds_bytes, work_is_of_the_line,
+    admitted_fit_in_order, arrivals_change_nothing_earlier, arrivals_join_the_line,
+    buffers_serve_alike, events_follow_the_line, keeps_order, line_goes_on, service_is_of_items,
+    work_bounds_bytes, work_is_of_the_line,
 };
 
 /// The laws of the crates below that these stand on.
@@ -103,6 +104,21 @@ pub fn accepted_tables_isolate()
     each_link_asks();
     accepted_keeps_bounds();
     isolates_so_far();
+}
+
+/// Under an accepted table, whatever arrives, no port's buffer ever holds more than any number of bytes that holds what
+/// its links may ask for at once.
+pub fn buffers_hold_the_backlog()
+    ensures { BuffersHoldTheBacklog }
+{
+    prices_pay();
+    asks_what_its_account_gives();
+    each_link_asks();
+    accepted_keeps_bounds();
+    none_is_full();
+    admitted_fit_in_order();
+    buffers_serve_alike();
+    accepted_tables_isolate();
 }
 
 /// At a port of a table, a copy of a link's frame is offered exactly where the link leads there and passes the frame.

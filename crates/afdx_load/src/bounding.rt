@@ -8,7 +8,7 @@ use crate::sums::Load;
 use afdx_units::Speed;
 
 /// The whole of a line, in the parts in which rates are told.
-pub(crate) const PARTS: u64 = 2_048_000_000;
+pub const PARTS: u64 = 2_048_000_000;
 
 /// What may wait and be on the line at once, in parts of a nanosecond.
 pub(crate) fn backlog(load: &Load) -> u128

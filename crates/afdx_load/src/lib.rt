@@ -17,7 +17,7 @@ mod port_loads;
 mod share;
 mod sums;
 
-pub use bounding::{bounds, least_buffer};
+pub use bounding::{PARTS, bounds, least_buffer};
 pub use breaking::breaks;
 pub use checking::check;
 pub use cleared::Cleared;

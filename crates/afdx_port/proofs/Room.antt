@@ -76,7 +76,7 @@ all_stay_start s t free first rest le =
     filter-yes (stays t) e (serve (length rest) s (free_after e) (others s free first rest)) (stays-next s t free first rest le) ∙ ap (λ es. e ∷ es) (all_stay (length rest) s t (free_after e) (others s free first rest) (omega (arith, free_after-next s free first rest)))
 
 -- nothing of what is left at t has gone at t
-left_stays : (s : Settings) (t free : ℕ) (items : List Item) → filter (stays t) (service s (left s t free items).free (left s t free items).waiting) ≡ service s (left s t free items).free (left s t free items).waiting
+pub left_stays : (s : Settings) (t free : ℕ) (items : List Item) → filter (stays t) (service s (left s t free items).free (left s t free items).waiting) ≡ service s (left s t free items).free (left s t free items).waiting
 left_stays s t = by_steps s t (λ free items. filter (stays t) (service s (left s t free items).free (left s t free items).waiting) ≡ service s (left s t free items).free (left s t free items).waiting)
     (λ free. refl)
     (λ free first rest lt ih. rw (left-step s t free first rest lt) ih)

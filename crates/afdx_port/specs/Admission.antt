@@ -1,5 +1,5 @@
 -- Which items a port admits to its buffer (profile).
-use Rattle.std.specs.Prelude.{ℕ, ◌+◌, ◌<◌, ◌≤◌, ◌≡◌, Bool, not, nat_lt, nat_le, if◌then◌else◌, List, [], ◌∷◌, ◌++◌, filter, sum_by}
+use Rattle.std.specs.Prelude.{ℕ, ◌+◌, ◌<◌, ◌≤◌, ◌≡◌, ⊤, Bool, not, nat_lt, nat_le, if◌then◌else◌, List, [], ◌∷◌, ◌++◌, filter, sum_by, AllPairs}
 use Rattle.afdx_port.specs.declared.Settings.{Settings}
 use Rattle.afdx_port.specs.declared.Item.{Item}
 use Rattle.afdx_port.specs.Service.{came, Event, sending, aging, item_of, service, before}
@@ -43,3 +43,28 @@ admit_all s admitted (x ∷ feed) = admit_all s (admit s admitted x) feed
 -- the items of a feed that are admitted
 abbrev pub admitted : Settings → List Item → List Item
 admitted s feed = admit_all s [] feed
+
+-- each of these would fit beside those before it into so many bytes
+abbrev pub AllFitIn : ℕ → Settings → List Item → List Item → Type 0
+AllFitIn bytes s before [] = ⊤
+AllFitIn bytes s before (x ∷ items) = (x.size + occupied s (came s x) before ≤ bytes) × AllFitIn bytes s (before ++ x ∷ []) items
+
+-- each of these fits beside those before it
+abbrev pub AllFit : Settings → List Item → List Item → Type 0
+AllFit s before items = AllFitIn s.buffer s before items
+
+-- the laws: so does each that was admitted
+abbrev pub AdmittedFit : Type 0
+AdmittedFit = (s : Settings) (feed : List Item) → AllFit s [] (admitted s feed)
+
+-- what is admitted of a feed whose stamps do not fall is in order
+abbrev pub AdmittedInOrder : Type 0
+AdmittedInOrder = (s : Settings) (feed : List Item) → AllPairs (λ a b. a.stamp ≤ b.stamp) feed → AllPairs (λ a b. a.stamp ≤ b.stamp) (admitted s feed)
+
+-- a port like it, with a buffer of so many bytes
+abbrev pub with_buffer : ℕ → Settings → Settings
+with_buffer bytes s = record { speed = s.speed; buffer = bytes; max_delay = s.max_delay }
+
+-- what a port does with what it admitted, and when, does not rest on the size of its buffer
+abbrev pub BuffersServeAlike : Type 0
+BuffersServeAlike = (s : Settings) (bytes : ℕ) (items : List Item) → AllFit (with_buffer bytes s) [] items → AllFitIn bytes s [] items

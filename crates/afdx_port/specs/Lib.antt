@@ -1,6 +1,7 @@
 pub mod Service
 pub mod Events
 pub mod Admission
+pub mod Gone
 pub mod Content
 pub mod Progress
 pub mod Order

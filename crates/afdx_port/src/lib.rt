@@ -111,8 +111,8 @@ impl Settings {
 }
 
 impl Item {
-    /// The instant in nanoseconds at which this is queued.
-    fn came(&self, settings: &Settings) -> u64
+    /// The instant in nanoseconds at which this is queued. O(1).
+    pub fn came(&self, settings: &Settings) -> u64
         requires { settings.now.latency ≤ 100000 }
         ensures { result ≡ came settings.now self.now }
     {

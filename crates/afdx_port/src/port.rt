@@ -192,6 +192,13 @@ impl<A: Allocator + Copy> Port<A> {
         }
     }
 
+    /// What was admitted so far, in order. O(1).
+    pub fn admitted(&self) -> &[Item]
+        ensures { result.now ≡ self.now.content.admitted }
+    {
+        &self.admitted
+    }
+
     /// What was sent so far, in order of its start. O(1).
     pub fn sent(&self) -> &[Sent]
         ensures { result.now ≡ sent_of (done self.now.content) }

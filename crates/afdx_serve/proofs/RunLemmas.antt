@@ -9,10 +9,12 @@ use Rattle.afdx_session.specs.Texts.{Text, texts_of}
 use Rattle.afdx_session.specs.Outcome.{Results, IsOutcome}
 use Rattle.afdx_session.specs.Headline.{IsIsolated}
 use Rattle.afdx_words.specs.declared.request.Paths.{Paths}
+use Rattle.afdx_words.specs.declared.request.Inputs.{Inputs}
 use Rattle.afdx_serve.specs.declared.failure.Failure.{Failure}
 use Rattle.afdx_serve.specs.declared.failure.Failure.TheVariants as failure
 use Rattle.afdx_serve.specs.Files.{Files, DeviceLog, KeepsFiles, PutsFiles, one_more}
-use Rattle.afdx_serve.specs.Runs.{LeadsTo, names_in, bytes_of, FailsToPut, FailsToRun, HasPlan, HasCaptures, FailsToGetAll, FailsToGather, FailsToLead, capture_name}
+use Rattle.afdx_serve.specs.Measures.{IsMeasured, MeasuresTo}
+use Rattle.afdx_serve.specs.Runs.{inputs_of, LeadsTo, names_in, bytes_of, FailsToPut, FailsToRun, HasPlan, HasCaptures, FailsToGetAll, FailsToGather, FailsToLead, capture_name}
 use Rattle.std.specs.Io.KnownBytes.{Keeps}
 use Rattle.afdx_serve.specs.Serving.{world, PutsResults, FailsToRunAll}
 use Rattle.afdx_serve.proofs.FileLemmas.{PutsFiles-before, StopsAt-before, ShowsAll-before, GetsUpTo-before}
@@ -56,9 +58,9 @@ module _ (paths : Paths) (results : Results) (a b c : Option Files) (first befor
 
 -- ---- what the files lead to
 
-module _ (paths : Paths) (a b : Option Files) (t : Content) (first before after : DeviceLog) (plan : HasPlan a paths t) (keeps : KeepsFiles a b) (same : before ≡ first) where
+module _ (inputs : Inputs) (a b : Option Files) (t : Content) (first before after : DeviceLog) (plan : HasPlan a inputs t) (keeps : KeepsFiles a b) (same : before ≡ first) where
   -- a capture was not got
-  pub not_gathered : (f : Failure) → FailsToGetAll f b paths.input.now t before after → FailsToGather f paths a first after
+  pub not_gathered : (f : Failure) → FailsToGetAll f b inputs.input.now t before after → FailsToGather f inputs a first after
   not_gathered (failure.Get name) h = (h.1 ∙ ap (one_more (string_bytes name)) same, inr (t, plan, GetsUpTo-before _ _ a b t keeps h.0))
   not_gathered failure.Memory h = tt
   not_gathered failure.Usage h = absurd h
@@ -70,11 +72,11 @@ module _ (paths : Paths) (a b : Option Files) (t : Content) (first before after 
   not_gathered failure.Read h = absurd h
   not_gathered failure.Write h = absurd h
 
-  module _ (captures : List Text) (got : HasCaptures b paths.input.now t captures) (count : after ≡ before) where
-    has_captures : HasCaptures a paths.input.now t captures
+  module _ (captures : List Text) (got : HasCaptures b inputs.input.now t captures) (count : after ≡ before) where
+    has_captures : HasCaptures a inputs.input.now t captures
     has_captures = (got.0, ShowsAll-before a b _ _ keeps got.1)
 
-    not_led : (f : Failure) → FailsToLead f t captures → FailsToGather f paths a first after
+    not_led : (f : Failure) → FailsToLead f t captures → FailsToGather f inputs a first after
     not_led (failure.PortCapture p r) h = (t, captures, plan, has_captures, h, count ∙ same)
     not_led failure.Memory h = tt
     not_led failure.Usage h = absurd h
@@ -87,13 +89,26 @@ module _ (paths : Paths) (a b : Option Files) (t : Content) (first before after 
     not_led failure.Write h = absurd h
 
     -- what the captures lead to is what the files lead to
-    pub gathered : (cleared : Bool) → cleared ≡ not paths.unchecked → (r : Result Results Failure)
-        → MatchResult r (λ o. IsOutcome t captures o × (cleared ≡ true → IsIsolated t captures o)) (λ f. FailsToLead f t captures)
-        → MatchResult r (λ o. LeadsTo paths a o × (after ≡ first)) (λ f. FailsToGather f paths a first after)
-    gathered cleared is (Ok o) h =
-        let isolated = λ (checked : paths.unchecked ≡ false). h.1 (is ∙ ap not checked) in
-        (record { table = t; captures = captures; has_plan = plan; has_captures = has_captures; outcome = h.0; isolated = isolated }, count ∙ same)
-    gathered cleared is (Err f) h = not_led f h
+    leads_as : {X : Type 0} (P Q : X → Type 0) → ((x : X) → P x → Q x) → (r : Result X Failure) → MatchResult r P (λ f. FailsToLead f t captures)
+        → MatchResult r (λ x. Q x × (after ≡ first)) (λ f. FailsToGather f inputs a first after)
+    leads_as P Q as (Ok x) h = (as x h, count ∙ same)
+    leads_as P Q as (Err f) h = not_led f h
+
+    pub measured : (r : Result (String Global) Failure) → MatchResult r (λ text. IsMeasured (not inputs.unchecked) t captures (string_bytes text)) (λ f. FailsToLead f t captures)
+        → MatchResult r (λ text. MeasuresTo inputs a (string_bytes text) × (after ≡ first)) (λ f. FailsToGather f inputs a first after)
+    measured = leads_as (λ text. IsMeasured (not inputs.unchecked) t captures (string_bytes text)) (λ text. MeasuresTo inputs a (string_bytes text))
+        (λ text h. record { table = t; captures = captures; has_plan = plan; has_captures = has_captures; measured = h })
+
+module _ (paths : Paths) (a b : Option Files) (t : Content) (first before after : DeviceLog) (plan : HasPlan a (inputs_of paths) t) (keeps : KeepsFiles a b) (same : before ≡ first) where
+  pub gathered : (captures : List Text) → HasCaptures b paths.input.now t captures → after ≡ before → (cleared : Bool) → cleared ≡ not paths.unchecked → (r : Result Results Failure)
+      → MatchResult r (λ o. IsOutcome t captures o × (cleared ≡ true → IsIsolated t captures o)) (λ f. FailsToLead f t captures)
+      → MatchResult r (λ o. LeadsTo paths a o × (after ≡ first)) (λ f. FailsToGather f (inputs_of paths) a first after)
+  gathered captures got count cleared is =
+      leads_as (inputs_of paths) a b t first before after plan keeps same captures got count (λ o. IsOutcome t captures o × (cleared ≡ true → IsIsolated t captures o)) (LeadsTo paths a)
+      (λ o h. record {
+        table = t; captures = captures; has_plan = plan;
+        has_captures = has_captures (inputs_of paths) a b t first before after plan keeps same captures got count;
+        outcome = h.0; isolated = λ (checked : paths.unchecked ≡ false). h.1 (is ∙ ap not checked) })
 
 -- there are as many names as captures
 pub same_count : {Z : Type 0} (path : List ℕ) (names : List (String Global)) (captures : List (ℕ × Vec ℕ Z)) → map (λ (s : String Global). string_bytes s) names ≡ names_in path (texts_of captures)

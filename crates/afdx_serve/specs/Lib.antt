@@ -12,3 +12,4 @@ pub mod Runs
 pub mod Checks
 pub mod Sizes
 pub mod Serving
+pub mod Measures

@@ -11,6 +11,7 @@ use Rattle.afdx_session.specs.Reading.{IsFirstFault}
 use Rattle.afdx_session.specs.Outcome.{Results, IsOutcome}
 use Rattle.afdx_session.specs.Headline.{IsIsolated}
 use Rattle.afdx_words.specs.declared.request.Paths.{Paths}
+use Rattle.afdx_words.specs.declared.request.Inputs.{Inputs}
 use Rattle.afdx_serve.specs.declared.failure.Failure.{Failure}
 use Rattle.afdx_serve.specs.declared.failure.Failure.TheVariants as failure
 use Rattle.afdx_serve.specs.Files.{Files, Shows, ShowsAll, KeepsFiles, KeepsOthers, PutsFiles, DeviceLog, one_more}
@@ -37,9 +38,13 @@ HasTable files path t = (text : List ℕ) × Shows files path text × (table_of 
 abbrev pub HasNoTable : Option Files → List ℕ → TableFault → Type 0
 HasNoTable files path refusal = (text : List ℕ) × Shows files path text × (table_of text ≡ Err refusal)
 
+-- what a run is made of, beside where it goes
+abbrev pub inputs_of : Paths → Inputs
+inputs_of paths = record { table = paths.table; input = paths.input; unchecked = paths.unchecked }
+
 -- the file is the text of this table, which is accepted unless the run is unchecked
-abbrev pub HasPlan : Option Files → Paths → Content → Type 0
-HasPlan files paths t = HasTable files paths.table.now t × (paths.unchecked ≡ false → IsAccepted t)
+abbrev pub HasPlan : Option Files → Inputs → Content → Type 0
+HasPlan files inputs t = HasTable files inputs.table.now t × (inputs.unchecked ≡ false → IsAccepted t)
 
 -- these are the captures of the table's ports in the folder
 abbrev pub HasCaptures : Option Files → List ℕ → Content → List Text → Type 0
@@ -49,7 +54,7 @@ HasCaptures files path t captures = AreOfPorts t captures × ShowsAll files (nam
 pub record LeadsTo (paths : Paths) (files : Option Files) (results : Results) : Type 0 where
   pub table : Content
   pub captures : List Text
-  pub has_plan : HasPlan files paths table
+  pub has_plan : HasPlan files (inputs_of paths) table
   pub has_captures : HasCaptures files paths.input.now table captures
   pub outcome : IsOutcome table captures results
   -- the headline, of what is put: no link disturbs another, none is lost, each is in time
@@ -111,18 +116,18 @@ FailsToLead failure.Memory t captures = Unit {0}
 FailsToLead _ t captures = ⊥
 
 -- the files lead to nothing
-abbrev pub FailsToGather : Failure → Paths → Option Files → DeviceLog → DeviceLog → Type 0
-FailsToGather (failure.Table refusal) paths files before after = HasNoTable files paths.table.now refusal × (after ≡ before)
-FailsToGather (failure.Get name) paths files before after =
-    (after ≡ one_more (string_bytes name) before) × ((string_bytes name ≡ paths.table.now)
-    ⊎ ((t : Content) × HasPlan files paths t × GetsUpTo (string_bytes name) files paths.input.now t))
-FailsToGather (failure.PortCapture port fault) paths files before after =
-    (t : Content) × (captures : List Text) × HasPlan files paths t × HasCaptures files paths.input.now t captures
+abbrev pub FailsToGather : Failure → Inputs → Option Files → DeviceLog → DeviceLog → Type 0
+FailsToGather (failure.Table refusal) inputs files before after = HasNoTable files inputs.table.now refusal × (after ≡ before)
+FailsToGather (failure.Get name) inputs files before after =
+    (after ≡ one_more (string_bytes name) before) × ((string_bytes name ≡ inputs.table.now)
+    ⊎ ((t : Content) × HasPlan files inputs t × GetsUpTo (string_bytes name) files inputs.input.now t))
+FailsToGather (failure.PortCapture port fault) inputs files before after =
+    (t : Content) × (captures : List Text) × HasPlan files inputs t × HasCaptures files inputs.input.now t captures
     × IsFirstFault captures port fault × (after ≡ before)
-FailsToGather (failure.Load fault) paths files before after =
-    (paths.unchecked ≡ false) × ((t : Content) × HasTable files paths.table.now t × (first_fault t.latency t.links t.ports ≡ Some fault) × (after ≡ before))
-FailsToGather failure.Memory paths files before after = Unit {0}
-FailsToGather _ paths files before after = ⊥
+FailsToGather (failure.Load fault) inputs files before after =
+    (inputs.unchecked ≡ false) × ((t : Content) × HasTable files inputs.table.now t × (first_fault t.latency t.links t.ports ≡ Some fault) × (after ≡ before))
+FailsToGather failure.Memory inputs files before after = Unit {0}
+FailsToGather _ inputs files before after = ⊥
 
 -- a file was not put
 abbrev pub FailsToPutOne : Failure → List ℕ → DeviceLog → DeviceLog → Type 0
@@ -147,4 +152,4 @@ StopsRun name paths old new =
 abbrev pub FailsToRun : Failure → Paths → Option Files → Option Files → DeviceLog → DeviceLog → Type 0
 FailsToRun (failure.Put name) paths old new before after = StopsRun (string_bytes name) paths old new × (after ≡ one_more (string_bytes name) before)
 FailsToRun failure.Memory paths old new before after = KeepsFiles old new ⊎ ((name : List ℕ) × StopsRun name paths old new)
-FailsToRun f paths old new before after = FailsToGather f paths old before after × KeepsFiles old new
+FailsToRun f paths old new before after = FailsToGather f (inputs_of paths) old before after × KeepsFiles old new

@@ -4,6 +4,7 @@ use Rattle.std.specs.Io.KnownBytes.{Appends, Keeps}
 use Rattle.afdx_pcap.specs.Fault.{IsFault}
 use Rattle.afdx_words.specs.declared.link.Alone.{Alone}
 use Rattle.afdx_words.specs.declared.request.Paths.{Paths}
+use Rattle.afdx_words.specs.declared.request.Inputs.{Inputs}
 use Rattle.afdx_words.specs.declared.request.Request.{Request}
 use Rattle.afdx_words.specs.declared.request.Request.TheVariants as request
 use Rattle.afdx_words.specs.Requests.{Asks, AskForHelp, AreRefused}
@@ -17,7 +18,8 @@ use Rattle.afdx_serve.specs.Sizes.{AreSizesIn}
 use Rattle.afdx_serve.specs.Files.{Files, DeviceLog, KeepsFiles, PutsFiles, one_more}
 use Rattle.afdx_session.specs.Outcome.{Results}
 use Rattle.afdx_serve.specs.Output.{AppendsFront}
-use Rattle.afdx_serve.specs.Runs.{HasTable, HasNoTable, LeadsTo, FailsToRun, names_in, bytes_of, report_in}
+use Rattle.afdx_serve.specs.Measures.{MeasuresTo}
+use Rattle.afdx_serve.specs.Runs.{HasTable, HasNoTable, LeadsTo, FailsToGather, FailsToRun, names_in, bytes_of, report_in}
 
 -- what commands work on, as far as it is told
 pub record World : Type 0 where
@@ -117,6 +119,17 @@ abbrev pub FailsToRunAll : Failure → Paths → World → World → Type 0
 FailsToRunAll failure.Write paths old new = (results : Results) × PutsResults paths old new results × AppendsFront old.written new.written (report_in results)
 FailsToRunAll f paths old new = FailsToRun f paths old.files new.files old.failed new.failed × WritesNothing old new
 
+-- ---- what is told of a run
+
+-- the files lead to this text, which was written; nothing was put
+abbrev pub Measures : Inputs → World → World → Type 0
+Measures inputs old new = (text : List ℕ) × MeasuresTo inputs old.files text × Appends old.written new.written text × KeepsFolder old new
+
+-- why it was not, and what was written
+abbrev pub FailsToMeasure : Failure → Inputs → World → World → Type 0
+FailsToMeasure failure.Write inputs old new = (text : List ℕ) × MeasuresTo inputs old.files text × AppendsFront old.written new.written text × KeepsFolder old new
+FailsToMeasure f inputs old new = FailsToGather f inputs old.files old.failed new.failed × KeepsFiles old.files new.files × WritesNothing old new
+
 -- ---- any request
 
 -- what a request asks for was done, and nothing else
@@ -125,6 +138,7 @@ Performs (request.Alone link) input old new = Answers link input old.written new
 Performs (request.Check path) input old new = Checks path.now old new
 Performs (request.Size path) input old new = Sizes path.now old new
 Performs (request.Run paths) input old new = Runs paths old new
+Performs (request.Measure inputs) input old new = Measures inputs old new
 
 -- why it was not done, and what was done
 abbrev pub FailsToPerform : Failure → Request → Option (List ℕ) → World → World → Type 0
@@ -132,6 +146,7 @@ FailsToPerform f (request.Alone link) input old new = FailsToAnswer f link input
 FailsToPerform f (request.Check path) input old new = FailsToCheck f path.now old new
 FailsToPerform f (request.Size path) input old new = FailsToSize f path.now old new
 FailsToPerform f (request.Run paths) input old new = FailsToRunAll f paths old new
+FailsToPerform f (request.Measure inputs) input old new = FailsToMeasure f inputs old new
 
 -- help was asked for and some text was written, or a request, which was done
 abbrev pub Serves : List (List ℕ) → Option (List ℕ) → World → World → Type 0

@@ -14,6 +14,7 @@ mod get;
 mod input;
 pub mod laws;
 mod load_line;
+mod measure;
 mod names;
 mod output;
 mod own;

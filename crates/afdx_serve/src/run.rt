@@ -6,7 +6,7 @@ ghost use Rattle.afdx_session.specs.Texts.{texts_of, AreOfPorts};
 ghost use Rattle.afdx_session.specs.Outcome.{table_in, is_cleared, IsOutcome};
 ghost use Rattle.afdx_session.specs.Headline.{IsIsolated};
 ghost use Rattle.afdx_serve.specs.Files.{KeepsFiles};
-ghost use Rattle.afdx_serve.specs.Runs.{LeadsTo, FailsToPlan, FailsToLead, FailsToGather, report_in};
+ghost use Rattle.afdx_serve.specs.Runs.{LeadsTo, FailsToPlan, FailsToLead, FailsToGather, inputs_of, report_in};
 ghost use Rattle.afdx_serve.specs.Serving.{world, Runs, FailsToRunAll};
 
 use crate::failure::Failure;
@@ -22,7 +22,7 @@ use std::alloc::{AllocError, Global};
 use std::io::Write;
 
 /// The plan of a run over a table, which is accepted unless the run is unchecked.
-fn plan(table: Table, unchecked: bool) -> Result<Plan, Failure>
+pub(crate) fn plan(table: Table, unchecked: bool) -> Result<Plan, Failure>
     ensures { MatchResult result
         (λ plan. (table_in plan ≡ table) × (is_cleared plan ≡ not unchecked) × (unchecked ≡ false → IsAccepted table))
         (λ f. FailsToPlan f unchecked table) }
@@ -56,7 +56,7 @@ fn gather<F: Folder>(
 ) -> Result<Outcome<Global>, Failure>
     ensures led { MatchResult result
         (λ outcome. LeadsTo paths.now (F.files folder.old) outcome × (F.failed folder.new ≡ F.failed folder.old))
-        (λ f. FailsToGather f paths.now (F.files folder.old) (F.failed folder.old) (F.failed folder.new)) }
+        (λ f. FailsToGather f (inputs_of paths.now) (F.files folder.old) (F.failed folder.old) (F.failed folder.new)) }
     ensures same { KeepsFiles (F.files folder.old) (F.files folder.new) }
 {
     let table = get_table(alloc, folder, paths.table)?;

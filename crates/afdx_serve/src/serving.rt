@@ -11,6 +11,7 @@ use crate::check::check;
 use crate::failure::Failure;
 use crate::folder::Folder;
 use crate::input::read_to_end;
+use crate::measure::measure;
 use crate::output::write_bytes;
 use crate::policing::alone;
 use crate::run::run;
@@ -56,6 +57,7 @@ fn perform<R: Read, O: Write, F: Folder>(
         Request::Check(path) => check(alloc, path, out, folder),
         Request::Size(path) => size(alloc, path, out, folder),
         Request::Run(paths) => run(alloc, paths, out, folder),
+        Request::Measure(inputs) => measure(alloc, inputs, out, folder),
     }
 }
 
@@ -89,7 +91,8 @@ fn serve_words<R: Read, O: Write, F: Folder>(
 ///
 /// `afdx alone` reads `input` to its end and writes its answer on `out`; `afdx check TABLE` and `afdx size TABLE` get TABLE
 /// from `folder` and write their lines on `out`; `afdx run TABLE IN OUT` gets TABLE, checks its load unless there is
-/// `--unchecked`, gets IN/port-1.pcap and so on, puts OUT/port-1.pcap and so on and writes the report on `out`; `--help`
+/// `--unchecked`, gets IN/port-1.pcap and so on, puts OUT/port-1.pcap and so on and writes the report on `out`;
+/// `afdx measure TABLE IN` does so too, but puts nothing and writes what delays and buffers were; `--help`
 /// and `--version` write the text of `clap` on `out`. On another status than 0 one line goes to `err`, and a fault in
 /// writing it changes nothing. What is met before the answer is written leaves `out` as it was; where writing fails, a front
 /// of the answer was written.

@@ -14,13 +14,10 @@ use crate::folder::Folder;
 use crate::get::get_table;
 use crate::output::write_bytes;
 use afdx_load::laws::longest_shows_links;
-use afdx_load::{Load, Loads, Rule, bounds, breaks, least_buffer, loads};
+use afdx_load::{Load, Loads, PARTS, Rule, bounds, breaks, least_buffer, loads};
 use afdx_table::{PortRow, Table};
 use std::alloc::{AllocError, Global};
 use std::io::Write;
-
-/// The parts of a whole line.
-const LINE: u64 = 2_048_000_000;
 
 /// Appends the bound of a priority with so many links, beside the greatest delay.
 fn push_delay(
@@ -106,7 +103,7 @@ fn amounts(alloc: Global, row: &PortRow, load: &Load, least: u128) -> Result<Str
 {
     let mut line = format!(in alloc; "port {}", row.id)?;
     write!(line, " rate {} of ", load.rate())?;
-    write!(line, "{LINE} buffer ")?;
+    write!(line, "{PARTS} buffer ")?;
     write!(line, "{least} of ")?;
     write!(line, "{}", row.buffer)?;
     Ok(line)

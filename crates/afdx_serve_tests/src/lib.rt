@@ -12,6 +12,8 @@ mod fixtures;
 #[cfg(test)]
 mod growths;
 #[cfg(test)]
+mod measures;
+#[cfg(test)]
 mod memory_folder;
 #[cfg(test)]
 mod names;

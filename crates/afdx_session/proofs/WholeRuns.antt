@@ -6,7 +6,9 @@ use Rattle.afdx_table.specs.declared.rows.PortRow.{PortRow}
 use Rattle.afdx_table.specs.Content.{Content}
 use Rattle.afdx_port.specs.Admission.{EarlierEventsStayAdmitted}
 use Rattle.afdx_port.specs.Order.{ReachesInOrder}
-use Rattle.afdx_core.specs.State.{after_finish}
+use Rattle.afdx_core.specs.State.{Run, State, after_finish}
+use Rattle.afdx_core.specs.Isolation.{IsRun}
+use Rattle.afdx_core.specs.Merge.{merged}
 use Rattle.afdx_count.specs.Tally.{ended}
 use Rattle.afdx_count.specs.Laws.{EndCountsTheRun}
 use Rattle.afdx_session.specs.declared.lane.Lane.{Lane}
@@ -14,18 +16,19 @@ use Rattle.afdx_session.specs.declared.machine.Machine.{Machine}
 use Rattle.afdx_session.specs.declared.plan.RunFault.{RunFault}
 use Rattle.afdx_session.specs.declared.plan.RunFault.TheVariants as run
 use Rattle.afdx_session.specs.Texts.{Text, AreOfPorts}
-use Rattle.afdx_session.specs.Reading.{IsReadFault}
-use Rattle.afdx_session.specs.Outcome.{Results, IsOutcome, IsRefusal}
+use Rattle.afdx_session.specs.Reading.{AreCaptures, IsReadFault}
+use Rattle.afdx_session.specs.Outcome.{Results, IsOutcome, IsDoneOf, IsRefusal}
 use Rattle.afdx_session.specs.Headline.{AcceptedRunsIsolate, IsIsolated}
-use Rattle.afdx_session.specs.Streams.{AllStartBeforeTheLastInstant}
+use Rattle.afdx_session.specs.Output.{rows_of}
+use Rattle.afdx_session.specs.Streams.{captures_of, AllStartBeforeTheLastInstant}
 use Rattle.afdx_session.specs.Session.{Intake, Seen, taken_in, taken_of}
 use Rattle.afdx_session.specs.Finish.{rest_of, IsFinished}
 use Rattle.afdx_session.specs.Lanes.{intake_of}
-use Rattle.afdx_session.specs.Kept.{IsMarked, IsOfSameTable, IsRunning}
-use Rattle.afdx_session.specs.View.{intakes_of, texts_at, seen_of, AreHalfDone, AreEndedLanes, IsReady, IsKept, AreLent}
+use Rattle.afdx_session.specs.Kept.{IsMarked, IsOfSameTable, IsGoing, IsRunning}
+use Rattle.afdx_session.specs.View.{texts_at, seen_of, intakes_of, IsReady, IsKept, AreLent, HasCarried}
 use Rattle.afdx_session.proofs.Intakes.{marked_bytes}
 use Rattle.afdx_session.proofs.Shown.{kept_ready}
-use Rattle.afdx_session.proofs.Ending.{TakenAreTheCapture}
+use Rattle.afdx_session.proofs.Ending.{TakenAreTheCapture, are_captures, given_all}
 use Rattle.afdx_session.proofs.Finishing.{finished}
 
 -- ---- the captures
@@ -85,22 +88,51 @@ is_refusal t texts run.Closed ports is = is
 is_refusal t texts run.Failed ports is = is
 
 -- the end of such a machine gives the whole output
-pub lent_outcome : {Z : Type 0} → EarlierEventsStayAdmitted → ReachesInOrder → AllStartBeforeTheLastInstant → TakenAreTheCapture → EndCountsTheRun → AcceptedRunsIsolate → (old new : Machine Z) (accepted : Bool) (t : Content) (texts : List Text) (results : Results)
-    → old.switch.run.table ≡ t → old.switch.accepted ≡ accepted → IsKept old true false → AreLent texts old.lanes.items
-    → IsOfSameTable old.switch new.switch → AreHalfDone old.lanes.items new.lanes.items → AreEndedLanes old.lanes.items new.lanes.items → IsRunning new.switch.run.table new.lanes.items new.switch new.counts
+pub lent_outcome : {Z : Type 0} → EarlierEventsStayAdmitted → ReachesInOrder → AllStartBeforeTheLastInstant → TakenAreTheCapture → EndCountsTheRun → AcceptedRunsIsolate
+    → (accepted : Bool) (t : Content) (texts : List Text) (new : Machine Z) (results : Results) → HasCarried accepted t texts new
     → results.captures ≡ map (λ (l : Lane Z). (l.port, l.out.items)) new.lanes.items → results.counts ≡ ended (after_finish new.switch.run) new.counts → IsOutcome t texts results × (accepted ≡ true → IsIsolated t texts results)
-lent_outcome {Z} stay reaches ends takes law isolate old new accepted t texts results table is_accepted kept lent same half closed running captures counts =
-    (seen_as (λ c ts r. IsOutcome c ts r) end.outcome, λ cleared. seen_as (λ c ts r. IsIsolated c ts r) (end.isolated (is_accepted ∙ cleared))) where
+lent_outcome {Z} stay reaches ends takes law isolate accepted t texts new results carried captures counts =
+    (seen_as (λ c ts r. IsOutcome c ts r) end.outcome, λ cleared. seen_as (λ c ts r. IsIsolated c ts r) (end.isolated (carried.accepted ∙ cleared))) where
+      old : Machine Z
+      old = carried.lent
+
       v : Seen
       v = seen_of old true false
 
       end : IsFinished v results
-      end = finished stay reaches ends takes law isolate old new true results kept same half closed running captures counts
+      end = finished stay reaches ends takes law isolate old new true results carried.kept carried.same carried.half carried.ended carried.running captures counts
 
       all : results ≡ end.whole
-      all = same_results results end.whole (end.captures ∙ rest_is_all v end.whole.captures (λ port. nothing_taken texts old.lanes.items port lent)) end.counts
+      all = same_results results end.whole (end.captures ∙ rest_is_all v end.whole.captures (λ port. nothing_taken texts old.lanes.items port carried.captures)) end.counts
 
       seen_as : (P : Content → List Text → Results → Type 0) → P old.switch.run.table (texts_at old.lanes.items) end.whole → P t texts results
       seen_as P is =
-          subst (λ (c : Content). P c texts results) table
-          (subst (λ (ts : List Text). P old.switch.run.table ts results) (texts_are true texts old.lanes.items lent (kept.ready refl).marked) (subst (λ (r : Results). P old.switch.run.table (texts_at old.lanes.items) r) (sym all) is))
+          subst (λ (c : Content). P c texts results) carried.table
+          (subst (λ (ts : List Text). P old.switch.run.table ts results) (texts_are true texts old.lanes.items carried.captures (carried.kept.ready refl).marked) (subst (λ (r : Results). P old.switch.run.table (texts_at old.lanes.items) r) (sym all) is))
+
+-- the switch of such a machine, once it is finished, took the program's merge of the records
+pub lent_done : {Z : Type 0} → TakenAreTheCapture → (accepted : Bool) (t : Content) (texts : List Text) (m : Machine Z) (s : State) → HasCarried accepted t texts m → s.run ≡ after_finish m.switch.run → s.accepted ≡ m.switch.accepted
+    → IsRun s.run → IsDoneOf accepted t texts s
+lent_done {Z} takes accepted t texts m s carried run same_accepted is_run = record {
+  ports = carried.ports;
+  read = captures_of going.streams;
+  are_read = subst (λ (ts : List Text). AreCaptures ts (captures_of going.streams)) (texts_are true texts old.lanes.items carried.captures marked)
+      (are_captures takes true old.lanes.items m.lanes.items going.streams marked carried.ended going.lanes_are);
+  table = ap (λ (r : Run). r.table) run ∙ table;
+  rows = ap (λ (r : Run). r.rows) run ∙ going.is_given.rows ∙ ap (rows_of m.switch.run.table) (sym (given_all m.switch.run.table old.lanes.items m.lanes.items m.switch m.counts carried.running carried.ended))
+      ∙ ap (λ (c : Content). rows_of c (merged (captures_of going.streams))) table;
+  is_run = is_run;
+  all = ap (λ (r : Run). r.finished) run;
+  accepted = same_accepted ∙ carried.same.accepted ∙ carried.accepted;
+} where
+  old : Machine Z
+  old = carried.lent
+
+  going : IsGoing m.switch.run.table m.lanes.items m.switch m.counts
+  going = carried.running.going
+
+  table : m.switch.run.table ≡ t
+  table = carried.same.table ∙ carried.table
+
+  marked : AllByRecursion (IsMarked true) old.lanes.items
+  marked = (carried.kept.ready refl).marked

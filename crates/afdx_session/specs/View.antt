@@ -12,12 +12,12 @@ use Rattle.afdx_session.specs.declared.lane.Lane.{Lane}
 use Rattle.afdx_session.specs.declared.machine.Machine.{Machine}
 use Rattle.afdx_session.specs.declared.plan.RunFault.{RunFault}
 use Rattle.afdx_session.specs.Reading.{IsFaultAt, IsSound}
-use Rattle.afdx_session.specs.Texts.{Text}
+use Rattle.afdx_session.specs.Texts.{Text, AreOfPorts}
 use Rattle.afdx_session.specs.Finish.{text_in}
 use Rattle.afdx_session.specs.Streams.{Stream, text_so_far}
 use Rattle.afdx_session.specs.Session.{Intake, Seen, AreStreams, IsSoundSoFar, fed, ended}
 use Rattle.afdx_session.specs.Lanes.{intake_of, waiting_of, limit_at, NoneGoes, IsPieceFault}
-use Rattle.afdx_session.specs.Kept.{AreOfTable, IsGoing, IsRunning, IsMarked}
+use Rattle.afdx_session.specs.Kept.{AreOfTable, IsGoing, IsRunning, IsMarked, IsOfSameTable}
 
 abbrev pub intakes_of : {Z : Type 0} → List (Lane Z) → List Intake
 intakes_of lanes = map intake_of lanes
@@ -190,3 +190,16 @@ AreEndedLanes (l ∷ old) (n ∷ new) = IsEndedLane l n × AreEndedLanes old new
 -- the captures so far of lanes that no call has left half done
 abbrev pub texts_at : {Z : Type 0} → List (Lane Z) → List Text
 texts_at lanes = map text_in (intakes_of lanes)
+
+-- a machine of a table, to which these captures were lent, and which then ended
+pub record HasCarried {Z : Type 0} (cleared : Bool) (t : Content) (texts : List Text) (m : Machine Z) : Type 0 where
+  pub lent : Machine Z
+  pub table : lent.switch.run.table ≡ t
+  pub accepted : lent.switch.accepted ≡ cleared
+  pub ports : AreOfPorts t texts
+  pub kept : IsKept lent true false
+  pub captures : AreLent texts lent.lanes.items
+  pub same : IsOfSameTable lent.switch m.switch
+  pub half : AreHalfDone lent.lanes.items m.lanes.items
+  pub ended : AreEndedLanes lent.lanes.items m.lanes.items
+  pub running : IsRunning m.switch.run.table m.lanes.items m.switch m.counts

@@ -3,7 +3,7 @@
 //! [`run`] reads the captures, merges their records by stamp and then by port number, puts them through the
 //! switch and writes what each port sends. Contracts see its answer as a function of the bytes that came in:
 //! each capture that goes out is the one text of the frames that the definitions of the crates below let
-//! leave at its port.
+//! leave at its port. [`finished`] answers the switch itself, for what is asked of it beside that.
 #![tactic(auto)]
 
 mod drain;
@@ -16,4 +16,4 @@ mod whole;
 
 pub use plan::{Outcome, Plan, RunFault};
 pub use session::Session;
-pub use whole::run;
+pub use whole::{finished, run};

@@ -8,6 +8,7 @@ use Rattle.clap.specs.declared.error.kind.ErrorKind.{ErrorKind}
 use Rattle.clap.specs.declared.error.kind.ErrorKind.TheVariants.{DisplayHelp, DisplayVersion, OutOfMemory}
 use Rattle.afdx_words.specs.declared.link.Alone.{Alone}
 use Rattle.afdx_words.specs.declared.request.Paths.{Paths}
+use Rattle.afdx_words.specs.declared.request.Inputs.{Inputs}
 use Rattle.afdx_words.specs.declared.request.Request.{Request}
 use Rattle.afdx_words.specs.declared.request.Request.TheVariants as request
 use Rattle.afdx_words.specs.declared.request.NoRequest.{NoRequest}
@@ -44,6 +45,13 @@ pub record HasPaths (rows : List Row) (paths : Paths) : Type 0 where
   pub has_output : paths.output.now ≢ []
   pub unchecked : paths.unchecked ≡ is_set (codes "unchecked") rows
 
+-- the same of a run of which nothing is put
+pub record HasInputs (rows : List Row) (inputs : Inputs) : Type 0 where
+  pub table : first_of (codes "TABLE") rows ≡ Some inputs.table.now
+  pub input : first_of (codes "IN") rows ≡ Some inputs.input.now
+  pub has_input : inputs.input.now ≢ []
+  pub unchecked : inputs.unchecked ≡ is_set (codes "unchecked") rows
+
 -- the subcommand and its entries ask for this
 abbrev pub AsksFor : Option (Text × List Row) → Request → Type 0
 AsksFor None r = ⊥
@@ -51,6 +59,7 @@ AsksFor (Some (name, rows)) (request.Alone link) = (name ≡ codes "alone") × H
 AsksFor (Some (name, rows)) (request.Check table) = (name ≡ codes "check") × (first_of (codes "TABLE") rows ≡ Some table.now)
 AsksFor (Some (name, rows)) (request.Size table) = (name ≡ codes "size") × (first_of (codes "TABLE") rows ≡ Some table.now)
 AsksFor (Some (name, rows)) (request.Run paths) = (name ≡ codes "run") × HasPaths rows paths
+AsksFor (Some (name, rows)) (request.Measure inputs) = (name ≡ codes "measure") × HasInputs rows inputs
 
 -- `clap` takes the words, and its entries ask for this
 abbrev pub Asks : List Text → Request → Type 0

@@ -3,7 +3,7 @@
 ghost use Rattle.std.specs.Prelude.{◌≡◌, false, IfOk};
 ghost use Rattle.clap.specs.Words.{app_of, new_app, rule_of};
 ghost use Rattle.clap.specs.declared.builder.command.Command.TheViews.{out-Command};
-ghost use Rattle.afdx_words.specs.Commands.{number_rule, path_rule, flag_rule, alone_app, check_app, size_app, run_app, bare_program, program};
+ghost use Rattle.afdx_words.specs.Commands.{number_rule, path_rule, flag_rule, alone_app, check_app, size_app, run_app, measure_app, bare_program, program};
 
 use clap::builder::ValueParser;
 use clap::{Arg, ArgAction, Command};
@@ -79,6 +79,18 @@ links ask for, 5 memory or a device.
 
 Example: mkdir out && afdx run table.toml in out";
 
+/// What the help of `measure` says at its end.
+const MEASURE: &str = "Runs as run does, and writes no capture. For each link and each of its output
+ports: how many frames were sent, and their least and greatest delay in ns, from
+the stamp to the end on the line, beside the port's bound. For each port: the most
+bytes that its buffer held, and the stamp in ns of the first frame that filled it
+so.
+
+Status: 0 told, 2 words, 3 no table or capture, 4 a port cannot give what its
+links ask for, 5 memory or a device.
+
+Example: afdx measure table.toml in";
+
 /// What the program says of its version: its own number, and the kit that it is proved with.
 const VERSION: &str = "0.1.0\nrattle-kit-13b logic dac8208d650f15bf";
 
@@ -153,6 +165,22 @@ fn run<'a>(alloc: Global) -> Result<Command<'a>, AllocError>
         .arg(flag(alloc, "unchecked", "Runs a table whatever its load"))
 }
 
+#[tactic(auto, unfolding(crate::specs::Commands::measure_app))]
+fn measure<'a>(alloc: Global) -> Result<Command<'a>, AllocError>
+    ensures app { IfOk result (λ c. app_of c ≡ measure_app) }
+    ensures local { IfOk result (λ c. (out-Command c).has_globals ≡ false) }
+{
+    let about = "Tells the delays of each link and how full each buffer was";
+    wordless(alloc, "measure", about, MEASURE)
+        .arg(path(alloc, "TABLE", "The configuration table"))?
+        .arg(path(alloc, "IN", "The folder of port-1.pcap and so on"))?
+        .arg(flag(
+            alloc,
+            "unchecked",
+            "Runs a table whatever its load, and tells no bounds",
+        ))
+}
+
 /// The program without its commands.
 fn bare_program<'a>(alloc: Global) -> Command<'a>
     ensures { app_of result ≡ bare_program }
@@ -172,9 +200,11 @@ pub(crate) fn program<'a>(alloc: Global) -> Result<Command<'a>, AllocError>
     let check = check(alloc)?;
     let size = size(alloc)?;
     let run = run(alloc)?;
+    let measure = measure(alloc)?;
     bare_program(alloc)
         .subcommand(alone)?
         .subcommand(check)?
         .subcommand(size)?
-        .subcommand(run)
+        .subcommand(run)?
+        .subcommand(measure)
 }

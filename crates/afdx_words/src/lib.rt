@@ -7,5 +7,5 @@ mod request;
 mod words;
 
 pub use link::{Alone, GREATEST_SIZE, LEAST_SIZE};
-pub use request::{NoRequest, Paths, Request};
+pub use request::{Inputs, NoRequest, Paths, Request};
 pub use words::parse;

@@ -15,6 +15,17 @@ pub struct Paths<'a> {
     pub unchecked: bool,
 }
 
+/// The files of a run of which nothing is put, as they were written.
+#[derive(Clone, Copy, Debug, PartialEq, Eq)]
+pub struct Inputs<'a> {
+    /// The file of the configuration table.
+    pub table: &'a str,
+    /// The folder of the captures that come in.
+    pub input: &'a str,
+    /// Whether the table's load is left unchecked.
+    pub unchecked: bool,
+}
+
 /// A command with what it goes by.
 #[derive(Clone, Copy, Debug, PartialEq, Eq)]
 pub enum Request<'a> {
@@ -26,6 +37,8 @@ pub enum Request<'a> {
     Size(&'a str),
     /// The switch over captures.
     Run(Paths<'a>),
+    /// The delays and the buffers of such a run.
+    Measure(Inputs<'a>),
 }
 
 /// Why the words ask for no command.

@@ -4,12 +4,13 @@ ghost use Rattle.std.specs.Prelude.{◌≡◌, ℕ, map, option_map, string_byte
 ghost use Rattle.clap.specs.Words.{first_of, found_of, kind_of, rows_of, subcommand_rows_of};
 ghost use Rattle.afdx_words.specs.declared.link.Alone.{Alone as Link};
 ghost use Rattle.afdx_words.specs.declared.request.Paths.{Paths as Files};
+ghost use Rattle.afdx_words.specs.declared.request.Inputs.{Inputs as Given};
 ghost use Rattle.afdx_words.specs.declared.request.Request.{Request as Asked};
-ghost use Rattle.afdx_words.specs.Requests.{HasNumber, is_set, HasLink, HasPaths, AsksFor, Explains, Reads};
+ghost use Rattle.afdx_words.specs.Requests.{HasNumber, is_set, HasLink, HasPaths, HasInputs, AsksFor, Explains, Reads};
 
 use crate::command::program;
 use crate::link::Alone;
-use crate::request::{NoRequest, Paths, Request};
+use crate::request::{Inputs, NoRequest, Paths, Request};
 use clap::error::ErrorKind;
 use clap::{ArgMatches, Error};
 use std::alloc::Global;
@@ -71,6 +72,24 @@ fn paths_of<'a>(matches: &ArgMatches<'a>) -> Option<Paths<'a>>
     })
 }
 
+/// The files of a run of which nothing is put. An empty word names no folder.
+fn inputs_of<'a>(matches: &ArgMatches<'a>) -> Option<Inputs<'a>>
+    ensures { MatchOption result ((inputs : Given) → HasInputs (rows_of (found_of matches.now)) inputs → ⊥)
+        (HasInputs (rows_of (found_of matches.now))) }
+{
+    let table = word(matches, "TABLE")?;
+    let input = word(matches, "IN")?;
+    if input.is_empty() {
+        return None;
+    }
+    let unchecked = flag(matches, "unchecked");
+    Some(Inputs {
+        table,
+        input,
+        unchecked,
+    })
+}
+
 /// What the subcommand that was entered asks for.
 fn asked<'a>(matches: &ArgMatches<'a>) -> Option<Request<'a>>
     ensures { MatchOption result ((request : Asked) → AsksFor (subcommand_rows_of matches.now) request → ⊥)
@@ -89,6 +108,9 @@ fn asked<'a>(matches: &ArgMatches<'a>) -> Option<Request<'a>>
     } else if name == "run" {
         let paths = paths_of(inner)?;
         Some(Request::Run(paths))
+    } else if name == "measure" {
+        let inputs = inputs_of(inner)?;
+        Some(Request::Measure(inputs))
     } else {
         None
     }

@@ -3,7 +3,7 @@ use Rattle.afdx_table.specs.Content.{Content}
 use Rattle.afdx_load.specs.Accepted.{IsAccepted}
 use Rattle.afdx_session.specs.Texts.{texts_of}
 use Rattle.afdx_session.specs.Outcome.{table_in, is_cleared}
-use Rattle.afdx_serve.specs.Runs.{HasTable, HasPlan, HasCaptures, FailsToGetAll}
+use Rattle.afdx_serve.specs.Runs.{inputs_of, HasTable, HasPlan, HasCaptures, FailsToGetAll}
 use Rattle.afdx_serve.proofs.RunLemmas.{of_error, not_gathered, gathered}
 use Rattle.afdx_serve.proofs.run.gather.Goals as goal
 
@@ -13,11 +13,11 @@ returns-in_err-captures-clause-led g c =
     let paths = c.args.paths.now in
     let t = table_in c.in_ok-plan.plan in
     let same = c.in_ok-plan.ensures.0 in
-    let plan : HasPlan files paths t =
+    let plan : HasPlan files (inputs_of paths) t =
     (subst (λ (x : Content). HasTable files paths.table.now x) (sym same) c.in_ok-table.ensures.got.0, λ checked. subst (λ (x : Content). IsAccepted x) (sym same) (c.in_ok-plan.ensures.2 checked)) in
     let fails = subst (λ (x : Content). FailsToGetAll c.in_err-captures.field-0.0 (g.F.Folder.files c.get_table.new.folder) paths.input.now x (g.F.Folder.failed c.get_table.new.folder) (g.F.Folder.failed c.get_captures.new.folder)) c.table.ensures.table c.in_err-captures.ensures.got in
     of_error _ _ _ c.in_err-captures.field-0.0 c.from_residual-in_err-captures.ensures
-    (not_gathered paths files _ t _ _ _ plan c.in_ok-table.ensures.same c.in_ok-table.ensures.got.1 c.in_err-captures.field-0.0 fails)
+    (not_gathered (inputs_of paths) files _ t _ _ _ plan c.in_ok-table.ensures.same c.in_ok-table.ensures.got.1 c.in_err-captures.field-0.0 fails)
 
 pub returns-clause-led : goal.returns-clause-led
 returns-clause-led g c =
@@ -25,7 +25,7 @@ returns-clause-led g c =
     let paths = c.args.paths.now in
     let t = table_in c.in_ok-plan.plan in
     let same = c.in_ok-plan.ensures.0 in
-    let plan : HasPlan files paths t =
+    let plan : HasPlan files (inputs_of paths) t =
     (subst (λ (x : Content). HasTable files paths.table.now x) (sym same) c.in_ok-table.ensures.got.0, λ checked. subst (λ (x : Content). IsAccepted x) (sym same) (c.in_ok-plan.ensures.2 checked)) in
     let captures = texts_of c.in_ok-captures.captures.items in
     let got = subst (λ (x : Content). HasCaptures (g.F.Folder.files c.get_table.new.folder) paths.input.now x captures) c.table.ensures.table c.in_ok-captures.ensures.got.0 in

@@ -17,3 +17,6 @@ returns-clause-isolated g c = λ is.
     let same = sym (ap (λ (r : Run). r.table) c.finish.ensures.run) in
     c.accepted_tables_isolate.ensures (run_of c.finish.new.self) run (subst IsWellFormed same c.know_the_table.ensures)
     (subst IsAccepted same (c.self.invariant.0.accepted (ap (λ (s : State). s.accepted) c.self.view_is ∙ is)))
+
+pub returns-clause-is_run : goal.returns-clause-is_run
+returns-clause-is_run g c = subst IsRun (sym c.finish.ensures.run) (finished (run_of c.self.inside.engine) c.self.invariant.2)

@@ -1,0 +1,41 @@
+-- The delays of what a port sent for a link (profile).
+use Rattle.std.specs.Prelude.{◌≡◌, ℕ, ◌-◌, ◌<◌, ◌≤◌, ◌==◌, min, max, List, [], ◌∷◌, length, map, filter, slice_index_or, Option, Some, None, All, Contains, MatchOption}
+use Rattle.std.specs.List.{fold}
+use Rattle.afdx_port.specs.declared.Sent.{Sent}
+use Rattle.afdx_measure.specs.declared.delays.Delays.{Delays}
+use Rattle.afdx_measure.specs.declared.delays.Range.{Range}
+
+-- from the stamp of its frame to the instant from which the line is free again, in nanoseconds
+abbrev pub delay_of : Sent → ℕ
+delay_of x = x.end - x.item.stamp
+
+-- those of a link's copies, in the order in which the port sent them
+abbrev pub delays_of : ℕ → List Sent → List ℕ
+delays_of link sent = map delay_of (filter (λ x. x.item.link == link) sent)
+
+-- the least and the greatest of some delays, where there are any
+abbrev pub range_of : List ℕ → Option Range
+range_of [] = None
+range_of (n ∷ ns) = Some (record { least = fold min n ns; greatest = fold max n ns })
+
+-- what is told of them
+abbrev pub told : List ℕ → Delays
+told ns = record { count = length ns; range = range_of ns }
+
+-- these are told of each link's copies among what a port sent, by the links' numbers
+pub record AreDelays (sent : List Sent) (all : List Delays) : Type 0 where
+  pub long : length all ≡ 65536
+  pub each : (link : ℕ) (d : Delays) → link < 65536 → slice_index_or all link d ≡ told (delays_of link sent)
+
+-- ---- the law: they are one of them, and no other is less or greater
+
+pub record IsLeast (ns : List ℕ) (least : ℕ) : Type 0 where
+  pub is_one : Contains ns least
+  pub none_below : All (λ n. least ≤ n) ns
+
+pub record IsGreatest (ns : List ℕ) (greatest : ℕ) : Type 0 where
+  pub is_one : Contains ns greatest
+  pub none_above : All (λ n. n ≤ greatest) ns
+
+abbrev pub RangeIsOfDelays : Type 0
+RangeIsOfDelays = (ns : List ℕ) → MatchOption (range_of ns) (ns ≡ []) (λ r. IsLeast ns r.least × IsGreatest ns r.greatest)

@@ -1,0 +1,104 @@
+//! What is told of a run, as text.
+
+ghost use Rattle.std.specs.Prelude.{◌≡◌, ◌++◌, map, string_bytes, OnOk};
+ghost use Rattle.afdx_measure.specs.Lines.{number, part, line, link_line, peak_line};
+
+use crate::delays::Delays;
+use crate::filling::Filling;
+use std::alloc::{AllocError, Allocator};
+
+/// A number, or `-` where there is none.
+fn put_number<A: Allocator + Copy>(
+    text: &mut String<A>,
+    told: Option<u128>,
+) -> Result<(), AllocError>
+    ensures { OnOk result (string_bytes text.new ≡ string_bytes text.old ++ number told) }
+{
+    match told {
+        Some(number) => write!(text, "{number}"),
+        None => text.push_str("-"),
+    }
+}
+
+/// A word and its number.
+fn put_part<A: Allocator + Copy>(
+    text: &mut String<A>,
+    word: &str,
+    number: Option<u128>,
+) -> Result<(), AllocError>
+    ensures { OnOk result (string_bytes text.new ≡ string_bytes text.old ++ part (word.now, number)) }
+{
+    text.push_str(word)?;
+    put_number(text, number)
+}
+
+/// Words with their numbers, and a line feed.
+fn put_line<A: Allocator + Copy>(
+    text: &mut String<A>,
+    parts: &[(&str, Option<u128>)],
+) -> Result<(), AllocError>
+    ensures { OnOk result (string_bytes text.new ≡ string_bytes text.old ++ line (map (λ p. (p.0.now, p.1)) parts.now)) }
+{
+    for (word, number) in parts {
+        put_part(text, word, *number)?;
+    }
+    text.push_str("\n")
+}
+
+/// Appends the line of a link at a port, whose bound for the link's priority is this, where one is promised.
+///
+/// An error says that a growth was refused; the text is then of no use.
+pub fn put_link_line<A: Allocator + Copy>(
+    text: &mut String<A>,
+    link: u16,
+    port: u8,
+    delays: &Delays,
+    bound: Option<u128>,
+) -> Result<(), AllocError>
+    ensures { OnOk result (string_bytes text.new ≡ string_bytes text.old ++ link_line link port delays.now bound) }
+{
+    let (least, greatest) = match delays.range {
+        Some(range) => (
+            Some(u128::from(range.least)),
+            Some(u128::from(range.greatest)),
+        ),
+        None => (None, None),
+    };
+    put_line(
+        text,
+        &[
+            ("link ", Some(u128::from(link))),
+            (" out ", Some(u128::from(port))),
+            (" sent ", Some(delays.count as u128)),
+            (" least ", least),
+            (" greatest ", greatest),
+            (" bound ", bound),
+        ],
+    )
+}
+
+/// Appends the line of a port with a buffer of so many bytes.
+///
+/// An error says that a growth was refused; the text is then of no use.
+pub fn put_peak_line<A: Allocator + Copy>(
+    text: &mut String<A>,
+    port: u8,
+    buffer: u32,
+    peak: Option<Filling>,
+) -> Result<(), AllocError>
+    ensures { OnOk result (string_bytes text.new ≡ string_bytes text.old ++ peak_line port buffer peak) }
+{
+    let (bytes, at) = match peak {
+        Some(peak) => (peak.bytes, Some(u128::from(peak.at.ns()))),
+        None => (0, None),
+    };
+    put_line(
+        text,
+        &[
+            ("out ", Some(u128::from(port))),
+            (" occupied ", Some(u128::from(bytes))),
+            (" of ", Some(u128::from(buffer))),
+            (" at ", at),
+        ],
+    )
+}

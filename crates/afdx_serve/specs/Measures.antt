@@ -1,0 +1,28 @@
+-- What is told of the run of a folder's captures, of which nothing is put.
+use Rattle.std.specs.Prelude.{◌≡◌, ℕ, Bool, true, not, List, Option, Contains}
+use Rattle.afdx_table.specs.declared.rows.PortRow.{PortRow}
+use Rattle.afdx_table.specs.Content.{Content}
+use Rattle.afdx_core.specs.State.{State}
+use Rattle.afdx_measure.specs.Ports.{IsWithinTheLoad}
+use Rattle.afdx_measure.specs.Report.{report_of}
+use Rattle.afdx_session.specs.Texts.{Text}
+use Rattle.afdx_session.specs.Outcome.{IsDoneOf}
+use Rattle.afdx_words.specs.declared.request.Inputs.{Inputs}
+use Rattle.afdx_serve.specs.Files.{Files}
+use Rattle.afdx_serve.specs.Runs.{HasPlan, HasCaptures}
+
+-- this is told of the finished switch of these captures; over a checked table it promises the bounds
+pub record IsMeasured (cleared : Bool) (t : Content) (texts : List Text) (text : List ℕ) : Type 0 where
+  pub done : State
+  pub is_done : IsDoneOf cleared t texts done
+  pub told : text ≡ report_of cleared done.run
+  -- and they are kept: no delay is above its bound, and no buffer held more than the least that its load asks for
+  pub within : cleared ≡ true → (p : PortRow) → Contains t.ports p → IsWithinTheLoad done.run p
+
+-- the files hold a table and captures, of which this is told
+pub record MeasuresTo (inputs : Inputs) (files : Option Files) (text : List ℕ) : Type 0 where
+  pub table : Content
+  pub captures : List Text
+  pub has_plan : HasPlan files inputs table
+  pub has_captures : HasCaptures files inputs.input.now table captures
+  pub measured : IsMeasured (not inputs.unchecked) table captures text

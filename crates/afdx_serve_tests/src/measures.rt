@@ -1,0 +1,109 @@
+//! `afdx measure` over a folder in memory. Values from outside: a table, captures, and lines that were worked out by hand.
+
+use crate::fixtures::{OneFrame, answer_over};
+use crate::memory_folder::MemoryFolder;
+use afdx_samples::{HEADER, Port, capture, double, frame, mixed, port, single};
+use afdx_serve::FolderFault;
+use std::alloc::{AllocError, Global};
+use std::test::Fail;
+
+/// A folder with a table and with captures of ports 1 and up.
+fn folder_of(
+    alloc: Global,
+    table: &str,
+    captures: &[&[u8]],
+) -> Result<MemoryFolder, AllocError> {
+    let mut folder = MemoryFolder::new(alloc);
+    folder.add("t", table.as_bytes())?;
+    let names = ["in/port-1.pcap", "in/port-2.pcap", "in/port-3.pcap"];
+    for (name, bytes) in names.iter().zip(captures) {
+        folder.add(name, bytes)?;
+    }
+    Ok(folder)
+}
+
+/// Whether these lines are told of the captures, with status 0 and nothing beside them.
+fn tells(
+    alloc: Global,
+    words: &str,
+    table: &str,
+    captures: &[&[u8]],
+    lines: &str,
+) -> Result<bool, Fail> {
+    let mut folder = folder_of(alloc, table, captures)?;
+    let got = answer_over(alloc, words, b"", &mut folder)?;
+    Ok(got.status == 0 && got.out.as_slice() == lines.as_bytes() && got.err.is_empty())
+}
+
+#[test]
+fn tells_of_one_link(rt: HostRuntime) -> Result<(), Fail> {
+    let alloc = rt.alloc();
+    let table = single(alloc)?;
+    let early = capture(
+        alloc,
+        &[
+            frame(10, 1514, 0),
+            frame(10, 1514, 999_999),
+            frame(10, 1514, 1_000_000),
+        ],
+    )?;
+    assert!(rt; tells(rt.alloc(), "afdx measure t in", &table, &[&early, &HEADER],
+        "link 10 out 2 sent 2 least 123040 greatest 123040 bound 159390\nout 1 occupied 0 of 100000 at -\nout 2 occupied 1518 of 100000 at 0\n")?);
+    assert!(rt; tells(rt.alloc(), "afdx measure t in --unchecked", &table, &[&HEADER, &HEADER],
+        "link 10 out 2 sent 0 least - greatest - bound -\nout 1 occupied 0 of 100000 at -\nout 2 occupied 0 of 100000 at -\n")?);
+    Ok(())
+}
+
+#[test]
+fn tells_what_was_lost_by_what_is_missing(rt: HostRuntime) -> Result<(), Fail> {
+    let alloc = rt.alloc();
+    let third = Port {
+        buffer: 1581,
+        max_delay_us: 100,
+        ..port(3)
+    };
+    let table = double(alloc, third)?;
+    let first = capture(alloc, &[frame(10, 1513, 0)])?;
+    let second = capture(alloc, &[frame(20, 60, 0), frame(20, 1514, 122_960)])?;
+    assert!(rt; tells(rt.alloc(), "afdx measure t in --unchecked", &table, &[&first, &second, &HEADER],
+        "link 10 out 3 sent 1 least 122960 greatest 122960 bound -
+link 20 out 3 sent 0 least - greatest - bound -
+out 1 occupied 0 of 100000 at -
+out 2 occupied 0 of 100000 at -
+out 3 occupied 1581 of 1581 at 0
+")?);
+    Ok(())
+}
+
+#[test]
+fn puts_nothing(rt: HostRuntime) -> Result<(), Fail> {
+    let alloc = rt.alloc();
+    let run = OneFrame::new(alloc)?;
+    let mut folder = run.sound()?;
+    let got = answer_over(alloc, "afdx measure t in", b"", &mut folder)?;
+    assert_eq!(rt; got.status, 0);
+    assert!(rt; folder.holds(&run.files(), 3));
+    Ok(())
+}
+
+#[test]
+fn refuses_as_a_run_does(rt: HostRuntime) -> Result<(), Fail> {
+    let alloc = rt.alloc();
+    let run = OneFrame::new(alloc)?;
+    // The call that fails, and what is said.
+    for (failing, said) in [
+        (1, "afdx: device get t\n"),
+        (2, "afdx: device get in/port-1.pcap\n"),
+        (3, "afdx: device get in/port-2.pcap\n"),
+    ] {
+        let mut folder = run.folder(failing, FolderFault::Device)?;
+        let got = answer_over(alloc, "afdx measure t in", b"", &mut folder)?;
+        assert_eq!(rt; got.status, 5);
+        assert_eq!(rt; got.out.as_slice(), b"".as_slice());
+        assert_eq!(rt; got.err.as_slice(), said.as_bytes());
+    }
+    let mut folder = folder_of(alloc, &mixed(alloc)?, &[&HEADER[..23], &HEADER])?;
+    let got = answer_over(alloc, "afdx measure t in", b"", &mut folder)?;
+    assert_eq!(rt; got.status, 3);
+    Ok(())
+}
