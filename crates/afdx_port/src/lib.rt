@@ -108,7 +108,7 @@ impl Settings {
 
 impl Item {
     /// The instant at which this is queued.
-    fn came(&self, settings: &Settings) -> Stamp
+    pub fn came(&self, settings: &Settings) -> Stamp
         ensures { result ≡ came settings.now self.now }
     {
         settings.reach(self.stamp)

@@ -1,0 +1,11 @@
+-- What holds of the events of a port.
+use Rattle.std.specs.Prelude.{ℕ, List}
+use Rattle.afdx_port.specs.declared.Settings.{Settings}
+use Rattle.afdx_port.specs.declared.Item.{Item}
+use Rattle.afdx_port.specs.Service.{service}
+use Rattle.afdx_port.specs.Content.{Content, done}
+use Rattle.afdx_trace.specs.Departures.{AreInOrder}
+
+-- what a port has carried out is in order of its instants: where a copy is given up at the instant at which another is sent, it comes first
+abbrev pub EventsAreInOrder : Type 0
+EventsAreInOrder = (c : Content) → AreInOrder (done c)
