@@ -76,21 +76,25 @@ served_in_order (suc count) s free (first ∷ rest) =
 -- some of them are in order too
 all_of_some : (P : Event → Type 0) (p : Event → Bool) (events : List Event) → AllByRecursion P events → AllByRecursion P (filter p events)
 all_of_some P p [] all = tt
-all_of_some P p (event ∷ events) all = by (p event) where
-  by : (kept : Bool) → AllByRecursion P (cond kept (event ∷ filter p events) (filter p events))
-  by true = (all.0, all_of_some P p events all.1)
-  by false = all_of_some P p events all.1
+all_of_some P p (event ∷ events) all = by (p event) all.0 (all_of_some P p events all.1) where
+  by : (kept : Bool) → P event → AllByRecursion P (filter p events) → AllByRecursion P (cond kept (event ∷ filter p events) (filter p events))
+  by true first others = (first, others)
+  by false first others = others
 
 some_in_order : (p : Event → Bool) (events : List Event) → AreInOrder events → AreInOrder (filter p events)
 some_in_order p [] order = tt
-some_in_order p (sending x ∷ events) order = by (p (sending x)) where
-  by : (kept : Bool) → AreInOrder (cond kept (sending x ∷ filter p events) (filter p events))
-  by true = (all_of_some (λ (event : Event). x.begin < instant event) p events order.0, some_in_order p events order.1)
-  by false = some_in_order p events order.1
-some_in_order p (aging x ∷ events) order = by (p (aging x)) where
-  by : (kept : Bool) → AreInOrder (cond kept (aging x ∷ filter p events) (filter p events))
-  by true = (all_of_some (λ (event : Event). x.at ≤ instant event) p events order.0, some_in_order p events order.1)
-  by false = some_in_order p events order.1
+some_in_order p (sending x ∷ events) order =
+    by (p (sending x)) (all_of_some (λ (event : Event). x.begin < instant event) p events order.0) (some_in_order p events order.1) where
+      by : (kept : Bool) → AllByRecursion (λ event. x.begin < instant event) (filter p events) → AreInOrder (filter p events)
+          → AreInOrder (cond kept (sending x ∷ filter p events) (filter p events))
+      by true late others = (late, others)
+      by false late others = others
+some_in_order p (aging x ∷ events) order =
+    by (p (aging x)) (all_of_some (λ (event : Event). x.at ≤ instant event) p events order.0) (some_in_order p events order.1) where
+      by : (kept : Bool) → AllByRecursion (λ event. x.at ≤ instant event) (filter p events) → AreInOrder (filter p events)
+          → AreInOrder (cond kept (aging x ∷ filter p events) (filter p events))
+      by true late others = (late, others)
+      by false late others = others
 
 pub events_in_order : EventsAreInOrder
 events_in_order c = by c.finished where
