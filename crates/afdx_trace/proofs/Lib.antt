@@ -1,1 +1,3 @@
+pub mod Departing
+pub mod Found
 pub mod Ordered

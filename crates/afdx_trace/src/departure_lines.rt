@@ -1,6 +1,6 @@
 //! The copies that ports sent or gave up.
 
-ghost use Rattle.std.specs.Prelude.{◌≡◌, ◌++◌, List, Some, string_bytes, IfOk, OnOk};
+ghost use Rattle.std.specs.Prelude.{◌≡◌, ◌+◌, ◌<◌, ◌∷◌, ◌++◌, List, length, Some, false, IsTrue, string_bytes, IfOk, OnOk};
 ghost use Rattle.afdx_table.specs.Content.{port_row};
 ghost use Rattle.afdx_port.specs.Service.{Event, sent_of, aged_of};
 ghost use Rattle.afdx_isolation.specs.Table.{settings_of};
@@ -95,6 +95,23 @@ fn ages_next(sent: &[Sent], aged: &[Aged]) -> bool
     }
 }
 
+/// Whether an event is left.
+fn some_left(sent: &[Sent], aged: &[Aged]) -> bool
+    ensures some { IsTrue result → 0 < length sent.now + length aged.now }
+    ensures none { result ≡ false → (length sent.now ≡ 0) × (length aged.now ≡ 0) }
+{
+    !sent.is_empty() || !aged.is_empty()
+}
+
+/// The first of some, and the others.
+fn split<T>(items: &[T]) -> (&T, &[T])
+    requires { 0 < length items.now }
+    ensures parts { items.now ≡ result.0.now ∷ result.1.now }
+    ensures len { length items.now ≡ length result.1.now + 1 }
+{
+    items.split_first().unwrap()
+}
+
 /// Appends the lines of a port's events, in order.
 fn put_events<A: Allocator + Copy>(
     text: &mut String<A>,
@@ -106,14 +123,16 @@ fn put_events<A: Allocator + Copy>(
         → OnOk result (string_bytes text.new ≡ string_bytes text.old ++ event_lines port.now 0 events) }
 {
     let mut number = 0;
-    while !sent.is_empty() || !aged.is_empty() {
+    while some_left(sent, aged) {
         if ages_next(sent, aged) {
-            put_aged(text, port, &aged[0])?;
-            aged = &aged[1..];
-        } else if !sent.is_empty() {
+            let (next, others) = split(aged);
+            put_aged(text, port, next)?;
+            aged = others;
+        } else {
+            let (next, others) = split(sent);
             number += 1;
-            put_sent(text, port, number, &sent[0])?;
-            sent = &sent[1..];
+            put_sent(text, port, number, next)?;
+            sent = others;
         }
     }
     Ok(())
