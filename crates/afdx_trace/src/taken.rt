@@ -29,8 +29,8 @@ impl<A: Allocator> Model for Flags<A> {
 fn mark(flags: &mut [bool], number: usize)
     ensures { flags.new ≡ set flags.old number true }
 {
-    if let Some(flag) = flags.get_mut(number) {
-        *flag = true;
+    if number < flags.len() {
+        flags[number] = true;
     }
 }
 
@@ -95,11 +95,8 @@ fn has_taken<A: Allocator>(taken: &[Flags<A>], port: u8, number: usize) -> bool
     requires { 256 ≡ length taken.now }
     ensures { result ≡ slice_index_or (slice_index_or taken.now port []) number false }
 {
-    taken[usize::from(port)]
-        .all
-        .get(number)
-        .copied()
-        .unwrap_or(false)
+    let flags = &taken[usize::from(port)];
+    flags.all.get(number).copied().unwrap_or(false)
 }
 
 /// The ports that refused the copy of an arrival, of those that it was offered to.
