@@ -6,13 +6,19 @@
 #[cfg(test)]
 mod bounds;
 #[cfg(test)]
+mod feeding;
+#[cfg(test)]
 mod formats;
+#[cfg(test)]
+mod pieces;
 #[cfg(test)]
 mod policing;
 #[cfg(test)]
 mod ports;
 #[cfg(test)]
 mod refused;
+#[cfg(test)]
+mod sessions;
 #[cfg(test)]
 mod single;
 #[cfg(test)]
