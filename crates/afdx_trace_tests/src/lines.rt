@@ -3,7 +3,7 @@
 use afdx_core::{Done, Switch};
 use afdx_samples::{Sample, large, record, single, small};
 use afdx_table::read;
-use afdx_trace::departures;
+use afdx_trace::{arrivals, departures};
 use std::alloc::Global;
 use std::test::*;
 
@@ -20,7 +20,7 @@ fn run(alloc: Global, samples: &[(u8, Sample)]) -> Result<Done<'static, Global>,
     Ok(switch.finish())
 }
 
-/// Two small frames at once: one waits for the other. A frame at another port, one that comes too early, and one of no link.
+/// Two small frames at once: one waits for the other. A frame at another port, and one that comes 1 ns too early.
 fn frames() -> [(u8, Sample); 5] {
     [
         (1, small(10, 5)),
@@ -29,6 +29,23 @@ fn frames() -> [(u8, Sample); 5] {
         (1, large(10, 1_000)),
         (1, large(99, 2_000)),
     ]
+}
+
+#[test]
+fn lines_of_arrivals(rt: HostRuntime) -> Result<(), Fail> {
+    let alloc = rt.alloc();
+    let done = run(alloc, &frames())?;
+    let text = arrivals(alloc, &done)?;
+    assert_eq!(rt;
+        text.as_str(),
+        "frame,port,record,stamp,link,size,fate,early,full\n\
+0,1,1,5,10,64,passed,,\n\
+1,1,2,5,10,64,passed,,\n\
+2,2,1,7,10,64,wrong-port,,\n\
+3,1,3,1000,10,1518,policed,83327,\n\
+4,1,4,2000,,1518,no-link,,\n"
+    );
+    Ok(())
 }
 
 #[test]
