@@ -6,10 +6,10 @@ use Rattle.std.proofs.lemmas.Bool.Decides.{nat_tests}
 use Rattle.afdx_table.specs.declared.rows.PortRow.{PortRow}
 use Rattle.afdx_table.specs.WellFormed.{Rises}
 
-same : (a : ℕ) → (a == a) ≡ true
+pub same : (a : ℕ) → (a == a) ≡ true
 same a = grind (arith, nat_tests)
 
-below : (a b : ℕ) → a < b → (a == b) ≡ false
+pub below : (a b : ℕ) → a < b → (a == b) ≡ false
 below a b lt = grind (arith, nat_tests)
 
 above_at : (n : ℕ) (ports : List PortRow) (i : ℕ) (d : PortRow) → AllByRecursion (λ (q : PortRow). n < q.id) ports → i < length ports → n < (get_or ports i d).id

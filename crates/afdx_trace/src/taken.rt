@@ -1,13 +1,13 @@
 //! Which copies each port took.
 
-ghost use Rattle.std.specs.Prelude.{◌≡◌, ℕ, ◌<◌, ◌==◌, ◌||◌, not, [], true, false, length, set, filter, slice_index_or, IfOk};
+ghost use Rattle.std.specs.Prelude.{◌≡◌, ℕ, ◌<◌, ◌==◌, ◌||◌, [], true, false, length, set, slice_index_or, IfOk};
 ghost use Rattle.std.specs.List.{list_any};
-ghost use Rattle.afdx_core.specs.State.{Run};
-ghost use Rattle.afdx_trace.specs.Arrivals.{refusing, took};
-ghost use Rattle.afdx_trace.specs.Taken.{AreTaken};
+ghost use Rattle.afdx_table.specs.WellFormed.{IsWellFormed};
+ghost use Rattle.afdx_trace.specs.Taken.{AreTaken, flag_at, unflagged};
 
 use afdx_core::Done;
 use afdx_port::{Aged, Sent};
+use afdx_table::Table;
 use std::alloc::{AllocError, Allocator};
 use std::marker::Model;
 
@@ -75,28 +75,38 @@ fn flags_of<A: Allocator + Copy>(
     Ok(Flags { all })
 }
 
-/// The copies that each port took, by the ports' numbers from 0 to 255. O(arrivals) for each port that was offered some.
+/// The table is well formed.
+fn know_the_table(table: &Table)
+    ensures { IsWellFormed table.now }
+{
+    table.constant();
+}
+
+/// The copies that each port took, by the ports' numbers from 0 to 24. O(arrivals) for each port that was offered some.
 pub(crate) fn all_taken<A: Allocator + Copy, B: Allocator + Copy>(
     alloc: A,
     done: &Done<'_, B>,
 ) -> Result<Vec<Flags<A>, A>, AllocError>
     ensures { IfOk result (λ flags. AreTaken done.now.run flags.items) }
 {
+    know_the_table(done.table());
     let count = done.rows().len();
     let mut all = Vec::new(alloc);
-    for port in 0..=u8::MAX {
-        all.push(flags_of(alloc, count, done.sent(port), done.aged(port))?)?;
+    for port in 0..25u8 {
+        let flags = flags_of(alloc, count, done.sent(port), done.aged(port))?;
+        all.push(flags)?;
     }
     Ok(all)
 }
 
 /// Whether a port took the copy of an arrival.
 fn has_taken<A: Allocator>(taken: &[Flags<A>], port: u8, number: usize) -> bool
-    requires { 256 ≡ length taken.now }
-    ensures { result ≡ slice_index_or (slice_index_or taken.now port []) number false }
+    ensures { result ≡ flag_at taken.now port number }
 {
-    let flags = &taken[usize::from(port)];
-    flags.all.get(number).copied().unwrap_or(false)
+    match taken.get(usize::from(port)) {
+        Some(flags) => flags.all.get(number).copied().unwrap_or(false),
+        None => false,
+    }
 }
 
 /// The ports that refused the copy of an arrival, of those that it was offered to.
@@ -106,7 +116,7 @@ pub(crate) fn refusing<A: Allocator + Copy>(
     number: usize,
     to: &[u8],
 ) -> Result<Vec<u8, A>, AllocError>
-    ensures { (r : Run) → AreTaken r taken.now → number < length r.rows → IfOk result (λ ports. ports.items ≡ refusing r number to.now) }
+    ensures { IfOk result (λ ports. ports.items ≡ unflagged taken.now number to.now) }
 {
     let mut ports = Vec::new(alloc);
     for port in to {

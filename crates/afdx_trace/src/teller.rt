@@ -1,12 +1,12 @@
 //! The lines of arrivals, one after the other.
 
-ghost use Rattle.std.specs.Prelude.{◌≡◌, ◌≤◌, ◌<◌, ◌∷◌, [], ◌++◌, codes, decimal, map, flat_map, length, string_bytes, IfOk, OnOk, Some, Option};
+ghost use Rattle.std.specs.Prelude.{◌≡◌, ◌<◌, ◌∷◌, [], ◌++◌, codes, decimal, map, flat_map, length, string_bytes, IfOk, IfErr, OnOk, Some};
 ghost use Rattle.afdx_filter.specs.Place.{place_named};
-ghost use Rattle.afdx_core.specs.Rows.{named};
 ghost use Rattle.afdx_core.specs.Kept.{AccountsStand};
 ghost use Rattle.afdx_trace.specs.Csv.{field, joined, optional};
-ghost use Rattle.afdx_trace.specs.Arrivals.{verdict_word, early_in, record_in, frame_fields, fate_fields, arrival_line};
-ghost use Rattle.afdx_trace.specs.Telling.{AreCounted, Tells};
+ghost use Rattle.afdx_trace.specs.Arrivals.{verdict_word, record_in, frame_fields, fate_fields, arrival_line};
+ghost use Rattle.afdx_trace.specs.Taken.{AreTaken};
+ghost use Rattle.afdx_trace.specs.Telling.{AreCounted, IsPassed, IsPoliced, Tells};
 
 use crate::fields::{put_number, put_optional, put_ports, put_word};
 use crate::taken::{Flags, all_taken, refusing};
@@ -15,6 +15,7 @@ use afdx_core::laws::filtered_touch_no_account;
 use afdx_core::{Done, Row, accounts_of, police};
 use afdx_filter::Verdict;
 use afdx_table::Table;
+use afdx_table::laws::{links_are_found, links_stand_at_their_places};
 use std::alloc::{AllocError, Allocator};
 
 fn verdict_word(verdict: Verdict) -> &'static str
@@ -42,24 +43,29 @@ fn clean_place(table: &Table, verdict: Verdict) -> Option<usize>
     }
 }
 
-/// Offers a frame to the account of its link, at this place; how early it came, where it is policed.
-fn offer(
-    table: &Table,
+/// Offers a frame to the account of its link, at this place: the ports that it is then offered to where it is passed, else
+/// the nanoseconds by which it came early.
+fn offer<'t>(
+    table: &'t Table,
     accounts: &mut [Account],
     place: usize,
     before: &[Row],
     row: &Row,
-) -> Option<u64>
+) -> Result<&'t [u8], u64>
     requires place { place_named table.now row.now.verdict ≡ Some place }
     requires stand { AccountsStand table.now.links before.now row.now.stamp accounts.old }
-    ensures early { result ≡ early_in (named table.now row.now.verdict) before.now row.now }
+    ensures passed { IfOk result (λ to. IsPassed table.now before.now row.now to.now) }
+    ensures policed { IfErr result (λ early. IsPoliced table.now before.now row.now early) }
     ensures stand { AccountsStand table.now.links (before.now ++ row.now ∷ []) row.now.stamp accounts.new }
 {
+    links_stand_at_their_places();
+    links_are_found();
+    let link = table.link_at(place).unwrap();
     let early = early_by(&accounts[place], row.stamp, row.size);
     if police(accounts, place, row) {
-        None
+        Ok(link.to.as_slice())
     } else {
-        Some(early)
+        Err(early)
     }
 }
 
@@ -134,41 +140,45 @@ impl<A: Allocator + Copy> Teller<A> {
     pub(crate) fn new<B: Allocator + Copy>(alloc: A, done: &Done<'_, B>) -> Result<Self, AllocError>
         ensures { IfOk result (λ teller. Tells done.now.run [] 0 teller) }
     {
+        let accounts = accounts_of(alloc, done.table())?;
+        let taken = all_taken(alloc, done)?;
         Ok(Teller {
             alloc,
-            accounts: accounts_of(alloc, done.table())?,
+            accounts,
             records: [0; 256],
-            taken: all_taken(alloc, done)?,
+            taken,
         })
     }
 
-    /// Appends the fields of an arrival's fate, and ends the line.
-    fn tell_fate<B: Allocator + Copy>(
+    /// The word of an arrival's fate, how early it came where it was policed, and the ports that refused it where it was
+    /// passed.
+    fn fate<B: Allocator + Copy>(
         &mut self,
-        text: &mut String<A>,
         done: &Done<'_, B>,
         before: &[Row],
         row: &Row,
-    ) -> Result<(), AllocError>
-        requires tells { Tells done.now.run before.now row.now.stamp self.old }
+    ) -> Result<(&'static str, Option<u64>, Vec<u8, A>), AllocError>
+        requires stand { AccountsStand done.now.run.table.links before.now row.now.stamp self.old.accounts.items }
+        requires taken { AreTaken done.now.run self.old.taken.items }
         requires within { length before.now < length done.now.run.rows }
-        ensures text { OnOk result (string_bytes text.new ≡ string_bytes text.old ++ flat_map field (fate_fields done.now.run before.now row.now) ++ codes "\n") }
-        ensures stand { OnOk result (AccountsStand done.now.run.table.links (before.now ++ row.now ∷ []) row.now.stamp self.new.accounts.items) }
+        ensures fields { IfOk result (λ told. told.0.now ∷ optional told.1 ∷ joined (codes ";") (map decimal told.2.items) ∷ []
+            ≡ fate_fields done.now.run before.now row.now) }
+        ensures stand { AccountsStand done.now.run.table.links (before.now ++ row.now ∷ []) row.now.stamp self.new.accounts.items }
         ensures records { self.new.records ≡ self.old.records }
         ensures taken { self.new.taken ≡ self.old.taken }
     {
         filtered_touch_no_account();
+        links_stand_at_their_places();
         let table = done.table();
         let Some(place) = clean_place(table, row.verdict) else {
-            return put_fate(text, verdict_word(row.verdict), None, &[]);
+            return Ok((verdict_word(row.verdict), None, Vec::new(self.alloc)));
         };
         match offer(table, &mut self.accounts, place, before, row) {
-            Some(early) => put_fate(text, "policed", Some(early), &[]),
-            None => {
-                let to = table.link_at(place).unwrap().to.as_slice();
+            Ok(to) => {
                 let full = refusing(self.alloc, &self.taken, before.len(), to)?;
-                put_fate(text, "passed", None, &full)
+                Ok(("passed", None, full))
             }
+            Err(early) => Ok(("policed", Some(early), Vec::new(self.alloc))),
         }
     }
 
@@ -186,7 +196,8 @@ impl<A: Allocator + Copy> Teller<A> {
         ensures tells { OnOk result (Tells done.now.run (before.now ++ row.now ∷ []) row.now.stamp self.new) }
     {
         let place = count(&mut self.records, before, row);
+        let (word, early, full) = self.fate(done, before, row)?;
         put_frame(text, before, place, row)?;
-        self.tell_fate(text, done, before, row)
+        put_fate(text, word, early, &full)
     }
 }
