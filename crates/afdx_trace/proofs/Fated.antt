@@ -1,5 +1,6 @@
 -- What is told of one arrival, and of one after the other.
-use Rattle.std.proofs.Common.{◌≡◌, ℕ, suc, ◌+◌, ◌<◌, ◌≤◌, Bool, true, false, cond, List, [], ◌∷◌, ◌++◌, length, map, take, drop, get_or, codes, decimal, Option, Some, None, string_bytes, refl, sym, ap, ◌∙◌, subst, arith, append_assoc, append-nil}
+use Rattle.std.proofs.Common.{◌≡◌, ℕ, suc, ◌+◌, ◌<◌, ◌≤◌, Bool, true, false, cond, List, [], ◌∷◌, ◌++◌, length, map, take, drop, get_or, codes, decimal, Option, Some, None, string_bytes, refl, sym, ap, ◌∙◌, subst, arith, append_assoc, append-nil, add-one}
+use Rattle.std.proofs.Math.ListN.{drop_of_length-le}
 use Rattle.std.proofs.Math.Seq.{take-suc, drop-cons}
 use Rattle.std.specs.Vec.{with_items}
 use Rattle.std.specs.declared.vec.Vec.{Vec}
@@ -62,15 +63,25 @@ tells_later r before latest at t le tells = record {
 }
 
 -- the arrival after so many
-pub comes_next : (rows : List Row) (n : ℕ) (d : Row) (latest : ℕ) → n < length rows → InOrder latest (map frame_of (drop n rows))
-    → (latest ≤ (get_or rows n d).stamp) × InOrder (get_or rows n d).stamp (map frame_of (drop (n + 1) rows))
-comes_next rows n d latest lt order = subst (λ (rest : List Row). InOrder latest (map frame_of rest)) (drop-cons rows n d lt) order
+drop_next : (rows : List Row) (n : ℕ) (x : Row) → n < length rows → x ≡ get_or rows n x → drop n rows ≡ x ∷ drop (n + 1) rows
+drop_next rows n x lt is = drop-cons rows n x lt ∙ ap (λ (y : Row). y ∷ drop (suc n) rows) (sym is) ∙ ap (λ (k : ℕ). x ∷ drop k rows) (sym (add-one n))
 
-pub told_next : (f : List Row → Row → List ℕ) (rows : List Row) (n : ℕ) (d : Row) (whole text longer : List ℕ) → n < length rows
-    → whole ≡ text ++ each_after f (take n rows) (drop n rows) → longer ≡ text ++ f (take n rows) (get_or rows n d)
+pub take_next : (rows : List Row) (n : ℕ) (x : Row) → n < length rows → x ≡ get_or rows n x → take (n + 1) rows ≡ take n rows ++ x ∷ []
+take_next rows n x lt is = ap (λ (k : ℕ). take k rows) (add-one n) ∙ take-suc rows n x lt ∙ ap (λ (y : Row). take n rows ++ y ∷ []) (sym is)
+
+pub comes_next : (rows : List Row) (n : ℕ) (x : Row) (latest : ℕ) → n < length rows → x ≡ get_or rows n x → InOrder latest (map frame_of (drop n rows))
+    → (latest ≤ x.stamp) × InOrder x.stamp (map frame_of (drop (n + 1) rows))
+comes_next rows n x latest lt is order = subst (λ (rest : List Row). InOrder latest (map frame_of rest)) (drop_next rows n x lt is) order
+
+pub told_next : (f : List Row → Row → List ℕ) (rows : List Row) (n : ℕ) (x : Row) (whole text longer : List ℕ) → n < length rows → x ≡ get_or rows n x
+    → whole ≡ text ++ each_after f (take n rows) (drop n rows) → longer ≡ text ++ f (take n rows) x
     → whole ≡ longer ++ each_after f (take (n + 1) rows) (drop (n + 1) rows)
-told_next f rows n d whole text longer lt before is =
-    before ∙ ap (λ (rest : List Row). text ++ each_after f (take n rows) rest) (drop-cons rows n d lt)
-    ∙ sym (append_assoc text (f (take n rows) (get_or rows n d)) (each_after f (take n rows ++ get_or rows n d ∷ []) (drop (n + 1) rows)))
-    ∙ ap (λ (t : List ℕ). t ++ each_after f (take n rows ++ get_or rows n d ∷ []) (drop (n + 1) rows)) (sym is)
-    ∙ ap (λ (done : List Row). longer ++ each_after f done (drop (n + 1) rows)) (sym (take-suc rows n d lt))
+told_next f rows n x whole text longer lt is before grown =
+    before ∙ ap (λ (rest : List Row). text ++ each_after f (take n rows) rest) (drop_next rows n x lt is)
+    ∙ sym (append_assoc text (f (take n rows) x) (each_after f (take n rows ++ x ∷ []) (drop (n + 1) rows)))
+    ∙ ap (λ (t : List ℕ). t ++ each_after f (take n rows ++ x ∷ []) (drop (n + 1) rows)) (sym grown)
+    ∙ ap (λ (told : List Row). longer ++ each_after f told (drop (n + 1) rows)) (sym (take_next rows n x lt is))
+
+pub told_all : (f : List Row → Row → List ℕ) (rows : List Row) (n : ℕ) (whole text : List ℕ) → length rows ≤ n
+    → whole ≡ text ++ each_after f (take n rows) (drop n rows) → text ≡ whole
+told_all f rows n whole text le before = sym (before ∙ ap (λ (rest : List Row). text ++ each_after f (take n rows) rest) (drop_of_length-le rows le) ∙ append-nil text)

@@ -1,16 +1,16 @@
-use Rattle.std.proofs.Common.{◌≡◌, ◌<◌, length, refl, ap, sym, ◌∙◌, subst, arith}
+use Rattle.std.proofs.Common.{◌≡◌, ◌<◌, length, ap, sym, ◌∙◌, subst, arith}
 use Rattle.afdx_table.specs.WellFormed.{IsWellFormed}
 use Rattle.afdx_trace.proofs.Taking.{took_is, taken_more, taken_all}
 use Rattle.afdx_trace.proofs.taken.all_taken.Goals as goal
 
 pub loop-port-init : goal.loop-port-init
-loop-port-init g c = record { long = refl; each = λ port number lt within. absurd (omega (arith, lt)) }
+loop-port-init g c = record { long = ap length c.new-all.ensures.items; each = λ port number lt within. absurd (omega (arith, lt)) }
 
 pub loop-port-preserved : goal.loop-port-preserved
 loop-port-preserved g c =
     let r = c.args.done.now.run in
     let port = c.loop-port.port in
-    let count : c.len-count.result ≡ length r.rows = c.len-count.ensures ∙ ap length c.rows.ensures.rows in
+    let count : length c.rows-count.result.now ≡ length r.rows = ap length c.rows-count.ensures.rows in
     record {
       long = omega (arith, c.loop-port.invariant.long, ap length c.in_ok-push.ensures.items);
       each = rw c.in_ok-push.ensures.items (taken_more r c.loop-port.all.items c.in_ok-flags.flags port c.loop-port.invariant.long

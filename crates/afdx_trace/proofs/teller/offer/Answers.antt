@@ -6,13 +6,13 @@ use Rattle.afdx_trace.proofs.teller.offer.Goals as goal
 pub early_by-early-requires-clause-in_order : goal.early_by-early-requires-clause-in_order
 early_by-early-requires-clause-in_order c =
     let n = is_at c.args.table.now c.args.row.now.verdict c.args.place c.link_at.result c.unwrap-link.result c.links_stand_at_their_places.ensures c.links_are_found.ensures c.requires.place c.link_at.ensures.link c.unwrap-link.ensures in
-    (c.requires.stand.each c.args.place c.unwrap-link.result.now _ n.within).since
+    (c.requires.stand.each c.args.place c.unwrap-link.result.now c.index-accounts-place.result n.within).since
 
 pub early_by-early-requires-clause-credited : goal.early_by-early-requires-clause-credited
 early_by-early-requires-clause-credited c =
     let n = is_at c.args.table.now c.args.row.now.verdict c.args.place c.link_at.result c.unwrap-link.result c.links_stand_at_their_places.ensures c.links_are_found.ensures c.requires.place c.link_at.ensures.link c.unwrap-link.ensures in
     is_credited c.args.table.now.ports c.link_at.result c.unwrap-link.result _ c.args.before.now c.args.row.now.stamp _ c.link_at.ensures.limits c.unwrap-link.ensures n.at
-    (c.requires.stand.each c.args.place c.unwrap-link.result.now _ n.within)
+    (c.requires.stand.each c.args.place c.unwrap-link.result.now c.index-accounts-place.result n.within)
 
 pub police-requires-clause-in_order : goal.police-requires-clause-in_order
 police-requires-clause-in_order c a =
