@@ -21,14 +21,14 @@ use Rattle.afdx_trace.specs.declared.teller.Teller.{Teller}
 use Rattle.afdx_trace.specs.Telling.{IsPassed, IsPoliced, Tells}
 
 -- the fields of a fate, by the link
-fields_by : Run → List Row → Row → Option Link → List (List ℕ)
+abbrev fields_by : Run → List Row → Row → Option Link → List (List ℕ)
 fields_by r before row o = fate_word (fate_by o before row) ∷ optional (early_in o before row) ∷ joined (codes ";") (map decimal (full_in r o before row)) ∷ []
 
 pub filtered_fields : (r : Run) (before : List Row) (row : Row) → named r.table row.verdict ≡ None → verdict_word row.verdict ∷ [] ∷ [] ∷ [] ≡ fate_fields r before row
 filtered_fields r before row none = sym (ap (fields_by r before row) none)
 
 -- those of a link's frame, by whether it is passed
-judged_fields : Run → List Row → Row → Link → Bool → List (List ℕ)
+abbrev judged_fields : Run → List Row → Row → Link → Bool → List (List ℕ)
 judged_fields r before row l p = fate_word (cond p (Passed l.id) (Policed l.id))
     ∷ optional (cond p None (Some (early_by (terms_of l) (passed_frames (terms_of l) (account_frames l.id before)) (frame_of row))))
     ∷ joined (codes ";") (map decimal (cond p (refusing r (length before) l.to) [])) ∷ []

@@ -3,7 +3,7 @@ use Rattle.std.proofs.Common.{◌≡◌, ℕ, ◌+◌, ◌<◌, ◌≤◌, ◌==
 use Rattle.std.specs.Prelude.{find}
 use Rattle.std.specs.List.{AllByRecursion, list_any}
 use Rattle.std.proofs.Math.Seq.{get_or-append_seam}
-use Rattle.std.proofs.lemmas.List.{get_or_append_left, get_or_past}
+use Rattle.std.proofs.lemmas.List.{get_or_append_left, get_or_past, length-append}
 use Rattle.std.proofs.lemmas.Bool.{cases_lt}
 use Rattle.afdx_table.specs.declared.rows.PortRow.{PortRow}
 use Rattle.afdx_table.specs.Content.{port_row}
@@ -23,6 +23,9 @@ AreTakenBelow r ports flags = (port number : ℕ) → port < ports → number < 
 pub took_is : (r : Run) (port number : ℕ) (sent : List Sent) (aged : List Aged) → sent ≡ sent_in r (port_row r.table port) → aged ≡ aged_in r (port_row r.table port)
     → (list_any (λ (x : Sent). x.item.number == number) sent || list_any (λ (x : Aged). x.item.number == number) aged) ≡ took r port number
 took_is r port number sent aged sent_is aged_is = rw (sent_is, aged_is) refl
+
+pub one_more : (all : List (List Bool)) (flags : List Bool) (port : ℕ) → length all ≡ port → length (all ++ flags ∷ []) ≡ port + 1
+one_more all flags port long = length-append all (flags ∷ []) ∙ ap (λ (n : ℕ). n + 1) long
 
 pub taken_more : (r : Run) (all : List (List Bool)) (flags : List Bool) (port : ℕ) → length all ≡ port
     → ((number : ℕ) → number < length r.rows → get_or flags number false ≡ took r port number) → AreTakenBelow r port all → AreTakenBelow r (port + 1) (all ++ flags ∷ [])

@@ -1,6 +1,6 @@
 use Rattle.std.proofs.Common.{◌≡◌, ◌<◌, length, ap, sym, ◌∙◌, subst, arith}
 use Rattle.afdx_table.specs.WellFormed.{IsWellFormed}
-use Rattle.afdx_trace.proofs.Taking.{took_is, taken_more, taken_all}
+use Rattle.afdx_trace.proofs.Taking.{one_more, took_is, taken_more, taken_all}
 use Rattle.afdx_trace.proofs.taken.all_taken.Goals as goal
 
 pub loop-port-init : goal.loop-port-init
@@ -12,7 +12,7 @@ loop-port-preserved g c =
     let port = c.loop-port.port in
     let count : length c.rows-count.result.now ≡ length r.rows = ap length c.rows-count.ensures.rows in
     record {
-      long = omega (arith, c.loop-port.invariant.long, ap length c.in_ok-push.ensures.items);
+      long = ap length c.in_ok-push.ensures.items ∙ one_more c.loop-port.all.items c.in_ok-flags.flags port c.loop-port.invariant.long;
       each = rw c.in_ok-push.ensures.items (taken_more r c.loop-port.all.items c.in_ok-flags.flags port c.loop-port.invariant.long
           (λ number within. c.in_ok-flags.ensures number (omega (arith, count, within)) ∙ took_is r port number c.sent.result.now c.aged.result.now c.sent.ensures.sent c.aged.ensures.aged)
           c.loop-port.invariant.each);
