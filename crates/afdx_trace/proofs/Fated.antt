@@ -1,5 +1,5 @@
 -- What is told of one arrival, and of one after the other.
-use Rattle.std.proofs.Common.{◌≡◌, ℕ, suc, ◌+◌, ◌<◌, ◌≤◌, Bool, true, false, cond, List, [], ◌∷◌, ◌++◌, length, map, take, drop, get_or, codes, decimal, Option, Some, None, string_bytes, refl, sym, ap, ◌∙◌, subst, arith, append_assoc, append-nil, add-one}
+use Rattle.std.proofs.Common.{◌≡◌, ℕ, suc, ◌+◌, ◌<◌, ◌≤◌, Bool, cond, List, [], ◌∷◌, ◌++◌, length, map, take, drop, get_or, codes, decimal, Option, Some, None, sym, ap, ◌∙◌, subst, arith, append_assoc, append-nil, add-one}
 use Rattle.std.proofs.Math.ListN.{drop_of_length-le}
 use Rattle.std.proofs.Math.Seq.{take-suc, drop-cons}
 use Rattle.std.specs.Vec.{with_items}
@@ -11,12 +11,11 @@ use Rattle.afdx_account.specs.Policing.{passed_frames}
 use Rattle.afdx_account.specs.Early.{early_by}
 use Rattle.afdx_load.specs.Sums.{terms_of}
 use Rattle.afdx_core.specs.declared.kinds.Row.{Row}
-use Rattle.afdx_core.specs.declared.kinds.Fate.TheVariants.{Filtered, Policed, Passed}
-use Rattle.afdx_core.specs.Rows.{named, passes, fate_by, each_after, account_frames, frame_of}
+use Rattle.afdx_core.specs.declared.kinds.Fate.TheVariants.{Policed, Passed}
+use Rattle.afdx_core.specs.Rows.{named, fate_by, each_after, account_frames, frame_of}
 use Rattle.afdx_core.specs.State.{Run}
-use Rattle.afdx_core.specs.Kept.{AccountsStand}
 use Rattle.afdx_trace.specs.Csv.{joined, optional}
-use Rattle.afdx_trace.specs.Arrivals.{verdict_word, fate_word, early_in, full_in, fate_fields, refusing, arrival_line}
+use Rattle.afdx_trace.specs.Arrivals.{verdict_word, fate_word, early_in, full_in, fate_fields, refusing}
 use Rattle.afdx_trace.specs.declared.teller.Teller.{Teller}
 use Rattle.afdx_trace.specs.Telling.{IsPassed, IsPoliced, Tells}
 

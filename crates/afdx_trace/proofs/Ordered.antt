@@ -1,5 +1,5 @@
 -- A port's events are in order.
-use Rattle.std.proofs.Common.{◌≡◌, ℕ, zero, suc, ◌+◌, ◌*◌, ◌-◌, ◌<◌, ◌≤◌, max, nat_lt, Bool, true, false, cond, List, [], ◌∷◌, length, filter, arith}
+use Rattle.std.proofs.Common.{ℕ, zero, suc, ◌+◌, ◌-◌, ◌<◌, ◌≤◌, max, nat_lt, Bool, true, false, cond, List, [], ◌∷◌, length, filter, arith}
 use Rattle.std.specs.List.{AllByRecursion}
 use Rattle.afdx_units.specs.declared.line.Speed.{Speed}
 use Rattle.afdx_units.specs.declared.line.Speed.TheVariants.{Ten, Hundred}
@@ -9,7 +9,7 @@ use Rattle.afdx_port.specs.declared.Item.{Item}
 use Rattle.afdx_port.specs.declared.Sent.{Sent}
 use Rattle.afdx_port.specs.declared.Aged.{Aged}
 use Rattle.afdx_port.specs.Service.{Event, sending, aging, instant, free_after, came, fate, next, others, in_turn, serve}
-use Rattle.afdx_port.specs.Content.{Content, done}
+use Rattle.afdx_port.specs.Content.{done}
 use Rattle.afdx_trace.specs.Departures.{AreInOrder}
 use Rattle.afdx_trace.specs.Laws.{EventsAreInOrder}
 

@@ -1,5 +1,5 @@
 -- The flags of the copies that each port took.
-use Rattle.std.proofs.Common.{◌≡◌, ℕ, ◌+◌, ◌<◌, ◌≤◌, ◌==◌, ◌||◌, not, Bool, true, false, cond, List, [], ◌∷◌, ◌++◌, length, get_or, Option, None, Some, refl, sym, ap, ◌∙◌, subst, arith, inl, inr}
+use Rattle.std.proofs.Common.{◌≡◌, ℕ, ◌+◌, ◌<◌, ◌≤◌, ◌==◌, ◌||◌, not, Bool, false, cond, List, [], ◌∷◌, ◌++◌, length, get_or, Option, None, Some, refl, sym, ap, ◌∙◌, subst, arith, inl, inr}
 use Rattle.std.specs.Prelude.{find}
 use Rattle.std.specs.List.{AllByRecursion, list_any}
 use Rattle.std.proofs.Math.Seq.{get_or-append_seam}
@@ -33,11 +33,11 @@ taken_more r all flags port long new before q number lt within =
     elim (cases_lt q port) [
       | inl less ↦ ap (λ (fs : List Bool). get_or fs number false) (get_or_append_left all (flags ∷ []) [] q (omega (arith, less, long))) ∙ before q number less within
       | inr more ↦ (
-        let same : length all ≡ q = omega (arith, more, lt, long) in
-        let here = subst (λ (n : ℕ). get_or (all ++ flags ∷ []) n [] ≡ flags) same (get_or-append_seam all flags [] []) in
-        let own = subst (λ (n : ℕ). get_or flags number false ≡ took r n number) (sym long ∙ same) (new number within) in
-        ap (λ (fs : List Bool). get_or fs number false) here ∙ own
-      )
+          let same : length all ≡ q = omega (arith, more, lt, long) in
+          let here = subst (λ (n : ℕ). get_or (all ++ flags ∷ []) n [] ≡ flags) same (get_or-append_seam all flags [] []) in
+          let own = subst (λ (n : ℕ). get_or flags number false ≡ took r n number) (sym long ∙ same) (new number within) in
+          ap (λ (fs : List Bool). get_or fs number false) here ∙ own
+          )
     ]
 
 -- a table has no port above 24
@@ -55,8 +55,8 @@ taken_all r all ports well enough long below_it q number within =
     elim (cases_lt q ports) [
       | inl less ↦ below_it q number less within
       | inr more ↦
-        ap (λ (fs : List Bool). get_or fs number false) (get_or_past all q [] (omega (arith, more, long)))
-        ∙ sym (none_took r q number (no_port r.table.ports q well.ports (omega (arith, more, enough))))
+          ap (λ (fs : List Bool). get_or fs number false) (get_or_past all q [] (omega (arith, more, long)))
+          ∙ sym (none_took r q number (no_port r.table.ports q well.ports (omega (arith, more, enough))))
     ]
 
 -- those without a flag refused it

@@ -1,8 +1,4 @@
 -- What holds of the events of a port.
-use Rattle.std.specs.Prelude.{ℕ, List}
-use Rattle.afdx_port.specs.declared.Settings.{Settings}
-use Rattle.afdx_port.specs.declared.Item.{Item}
-use Rattle.afdx_port.specs.Service.{service}
 use Rattle.afdx_port.specs.Content.{Content, done}
 use Rattle.afdx_trace.specs.Departures.{AreInOrder}
 

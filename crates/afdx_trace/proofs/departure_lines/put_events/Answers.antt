@@ -1,4 +1,4 @@
-use Rattle.std.proofs.Common.{rules, arith, ◌+◌, sym, ◌∙◌, string_bytes}
+use Rattle.std.proofs.Common.{rules, arith, sym, ◌∙◌, string_bytes}
 use Rattle.afdx_trace.proofs.Departing.{left_aged, left_sent, all_told}
 use Rattle.afdx_trace.proofs.departure_lines.put_events.Goals as goal
 

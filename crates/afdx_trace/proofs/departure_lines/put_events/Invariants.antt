@@ -1,4 +1,4 @@
-use Rattle.std.proofs.Common.{◌≡◌, ℕ, ◌+◌, length, string_bytes}
+use Rattle.std.proofs.Common.{◌≡◌, ◌+◌, length, string_bytes}
 use Rattle.afdx_trace.proofs.Departing.{LeftOf}
 use Rattle.afdx_trace.proofs.departure_lines.put_events.Given as goal
 

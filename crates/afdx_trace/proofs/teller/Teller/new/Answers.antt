@@ -1,4 +1,4 @@
-use Rattle.std.proofs.Common.{[], ap, subst}
+use Rattle.std.proofs.Common.{[], subst}
 use Rattle.std.proofs.lemmas.List.{get_or-replicate}
 use Rattle.afdx_table.specs.Content.{Content}
 use Rattle.afdx_core.specs.Kept.{AccountsStand}
