@@ -28,12 +28,14 @@ left_first p sent aged start all order sent_is aged_is = record { events = all; 
 aged_late : (t : ℕ) (events : List Event) (a : Aged) (aged : List Aged) → AllByRecursion (λ event. t < instant event) events → aged_of events ≡ a ∷ aged → t < a.at
 aged_late t [] a aged late is = absurd (let e : [] ≡ a ∷ aged = is in cc)
 aged_late t (sending x ∷ events) a aged late is = aged_late t events a aged late.1 is
-aged_late t (aging x ∷ events) a aged late is = let h = late.0 in let e : x ∷ aged_of events ≡ a ∷ aged = is in let same : x.at ≡ a.at = ap (λ (xs : List Aged). (get_or xs 0 a).at) e in omega (arith, h, same)
+aged_late t (aging x ∷ events) a aged late is =
+    let h = late.0 in let e : x ∷ aged_of events ≡ a ∷ aged = is in let same : x.at ≡ a.at = ap (λ (xs : List Aged). (get_or xs 0 a).at) e in omega (arith, h, same)
 
 sent_late : (t : ℕ) (events : List Event) (x : Sent) (sent : List Sent) → AllByRecursion (λ event. t ≤ instant event) events → sent_of events ≡ x ∷ sent → t ≤ x.begin
 sent_late t [] x sent late is = absurd (let e : [] ≡ x ∷ sent = is in cc)
 sent_late t (aging a ∷ events) x sent late is = sent_late t events x sent late.1 is
-sent_late t (sending y ∷ events) x sent late is = let h = late.0 in let e : y ∷ sent_of events ≡ x ∷ sent = is in let same : y.begin ≡ x.begin = ap (λ (xs : List Sent). (get_or xs 0 x).begin) e in omega (arith, h, same)
+sent_late t (sending y ∷ events) x sent late is =
+    let h = late.0 in let e : y ∷ sent_of events ≡ x ∷ sent = is in let same : y.begin ≡ x.begin = ap (λ (xs : List Sent). (get_or xs 0 x).begin) e in omega (arith, h, same)
 
 -- ---- which is next
 
@@ -99,20 +101,24 @@ one_sent p all (sending y ∷ events) x sent aged number start text longer next 
   order = order.1;
   sent_is = ap (drop 1) sent_is;
   aged_is = aged_is;
-  text_is = grown start (event_lines p 0 all) text (sent_line p (number + 1) y) (event_lines p (number + 1) events) longer before (is ∙ ap (λ (xs : List Sent). text ++ sent_line p (number + 1) (get_or xs 0 x)) (sym sent_is));
+  text_is = grown start (event_lines p 0 all) text (sent_line p (number + 1) y) (event_lines p (number + 1) events) longer before
+      (is ∙ ap (λ (xs : List Sent). text ++ sent_line p (number + 1) (get_or xs 0 x)) (sym sent_is));
 }
 
 -- what the lists tell of the events
-told : (p : PortRow) (all : List Event) (sent : List Sent) (aged : List Aged) (number : ℕ) (start text : List ℕ) (l : Left p all sent aged number start text) → ages_next sent aged ≡ starts_aged l.events
+told : (p : PortRow) (all : List Event) (sent : List Sent) (aged : List Aged) (number : ℕ) (start text : List ℕ) (l : Left p all sent aged number start text)
+    → ages_next sent aged ≡ starts_aged l.events
 told p all sent aged number start text l = sym (ap (λ (xs : List Sent). ages_next xs aged) l.sent_is) ∙ sym (ap (ages_next (sent_of l.events)) l.aged_is) ∙ tells_next l.events l.order
 
-pub left_aged : (p : PortRow) (sent₀ sent : List Sent) (aged₀ before_aged : List Aged) (a : Aged) (aged : List Aged) (number : ℕ) (start text longer : List ℕ) → ages_next sent before_aged ≡ true → before_aged ≡ a ∷ aged
+pub left_aged : (p : PortRow) (sent₀ sent : List Sent) (aged₀ before_aged : List Aged) (a : Aged) (aged : List Aged) (number : ℕ) (start text longer : List ℕ)
+    → ages_next sent before_aged ≡ true → before_aged ≡ a ∷ aged
     → longer ≡ text ++ aged_line p a → LeftOf p sent₀ aged₀ sent before_aged number start text → LeftOf p sent₀ aged₀ sent aged number start longer
 left_aged p sent₀ sent aged₀ before_aged a aged number start text longer next parts is before all order sent_is aged_is =
     let l = before all order sent_is aged_is in
     one_aged p all l.events sent a aged number start text longer (sym (told p all sent before_aged number start text l) ∙ next) l.order l.sent_is (l.aged_is ∙ parts) l.text_is is
 
-pub left_sent : (p : PortRow) (sent₀ before_sent : List Sent) (x : Sent) (sent : List Sent) (aged₀ aged : List Aged) (number : ℕ) (start text longer : List ℕ) → ages_next before_sent aged ≡ false → before_sent ≡ x ∷ sent
+pub left_sent : (p : PortRow) (sent₀ before_sent : List Sent) (x : Sent) (sent : List Sent) (aged₀ aged : List Aged) (number : ℕ) (start text longer : List ℕ)
+    → ages_next before_sent aged ≡ false → before_sent ≡ x ∷ sent
     → longer ≡ text ++ sent_line p (number + 1) x → LeftOf p sent₀ aged₀ before_sent aged number start text → LeftOf p sent₀ aged₀ sent aged (number + 1) start longer
 left_sent p sent₀ before_sent x sent aged₀ aged number start text longer next parts is before all order sent_is aged_is =
     let l = before all order sent_is aged_is in
@@ -132,7 +138,8 @@ none_left p [] number no_sent no_aged = refl
 none_left p (sending x ∷ events) number no_sent no_aged = absurd (let none : length (x ∷ sent_of events) ≡ 0 = ap length no_sent in omega (arith, none))
 none_left p (aging a ∷ events) number no_sent no_aged = absurd (let none : length (a ∷ aged_of events) ≡ 0 = ap length no_aged in omega (arith, none))
 
-pub all_told : (p : PortRow) (sent₀ sent : List Sent) (aged₀ aged : List Aged) (number : ℕ) (start text : List ℕ) → length sent ≡ 0 → length aged ≡ 0 → LeftOf p sent₀ aged₀ sent aged number start text
+pub all_told : (p : PortRow) (sent₀ sent : List Sent) (aged₀ aged : List Aged) (number : ℕ) (start text : List ℕ) → length sent ≡ 0 → length aged ≡ 0
+    → LeftOf p sent₀ aged₀ sent aged number start text
     → (events : List Event) → AreInOrder events → sent_of events ≡ sent₀ → aged_of events ≡ aged₀ → text ≡ start ++ event_lines p 0 events
 all_told p sent₀ sent aged₀ aged number start text no_sent no_aged before events order sent_is aged_is =
     let l = before events order sent_is aged_is in

@@ -65,7 +65,8 @@ credits : (p : Police) (max_size : ℕ) (bag : Bag) (jitter : ℕ) → 64 ≤ ma
 credits Byte max_size bag jitter large = omega (arith, large)
 credits ByFrames max_size bag jitter large = omega arith
 
-pub is_credited : (ports : List PortRow) (r : Option (Bor Link)) (b : Bor Link) (a : Account) (before : List Row) (latest : ℕ) (m : Link) → IfSome r (λ (x : Bor Link). IsLink ports x.now) → r ≡ Some b
+pub is_credited : (ports : List PortRow) (r : Option (Bor Link)) (b : Bor Link) (a : Account) (before : List Row) (latest : ℕ) (m : Link)
+    → IfSome r (λ (x : Bor Link). IsLink ports x.now) → r ≡ Some b
     → m ≡ b.now → AccountStands m a before latest → 0 < (account_terms a).rate
 is_credited ports r b a before latest m limits some same stands =
     let link = subst (λ (o : Option (Bor Link)). IfSome o (λ (x : Bor Link). IsLink ports x.now)) some limits in

@@ -13,7 +13,8 @@ returns-in_default-clause-stand g c =
     let t = c.args.done.now.run.table in
     let row = c.args.row.now in
     let none : place_named t row.verdict ≡ None = ap (λ (table : Content). place_named table row.verdict) (sym c.table-table.ensures) ∙ sym c.in_default.ensures in
-    c.filtered_touch_no_account.ensures t c.args.before.now row.stamp row c.args.self.now.accounts.items (none_at t row.verdict c.links_stand_at_their_places.ensures none) (omega arith) c.requires.stand
+    c.filtered_touch_no_account.ensures t c.args.before.now row.stamp row c.args.self.now.accounts.items
+    (none_at t row.verdict c.links_stand_at_their_places.ensures none) (omega arith) c.requires.stand
 
 pub returns-in_ok-full-in-Ok-clause-fields : goal.returns-in_ok-full-in-Ok-clause-fields
 returns-in_ok-full-in-Ok-clause-fields g c =
@@ -22,4 +23,5 @@ returns-in_ok-full-in-Ok-clause-fields g c =
     let row = c.args.row.now in
     let to = c.in-Ok.to.now in
     passed_fields r before row to c.in_ok-full-in-Ok.full.items (subst (λ (t : Content). IsPassed t before row to) c.table-table.ensures c.in-Ok.ensures.passed)
-    (c.in_ok-full-in-Ok.ensures ∙ ap (λ (flags : List (List Bool)). unflagged flags (length before) to) c.deref.ensures.value ∙ unflagged_refuse r c.args.self.now.taken.items (length before) to c.requires.taken c.requires.within)
+    (c.in_ok-full-in-Ok.ensures ∙ ap (λ (flags : List (List Bool)). unflagged flags (length before) to) c.deref.ensures.value
+    ∙ unflagged_refuse r c.args.self.now.taken.items (length before) to c.requires.taken c.requires.within)
