@@ -1,3 +1,4 @@
+pub mod Early
 pub mod Examples
 pub mod Tested
 pub mod Windows

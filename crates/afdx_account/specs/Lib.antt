@@ -1,4 +1,5 @@
 pub mod Account
+pub mod Early
 pub mod Laws
 pub mod Level
 pub mod MeterLaws

@@ -1,6 +1,7 @@
 //! Laws over the definitions: functions that do nothing, whose contracts are the laws.
 
 ghost use Rattle.afdx_account.specs.Laws.{StepsPassWhatConforms, ConformingIsTested, NextJoinsWhereItConforms, NextFrameJoinsWhereItConforms, PassedByTheirFrames, HeadroomIsCredited, HeadroomDecides, HeadroomIsDebited};
+ghost use Rattle.afdx_account.specs.Early.{EarlyIsLeast, EarlyByTheLevel};
 ghost use Rattle.afdx_account.specs.Laws.{BytePricesPay, FramePricesPay, PricesPay};
 
 /// A full account that goes step by step, over frames whose stamps don't fall, passes exactly the frames
@@ -51,4 +52,11 @@ pub fn frame_prices_pay()
 /// What a frame costs pays for its line time, whatever the kind of policing, where the link allows its size.
 pub fn prices_pay()
     ensures { PricesPay }
+{}
+
+/// How early a frame came is the least time by which it would have conformed had it come so much later, and it is the
+/// time in which an account is credited what its level lacks.
+pub fn early_is_least()
+    ensures least { EarlyIsLeast }
+    ensures by_level { EarlyByTheLevel }
 {}

@@ -11,12 +11,14 @@ mod frame;
 mod frames;
 pub mod laws;
 mod meter;
+mod too_early;
 
 pub use account::Account;
 pub use byte::ByteAccount;
 pub use frame::Frame;
 pub use frames::FrameAccount;
 pub use meter::Meter;
+pub use too_early::early_by;
 
 #[cfg(test)]
 mod tests;

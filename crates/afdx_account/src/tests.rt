@@ -1,6 +1,6 @@
 //! Frames of one link and the answers of its account, worked out by hand from the windows.
 
-ghost use Rattle.std.specs.Prelude.{◌≡◌, ◌≤◌};
+ghost use Rattle.std.specs.Prelude.{◌≡◌, ◌<◌, ◌≤◌};
 
 use super::*;
 use afdx_units::{Bag, Police, Speed, Stamp};
@@ -8,7 +8,8 @@ use std::test::Fail;
 
 /// An account of BAG 1 ms, no jitter and frames of at most 1518 bytes.
 fn account() -> ByteAccount
-    ensures { ⟦<ByteAccount as Meter>⟧.since result ≡ 0 }
+    ensures since { ⟦<ByteAccount as Meter>⟧.since result ≡ 0 }
+    ensures rate { (⟦<ByteAccount as Meter>⟧.terms result).rate ≡ 1518 }
 {
     ByteAccount::new(1518, Bag::Ms1, 0)
 }
@@ -69,7 +70,8 @@ fn a_long_silence_fills_the_account(rt: HostRuntime) -> Result<(), Fail> {
 /// An account by frames, of BAG 1 ms and frames of at most 1518 bytes.
 fn by_frames(jitter_ns: u64) -> Account
     requires { jitter_ns ≤ 10000000 }
-    ensures { ⟦<Account as Meter>⟧.since result ≡ 0 }
+    ensures since { ⟦<Account as Meter>⟧.since result ≡ 0 }
+    ensures rate { (⟦<Account as Meter>⟧.terms result).rate ≡ 1 }
 {
     Account::new(Police::Frame, 1518, Bag::Ms1, jitter_ns)
 }
@@ -95,5 +97,28 @@ fn by_frames_each_frame_costs_the_same(rt: HostRuntime) -> Result<(), Fail> {
     assert!(rt; jittered.offer(Stamp::ZERO, 64));
     assert!(rt; jittered.offer(Stamp::ZERO, 64));
     assert!(rt; !jittered.offer(Stamp::ZERO, 64));
+    Ok(())
+}
+
+/// How early frames of 64 and of 1518 bytes come at an instant.
+fn early<M: Meter>(meter: &M, at: Stamp) -> [u64; 2]
+    requires in_order { M.since meter.now ≤ at }
+    requires credited { 0 < (M.terms meter.now).rate }
+{
+    [early_by(meter, at, 64), early_by(meter, at, 1518)]
+}
+
+// Of 1,518,000,000 units, 1518 are credited in each ns; 64 bytes cost 64,000,000.
+#[test]
+fn a_policed_frame_came_so_early(rt: HostRuntime) -> Result<(), Fail> {
+    let at = Stamp::from_ns(999_999).ok_or("an instant")?;
+    let mut account = account();
+    assert_eq!(rt; early(&account, Stamp::ZERO), [0, 0]);
+    assert!(rt; account.offer(Stamp::ZERO, 1518));
+    assert_eq!(rt; early(&account, Stamp::ZERO), [42_161, 1_000_000]);
+    assert_eq!(rt; early(&account, at), [0, 1]);
+    let mut by_frames = by_frames(0);
+    assert!(rt; by_frames.offer(Stamp::ZERO, 64));
+    assert_eq!(rt; early(&by_frames, at), [1, 1]);
     Ok(())
 }

@@ -1,5 +1,5 @@
 -- What the definitions give for small tables.
-use Rattle.std.proofs.Common.{◌≡◌, ℕ, true, List, [], ◌∷◌, map, refl}
+use Rattle.std.proofs.Common.{◌≡◌, ℕ, true, List, [], ◌∷◌, map, Some, None, refl}
 use Rattle.afdx_units.specs.declared.line.Speed.TheVariants.{Ten, Hundred}
 use Rattle.afdx_units.specs.declared.line.Speed.{Speed}
 use Rattle.afdx_units.specs.declared.line.Priority.TheVariants.{Low}
@@ -34,7 +34,7 @@ abbrev table : Content
 table = record { constant = 3 ∷ 0 ∷ 0 ∷ 0 ∷ []; latency = 0; ports = port 1 Hundred 100000 ∷ port 2 Ten 64 ∷ port 3 Hundred 100000 ∷ []; links = link ∷ [] }
 
 abbrev row : ℕ → ℕ → Verdict → Row
-row stamp size verdict = record { in_port = 1; stamp = stamp; size = size; verdict = verdict }
+row stamp size verdict = record { in_port = 1; stamp = stamp; size = size; verdict = verdict; link = None }
 
 abbrev run : List Row → Run
 run rows = record { table = table; rows = rows; latest = 0; handed = []; finished = true }
@@ -50,7 +50,7 @@ abbrev run_of_two : List Row → Run
 run_of_two rows = record { table = double; rows = rows; latest = 0; handed = []; finished = true }
 
 abbrev row_at : ℕ → ℕ → ℕ → Row
-row_at in_port size i = record { in_port = in_port; stamp = 0; size = size; verdict = Clean i }
+row_at in_port size i = record { in_port = in_port; stamp = 0; size = size; verdict = Clean i; link = Some i }
 
 ends : List Sent → List ℕ
 ends sents = map (λ (s : Sent). s.end) sents

@@ -2,11 +2,13 @@
 use Rattle.std.specs.Prelude.{ℕ, ◌==◌, Bool, false, ◌&&◌, if◌then◌else◌, List, [], ◌∷◌, ◌++◌, length, map, filter, Option, Some, None}
 use Rattle.afdx_units.specs.Line.{size_of}
 use Rattle.afdx_pcap.specs.Entry.{Entry}
+use Rattle.afdx_frame.specs.Address.{link_of}
 use Rattle.afdx_table.specs.Link.{Link, leads_to}
 use Rattle.afdx_table.specs.Content.{Content, link_row, link_place}
 use Rattle.afdx_filter.specs.declared.outcome.Verdict.{Verdict}
 use Rattle.afdx_filter.specs.declared.outcome.Verdict.TheVariants.{Cut, Short, Long, Foreign, NoLink, WrongPort, TooBig, Clean}
 use Rattle.afdx_filter.specs.Verdict.{verdict_of}
+use Rattle.afdx_filter.specs.Place.{link_named}
 use Rattle.afdx_account.specs.declared.frame.Frame.{Frame}
 use Rattle.afdx_account.specs.Policing.{conforms, passed_frames}
 use Rattle.afdx_port.specs.declared.Item.{Item}
@@ -17,7 +19,13 @@ use Rattle.afdx_core.specs.declared.kinds.Fate.TheVariants.{Filtered, Policed, P
 
 -- the row of a frame that came in at a port
 abbrev pub row_of : Content → ℕ → Entry → Row
-row_of t port frame = record { in_port = port; stamp = frame.stamp; size = size_of (length frame.bytes); verdict = verdict_of t port frame }
+row_of t port frame = record {
+  in_port = port;
+  stamp = frame.stamp;
+  size = size_of (length frame.bytes);
+  verdict = verdict_of t port frame;
+  link = link_named (verdict_of t port frame) (link_of frame.bytes);
+}
 
 -- ---- one link
 

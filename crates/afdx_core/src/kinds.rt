@@ -43,6 +43,8 @@ pub struct Row {
     pub size: u32,
     /// What the filter says of it.
     pub verdict: Verdict,
+    /// The number of the link that it names, where the filter found that link in the table.
+    pub link: Option<u16>,
 }
 
 /// What became of an arrival.

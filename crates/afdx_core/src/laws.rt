@@ -2,6 +2,7 @@
 
 ghost use Rattle.afdx_core.specs.Agreement.{FeedIsPassed, VerdictsNameLinks, CopiesHaveTheirLinksPriority};
 ghost use Rattle.afdx_core.specs.Isolation.{PassedCopiesArePassedFrames, AcceptedTablesIsolate, BuffersHoldTheBacklog, NoStepIsFull, OthersChangeNothing, RunsBegin, RunsTakeArrivals, RunsAdvance, RunsHandOut, RunsFinish};
+ghost use Rattle.afdx_core.specs.Kept.{FilteredTouchNoAccount};
 ghost use Rattle.afdx_core.specs.Merge.{MergedIsAMerge, MergedIsByStampAndPort};
 
 use afdx_account::laws::{
@@ -35,6 +36,11 @@ pub fn copies_have_their_links_priority()
     links_are_found();
     service_is_of_items();
 }
+
+/// The accounts of the links stand as they did after an arrival that is no link's.
+pub fn filtered_touch_no_account()
+    ensures { FilteredTouchNoAccount }
+{}
 
 /// Where no port's stamps fall, the program's merge is a merge.
 pub fn merged_is_a_merge()

@@ -11,14 +11,15 @@
 //! has the program's merge, and what ports are offered of each link.
 #![tactic(auto)]
 
+mod accounts;
 mod dues;
 mod engine;
 mod kinds;
 pub mod laws;
 mod log;
 mod outlet;
-mod police;
 mod switch;
 
+pub use accounts::{accounts_of, police};
 pub use kinds::{CoreFault, Fate, Row, Step};
 pub use switch::{Done, Switch};

@@ -1,5 +1,5 @@
 -- What the definitions give for a small run.
-use Rattle.std.proofs.Common.{◌≡◌, ℕ, List, [], ◌∷◌, refl}
+use Rattle.std.proofs.Common.{◌≡◌, ℕ, List, [], ◌∷◌, None, refl}
 use Rattle.afdx_units.specs.declared.line.Speed.TheVariants.{Hundred}
 use Rattle.afdx_units.specs.declared.line.Priority.{Priority}
 use Rattle.afdx_units.specs.declared.line.Priority.TheVariants.{High, Low}
@@ -28,7 +28,7 @@ abbrev table : Content
 table = record { constant = 3 ∷ 0 ∷ 0 ∷ 0 ∷ []; latency = 0; ports = record { id = 1; speed = Hundred; buffer = 100000; max_delay = 500000000 } ∷ port ∷ []; links = link 30 High ∷ link 10 Low ∷ [] }
 
 abbrev row : ℕ → Verdict → Row
-row size verdict = record { in_port = 1; stamp = 0; size = size; verdict = verdict }
+row size verdict = record { in_port = 1; stamp = 0; size = size; verdict = verdict; link = None }
 
 -- two low frames and a high one, of which the last finds no room and the first grows too old; then a frame past the account
 abbrev rows : List Row

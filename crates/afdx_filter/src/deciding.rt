@@ -1,9 +1,10 @@
 //! How the verdict on a frame is found.
 
-ghost use Rattle.std.specs.Prelude.{◌≡◌, None};
+ghost use Rattle.std.specs.Prelude.{◌≡◌, Some, None};
 ghost use Rattle.afdx_table.specs.Content.{link_row};
 ghost use Rattle.afdx_filter.specs.Verdict.{verdict_of, link_verdict};
-ghost use Rattle.afdx_filter.specs.Place.{place_named};
+ghost use Rattle.afdx_frame.specs.Address.{link_of};
+ghost use Rattle.afdx_filter.specs.Place.{place_named, link_named};
 
 use crate::outcome::Verdict;
 use afdx_frame::view;
@@ -19,7 +20,7 @@ const MIN_SIZE: u32 = 64;
 /// The greatest size of a frame, in bytes (IEEE 802.3).
 const MAX_SIZE: u32 = 1518;
 
-/// The verdict on a frame that arrives at a port, and where the frame's link stands in the table.
+/// The verdict on a frame that arrives at a port, the link that it names, and where that link stands in the table.
 ///
 /// One look-up gives both, so that what handles a clean frame needs no second one.
 #[derive(Clone, Copy, Debug, PartialEq, Eq)]
@@ -28,25 +29,41 @@ pub struct Judged {
     pub verdict: Verdict,
     /// The place of a clean frame's link in file order, from 0; none of any other frame.
     pub place: Option<usize>,
+    /// The number of the link that the frame names, of a clean one, of one at a wrong port and of one that is too big; none
+    /// of any other frame.
+    pub link: Option<u16>,
 }
 
 impl Judged {
     fn refused(verdict: Verdict) -> Judged
-        ensures { result ≡ record { verdict = verdict; place = None } }
+        ensures { result ≡ record { verdict = verdict; place = None; link = None } }
     {
         Judged {
             verdict,
             place: None,
+            link: None,
+        }
+    }
+
+    /// The same where the frame names a link of the table.
+    fn named(verdict: Verdict, number: u16) -> Judged
+        ensures { result ≡ record { verdict = verdict; place = None; link = Some number } }
+    {
+        Judged {
+            verdict,
+            place: None,
+            link: Some(number),
         }
     }
 }
 
-/// The verdict on a frame that arrives at a port, with the place of a clean frame's link.
+/// The verdict on a frame that arrives at a port, with the link that it names and the place of a clean frame's link.
 ///
 /// O(1), whatever the table, with one look-up of the link; it takes no memory.
 pub fn judge<A: Allocator>(table: &Table, in_port: u8, frame: &Record<'_, A>) -> Judged
     ensures verdict { result.verdict ≡ verdict_of table.now in_port frame.now }
     ensures place { result.place ≡ place_named table.now result.verdict }
+    ensures link { result.link ≡ link_named result.verdict (link_of frame.now.bytes) }
 {
     let bytes = frame.bytes();
     if frame.original() as usize > bytes.len() {
@@ -70,6 +87,7 @@ pub fn judge<A: Allocator>(table: &Table, in_port: u8, frame: &Record<'_, A>) ->
 fn judge_number(table: &Table, in_port: u8, size: u32, number: u16) -> Judged
     ensures verdict { result.verdict ≡ link_verdict in_port size (link_row table.now number) }
     ensures place { result.place ≡ place_named table.now result.verdict }
+    ensures link { result.link ≡ link_named result.verdict number }
 {
     links_stand_at_their_places();
     links_are_found();
@@ -78,14 +96,15 @@ fn judge_number(table: &Table, in_port: u8, size: u32, number: u16) -> Judged
     };
     let link = table.link_at(place).unwrap();
     if link.from != in_port {
-        return Judged::refused(Verdict::WrongPort);
+        return Judged::named(Verdict::WrongPort, number);
     }
     if size > link.max_size {
-        return Judged::refused(Verdict::TooBig);
+        return Judged::named(Verdict::TooBig, number);
     }
     Judged {
         verdict: Verdict::Clean(link.id),
         place: Some(place),
+        link: Some(number),
     }
 }
 

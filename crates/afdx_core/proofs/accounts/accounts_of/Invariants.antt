@@ -2,7 +2,7 @@ use Rattle.std.proofs.Common.{◌≡◌, ℕ, ◌<◌, [], length, get_or}
 use Rattle.afdx_table.specs.Link.{Link}
 use Rattle.afdx_account.specs.declared.account.Account.{Account}
 use Rattle.afdx_core.specs.Kept.{AccountStands}
-use Rattle.afdx_core.proofs.engine.accounts_of.Given as goal
+use Rattle.afdx_core.proofs.accounts.accounts_of.Given as goal
 
 abbrev pub invariant-loop-place : goal.invariant-loop-place
 invariant-loop-place g l = record {

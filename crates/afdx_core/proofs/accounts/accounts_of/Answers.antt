@@ -3,7 +3,7 @@ use Rattle.afdx_table.specs.Link.{Link}
 use Rattle.afdx_core.specs.Kept.{AccountStands}
 use Rattle.afdx_core.proofs.Policed.{accounts-push, account_fresh}
 use Rattle.afdx_core.proofs.Steps.{link_is}
-use Rattle.afdx_core.proofs.engine.accounts_of.Goals as goal
+use Rattle.afdx_core.proofs.accounts.accounts_of.Goals as goal
 
 pub loop-place-preserved : goal.loop-place-preserved
 loop-place-preserved g c =

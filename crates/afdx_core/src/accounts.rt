@@ -1,0 +1,37 @@
+//! The accounts of the links.
+
+ghost use Rattle.std.specs.Prelude.{◌<◌, ◌≤◌, [], length, slice_index_or, IfOk};
+ghost use Rattle.afdx_account.specs.declared.account.Account.{Account};
+ghost use Rattle.afdx_account.specs.Account.{account_since};
+ghost use Rattle.afdx_core.specs.Kept.{AccountsStand, Polices};
+
+use crate::kinds::Row;
+use afdx_account::{Account, Meter};
+use afdx_table::Table;
+use std::alloc::{AllocError, Allocator};
+
+/// The accounts of a table's links by their places, all full.
+///
+/// An error says that a growth was refused. O(links).
+pub fn accounts_of<A: Allocator + Copy>(
+    alloc: A,
+    table: &Table,
+) -> Result<Vec<Account, A>, AllocError>
+    ensures { IfOk result (λ accounts. AccountsStand table.now.links [] 0 accounts.items) }
+{
+    let mut accounts = Vec::new(alloc);
+    for place in 0..table.link_count() {
+        let link = table.link_at(place).unwrap();
+        accounts.push(Account::new(link.police, link.max_size, link.bag, link.jitter))?;
+    }
+    Ok(accounts)
+}
+
+/// Offers the frame of a row to the account at a place. O(1).
+pub fn police(accounts: &mut [Account], place: usize, row: &Row) -> bool
+    requires place { place < length accounts.old }
+    requires in_order { (a : Account) → account_since (slice_index_or accounts.old place a) ≤ row.now.stamp }
+    ensures { Polices result row.now place accounts.old accounts.new }
+{
+    accounts[place].offer(row.stamp, row.size)
+}

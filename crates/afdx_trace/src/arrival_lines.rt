@@ -1,0 +1,31 @@
+//! The arrivals.
+
+ghost use Rattle.std.specs.Prelude.{◌≡◌, string_bytes, IfOk};
+ghost use Rattle.afdx_trace.specs.Arrivals.{arrivals_text};
+
+use crate::teller::Teller;
+use afdx_core::Done;
+use std::alloc::{AllocError, Allocator};
+
+/// The names of the fields.
+const HEADING: &str = "frame,port,record,stamp,link,size,fate,early,full\n";
+
+/// A line for each arrival in the order in which the switch took them, after a heading.
+///
+/// An error says that a growth was refused. O(arrivals), each port of the table that was offered copies with a byte for
+/// each arrival.
+pub fn arrivals<A: Allocator + Copy, B: Allocator + Copy>(
+    alloc: A,
+    done: &Done<'_, B>,
+) -> Result<String<A>, AllocError>
+    ensures { IfOk result (λ text. string_bytes text ≡ arrivals_text done.now.run) }
+{
+    let rows = done.rows();
+    let mut teller = Teller::new(alloc, done)?;
+    let mut text = String::new(alloc);
+    text.push_str(HEADING)?;
+    for (number, row) in rows.iter().enumerate() {
+        teller.tell(&mut text, done, &rows[..number], row)?;
+    }
+    Ok(text)
+}

@@ -1,0 +1,169 @@
+//! The copies that ports sent or gave up.
+
+ghost use Rattle.std.specs.Prelude.{◌≡◌, ◌+◌, ◌<◌, ◌∷◌, ◌++◌, List, length, Some, false, IsTrue, string_bytes, IfOk, OnOk};
+ghost use Rattle.afdx_table.specs.Content.{port_row};
+ghost use Rattle.afdx_port.specs.Service.{Event, sent_of, aged_of};
+ghost use Rattle.afdx_isolation.specs.Table.{settings_of};
+ghost use Rattle.afdx_trace.specs.Departures.{priority_word, item_fields, sent_line, aged_line, event_lines, port_lines, departures_text, ages_next, AreInOrder};
+
+use crate::fields::{put_number, put_word};
+use crate::laws::events_are_in_order;
+use afdx_core::Done;
+use afdx_port::{Aged, Item, Sent, Settings};
+use afdx_table::PortRow;
+use afdx_units::Priority;
+use std::alloc::{AllocError, Allocator};
+
+/// The names of the fields.
+const HEADING: &str = "port,record,frame,link,priority,size,came,start,left,delay,outcome\n";
+
+fn settings_of(port: &PortRow) -> Settings
+    ensures { result ≡ settings_of port.now }
+{
+    Settings {
+        speed: port.speed,
+        buffer: port.buffer,
+        max_delay: port.max_delay,
+    }
+}
+
+fn priority_word(priority: Priority) -> &'static str
+    ensures { result.now ≡ priority_word priority }
+{
+    match priority {
+        Priority::High => "high",
+        Priority::Low => "low",
+    }
+}
+
+/// Appends the fields of a copy: from its frame's number to the instant at which it was queued.
+fn put_item<A: Allocator + Copy>(
+    text: &mut String<A>,
+    settings: &Settings,
+    item: &Item,
+) -> Result<(), AllocError>
+    ensures { OnOk result (string_bytes text.new ≡ string_bytes text.old ++ item_fields settings.now item.now) }
+{
+    put_number(text, item.number as u64)?;
+    put_number(text, u64::from(item.link))?;
+    put_word(text, priority_word(item.priority))?;
+    put_number(text, u64::from(item.size))?;
+    put_number(text, item.came(settings).ns())
+}
+
+/// Appends the line of a copy that was sent, as the record of this number.
+fn put_sent<A: Allocator + Copy>(
+    text: &mut String<A>,
+    port: &PortRow,
+    number: usize,
+    sent: &Sent,
+) -> Result<(), AllocError>
+    ensures { OnOk result (string_bytes text.new ≡ string_bytes text.old ++ sent_line port.now number sent.now) }
+{
+    write!(text, "{}", port.id)?;
+    put_number(text, number as u64)?;
+    put_item(text, &settings_of(port), &sent.item)?;
+    put_number(text, sent.begin.ns())?;
+    put_number(text, sent.end.ns())?;
+    put_number(text, sent.end.ns().saturating_sub(sent.item.stamp.ns()))?;
+    put_word(text, "sent\n")
+}
+
+/// Appends the line of a copy that was given up.
+fn put_aged<A: Allocator + Copy>(
+    text: &mut String<A>,
+    port: &PortRow,
+    aged: &Aged,
+) -> Result<(), AllocError>
+    ensures { OnOk result (string_bytes text.new ≡ string_bytes text.old ++ aged_line port.now aged.now) }
+{
+    write!(text, "{}", port.id)?;
+    put_word(text, "")?;
+    put_item(text, &settings_of(port), &aged.item)?;
+    put_number(text, aged.at.ns())?;
+    put_word(text, ",,aged\n")
+}
+
+/// Whether the next event is one of those that were given up.
+fn ages_next(sent: &[Sent], aged: &[Aged]) -> bool
+    ensures { result ≡ ages_next sent.now aged.now }
+{
+    match (sent.first(), aged.first()) {
+        (_, None) => false,
+        (None, Some(_)) => true,
+        (Some(start), Some(end)) => end.at.ns() <= start.begin.ns(),
+    }
+}
+
+/// Whether an event is left.
+fn some_left(sent: &[Sent], aged: &[Aged]) -> bool
+    ensures some { IsTrue result → 0 < length sent.now + length aged.now }
+    ensures none { result ≡ false → (length sent.now ≡ 0) × (length aged.now ≡ 0) }
+{
+    !sent.is_empty() || !aged.is_empty()
+}
+
+/// The first of some, and the others.
+fn split<T>(items: &[T]) -> (&T, &[T])
+    requires { 0 < length items.now }
+    ensures parts { items.now ≡ result.0.now ∷ result.1.now }
+    ensures len { length items.now ≡ length result.1.now + 1 }
+{
+    items.split_first().unwrap()
+}
+
+/// Appends the lines of a port's events, in order.
+fn put_events<A: Allocator + Copy>(
+    text: &mut String<A>,
+    port: &PortRow,
+    mut sent: &[Sent],
+    mut aged: &[Aged],
+) -> Result<(), AllocError>
+    ensures { (events : List Event) → AreInOrder events → sent_of events ≡ sent.now → aged_of events ≡ aged.now
+        → OnOk result (string_bytes text.new ≡ string_bytes text.old ++ event_lines port.now 0 events) }
+{
+    let mut number = 0;
+    while some_left(sent, aged) {
+        if ages_next(sent, aged) {
+            let (next, others) = split(aged);
+            put_aged(text, port, next)?;
+            aged = others;
+        } else {
+            let (next, others) = split(sent);
+            number += 1;
+            put_sent(text, port, number, next)?;
+            sent = others;
+        }
+    }
+    Ok(())
+}
+
+/// Appends the lines of a port's events.
+fn put_port<A: Allocator + Copy, B: Allocator + Copy>(
+    text: &mut String<A>,
+    done: &Done<'_, B>,
+    port: &PortRow,
+) -> Result<(), AllocError>
+    requires { port_row done.now.run.table port.now.id ≡ Some port.now }
+    ensures { OnOk result (string_bytes text.new ≡ string_bytes text.old ++ port_lines done.now.run port.now) }
+{
+    events_are_in_order();
+    put_events(text, port, done.sent(port.id), done.aged(port.id))
+}
+
+/// A line for each copy that a port sent or gave up, after a heading: for each port by rising number its events in order.
+///
+/// An error says that a growth was refused. O(copies + ports).
+pub fn departures<A: Allocator + Copy, B: Allocator + Copy>(
+    alloc: A,
+    done: &Done<'_, B>,
+) -> Result<String<A>, AllocError>
+    ensures { IfOk result (λ text. string_bytes text ≡ departures_text done.now.run) }
+{
+    let mut text = String::new(alloc);
+    text.push_str(HEADING)?;
+    for port in done.table().ports() {
+        put_port(&mut text, done, port)?;
+    }
+    Ok(text)
+}

@@ -1,0 +1,15 @@
+//! What became of each arrival and of each copy of a run, as comma-separated values (profile).
+//!
+//! [`arrivals`] has a line for each arrival, and [`departures`] one for each copy that a port sent or gave up. Both are made
+//! of the finished switch, after the run. Contracts say that the texts are those of the definitions.
+#![tactic(auto)]
+
+mod arrival_lines;
+mod departure_lines;
+mod fields;
+pub mod laws;
+mod taken;
+mod teller;
+
+pub use arrival_lines::arrivals;
+pub use departure_lines::departures;
