@@ -52,4 +52,4 @@ feed_rises t port rows order = (offered_from t port 0 [] rows order).order
 
 pub admitted_rise : AdmittedInOrder → (r : Run) (o : Option PortRow) → IsRun r → AllPairs (λ (a : Item) (b : Item). a.stamp ≤ b.stamp) (admitted_in r o)
 admitted_rise law r None run = λ i j d lt within. absurd (omega (arith, within))
-admitted_rise law r (Some p) run = law (settings_of p) (feed_of r.table p.id r.rows) (feed_rises r.table p.id r.rows run.stamps)
+admitted_rise law r (Some p) run = law (settings_of r.table.latency p) (feed_of r.table p.id r.rows) (feed_rises r.table p.id r.rows run.stamps)

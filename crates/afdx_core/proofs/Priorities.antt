@@ -66,6 +66,6 @@ pub have_their_priority : LinksAreFound → EventsAreOfItems → (r : Run) (p : 
     → All (λ (x : Sent). IsAs l x.item) (sent_in r (Some p))
 have_their_priority links events r p l well among =
     let items = (port_in r p).admitted in
-    let all : All (IsAs l) items = all_admitted (IsAs l) (settings_of p) [] (feed_of r.table p.id r.rows) (All-nil (IsAs l)) (feed_is links r.table well l among p.id r.rows) in
-    sent_so_far (IsAs l) (service (settings_of p) 0 items) r.finished (reach (settings_of p) r.latest)
-    (All-weaker (λ e. Contains items (item_of e)) (λ e. IsAs l (item_of e)) (λ e one. All-contains (IsAs l) items (item_of e) all one) (service (settings_of p) 0 items) (events (settings_of p) 0 items))
+    let all : All (IsAs l) items = all_admitted (IsAs l) (settings_of r.table.latency p) [] (feed_of r.table p.id r.rows) (All-nil (IsAs l)) (feed_is links r.table well l among p.id r.rows) in
+    sent_so_far (IsAs l) (service (settings_of r.table.latency p) 0 items) r.finished (reach (settings_of r.table.latency p) r.latest)
+    (All-weaker (λ e. Contains items (item_of e)) (λ e. IsAs l (item_of e)) (λ e one. All-contains (IsAs l) items (item_of e) all one) (service (settings_of r.table.latency p) 0 items) (events (settings_of r.table.latency p) 0 items))

@@ -330,10 +330,10 @@ isolated_at pays asks some keeps isolates t arrivals h row among c settings is =
 -- a row with a buffer of so many bytes admits all that its port is offered, where they hold the backlog
 none_past : PricesPay → AsksWhatItsAccountGives → EachLinkAsks → AcceptedKeepsBounds → NoneIsFull → (t : Content) (arrivals : List Item) → ArriveAt t arrivals → (row : PortRow) → Contains t.ports row
     → (bytes : ℕ) → backlog (sums_at row.speed row.id t.links) ≤ byte_time row.speed bytes
-    → admitted (with_buffer bytes (settings_of row)) (feed_of (flows_at t row) arrivals) ≡ feed_of (flows_at t row) arrivals
+    → admitted (with_buffer bytes (settings_of t.latency row)) (feed_of (flows_at t row) arrivals) ≡ feed_of (flows_at t row) arrivals
 none_past pays asks some keeps full t arrivals h row among bytes holds =
     let own : PortRow = record { id = row.id; speed = row.speed; buffer = bytes; max_delay = row.max_delay } in
-    let s = settings_of own in
+    let s = settings_of t.latency own in
     let flows = flows_at t own in
     let arrive : Arrive s flows arrivals = record {
       paid = paid t own h.well_formed pays asks some;
@@ -348,9 +348,9 @@ none_past pays asks some keeps full t arrivals h row among bytes holds =
 
 pub holds_backlog : PricesPay → AsksWhatItsAccountGives → EachLinkAsks → AcceptedKeepsBounds → NoneIsFull → AdmittedFit → BuffersServeAlike → AcceptedTablesIsolate
     → (t : Content) (arrivals : List Item) → ArriveAt t arrivals → (row : PortRow) → Contains t.ports row → (bytes : ℕ) → backlog (sums_at row.speed row.id t.links) ≤ byte_time row.speed bytes
-    → AllFitIn bytes (settings_of row) [] (admitted (settings_of row) (feed_of (flows_at t row) arrivals))
+    → AllFitIn bytes (settings_of t.latency row) [] (admitted (settings_of t.latency row) (feed_of (flows_at t row) arrivals))
 holds_backlog pays asks some keeps full fit alike isolate t arrivals h row among bytes holds =
-    let s = settings_of row in
+    let s = settings_of t.latency row in
     let feed = feed_of (flows_at t row) arrivals in
     let none = none_past pays asks some keeps full t arrivals h row among bytes holds in
     let c : PortContent = record { settings = s; admitted = admitted s feed; horizon = 0; finished = true } in

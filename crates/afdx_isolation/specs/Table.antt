@@ -84,7 +84,7 @@ AcceptedTablesIsolate = (t : Content) (arrivals : List Item) → ArriveAt t arri
 abbrev pub BuffersHoldTheBacklog : Type 0
 BuffersHoldTheBacklog = (t : Content) (arrivals : List Item) → ArriveAt t arrivals → (row : PortRow) → Contains t.ports row
     → (bytes : ℕ) → backlog (load_of row.speed row.id t.links) ≤ byte_time row.speed bytes
-    → AllFitIn bytes (settings_of row) [] (admitted (settings_of row) (feed_of (flows_at t row) arrivals))
+    → AllFitIn bytes (settings_of t.latency row) [] (admitted (settings_of t.latency row) (feed_of (flows_at t row) arrivals))
 
 -- a copy of an arrival of a link is offered to a port exactly where the link leads there and its policing passes the frame
 abbrev pub OffersWhatThePolicingPasses : Type 0

@@ -16,7 +16,7 @@ use Rattle.afdx_measure.specs.Peak.{fillings, peak_of}
 
 -- how full the port's buffer was
 abbrev pub peak_at : Run → PortRow → Option Filling
-peak_at r p = peak_of (fillings (settings_of p) [] (port_in r p).admitted)
+peak_at r p = peak_of (fillings (settings_of r.table.latency p) [] (port_in r p).admitted)
 
 -- the delays of a link's copies at the port
 abbrev pub delays_at : Run → PortRow → ℕ → Delays

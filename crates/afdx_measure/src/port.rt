@@ -25,6 +25,7 @@ pub fn peak_at<A: Allocator + Copy>(done: &Done<'_, A>, row: &PortRow) -> Option
         speed: row.speed,
         buffer: row.buffer,
         max_delay: row.max_delay,
+        latency: done.table().latency(),
     };
     peak(
         settings,

@@ -63,7 +63,7 @@ AdmittedInOrder = (s : Settings) (feed : List Item) → AllPairs (λ a b. a.stam
 
 -- a port like it, with a buffer of so many bytes
 abbrev pub with_buffer : ℕ → Settings → Settings
-with_buffer bytes s = record { speed = s.speed; buffer = bytes; max_delay = s.max_delay }
+with_buffer bytes s = record { speed = s.speed; buffer = bytes; max_delay = s.max_delay; latency = s.latency }
 
 -- what a port does with what it admitted, and when, does not rest on the size of its buffer
 abbrev pub BuffersServeAlike : Type 0
