@@ -5,7 +5,7 @@ import sys
 import answers
 import model
 import model_rows as rows
-from model_rows import DOUBLE, HEADER, LINK, MIXED, PORT, SINGLE, capture, same, with_port
+from model_rows import DOUBLE, HEADER, LINK, MIXED, PORT, SINGLE, capture, later, same, with_port
 
 
 def measured(text, *captures):
@@ -40,7 +40,16 @@ def ports():
     same("in the order of the link's ports", [line.split()[3] for line in lines[:2]], ["3", "2"])
 
 
-for part in (early_and_late, ports):
+def latency():
+    sent = capture((10, 64, 0), (10, 64, 6_720))
+    wanted = "link 10 out 2 sent 2 least {0} greatest {0} bound {1}"
+    for latency_us, delay, bound in ((0, 6_720, 159_390), (50, 56_720, 209_390)):
+        text = later(SINGLE, latency_us)
+        lines = answers.measure(model.table_of(text), {1: sent, 2: HEADER}, False).splitlines()
+        same("behind a latency", (lines[0], lines[2]), (wanted.format(delay, bound), "out 2 occupied 64 of 100000 at 0"))
+
+
+for part in (early_and_late, ports, latency):
     part()
 print("\n".join(rows.differing) or "the answers have every worked line")
 sys.exit(bool(rows.differing))
