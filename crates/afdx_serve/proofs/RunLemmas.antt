@@ -91,8 +91,8 @@ module _ (inputs : Inputs) (a b : Option Files) (t : Content) (first before afte
     -- what the captures lead to is what the files lead to
     leads_as : {X : Type 0} (P Q : X → Type 0) → ((x : X) → P x → Q x) → (r : Result X Failure) → MatchResult r P (λ f. FailsToLead f t captures)
         → MatchResult r (λ x. Q x × (after ≡ first)) (λ f. FailsToGather f inputs a first after)
-    leads_as P Q as (Ok x) h = (as x h, count ∙ same)
-    leads_as P Q as (Err f) h = not_led f h
+    leads_as P Q turn (Ok x) h = (turn x h, count ∙ same)
+    leads_as P Q turn (Err f) h = not_led f h
 
     pub measured : (r : Result (String Global) Failure) → MatchResult r (λ text. IsMeasured (not inputs.unchecked) t captures (string_bytes text)) (λ f. FailsToLead f t captures)
         → MatchResult r (λ text. MeasuresTo inputs a (string_bytes text) × (after ≡ first)) (λ f. FailsToGather f inputs a first after)
