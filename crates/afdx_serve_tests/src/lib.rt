@@ -10,11 +10,15 @@ mod devices;
 #[cfg(test)]
 mod fixtures;
 #[cfg(test)]
+mod folders;
+#[cfg(test)]
 mod growths;
 #[cfg(test)]
 mod memory_folder;
 #[cfg(test)]
 mod names;
+#[cfg(test)]
+mod policing;
 #[cfg(test)]
 mod runs;
 #[cfg(test)]
