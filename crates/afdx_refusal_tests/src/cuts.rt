@@ -3,7 +3,7 @@
 use crate::tables::plan_of;
 use afdx_pcap::{PcapFault, Reader, read_all};
 use afdx_samples::{HEADER, capture, joined, single, small};
-use afdx_session::{Outcome, RunFault, run};
+use afdx_session::{Outcome, Plan, RunFault, Session, run};
 use std::alloc::{Allocator, Global};
 use std::test::*;
 
@@ -117,6 +117,43 @@ fn each_cut_of_two_frames_that_are_run(rt: HostRuntime) -> Result<(), Fail> {
         cuts = cuts.saturating_add(1);
     }
     println!(rt; "run: {cuts} cuts")?;
+    Ok(())
+}
+
+/// The end of a session.
+fn finish(session: Session<Global>) -> Result<Outcome<Global>, RunFault> {
+    match session.finish() {
+        Ok(outcome) => Ok(outcome),
+        Err((fault, _)) => Err(fault),
+    }
+}
+
+/// The outcome of a session where these bytes came in at port 1, and nothing at port 2.
+fn fed(alloc: Global, plan: Plan, bytes: &[u8]) -> Result<Outcome<Global>, RunFault> {
+    let mut session = Session::new(alloc, plan)?;
+    session.feed(1, bytes)?;
+    session.feed(2, &HEADER)?;
+    session.close(1)?;
+    session.close(2)?;
+    finish(session)
+}
+
+#[test]
+fn each_cut_of_two_frames_that_a_session_is_fed(rt: HostRuntime) -> Result<(), Fail> {
+    let alloc = rt.alloc();
+    let table = single(alloc)?;
+    let text = two_frames(alloc)?;
+    let mut cuts = 0usize;
+    for length in 0..=176usize {
+        let cut = text.get(..length).ok_or("so many bytes")?;
+        let answer = match fed(alloc, plan_of(alloc, &table)?, cut) {
+            Ok(outcome) => Ok(count_left(alloc, &outcome)),
+            Err(fault) => Err(fault),
+        };
+        assert_eq!(rt; answer, left_of(length), "{length} bytes");
+        cuts = cuts.saturating_add(1);
+    }
+    println!(rt; "Session: {cuts} cuts")?;
     Ok(())
 }
 

@@ -4,6 +4,8 @@
 #![tactic(auto)]
 
 #[cfg(test)]
+mod appended;
+#[cfg(test)]
 mod captures;
 #[cfg(test)]
 mod counters;
@@ -14,6 +16,10 @@ mod growths;
 #[cfg(test)]
 mod ports;
 #[cfg(test)]
+mod runs;
+#[cfg(test)]
 mod sessions;
+#[cfg(test)]
+mod switches;
 #[cfg(test)]
 mod tables;

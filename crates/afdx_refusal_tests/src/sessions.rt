@@ -1,23 +1,34 @@
-//! A session that is fed capture by capture, while what goes out is taken.
+//! A session that is fed in pieces, while what goes out is taken.
 
 use crate::growths::{Calls, Memory, growths};
 use crate::tables::plan_of;
 use afdx_samples::{HEADER, capture, double, port, small};
 use afdx_session::{Outcome, RunFault, Session};
 use std::alloc::Global;
-use std::process::Abort;
 use std::test::*;
 
-/// Captures that come at ports 1, 2 and 3 over this table, one after the other, and what port 3 puts out in all.
+/// A call that brings something.
+#[derive(Clone, Copy)]
+enum Call<'a> {
+    /// A piece of a port's capture.
+    Feed(u8, &'a [u8]),
+    /// The end of a port's capture.
+    Close(u8),
+}
+
+/// A call, its answer, and the number of bytes that port 3 has put out in all after it.
+type Answered<'a> = (Call<'a>, Result<(), RunFault>, usize);
+
+/// Calls over this table, and what port 3 puts out in the end.
 #[derive(Clone, Copy)]
 struct Feeding<'a> {
     alloc: Global,
     table: &'a str,
-    came: &'a [&'a [u8]],
+    calls: &'a [Answered<'a>],
     text: &'a [u8],
 }
 
-/// A session over a table that is checked; none for want of memory.
+/// A session over a table that is checked; none where it is out of memory.
 fn open<'a>(
     alloc: Global,
     memory: &'a Memory,
@@ -27,14 +38,12 @@ fn open<'a>(
     Ok(Session::new(memory, plan).ok())
 }
 
-/// A piece of a port's capture.
-fn feed<'a>(session: &mut Session<&'a Memory>, port: u8, piece: &[u8]) -> Result<(), RunFault> {
-    session.feed(port, piece)
-}
-
-/// The end of a port's capture.
-fn close<'a>(session: &mut Session<&'a Memory>, port: u8) -> Result<(), RunFault> {
-    session.close(port)
+/// Makes a call.
+fn bring<'a>(session: &mut Session<&'a Memory>, call: Call<'_>) -> Result<(), RunFault> {
+    match call {
+        Call::Feed(port, piece) => session.feed(port, piece),
+        Call::Close(port) => session.close(port),
+    }
 }
 
 /// Appends what has gone out of port 3; whether it could.
@@ -43,50 +52,30 @@ fn take<'a>(session: &mut Session<&'a Memory>, taken: &mut Vec<u8>) -> bool {
     taken.extend_from_slice(&bytes).is_ok()
 }
 
-/// A whole capture, half of it and then the rest, and its end.
-fn bring<'a>(session: &mut Session<&'a Memory>, port: u8, text: &[u8]) -> Result<(), RunFault> {
-    let (first, rest) = text.split_at(text.len() / 2);
-    feed(session, port, first)?;
-    feed(session, port, rest)?;
-    close(session, port)
-}
-
-/// The captures of the ports from 1 on; all is taken after each.
+/// Makes these calls, and takes all after each. Answers whether each answer was right, and so many bytes were taken in all after
+/// it; none where the session is out of memory.
 fn bring_all<'a>(
     session: &mut Session<&'a Memory>,
-    texts: &[&[u8]],
+    calls: &[Answered<'_>],
     taken: &mut Vec<u8>,
-) -> Result<(), RunFault> {
-    let mut port = 1u8;
-    for text in texts {
-        bring(session, port, text)?;
-        if !take(session, taken) {
-            return Err(RunFault::WrongPorts);
+) -> Option<bool> {
+    let mut right = true;
+    for (call, wanted, count) in calls {
+        let answer = bring(session, *call);
+        if answer == Err(RunFault::Memory) {
+            return None;
         }
-        port = port.saturating_add(1);
+        right = take(session, taken) && taken.len() == *count && answer == *wanted && right;
     }
-    Ok(())
+    Some(right)
 }
 
 /// Whether each call but `take` answers that the session has failed.
 fn stays_failed<'a>(session: &mut Session<&'a Memory>) -> bool {
-    let fed = feed(session, 1, &HEADER);
-    let closed = close(session, 1);
+    let fed = bring(session, Call::Feed(1, &HEADER));
+    let closed = bring(session, Call::Close(1));
     let failed = Err(RunFault::Failed);
     fed == failed && closed == failed
-}
-
-/// What comes after want of memory: none where the session stays failed, and what was taken in all are the text's first bytes.
-fn after_want<'a>(
-    session: &mut Session<&'a Memory>,
-    taken: &mut Vec<u8>,
-    text: &[u8],
-) -> Option<bool> {
-    if stays_failed(session) && take(session, taken) && text.starts_with(taken) {
-        None
-    } else {
-        Some(false)
-    }
 }
 
 /// The end of a session.
@@ -94,6 +83,25 @@ fn finish<'a>(
     session: Session<&'a Memory>,
 ) -> Result<Outcome<&'a Memory>, (RunFault, Session<&'a Memory>)> {
     session.finish()
+}
+
+/// What comes once a session is out of memory: none where it stays failed, and what was taken in all are the text's first
+/// bytes.
+fn after_failure<'a>(
+    mut session: Session<&'a Memory>,
+    taken: &mut Vec<u8>,
+    text: &[u8],
+) -> Option<bool> {
+    let failed = stays_failed(&mut session);
+    let Err((fault, mut session)) = finish(session) else {
+        return Some(false);
+    };
+    let taken_all = take(&mut session, taken);
+    if failed && fault == RunFault::Failed && taken_all && text.starts_with(taken) {
+        None
+    } else {
+        Some(false)
+    }
 }
 
 /// Whether what was taken, and then what is left of port 3, is this text.
@@ -108,25 +116,25 @@ fn completes<'a>(outcome: &Outcome<&'a Memory>, taken: &[u8], text: &[u8]) -> bo
     }
 }
 
-/// Whether a session ends with this text in all; none for want of memory, after which it stays failed.
+/// Whether a session ends with this text in all; none where it is out of memory, after which it stays failed.
 fn ends<'a>(session: Session<&'a Memory>, taken: &mut Vec<u8>, text: &[u8]) -> Option<bool> {
     match finish(session) {
         Ok(outcome) => Some(completes(&outcome, taken, text)),
-        Err((RunFault::Memory, mut session)) => after_want(&mut session, taken, text),
+        Err((RunFault::Memory, session)) => after_failure(session, taken, text),
         Err(_) => Some(false),
     }
 }
 
-/// What a session answers to these captures and its end.
+/// What a session answers to these calls and its end.
 fn answers<'a>(
     mut session: Session<&'a Memory>,
-    calls: &Feeding<'_>,
+    feeding: &Feeding<'_>,
     taken: &mut Vec<u8>,
 ) -> Option<bool> {
-    match bring_all(&mut session, calls.came, taken) {
-        Ok(()) => ends(session, taken, calls.text),
-        Err(RunFault::Memory) => after_want(&mut session, taken, calls.text),
-        Err(_) => Some(false),
+    match bring_all(&mut session, feeding.calls, taken) {
+        Some(true) => ends(session, taken, feeding.text),
+        Some(false) => Some(false),
+        None => after_failure(session, taken, feeding.text),
     }
 }
 
@@ -140,33 +148,33 @@ impl Calls for Feeding<'_> {
     }
 }
 
-/// The growths of a session of these captures, out of which this text goes.
-fn growths_of(
-    rt: &impl Abort,
-    alloc: Global,
-    table: &str,
-    came: &[&[u8]],
-    text: &[u8],
-) -> Result<u64, Fail> {
-    let calls = Feeding {
-        alloc,
-        table,
-        came,
-        text,
-    };
-    growths(rt, alloc, &calls)
-}
-
-/// Growths for the switch and the counters, for what came, for the records that wait, and for what goes out.
+/// Growths for the switch and the counters, for what came, for the records that wait, and for what goes out. What port 3 puts
+/// out in all after each call is its header, then one record, then all three.
 #[test]
-fn session_of_three_frames(rt: HostRuntime) -> Result<(), Fail> {
+fn session_on_d(rt: HostRuntime) -> Result<(), Fail> {
     let alloc = rt.alloc();
     let table = double(alloc, port(3))?;
     let one = capture(alloc, &[small(10, 0), small(10, 1_000_000)])?;
     let two = capture(alloc, &[small(20, 500_000)])?;
     let left = [small(10, 6_720), small(20, 506_720), small(10, 1_006_720)];
     let text = capture(alloc, &left)?;
-    let refused = growths_of(&rt, alloc, &table, &[&one, &two, &HEADER], &text)?;
+    let calls = [
+        (Call::Feed(1, &one), Ok(()), 24),
+        (Call::Feed(3, &HEADER), Ok(()), 24),
+        (Call::Close(3), Ok(()), 24),
+        (Call::Feed(2, &two), Ok(()), 100),
+        (Call::Close(1), Ok(()), 100),
+        (Call::Close(2), Ok(()), 252),
+        (Call::Feed(2, &two), Err(RunFault::Closed), 252),
+        (Call::Feed(9, &two), Err(RunFault::WrongPorts), 252),
+    ];
+    let feeding = Feeding {
+        alloc,
+        table: &table,
+        calls: &calls,
+        text: &text,
+    };
+    let refused = growths(&rt, alloc, &feeding)?;
     assert!(rt; refused >= 20);
     println!(rt; "Session: {refused} growths refused")?;
     Ok(())

@@ -1,12 +1,9 @@
-//! Two babbling ports beside a quiet one, by `run` and by `serve`. Values from outside: instants worked out by hand, bytes of
-//! pcap 2.4 captures, printed lines.
+//! Two babbling ports beside a quiet one. Values from outside: instants worked out by hand, bytes of pcap 2.4 captures, printed
+//! lines.
 
 use crate::fixtures::{CHECKED, RUN, answer_over};
 use crate::memory_folder::MemoryFolder;
-use afdx_load::check;
 use afdx_samples::{HEADER, capture, large, link, port, small, table};
-use afdx_session::{Plan, run};
-use afdx_table::read;
 use std::alloc::{AllocError, Global};
 use std::test::Fail;
 
@@ -110,26 +107,7 @@ fn worlds(alloc: Global) -> Result<[(bool, Vec<u8>, &'static str); 2], AllocErro
 }
 
 #[test]
-fn two_babblers_by_run(rt: HostRuntime) -> Result<(), Fail> {
-    let alloc = rt.alloc();
-    let text = three_to_one(alloc)?;
-    for (babbles, left, report) in worlds(alloc)? {
-        let cleared = check(read(alloc, text.as_bytes())?)
-            .ok()
-            .ok_or("an accepted table")?;
-        let outcome = run(alloc, Plan::Cleared(cleared), &captures(alloc, babbles)?)?;
-        assert_eq!(rt; outcome.counts.report(alloc)?.as_str(), report);
-        assert_eq!(rt; outcome.captures.len(), 4);
-        for (port, bytes) in &outcome.captures {
-            let wanted = if *port == 4 { left.as_slice() } else { &HEADER };
-            assert_eq!(rt; bytes.as_slice(), wanted, "port {port}");
-        }
-    }
-    Ok(())
-}
-
-#[test]
-fn two_babblers_by_serve(rt: HostRuntime) -> Result<(), Fail> {
+fn two_babblers(rt: HostRuntime) -> Result<(), Fail> {
     let alloc = rt.alloc();
     let text = three_to_one(alloc)?;
     for (babbles, left, report) in worlds(alloc)? {

@@ -71,7 +71,7 @@ impl OneFrame {
         &self,
         failing: u64,
         fault: FolderFault,
-    ) -> Result<MemoryFolder, AllocError> {
+    ) -> Result<MemoryFolder<Global>, AllocError> {
         let mut folder = MemoryFolder::failing(self.alloc, failing, fault);
         folder.add("t", self.table.as_bytes())?;
         folder.add("in/port-1.pcap", &self.came)?;
@@ -80,7 +80,7 @@ impl OneFrame {
     }
 
     /// The same, where no call fails.
-    pub(crate) fn sound(&self) -> Result<MemoryFolder, AllocError> {
+    pub(crate) fn sound(&self) -> Result<MemoryFolder<Global>, AllocError> {
         self.folder(0, FolderFault::Device)
     }
 }
@@ -107,7 +107,7 @@ pub(crate) fn answer_over(
     alloc: Global,
     line: &str,
     mut input: &[u8],
-    folder: &mut MemoryFolder,
+    folder: &mut MemoryFolder<Global>,
 ) -> Result<Served, AllocError> {
     let words = split(alloc, line)?;
     let mut out = Vec::new(alloc);

@@ -1,83 +1,35 @@
-//! The policing of one link, with each of its growths refused in turn, and of a capture that is cut at each byte.
+//! Growths that are refused in turn.
 
-use afdx_pcap::PcapFault;
 use afdx_refusing::Refusing;
-use afdx_samples::{capture, large, small};
-use afdx_serve::{AloneFault, alone};
-use afdx_words::Alone;
 use std::alloc::Global;
+use std::process::Abort;
 use std::test::*;
 
-/// Link 10, which may send a large frame each millisecond.
-fn link() -> Option<Alone> {
-    Alone::of_numbers(10, 1, 0, 1518)
+/// More growths than any calls here take.
+const MOST: u64 = 10_000;
+
+/// Memory that refuses one growth.
+pub(crate) type Memory = Refusing<Global>;
+
+/// Calls that take memory, and the answers that they should give.
+pub(crate) trait Calls {
+    /// Whether they answer so; none where they are out of memory.
+    fn answer(&self, memory: &Memory) -> Option<bool>;
 }
 
-/// Whether the answer is this one; none for want of memory.
-fn polices(memory: &Refusing<Global>, link: &Alone, input: &[u8], expected: &[u8]) -> Option<bool> {
-    match alone(memory, link, input) {
-        Ok(answer) => Some(answer.as_slice() == expected),
-        Err(AloneFault::Memory) => None,
-        Err(AloneFault::Capture(_)) => Some(false),
-    }
-}
-
-/// The second frame comes a nanosecond too early. The answer alone is grown: the frames are lent.
-#[test]
-fn each_growth_refused(rt: HostRuntime) -> Result<(), Fail> {
-    let alloc = rt.alloc();
-    let link = link().ok_or("a link")?;
-    let came = [large(10, 0), large(10, 999_999), large(10, 1_000_000)];
-    let input = capture(alloc, &came)?;
-    let expected = capture(alloc, &[large(10, 0), large(10, 1_000_000)])?;
+/// Refuses the first growth of these calls, then the second, and so on until none is refused: how many there were. Each time
+/// they are out of memory exactly where a growth was refused, and answer as they should elsewhere.
+pub(crate) fn growths(rt: &impl Abort, alloc: Global, calls: &impl Calls) -> Result<u64, Fail> {
     let mut refused = 0u64;
-    for n in 1..10_000u64 {
+    for n in 1..MOST {
         let memory = Refusing::new(alloc, n);
-        let answer = polices(&memory, &link, &input, &expected);
+        let answer = calls.answer(&memory);
         let wanted = if memory.is_spent() { None } else { Some(true) };
-        assert_eq!(rt; answer, wanted);
-        if !memory.is_spent() {
+        assert_eq!(rt; answer, wanted, "{n}");
+        if wanted.is_some() {
             break;
         }
         refused = n;
     }
-    assert!(rt; refused >= 2);
-    println!(rt; "alone: {refused} growths refused")?;
-    Ok(())
-}
-
-/// The fault of the first bytes of a capture of two small frames, by the format.
-fn fault_in(length: usize) -> Option<PcapFault> {
-    match length {
-        0..=23 => Some(PcapFault::NoHeader),
-        25..=39 => Some(PcapFault::CutHeader(1)),
-        40..=99 => Some(PcapFault::CutData(1)),
-        101..=115 => Some(PcapFault::CutHeader(2)),
-        116..=175 => Some(PcapFault::CutData(2)),
-        _ => None,
-    }
-}
-
-/// All that goes in comes out, where it is whole.
-#[test]
-fn each_cut(rt: HostRuntime) -> Result<(), Fail> {
-    let alloc = rt.alloc();
-    let link = link().ok_or("a link")?;
-    let input = capture(alloc, &[small(10, 0), small(10, 1_000_000)])?;
-    let mut cuts = 0usize;
-    for length in 0..=176usize {
-        let cut = input.get(..length).ok_or("so many bytes")?;
-        let fault = match alone(alloc, &link, cut) {
-            Ok(answer) => {
-                assert!(rt; answer.as_slice() == cut);
-                None
-            }
-            Err(AloneFault::Memory) => Some(PcapFault::Memory),
-            Err(AloneFault::Capture(fault)) => Some(fault),
-        };
-        assert_eq!(rt; fault, fault_in(length), "{length} bytes");
-        cuts = cuts.saturating_add(1);
-    }
-    println!(rt; "alone: {cuts} cuts")?;
-    Ok(())
+    Ok(refused)
 }

@@ -10,6 +10,8 @@ mod devices;
 #[cfg(test)]
 mod fixtures;
 #[cfg(test)]
+mod folders;
+#[cfg(test)]
 mod growths;
 #[cfg(test)]
 mod measures;
@@ -17,6 +19,8 @@ mod measures;
 mod memory_folder;
 #[cfg(test)]
 mod names;
+#[cfg(test)]
+mod policing;
 #[cfg(test)]
 mod runs;
 #[cfg(test)]

@@ -6,34 +6,34 @@ ghost use Rattle.afdx_serve.specs.Files.{HasCause};
 ghost use Rattle.afdx_serve_tests.specs.declared.memory_folder.File.{File};
 
 use afdx_serve::{DeviceLog, Folder, FolderFault};
-use std::alloc::{AllocError, Allocator, Global};
+use std::alloc::{AllocError, Allocator};
 
 /// A name, and the bytes that stand under it.
 #[derive(Debug, Drop)]
-struct File {
-    name: String,
-    bytes: Vec<u8>,
+struct File<A: Allocator> {
+    name: String<A>,
+    bytes: Vec<u8, A>,
 }
 
 /// The files, the one that was put last first. The call of number `failing`, from 1, fails so; 0 is none.
 #[derive(Debug, Drop)]
-pub(crate) struct MemoryFolder {
-    alloc: Global,
-    files: Vec<File>,
+pub(crate) struct MemoryFolder<A: Allocator> {
+    alloc: A,
+    files: Vec<File<A>, A>,
     calls: u64,
     failing: u64,
     fault: FolderFault,
-    log: DeviceLog<Global>,
+    log: DeviceLog<A>,
 }
 
-impl MemoryFolder {
+impl<A: Allocator + Copy> MemoryFolder<A> {
     /// No files, and no call fails.
-    pub(crate) fn new(alloc: Global) -> MemoryFolder {
+    pub(crate) fn new(alloc: A) -> MemoryFolder<A> {
         MemoryFolder::failing(alloc, 0, FolderFault::Device)
     }
 
     /// No files.
-    pub(crate) fn failing(alloc: Global, failing: u64, fault: FolderFault) -> MemoryFolder {
+    pub(crate) fn failing(alloc: A, failing: u64, fault: FolderFault) -> MemoryFolder<A> {
         MemoryFolder {
             alloc,
             files: Vec::new(alloc),
@@ -84,14 +84,14 @@ impl MemoryFolder {
     }
 }
 
-fn find_file<'a>(files: &'a [File], name: &str) -> Option<&'a File>
+fn find_file<'a, A: Allocator>(files: &'a [File<A>], name: &str) -> Option<&'a File<A>>
     ensures { option_copied result ≡ find (λ f. bytes_eq (string_bytes f.name) name.now) files.now }
 {
     files.iter().find(|file| file.name.as_str() == name)
 }
 
 /// Counts a call for this name, and gives the fault where it is the one that fails.
-fn call(folder: &mut MemoryFolder, name: &str) -> Result<(), FolderFault>
+fn call<A: Allocator + Copy>(folder: &mut MemoryFolder<A>, name: &str) -> Result<(), FolderFault>
     ensures files { folder.new.files ≡ folder.old.files }
     ensures cause { HasCause name.now folder.old.log folder.new.log result }
 {
@@ -105,7 +105,7 @@ fn call(folder: &mut MemoryFolder, name: &str) -> Result<(), FolderFault>
     }
 }
 
-impl Folder for MemoryFolder {
+impl<B: Allocator + Copy> Folder for MemoryFolder<B> {
     ghost files = { λ m. Some (λ name. option_map (λ f. f.bytes.items) (find (λ f. bytes_eq (string_bytes f.name) name) m.files.items)) };
 
     ghost failed = { λ m. m.log };

@@ -42,7 +42,7 @@ fn served<R: Read>(
     line: &str,
     input: &mut R,
     out: &mut Sink,
-    folder: &mut MemoryFolder,
+    folder: &mut MemoryFolder<Global>,
     writer: LineWriter,
 ) -> Result<(u8, Vec<u8>), AllocError> {
     let words = split(alloc, line)?;

@@ -1,0 +1,86 @@
+//! The policing of one link, with each of its growths refused in turn, and of a capture that is cut at each byte.
+
+use crate::growths::{Calls, Memory, growths};
+use afdx_pcap::PcapFault;
+use afdx_samples::{capture, large, small};
+use afdx_serve::{AloneFault, alone};
+use afdx_words::Alone;
+use std::test::*;
+
+/// Link 10, which may send a large frame each millisecond.
+fn link() -> Option<Alone> {
+    Alone::of_numbers(10, 1, 0, 1518)
+}
+
+/// The policing of a capture, and what it answers.
+#[derive(Clone, Copy)]
+struct Policing<'a> {
+    link: &'a Alone,
+    input: &'a [u8],
+    expected: &'a [u8],
+}
+
+impl Calls for Policing<'_> {
+    fn answer(&self, memory: &Memory) -> Option<bool> {
+        match alone(memory, self.link, self.input) {
+            Ok(answer) => Some(answer.as_slice() == self.expected),
+            Err(AloneFault::Memory) => None,
+            Err(AloneFault::Capture(_)) => Some(false),
+        }
+    }
+}
+
+/// The second frame comes a nanosecond too early. The answer alone is grown: the frames are lent.
+#[test]
+fn each_growth_refused(rt: HostRuntime) -> Result<(), Fail> {
+    let alloc = rt.alloc();
+    let link = link().ok_or("a link")?;
+    let came = [large(10, 0), large(10, 999_999), large(10, 1_000_000)];
+    let input = capture(alloc, &came)?;
+    let expected = capture(alloc, &[large(10, 0), large(10, 1_000_000)])?;
+    let calls = Policing {
+        link: &link,
+        input: &input,
+        expected: &expected,
+    };
+    let refused = growths(&rt, alloc, &calls)?;
+    assert!(rt; refused >= 2);
+    println!(rt; "alone: {refused} growths refused")?;
+    Ok(())
+}
+
+/// The fault of the first bytes of a capture of two small frames, by the format.
+fn fault_in(length: usize) -> Option<PcapFault> {
+    match length {
+        0..=23 => Some(PcapFault::NoHeader),
+        25..=39 => Some(PcapFault::CutHeader(1)),
+        40..=99 => Some(PcapFault::CutData(1)),
+        101..=115 => Some(PcapFault::CutHeader(2)),
+        116..=175 => Some(PcapFault::CutData(2)),
+        _ => None,
+    }
+}
+
+/// All that goes in comes out, where it is whole.
+#[test]
+fn each_cut(rt: HostRuntime) -> Result<(), Fail> {
+    let alloc = rt.alloc();
+    let link = link().ok_or("a link")?;
+    let input = capture(alloc, &[small(10, 0), small(10, 1_000_000)])?;
+    let mut cuts = 0usize;
+    for length in 0..=176usize {
+        let cut = input.get(..length).ok_or("so many bytes")?;
+        let fault = match alone(alloc, &link, cut) {
+            Ok(answer) => {
+                assert!(rt; answer.as_slice() == cut);
+                None
+            }
+            Err(AloneFault::Memory) => Some(PcapFault::Memory),
+            Err(AloneFault::Capture(fault)) => Some(fault),
+        };
+        assert_eq!(rt; fault, fault_in(length), "{length} bytes");
+        cuts = cuts.saturating_add(1);
+    }
+    println!(rt; "alone: {cuts} cuts")?;
+    Ok(())
+}
