@@ -230,13 +230,18 @@ def service(port, frames):
     return events
 
 
+def occupied(port, admitted, stamp):
+    """The bytes that these frames fill at this instant, by a schedule of all of them."""
+    gone = sum(event.frame.size for event in service(port, admitted)
+               if (event.sent and event.end <= stamp) or (not event.sent and event.begin < stamp))
+    return sum(frame.size for frame in admitted) - gone
+
+
 def admission(port, frames):
-    """The frames that find room, each judged against a schedule of all that were admitted before it."""
+    """The frames that find room, each judged against those that were admitted before it."""
     admitted = []
     for frame in frames:
-        gone = sum(event.frame.size for event in service(port, admitted)
-                   if (event.sent and event.end <= frame.stamp) or (not event.sent and event.begin < frame.stamp))
-        if sum(other.size for other in admitted) - gone + frame.size <= port.buffer:
+        if occupied(port, admitted, frame.stamp) + frame.size <= port.buffer:
             admitted.append(frame)
     return admitted
 
@@ -250,8 +255,8 @@ class Outcome:
     report: str = ""
 
 
-def run(table, captures):
-    """What comes out of the switch for these captures, bytes by port."""
+def arrivals_of(table, captures):
+    """The arrivals of these captures, bytes by port, in the order of the merge, judged and policed."""
     arrivals = []
     for port in table.ports:
         arrivals += [Arrival(port.id, record) for record in records_of(captures[port.id], port.id)]
@@ -259,7 +264,12 @@ def run(table, captures):
     for arrival in arrivals:
         arrival.verdict, arrival.link = verdict_of(table, arrival.port, arrival.record)
     police(table, arrivals)
+    return arrivals
 
+
+def run(table, captures):
+    """What comes out of the switch for these captures, bytes by port."""
+    arrivals = arrivals_of(table, captures)
     outcome, ins, links, outs = Outcome(), [], [], []
     for port in table.ports:
         verdicts = [arrival.verdict for arrival in arrivals if arrival.port == port.id]
@@ -358,6 +368,15 @@ def size(table):
     return "".join(line + "\n" for line in lines)
 
 
+def captures_in(folder, table):
+    """The bytes of each port's capture."""
+    captures = {}
+    for port in table.ports:
+        with open(f"{folder}/port-{port.id}.pcap", "rb") as file:
+            captures[port.id] = file.read()
+    return captures
+
+
 def main(words):
     sizes = words[0] == "--size"
     with open(words[1 if sizes else 0], encoding="utf-8", newline="") as file:
@@ -366,11 +385,7 @@ def main(words):
         return size(table)
     if len(words) == 1:
         return check(table)
-    captures = {}
-    for port in table.ports:
-        with open(f"{words[1]}/port-{port.id}.pcap", "rb") as file:
-            captures[port.id] = file.read()
-    outcome = run(table, captures)
+    outcome = run(table, captures_in(words[1], table))
     os.makedirs(words[2], exist_ok=True)
     for port, capture in outcome.captures.items():
         with open(f"{words[2]}/port-{port}.pcap", "wb") as file:

@@ -250,7 +250,8 @@ def load():
     says("both kinds of policing", by_frames(DOUBLE), "port 3 rate 578416640 buffer 5069 high - low 282430")
 
 
-for part in (frames_and_accounts, ports, policing_by_frames, captures, every_verdict, load):
-    part()
-print("\n".join(differing) or "the model gives every worked number")
-sys.exit(bool(differing))
+if __name__ == "__main__":
+    for part in (frames_and_accounts, ports, policing_by_frames, captures, every_verdict, load):
+        part()
+    print("\n".join(differing) or "the model gives every worked number")
+    sys.exit(bool(differing))
