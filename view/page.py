@@ -23,7 +23,7 @@ def percent(part, whole=1):
 
 
 def instant(ns):
-    return f"{ns / 1e6:,.3f} ms"
+    return f"{ns / 1e6:,.3f}\u00a0ms"
 
 
 def lasting(ns):
@@ -56,7 +56,7 @@ def babbling(run, link, spells):
 
 
 def verdict(run):
-    said = ["Accepted." if run.accepted else "<b>Not accepted</b>: " + "; ".join(
+    said = ["<b>Accepted.</b>" if run.accepted else "<b>Not accepted</b>: " + "; ".join(
         f"port {port['port']} breaks {port['breaks']}" for port in run.ports if port["breaks"]) + "."]
     sent, lost = int(run.pairs.sent.sum()), int(run.pairs.full.sum() + run.pairs.aged.sum())
     policed = run.pairs.drop_duplicates("link").nlargest(len(run.pairs), "policed").query("policed > 0").link.tolist()
@@ -70,7 +70,7 @@ def verdict(run):
     if not run.checked:
         said.append("The run was unchecked, so no bound is promised.")
     elif near is not None:
-        others = "No other link" if policed else "No link"
+        others = "No other link" if policed and near.link not in policed else "No link"
         rest = f"link {near.link} at port {near.port}, took {percent(near.share)} of it ({number(near.greatest)} of {number(near.bound)} ns)"
         close = int((run.pairs.share >= NEAR).sum())
         said.append(f"<b>{count(close, 'link')} came near the bound</b>; the nearest, {rest}." if close else f"{others} came near its bound: the nearest, {rest}.")
@@ -78,46 +78,39 @@ def verdict(run):
     return f'<p class="verdict{" bad" if bad else ""}">{" ".join(said)}</p>'
 
 
-def tiles(run):
-    links = run.pairs.drop_duplicates("link")
-    dropped = run.arrivals.fate[~run.arrivals.fate.isin(["passed", "policed"])].value_counts()
-    dropped = dropped[dropped > 0]
-    near = nearest(run)
-    cells = [(len(run.arrivals), "frames in", False), (int(links.passed.sum()), "passed", False),
-             (int(links.policed.sum()), "policed", links.policed.sum() > 0),
-             (int(dropped.sum()), "dropped by the filter" + "".join(f", {escape(str(fate))} {many:,}" for fate, many in dropped.items()), False),
-             (int(run.pairs.sent.sum()), "copies out", False),
-             (int(run.pairs.full.sum()), "lost to a full buffer", run.pairs.full.sum() > 0),
-             (int(run.pairs.aged.sum()), "lost to age", run.pairs.aged.sum() > 0)]
-    text = "".join(f'<div{" class=hot" if hot else ""}><b>{value:,}</b>{what}</div>' for value, what, hot in cells)
-    if near is not None:
-        text += f"<div><b>{percent(near.share)}</b>of its bound at most</div>"
-    return f'<div class="tiles">{text}</div>'
+def fates(run):
+    """What became of the arrivals, in one line."""
+    many = run.arrivals.fate.value_counts()
+    dropped = {fate: number_of for fate, number_of in many.items() if number_of and fate not in ("passed", "policed")}
+    words = ", ".join(f"{fate} {number_of:,}" for fate, number_of in dropped.items())
+    lost = f" Of the copies, {int(run.pairs.full.sum()):,} found a full buffer and {int(run.pairs.aged.sum()):,} were discarded for their age."
+    return (f'<p class="soft">Of the {count(len(run.arrivals), "frame")}, {many.get("passed", 0):,} were passed, {many.get("policed", 0):,} policed and '
+            f'{sum(dropped.values()):,} dropped by the filter{f" ({words})" if words else ""}.{lost}</p>')
 
 
 # --- The ports ---
 
 
-def bar(what, need, limit, unit, more="", colour=""):
+def bar(what, need, limit, unit, colour=""):
     part = min(need / limit, 1) if limit else 1
     over = " over" if need > limit else ""
     style = f"--w:{100 * part:.2f}%{';--c:' + colour if colour else ''}"
-    return (f'<div class="bar{over}">{what}<span>{need:,} of {limit:,} {unit}, {percent(need, limit) if limit else "-"}{more}</span>'
+    return (f'<div class="bar{over}">{what}<span>{need:,} of {limit:,} {unit}, {percent(need, limit) if limit else "-"}</span>'
             f'<i style="{style}"></i></div>')
 
 
 def port_card(port, seen):
     lines = [bar("rate", port["rate"], port["rate_limit"], "parts"), bar("buffer needed", port["buffer"], port["buffer_limit"], "bytes")]
-    at = f", at {seen['instant']}" if seen["instant"] else ""
-    lines.append(bar("buffer used at most", seen["occupied"], seen["limit"], "bytes", at, "#009E73"))
+    lines.append(bar("buffer used", seen["occupied"], seen["limit"], "bytes", "#009E73"))
     for priority in ("high", "low"):
         need, limit = port[priority], port[f"{priority}_limit"]
         if need == "none":
             lines.append(f'<div class="bar over">{priority} delay<span>no bound, of {limit:,} ns</span><i style="--w:100%"></i></div>')
         elif need is not None:
-            lines.append(bar(f"{priority} delay, bound", need, limit, "ns", colour=pictures.COLOURS[priority]))
+            lines.append(bar(f"{priority} delay, bound", need, limit, "ns", pictures.COLOURS[priority]))
     breaks = f" breaks {port['breaks']}" if port["breaks"] else " fits"
-    return f'<div class="card"><h3>Port {port["port"]}{breaks}</h3>{"".join(lines)}</div>'
+    fullest = f'<p class="soft">The buffer was fullest at {seen["instant"]}.</p>' if seen["instant"] else ""
+    return f'<div class="card"><h3>Port {port["port"]}{breaks}</h3>{"".join(lines)}{fullest}</div>'
 
 
 def ports(run):
@@ -146,16 +139,14 @@ def policed(run, bins):
                      f'{pictures.strip(points, points.early, greatest, run.span, passed.iloc[::max(1, len(passed) // bins)])}</figure>')
     return (f'<h2 id="policed">Policed frames</h2><p class="soft">When they came, and how early they were: the height of a point is the time after which '
             f'the link\'s account would have passed the frame, the top the greatest of the link. Blue ticks below are frames that were passed. '
-            f'A spell ends where no frame was policed for 128 ms, the longest gap (BAG) that a link can have.</p><div class="cards wide-cards">{"".join(cards)}</div>')
+            f'A spell ends where no frame was policed for 128 ms, the longest gap (BAG) that a link can have.</p><div class="cards broad">{"".join(cards)}</div>')
 
 
 def strip_figure(run, row, points, scale):
     slack = row.bound - row.greatest
-    numbers = f"{number(row.least)} to {number(row.greatest)}"
+    numbers = f"{number(row.least)} to {number(row.greatest)} ns"
     if run.checked:
-        numbers += f" of {number(row.bound)} ns · slack {number(slack)} ns, {percent(slack, row.bound)}"
-    else:
-        numbers += " ns"
+        numbers += f", bound {number(row.bound)} · slack {number(slack)} ns, {percent(slack, row.bound)}"
     lost = "".join(f" · {many:,} {what}" for many, what in ((row.full, "full"), (row.aged, "aged")) if many)
     kind = f'{row.priority}{" bound" if run.checked else ""}'
     return (f'<figure class="{kind}" id=l{row.link}p{row.port}><figcaption><b>link {row.link}</b> · {row.sent:,} sent{lost} · {numbers}</figcaption>'
@@ -173,8 +164,8 @@ def delays(run, bins, shown, progress):
         scale = rows.greatest.max()
         strips = "".join(strip_figure(run, row, points[port, row.link], row.bound if run.checked else scale) for row in rows.itertuples())
         top = "the dashed line at the top is the link's bound" if run.checked else f"the top is {number(scale)} ns, the port's greatest delay"
-        sections.append(f'<section class="port" id="port{port}"><h3>Port {port}</h3>{figure}<p class="soft">For each link, from 0 at the bottom; {top}.</p>'
-                        f'<div class="cards">{strips}</div></section>')
+        sections.append(f'<section class="port" id="port{port}"><h3>Port {port}</h3><p class="soft">All of the port, then each link, from 0 at the bottom; {top}.</p>'
+                        f'<div class="cards">{figure}{strips}</div></section>')
     return "".join(sections)
 
 
@@ -218,9 +209,9 @@ def page(run, title, progress):
     shown = sent if len(sent) <= STRIPS else sent.nlargest(STRIPS, "share" if run.checked else "greatest").sort_index()
     bins = max(24, min(240, POINTS // max(1, len(shown) + run.spells.link.nunique())))
     progress.tell("pictures of the run")
-    wide, narrow = (pictures.svg_of(pictures.overview(run, width), "The run at a glance") for width in (1180, 420))
+    wide, narrow = (pictures.svg_of(pictures.overview(run, width), "The run at a glance") for width in (11.8, 4.2))
     key = "".join(f'<span class="key" style="--c:{colour}">{priority} priority</span>' for priority, colour in pictures.COLOURS.items())
-    parts = [f"<h1>{escape(title)}</h1>", verdict(run), tiles(run),
+    parts = [f"<h1>{escape(title)}</h1>", verdict(run), fates(run),
              '<nav><a href="#ports">Ports</a><a href="#policed">Policed frames</a><a href="#links">All links</a><a href="#delays">Delays</a></nav>',
              f'<div class="wide">{wide}</div><div class="narrow">{narrow}</div>',
              f'<p class="soft">0 s is {moment:%Y-%m-%d %H:%M:%S}.{run.first % 10**9:09} UTC, the first frame\'s stamp.</p>',
@@ -229,4 +220,4 @@ def page(run, title, progress):
              thinning(run, bins, shown), delays(run, bins, shown, progress)]
     return (f'<!DOCTYPE html><html lang="en"><head><meta charset="utf-8"><meta name="viewport" content="width=device-width, initial-scale=1">'
             f'<link rel="icon" href="data:,"><title>{escape(title)}</title><style>{inlined("page.css")}</style></head>'
-            f'<body style="--span:\'{instant(run.span)}\'">{"".join(parts)}<script>{inlined("sort.js")}</script></body></html>\n')
+            f'<body style="--span:\'0 to {instant(run.span)}\'">{"".join(parts)}<script>{inlined("sort.js")}</script></body></html>\n')

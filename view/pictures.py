@@ -38,6 +38,12 @@ def plot(axes, rows, height, colour, mark, size=4, **more):
     axes.plot(rows["at"] / 1e9, height, mark, color=colour, markersize=size, markeredgewidth=0, **more)
 
 
+def head(axes, title):
+    """The title, and the legend below it, both at the left."""
+    axes.set_title(title, loc="left", fontsize=12, pad=22, fontweight="bold")
+    axes.legend(loc="lower left", bbox_to_anchor=(-0.01, 0.97), ncol=4, handletextpad=0.3, columnspacing=1, handlelength=1.5, borderaxespad=0.2)
+
+
 def time_axis(axes, run):
     axes.set_xlim(-0.01 * run.span / 1e9, 1.01 * run.span / 1e9)
     axes.xaxis.set_major_formatter(SECONDS)
@@ -60,8 +66,7 @@ def policing(axes, run, links):
         axes.plot(passed["at"] / 1e9, [row - 0.18] * len(passed), "|", color=PASSED, markersize=7, markeredgewidth=1.6, label=names[0])
     axes.set_yticks(range(len(links)), [f"link {link}" for link in links])
     axes.set_ylim(len(links) - 0.4, -0.6)
-    axes.set_title("Frames of the links that were policed", loc="left", fontsize=11)
-    axes.legend(loc="lower right", bbox_to_anchor=(1.01, 0.97), ncol=2, handletextpad=0.1, columnspacing=1)
+    head(axes, "Links that were policed")
     axes.tick_params(labelbottom=False)
     axes.grid(axis="y", visible=False)
 
@@ -77,31 +82,45 @@ def shares(axes, run):
     if run.checked:
         axes.axhline(1, color=BOUND, linewidth=1.4, linestyle=(0, (5, 3)), label="bound")
         axes.yaxis.set_major_formatter(PercentFormatter(1, decimals=0))
-        axes.set_title("Delay of what left, as a part of its bound", loc="left", fontsize=11)
+        title = "Delays, against their bounds"
     else:
         axes.yaxis.set_major_formatter(SECONDS)
-        axes.set_title("Delay of what left; no bound is promised of an unchecked run", loc="left", fontsize=11)
+        title = "Delays; no bound is promised"
     axes.set_ylim(bottom=0)
-    axes.legend(loc="lower right", bbox_to_anchor=(1.01, 0.97), ncol=3, handletextpad=0.3, columnspacing=1)
+    head(axes, title)
+
+
+def panel(figure, bottom, height):
+    """Axes of this place and height in inches, almost as wide as the figure."""
+    width, high = figure.get_size_inches()
+    return figure.add_axes((0.95 / width, bottom / high, 1 - 1.2 / width, height / high))
 
 
 def overview(run, width):
-    """The whole run: who was policed, and how near the bounds all came. The width is in hundredths of an inch."""
+    """The whole run: who was policed, and how near the bounds all came. Places and the width are in inches."""
     links = babblers(run)
-    above = [0.55 + 0.3 * len(links)] if links else []
-    figure = Figure(figsize=(width / 100, sum(above) + 3), layout="constrained")
-    grid = figure.subplots(len(above) + 1, 1, sharex=True, squeeze=False, gridspec_kw={"height_ratios": [*above, 2.4]})[:, 0]
+    rows = 0.33 * len(links) + 0.1
+    figure = Figure(figsize=(width, 2.75 + (rows + 0.6 if links else 0)))
+    below = panel(figure, 0.3, 1.9)
+    grid = [panel(figure, 2.85, rows), below] if links else [below]
+    spells = run.spells[run.spells.link.isin(links)]
     for axes in grid:
         time_axis(axes, run)
+        for spell in spells.itertuples():
+            axes.axvspan(spell.begin / 1e9, spell.end / 1e9, color=POLICED, alpha=0.1, linewidth=0)
     if links:
         policing(grid[0], run, links)
-    shares(grid[-1], run)
+    if len(spells) == 1:
+        spell = spells.iloc[0]
+        below.annotate(f"link {spell.link:.0f} babbles", ((spell.begin + spell.end) / 2e9, 0.84), xycoords=("data", "axes fraction"), ha="center",
+                       va="top", color=POLICED)
+    shares(below, run)
     return figure
 
 
 def port_delays(run, port):
     """The delays of all that left a port, high and low, with their bounds."""
-    figure = Figure(figsize=(5.2, 2.9), layout="constrained")
+    figure = Figure(figsize=(4.5, 2.7), layout="constrained")
     axes = figure.subplots()
     time_axis(axes, run)
     sent = run.departures[(run.departures.port == port) & run.departures.delay.notna()]
