@@ -7,7 +7,7 @@ import pictures
 import readings
 
 NEAR = 0.8  # the part of its bound from which a link is said to have come near it
-NAMED = 3  # babbling links that the verdict names
+NAMED = 3  # babbling links, and ports that break rules, that the verdict names
 POINTS = 600_000  # of all strips together; so the page stays below 20 MB
 STRIPS = 20_000  # the most strips; those nearest to their bounds where there are more
 HERE = os.path.dirname(os.path.realpath(__file__))
@@ -56,8 +56,9 @@ def babbling(run, link, spells):
 
 
 def verdict(run):
-    said = ["<b>Accepted.</b>" if run.accepted else "<b>Not accepted</b>: " + "; ".join(
-        f"port {port['port']} breaks {port['breaks']}" for port in run.ports if port["breaks"]) + "."]
+    broken = [f"port {port['port']} breaks {port['breaks']}" for port in run.ports if port["breaks"]]
+    broken[NAMED:] = [f"{count(len(broken) - NAMED, 'more port')}"] if len(broken) > NAMED else []
+    said = ["<b>Accepted.</b>" if run.accepted else f"<b>Not accepted</b>: {'; '.join(broken)}."]
     sent, lost = int(run.pairs.sent.sum()), int(run.pairs.full.sum() + run.pairs.aged.sum())
     policed = run.pairs.drop_duplicates("link").nlargest(len(run.pairs), "policed").query("policed > 0").link.tolist()
     said.append(f"{count(len(run.arrivals), 'frame')} in, {count(sent, 'copy', 'copies')} out, {'<b>' if lost else ''}{lost:,} lost{'</b>' if lost else ''}, "

@@ -45,10 +45,10 @@ def head(axes, title):
 
 
 def time_axis(axes, run):
-    axes.set_xlim(-0.01 * run.span / 1e9, 1.01 * run.span / 1e9)
-    axes.xaxis.set_major_formatter(SECONDS)
     axes.grid(axis="y", color="#e4e4e4", linewidth=0.8)
     axes.set_axisbelow(True)
+    axes.xaxis.set_major_formatter(SECONDS)
+    axes.set_xlim(-0.01 * run.span / 1e9, 1.01 * run.span / 1e9)
 
 
 def babblers(run):
@@ -78,7 +78,7 @@ def shares(axes, run):
     sent = sent.assign(value=value)
     for priority, colour in COLOURS.items():
         rows = readings.thinned(sent[sent.priority == priority], run.span, 2 * BINS, "value")
-        plot(axes, rows, rows.value, colour, MARKS[priority], label=f"{priority} priority")
+        plot(axes, rows, rows.value, colour, MARKS[priority], label=priority)
     if run.checked:
         axes.axhline(1, color=BOUND, linewidth=1.4, linestyle=(0, (5, 3)), label="bound")
         axes.yaxis.set_major_formatter(PercentFormatter(1, decimals=0))
@@ -86,14 +86,16 @@ def shares(axes, run):
     else:
         axes.yaxis.set_major_formatter(SECONDS)
         title = "Delays; no bound is promised"
-    axes.set_ylim(bottom=0)
+    axes.set_ylim(0, 1.05 if run.checked else 1.25 * max(value.max(), 1e-9) if len(value) else 1)
     head(axes, title)
 
 
 def panel(figure, bottom, height):
     """Axes of this place and height in inches, almost as wide as the figure."""
     width, high = figure.get_size_inches()
-    return figure.add_axes((0.95 / width, bottom / high, 1 - 1.2 / width, height / high))
+    axes = figure.add_axes((0.8 / width, bottom / high, 1 - 1.05 / width, height / high))
+    axes.locator_params(axis="x", nbins=width)
+    return axes
 
 
 def overview(run, width):
@@ -112,7 +114,7 @@ def overview(run, width):
         policing(grid[0], run, links)
     if len(spells) == 1:
         spell = spells.iloc[0]
-        below.annotate(f"link {spell.link:.0f} babbles", ((spell.begin + spell.end) / 2e9, 0.84), xycoords=("data", "axes fraction"), ha="center",
+        below.annotate(f"link {spell.link:.0f} babbles", ((spell.begin + spell.end) / 2e9, 0.84 if run.checked else 0.97), xycoords=("data", "axes fraction"), ha="center",
                        va="top", color=POLICED)
     shares(below, run)
     return figure
