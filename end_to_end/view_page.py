@@ -19,7 +19,7 @@ from selenium.webdriver.chrome.options import Options
 from selenium.webdriver.chrome.service import Service
 
 WIDTHS = (1280, 400)
-LOOKED_AT = 300  # pictures, drawn by chance where there are more
+LOOKED_AT = 40  # pictures, drawn by chance where there are more
 DELAYS = re.compile(r"link (\d+) out (\d+) sent (\d+) least (\S+) greatest (\S+) bound (\S+)")
 PICTURE = """
 const figure = document.getElementById(arguments[0]);
@@ -29,7 +29,7 @@ const place = figure.getBoundingClientRect(), drawing = figure.querySelector("sv
 return {text: figure.querySelector("figcaption").innerText, points: figure.querySelector("path").getAttribute("d").split("M").length - 1,
         width: drawing.width, height: drawing.height, left: place.left, right: place.right, link: !!document.querySelector(`a[href="#${arguments[0]}"]`)};
 """
-COLUMN = "return [...document.querySelectorAll('tbody tr')].map(row => row.cells[arguments[0]].innerText)"
+COLUMN = "return [...document.querySelectorAll('tbody tr')].map(row => row.cells[arguments[0]].textContent)"
 HEADING = "document.querySelectorAll('th button')[arguments[0]].click(); return document.querySelectorAll('th')[arguments[0]].ariaSort"
 faults = []
 
@@ -88,10 +88,14 @@ def check_sorting(page, rows):
 
 def check_page(page, options, rows, width):
     page.execute_cdp_cmd("Emulation.setDeviceMetricsOverride", {"width": width, "height": 900, "deviceScaleFactor": 1, "mobile": False})
+    page.execute_cdp_cmd("Performance.enable", {"timeDomain": "threadTicks"})
     began = time.monotonic()
     page.get("file://" + os.path.abspath(options.page))
-    took = time.monotonic() - began
-    print(f"{width} px: open after {took:.1f} s")
+    waited = time.monotonic() - began
+    # what the browser's own thread worked, so that a busy machine does not count
+    metrics = page.execute_cdp_cmd("Performance.getMetrics", {})["metrics"]
+    took = next(metric["value"] for metric in metrics if metric["name"] == "TaskDuration")
+    print(f"{width} px: open after {waited:.1f} s, {took:.1f} s of work")
     expect(f"opens within {options.seconds} s, not {took:.1f}", took <= options.seconds)
     expect("loads nothing else", page.execute_script("return performance.getEntriesByType('resource').length") == 0)
     expect(f"nothing stands out at {width} px", page.execute_script("return document.documentElement.scrollWidth") <= width)

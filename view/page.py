@@ -73,7 +73,7 @@ def verdict(run):
     elif near is not None:
         others = "No other link" if policed and near.link not in policed else "No link"
         rest = f"link {near.link} at port {near.port}, took {percent(near.share)} of it ({number(near.greatest)} of {number(near.bound)} ns)"
-        close = int((run.pairs.share >= NEAR).sum())
+        close = run.pairs[run.pairs.share >= NEAR].link.nunique()
         said.append(f"<b>{count(close, 'link')} came near the bound</b>; the nearest, {rest}." if close else f"{others} came near its bound: the nearest, {rest}.")
     bad = not run.accepted or lost
     return f'<p class="verdict{" bad" if bad else ""}">{" ".join(said)}</p>'
