@@ -19,6 +19,8 @@ def number(value):
 
 def percent(part, whole=1):
     share = 100 * part / whole
+    if 0 < share < 0.05:
+        return "below 0.1 %"
     return f"{share:.1f} %" if 0 < share < 10 else f"{share:.0f} %"
 
 
