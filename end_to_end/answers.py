@@ -70,10 +70,12 @@ def measure(table, captures, unchecked):
 def early(passed, frame):
     """The least number of ns by which the frame, had it come later, would have kept to its link's allowance: each window
     that ends with it and begins with a frame passed before it has to be long enough for what it holds."""
-    link, sent, least = frame.link, frame.size, 0
+    link, least = frame.link, 0
+    cost, each_gap = (lambda sent: sent.size, link.max_size) if link.police == "byte" else (lambda sent: 1, 1)
+    sent = cost(frame)
     for first in passed[::-1]:
-        sent += first.size
-        long_enough = -(-sent * link.bag // link.max_size) - link.bag - link.jitter
+        sent += cost(first)
+        long_enough = -(-sent * link.bag // each_gap) - link.bag - link.jitter
         least = max(least, first.stamp + long_enough - frame.stamp)
     return least
 

@@ -88,7 +88,8 @@ def early_is_the_least():
     """What `early` adds up is the least shift with which the model's windows pass the frame."""
     chance = random.Random(1)
     for _ in range(300):
-        link = model.Link(1, 1, [2], 1_000_000 << chance.randint(0, 7), 1000 * chance.choice([0, 40, 10_000]), chance.randint(64, 1518), "low")
+        link = model.Link(1, 1, [2], 1_000_000 << chance.randint(0, 7), 1000 * chance.choice([0, 40, 10_000]), chance.randint(64, 1518), "low",
+                          chance.choice(["byte", "frame"]))
         stamps = sorted(chance.randrange(4 * link.bag) for _ in range(30))
         passed = []
         for stamp in stamps:
