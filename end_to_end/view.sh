@@ -64,7 +64,7 @@ sed 's/^mbit = .*/mbit = 10/; s/^buffer = .*/buffer = 1000/; s/^max_delay_us = .
 mkdir silent cut
 head -c 24 "$network/in/port-1.pcap" | tee silent/port-{1,2,3}.pcap >silent/port-4.pcap
 cp "$network"/in/* cut && head -c 5000 "$network/in/port-2.pcap" >cut/port-2.pcap
-echo 'version = 2' >other.toml
+echo 'version = 4' >other.toml
 
 check "the example network" makes network.html "$network/table.toml" "$network/in"
 check "its verdict" says network.html '^Accepted\. ' '788 frames in, 958 copies out, 0 lost, 162 policed' \
