@@ -1,0 +1,75 @@
+"""Runs the program afdx and tells how far it is."""
+import os
+import shutil
+import subprocess
+import sys
+import tempfile
+import time
+
+import readings
+
+BUILT = os.path.join(os.path.dirname(os.path.realpath(__file__)), "..", "crates", "afdx", "out", "afdx")
+DEVICE = 5  # the program's status where a file fails
+
+
+class Progress:
+    """A line on a terminal that says what is being done, and for how long."""
+
+    def __init__(self):
+        self.began = time.monotonic()
+        self.shown = sys.stderr.isatty()
+
+    def tell(self, what):
+        if self.shown:
+            sys.stderr.write(f"\r\033[Kafdx-view: {what}, {time.monotonic() - self.began:.0f} s so far ")
+            sys.stderr.flush()
+
+    def clear(self):
+        if self.shown:
+            sys.stderr.write("\r\033[K")
+            sys.stderr.flush()
+
+
+def fail(line, status):
+    print(line, file=sys.stderr)
+    sys.exit(status)
+
+
+def found():
+    """The program's file."""
+    named = os.environ.get("AFDX")
+    afdx = named or (BUILT if os.access(BUILT, os.X_OK) else shutil.which("afdx"))
+    if not afdx:
+        fail("afdx-view: no program afdx: build it by ./demo, put it on the path, or name it in AFDX", DEVICE)
+    return afdx
+
+
+def answer(progress, afdx, *words):
+    """What the program prints for these words; where it fails, its line and its status are this program's."""
+    try:
+        process = subprocess.Popen([afdx, *words], stdout=subprocess.PIPE, stderr=subprocess.PIPE)
+    except OSError as error:
+        fail(f"afdx-view: cannot run {afdx}: {error.strerror}", DEVICE)
+    while True:
+        progress.tell(f"afdx {words[0]}")
+        try:
+            said, line = process.communicate(timeout=0.5)
+            break
+        except subprocess.TimeoutExpired:
+            pass
+    if process.returncode:
+        progress.clear()
+        sys.stderr.buffer.write(line)
+        sys.exit(process.returncode if process.returncode > 0 else 128 - process.returncode)
+    return said.decode("ascii")
+
+
+def run_of(progress, afdx, table, folder, unchecked=False):
+    """What the program says of a table and the captures in a folder."""
+    words = ["--unchecked"] if unchecked else []
+    size = answer(progress, afdx, "size", table)
+    with tempfile.TemporaryDirectory() as room:
+        answer(progress, afdx, "trace", table, folder, room, *words)
+        measured = answer(progress, afdx, "measure", table, folder, *words)
+        progress.tell("reading")
+        return readings.read(size, measured, room, not unchecked)
