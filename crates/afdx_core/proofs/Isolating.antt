@@ -201,7 +201,7 @@ module _ (links : LinksAreFound) (have_link : CleanFramesHaveALink) (offers : Of
   at_port : (p : PortRow) → Contains r.table.ports p → IsIsolatedAt r.table p arrivals (port_in r p)
   at_port p among = isolate r.table arrivals arrive p among (port_in r p) refl (ap (admitted (settings_of r.table.latency p)) (offered_is links r.table well offers p r.rows))
 
-  pub holds_backlog : TablesHoldTheBacklog → (p : PortRow) → Contains r.table.ports p → (bytes : ℕ) → backlog (load_of p.speed p.id r.table.links) ≤ byte_time p.speed bytes
+  pub holds_backlog : TablesHoldTheBacklog → (p : PortRow) → Contains r.table.ports p → (bytes : ℕ) → backlog (load_of r.table.latency p.speed p.id r.table.links) ≤ byte_time p.speed bytes
       → AllFitIn bytes (settings_of r.table.latency p) [] (port_in r p).admitted
   holds_backlog hold p among bytes holds =
       subst (λ (feed : List Item). AllFitIn bytes (settings_of r.table.latency p) [] (admitted (settings_of r.table.latency p) feed)) (sym (offered_is links r.table well offers p r.rows)) (hold r.table arrivals arrive p among bytes holds)

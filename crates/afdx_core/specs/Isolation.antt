@@ -81,7 +81,7 @@ AcceptedTablesIsolate = (r : Run) → IsRun r → IsWellFormed r.table → IsAcc
 -- whatever number of bytes holds all that a port's links may ask for at once, its buffer never held more
 abbrev pub BuffersHoldTheBacklog : Type 0
 BuffersHoldTheBacklog = (r : Run) → IsRun r → IsWellFormed r.table → IsAccepted r.table → (p : PortRow) → Contains r.table.ports p
-    → (bytes : ℕ) → backlog (load_of p.speed p.id r.table.links) ≤ byte_time p.speed bytes → AllFitIn bytes (settings_of r.table.latency p) [] (port_in r p).admitted
+    → (bytes : ℕ) → backlog (load_of r.table.latency p.speed p.id r.table.links) ≤ byte_time p.speed bytes → AllFitIn bytes (settings_of r.table.latency p) [] (port_in r p).admitted
 
 -- and no port answers Full to a copy of the next arrival
 abbrev pub NoStepIsFull : Type 0

@@ -329,7 +329,7 @@ isolated_at pays asks some keeps isolates t arrivals h row among c settings is =
 
 -- a row with a buffer of so many bytes admits all that its port is offered, where they hold the backlog
 none_past : PricesPay → AsksWhatItsAccountGives → EachLinkAsks → AcceptedKeepsBounds → NoneIsFull → (t : Content) (arrivals : List Item) → ArriveAt t arrivals → (row : PortRow) → Contains t.ports row
-    → (bytes : ℕ) → backlog (sums_at row.speed row.id t.links) ≤ byte_time row.speed bytes
+    → (bytes : ℕ) → backlog (sums_at t.latency row.speed row.id t.links) ≤ byte_time row.speed bytes
     → admitted (with_buffer bytes (settings_of t.latency row)) (feed_of (flows_at t row) arrivals) ≡ feed_of (flows_at t row) arrivals
 none_past pays asks some keeps full t arrivals h row among bytes holds =
     let own : PortRow = record { id = row.id; speed = row.speed; buffer = bytes; max_delay = row.max_delay } in
@@ -341,13 +341,13 @@ none_past pays asks some keeps full t arrivals h row among bytes holds =
       stamps = h.stamps;
       clean = All-weaker (IsCleanIn t) (IsClean flows) (λ x is. clean t own h.well_formed x is) arrivals h.clean;
     } in
-    let bounds : KeepsBounds own asks (routed row.id t.links) = All-contains (λ (row : PortRow). KeepsBounds row asks (routed row.id t.links)) t.ports row (keeps t h.well_formed h.accepted) among in
-    let accepted = All-contains (λ (row : PortRow). 0 < (sums_at row.speed row.id t.links).highs + (sums_at row.speed row.id t.links).lows → CarriesSums row (sums_at row.speed row.id t.links)) t.ports row h.accepted among in
-    let load : Carries s flows = carries own asks (routed row.id t.links) (λ has. let c = accepted has in record { rate = c.rate; buffer = holds; high = c.high; low = c.low }) bounds in
+    let bounds : KeepsBounds t.latency own asks (routed row.id t.links) = All-contains (λ (row : PortRow). KeepsBounds t.latency row asks (routed row.id t.links)) t.ports row (keeps t h.well_formed h.accepted) among in
+    let accepted = All-contains (λ (row : PortRow). 0 < (sums_at t.latency row.speed row.id t.links).highs + (sums_at t.latency row.speed row.id t.links).lows → CarriesSums row (sums_at t.latency row.speed row.id t.links)) t.ports row h.accepted among in
+    let load : Carries s flows = carries t.latency own asks (routed row.id t.links) (λ has. let c = accepted has in record { rate = c.rate; buffer = holds; high = c.high; low = c.low }) bounds in
     full s flows arrivals arrive load.rate load.buffer
 
 pub holds_backlog : PricesPay → AsksWhatItsAccountGives → EachLinkAsks → AcceptedKeepsBounds → NoneIsFull → AdmittedFit → BuffersServeAlike → AcceptedTablesIsolate
-    → (t : Content) (arrivals : List Item) → ArriveAt t arrivals → (row : PortRow) → Contains t.ports row → (bytes : ℕ) → backlog (sums_at row.speed row.id t.links) ≤ byte_time row.speed bytes
+    → (t : Content) (arrivals : List Item) → ArriveAt t arrivals → (row : PortRow) → Contains t.ports row → (bytes : ℕ) → backlog (sums_at t.latency row.speed row.id t.links) ≤ byte_time row.speed bytes
     → AllFitIn bytes (settings_of t.latency row) [] (admitted (settings_of t.latency row) (feed_of (flows_at t row) arrivals))
 holds_backlog pays asks some keeps full fit alike isolate t arrivals h row among bytes holds =
     let s = settings_of t.latency row in

@@ -83,7 +83,7 @@ AcceptedTablesIsolate = (t : Content) (arrivals : List Item) → ArriveAt t arri
 -- whatever number of bytes holds all that a port's links may ask for at once, its buffer never held more
 abbrev pub BuffersHoldTheBacklog : Type 0
 BuffersHoldTheBacklog = (t : Content) (arrivals : List Item) → ArriveAt t arrivals → (row : PortRow) → Contains t.ports row
-    → (bytes : ℕ) → backlog (load_of row.speed row.id t.links) ≤ byte_time row.speed bytes
+    → (bytes : ℕ) → backlog (load_of t.latency row.speed row.id t.links) ≤ byte_time row.speed bytes
     → AllFitIn bytes (settings_of t.latency row) [] (admitted (settings_of t.latency row) (feed_of (flows_at t row) arrivals))
 
 -- a copy of an arrival of a link is offered to a port exactly where the link leads there and its policing passes the frame

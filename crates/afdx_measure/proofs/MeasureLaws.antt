@@ -42,7 +42,7 @@ abbrev IsOf : ℕ → Priority → Sent → Type 0
 IsOf link priority x = x.item.link ≡ link → x.item.priority ≡ priority
 
 delays_within : (t : Content) (p : PortRow) (sent : List Sent) (link bound : ℕ) (priority : Priority) → All (IsInBoundAt t p) sent → All (IsOf link priority) sent
-    → bound_of (load_of p.speed p.id t.links) priority ≡ Some bound → All (λ k. k ≤ bound) (delays_of link sent)
+    → bound_of (load_of t.latency p.speed p.id t.links) priority ≡ Some bound → All (λ k. k ≤ bound) (delays_of link sent)
 delays_within t p [] link bound priority within of_one is = All-nil (λ k. k ≤ bound)
 delays_within t p (x ∷ sent) link bound priority within of_one is =
     by (x.item.link == link) refl (delays_within t p sent link bound priority (All-tail (IsInBoundAt t p) x sent within) (All-tail (IsOf link priority) x sent of_one) is)
@@ -57,11 +57,11 @@ delays_within t p (x ∷ sent) link bound priority within of_one is =
           → All (λ k. k ≤ bound) (map delay_of (cond b (x ∷ filter (λ (y : Sent). y.item.link == link) sent) (filter (λ (y : Sent). y.item.link == link) sent)))
       by false other more bounded of_it = more
       by true hit more bounded of_it =
-          let bounds = one (sym bounded.bound_is ∙ ap (bound_of (load_of p.speed p.id t.links)) (of_it (same x.item.link link hit)) ∙ is) in
+          let bounds = one (sym bounded.bound_is ∙ ap (bound_of (load_of t.latency p.speed p.id t.links)) (of_it (same x.item.link link hit)) ∙ is) in
           All-cons (λ k. k ≤ bound) (delay_of x) (delays_of link sent) (omega (arith, bounded.most, bounds)) more
 
 delays_are_within : (t : Content) (p : PortRow) (sent : List Sent) (link bound : ℕ) (priority : Priority) → All (IsInBoundAt t p) sent
-    → All (λ (x : Sent). x.item.link ≡ link → x.item.priority ≡ priority) sent → bound_of (load_of p.speed p.id t.links) priority ≡ Some bound
+    → All (λ (x : Sent). x.item.link ≡ link → x.item.priority ≡ priority) sent → bound_of (load_of t.latency p.speed p.id t.links) priority ≡ Some bound
     → IfSome (told (delays_of link sent)).range (λ range. range.greatest ≤ bound)
 delays_are_within t p sent link bound priority within of_one is = range_within bound (delays_of link sent) (delays_within t p sent link bound priority within of_one is)
 
@@ -92,13 +92,13 @@ peak_is_within law r p =
 -- ---- accepted tables
 
 pub bounded : AcceptedTablesIsolate → CopiesHaveTheirLinksPriority → (r : Run) → IsRun r → IsWellFormed r.table → IsAccepted r.table → (p : PortRow) → Contains r.table.ports p
-    → (l : Link) → Contains r.table.links l → (bound : ℕ) → bound_of (load_of p.speed p.id r.table.links) l.priority ≡ Some bound
+    → (l : Link) → Contains r.table.links l → (bound : ℕ) → bound_of (load_of r.table.latency p.speed p.id r.table.links) l.priority ≡ Some bound
     → IfSome (told (delays_of l.id (sent_in r (Some p)))).range (λ range. range.greatest ≤ bound)
 bounded isolate priorities r run well accepted p among l in_table bound is =
     delays_are_within r.table p (sent_in r (Some p)) l.id bound l.priority ((isolate r run well accepted).in_bound p among) (priorities r p l well in_table) is
 
 pub held : BuffersHoldTheBacklog → (r : Run) → IsRun r → IsWellFormed r.table → IsAccepted r.table → (p : PortRow) → Contains r.table.ports p
-    → (bytes : ℕ) → backlog (load_of p.speed p.id r.table.links) ≤ byte_time p.speed bytes → IfSome (peak_of (fillings (settings_of r.table.latency p) [] (port_in r p).admitted)) (λ f. f.bytes ≤ bytes)
+    → (bytes : ℕ) → backlog (load_of r.table.latency p.speed p.id r.table.links) ≤ byte_time p.speed bytes → IfSome (peak_of (fillings (settings_of r.table.latency p) [] (port_in r p).admitted)) (λ f. f.bytes ≤ bytes)
 held hold r run well accepted p among bytes holds =
     let items = (port_in r p).admitted in
     peak_within bytes (fillings (settings_of r.table.latency p) [] items) (all_fit bytes (settings_of r.table.latency p) [] items (hold r run well accepted p among bytes holds))
