@@ -27,28 +27,28 @@ struct Level {
 }
 
 impl Level {
-    /// Lets go what has ended by the instant.
-    fn let_sent_go(&mut self, sent: &[Sent], at: Stamp)
+    /// Lets go what has ended by the instant in nanoseconds.
+    fn let_sent_go(&mut self, sent: &[Sent], at: u64)
         requires { self.old.sent ≤ length sent.now }
         ensures held { self.new.held ≡ self.old.held - sum_by (λ x. x.item.size) (take_while (λ x. nat_le x.end at) (drop self.old.sent sent.now)) }
         ensures sent { self.new.sent ≡ self.old.sent + prefix_len (λ x. nat_le x.end at) (drop self.old.sent sent.now) }
         ensures aged { self.new.aged ≡ self.old.aged }
     {
-        while self.sent < sent.len() && sent[self.sent].end <= at {
+        while self.sent < sent.len() && sent[self.sent].end.ns() <= at {
             let size = sent[self.sent].item.size;
             self.held = self.held.saturating_sub(u64::from(size));
             self.sent += 1;
         }
     }
 
-    /// Lets go what was given up before the instant.
-    fn let_aged_go(&mut self, aged: &[Aged], at: Stamp)
+    /// Lets go what was given up before the instant in nanoseconds.
+    fn let_aged_go(&mut self, aged: &[Aged], at: u64)
         requires { self.old.aged ≤ length aged.now }
         ensures held { self.new.held ≡ self.old.held - sum_by (λ x. x.item.size) (take_while (λ x. nat_lt x.at at) (drop self.old.aged aged.now)) }
         ensures sent { self.new.sent ≡ self.old.sent }
         ensures aged { self.new.aged ≡ self.old.aged + prefix_len (λ x. nat_lt x.at at) (drop self.old.aged aged.now) }
     {
-        while self.aged < aged.len() && aged[self.aged].at < at {
+        while self.aged < aged.len() && aged[self.aged].at.ns() < at {
             let size = aged[self.aged].item.size;
             self.held = self.held.saturating_sub(u64::from(size));
             self.aged += 1;
@@ -72,6 +72,7 @@ fn fuller(peak: Option<Filling>, next: Filling) -> Filling
 ///
 /// O(admitted). It takes no memory.
 pub fn peak(settings: Settings, admitted: &[Item], sent: &[Sent], aged: &[Aged]) -> Option<Filling>
+    requires latency { settings.latency ≤ 100000 }
     requires in_order { AllPairs (λ a b. a.stamp ≤ b.stamp) admitted.now }
     requires fit { AllFit settings [] admitted.now }
     requires sent { sent.now ≡ sent_of (service settings 0 admitted.now) }
