@@ -11,6 +11,7 @@ use crate::laws::events_are_in_order;
 use afdx_core::Done;
 use afdx_port::{Aged, Item, Sent, Settings};
 use afdx_table::PortRow;
+use afdx_table::laws::ports_are_found;
 use afdx_units::Priority;
 use std::alloc::{AllocError, Allocator};
 
@@ -176,6 +177,7 @@ pub fn departures<A: Allocator + Copy, B: Allocator + Copy>(
 ) -> Result<String<A>, AllocError>
     ensures { IfOk result (λ text. string_bytes text ≡ departures_text done.now.run) }
 {
+    ports_are_found();
     let mut text = String::new(alloc);
     text.push_str(HEADING)?;
     for port in done.table().ports() {
