@@ -3,3 +3,4 @@ pub mod Fated
 pub mod Ordered
 pub mod Placing
 pub mod Taking
+pub mod Refused
