@@ -1,7 +1,8 @@
 #!/usr/bin/env python3
-"""What `afdx measure` answers, by the plain model of the switch in model.py: slowly.
+"""What `afdx measure` and `afdx trace` answer, by the plain model of the switch in model.py: slowly.
 
 usage: answers.py measure TABLE IN [--unchecked]
+       answers.py trace TABLE IN OUT [--unchecked]
 
 The words are those of afdx, so this program can stand in its place; what it refuses are loads and captures.
 """
@@ -10,21 +11,30 @@ from dataclasses import dataclass
 
 import model
 
+ARRIVALS = "frame,port,record,stamp,link,size,fate,early,full"
+DEPARTURES = "port,record,frame,link,priority,size,came,start,left,delay,outcome"
+
 
 @dataclass
 class Outlet:
     """What became of the copies of an output port."""
     port: model.Port
     admitted: list
+    refused: list
     events: list  # in the order of service
 
 
 def outlets_of(table, arrivals):
     outlets = []
     for port in table.ports:
-        admitted = model.admission(port, [frame for frame in arrivals if frame.passed and port.id in frame.link.to])
-        outlets.append(Outlet(port, admitted, model.service(port, admitted)))
+        offered = [frame for frame in arrivals if frame.passed and port.id in frame.link.to]
+        admitted = model.admission(port, offered)
+        refused = [frame for frame in offered if frame not in admitted]
+        outlets.append(Outlet(port, admitted, refused, model.service(port, admitted)))
     return outlets
+
+
+# --- measure ---
 
 
 def peak(outlet):
@@ -52,18 +62,85 @@ def measure(table, captures, unchecked):
     return "".join(line + "\n" for line in lines)
 
 
+# --- trace ---
+
+
+def early(passed, frame):
+    """The least number of ns by which the frame, had it come later, would have kept to its link's allowance: each window
+    that ends with it and begins with a frame passed before it has to be long enough for what it holds."""
+    link, least = frame.link, 0
+    cost, each_gap = (lambda sent: sent.size, link.max_size) if link.police == "byte" else (lambda sent: 1, 1)
+    sent = cost(frame)
+    for first in passed[::-1]:
+        sent += cost(first)
+        long_enough = -(-sent * link.bag // each_gap) - link.bag - link.jitter
+        least = max(least, first.stamp + long_enough - frame.stamp)
+    return least
+
+
+def claimed(table, frame):
+    """The number of the link that a clean, a wrong-port or a too-big frame names."""
+    if frame.verdict in ("clean", "wrong-port", "too-big"):
+        return int.from_bytes(frame.record.data[4:6], "big")
+    return ""
+
+
+def arrivals_text(table, arrivals, outlets):
+    lines, records, passed = [ARRIVALS], {port.id: 0 for port in table.ports}, {link.id: [] for link in table.links}
+    for number, frame in enumerate(arrivals):
+        records[frame.port] += 1
+        fate, soon, full = frame.verdict, "", []
+        if frame.passed:
+            fate = "passed"
+            passed[frame.link.id].append(frame)
+            refusing = [outlet.port.id for outlet in outlets if frame in outlet.refused]
+            full = [port for port in frame.link.to if port in refusing]
+        elif frame.link:
+            fate, soon = "policed", early(passed[frame.link.id], frame)
+        lines.append(f"{number},{frame.port},{records[frame.port]},{frame.stamp},{claimed(table, frame)},{frame.size},{fate},{soon},"
+                     + ";".join(map(str, full)))
+    return "".join(line + "\n" for line in lines)
+
+
+def departures_text(arrivals, outlets):
+    lines, numbers = [DEPARTURES], {id(frame): number for number, frame in enumerate(arrivals)}
+    for outlet in outlets:
+        record = 0
+        for event in outlet.events:
+            frame, place, left, delay = event.frame, "", "", ""
+            if event.sent:
+                record += 1
+                place, left, delay = record, event.end, event.end - frame.stamp
+            lines.append(f"{outlet.port.id},{place},{numbers[id(frame)]},{frame.link.id},{frame.link.priority},{frame.size},"
+                         f"{frame.stamp + outlet.port.latency},{event.begin},{left},{delay},{'sent' if event.sent else 'aged'}")
+    return "".join(line + "\n" for line in lines)
+
+
+def trace(table, captures):
+    """The texts of arrivals.csv and departures.csv."""
+    arrivals = model.arrivals_of(table, captures)
+    outlets = outlets_of(table, arrivals)
+    return arrivals_text(table, arrivals, outlets), departures_text(arrivals, outlets)
+
+
 def main(words):
-    command, path, folder = [word for word in words if word != "--unchecked"]
+    command, path, *folders = [word for word in words if word != "--unchecked"]
     with open(path, encoding="utf-8", newline="") as file:
         table = model.table_of(file.read())
     unchecked = "--unchecked" in words
     if not unchecked:
         model.check(table)
-    return measure(table, model.captures_in(folder, table), unchecked)
+    captures = model.captures_in(folders[0], table)
+    if command == "measure":
+        return measure(table, captures, unchecked)
+    for name, text in zip(("arrivals", "departures"), trace(table, captures)):
+        with open(f"{folders[1]}/{name}.csv", "w", encoding="ascii", newline="") as file:
+            file.write(text)
+    return ""
 
 
 if __name__ == "__main__":
-    if len(sys.argv) not in (4, 5) or sys.argv[1] != "measure":
+    if len(sys.argv) < 4 or sys.argv[1] not in ("measure", "trace"):
         sys.exit(__doc__)
     try:
         sys.stdout.write(main(sys.argv[1:]))

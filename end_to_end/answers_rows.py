@@ -1,5 +1,7 @@
 #!/usr/bin/env python3
 """Checks answers.py against lines that were worked out by hand; prints what differs, and fails then."""
+import dataclasses
+import random
 import sys
 
 import answers
@@ -8,39 +10,95 @@ import model_rows as rows
 from model_rows import DOUBLE, HEADER, LINK, MIXED, PORT, SINGLE, capture, same, with_port
 
 
-def measured(text, *captures):
-    """The lines of `measure --unchecked`."""
+def answered(text, *captures):
+    """The lines of `measure --unchecked` and of the two files of `trace`, their headings left away."""
     table = model.table_of(text)
-    return answers.measure(table, {port.id: data for port, data in zip(table.ports, captures)}, True).splitlines()
+    data = {port.id: capture for port, capture in zip(table.ports, captures)}
+    arrivals, departures = answers.trace(table, data)
+    same("headings", [file.splitlines()[0] for file in (arrivals, departures)], [answers.ARRIVALS, answers.DEPARTURES])
+    return [answers.measure(table, data, True).splitlines()] + [file.splitlines()[1:] for file in (arrivals, departures)]
 
 
 def early_and_late():
-    sent = capture(*((10, 1518, at) for at in (0, 999_999, 1_000_000)))
-    same("a nanosecond early", measured(SINGLE, sent, HEADER),
-         ["link 10 out 2 sent 2 least 123040 greatest 123040 bound -", "out 1 occupied 0 of 100000 at -", "out 2 occupied 1518 of 100000 at 0"])
+    name, sent = "a nanosecond early", capture(*((10, 1518, at) for at in (0, 999_999, 1_000_000)))
+    measured, arrivals, departures = answered(SINGLE, sent, HEADER)
+    same(name, arrivals, ["0,1,1,0,10,1518,passed,,", "1,1,2,999999,10,1518,policed,1,", "2,1,3,1000000,10,1518,passed,,"])
+    same(name, departures, ["2,1,0,10,low,1518,0,0,123040,123040,sent", "2,2,2,10,low,1518,1000000,1000000,1123040,123040,sent"])
+    same(name, measured, ["link 10 out 2 sent 2 least 123040 greatest 123040 bound -",
+                          "out 1 occupied 0 of 100000 at -", "out 2 occupied 1518 of 100000 at 0"])
     table = model.table_of(SINGLE)
     same("with its bound", answers.measure(table, {1: sent, 2: HEADER}, False).splitlines()[0],
          "link 10 out 2 sent 2 least 123040 greatest 123040 bound 159390")
-    lines = measured(SINGLE, capture(*[(10, 64, 0)] * 24), HEADER)
-    same("burst of small frames", (lines[0], lines[2]),
+    # 23 frames leave 46 bytes of 1518; 18 more are there after 18 / 1518 of a millisecond, 11,857.7 ns.
+    name = "burst of small frames"
+    measured, arrivals, departures = answered(SINGLE, capture(*[(10, 64, 0)] * 24), HEADER)
+    same(name, arrivals[22:], ["22,1,23,0,10,64,passed,,", "23,1,24,0,10,64,policed,11858,"])
+    same(name, departures[-1], "2,23,22,10,low,64,0,147840,154560,154560,sent")
+    same(name, (measured[0], measured[2]),
          ("link 10 out 2 sent 23 least 6720 greatest 154560 bound -", "out 2 occupied 1472 of 100000 at 0"))
-    same("nothing sent", measured(SINGLE, HEADER, HEADER),
-         ["link 10 out 2 sent 0 least - greatest - bound -", "out 1 occupied 0 of 100000 at -", "out 2 occupied 0 of 100000 at -"])
+    same("nothing sent", answered(SINGLE, HEADER, HEADER),
+         [["link 10 out 2 sent 0 least - greatest - bound -", "out 1 occupied 0 of 100000 at -", "out 2 occupied 0 of 100000 at -"],
+          [], []])
 
 
 def ports():
-    same("high overtakes", measured(MIXED, capture((10, 1518, 0), (11, 64, 1), (12, 64, 1)), HEADER)[-1], "out 2 occupied 1646 of 100000 at 1")
-    text = with_port(DOUBLE, 3, buffer=1581, max_delay_us=100)
-    same("full and aged", measured(text, capture((10, 1517, 0)), capture((20, 64, 0), (20, 1518, 122_960)), HEADER),
-         ["link 10 out 3 sent 1 least 122960 greatest 122960 bound -", "link 20 out 3 sent 0 least - greatest - bound -",
-          "out 1 occupied 0 of 100000 at -", "out 2 occupied 0 of 100000 at -", "out 3 occupied 1581 of 1581 at 0"])
-    text = "".join(PORT.format(port) for port in (1, 2, 3)) + LINK.format(10, 1, "3, 2", "low")
+    name = "high overtakes"
+    measured, arrivals, departures = answered(MIXED, capture((10, 1518, 0), (11, 64, 1), (12, 64, 1)), HEADER)
+    same(name, departures, ["2,1,0,10,low,1518,0,0,123040,123040,sent", "2,2,2,12,high,64,1,123040,129760,129759,sent",
+                            "2,3,1,11,low,64,1,129760,136480,136479,sent"])
+    same(name, measured[-1], "out 2 occupied 1646 of 100000 at 1")
+    name, text = "full and aged", with_port(DOUBLE, 3, buffer=1581, max_delay_us=100)
+    measured, arrivals, departures = answered(text, capture((10, 1517, 0)), capture((20, 64, 0), (20, 1518, 122_960)), HEADER)
+    same(name, arrivals, ["0,1,1,0,10,1517,passed,,", "1,2,1,0,20,64,passed,,", "2,2,2,122960,20,1518,passed,,3"])
+    same(name, departures, ["3,1,0,10,low,1517,0,0,122960,122960,sent", "3,,1,20,low,64,0,122960,,,aged"])
+    same(name, measured, ["link 10 out 3 sent 1 least 122960 greatest 122960 bound -", "link 20 out 3 sent 0 least - greatest - bound -",
+                          "out 1 occupied 0 of 100000 at -", "out 2 occupied 0 of 100000 at -", "out 3 occupied 1581 of 1581 at 0"])
+    name, text = "full at two ports", "".join(PORT.format(port) for port in (1, 2, 3)) + LINK.format(10, 1, "3, 2", "low")
     text = with_port(with_port(text, 2, mbit=10, buffer=64), 3, mbit=10, buffer=64)
-    lines = measured(text, capture((10, 64, 0), (10, 64, 0)), HEADER, HEADER)
-    same("in the order of the link's ports", [line.split()[3] for line in lines[:2]], ["3", "2"])
+    measured, arrivals, departures = answered(text, capture((10, 64, 0), (10, 64, 0)), HEADER, HEADER)
+    same(name, arrivals[1], "1,1,2,0,10,64,passed,,3;2")
+    same(name, departures, ["2,1,0,10,low,64,0,0,67200,67200,sent", "3,1,0,10,low,64,0,0,67200,67200,sent"])
+    same(name, [line.split()[3] for line in measured[:2]], ["3", "2"])
 
 
-for part in (early_and_late, ports):
+def late_queues():
+    text = "version = 3\nlatency_us = 10\n" + SINGLE.split("\n", 1)[1]
+    measured, arrivals, departures = answered(text, capture((10, 64, 5), (10, 64, 6)), HEADER)
+    same("a latency", departures, ["2,1,0,10,low,64,10005,10005,16725,16720,sent", "2,2,1,10,low,64,10006,16725,23445,23439,sent"])
+
+
+def every_fate():
+    frame, record = rows.frame, rows.record
+    first = [record(0, frame(10, 64), original=61), record(0, frame(10, 63)), record(0, frame(10, 1519)),
+             record(0, frame(10, 64, "02000000")), record(0, frame(11, 64)), record(0, frame(20, 64)), record(0, frame(10, 501))]
+    text = DOUBLE.replace("max_size = 1518", "max_size = 500", 1)
+    same("every fate", answered(text, HEADER + b"".join(first), HEADER, HEADER)[1],
+         ["0,1,1,0,,64,cut,,", "1,1,2,0,,63,short,,", "2,1,3,0,,1519,long,,", "3,1,4,0,,64,foreign,,", "4,1,5,0,,64,no-link,,",
+          "5,1,6,0,20,64,wrong-port,,", "6,1,7,0,10,501,too-big,,"])
+
+
+def early_is_the_least():
+    """What `early` adds up is the least shift with which the model's windows pass the frame."""
+    chance = random.Random(1)
+    for _ in range(300):
+        link = model.Link(1, 1, [2], 1_000_000 << chance.randint(0, 7), 1000 * chance.choice([0, 40, 10_000]), chance.randint(64, 1518), "low",
+                          chance.choice(["byte", "frame"]))
+        stamps = sorted(chance.randrange(4 * link.bag) for _ in range(30))
+        passed = []
+        for stamp in stamps:
+            frame = model.Arrival(1, model.Record(stamp, 0, bytes(chance.randint(60, link.max_size - 4))), "clean", link)
+            soon = answers.early(passed, frame)
+
+            def passes(shift):
+                later = dataclasses.replace(frame, record=dataclasses.replace(frame.record, stamp=stamp + shift))
+                return model.conforms(link, passed, later)
+
+            same("early is the least", (passes(soon), soon > 0 and passes(soon - 1)), (True, False))
+            if soon == 0:
+                passed.append(frame)
+
+
+for part in (early_and_late, ports, late_queues, every_fate, early_is_the_least):
     part()
 print("\n".join(rows.differing) or "the answers have every worked line")
 sys.exit(bool(rows.differing))
