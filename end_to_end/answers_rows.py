@@ -62,8 +62,7 @@ def ports():
 
 
 def late_queues():
-    text = "version = 3\nlatency_us = 10\n" + SINGLE.split("\n", 1)[1]
-    measured, arrivals, departures = answered(text, capture((10, 64, 5), (10, 64, 6)), HEADER)
+    measured, arrivals, departures = answered(rows.later(SINGLE, 10), capture((10, 64, 5), (10, 64, 6)), HEADER)
     same("a latency", departures, ["2,1,0,10,low,64,10005,10005,16725,16720,sent", "2,2,1,10,low,64,10006,16725,23445,23439,sent"])
 
 

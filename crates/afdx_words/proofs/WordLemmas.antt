@@ -20,7 +20,7 @@ use Rattle.afdx_words.specs.declared.request.Paths.{Paths}
 use Rattle.afdx_words.specs.declared.request.Inputs.{Inputs}
 use Rattle.afdx_words.specs.declared.request.Request.{Request}
 use Rattle.afdx_words.specs.declared.request.Request.TheVariants as request
-use Rattle.afdx_words.specs.Commands.{alone_app, check_app, size_app, run_app, measure_app, program}
+use Rattle.afdx_words.specs.Commands.{alone_app, check_app, size_app, run_app, measure_app, trace_app, program}
 use Rattle.afdx_words.specs.Requests.{HasNumber, HasLink, HasPaths, HasInputs, AsksFor, Explains, Reads}
 
 pub simple : is_simple program ≡ true
