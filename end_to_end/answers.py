@@ -41,7 +41,7 @@ def peak(outlet):
     """The most bytes that the buffer held when a frame had been admitted, and the stamp of the first frame that did it."""
     most, at = 0, "-"
     for place, frame in enumerate(outlet.admitted):
-        held = model.occupied(outlet.port, outlet.admitted[:place], frame.stamp) + frame.size
+        held = model.occupied(outlet.port, outlet.admitted[:place], frame.stamp + outlet.port.latency) + frame.size
         if held > most:
             most, at = held, frame.stamp
     return most, at

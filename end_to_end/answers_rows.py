@@ -7,7 +7,7 @@ import sys
 import answers
 import model
 import model_rows as rows
-from model_rows import DOUBLE, HEADER, LINK, MIXED, PORT, SINGLE, capture, same, with_port
+from model_rows import DOUBLE, HEADER, LINK, MIXED, PORT, SINGLE, capture, later, same, with_port
 
 
 def answered(text, *captures):
@@ -61,9 +61,15 @@ def ports():
     same(name, [line.split()[3] for line in measured[:2]], ["3", "2"])
 
 
-def late_queues():
-    measured, arrivals, departures = answered(rows.later(SINGLE, 10), capture((10, 64, 5), (10, 64, 6)), HEADER)
-    same("a latency", departures, ["2,1,0,10,low,64,10005,10005,16725,16720,sent", "2,2,1,10,low,64,10006,16725,23445,23439,sent"])
+def latency():
+    sent = capture((10, 64, 0), (10, 64, 6_720))
+    wanted = "link 10 out 2 sent 2 least {0} greatest {0} bound {1}"
+    for latency_us, delay, bound in ((0, 6_720, 159_390), (50, 56_720, 209_390)):
+        text = later(SINGLE, latency_us)
+        lines = answers.measure(model.table_of(text), {1: sent, 2: HEADER}, False).splitlines()
+        same("behind a latency", (lines[0], lines[2]), (wanted.format(delay, bound), "out 2 occupied 64 of 100000 at 0"))
+    departures = answered(later(SINGLE, 10), capture((10, 64, 5), (10, 64, 6)), HEADER)[2]
+    same("behind a latency", departures, ["2,1,0,10,low,64,10005,10005,16725,16720,sent", "2,2,1,10,low,64,10006,16725,23445,23439,sent"])
 
 
 def every_fate():
@@ -89,15 +95,15 @@ def early_is_the_least():
             soon = answers.early(passed, frame)
 
             def passes(shift):
-                later = dataclasses.replace(frame, record=dataclasses.replace(frame.record, stamp=stamp + shift))
-                return model.conforms(link, passed, later)
+                shifted = dataclasses.replace(frame, record=dataclasses.replace(frame.record, stamp=stamp + shift))
+                return model.conforms(link, passed, shifted)
 
             same("early is the least", (passes(soon), soon > 0 and passes(soon - 1)), (True, False))
             if soon == 0:
                 passed.append(frame)
 
 
-for part in (early_and_late, ports, late_queues, every_fate, early_is_the_least):
+for part in (early_and_late, ports, latency, every_fate, early_is_the_least):
     part()
 print("\n".join(rows.differing) or "the answers have every worked line")
 sys.exit(bool(rows.differing))

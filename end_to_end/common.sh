@@ -71,6 +71,13 @@ ends() {
     [ "$status" -eq "$wanted" ] && [ ! -s answer.txt ] && [ "$(cat said.txt)" = "$line" ]
 }
 
+# third_version TABLE LATENCY_US: the table in version 3, with this latency.
+third_version() {
+    echo "version = 3"
+    echo "latency_us = $2"
+    grep -v '^version' "$1"
+}
+
 # helps WORD..: the help of $afdx is on standard output, with status 0.
 helps() {
     "$afdx" "$@" >answer.txt 2>said.txt && grep -q -- '--help\|-h' answer.txt && [ ! -s said.txt ]

@@ -26,11 +26,12 @@ shows_readme() {
     [ "$(grep -cxFf lines.txt "$top/README.md")" -eq 4 ]
 }
 
-# tied_as_modelled: captures full of ties, most of them at ports where frames are lost.
+# tied_as_modelled: captures full of ties, most of them at ports where frames are lost, also on switches with a latency.
 tied_as_modelled() {
     local seed
     for seed in 1 2 3 4; do
-        python3 "$top/end_to_end/ties.py" ties "$seed" && as_modelled ties/table.toml ties/in --unchecked || return 1
+        python3 "$top/end_to_end/ties.py" ties "$seed" && as_modelled ties/table.toml ties/in --unchecked &&
+            third_version ties/table.toml "$((seed * 2))" >later.toml && as_modelled later.toml ties/in --unchecked || return 1
     done
 }
 
@@ -47,6 +48,7 @@ mkdir none && for port in 1 2 3 4; do head -c 24 "$network/in/port-$port.pcap" >
 
 check "the example network, within its bounds and its least buffers" within "$network/table.toml" "$network/in"
 check "README shows some of these lines" shows_readme
+check "the same on the faster switch" within "$network/faster.toml" "$network/in"
 check "the same with no bounds" as_modelled "$network/table.toml" "$network/in" --unchecked
 check "tight ports, where frames are full and aged" as_modelled tight.toml "$network/in" --unchecked
 check "nothing is sent" as_modelled "$network/table.toml" none

@@ -3,6 +3,7 @@ pub mod TellingLemmas
 pub mod InputLemmas
 pub mod FileLemmas
 pub mod RunLemmas
+pub mod MeasureLemmas
 pub mod ServingLemmas
 pub mod CheckLemmas
 pub mod OwnLemmas

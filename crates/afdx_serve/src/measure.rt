@@ -32,7 +32,7 @@ fn tell(
         (λ f. FailsToLead f (table_in plan) (texts_of captures.now)) }
 {
     accepted_tables_stay_within_the_load();
-    plan.table();
+    plan.table().ports();
     let done = afdx_session::finished(alloc, plan, captures)?;
     let text = afdx_measure::report(alloc, &done, promised)?;
     Ok(text)

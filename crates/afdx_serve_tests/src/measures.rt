@@ -2,17 +2,13 @@
 
 use crate::fixtures::{OneFrame, answer_over};
 use crate::memory_folder::MemoryFolder;
-use afdx_samples::{HEADER, Port, capture, double, frame, mixed, port, single};
+use afdx_samples::{HEADER, Port, capture, double, frame, later, mixed, port, single};
 use afdx_serve::FolderFault;
 use std::alloc::{AllocError, Global};
 use std::test::Fail;
 
 /// A folder with a table and with captures of ports 1 and up.
-fn folder_of(
-    alloc: Global,
-    table: &str,
-    captures: &[&[u8]],
-) -> Result<MemoryFolder, AllocError> {
+fn folder_of(alloc: Global, table: &str, captures: &[&[u8]]) -> Result<MemoryFolder, AllocError> {
     let mut folder = MemoryFolder::new(alloc);
     folder.add("t", table.as_bytes())?;
     let names = ["in/port-1.pcap", "in/port-2.pcap", "in/port-3.pcap"];
@@ -47,10 +43,42 @@ fn tells_of_one_link(rt: HostRuntime) -> Result<(), Fail> {
             frame(10, 1514, 1_000_000),
         ],
     )?;
-    assert!(rt; tells(rt.alloc(), "afdx measure t in", &table, &[&early, &HEADER],
-        "link 10 out 2 sent 2 least 123040 greatest 123040 bound 159390\nout 1 occupied 0 of 100000 at -\nout 2 occupied 1518 of 100000 at 0\n")?);
-    assert!(rt; tells(rt.alloc(), "afdx measure t in --unchecked", &table, &[&HEADER, &HEADER],
-        "link 10 out 2 sent 0 least - greatest - bound -\nout 1 occupied 0 of 100000 at -\nout 2 occupied 0 of 100000 at -\n")?);
+    assert!(rt;
+        tells(
+            rt.alloc(),
+            "afdx measure t in",
+            &table,
+            &[&early, &HEADER],
+            "link 10 out 2 sent 2 least 123040 greatest 123040 bound 159390\nout 1 occupied 0 of 100000 at -\nout 2 occupied 1518 of 100000 at 0\n"
+        )?
+    );
+    assert!(rt;
+        tells(
+            rt.alloc(),
+            "afdx measure t in --unchecked",
+            &table,
+            &[&HEADER, &HEADER],
+            "link 10 out 2 sent 0 least - greatest - bound -\nout 1 occupied 0 of 100000 at -\nout 2 occupied 0 of 100000 at -\n"
+        )?
+    );
+    Ok(())
+}
+
+#[test]
+fn counts_the_latency(rt: HostRuntime) -> Result<(), Fail> {
+    let alloc = rt.alloc();
+    let table = later(alloc, &single(alloc)?, 50)?;
+    // The second is queued when the line is free of the first.
+    let two = capture(alloc, &[frame(10, 60, 0), frame(10, 60, 6_720)])?;
+    assert!(rt;
+        tells(
+            rt.alloc(),
+            "afdx measure t in",
+            &table,
+            &[&two, &HEADER],
+            "link 10 out 2 sent 2 least 56720 greatest 56720 bound 209390\nout 1 occupied 0 of 100000 at -\nout 2 occupied 64 of 100000 at 0\n"
+        )?
+    );
     Ok(())
 }
 
@@ -65,13 +93,20 @@ fn tells_what_was_lost_by_what_is_missing(rt: HostRuntime) -> Result<(), Fail> {
     let table = double(alloc, third)?;
     let first = capture(alloc, &[frame(10, 1513, 0)])?;
     let second = capture(alloc, &[frame(20, 60, 0), frame(20, 1514, 122_960)])?;
-    assert!(rt; tells(rt.alloc(), "afdx measure t in --unchecked", &table, &[&first, &second, &HEADER],
-        "link 10 out 3 sent 1 least 122960 greatest 122960 bound -
+    assert!(rt;
+        tells(
+            rt.alloc(),
+            "afdx measure t in --unchecked",
+            &table,
+            &[&first, &second, &HEADER],
+            "link 10 out 3 sent 1 least 122960 greatest 122960 bound -
 link 20 out 3 sent 0 least - greatest - bound -
 out 1 occupied 0 of 100000 at -
 out 2 occupied 0 of 100000 at -
 out 3 occupied 1581 of 1581 at 0
-")?);
+"
+        )?
+    );
     Ok(())
 }
 

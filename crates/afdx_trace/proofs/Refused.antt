@@ -42,8 +42,8 @@ both_false : (a b : Bool) → a ≡ false → b ≡ false → (a || b) ≡ false
 both_false a b no_a no_b = ap (λ (x : Bool). x || b) no_a ∙ no_b
 
 either_false : (a b : Bool) → (a || b) ≡ false → (a ≡ false) × (b ≡ false)
-either_false true b no = absurd (let e : true ≡ false = no in cc)
-either_false false b no = (refl, no)
+either_false true b h = absurd (let e : true ≡ false = h in cc)
+either_false false b h = (refl, h)
 
 -- ---- a copy that was taken has an event, as its item
 
@@ -74,10 +74,10 @@ none_more n = omega arith
 
 any_is_some : {X : Type 0} (p : X → Bool) (xs : List X) → list_any p xs ≡ nat_lt 0 (count_by p xs)
 any_is_some p [] = refl
-any_is_some p (x ∷ xs) = by (p x) where
-  by : (b : Bool) → (b || list_any p xs) ≡ nat_lt 0 (cond b 1 0 + count_by p xs)
-  by true = one_more (count_by p xs)
-  by false = any_is_some p xs ∙ ap (nat_lt 0) (none_more (count_by p xs))
+any_is_some p (x ∷ xs) = by (p x) (any_is_some p xs) where
+  by : (b : Bool) → list_any p xs ≡ nat_lt 0 (count_by p xs) → (b || list_any p xs) ≡ nat_lt 0 (cond b 1 0 + count_by p xs)
+  by true others = one_more (count_by p xs)
+  by false others = others ∙ ap (nat_lt 0) (none_more (count_by p xs))
 
 served : EachHasOneEvent → (s : Settings) (items : List Item) (k : ℕ) → list_any (λ e. is_copy k (item_in e)) (service s 0 items) ≡ list_any (is_copy k) items
 served one s items k =
@@ -137,24 +137,24 @@ admit_parts s items [] more = refl
 admit_parts s items (x ∷ feed) more = admit_parts s (admit s items x) feed more
 
 or_nothing : (a b : Bool) → b ≡ false → (a || (b || false)) ≡ a
-or_nothing true b no = refl
-or_nothing false b no = ap (λ (x : Bool). x || false) no
+or_nothing true b h = refl
+or_nothing false b h = ap (λ (x : Bool). x || false) h
 
 -- an item of another number changes nothing
 none_joins : (k : ℕ) (s : Settings) (items feed : List Item) → list_any (is_copy k) feed ≡ false → list_any (is_copy k) (admit_all s items feed) ≡ list_any (is_copy k) items
 none_joins k s items [] none = refl
 none_joins k s items (x ∷ feed) none =
-    let no = either_false (is_copy k x) (list_any (is_copy k) feed) none in
-    none_joins k s (admit s items x) feed no.1 ∙ by (fits s items x) no.0 where
+    let parts = either_false (is_copy k x) (list_any (is_copy k) feed) none in
+    none_joins k s (admit s items x) feed parts.1 ∙ by (fits s items x) parts.0 where
       by : (b : Bool) → is_copy k x ≡ false → list_any (is_copy k) (cond b (items ++ x ∷ []) items) ≡ list_any (is_copy k) items
-      by true no = list_any-append (is_copy k) items (x ∷ []) ∙ or_nothing (list_any (is_copy k) items) (is_copy k x) no
-      by false no = refl
+      by true other = list_any-append (is_copy k) items (x ∷ []) ∙ or_nothing (list_any (is_copy k) items) (is_copy k x) other
+      by false other = refl
 
 -- the first of this number is there where it fitted
 joins : (k : ℕ) (s : Settings) (items : List Item) (x : Item) → list_any (is_copy k) items ≡ false → is_copy k x ≡ true → list_any (is_copy k) (admit s items x) ≡ fits s items x
-joins k s items x none yes = by (fits s items x) where
+joins k s items x none same = by (fits s items x) where
   by : (b : Bool) → list_any (is_copy k) (cond b (items ++ x ∷ []) items) ≡ b
-  by true = list_any-append (is_copy k) items (x ∷ []) ∙ ap (λ (a : Bool). a || (is_copy k x || false)) none ∙ ap (λ (b : Bool). b || false) yes
+  by true = list_any-append (is_copy k) items (x ∷ []) ∙ ap (λ (a : Bool). a || (is_copy k x || false)) none ∙ ap (λ (b : Bool). b || false) same
   by false = none
 
 -- ---- one port
@@ -190,20 +190,20 @@ module _ (one : EachHasOneEvent) (r : Run) (ends : r.finished ≡ true) (before 
         parts = ap (each_after (copies r.table p.id) []) is ∙ feed_parts (copies r.table p.id) [] before (row ∷ after) ∙ ap (λ (xs : List Item). first ++ (xs ++ later)) offered
 
         none_first : list_any (is_copy k) first ≡ false
-        none_first = none_of_rows r.table p.id k [] before (λ i lt. below i k lt)
+        none_first = none_of_rows r.table p.id k [] before (λ i lt. ap (λ (n : ℕ). n == k) (sym (none_more i)) ∙ below i k lt)
 
         none_later : list_any (is_copy k) later ≡ false
         none_later = none_of_rows r.table p.id k (before ++ row ∷ []) after (λ i lt. above (length (before ++ row ∷ []) + i) k (let longer = length-append before (row ∷ []) in omega (arith, longer)))
 
   found_id : (ports : List PortRow) (port : ℕ) (p : PortRow) → find (λ (q : PortRow). q.id == port) ports ≡ Some p → p.id ≡ port
   found_id [] port p found = absurd (cc)
-  found_id (q ∷ qs) port p found = by (q.id == port) refl found where
+  found_id (q ∷ qs) port p found = by (q.id == port) refl found (found_id qs port p) where
     same : (a b : ℕ) → (a == b) ≡ true → a ≡ b
     same a b e = grind (arith, nat_tests)
 
-    by : (b : Bool) → (q.id == port) ≡ b → cond b (Some q) (find (λ (o : PortRow). o.id == port) qs) ≡ Some p → p.id ≡ port
-    by true e found = let here : q ≡ p = (cc) in ap (λ (o : PortRow). o.id) (sym here) ∙ same q.id port e
-    by false e found = found_id qs port p found
+    by : (b : Bool) → (q.id == port) ≡ b → cond b (Some q) (find (λ (o : PortRow). o.id == port) qs) ≡ Some p → (find (λ (o : PortRow). o.id == port) qs ≡ Some p → p.id ≡ port) → p.id ≡ port
+    by true e found others = let here : q ≡ p = (cc) in ap (λ (o : PortRow). o.id) (sym here) ∙ same q.id port e
+    by false e found others = others found
 
   -- a port's answer to the copy
   abbrev answer_at : ℕ → Offer
@@ -232,11 +232,11 @@ module _ (one : EachHasOneEvent) (r : Run) (ends : r.finished ≡ true) (before 
       ∙ ap (λ (others : List ℕ). cond (is_full (answer_at port)) (port ∷ others) others) (all_refuse ports (λ q in_them. among q (later q in_them)))
       ∙ kept (is_full (answer_at port)) where
         or_true : (a b : Bool) → b ≡ true → (a || b) ≡ true
-        or_true true b yes = refl
-        or_true false b yes = yes
+        or_true true b h = refl
+        or_true false b h = h
 
         later : (q : ℕ) → names_port q ports ≡ true → names_port q (port ∷ ports) ≡ true
-        later q yes = or_true (port == q) (names_port q ports) yes
+        later q among_others = or_true (port == q) (names_port q ports) among_others
 
         answers : List (ℕ × Offer)
         answers = map (λ (q : ℕ). (q, answer_at q)) ports
@@ -254,5 +254,5 @@ full_is_exact one r ends before after row is = by (named r.table row.verdict) re
     passed : (b : Bool) → passes l before row ≡ b
         → cond b (refusing r (length before) l.to) []
         ≡ full_ports (cond b (map (λ (port : ℕ). (port, answer_of (run_before r before) (item_of l before row) (port_row r.table port))) l.to) [])
-    passed true e = all_refuse one r ends before after row is l names e l.to (λ port yes. yes)
+    passed true e = all_refuse one r ends before after row is l names e l.to (λ port among. among)
     passed false e = refl
