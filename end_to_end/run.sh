@@ -132,7 +132,7 @@ sed 's/^mbit = .*/mbit = 10/; s/^buffer = .*/buffer = 1000/; s/^max_delay_us = .
     "$network/table.toml" >tight.toml
 
 check "the model gives the numbers that were worked out by hand" python3 "$top/end_to_end/model_rows.py"
-check "its answers to measure are the lines that were worked out by hand" python3 "$top/end_to_end/answers_rows.py"
+check "its answers to measure and trace are the lines that were worked out by hand" python3 "$top/end_to_end/answers_rows.py"
 check "the example network" as_modelled "$network/table.toml" "$network/in"
 check "its load is checked first" checked_as_modelled "$network/table.toml" "$network/in"
 check "Wireshark's tools read its outputs" are_read
