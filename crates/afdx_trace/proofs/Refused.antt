@@ -5,6 +5,7 @@ use Rattle.std.specs.Prelude.{count_by, find}
 use Rattle.std.specs.List.{list_any}
 use Rattle.std.proofs.lemmas.List.{length-append}
 use Rattle.std.proofs.lemmas.List.Folds.{list_any-append}
+use Rattle.std.proofs.lemmas.List.Sums.{length-filter}
 use Rattle.std.proofs.lemmas.Bool.Decides.{nat_tests}
 use Rattle.afdx_table.specs.declared.rows.PortRow.{PortRow}
 use Rattle.afdx_table.specs.Link.{Link, names_port, leads_to}
@@ -38,6 +39,9 @@ below m n lt = grind (arith, nat_tests)
 above : (m n : ℕ) → n < m → (m == n) ≡ false
 above m n lt = grind (arith, nat_tests)
 
+zero_more : (n : ℕ) → 0 + n ≡ n
+zero_more n = omega arith
+
 both_false : (a b : Bool) → a ≡ false → b ≡ false → (a || b) ≡ false
 both_false a b no_a no_b = ap (λ (x : Bool). x || b) no_a ∙ no_b
 
@@ -66,18 +70,18 @@ events_of k (aging x ∷ events) =
     swapped (list_any (λ (y : Sent). y.item.number == k) (sent_of events)) (is_copy k x.item) (list_any (λ (y : Aged). y.item.number == k) (aged_of events))
     ∙ ap (λ (b : Bool). is_copy k x.item || b) (events_of k events)
 
-one_more : (n : ℕ) → true ≡ nat_lt 0 (1 + n)
+one_more : (n : ℕ) → true ≡ nat_lt 0 (suc n)
 one_more n = grind (arith, nat_tests)
 
-none_more : (n : ℕ) → n ≡ 0 + n
-none_more n = omega arith
+any_is_kept : {X : Type 0} (p : X → Bool) (xs : List X) → list_any p xs ≡ nat_lt 0 (length (filter p xs))
+any_is_kept p [] = refl
+any_is_kept p (x ∷ xs) = by (p x) (any_is_kept p xs) where
+  by : (b : Bool) → list_any p xs ≡ nat_lt 0 (length (filter p xs)) → (b || list_any p xs) ≡ nat_lt 0 (length (cond b (x ∷ filter p xs) (filter p xs)))
+  by true others = one_more (length (filter p xs))
+  by false others = others
 
 any_is_some : {X : Type 0} (p : X → Bool) (xs : List X) → list_any p xs ≡ nat_lt 0 (count_by p xs)
-any_is_some p [] = refl
-any_is_some p (x ∷ xs) = by (p x) (any_is_some p xs) where
-  by : (b : Bool) → list_any p xs ≡ nat_lt 0 (count_by p xs) → (b || list_any p xs) ≡ nat_lt 0 (cond b 1 0 + count_by p xs)
-  by true others = one_more (count_by p xs)
-  by false others = others ∙ ap (nat_lt 0) (none_more (count_by p xs))
+any_is_some p xs = any_is_kept p xs ∙ ap (nat_lt 0) (length-filter p xs)
 
 served : EachHasOneEvent → (s : Settings) (items : List Item) (k : ℕ) → list_any (λ e. is_copy k (item_in e)) (service s 0 items) ≡ list_any (is_copy k) items
 served one s items k =
@@ -190,7 +194,7 @@ module _ (one : EachHasOneEvent) (r : Run) (ends : r.finished ≡ true) (before 
         parts = ap (each_after (copies r.table p.id) []) is ∙ feed_parts (copies r.table p.id) [] before (row ∷ after) ∙ ap (λ (xs : List Item). first ++ (xs ++ later)) offered
 
         none_first : list_any (is_copy k) first ≡ false
-        none_first = none_of_rows r.table p.id k [] before (λ i lt. ap (λ (n : ℕ). n == k) (sym (none_more i)) ∙ below i k lt)
+        none_first = none_of_rows r.table p.id k [] before (λ i lt. ap (λ (n : ℕ). n == k) (zero_more i) ∙ below i k lt)
 
         none_later : list_any (is_copy k) later ≡ false
         none_later = none_of_rows r.table p.id k (before ++ row ∷ []) after (λ i lt. above (length (before ++ row ∷ []) + i) k (let longer = length-append before (row ∷ []) in omega (arith, longer)))
