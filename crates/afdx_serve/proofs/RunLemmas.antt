@@ -103,8 +103,8 @@ module _ (inputs : Inputs) (a : Option Files) (plan : Plan) (captures : List Tex
   -- what the captures lead to is what the files lead to
   leads_as : {X : Type 0} (P Q : X → Type 0) → ((x : X) → P x → Q x) → (r : Result X Failure) → MatchResult r P (λ f. FailsToLead f (table_in plan) captures)
       → MatchResult r (λ x. Q x × (after ≡ before)) (λ f. FailsToGather f inputs a before after)
-  leads_as P Q as (Ok x) h = (as x h, count)
-  leads_as P Q as (Err f) h = not_led f h
+  leads_as P Q turn (Ok x) h = (turn x h, count)
+  leads_as P Q turn (Err f) h = not_led f h
 
   pub measured : (r : Result (String Global) Failure) → MatchResult r (λ text. IsMeasured (not inputs.unchecked) (table_in plan) captures (string_bytes text)) (λ f. FailsToLead f (table_in plan) captures)
       → MatchResult r (λ text. MeasuresTo inputs a (string_bytes text) × (after ≡ before)) (λ f. FailsToGather f inputs a before after)
