@@ -68,6 +68,8 @@ def latency():
         text = later(SINGLE, latency_us)
         lines = answers.measure(model.table_of(text), {1: sent, 2: HEADER}, False).splitlines()
         same("behind a latency", (lines[0], lines[2]), (wanted.format(delay, bound), "out 2 occupied 64 of 100000 at 0"))
+    departures = answered(later(SINGLE, 10), capture((10, 64, 5), (10, 64, 6)), HEADER)[2]
+    same("behind a latency", departures, ["2,1,0,10,low,64,10005,10005,16725,16720,sent", "2,2,1,10,low,64,10006,16725,23445,23439,sent"])
 
 
 def every_fate():
@@ -106,8 +108,8 @@ def early_is_the_least():
             soon = answers.early(passed, frame)
 
             def passes(shift):
-                later = dataclasses.replace(frame, record=dataclasses.replace(frame.record, stamp=stamp + shift))
-                return model.conforms(link, passed, later)
+                shifted = dataclasses.replace(frame, record=dataclasses.replace(frame.record, stamp=stamp + shift))
+                return model.conforms(link, passed, shifted)
 
             same("early is the least", (passes(soon), soon > 0 and passes(soon - 1)), (True, False))
             if soon == 0:

@@ -1,12 +1,9 @@
 -- The delays at the ports of a switch, each found by its number.
 use Rattle.std.proofs.Common.{◌≡◌, ℕ, zero, suc, ◌+◌, ◌<◌, ◌≤◌, ◌==◌, Bool, true, false, cond, List, [], ◌∷◌, ◌++◌, length, take, drop, get_or, slice_get, Option, Some, None, refl, sym, ap, subst, ◌∙◌, arith, append_assoc}
 use Rattle.std.specs.Prelude.{find, flat_map}
-use Rattle.std.specs.List.{AllByRecursion}
-use Rattle.std.proofs.lemmas.Bool.Decides.{nat_tests}
 use Rattle.std.proofs.lemmas.List.{take_more}
 use Rattle.afdx_table.specs.declared.rows.PortRow.{PortRow}
 use Rattle.afdx_table.specs.Content.{port_row}
-use Rattle.afdx_table.specs.WellFormed.{Rises}
 use Rattle.afdx_core.specs.State.{Run, sent_in}
 use Rattle.afdx_measure.specs.declared.delays.Delays.{Delays}
 use Rattle.afdx_measure.specs.declared.telling.AtPort.{AtPort}
@@ -89,23 +86,3 @@ pub lines_more : {X : Type 0} (f : X → List ℕ) (xs : List X) (i : ℕ) (x : 
 lines_more {X} f xs i x start text longer here grown h =
     h ∙ ap (λ (ys : List X). text ++ flat_map f ys) (drop_here xs i x here) ∙ sym (append_assoc text (f x) (flat_map f (drop (i + 1) xs)))
     ∙ ap (λ (t : List ℕ). t ++ flat_map f (drop (i + 1) xs)) (sym grown)
-
--- ---- a port is found by its number
-
-same : (n : ℕ) → (n == n) ≡ true
-same n = grind (arith, nat_tests)
-
-below : (m n : ℕ) → m < n → (m == n) ≡ false
-below m n lt = grind (arith, nat_tests)
-
-above_at : (n : ℕ) (ports : List PortRow) (i : ℕ) (d : PortRow) → AllByRecursion (λ (q : PortRow). n < q.id) ports → i < length ports → n < (get_or ports i d).id
-above_at n [] i d all lt = absurd (omega (arith, lt))
-above_at n (q ∷ qs) zero d all lt = all.0
-above_at n (q ∷ qs) (suc i) d all lt = above_at n qs i d all.1 (omega (arith, lt))
-
-pub found : (ports : List PortRow) (i : ℕ) (d : PortRow) → Rises ports → i < length ports → find (λ (p : PortRow). p.id == (get_or ports i d).id) ports ≡ Some (get_or ports i d)
-found [] i d rises lt = absurd (omega (arith, lt))
-found (p ∷ ps) zero d rises lt = ap (λ (b : Bool). cond b (Some p) (find (λ (x : PortRow). x.id == p.id) ps)) (same p.id)
-found (p ∷ ps) (suc i) d rises lt =
-    ap (λ (b : Bool). cond b (Some p) (find (λ (x : PortRow). x.id == (get_or ps i d).id) ps)) (below p.id (get_or ps i d).id (above_at p.id ps i d rises.0 (omega (arith, lt))))
-    ∙ found ps i d rises.1 (omega (arith, lt))

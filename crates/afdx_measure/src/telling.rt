@@ -12,6 +12,7 @@ use crate::port::peak_at;
 use afdx_core::Done;
 use afdx_load::{Loads, bounds, loads};
 use afdx_table::LinkRow;
+use afdx_table::laws::ports_are_found;
 use afdx_units::Priority;
 use std::alloc::{AllocError, Allocator};
 
@@ -128,6 +129,7 @@ fn put_ports<A: Allocator + Copy>(
     requires { done.now.run.finished ≡ true }
     ensures { OnOk result (string_bytes text.new ≡ string_bytes text.old ++ flat_map (port_line done.now.run) done.now.run.table.ports) }
 {
+    ports_are_found();
     for row in done.table().ports() {
         put_peak_line(text, row.id, row.buffer, peak_at(done, row))?;
     }

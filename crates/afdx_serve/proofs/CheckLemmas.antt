@@ -1,30 +1,7 @@
 -- The lines of ports, one after the other.
-use Rattle.std.proofs.Common.{◌≡◌, ℕ, zero, suc, ◌+◌, ◌<◌, ◌==◌, Bool, true, false, cond, List, [], ◌∷◌, ◌++◌, length, get_or, drop, Some, refl, sym, ap, subst, ◌∙◌, arith, append_assoc, append-nil, ◌≤◌}
-use Rattle.std.specs.Prelude.{find}
-use Rattle.std.specs.List.{AllByRecursion}
-use Rattle.std.proofs.lemmas.Bool.Decides.{nat_tests}
+use Rattle.std.proofs.Common.{◌≡◌, ℕ, zero, suc, ◌+◌, ◌<◌, List, [], ◌∷◌, ◌++◌, length, get_or, drop, refl, sym, ap, subst, ◌∙◌, arith, append_assoc, append-nil, ◌≤◌}
 use Rattle.afdx_table.specs.declared.rows.PortRow.{PortRow}
-use Rattle.afdx_table.specs.WellFormed.{Rises}
 use Rattle.afdx_serve.specs.Checks.{AreTextsOf}
-
-same : (a : ℕ) → (a == a) ≡ true
-same a = grind (arith, nat_tests)
-
-below : (a b : ℕ) → a < b → (a == b) ≡ false
-below a b lt = grind (arith, nat_tests)
-
-above_at : (n : ℕ) (ports : List PortRow) (i : ℕ) (d : PortRow) → AllByRecursion (λ (q : PortRow). n < q.id) ports → i < length ports → n < (get_or ports i d).id
-above_at n [] i d all lt = absurd (omega (arith, lt))
-above_at n (q ∷ qs) zero d all lt = all.0
-above_at n (q ∷ qs) (suc i) d all lt = above_at n qs i d all.1 (omega (arith, lt))
-
--- a port is found by its number
-pub found : (ports : List PortRow) (i : ℕ) (d : PortRow) → Rises ports → i < length ports → find (λ (p : PortRow). p.id == (get_or ports i d).id) ports ≡ Some (get_or ports i d)
-found [] i d rises lt = absurd (omega (arith, lt))
-found (p ∷ ps) zero d rises lt = ap (λ (b : Bool). cond b (Some p) (find (λ (x : PortRow). x.id == p.id) ps)) (same p.id)
-found (p ∷ ps) (suc i) d rises lt =
-    ap (λ (b : Bool). cond b (Some p) (find (λ (x : PortRow). x.id == (get_or ps i d).id) ps)) (below p.id (get_or ps i d).id (above_at p.id ps i d rises.0 (omega (arith, lt))))
-    ∙ found ps i d rises.1 (omega (arith, lt))
 
 from_place : (ports : List PortRow) (i : ℕ) (d : PortRow) → i < length ports → drop i ports ≡ get_or ports i d ∷ drop (i + 1) ports
 from_place [] i d lt = absurd (omega (arith, lt))

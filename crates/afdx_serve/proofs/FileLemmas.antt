@@ -80,6 +80,22 @@ pub PutsFiles-nil : (a : Option Files) → PutsFiles a a [] []
 PutsFiles-nil None = tt
 PutsFiles-nil (Some f) = λ q. refl
 
+-- ---- two files that are put
+
+one_put : (a b : Option Files) (n x : List ℕ) → PutsFile a b n x → PutsFiles a b (n ∷ []) (x ∷ [])
+one_put None b n x put = tt
+one_put (Some f) None n x put = put
+one_put (Some f) (Some g) n x put = put
+
+pub two_put : (a b c : Option Files) (n m x y : List ℕ) → PutsFile a b n x → PutsFile b c m y → PutsFiles a c (n ∷ m ∷ []) (x ∷ y ∷ [])
+two_put a b c n m x y first second = one_more_put a b c (n ∷ []) (x ∷ []) m y refl (one_put a b n x first) second
+
+pub stops_first : (a b : Option Files) (n m x y : List ℕ) → KeepsOthers a b n → StopsAt n (n ∷ m ∷ []) (x ∷ y ∷ []) a b
+stops_first a b n m x y others = record { place = 0; before = a; is_there = refl; earlier = PutsFiles-nil a; others = others }
+
+pub stops_second : (a b c : Option Files) (n m x y : List ℕ) → PutsFile a b n x → KeepsOthers b c m → StopsAt m (n ∷ m ∷ []) (x ∷ y ∷ []) a c
+stops_second a b c n m x y first others = record { place = 1; before = b; is_there = refl; earlier = one_put a b n x first; others = others }
+
 -- ---- failures
 
 -- a capture was not got

@@ -16,6 +16,7 @@ module _ (words : List (List ℕ)) (input : Option (List ℕ)) (old new : World)
   fails (request.Size path) asks failure.Usage h = absurd h
   fails (request.Run paths) asks failure.Usage h = absurd h.0.0
   fails (request.Measure inputs) asks failure.Usage h = absurd h.0
+  fails (request.Trace paths) asks failure.Usage h = absurd h.0.0
   fails r asks (failure.Load e) h = (r, asks, h)
   fails r asks (failure.Table e) h = (r, asks, h)
   fails r asks (failure.Capture e) h = (r, asks, h)
@@ -43,31 +44,37 @@ module _ (words : List (List ℕ)) (input : Option (List ℕ)) (old new : World)
   runs_out (failure.Table e) (request.Size path) made asks h = inl (h.2, h.1.0)
   runs_out (failure.Table e) (request.Run paths) made asks h = inl (h.1, h.0.1)
   runs_out (failure.Table e) (request.Measure inputs) made asks h = inl (h.2, h.1)
+  runs_out (failure.Table e) (request.Trace paths) made asks h = inl (h.1, h.0.1)
   runs_out (failure.Load e) (request.Alone link) made asks h = absurd h.0
   runs_out (failure.Load e) (request.Check path) made asks h = inl (h.4, h.3.0)
   runs_out (failure.Load e) (request.Size path) made asks h = absurd h
   runs_out (failure.Load e) (request.Run paths) made asks h = inl (h.1, h.0.1)
   runs_out (failure.Load e) (request.Measure inputs) made asks h = inl (h.2, h.1)
+  runs_out (failure.Load e) (request.Trace paths) made asks h = inl (h.1, h.0.1)
   runs_out (failure.Capture e) (request.Alone link) made asks h = inl (h.0.1, h.1.0)
   runs_out (failure.Capture e) (request.Check path) made asks h = absurd h
   runs_out (failure.Capture e) (request.Size path) made asks h = absurd h
   runs_out (failure.Capture e) (request.Run paths) made asks h = absurd h.0.0
   runs_out (failure.Capture e) (request.Measure inputs) made asks h = absurd h.0
+  runs_out (failure.Capture e) (request.Trace paths) made asks h = absurd h.0.0
   runs_out (failure.PortCapture p e) (request.Alone link) made asks h = absurd h.0
   runs_out (failure.PortCapture p e) (request.Check path) made asks h = absurd h
   runs_out (failure.PortCapture p e) (request.Size path) made asks h = absurd h
   runs_out (failure.PortCapture p e) (request.Run paths) made asks h = inl (h.1, h.0.1)
   runs_out (failure.PortCapture p e) (request.Measure inputs) made asks h = inl (h.2, h.1)
+  runs_out (failure.PortCapture p e) (request.Trace paths) made asks h = inl (h.1, h.0.1)
   runs_out (failure.Get name) (request.Alone link) made asks h = absurd h.0
   runs_out (failure.Get name) (request.Check path) made asks h = inl (h.3, h.2)
   runs_out (failure.Get name) (request.Size path) made asks h = inl (h.3, h.2)
   runs_out (failure.Get name) (request.Run paths) made asks h = inl (h.1, h.0.1)
   runs_out (failure.Get name) (request.Measure inputs) made asks h = inl (h.2, h.1)
+  runs_out (failure.Get name) (request.Trace paths) made asks h = inl (h.1, h.0.1)
   runs_out (failure.Put name) (request.Alone link) made asks h = absurd h.0
   runs_out (failure.Put name) (request.Check path) made asks h = absurd h
   runs_out (failure.Put name) (request.Size path) made asks h = absurd h
   runs_out (failure.Put name) (request.Measure inputs) made asks h = absurd h.0
   runs_out (failure.Put name) (request.Run paths) made asks h = inr (request.Run paths, asks, (inr (_, h.0.0), h.1))
+  runs_out (failure.Put name) (request.Trace paths) made asks h = inr (request.Trace paths, asks, (inr (_, h.0.0), h.1))
 
   -- where memory ran out for its line, memory is the failure
   pub told : (f t : Failure) → TellsOf f t → Fails f words input old new → Fails t words input old new

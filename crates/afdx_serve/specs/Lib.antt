@@ -13,3 +13,4 @@ pub mod Checks
 pub mod Sizes
 pub mod Serving
 pub mod Measures
+pub mod Traces

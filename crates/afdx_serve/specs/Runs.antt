@@ -1,5 +1,5 @@
 -- What a run does to a folder.
-use Rattle.std.specs.Prelude.{Bool, false, ◌≡◌, ◌⊎◌, ℕ, codes, List, ◌++◌, map, take, slice_get, Option, Some, Ok, Err, string_bytes}
+use Rattle.std.specs.Prelude.{Bool, false, not, ◌≡◌, ◌⊎◌, ℕ, codes, List, ◌++◌, map, take, slice_get, Option, Some, Ok, Err, string_bytes}
 use Rattle.std.specs.Fmt.{decimal}
 use Rattle.afdx_table.specs.declared.fault.TableFault.{TableFault}
 use Rattle.afdx_table.specs.Content.{Content}
@@ -8,7 +8,8 @@ use Rattle.afdx_load.specs.Accepted.{IsAccepted, first_fault}
 use Rattle.afdx_count.specs.Report.{report_of}
 use Rattle.afdx_session.specs.Texts.{Text, AreOfPorts}
 use Rattle.afdx_session.specs.Reading.{IsFirstFault}
-use Rattle.afdx_session.specs.Outcome.{Results, IsOutcome}
+use Rattle.afdx_session.specs.declared.plan.Plan.{Plan}
+use Rattle.afdx_session.specs.Outcome.{Results, table_in, is_cleared, IsOutcome}
 use Rattle.afdx_session.specs.Headline.{IsIsolated}
 use Rattle.afdx_words.specs.declared.request.Paths.{Paths}
 use Rattle.afdx_words.specs.declared.request.Inputs.{Inputs}
@@ -59,6 +60,12 @@ pub record LeadsTo (paths : Paths) (files : Option Files) (results : Results) : 
   pub outcome : IsOutcome table captures results
   -- the headline, of what is put: no link disturbs another, none is lost, each is in time
   pub isolated : paths.unchecked ≡ false → IsIsolated table captures results
+
+-- the files hold a table and captures of its ports: what is planned, and what it is to run over
+pub record IsRunOf (inputs : Inputs) (files : Option Files) (plan : Plan) (captures : List Text) : Type 0 where
+  pub has_plan : HasPlan files inputs (table_in plan)
+  pub cleared : is_cleared plan ≡ not inputs.unchecked
+  pub has_captures : HasCaptures files inputs.input.now (table_in plan) captures
 
 -- the names of the captures of a table's ports in a folder, by rising number
 abbrev pub port_names : List ℕ → Content → List (List ℕ)
@@ -148,8 +155,12 @@ abbrev pub StopsRun : List ℕ → Paths → Option Files → Option Files → T
 StopsRun name paths old new =
     (results : Results) × LeadsTo paths old results × StopsAt name (names_in paths.output.now results.captures) (bytes_of results.captures) old new
 
+-- what the files of a run lead to was not put, where `Stops` says of a name that the files before it were
+abbrev pub FailsToEnd : (List ℕ → Type 0) → Failure → Paths → Option Files → Option Files → DeviceLog → DeviceLog → Type 0
+FailsToEnd Stops (failure.Put name) paths old new before after = Stops (string_bytes name) × (after ≡ one_more (string_bytes name) before)
+FailsToEnd Stops failure.Memory paths old new before after = KeepsFiles old new ⊎ ((name : List ℕ) × Stops name)
+FailsToEnd Stops f paths old new before after = FailsToGather f (inputs_of paths) old before after × KeepsFiles old new
+
 -- the results of a run were not put
 abbrev pub FailsToRun : Failure → Paths → Option Files → Option Files → DeviceLog → DeviceLog → Type 0
-FailsToRun (failure.Put name) paths old new before after = StopsRun (string_bytes name) paths old new × (after ≡ one_more (string_bytes name) before)
-FailsToRun failure.Memory paths old new before after = KeepsFiles old new ⊎ ((name : List ℕ) × StopsRun name paths old new)
-FailsToRun f paths old new before after = FailsToGather f (inputs_of paths) old before after × KeepsFiles old new
+FailsToRun f paths old new before after = FailsToEnd (λ name. StopsRun name paths old new) f paths old new before after

@@ -19,6 +19,7 @@ use Rattle.afdx_serve.specs.Files.{Files, DeviceLog, KeepsFiles, PutsFiles, one_
 use Rattle.afdx_session.specs.Outcome.{Results}
 use Rattle.afdx_serve.specs.Output.{AppendsFront}
 use Rattle.afdx_serve.specs.Measures.{MeasuresTo}
+use Rattle.afdx_serve.specs.Traces.{PutsTrace, FailsToTrace}
 use Rattle.afdx_serve.specs.Runs.{HasTable, HasNoTable, LeadsTo, FailsToGather, FailsToRun, names_in, bytes_of, report_in}
 
 -- what commands work on, as far as it is told
@@ -130,6 +131,14 @@ abbrev pub FailsToMeasure : Failure → Inputs → World → World → Type 0
 FailsToMeasure failure.Write inputs old new = (text : List ℕ) × MeasuresTo inputs old.files text × AppendsFront old.written new.written text × KeepsFolder old new
 FailsToMeasure f inputs old new = FailsToGather f inputs old.files old.failed new.failed × KeepsFiles old.files new.files × WritesNothing old new
 
+-- what is told of each frame and copy was put; nothing was written
+abbrev pub Traces : Paths → World → World → Type 0
+Traces paths old new = PutsTrace paths old.files new.files × (new.failed ≡ old.failed) × WritesNothing old new
+
+-- why it was not, and what was done
+abbrev pub FailsToTraceAll : Failure → Paths → World → World → Type 0
+FailsToTraceAll f paths old new = FailsToTrace f paths old.files new.files old.failed new.failed × WritesNothing old new
+
 -- ---- any request
 
 -- what a request asks for was done, and nothing else
@@ -139,6 +148,7 @@ Performs (request.Check path) input old new = Checks path.now old new
 Performs (request.Size path) input old new = Sizes path.now old new
 Performs (request.Run paths) input old new = Runs paths old new
 Performs (request.Measure inputs) input old new = Measures inputs old new
+Performs (request.Trace paths) input old new = Traces paths old new
 
 -- why it was not done, and what was done
 abbrev pub FailsToPerform : Failure → Request → Option (List ℕ) → World → World → Type 0
@@ -147,6 +157,7 @@ FailsToPerform f (request.Check path) input old new = FailsToCheck f path.now ol
 FailsToPerform f (request.Size path) input old new = FailsToSize f path.now old new
 FailsToPerform f (request.Run paths) input old new = FailsToRunAll f paths old new
 FailsToPerform f (request.Measure inputs) input old new = FailsToMeasure f inputs old new
+FailsToPerform f (request.Trace paths) input old new = FailsToTraceAll f paths old new
 
 -- help was asked for and some text was written, or a request, which was done
 abbrev pub Serves : List (List ℕ) → Option (List ℕ) → World → World → Type 0

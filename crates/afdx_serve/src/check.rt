@@ -14,6 +14,7 @@ use crate::get::get_table;
 use crate::output::write_bytes;
 use afdx_load::laws::longest_shows_links;
 use afdx_load::{Load, Loads, bounds, least_buffer, loads};
+use afdx_table::laws::ports_are_found;
 use afdx_table::{PortRow, Table};
 use std::alloc::{AllocError, Global};
 use std::io::Write;
@@ -64,6 +65,7 @@ fn port_line(alloc: Global, loads: &Loads<'_>, row: &PortRow) -> Result<String, 
 fn port_lines(alloc: Global, table: &Table) -> Result<String, AllocError>
     ensures { IfOk result (λ text. AreLinesOf table.now.latency table.now.links table.now.ports (string_bytes text)) }
 {
+    ports_are_found();
     let loads = loads(table);
     let mut text = String::new(alloc);
     for row in table.ports() {

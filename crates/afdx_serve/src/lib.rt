@@ -10,6 +10,7 @@ mod device_log;
 mod disk;
 mod failure;
 mod folder;
+mod gathering;
 mod get;
 mod input;
 pub mod laws;
@@ -25,6 +26,7 @@ mod serving;
 mod size;
 mod table_line;
 mod telling;
+mod trace;
 mod whole_file;
 
 pub use afdx_words::Alone;

@@ -1,7 +1,6 @@
 //! The command `measure`.
 
 ghost use Rattle.std.specs.Prelude.{◌≡◌, true, MatchResult, string_bytes};
-ghost use Rattle.afdx_load.specs.Accepted.{IsAccepted};
 ghost use Rattle.afdx_session.specs.Texts.{texts_of, AreOfPorts};
 ghost use Rattle.afdx_session.specs.Outcome.{table_in, is_cleared};
 ghost use Rattle.afdx_serve.specs.Files.{KeepsFiles};
@@ -11,9 +10,8 @@ ghost use Rattle.afdx_serve.specs.Serving.{world, Measures, FailsToMeasure};
 
 use crate::failure::Failure;
 use crate::folder::Folder;
-use crate::get::{get_captures, get_table};
+use crate::gathering::gather;
 use crate::output::write_bytes;
-use crate::run::plan;
 use afdx_measure::laws::accepted_tables_stay_within_the_load;
 use afdx_session::Plan;
 use afdx_words::Inputs;
@@ -41,7 +39,7 @@ fn tell(
 }
 
 /// What is told of the files of a run.
-fn gather<F: Folder>(
+fn text_of<F: Folder>(
     alloc: Global,
     inputs: &Inputs<'_>,
     folder: &mut F,
@@ -51,9 +49,7 @@ fn gather<F: Folder>(
         (λ f. FailsToGather f inputs.now (F.files folder.old) (F.failed folder.old) (F.failed folder.new)) }
     ensures same { KeepsFiles (F.files folder.old) (F.files folder.new) }
 {
-    let table = get_table(alloc, folder, inputs.table)?;
-    let plan = plan(table, inputs.unchecked)?;
-    let captures = get_captures(alloc, folder, inputs.input, plan.table())?;
+    let (plan, captures) = gather(alloc, inputs, folder)?;
     tell(alloc, plan, !inputs.unchecked, &captures)
 }
 
@@ -78,7 +74,7 @@ pub(crate) fn measure<O: Write, F: Folder>(
         (λ f. FailsToMeasure f inputs.now
         (world (O.contents out.old) (F.files folder.old) (F.failed folder.old)) (world (O.contents out.new) (F.files folder.new) (F.failed folder.new))) }
 {
-    let text = gather(alloc, inputs, folder)?;
+    let text = text_of(alloc, inputs, folder)?;
     write_bytes(out, text.as_bytes())?;
     Ok(())
 }

@@ -10,7 +10,12 @@ use crate::folder::{Folder, FolderFault};
 use std::alloc::Global;
 
 /// Puts a file.
-fn put<F: Folder>(alloc: Global, folder: &mut F, name: &str, bytes: &[u8]) -> Result<(), Failure>
+pub(crate) fn put<F: Folder>(
+    alloc: Global,
+    folder: &mut F,
+    name: &str,
+    bytes: &[u8],
+) -> Result<(), Failure>
     ensures put { MatchResult result
         (λ _. PutsFile (F.files folder.old) (F.files folder.new) name.now bytes.now × (F.failed folder.new ≡ F.failed folder.old))
         (λ f. FailsToPutOne f name.now (F.failed folder.old) (F.failed folder.new)) }

@@ -1,40 +1,23 @@
 //! The command `run`.
 
-ghost use Rattle.std.specs.Prelude.{◌≡◌, true, false, not, IfOk, MatchResult, string_bytes};
-ghost use Rattle.afdx_load.specs.Accepted.{IsAccepted};
+ghost use Rattle.std.specs.Prelude.{◌≡◌, true, IfOk, MatchResult, string_bytes};
 ghost use Rattle.afdx_session.specs.Texts.{texts_of, AreOfPorts};
 ghost use Rattle.afdx_session.specs.Outcome.{table_in, is_cleared, IsOutcome};
 ghost use Rattle.afdx_session.specs.Headline.{IsIsolated};
 ghost use Rattle.afdx_serve.specs.Files.{KeepsFiles};
-ghost use Rattle.afdx_serve.specs.Runs.{LeadsTo, FailsToPlan, FailsToLead, FailsToGather, inputs_of, report_in};
+ghost use Rattle.afdx_serve.specs.Runs.{LeadsTo, FailsToLead, FailsToGather, inputs_of, report_in};
 ghost use Rattle.afdx_serve.specs.Serving.{world, Runs, FailsToRunAll};
 
 use crate::failure::Failure;
 use crate::folder::Folder;
-use crate::get::{get_captures, get_table};
+use crate::gathering::{gather, inputs_of};
 use crate::names::names_in;
 use crate::output::write_bytes;
 use crate::put::put_captures;
 use afdx_session::{Outcome, Plan};
-use afdx_table::Table;
 use afdx_words::Paths;
 use std::alloc::{AllocError, Global};
 use std::io::Write;
-
-/// The plan of a run over a table, which is accepted unless the run is unchecked.
-pub(crate) fn plan(table: Table, unchecked: bool) -> Result<Plan, Failure>
-    ensures { MatchResult result
-        (λ plan. (table_in plan ≡ table) × (is_cleared plan ≡ not unchecked) × (unchecked ≡ false → IsAccepted table))
-        (λ f. FailsToPlan f unchecked table) }
-{
-    if unchecked {
-        return Ok(Plan::Unchecked(table));
-    }
-    match afdx_load::check(table) {
-        Ok(cleared) => Ok(Plan::Cleared(cleared)),
-        Err((_, fault)) => Err(Failure::Load(fault)),
-    }
-}
 
 /// What captures of the table's ports lead to; the headline holds of it, where the plan was checked.
 fn lead(alloc: Global, plan: Plan, captures: &[(u8, Vec<u8>)]) -> Result<Outcome<Global>, Failure>
@@ -49,7 +32,7 @@ fn lead(alloc: Global, plan: Plan, captures: &[(u8, Vec<u8>)]) -> Result<Outcome
 }
 
 /// What the files of a run lead to.
-fn gather<F: Folder>(
+fn outcome_of<F: Folder>(
     alloc: Global,
     paths: &Paths<'_>,
     folder: &mut F,
@@ -59,9 +42,7 @@ fn gather<F: Folder>(
         (λ f. FailsToGather f (inputs_of paths.now) (F.files folder.old) (F.failed folder.old) (F.failed folder.new)) }
     ensures same { KeepsFiles (F.files folder.old) (F.files folder.new) }
 {
-    let table = get_table(alloc, folder, paths.table)?;
-    let plan = plan(table, paths.unchecked)?;
-    let captures = get_captures(alloc, folder, paths.input, plan.table())?;
+    let (plan, captures) = gather(alloc, &inputs_of(paths), folder)?;
     lead(alloc, plan, &captures)
 }
 
@@ -96,7 +77,7 @@ pub(crate) fn run<O: Write, F: Folder>(
         (λ f. FailsToRunAll f paths.now
         (world (O.contents out.old) (F.files folder.old) (F.failed folder.old)) (world (O.contents out.new) (F.files folder.new) (F.failed folder.new))) }
 {
-    let outcome = gather(alloc, paths, folder)?;
+    let outcome = outcome_of(alloc, paths, folder)?;
     let names = names_in(alloc, paths.output, &outcome.captures)?;
     let report = report_text(alloc, &outcome)?;
     put_captures(alloc, folder, &names, &outcome.captures)?;

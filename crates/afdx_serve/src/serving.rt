@@ -17,6 +17,7 @@ use crate::policing::alone;
 use crate::run::run;
 use crate::size::size;
 use crate::telling::report;
+use crate::trace::trace;
 use afdx_words::{Alone, NoRequest, Request, parse};
 use std::alloc::Global;
 use std::io::{Read, Write};
@@ -58,6 +59,7 @@ fn perform<R: Read, O: Write, F: Folder>(
         Request::Size(path) => size(alloc, path, out, folder),
         Request::Run(paths) => run(alloc, paths, out, folder),
         Request::Measure(inputs) => measure(alloc, inputs, out, folder),
+        Request::Trace(paths) => trace(alloc, paths, folder),
     }
 }
 
@@ -92,8 +94,8 @@ fn serve_words<R: Read, O: Write, F: Folder>(
 /// `afdx alone` reads `input` to its end and writes its answer on `out`; `afdx check TABLE` and `afdx size TABLE` get TABLE
 /// from `folder` and write their lines on `out`; `afdx run TABLE IN OUT` gets TABLE, checks its load unless there is
 /// `--unchecked`, gets IN/port-1.pcap and so on, puts OUT/port-1.pcap and so on and writes the report on `out`;
-/// `afdx measure TABLE IN` does so too, but puts nothing and writes what delays and buffers were; `--help`
-/// and `--version` write the text of `clap` on `out`. On another status than 0 one line goes to `err`, and a fault in
+/// `afdx measure TABLE IN` does so too, but puts nothing and writes what delays and buffers were; `afdx trace TABLE IN OUT`
+/// puts OUT/arrivals.csv and OUT/departures.csv in place of the captures, and writes nothing; `--help` and `--version` write the text of `clap` on `out`. On another status than 0 one line goes to `err`, and a fault in
 /// writing it changes nothing. What is met before the answer is written leaves `out` as it was; where writing fails, a front
 /// of the answer was written.
 ///

@@ -15,6 +15,7 @@ use crate::get::get_table;
 use crate::output::write_bytes;
 use afdx_load::laws::longest_shows_links;
 use afdx_load::{Load, Loads, PARTS, Rule, bounds, breaks, least_buffer, loads};
+use afdx_table::laws::ports_are_found;
 use afdx_table::{PortRow, Table};
 use std::alloc::{AllocError, Global};
 use std::io::Write;
@@ -151,6 +152,7 @@ fn port_size(alloc: Global, loads: &Loads<'_>, row: &PortRow) -> Result<String, 
 fn sizes_text(alloc: Global, table: &Table) -> Result<String, AllocError>
     ensures { IfOk result (λ text. AreSizesOf table.now.latency table.now.links table.now.ports (string_bytes text)) }
 {
+    ports_are_found();
     let loads = loads(table);
     let mut text = String::new(alloc);
     for row in table.ports() {

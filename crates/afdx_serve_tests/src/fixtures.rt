@@ -85,6 +85,21 @@ impl OneFrame {
     }
 }
 
+/// A folder with a table and with captures of ports 1 and up.
+pub(crate) fn folder_of(
+    alloc: Global,
+    table: &str,
+    captures: &[&[u8]],
+) -> Result<MemoryFolder, AllocError> {
+    let mut folder = MemoryFolder::new(alloc);
+    folder.add("t", table.as_bytes())?;
+    let names = ["in/port-1.pcap", "in/port-2.pcap", "in/port-3.pcap"];
+    for (name, bytes) in names.iter().zip(captures) {
+        folder.add(name, bytes)?;
+    }
+    Ok(folder)
+}
+
 /// The words of a command line.
 pub(crate) fn split(alloc: Global, line: &str) -> Result<Vec<String>, AllocError> {
     let mut words = Vec::new(alloc);

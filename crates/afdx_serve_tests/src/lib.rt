@@ -28,4 +28,6 @@ mod sizes;
 #[cfg(test)]
 mod streams;
 #[cfg(test)]
+mod traces;
+#[cfg(test)]
 mod words;

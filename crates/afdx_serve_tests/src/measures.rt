@@ -1,22 +1,10 @@
 //! `afdx measure` over a folder in memory. Values from outside: a table, captures, and lines that were worked out by hand.
 
-use crate::fixtures::{OneFrame, answer_over};
-use crate::memory_folder::MemoryFolder;
+use crate::fixtures::{OneFrame, answer_over, folder_of};
 use afdx_samples::{HEADER, Port, capture, double, frame, later, mixed, port, single};
 use afdx_serve::FolderFault;
-use std::alloc::{AllocError, Global};
+use std::alloc::Global;
 use std::test::Fail;
-
-/// A folder with a table and with captures of ports 1 and up.
-fn folder_of(alloc: Global, table: &str, captures: &[&[u8]]) -> Result<MemoryFolder, AllocError> {
-    let mut folder = MemoryFolder::new(alloc);
-    folder.add("t", table.as_bytes())?;
-    let names = ["in/port-1.pcap", "in/port-2.pcap", "in/port-3.pcap"];
-    for (name, bytes) in names.iter().zip(captures) {
-        folder.add(name, bytes)?;
-    }
-    Ok(folder)
-}
 
 /// Whether these lines are told of the captures, with status 0 and nothing beside them.
 fn tells(

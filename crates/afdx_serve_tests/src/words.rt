@@ -13,11 +13,13 @@ const HELP: &str = "An AFDX switch over captured traffic
 Usage: afdx <COMMAND>
 
 Commands:
-  alone  Polices one virtual link of the capture on standard input
-  check  Checks the load of a configuration table
-  size   Tells what each port needs and has, whether it fits or not
-  run    Runs the switch over one capture for each port
-  help   Print this message or the help of the given subcommand(s)
+  alone    Polices one virtual link of the capture on standard input
+  check    Checks the load of a configuration table
+  size     Tells what each port needs and has, whether it fits or not
+  run      Runs the switch over one capture for each port
+  measure  Tells the delays of each link and how full each buffer was
+  trace    Tells what became of each frame and of each copy
+  help     Print this message or the help of the given subcommand(s)
 
 Options:
   -h, --help     Print help
@@ -69,6 +71,31 @@ Status: 0 told, whether each port fits or not, 2 words, 3 no table, 5 memory or 
 device.
 
 Example: afdx size table.toml
+";
+
+const HELP_TRACE: &str = "Tells what became of each frame and of each copy
+
+Usage: afdx trace [OPTIONS] <TABLE> <IN> <OUT>
+
+Arguments:
+  <TABLE>  The configuration table
+  <IN>     The folder of port-1.pcap and so on
+  <OUT>    The folder for arrivals.csv and departures.csv
+
+Options:
+      --unchecked  Runs a table whatever its load
+  -h, --help       Print help
+
+Runs as run does, and puts two files of comma-separated values with a heading into
+OUT, which must be there, in place of the captures: arrivals.csv has a line for
+each frame that came in, with its fate, how many ns too early a policed one came,
+and the ports whose buffers were full; departures.csv has one for each copy that a
+port sent or gave up. A file is written beside its name and then moved onto it.
+
+Status: 0 done, 2 words, 3 no table or capture, 4 a port cannot give what its
+links ask for, 5 memory or a device.
+
+Example: mkdir told && afdx trace table.toml in told
 ";
 
 const HELP_ALONE: &str = "Polices one virtual link of the capture on standard input
@@ -166,6 +193,8 @@ fn refuses_words(rt: HostRuntime) -> Result<(), Fail> {
         "afdx run t in --unchecked",
         "afdx run t in out more --unchecked",
         "afdx run t in out --unchecked --unchecked",
+        "afdx trace t in",
+        "afdx trace t in out more",
         "afdx alone",
         "afdx alone --bag 3",
         "afdx alone --id 10 --bag 1 --jitter 0",
@@ -283,6 +312,7 @@ fn shows_help(rt: HostRuntime) -> Result<(), Fail> {
         ("afdx alone --help", HELP_ALONE),
         ("afdx run --help", HELP_RUN),
         ("afdx size --help", HELP_SIZE),
+        ("afdx trace --help", HELP_TRACE),
         ("afdx --version", VERSION),
         ("afdx -V", VERSION),
     ] {

@@ -1,7 +1,8 @@
--- Links are found by their numbers.
+-- Links and ports are found by their numbers.
 use Rattle.std.specs.Prelude.{◌≡◌, ℕ, Some, None, Contains, slice_get}
+use Rattle.afdx_table.specs.declared.rows.PortRow.{PortRow}
 use Rattle.afdx_table.specs.Link.{Link}
-use Rattle.afdx_table.specs.Content.{Content, link_row, link_place}
+use Rattle.afdx_table.specs.Content.{Content, link_row, link_place, port_row}
 use Rattle.afdx_table.specs.WellFormed.{IsWellFormed}
 
 -- each link of a table stands under its number, and what stands under a number is a link of the table with that number
@@ -13,3 +14,7 @@ pub record LinksAreFound : Type 0 where
 pub record LinksStandAtTheirPlaces : Type 0 where
   pub at : (table : Content) (number place : ℕ) → link_place table number ≡ Some place → slice_get table.links place ≡ link_row table number
   pub none : (table : Content) (number : ℕ) → link_place table number ≡ None → link_row table number ≡ None
+
+-- each port of a table stands under its number
+abbrev pub PortsAreFound : Type 0
+PortsAreFound = (t : Content) → IsWellFormed t → (p : PortRow) → Contains t.ports p → port_row t p.id ≡ Some p

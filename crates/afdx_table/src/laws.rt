@@ -2,7 +2,7 @@
 
 ghost use Rattle.afdx_table.specs.WellFormed.{TablesAreWellFormed};
 ghost use Rattle.afdx_table.specs.Holds.{TablesHoldTheirTexts};
-ghost use Rattle.afdx_table.specs.Found.{LinksAreFound, LinksStandAtTheirPlaces};
+ghost use Rattle.afdx_table.specs.Found.{LinksAreFound, LinksStandAtTheirPlaces, PortsAreFound};
 
 /// Every table of a text is well formed.
 pub fn tables_are_well_formed()
@@ -24,4 +24,9 @@ pub fn links_are_found()
 /// The link at the place of a number is the link of that number; where there is no place, there is no link.
 pub fn links_stand_at_their_places()
     ensures { LinksStandAtTheirPlaces }
+{}
+
+/// Each port of a well-formed table stands under its number.
+pub fn ports_are_found()
+    ensures { PortsAreFound }
 {}

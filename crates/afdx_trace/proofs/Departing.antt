@@ -3,27 +3,27 @@ use Rattle.std.proofs.Common.{◌≡◌, ℕ, ◌+◌, ◌<◌, ◌≤◌, nat_l
 use Rattle.std.specs.List.{AllByRecursion}
 use Rattle.std.proofs.lemmas.Bool.{le-leb}
 use Rattle.std.proofs.lemmas.Bool.Decides.{nat_tests}
-use Rattle.afdx_table.specs.declared.rows.PortRow.{PortRow}
+use Rattle.afdx_port.specs.declared.Settings.{Settings}
 use Rattle.afdx_port.specs.declared.Sent.{Sent}
 use Rattle.afdx_port.specs.declared.Aged.{Aged}
 use Rattle.afdx_port.specs.Service.{Event, sending, aging, instant, sent_of, aged_of}
 use Rattle.afdx_trace.specs.Departures.{sent_line, aged_line, event_lines, ages_next, AreInOrder}
 
 -- the events that are left, where these lists have what is left of them
-pub record Left (p : PortRow) (all : List Event) (sent : List Sent) (aged : List Aged) (number : ℕ) (start text : List ℕ) : Type 0 where
+pub record Left (port : ℕ) (s : Settings) (all : List Event) (sent : List Sent) (aged : List Aged) (number : ℕ) (start text : List ℕ) : Type 0 where
   pub events : List Event
   pub order : AreInOrder events
   pub sent_is : sent_of events ≡ sent
   pub aged_is : aged_of events ≡ aged
-  pub text_is : start ++ event_lines p 0 all ≡ text ++ event_lines p number events
+  pub text_is : start ++ event_lines port s 0 all ≡ text ++ event_lines port s number events
 
 -- the loop's invariant: so for all events that the lists may be of
-abbrev pub LeftOf : PortRow → List Sent → List Aged → List Sent → List Aged → ℕ → List ℕ → List ℕ → Type 0
-LeftOf p sent₀ aged₀ sent aged number start text = (all : List Event) → AreInOrder all → sent_of all ≡ sent₀ → aged_of all ≡ aged₀
-    → Left p all sent aged number start text
+abbrev pub LeftOf : ℕ → Settings → List Sent → List Aged → List Sent → List Aged → ℕ → List ℕ → List ℕ → Type 0
+LeftOf port s sent₀ aged₀ sent aged number start text = (all : List Event) → AreInOrder all → sent_of all ≡ sent₀ → aged_of all ≡ aged₀
+    → Left port s all sent aged number start text
 
-pub left_first : (p : PortRow) (sent : List Sent) (aged : List Aged) (start : List ℕ) → LeftOf p sent aged sent aged 0 start start
-left_first p sent aged start all order sent_is aged_is = record { events = all; order = order; sent_is = sent_is; aged_is = aged_is; text_is = refl }
+pub left_first : (port : ℕ) (s : Settings) (sent : List Sent) (aged : List Aged) (start : List ℕ) → LeftOf port s sent aged sent aged 0 start start
+left_first port s sent aged start all order sent_is aged_is = record { events = all; order = order; sent_is = sent_is; aged_is = aged_is; text_is = refl }
 
 aged_late : (t : ℕ) (events : List Event) (a : Aged) (aged : List Aged) → AllByRecursion (λ event. t < instant event) events → aged_of events ≡ a ∷ aged → t < a.at
 aged_late t [] a aged late is = absurd (let e : [] ≡ a ∷ aged = is in cc)
@@ -78,51 +78,51 @@ some_aged sent (a ∷ aged) next = omega arith
 grown : (start all text line more longer : List ℕ) → start ++ all ≡ text ++ (line ++ more) → longer ≡ text ++ line → start ++ all ≡ longer ++ more
 grown start all text line more longer before is = before ∙ sym (append_assoc text line more) ∙ sym (ap (λ (t : List ℕ). t ++ more) is)
 
-one_aged : (p : PortRow) (all events : List Event) (sent : List Sent) (a : Aged) (aged : List Aged) (number : ℕ) (start text longer : List ℕ) → starts_aged events ≡ true → AreInOrder events
-    → sent_of events ≡ sent → aged_of events ≡ a ∷ aged → start ++ event_lines p 0 all ≡ text ++ event_lines p number events → longer ≡ text ++ aged_line p a
-    → Left p all sent aged number start longer
-one_aged p all [] sent a aged number start text longer next order sent_is aged_is before is = not_both next
-one_aged p all (sending x ∷ events) sent a aged number start text longer next order sent_is aged_is before is = not_both next
-one_aged p all (aging b ∷ events) sent a aged number start text longer next order sent_is aged_is before is = record {
+one_aged : (port : ℕ) (s : Settings) (all events : List Event) (sent : List Sent) (a : Aged) (aged : List Aged) (number : ℕ) (start text longer : List ℕ) → starts_aged events ≡ true → AreInOrder events
+    → sent_of events ≡ sent → aged_of events ≡ a ∷ aged → start ++ event_lines port s 0 all ≡ text ++ event_lines port s number events → longer ≡ text ++ aged_line port s a
+    → Left port s all sent aged number start longer
+one_aged port s all [] sent a aged number start text longer next order sent_is aged_is before is = not_both next
+one_aged port s all (sending x ∷ events) sent a aged number start text longer next order sent_is aged_is before is = not_both next
+one_aged port s all (aging b ∷ events) sent a aged number start text longer next order sent_is aged_is before is = record {
   events = events;
   order = order.1;
   sent_is = sent_is;
   aged_is = ap (drop 1) aged_is;
-  text_is = grown start (event_lines p 0 all) text (aged_line p b) (event_lines p number events) longer before (is ∙ ap (λ (xs : List Aged). text ++ aged_line p (get_or xs 0 a)) (sym aged_is));
+  text_is = grown start (event_lines port s 0 all) text (aged_line port s b) (event_lines port s number events) longer before (is ∙ ap (λ (xs : List Aged). text ++ aged_line port s (get_or xs 0 a)) (sym aged_is));
 }
 
-one_sent : (p : PortRow) (all events : List Event) (x : Sent) (sent : List Sent) (aged : List Aged) (number : ℕ) (start text longer : List ℕ) → starts_aged events ≡ false → AreInOrder events
-    → sent_of events ≡ x ∷ sent → aged_of events ≡ aged → start ++ event_lines p 0 all ≡ text ++ event_lines p number events → longer ≡ text ++ sent_line p (number + 1) x
-    → Left p all sent aged (number + 1) start longer
-one_sent p all [] x sent aged number start text longer next order sent_is aged_is before is = absurd (let none : 0 ≡ length (x ∷ sent) = ap length sent_is in omega (arith, none))
-one_sent p all (aging a ∷ events) x sent aged number start text longer next order sent_is aged_is before is = not_both (sym next)
-one_sent p all (sending y ∷ events) x sent aged number start text longer next order sent_is aged_is before is = record {
+one_sent : (port : ℕ) (s : Settings) (all events : List Event) (x : Sent) (sent : List Sent) (aged : List Aged) (number : ℕ) (start text longer : List ℕ) → starts_aged events ≡ false → AreInOrder events
+    → sent_of events ≡ x ∷ sent → aged_of events ≡ aged → start ++ event_lines port s 0 all ≡ text ++ event_lines port s number events → longer ≡ text ++ sent_line port s (number + 1) x
+    → Left port s all sent aged (number + 1) start longer
+one_sent port s all [] x sent aged number start text longer next order sent_is aged_is before is = absurd (let none : 0 ≡ length (x ∷ sent) = ap length sent_is in omega (arith, none))
+one_sent port s all (aging a ∷ events) x sent aged number start text longer next order sent_is aged_is before is = not_both (sym next)
+one_sent port s all (sending y ∷ events) x sent aged number start text longer next order sent_is aged_is before is = record {
   events = events;
   order = order.1;
   sent_is = ap (drop 1) sent_is;
   aged_is = aged_is;
-  text_is = grown start (event_lines p 0 all) text (sent_line p (number + 1) y) (event_lines p (number + 1) events) longer before
-      (is ∙ ap (λ (xs : List Sent). text ++ sent_line p (number + 1) (get_or xs 0 x)) (sym sent_is));
+  text_is = grown start (event_lines port s 0 all) text (sent_line port s (number + 1) y) (event_lines port s (number + 1) events) longer before
+      (is ∙ ap (λ (xs : List Sent). text ++ sent_line port s (number + 1) (get_or xs 0 x)) (sym sent_is));
 }
 
 -- what the lists tell of the events
-told : (p : PortRow) (all : List Event) (sent : List Sent) (aged : List Aged) (number : ℕ) (start text : List ℕ) (l : Left p all sent aged number start text)
+told : (port : ℕ) (s : Settings) (all : List Event) (sent : List Sent) (aged : List Aged) (number : ℕ) (start text : List ℕ) (l : Left port s all sent aged number start text)
     → ages_next sent aged ≡ starts_aged l.events
-told p all sent aged number start text l = sym (ap (λ (xs : List Sent). ages_next xs aged) l.sent_is) ∙ sym (ap (ages_next (sent_of l.events)) l.aged_is) ∙ tells_next l.events l.order
+told port s all sent aged number start text l = sym (ap (λ (xs : List Sent). ages_next xs aged) l.sent_is) ∙ sym (ap (ages_next (sent_of l.events)) l.aged_is) ∙ tells_next l.events l.order
 
-pub left_aged : (p : PortRow) (sent₀ sent : List Sent) (aged₀ before_aged : List Aged) (a : Aged) (aged : List Aged) (number : ℕ) (start text longer : List ℕ)
+pub left_aged : (port : ℕ) (s : Settings) (sent₀ sent : List Sent) (aged₀ before_aged : List Aged) (a : Aged) (aged : List Aged) (number : ℕ) (start text longer : List ℕ)
     → ages_next sent before_aged ≡ true → before_aged ≡ a ∷ aged
-    → longer ≡ text ++ aged_line p a → LeftOf p sent₀ aged₀ sent before_aged number start text → LeftOf p sent₀ aged₀ sent aged number start longer
-left_aged p sent₀ sent aged₀ before_aged a aged number start text longer next parts is before all order sent_is aged_is =
+    → longer ≡ text ++ aged_line port s a → LeftOf port s sent₀ aged₀ sent before_aged number start text → LeftOf port s sent₀ aged₀ sent aged number start longer
+left_aged port s sent₀ sent aged₀ before_aged a aged number start text longer next parts is before all order sent_is aged_is =
     let l = before all order sent_is aged_is in
-    one_aged p all l.events sent a aged number start text longer (sym (told p all sent before_aged number start text l) ∙ next) l.order l.sent_is (l.aged_is ∙ parts) l.text_is is
+    one_aged port s all l.events sent a aged number start text longer (sym (told port s all sent before_aged number start text l) ∙ next) l.order l.sent_is (l.aged_is ∙ parts) l.text_is is
 
-pub left_sent : (p : PortRow) (sent₀ before_sent : List Sent) (x : Sent) (sent : List Sent) (aged₀ aged : List Aged) (number : ℕ) (start text longer : List ℕ)
+pub left_sent : (port : ℕ) (s : Settings) (sent₀ before_sent : List Sent) (x : Sent) (sent : List Sent) (aged₀ aged : List Aged) (number : ℕ) (start text longer : List ℕ)
     → ages_next before_sent aged ≡ false → before_sent ≡ x ∷ sent
-    → longer ≡ text ++ sent_line p (number + 1) x → LeftOf p sent₀ aged₀ before_sent aged number start text → LeftOf p sent₀ aged₀ sent aged (number + 1) start longer
-left_sent p sent₀ before_sent x sent aged₀ aged number start text longer next parts is before all order sent_is aged_is =
+    → longer ≡ text ++ sent_line port s (number + 1) x → LeftOf port s sent₀ aged₀ before_sent aged number start text → LeftOf port s sent₀ aged₀ sent aged (number + 1) start longer
+left_sent port s sent₀ before_sent x sent aged₀ aged number start text longer next parts is before all order sent_is aged_is =
     let l = before all order sent_is aged_is in
-    one_sent p all l.events x sent aged number start text longer (sym (told p all before_sent aged number start text l) ∙ next) l.order (l.sent_is ∙ parts) l.aged_is l.text_is is
+    one_sent port s all l.events x sent aged number start text longer (sym (told port s all before_sent aged number start text l) ∙ next) l.order (l.sent_is ∙ parts) l.aged_is l.text_is is
 
 -- no event is left
 none_sent : (sent : List Sent) → length sent ≡ 0 → sent ≡ []
@@ -133,14 +133,14 @@ none_aged : (aged : List Aged) → length aged ≡ 0 → aged ≡ []
 none_aged [] none = refl
 none_aged (a ∷ aged) none = absurd (omega (arith, none))
 
-none_left : (p : PortRow) (events : List Event) (number : ℕ) → sent_of events ≡ [] → aged_of events ≡ [] → event_lines p number events ≡ []
-none_left p [] number no_sent no_aged = refl
-none_left p (sending x ∷ events) number no_sent no_aged = absurd (let none : length (x ∷ sent_of events) ≡ 0 = ap length no_sent in omega (arith, none))
-none_left p (aging a ∷ events) number no_sent no_aged = absurd (let none : length (a ∷ aged_of events) ≡ 0 = ap length no_aged in omega (arith, none))
+none_left : (port : ℕ) (s : Settings) (events : List Event) (number : ℕ) → sent_of events ≡ [] → aged_of events ≡ [] → event_lines port s number events ≡ []
+none_left port s [] number no_sent no_aged = refl
+none_left port s (sending x ∷ events) number no_sent no_aged = absurd (let none : length (x ∷ sent_of events) ≡ 0 = ap length no_sent in omega (arith, none))
+none_left port s (aging a ∷ events) number no_sent no_aged = absurd (let none : length (a ∷ aged_of events) ≡ 0 = ap length no_aged in omega (arith, none))
 
-pub all_told : (p : PortRow) (sent₀ sent : List Sent) (aged₀ aged : List Aged) (number : ℕ) (start text : List ℕ) → length sent ≡ 0 → length aged ≡ 0
-    → LeftOf p sent₀ aged₀ sent aged number start text
-    → (events : List Event) → AreInOrder events → sent_of events ≡ sent₀ → aged_of events ≡ aged₀ → text ≡ start ++ event_lines p 0 events
-all_told p sent₀ sent aged₀ aged number start text no_sent no_aged before events order sent_is aged_is =
+pub all_told : (port : ℕ) (s : Settings) (sent₀ sent : List Sent) (aged₀ aged : List Aged) (number : ℕ) (start text : List ℕ) → length sent ≡ 0 → length aged ≡ 0
+    → LeftOf port s sent₀ aged₀ sent aged number start text
+    → (events : List Event) → AreInOrder events → sent_of events ≡ sent₀ → aged_of events ≡ aged₀ → text ≡ start ++ event_lines port s 0 events
+all_told port s sent₀ sent aged₀ aged number start text no_sent no_aged before events order sent_is aged_is =
     let l = before events order sent_is aged_is in
-    sym (l.text_is ∙ ap (λ (t : List ℕ). text ++ t) (none_left p l.events number (l.sent_is ∙ none_sent sent no_sent) (l.aged_is ∙ none_aged aged no_aged)) ∙ append-nil text)
+    sym (l.text_is ∙ ap (λ (t : List ℕ). text ++ t) (none_left port s l.events number (l.sent_is ∙ none_sent sent no_sent) (l.aged_is ∙ none_aged aged no_aged)) ∙ append-nil text)

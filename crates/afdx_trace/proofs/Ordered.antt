@@ -2,7 +2,7 @@
 use Rattle.std.proofs.Common.{ℕ, zero, suc, ◌+◌, ◌-◌, ◌<◌, ◌≤◌, max, nat_lt, Bool, true, false, cond, List, [], ◌∷◌, length, filter, arith}
 use Rattle.std.specs.List.{AllByRecursion}
 use Rattle.afdx_units.specs.declared.line.Speed.{Speed}
-use Rattle.afdx_units.specs.declared.line.Speed.TheVariants.{Ten, Hundred}
+use Rattle.afdx_units.specs.declared.line.Speed.TheVariants.{Ten, Hundred, Thousand}
 use Rattle.afdx_units.specs.Line.{cost_of}
 use Rattle.afdx_port.specs.declared.Settings.{Settings}
 use Rattle.afdx_port.specs.declared.Item.{Item}
@@ -28,6 +28,7 @@ none_at t u (event ∷ events) lt late = (let h = late.0 in omega (arith, h, lt)
 takes_time : (speed : Speed) (size : ℕ) → 0 < cost_of speed size
 takes_time Ten size = omega arith
 takes_time Hundred size = omega arith
+takes_time Thousand size = omega arith
 
 -- an event, and those that lie no sooner than the line is free after it
 event_first : (s : Settings) (b : ℕ) (x : Item) (events : List Event) → NoneBefore (free_after (fate s b x)) events → AreInOrder events

@@ -5,6 +5,7 @@ use Rattle.std.specs.List.{AllByRecursion, list_any}
 use Rattle.std.proofs.Math.Seq.{get_or-append_seam}
 use Rattle.std.proofs.lemmas.List.{get_or_append_left, get_or_past, length-append}
 use Rattle.std.proofs.lemmas.Bool.{cases_lt}
+use Rattle.std.proofs.lemmas.Bool.Decides.{nat_tests}
 use Rattle.afdx_table.specs.declared.rows.PortRow.{PortRow}
 use Rattle.afdx_table.specs.Content.{port_row}
 use Rattle.afdx_table.specs.WellFormed.{IsPort, IsWellFormed}
@@ -13,7 +14,6 @@ use Rattle.afdx_port.specs.declared.Aged.{Aged}
 use Rattle.afdx_core.specs.State.{Run, sent_in, aged_in}
 use Rattle.afdx_trace.specs.Arrivals.{took, refusing}
 use Rattle.afdx_trace.specs.Taken.{flag_at, unflagged, AreTaken}
-use Rattle.afdx_trace.proofs.Found.{below}
 
 -- the flags of the ports below this one
 abbrev pub AreTakenBelow : Run → ℕ → List (List Bool) → Type 0
@@ -39,6 +39,9 @@ taken_more r all flags port long new before q number lt within =
           ap (λ (fs : List Bool). get_or fs number false) here ∙ own
           )
     ]
+
+below : (a b : ℕ) → a < b → (a == b) ≡ false
+below a b lt = grind (arith, nat_tests)
 
 -- a table has no port above 24
 no_port : (ports : List PortRow) (port : ℕ) → AllByRecursion IsPort ports → 24 < port → find (λ (p : PortRow). p.id == port) ports ≡ None

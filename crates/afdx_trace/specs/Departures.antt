@@ -25,23 +25,23 @@ priority_word Low = codes "low"
 abbrev pub item_fields : Settings → Item → List ℕ
 item_fields s x = flat_map field (decimal x.number ∷ decimal x.link ∷ priority_word x.priority ∷ decimal x.size ∷ decimal (came s x) ∷ [])
 
--- a copy that was sent, as the record of this number of the port's output; its delay is reckoned from the stamp of its frame
-abbrev pub sent_line : ℕ → PortRow → ℕ → Sent → List ℕ
-sent_line latency p number x = decimal p.id ++ field (decimal number) ++ item_fields (settings_of latency p) x.item
+-- a copy that a port sent, as the record of this number of its output; its delay is reckoned from the stamp of its frame
+abbrev pub sent_line : ℕ → Settings → ℕ → Sent → List ℕ
+sent_line port s number x = decimal port ++ field (decimal number) ++ item_fields s x.item
     ++ flat_map field (decimal x.begin ∷ decimal x.end ∷ decimal (x.end - x.item.stamp) ∷ codes "sent\n" ∷ [])
 
--- a copy that was given up for its age at an instant: it is no record, and leaves at none
-abbrev pub aged_line : ℕ → PortRow → Aged → List ℕ
-aged_line latency p x = decimal p.id ++ field [] ++ item_fields (settings_of latency p) x.item ++ flat_map field (decimal x.at ∷ [] ∷ [] ∷ codes "aged\n" ∷ [])
+-- a copy that a port gave up for its age at an instant: it is no record, and leaves at none
+abbrev pub aged_line : ℕ → Settings → Aged → List ℕ
+aged_line port s x = decimal port ++ field [] ++ item_fields s x.item ++ flat_map field (decimal x.at ∷ [] ∷ [] ∷ codes "aged\n" ∷ [])
 
 -- a port's events in order, where so many copies were sent before them
-abbrev pub event_lines : ℕ → PortRow → ℕ → List Event → List ℕ
-event_lines latency p before [] = []
-event_lines latency p before (sending x ∷ events) = sent_line latency p (before + 1) x ++ event_lines latency p (before + 1) events
-event_lines latency p before (aging x ∷ events) = aged_line latency p x ++ event_lines latency p before events
+abbrev pub event_lines : ℕ → Settings → ℕ → List Event → List ℕ
+event_lines port s before [] = []
+event_lines port s before (sending x ∷ events) = sent_line port s (before + 1) x ++ event_lines port s (before + 1) events
+event_lines port s before (aging x ∷ events) = aged_line port s x ++ event_lines port s before events
 
 abbrev pub port_lines : Run → PortRow → List ℕ
-port_lines r p = event_lines r.table.latency p 0 (done (port_in r p))
+port_lines r p = event_lines p.id (settings_of r.table.latency p) 0 (done (port_in r p))
 
 -- a heading, then each port by rising number
 abbrev pub departures_text : Run → List ℕ

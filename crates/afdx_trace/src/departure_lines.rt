@@ -1,6 +1,6 @@
 //! The copies that ports sent or gave up.
 
-ghost use Rattle.std.specs.Prelude.{◌≡◌, ◌+◌, ◌<◌, ◌∷◌, ◌++◌, List, length, Some, false, IsTrue, string_bytes, IfOk, OnOk};
+ghost use Rattle.std.specs.Prelude.{◌≡◌, ◌+◌, ◌<◌, ◌≤◌, ◌∷◌, ◌++◌, List, length, Some, false, IsTrue, string_bytes, IfOk, OnOk};
 ghost use Rattle.afdx_table.specs.Content.{port_row};
 ghost use Rattle.afdx_port.specs.Service.{Event, sent_of, aged_of};
 ghost use Rattle.afdx_isolation.specs.Table.{settings_of};
@@ -11,19 +11,22 @@ use crate::laws::events_are_in_order;
 use afdx_core::Done;
 use afdx_port::{Aged, Item, Sent, Settings};
 use afdx_table::PortRow;
+use afdx_table::laws::ports_are_found;
 use afdx_units::Priority;
 use std::alloc::{AllocError, Allocator};
 
 /// The names of the fields.
 const HEADING: &str = "port,record,frame,link,priority,size,came,start,left,delay,outcome\n";
 
-fn settings_of(port: &PortRow) -> Settings
-    ensures { result ≡ settings_of port.now }
+/// What a port of a switch of this latency is set to.
+fn settings_of(latency: u64, port: &PortRow) -> Settings
+    ensures { result ≡ settings_of latency port.now }
 {
     Settings {
         speed: port.speed,
         buffer: port.buffer,
         max_delay: port.max_delay,
+        latency,
     }
 }
 
@@ -42,44 +45,49 @@ fn put_item<A: Allocator + Copy>(
     settings: &Settings,
     item: &Item,
 ) -> Result<(), AllocError>
+    requires { settings.now.latency ≤ 100000 }
     ensures { OnOk result (string_bytes text.new ≡ string_bytes text.old ++ item_fields settings.now item.now) }
 {
     put_number(text, item.number as u64)?;
     put_number(text, u64::from(item.link))?;
     put_word(text, priority_word(item.priority))?;
     put_number(text, u64::from(item.size))?;
-    put_number(text, item.came(settings).ns())
+    put_number(text, item.came(settings))
 }
 
-/// Appends the line of a copy that was sent, as the record of this number.
+/// Appends the line of a copy that a port sent, as the record of this number.
 fn put_sent<A: Allocator + Copy>(
     text: &mut String<A>,
-    port: &PortRow,
+    port: u8,
+    settings: &Settings,
     number: usize,
     sent: &Sent,
 ) -> Result<(), AllocError>
-    ensures { OnOk result (string_bytes text.new ≡ string_bytes text.old ++ sent_line port.now number sent.now) }
+    requires { settings.now.latency ≤ 100000 }
+    ensures { OnOk result (string_bytes text.new ≡ string_bytes text.old ++ sent_line port settings.now number sent.now) }
 {
-    write!(text, "{}", port.id)?;
+    write!(text, "{port}")?;
     put_number(text, number as u64)?;
-    put_item(text, &settings_of(port), &sent.item)?;
+    put_item(text, settings, &sent.item)?;
     put_number(text, sent.begin.ns())?;
     put_number(text, sent.end.ns())?;
     put_number(text, sent.end.ns().saturating_sub(sent.item.stamp.ns()))?;
     put_word(text, "sent\n")
 }
 
-/// Appends the line of a copy that was given up.
+/// Appends the line of a copy that a port gave up.
 fn put_aged<A: Allocator + Copy>(
     text: &mut String<A>,
-    port: &PortRow,
+    port: u8,
+    settings: &Settings,
     aged: &Aged,
 ) -> Result<(), AllocError>
-    ensures { OnOk result (string_bytes text.new ≡ string_bytes text.old ++ aged_line port.now aged.now) }
+    requires { settings.now.latency ≤ 100000 }
+    ensures { OnOk result (string_bytes text.new ≡ string_bytes text.old ++ aged_line port settings.now aged.now) }
 {
-    write!(text, "{}", port.id)?;
+    write!(text, "{port}")?;
     put_word(text, "")?;
-    put_item(text, &settings_of(port), &aged.item)?;
+    put_item(text, settings, &aged.item)?;
     put_number(text, aged.at.ns())?;
     put_word(text, ",,aged\n")
 }
@@ -115,23 +123,25 @@ fn split<T>(items: &[T]) -> (&T, &[T])
 /// Appends the lines of a port's events, in order.
 fn put_events<A: Allocator + Copy>(
     text: &mut String<A>,
-    port: &PortRow,
+    port: u8,
+    settings: &Settings,
     mut sent: &[Sent],
     mut aged: &[Aged],
 ) -> Result<(), AllocError>
+    requires { settings.now.latency ≤ 100000 }
     ensures { (events : List Event) → AreInOrder events → sent_of events ≡ sent.now → aged_of events ≡ aged.now
-        → OnOk result (string_bytes text.new ≡ string_bytes text.old ++ event_lines port.now 0 events) }
+        → OnOk result (string_bytes text.new ≡ string_bytes text.old ++ event_lines port settings.now 0 events) }
 {
     let mut number = 0;
     while some_left(sent, aged) {
         if ages_next(sent, aged) {
             let (next, others) = split(aged);
-            put_aged(text, port, next)?;
+            put_aged(text, port, settings, next)?;
             aged = others;
         } else {
             let (next, others) = split(sent);
             number += 1;
-            put_sent(text, port, number, next)?;
+            put_sent(text, port, settings, number, next)?;
             sent = others;
         }
     }
@@ -148,7 +158,14 @@ fn put_port<A: Allocator + Copy, B: Allocator + Copy>(
     ensures { OnOk result (string_bytes text.new ≡ string_bytes text.old ++ port_lines done.now.run port.now) }
 {
     events_are_in_order();
-    put_events(text, port, done.sent(port.id), done.aged(port.id))
+    let settings = settings_of(done.table().latency(), port);
+    put_events(
+        text,
+        port.id,
+        &settings,
+        done.sent(port.id),
+        done.aged(port.id),
+    )
 }
 
 /// A line for each copy that a port sent or gave up, after a heading: for each port by rising number its events in order.
@@ -160,6 +177,7 @@ pub fn departures<A: Allocator + Copy, B: Allocator + Copy>(
 ) -> Result<String<A>, AllocError>
     ensures { IfOk result (λ text. string_bytes text ≡ departures_text done.now.run) }
 {
+    ports_are_found();
     let mut text = String::new(alloc);
     text.push_str(HEADING)?;
     for port in done.table().ports() {

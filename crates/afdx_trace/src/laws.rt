@@ -1,9 +1,19 @@
 //! Laws over the definitions.
 
-ghost use Rattle.afdx_trace.specs.Laws.{EventsAreInOrder};
+ghost use Rattle.afdx_trace.specs.Laws.{EventsAreInOrder, FullIsExact};
+
+use afdx_port::laws::each_has_one_event;
 
 /// The events of a port are in order of their instants, and a copy that is given up at the instant at which another starts
 /// comes before it.
 pub fn events_are_in_order()
     ensures { EventsAreInOrder }
 {}
+
+/// Once all is carried out, the ports that are told to have refused a copy are those that answered `Full` to it: whose
+/// buffer had no room for it.
+pub fn full_is_exact()
+    ensures { FullIsExact }
+{
+    each_has_one_event();
+}

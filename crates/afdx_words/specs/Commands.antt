@@ -41,11 +41,18 @@ unfoldable pub measure_app : App
 measure_app =
     with_rule (with_rule (with_rule (new_app (codes "measure")) (path_rule (codes "TABLE"))) (path_rule (codes "IN"))) (flag_rule (codes "unchecked"))
 
+-- afdx trace TABLE IN OUT [--unchecked]
+unfoldable pub trace_app : App
+trace_app =
+    with_rule (with_rule (with_rule (with_rule (new_app (codes "trace")) (path_rule (codes "TABLE"))) (path_rule (codes "IN"))) (path_rule (codes "OUT")))
+    (flag_rule (codes "unchecked"))
+
 -- afdx, which wants a subcommand and tells its version
 abbrev pub bare_program : App
 bare_program = on_top (λ s. record s { subcommand_required = true; has_version = true }) (new_app (codes "afdx"))
 
 unfoldable pub program : App
 program =
-    with_subcommand (with_subcommand (with_subcommand (with_subcommand (with_subcommand bare_program alone_app.top) check_app.top) size_app.top) run_app.top)
-    measure_app.top
+    with_subcommand
+    (with_subcommand (with_subcommand (with_subcommand (with_subcommand (with_subcommand bare_program alone_app.top) check_app.top) size_app.top) run_app.top) measure_app.top)
+    trace_app.top

@@ -60,6 +60,7 @@ AsksFor (Some (name, rows)) (request.Check table) = (name ≡ codes "check") × 
 AsksFor (Some (name, rows)) (request.Size table) = (name ≡ codes "size") × (first_of (codes "TABLE") rows ≡ Some table.now)
 AsksFor (Some (name, rows)) (request.Run paths) = (name ≡ codes "run") × HasPaths rows paths
 AsksFor (Some (name, rows)) (request.Measure inputs) = (name ≡ codes "measure") × HasInputs rows inputs
+AsksFor (Some (name, rows)) (request.Trace paths) = (name ≡ codes "trace") × HasPaths rows paths
 
 -- `clap` takes the words, and its entries ask for this
 abbrev pub Asks : List Text → Request → Type 0

@@ -3,7 +3,7 @@
 ghost use Rattle.std.specs.Prelude.{◌≡◌, false, IfOk};
 ghost use Rattle.clap.specs.Words.{app_of, new_app, rule_of};
 ghost use Rattle.clap.specs.declared.builder.command.Command.TheViews.{out-Command};
-ghost use Rattle.afdx_words.specs.Commands.{number_rule, path_rule, flag_rule, alone_app, check_app, size_app, run_app, measure_app, bare_program, program};
+ghost use Rattle.afdx_words.specs.Commands.{number_rule, path_rule, flag_rule, alone_app, check_app, size_app, run_app, measure_app, trace_app, bare_program, program};
 
 use clap::builder::ValueParser;
 use clap::{Arg, ArgAction, Command};
@@ -90,6 +90,18 @@ Status: 0 told, 2 words, 3 no table or capture, 4 a port cannot give what its
 links ask for, 5 memory or a device.
 
 Example: afdx measure table.toml in";
+
+/// What the help of `trace` says at its end.
+const TRACE: &str = "Runs as run does, and puts two files of comma-separated values with a heading into
+OUT, which must be there, in place of the captures: arrivals.csv has a line for
+each frame that came in, with its fate, how many ns too early a policed one came,
+and the ports whose buffers were full; departures.csv has one for each copy that a
+port sent or gave up. A file is written beside its name and then moved onto it.
+
+Status: 0 done, 2 words, 3 no table or capture, 4 a port cannot give what its
+links ask for, 5 memory or a device.
+
+Example: mkdir told && afdx trace table.toml in told";
 
 /// What the program says of its version: its own number, and the kit that it is proved with.
 const VERSION: &str = "0.1.0\nrattle-kit-13b logic dac8208d650f15bf";
@@ -181,6 +193,23 @@ fn measure<'a>(alloc: Global) -> Result<Command<'a>, AllocError>
         ))
 }
 
+#[tactic(auto, unfolding(crate::specs::Commands::trace_app))]
+fn trace<'a>(alloc: Global) -> Result<Command<'a>, AllocError>
+    ensures app { IfOk result (λ c. app_of c ≡ trace_app) }
+    ensures local { IfOk result (λ c. (out-Command c).has_globals ≡ false) }
+{
+    let about = "Tells what became of each frame and of each copy";
+    wordless(alloc, "trace", about, TRACE)
+        .arg(path(alloc, "TABLE", "The configuration table"))?
+        .arg(path(alloc, "IN", "The folder of port-1.pcap and so on"))?
+        .arg(path(
+            alloc,
+            "OUT",
+            "The folder for arrivals.csv and departures.csv",
+        ))?
+        .arg(flag(alloc, "unchecked", "Runs a table whatever its load"))
+}
+
 /// The program without its commands.
 fn bare_program<'a>(alloc: Global) -> Command<'a>
     ensures { app_of result ≡ bare_program }
@@ -201,10 +230,12 @@ pub(crate) fn program<'a>(alloc: Global) -> Result<Command<'a>, AllocError>
     let size = size(alloc)?;
     let run = run(alloc)?;
     let measure = measure(alloc)?;
+    let trace = trace(alloc)?;
     bare_program(alloc)
         .subcommand(alone)?
         .subcommand(check)?
         .subcommand(size)?
         .subcommand(run)?
-        .subcommand(measure)
+        .subcommand(measure)?
+        .subcommand(trace)
 }

@@ -9,7 +9,7 @@ pub struct Paths<'a> {
     pub table: &'a str,
     /// The folder of the captures that come in.
     pub input: &'a str,
-    /// The folder of the captures that go out.
+    /// The folder of the files that are put.
     pub output: &'a str,
     /// Whether the table's load is left unchecked.
     pub unchecked: bool,
@@ -39,6 +39,8 @@ pub enum Request<'a> {
     Run(Paths<'a>),
     /// The delays and the buffers of such a run.
     Measure(Inputs<'a>),
+    /// What became of each frame and of each copy of such a run.
+    Trace(Paths<'a>),
 }
 
 /// Why the words ask for no command.

@@ -111,6 +111,9 @@ fn asked<'a>(matches: &ArgMatches<'a>) -> Option<Request<'a>>
     } else if name == "measure" {
         let inputs = inputs_of(inner)?;
         Some(Request::Measure(inputs))
+    } else if name == "trace" {
+        let paths = paths_of(inner)?;
+        Some(Request::Trace(paths))
     } else {
         None
     }

@@ -1,14 +1,15 @@
 use Rattle.std.proofs.Common.{◌<◌, ◌≤◌, ℕ, List, ◌++◌, length, string_bytes, ap, subst, ◌∙◌, rules}
+use Rattle.std.proofs.lemmas.List.Elements.{Contains-get_or}
 use Rattle.afdx_table.specs.declared.rows.PortRow.{PortRow}
 use Rattle.afdx_serve.specs.Checks.{AreLinesOf}
-use Rattle.afdx_serve.proofs.CheckLemmas.{found, one_more_line, last_line}
+use Rattle.afdx_serve.proofs.CheckLemmas.{one_more_line, last_line}
 use Rattle.afdx_serve.proofs.check.port_lines.Goals as goal
 
 pub port_line-requires : goal.port_line-requires
 port_line-requires c =
     let within : c.loop-row.row-index < length c.args.table.now.ports = search rules in
     rw c.loads-loads.ensures
-    (rw c.loop-row.invariant.all (found c.args.table.now.ports c.loop-row.row-index _ c.ports-row-items.ensures.well_formed.ports_rise within))
+    (rw c.loop-row.invariant.all (c.ports_are_found.ensures c.args.table.now c.ports-row-items.ensures.well_formed _ (Contains-get_or c.args.table.now.ports c.loop-row.row-index _ within)))
 
 pub loop-row-preserved : goal.loop-row-preserved
 loop-row-preserved c =

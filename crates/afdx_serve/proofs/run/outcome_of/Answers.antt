@@ -1,0 +1,17 @@
+use Rattle.afdx_session.specs.Texts.{texts_of}
+use Rattle.afdx_serve.proofs.RunLemmas.{of_error, gathered}
+use Rattle.afdx_serve.proofs.run.outcome_of.Goals as goal
+
+pub lead-requires : goal.lead-requires
+lead-requires g c = rw c.deref.ensures.value c.in_ok-plan.ensures.got.0.has_captures.0
+
+pub returns-in_err-plan-clause-led : goal.returns-in_err-plan-clause-led
+returns-in_err-plan-clause-led g c =
+    let fails = rw c.inputs_of.ensures at c.in_err-plan.ensures.got in
+    of_error _ _ _ c.in_err-plan.field-0.0 c.from_residual.ensures fails
+
+pub returns-clause-led : goal.returns-clause-led
+returns-clause-led g c =
+    let of = rw c.inputs_of.ensures at c.in_ok-plan.ensures.got in
+    let led = rw c.deref.ensures.value at c.lead.ensures in
+    gathered c.args.paths.now (g.F.Folder.files c.args.folder.now) c.in_ok-plan.plan (texts_of c.in_ok-plan.captures.items) _ _ of.0 of.1 c.lead.result led

@@ -1,0 +1,52 @@
+-- What is put of what became of each frame of a folder's captures.
+use Rattle.std.specs.Prelude.{◌≡◌, ℕ, false, not, codes, List, [], ◌∷◌, ◌++◌, Option}
+use Rattle.afdx_table.specs.Content.{Content}
+use Rattle.afdx_core.specs.Isolation.{IsIsolated}
+use Rattle.afdx_core.specs.State.{Run, State}
+use Rattle.afdx_trace.specs.Arrivals.{arrivals_text}
+use Rattle.afdx_trace.specs.Departures.{departures_text}
+use Rattle.afdx_session.specs.Texts.{Text}
+use Rattle.afdx_session.specs.Outcome.{IsDoneOf}
+use Rattle.afdx_words.specs.declared.request.Paths.{Paths}
+use Rattle.afdx_serve.specs.declared.failure.Failure.{Failure}
+use Rattle.afdx_serve.specs.Files.{Files, PutsFiles, DeviceLog}
+use Rattle.afdx_serve.specs.Runs.{inputs_of, HasPlan, HasCaptures, StopsAt, FailsToEnd}
+
+-- profile: the names of the two files in a folder, in the order in which they are put
+abbrev pub arrivals_name : List ℕ → List ℕ
+arrivals_name folder = folder ++ codes "/arrivals.csv"
+
+abbrev pub departures_name : List ℕ → List ℕ
+departures_name folder = folder ++ codes "/departures.csv"
+
+abbrev pub trace_names : List ℕ → List (List ℕ)
+trace_names folder = arrivals_name folder ∷ departures_name folder ∷ []
+
+-- what is told of a finished switch
+abbrev pub trace_texts : Run → List (List ℕ)
+trace_texts r = arrivals_text r ∷ departures_text r ∷ []
+
+-- the files hold a table and captures, and this is the finished switch of them; over a checked table the headline holds of it
+pub record TracesTo (paths : Paths) (files : Option Files) (s : State) : Type 0 where
+  pub table : Content
+  pub captures : List Text
+  pub has_plan : HasPlan files (inputs_of paths) table
+  pub has_captures : HasCaptures files paths.input.now table captures
+  pub is_done : IsDoneOf (not paths.unchecked) table captures s
+  pub isolated : paths.unchecked ≡ false → IsIsolated s.run
+
+-- it leads to these two texts
+abbrev pub IsTraceIn : Paths → Option Files → List (List ℕ) → Type 0
+IsTraceIn paths files texts = (s : State) × TracesTo paths files s × (texts ≡ trace_texts s.run)
+
+-- they were put
+abbrev pub PutsTrace : Paths → Option Files → Option Files → Type 0
+PutsTrace paths old new = (s : State) × TracesTo paths old s × PutsFiles old new (trace_names paths.output.now) (trace_texts s.run)
+
+-- those before this name were put
+abbrev pub StopsTrace : List ℕ → Paths → Option Files → Option Files → Type 0
+StopsTrace name paths old new = (s : State) × TracesTo paths old s × StopsAt name (trace_names paths.output.now) (trace_texts s.run) old new
+
+-- they were not put
+abbrev pub FailsToTrace : Failure → Paths → Option Files → Option Files → DeviceLog → DeviceLog → Type 0
+FailsToTrace f paths old new before after = FailsToEnd (λ name. StopsTrace name paths old new) f paths old new before after

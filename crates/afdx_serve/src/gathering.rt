@@ -1,0 +1,59 @@
+//! What a run is made of: its plan, and the captures of its ports.
+
+ghost use Rattle.std.specs.Prelude.{◌≡◌, false, not, MatchResult};
+ghost use Rattle.afdx_load.specs.Accepted.{IsAccepted};
+ghost use Rattle.afdx_session.specs.Texts.{texts_of};
+ghost use Rattle.afdx_session.specs.Outcome.{table_in, is_cleared};
+ghost use Rattle.afdx_serve.specs.Files.{KeepsFiles};
+ghost use Rattle.afdx_serve.specs.Runs.{inputs_of, IsRunOf, FailsToPlan, FailsToGather};
+
+use crate::failure::Failure;
+use crate::folder::Folder;
+use crate::get::{get_captures, get_table};
+use afdx_session::Plan;
+use afdx_table::Table;
+use afdx_words::{Inputs, Paths};
+use std::alloc::Global;
+
+/// What a run is made of, beside where it goes.
+pub(crate) fn inputs_of<'a>(paths: &Paths<'a>) -> Inputs<'a>
+    ensures { result ≡ inputs_of paths.now }
+{
+    Inputs {
+        table: paths.table,
+        input: paths.input,
+        unchecked: paths.unchecked,
+    }
+}
+
+/// The plan of a run over a table, which is accepted unless the run is unchecked.
+fn plan(table: Table, unchecked: bool) -> Result<Plan, Failure>
+    ensures { MatchResult result
+        (λ plan. (table_in plan ≡ table) × (is_cleared plan ≡ not unchecked) × (unchecked ≡ false → IsAccepted table))
+        (λ f. FailsToPlan f unchecked table) }
+{
+    if unchecked {
+        return Ok(Plan::Unchecked(table));
+    }
+    match afdx_load::check(table) {
+        Ok(cleared) => Ok(Plan::Cleared(cleared)),
+        Err((_, fault)) => Err(Failure::Load(fault)),
+    }
+}
+
+/// The plan and the captures of the table's ports, by rising number, from the files of a run.
+pub(crate) fn gather<F: Folder>(
+    alloc: Global,
+    inputs: &Inputs<'_>,
+    folder: &mut F,
+) -> Result<(Plan, Vec<(u8, Vec<u8>)>), Failure>
+    ensures got { MatchResult result
+        (λ run. IsRunOf inputs.now (F.files folder.old) run.0 (texts_of run.1.items) × (F.failed folder.new ≡ F.failed folder.old))
+        (λ f. FailsToGather f inputs.now (F.files folder.old) (F.failed folder.old) (F.failed folder.new)) }
+    ensures same { KeepsFiles (F.files folder.old) (F.files folder.new) }
+{
+    let table = get_table(alloc, folder, inputs.table)?;
+    let plan = plan(table, inputs.unchecked)?;
+    let captures = get_captures(alloc, folder, inputs.input, plan.table())?;
+    Ok((plan, captures))
+}

@@ -1,0 +1,5 @@
+use Rattle.afdx_trace.proofs.Refused.{full_is_exact}
+use Rattle.afdx_trace.proofs.laws.full_is_exact.Goals as goal
+
+pub returns : goal.returns
+returns c = full_is_exact c.each_has_one_event.ensures

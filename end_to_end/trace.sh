@@ -1,0 +1,79 @@
+#!/usr/bin/env bash
+# afdx trace on the example network, on captures full of ties and on networks that are drawn by chance: beside the model, and
+# beside the captures that afdx run puts, as tshark reads them.
+. "$(dirname "$0")/common.sh"
+install python3=python3 tshark=tshark
+export PYTHONDONTWRITEBYTECODE=1 LC_ALL=C
+afdx=${AFDX:-$top/crates/afdx/out/afdx}
+network=$top/examples/network
+cd "$room" || exit 1
+
+# as_modelled TABLE IN [--unchecked]: the two files are the model's, with status 0; nothing else was put, and nothing was said.
+as_modelled() {
+    rm -rf told wanted && mkdir told wanted
+    "$afdx" trace "$1" "$2" told "${@:3}" >lines.txt 2>said.txt &&
+        python3 "$top/end_to_end/answers.py" trace "$1" "$2" wanted "${@:3}" && diff -r wanted told && [ ! -s lines.txt ] && [ ! -s said.txt ]
+}
+
+# records: port, record, stamp in ns and size with check sequence of each frame in the captures that were put.
+records() {
+    local port
+    for port in $(seq 1 24); do
+        [ ! -f "out/port-$port.pcap" ] || tshark -r "out/port-$port.pcap" -T fields -E separator=, -e frame.number -e frame.time_epoch -e frame.len |
+            awk -F, -v OFS=, -v port="$port" '{ sub(/[.]/, "", $2); print port, $1, $2, $3 + 4 }'
+    done
+}
+
+# joined TABLE IN [--unchecked]: so; and what was sent are the records that afdx run puts, each under its number.
+joined() {
+    as_modelled "$@" && rm -rf out && mkdir out && "$afdx" run "$1" "$2" out "${@:3}" >report.txt && records >seen.txt 2>complaints.txt &&
+        awk -F, -v OFS=, '$11 == "sent" { print $1, $2, $9, $6 }' told/departures.csv | cmp - seen.txt
+}
+
+# shows PATTERN..: a line of the two files is like each.
+shows() {
+    local pattern
+    for pattern in "$@"; do
+        grep -qE "$pattern" told/*.csv || { echo "no line like $pattern"; return 1; }
+    done
+}
+
+# shows_readme: the lines that README shows are among them.
+shows_readme() {
+    [ "$(grep -cxFf told/arrivals.csv "$top/README.md")" -eq 2 ]
+}
+
+# tied_as_modelled: captures full of ties, most of them at ports where frames are lost.
+tied_as_modelled() {
+    local seed
+    for seed in 1 2 3 4; do
+        python3 "$top/end_to_end/ties.py" ties "$seed" && joined ties/table.toml ties/in --unchecked &&
+            third_version ties/table.toml "$((seed * 2))" >later.toml && joined later.toml ties/in --unchecked || return 1
+    done
+}
+
+# drawn_as_modelled: accepted networks with one port that babbles; no copy is lost.
+drawn_as_modelled() {
+    local seed
+    for seed in 1 2 3 4; do
+        python3 "$top/end_to_end/babbling.py" drawn "$seed" && joined drawn/table.toml drawn/in &&
+            ! grep -E ',passed,,.|,aged$' told/*.csv || return 1
+    done
+}
+
+sed 's/^mbit = .*/mbit = 10/; s/^buffer = .*/buffer = 1000/; s/^max_delay_us = .*/max_delay_us = 300/' "$network/table.toml" >tight.toml
+
+check "the example network" joined "$network/table.toml" "$network/in"
+check "README shows two of these lines" shows_readme
+check "the same on a faster switch" joined "$network/faster.toml" "$network/in"
+check "tight ports" joined tight.toml "$network/in" --unchecked
+check "frames are policed, full and aged there" shows ',policed,[0-9]+,$' ',passed,,[0-9;]+$' ',aged$' ',sent$'
+check "every other fate is told" shows ',cut,,$' ',short,,$' ',foreign,,$' ',no-link,,$' ',201,.*,wrong-port,,$' ',too-big,,$'
+check "ends, arrivals, starts and ages at one instant, also with a latency" tied_as_modelled
+check "networks that are drawn by chance, with a port that babbles" drawn_as_modelled
+check "the load is checked first" ends 4 "$("$afdx" check tight.toml 2>&1 >/dev/null)" /dev/null trace tight.toml "$network/in" told
+check "no file" ends 5 "afdx: device get none.toml" /dev/null trace none.toml "$network/in" told
+check "no captures" ends 5 "afdx: device get nowhere/port-1.pcap" /dev/null trace "$network/table.toml" nowhere told
+check "no folder to put them in" ends 5 "afdx: device put nowhere/arrivals.csv" /dev/null trace "$network/table.toml" "$network/in" nowhere
+check "help of trace" helps trace --help
+finish
