@@ -74,13 +74,6 @@ tied_as_modelled() {
     done
 }
 
-# third_version TABLE LATENCY_US: the table in version 3, with this latency.
-third_version() {
-    echo "version = 3"
-    echo "latency_us = $2"
-    grep -v '^version' "$1"
-}
-
 # later_as_modelled: captures full of ties, on switches with a latency.
 later_as_modelled() {
     local seed
