@@ -117,6 +117,13 @@ pub(crate) struct Served {
     pub(crate) err: Vec<u8>,
 }
 
+impl Served {
+    /// The status, what is on standard output, and what is on standard error.
+    pub(crate) fn told(&self) -> (u8, &[u8], &[u8]) {
+        (self.status, &self.out, &self.err)
+    }
+}
+
 /// What the program answers over a folder.
 pub(crate) fn answer_over(
     alloc: Global,

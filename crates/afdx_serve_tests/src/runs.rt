@@ -24,9 +24,11 @@ fn serves_in_memory(rt: HostRuntime) -> Result<(), Fail> {
     for line in [CHECKED, RUN] {
         let mut folder = run.sound()?;
         let got = answer_over(alloc, line, b"", &mut folder)?;
-        assert_eq!(rt; got.status, 0, "{line}");
-        assert_eq!(rt; got.out.as_slice(), REPORT.as_bytes(), "{line}");
-        assert_eq!(rt; got.err.as_slice(), b"".as_slice(), "{line}");
+        assert_eq!(rt;
+            got.told(),
+            (0, REPORT.as_bytes(), b"".as_slice()),
+            "{line}"
+        );
         assert!(rt; folder.holds(&run.files(), 5), "{line}");
     }
     Ok(())
@@ -58,9 +60,11 @@ fn checks_a_table(rt: HostRuntime) -> Result<(), Fail> {
         let mut folder = MemoryFolder::new(alloc);
         folder.add("t", single_to(alloc, mbit, buffer)?.as_bytes())?;
         let got = answer_over(alloc, "afdx check t", b"", &mut folder)?;
-        assert_eq!(rt; got.status, status, "{mbit} {buffer}");
-        assert_eq!(rt; got.out.as_slice(), out.as_bytes());
-        assert_eq!(rt; got.err.as_slice(), err.as_bytes());
+        assert_eq!(rt;
+            got.told(),
+            (status, out.as_bytes(), err.as_bytes()),
+            "{mbit} {buffer}"
+        );
     }
     Ok(())
 }
@@ -71,12 +75,14 @@ fn checks_a_mixed_table(rt: HostRuntime) -> Result<(), Fail> {
     let mut folder = MemoryFolder::new(alloc);
     folder.add("t", mixed(alloc)?.as_bytes())?;
     let got = answer_over(alloc, "afdx check t", b"", &mut folder)?;
-    assert_eq!(rt; got.status, 0);
     assert_eq!(rt;
-        got.out.as_slice(),
-        b"port 2 rate 979292160 buffer 7516 high 282430 low 568836\naccepted\n".as_slice()
+        got.told(),
+        (
+            0,
+            b"port 2 rate 979292160 buffer 7516 high 282430 low 568836\naccepted\n".as_slice(),
+            b"".as_slice()
+        )
     );
-    assert_eq!(rt; got.err.as_slice(), b"".as_slice());
     Ok(())
 }
 
@@ -120,11 +126,13 @@ fn stops_at_a_missing_capture(rt: HostRuntime) -> Result<(), Fail> {
     folder.add("t", single(alloc)?.as_bytes())?;
     folder.add("in/port-1.pcap", &HEADER)?;
     let got = answer_over(alloc, RUN, b"", &mut folder)?;
-    assert_eq!(rt; got.status, 5);
-    assert_eq!(rt; got.out.as_slice(), b"".as_slice());
     assert_eq!(rt;
-        got.err.as_slice(),
-        b"afdx: device get in/port-2.pcap\n".as_slice()
+        got.told(),
+        (
+            5,
+            b"".as_slice(),
+            b"afdx: device get in/port-2.pcap\n".as_slice()
+        )
     );
     assert_eq!(rt; folder.last_failure(), Some("in/port-2.pcap"));
     assert_eq!(rt; folder.bytes("out/port-1.pcap"), None);
@@ -154,9 +162,7 @@ fn stops_at_a_failing_folder(rt: HostRuntime) -> Result<(), Fail> {
             ] {
                 let mut folder = run.folder(failing, fault)?;
                 let got = answer_over(alloc, words, b"", &mut folder)?;
-                assert_eq!(rt; got.status, 5, "{name}");
-                assert_eq!(rt; got.out.as_slice(), b"".as_slice(), "{name}");
-                assert_eq!(rt; got.err.as_slice(), line.as_bytes(), "{name}");
+                assert_eq!(rt; got.told(), (5, b"".as_slice(), line.as_bytes()), "{name}");
                 assert_eq!(rt; folder.calls(), failing, "{name}");
                 assert_eq!(rt; folder.last_failure(), last, "{name}");
                 assert!(rt; folder.holds(&run.files(), files), "{name}");
@@ -164,9 +170,11 @@ fn stops_at_a_failing_folder(rt: HostRuntime) -> Result<(), Fail> {
         }
         let mut folder = run.folder(6, FolderFault::Device)?;
         let got = answer_over(alloc, words, b"", &mut folder)?;
-        assert_eq!(rt; got.status, 0, "{words}");
-        assert_eq!(rt; got.out.as_slice(), REPORT.as_bytes(), "{words}");
-        assert_eq!(rt; got.err.as_slice(), b"".as_slice(), "{words}");
+        assert_eq!(rt;
+            got.told(),
+            (0, REPORT.as_bytes(), b"".as_slice()),
+            "{words}"
+        );
         assert!(rt; folder.holds(&run.files(), 5), "{words}");
     }
     Ok(())
@@ -220,9 +228,7 @@ fn tells_a_tables_refusal(rt: HostRuntime) -> Result<(), Fail> {
         let mut folder = MemoryFolder::new(alloc);
         folder.add("t", text.as_bytes())?;
         let got = answer_over(alloc, RUN, b"", &mut folder)?;
-        assert_eq!(rt; got.status, 3, "{line}");
-        assert_eq!(rt; got.out.as_slice(), b"".as_slice(), "{line}");
-        assert_eq!(rt; got.err.as_slice(), line.as_bytes());
+        assert_eq!(rt; got.told(), (3, b"".as_slice(), line.as_bytes()), "{line}");
     }
     Ok(())
 }

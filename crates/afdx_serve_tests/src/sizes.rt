@@ -27,13 +27,6 @@ fn strained(alloc: Global, links: &[Link]) -> Result<String, AllocError> {
     table(alloc, &[port(1), second], links)
 }
 
-/// Whether this is what is written of the strained port with these links.
-fn tells(alloc: Global, links: &[Link], said: &str) -> Result<bool, Fail> {
-    let got = sizes(alloc, &strained(alloc, links)?)?;
-    let line = format!(in alloc; "port 2 {said}\n")?;
-    Ok(got.as_slice() == line.as_bytes())
-}
-
 #[test]
 fn tells_that_ports_fit(rt: HostRuntime) -> Result<(), Fail> {
     let alloc = rt.alloc();
@@ -61,36 +54,31 @@ fn names_every_broken_rule(rt: HostRuntime) -> Result<(), Fail> {
         bag_ms: 128,
         ..link(10, 1, "[2]")
     };
-    let low = link(10, 1, "[2]");
-    assert!(rt;
-        tells(
-            alloc,
-            &[low],
+    let all = [link(10, 1, "[2]"), high, rare];
+    // The links, and the line; the high link alone asks for more than the line carries: beside it a low frame has no bound.
+    for (links, said) in [
+        (
+            0..1,
             "rate 3264307200 of 2048000000 buffer 3531 of 64 high - low 1593900 of 1000000 breaks L1 L2 L4",
-        )?
-    );
-    assert!(rt;
-        tells(
-            alloc,
-            &[high],
+        ),
+        (
+            1..2,
             "rate 3264307200 of 2048000000 buffer 3531 of 64 high 1593900 of 1000000 low - breaks L1 L2 L3",
-        )?
-    );
-    // The high link alone asks for more than the line: a low frame has no bound.
-    assert!(rt;
-        tells(
-            alloc,
-            &[low, high],
+        ),
+        (
+            0..2,
             "rate 6528614400 of 2048000000 buffer 5523 of 64 high 2824300 of 1000000 low none of 1000000 breaks L1 L2 L3",
-        )?
-    );
-    assert!(rt;
-        tells(
-            alloc,
-            &[rare],
+        ),
+        (
+            2..3,
             "rate 25502400 of 2048000000 buffer 3531 of 64 high - low 1593900 of 1000000 breaks L2 L4",
-        )?
-    );
+        ),
+    ] {
+        let links = all.get(links).ok_or("links")?;
+        let got = sizes(rt.alloc(), &strained(alloc, links)?)?;
+        let line = format!(in alloc; "port 2 {said}\n")?;
+        assert_eq!(rt; got.as_slice(), line.as_bytes());
+    }
     Ok(())
 }
 
@@ -141,15 +129,19 @@ fn refuses_what_is_no_table(rt: HostRuntime) -> Result<(), Fail> {
     let mut folder = MemoryFolder::new(alloc);
     folder.add("t", b"version = 4")?;
     let got = answer_over(alloc, "afdx size t", b"", &mut folder)?;
-    assert_eq!(rt; got.status, 3);
-    assert_eq!(rt; got.out.as_slice(), b"".as_slice());
     assert_eq!(rt;
-        got.err.as_slice(),
-        b"afdx: table C6 Range, top, version\n".as_slice()
+        got.told(),
+        (
+            3,
+            b"".as_slice(),
+            b"afdx: table C6 Range, top, version\n".as_slice()
+        )
     );
     let mut broken = MemoryFolder::failing(alloc, 1, FolderFault::Device);
     let none = answer_over(alloc, "afdx size t", b"", &mut broken)?;
-    assert_eq!(rt; none.status, 5);
-    assert_eq!(rt; none.err.as_slice(), b"afdx: device get t\n".as_slice());
+    assert_eq!(rt;
+        none.told(),
+        (5, b"".as_slice(), b"afdx: device get t\n".as_slice())
+    );
     Ok(())
 }

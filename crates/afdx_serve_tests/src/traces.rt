@@ -31,11 +31,13 @@ fn puts(
     let got = answer_over(alloc, words, b"", &mut folder)?;
     let arrivals = file(alloc, ARRIVALS, lines[0])?;
     let departures = file(alloc, DEPARTURES, lines[1])?;
-    Ok(got.status == 0
-        && got.out.is_empty()
-        && got.err.is_empty()
-        && folder.bytes("out/arrivals.csv") == Some(arrivals.as_bytes())
-        && folder.bytes("out/departures.csv") == Some(departures.as_bytes()))
+    Ok(
+        got.status == 0
+            && got.out.is_empty()
+            && got.err.is_empty()
+            && folder.bytes("out/arrivals.csv") == Some(arrivals.as_bytes())
+            && folder.bytes("out/departures.csv") == Some(departures.as_bytes()),
+    )
 }
 
 #[test]
@@ -138,9 +140,7 @@ fn stops_at_a_failing_folder(rt: HostRuntime) -> Result<(), Fail> {
         failing = failing.saturating_add(1);
         let mut folder = run.folder(failing, FolderFault::Device)?;
         let got = answer_over(alloc, TRACE, b"", &mut folder)?;
-        assert_eq!(rt; got.status, 5, "{name}");
-        assert_eq!(rt; got.out.as_slice(), b"".as_slice(), "{name}");
-        assert_eq!(rt; got.err.as_slice(), line.as_bytes(), "{name}");
+        assert_eq!(rt; got.told(), (5, b"".as_slice(), line.as_bytes()), "{name}");
         assert_eq!(rt; folder.last_failure(), Some(name), "{name}");
         assert!(rt; folder.holds(&files, count), "{name}");
     }

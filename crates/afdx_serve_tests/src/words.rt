@@ -172,9 +172,7 @@ fn passes_what_conforms(rt: HostRuntime) -> Result<(), Fail> {
         let input = capture(alloc, given)?;
         let want = capture(alloc, passed)?;
         let got = answer(alloc, LINK_10, &input)?;
-        assert_eq!(rt; got.status, 0, "{name}");
-        assert_eq!(rt; got.out.as_slice(), want.as_slice(), "{name}");
-        assert_eq!(rt; got.err.as_slice(), b"".as_slice(), "{name}");
+        assert_eq!(rt; got.told(), (0, want.as_slice(), b"".as_slice()), "{name}");
     }
     Ok(())
 }
@@ -209,9 +207,11 @@ fn refuses_words(rt: HostRuntime) -> Result<(), Fail> {
         "afdx alone --id 10 --bag 1 --jitter 0 --size 64 in",
     ] {
         let got = answer(alloc, line, &HEADER)?;
-        assert_eq!(rt; got.status, 2, "{line}");
-        assert_eq!(rt; got.out.as_slice(), b"".as_slice(), "{line}");
-        assert_eq!(rt; got.err.as_slice(), b"afdx: usage\n".as_slice(), "{line}");
+        assert_eq!(rt;
+            got.told(),
+            (2, b"".as_slice(), b"afdx: usage\n".as_slice()),
+            "{line}"
+        );
     }
     Ok(())
 }
@@ -224,9 +224,11 @@ fn takes_values_at_their_limits(rt: HostRuntime) -> Result<(), Fail> {
         "afdx alone --size=064 --jitter=+0 --bag=1 --id=0",
     ] {
         let got = answer(alloc, line, &HEADER)?;
-        assert_eq!(rt; got.status, 0, "{line}");
-        assert_eq!(rt; got.out.as_slice(), HEADER.as_slice(), "{line}");
-        assert_eq!(rt; got.err.as_slice(), b"".as_slice(), "{line}");
+        assert_eq!(rt;
+            got.told(),
+            (0, HEADER.as_slice(), b"".as_slice()),
+            "{line}"
+        );
     }
     Ok(())
 }
@@ -296,9 +298,7 @@ fn tells_the_first_fault(rt: HostRuntime) -> Result<(), Fail> {
             *place = byte;
         }
         let got = answer(alloc, LINK_10, &input)?;
-        assert_eq!(rt; got.status, 3, "{line}");
-        assert_eq!(rt; got.out.as_slice(), b"".as_slice(), "{line}");
-        assert_eq!(rt; got.err.as_slice(), line.as_bytes(), "{line}");
+        assert_eq!(rt; got.told(), (3, b"".as_slice(), line.as_bytes()), "{line}");
     }
     Ok(())
 }
@@ -317,9 +317,7 @@ fn shows_help(rt: HostRuntime) -> Result<(), Fail> {
         ("afdx -V", VERSION),
     ] {
         let got = answer(alloc, line, b"")?;
-        assert_eq!(rt; got.status, 0, "{line}");
-        assert_eq!(rt; got.out.as_slice(), text.as_bytes(), "{line}");
-        assert_eq!(rt; got.err.as_slice(), b"".as_slice(), "{line}");
+        assert_eq!(rt; got.told(), (0, text.as_bytes(), b"".as_slice()), "{line}");
     }
     Ok(())
 }
