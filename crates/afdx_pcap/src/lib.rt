@@ -21,6 +21,3 @@ pub use reader::Reader;
 pub use record::Record;
 pub use whole::read_all;
 pub use writing::{write_all, write_frame, write_header, write_record};
-
-#[cfg(test)]
-mod tests;

@@ -23,8 +23,6 @@ pub mod laws;
 mod line;
 mod port;
 mod queues;
-#[cfg(test)]
-mod tests;
 
 pub use port::Port;
 

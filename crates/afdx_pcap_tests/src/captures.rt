@@ -1,6 +1,8 @@
 //! Captures whose bytes come from the format's description.
 
-use super::*;
+use afdx_pcap::{
+    PcapFault, Reader, Record, read_all, write_all, write_frame, write_header, write_record,
+};
 use afdx_units::Stamp;
 use std::alloc::Global;
 use std::test::Fail;

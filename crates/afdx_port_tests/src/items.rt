@@ -3,7 +3,7 @@
 ghost use Rattle.std.specs.Prelude.{◌≡◌, ℕ, ◌+◌, ◌<◌, ◌≤◌, false, All};
 ghost use Rattle.afdx_units.specs.Time.{last_second};
 
-use crate::{Item, Offer, Port};
+use afdx_port::{Item, Offer, Port};
 use afdx_units::{Priority, Speed, Stamp};
 use std::alloc::{AllocError, Global};
 use std::test::Fail;
