@@ -1,7 +1,7 @@
 -- Files that stay, files that were got, and files that are put in order.
-use Rattle.std.proofs.Common.{◌≡◌, ℕ, ◌+◌, ◌<◌, List, [], ◌∷◌, ◌++◌, map, length, take, Option, Some, None, refl, sym, ap, subst, ◌∙◌, arith, get_or, slice_get}
+use Rattle.std.proofs.Common.{◌≡◌, ℕ, ◌+◌, ◌<◌, List, [], ◌∷◌, ◌++◌, map, length, take, Option, Some, None, Result, Ok, Err, refl, sym, ap, subst, ◌∙◌, arith, get_or, slice_get}
 use Rattle.std.proofs.Common.{min, Vec}
-use Rattle.std.specs.Prelude.{option_map}
+use Rattle.std.specs.Prelude.{option_map, MatchResult}
 use Rattle.std.proofs.lemmas.List.{map-append, take_more, take-map, length-map, length-take}
 use Rattle.std.proofs.lemmas.Simd.{map-map}
 use Rattle.std.proofs.lemmas.Option.{slice_get-map, slice_get-get_or, get_or_from_slice_get}
@@ -127,6 +127,29 @@ not_put (failure.Get s) name names all old new first before after same fails sto
 not_put (failure.Load r) name names all old new first before after same fails stops = absurd fails
 not_put failure.Read name names all old new first before after same fails stops = absurd fails
 not_put failure.Write name names all old new first before after same fails stops = absurd fails
+
+-- the first of two files was not put
+pub first_not_put : (f : Failure) (a b : Option Files) (n m x y : List ℕ) (names texts : List (List ℕ)) (before after : DeviceLog) → n ∷ m ∷ [] ≡ names → x ∷ y ∷ [] ≡ texts
+    → KeepsOthers a b n → FailsToPutOne f n before after → FailsToPut f names texts a b before after
+first_not_put f a b n m x y names texts before after named told others fails =
+    subst (λ (ns : List (List ℕ)). FailsToPut f ns texts a b before after) named
+    (subst (λ (ts : List (List ℕ)). FailsToPut f (n ∷ m ∷ []) ts a b before after) told
+    (not_put f n (n ∷ m ∷ []) (x ∷ y ∷ []) a b before before after refl fails (stops_first a b n m x y others)))
+
+-- the first was put, and then the second, or not
+pub second_put : {T : Type 0} (r : Result T Failure) (a b c : Option Files) (n m x y : List ℕ) (names texts : List (List ℕ)) (first before after : DeviceLog) → before ≡ first
+    → n ∷ m ∷ [] ≡ names → x ∷ y ∷ [] ≡ texts → PutsFile a b n x → KeepsOthers b c m
+    → MatchResult r (λ _. PutsFile b c m y × (after ≡ before)) (λ f. FailsToPutOne f m before after)
+    → MatchResult r (λ _. PutsFiles a c names texts × (after ≡ first)) (λ f. FailsToPut f names texts a c first after)
+second_put (Ok u) a b c n m x y names texts first before after same named told put others h = (
+      subst (λ (ns : List (List ℕ)). PutsFiles a c ns texts) named
+      (subst (λ (ts : List (List ℕ)). PutsFiles a c (n ∷ m ∷ []) ts) told (two_put a b c n m x y put h.0)),
+      h.1 ∙ same,
+    )
+second_put (Err f) a b c n m x y names texts first before after same named told put others h =
+    subst (λ (ns : List (List ℕ)). FailsToPut f ns texts a c first after) named
+    (subst (λ (ts : List (List ℕ)). FailsToPut f (n ∷ m ∷ []) ts a c first after) told
+    (not_put f m (n ∷ m ∷ []) (x ∷ y ∷ []) a c first before after same h (stops_second a b c n m x y put others)))
 
 -- ---- the loops over captures
 
