@@ -98,6 +98,30 @@ links ask for, 5 memory or a device.
 Example: mkdir told && afdx trace table.toml in told
 ";
 
+const HELP_MEASURE: &str = "Tells the delays of each link and how full each buffer was
+
+Usage: afdx measure [OPTIONS] <TABLE> <IN>
+
+Arguments:
+  <TABLE>  The configuration table
+  <IN>     The folder of port-1.pcap and so on
+
+Options:
+      --unchecked  Runs a table whatever its load, and tells no bounds
+  -h, --help       Print help
+
+Runs as run does, and writes no capture. For each link and each of its output
+ports: how many frames were sent, and their least and greatest delay in ns, from
+the stamp to the end on the line, beside the port's bound. For each port: the most
+bytes that its buffer held, and the stamp in ns of the first frame that filled it
+so.
+
+Status: 0 told, 2 words, 3 no table or capture, 4 a port cannot give what its
+links ask for, 5 memory or a device.
+
+Example: afdx measure table.toml in
+";
+
 const HELP_ALONE: &str = "Polices one virtual link of the capture on standard input
 
 Usage: afdx alone --id <N> --bag <MS> --jitter <US> --size <N>
@@ -191,6 +215,8 @@ fn refuses_words(rt: HostRuntime) -> Result<(), Fail> {
         "afdx run t in --unchecked",
         "afdx run t in out more --unchecked",
         "afdx run t in out --unchecked --unchecked",
+        "afdx measure t",
+        "afdx measure t in out",
         "afdx trace t in",
         "afdx trace t in out more",
         "afdx alone",
@@ -312,6 +338,7 @@ fn shows_help(rt: HostRuntime) -> Result<(), Fail> {
         ("afdx alone --help", HELP_ALONE),
         ("afdx run --help", HELP_RUN),
         ("afdx size --help", HELP_SIZE),
+        ("afdx measure --help", HELP_MEASURE),
         ("afdx trace --help", HELP_TRACE),
         ("afdx --version", VERSION),
         ("afdx -V", VERSION),
