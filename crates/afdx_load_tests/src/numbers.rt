@@ -1,6 +1,6 @@
 //! Load numbers, each reckoned by hand.
 
-use crate::tables::{FIRST, FRAMED, HIGH, LOW, SECOND, table};
+use crate::tables::{FIRST, FRAMED, HIGH, LOW, SECOND, table, table_later};
 use afdx_load::{bounds, check, least_buffer, load, loads};
 use afdx_samples::{Link, Port};
 use afdx_table::Table;
@@ -79,6 +79,21 @@ fn worked_numbers(rt: HostRuntime) -> Result<(), Fail> {
         let cleared = check(table).ok().ok_or("an accepted table")?;
         assert_eq!(rt; numbers(cleared.table()), Some(*want));
         assert_eq!(rt; numbers(&cleared.into_table()), Some(*want));
+    }
+    Ok(())
+}
+
+/// The latency is part of the bound alone.
+#[test]
+fn gigabit(rt: HostRuntime) -> Result<(), Fail> {
+    let fast = Port {
+        mbit: 1000,
+        ..SECOND
+    };
+    for (latency_us, low) in [(0, 15_939), (50, 65_939)] {
+        let table = table_later(rt.alloc(), fast, latency_us)?;
+        let want = Some((32_643_072, 3531, None, Some(low)));
+        assert_eq!(rt; numbers(&table), want, "at {latency_us}");
     }
     Ok(())
 }

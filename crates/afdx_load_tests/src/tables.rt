@@ -61,15 +61,20 @@ pub(crate) fn fault(
     Ok(check(table).err().map(|refused| refused.1))
 }
 
-/// The same of a switch with this latency, where one low link leads to the port.
+/// The table of port 1 of the worked tables and this port, of a switch with this latency, where one low link leads to the port.
+pub(crate) fn table_later(alloc: Global, second: Port, latency_us: u32) -> Result<Table, Fail> {
+    let text = afdx_samples::table(alloc, &[FIRST, second], &[LOW])?;
+    let text = afdx_samples::later(alloc, &text, latency_us)?;
+    Ok(read(alloc, text.as_bytes())?)
+}
+
+/// What such a table is refused for.
 pub(crate) fn fault_later(
     alloc: Global,
     second: Port,
     latency_us: u32,
 ) -> Result<Option<LoadFault>, Fail> {
-    let text = afdx_samples::table(alloc, &[FIRST, second], &[LOW])?;
-    let text = afdx_samples::later(alloc, &text, latency_us)?;
-    let table = read(alloc, text.as_bytes())?;
+    let table = table_later(alloc, second, latency_us)?;
     Ok(check(table).err().map(|refused| refused.1))
 }
 
