@@ -5,27 +5,44 @@ use crate::tables::plan_of;
 use afdx_samples::{HEADER, capture, double, port, small};
 use afdx_session::{Outcome, RunFault, Session};
 use std::alloc::Global;
+use std::process::Abort;
 use std::test::*;
 
 /// A call that brings something.
 #[derive(Clone, Copy)]
-enum Call<'a> {
-    /// A piece of a port's capture.
-    Feed(u8, &'a [u8]),
+enum Call {
+    /// A piece of a port's capture, which is the text at this place.
+    Feed(u8, usize),
     /// The end of a port's capture.
     Close(u8),
 }
 
-/// A call, its answer, and the number of bytes that port 3 has put out in all after it.
-type Answered<'a> = (Call<'a>, Result<(), RunFault>, usize);
+/// Places of texts.
+const EMPTY: usize = 0;
 
-/// Calls over this table, and what port 3 puts out in the end.
+const ONE: usize = 1;
+
+const TWO: usize = 2;
+
+/// Calls over a table of three ports, each with its answer and the number of bytes that port 3 has put out in all after it.
+const SESSION_ON_D: [(Call, Result<(), RunFault>, usize); 8] = [
+    (Call::Feed(1, ONE), Ok(()), 24),
+    (Call::Feed(3, EMPTY), Ok(()), 24),
+    (Call::Close(3), Ok(()), 24),
+    (Call::Feed(2, TWO), Ok(()), 100),
+    (Call::Close(1), Ok(()), 100),
+    (Call::Close(2), Ok(()), 252),
+    (Call::Feed(2, TWO), Err(RunFault::Closed), 252),
+    (Call::Feed(9, TWO), Err(RunFault::WrongPorts), 252),
+];
+
+/// These calls with these texts, and what port 3 puts out in the end.
 #[derive(Clone, Copy)]
 struct Feeding<'a> {
     alloc: Global,
     table: &'a str,
-    calls: &'a [Answered<'a>],
-    text: &'a [u8],
+    texts: &'a [&'a [u8]],
+    left: &'a [u8],
 }
 
 /// A session over a table that is checked; none where it is out of memory.
@@ -39,9 +56,16 @@ fn open<'a>(
 }
 
 /// Makes a call.
-fn bring<'a>(session: &mut Session<&'a Memory>, call: Call<'_>) -> Result<(), RunFault> {
+fn bring<'a>(
+    session: &mut Session<&'a Memory>,
+    texts: &[&[u8]],
+    call: Call,
+) -> Result<(), RunFault> {
     match call {
-        Call::Feed(port, piece) => session.feed(port, piece),
+        Call::Feed(port, place) => match texts.get(place) {
+            Some(text) => session.feed(port, text),
+            None => Ok(()),
+        },
         Call::Close(port) => session.close(port),
     }
 }
@@ -52,28 +76,28 @@ fn take<'a>(session: &mut Session<&'a Memory>, taken: &mut Vec<u8>) -> bool {
     taken.extend_from_slice(&bytes).is_ok()
 }
 
-/// Makes these calls, and takes all after each. Answers whether each answer was right, and so many bytes were taken in all after
-/// it; none where the session is out of memory.
+/// Makes all the calls, and takes what has gone out after each. Answers whether each answer was right, and so many bytes were
+/// taken in all after it; none where the session is out of memory.
 fn bring_all<'a>(
     session: &mut Session<&'a Memory>,
-    calls: &[Answered<'_>],
+    texts: &[&[u8]],
     taken: &mut Vec<u8>,
 ) -> Option<bool> {
     let mut right = true;
-    for (call, wanted, count) in calls {
-        let answer = bring(session, *call);
+    for (call, wanted, count) in SESSION_ON_D {
+        let answer = bring(session, texts, call);
         if answer == Err(RunFault::Memory) {
             return None;
         }
-        right = take(session, taken) && taken.len() == *count && answer == *wanted && right;
+        right = take(session, taken) && taken.len() == count && answer == wanted && right;
     }
     Some(right)
 }
 
 /// Whether each call but `take` answers that the session has failed.
 fn stays_failed<'a>(session: &mut Session<&'a Memory>) -> bool {
-    let fed = bring(session, Call::Feed(1, &HEADER));
-    let closed = bring(session, Call::Close(1));
+    let fed = session.feed(1, &HEADER);
+    let closed = session.close(1);
     let failed = Err(RunFault::Failed);
     fed == failed && closed == failed
 }
@@ -131,10 +155,10 @@ fn answers<'a>(
     feeding: &Feeding<'_>,
     taken: &mut Vec<u8>,
 ) -> Option<bool> {
-    match bring_all(&mut session, feeding.calls, taken) {
-        Some(true) => ends(session, taken, feeding.text),
+    match bring_all(&mut session, feeding.texts, taken) {
+        Some(true) => ends(session, taken, feeding.left),
         Some(false) => Some(false),
-        None => after_failure(session, taken, feeding.text),
+        None => after_failure(session, taken, feeding.left),
     }
 }
 
@@ -148,33 +172,33 @@ impl Calls for Feeding<'_> {
     }
 }
 
-/// Growths for the switch and the counters, for what came, for the records that wait, and for what goes out. What port 3 puts
-/// out in all after each call is its header, then one record, then all three.
+/// The growths of these calls over this table, with these texts, where port 3 puts this out.
+fn growths_of(
+    rt: &impl Abort,
+    alloc: Global,
+    table: &str,
+    texts: &[&[u8]],
+    left: &[u8],
+) -> Result<u64, Fail> {
+    let feeding = Feeding {
+        alloc,
+        table,
+        texts,
+        left,
+    };
+    growths(rt, alloc, &feeding)
+}
+
+/// Growths for the switch and the counters, for what came, for the records that wait, and for what goes out.
 #[test]
 fn session_on_d(rt: HostRuntime) -> Result<(), Fail> {
     let alloc = rt.alloc();
     let table = double(alloc, port(3))?;
     let one = capture(alloc, &[small(10, 0), small(10, 1_000_000)])?;
     let two = capture(alloc, &[small(20, 500_000)])?;
-    let left = [small(10, 6_720), small(20, 506_720), small(10, 1_006_720)];
-    let text = capture(alloc, &left)?;
-    let calls = [
-        (Call::Feed(1, &one), Ok(()), 24),
-        (Call::Feed(3, &HEADER), Ok(()), 24),
-        (Call::Close(3), Ok(()), 24),
-        (Call::Feed(2, &two), Ok(()), 100),
-        (Call::Close(1), Ok(()), 100),
-        (Call::Close(2), Ok(()), 252),
-        (Call::Feed(2, &two), Err(RunFault::Closed), 252),
-        (Call::Feed(9, &two), Err(RunFault::WrongPorts), 252),
-    ];
-    let feeding = Feeding {
-        alloc,
-        table: &table,
-        calls: &calls,
-        text: &text,
-    };
-    let refused = growths(&rt, alloc, &feeding)?;
+    let sent = [small(10, 6_720), small(20, 506_720), small(10, 1_006_720)];
+    let left = capture(alloc, &sent)?;
+    let refused = growths_of(&rt, alloc, &table, &[&HEADER, &one, &two], &left)?;
     assert!(rt; refused >= 20);
     println!(rt; "Session: {refused} growths refused")?;
     Ok(())

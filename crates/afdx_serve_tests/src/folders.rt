@@ -7,48 +7,106 @@ use crate::memory_folder::MemoryFolder;
 use afdx_serve::{Folder, FolderFault};
 use std::test::*;
 
-/// A call of a folder.
+/// A call of a folder, for the file at this place.
 #[derive(Clone, Copy)]
-enum Call<'a> {
-    /// Puts these bytes under a name.
-    Put(&'a str, &'a [u8]),
-    /// Gets what stands under a name: these bytes, or nothing.
-    Get(&'a str, Option<&'a [u8]>),
+enum Call {
+    /// Puts it.
+    Put(usize),
+    /// Gets it.
+    Get(usize),
+    /// Gets a file that is not there.
+    GetNone,
+}
+
+/// Each file is put, the first of them twice, and then got; then one is got that is not there.
+const CALLS: [Call; 12] = [
+    Call::Put(0),
+    Call::Put(1),
+    Call::Put(2),
+    Call::Put(3),
+    Call::Put(4),
+    Call::Put(0),
+    Call::Get(0),
+    Call::Get(1),
+    Call::Get(2),
+    Call::Get(3),
+    Call::Get(4),
+    Call::GetNone,
+];
+
+/// The name of no file.
+const NONE: &str = "in/port-3.pcap";
+
+/// Puts a file; none where the folder is out of memory.
+fn put<'a>(
+    folder: &mut MemoryFolder<&'a Memory>,
+    memory: &'a Memory,
+    name: &str,
+    bytes: &[u8],
+) -> Option<bool> {
+    match folder.put(memory, name, bytes) {
+        Ok(()) => Some(true),
+        Err(FolderFault::Memory) => None,
+        Err(FolderFault::Device) => Some(false),
+    }
+}
+
+/// Whether a file is got with these bytes; none where the folder is out of memory.
+fn get<'a>(
+    folder: &mut MemoryFolder<&'a Memory>,
+    memory: &'a Memory,
+    name: &str,
+    bytes: &[u8],
+) -> Option<bool> {
+    match folder.get(memory, name) {
+        Ok(found) => Some(found.as_slice() == bytes),
+        Err(FolderFault::Memory) => None,
+        Err(FolderFault::Device) => Some(false),
+    }
+}
+
+/// Whether no file is got; none where the folder is out of memory.
+fn get_none<'a>(folder: &mut MemoryFolder<&'a Memory>, memory: &'a Memory) -> Option<bool> {
+    match folder.get(memory, NONE) {
+        Ok(_) => Some(false),
+        Err(FolderFault::Memory) => None,
+        Err(FolderFault::Device) => Some(true),
+    }
 }
 
 /// Whether a folder's answer to a call is right; none where it is out of memory.
 fn made<'a>(
     folder: &mut MemoryFolder<&'a Memory>,
     memory: &'a Memory,
-    call: Call<'_>,
+    files: &[(&str, &[u8])],
+    call: Call,
 ) -> Option<bool> {
     match call {
-        Call::Put(name, bytes) => match folder.put(memory, name, bytes) {
-            Ok(()) => Some(true),
-            Err(FolderFault::Memory) => None,
-            Err(FolderFault::Device) => Some(false),
+        Call::Put(place) => match files.get(place) {
+            Some((name, bytes)) => put(folder, memory, name, bytes),
+            None => Some(false),
         },
-        Call::Get(name, wanted) => match folder.get(memory, name) {
-            Ok(found) => Some(wanted == Some(found.as_slice())),
-            Err(FolderFault::Memory) => None,
-            Err(FolderFault::Device) => Some(wanted.is_none()),
+        Call::Get(place) => match files.get(place) {
+            Some((name, bytes)) => get(folder, memory, name, bytes),
+            None => Some(false),
         },
+        Call::GetNone => get_none(folder, memory),
     }
 }
 
-/// How many of these calls a folder answers right, the second time where it was out of memory, and how often it was.
+/// How many of the calls a folder answers right, the second time where it was out of memory, and how often it was.
 fn answered<'a>(
     folder: &mut MemoryFolder<&'a Memory>,
     memory: &'a Memory,
-    calls: &[Call<'_>],
+    files: &[(&str, &[u8])],
 ) -> (usize, usize) {
     let mut right = 0usize;
     let mut failed = 0usize;
-    for call in calls {
-        let mut answer = made(folder, memory, *call);
+    for call in CALLS {
+        let mut answer = made(folder, memory, files, call);
         if answer.is_none() {
             failed = failed.saturating_add(1);
-            answer = made(folder, memory, *call);
+            answer = made(folder, memory, files, call);
         }
         if answer == Some(true) {
             right = right.saturating_add(1);
@@ -57,46 +115,34 @@ fn answered<'a>(
     (right, failed)
 }
 
-/// Calls of which the last one fails, for there is no such file.
+/// The calls for the files of a run.
 #[derive(Clone, Copy)]
 struct Calling<'a> {
-    calls: &'a [Call<'a>],
-    missing: &'a str,
+    run: &'a OneFrame,
 }
 
 impl Calls for Calling<'_> {
     fn answer(&self, memory: &Memory) -> Option<bool> {
         let mut folder = MemoryFolder::new(memory);
-        let (right, failed) = answered(&mut folder, memory, self.calls);
-        let is_counted = folder.failures() == 1 && folder.last_failure() == Some(self.missing);
+        let (right, failed) = answered(&mut folder, memory, &self.run.files());
+        let is_right = right == CALLS.len()
+            && folder.failures() == 1
+            && folder.last_failure() == Some(NONE);
         match failed {
-            0 => Some(is_counted && right == self.calls.len()),
-            1 if is_counted && right == self.calls.len() => None,
+            0 => Some(is_right),
+            1 if is_right => None,
             _ => Some(false),
         }
     }
 }
 
-/// Each file of the run of one frame is put, the first one once more, and then got. A growth at least for the name and for the
-/// bytes of each put, for the bytes of each get, and for the name of the failure.
+/// A growth at least for the name and for the bytes of each file that is put, for the bytes of each that is got, and for the name
+/// of the one that is not there.
 #[test]
 fn files_put_and_got(rt: HostRuntime) -> Result<(), Fail> {
     let alloc = rt.alloc();
     let run = OneFrame::new(alloc)?;
-    let mut calls = Vec::new(alloc);
-    calls.push(Call::Put("t", b"version = 1"))?;
-    for (name, bytes) in run.files() {
-        calls.push(Call::Put(name, bytes))?;
-    }
-    for (name, bytes) in run.files() {
-        calls.push(Call::Get(name, Some(bytes)))?;
-    }
-    calls.push(Call::Get("in/port-3.pcap", None))?;
-    let calling = Calling {
-        calls: &calls,
-        missing: "in/port-3.pcap",
-    };
-    let refused = growths(&rt, alloc, &calling)?;
+    let refused = growths(&rt, alloc, &Calling { run: &run })?;
     assert!(rt; refused >= 18);
     println!(rt; "Folder in memory: {refused} growths refused")?;
     Ok(())
