@@ -60,6 +60,9 @@ pub struct Step<A: Allocator> {
     /// The ports that its link leads to, in the link's order, with the answer of each; none where
     /// it was not passed.
     pub offers: Vec<(u8, Offer), A>,
+    /// Where its link stands in the table's file order, from 0, as the filter found it; none where it is no link's.
+    /// Contracts do not see it: it spares a look-up, and who uses it looks whether that link has the number.
+    pub place: Option<usize>,
 }
 
 impl<A: Allocator> Model for Step<A> {

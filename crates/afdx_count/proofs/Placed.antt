@@ -1,9 +1,11 @@
 -- Elements under their numbers, where the numbers are different.
-use Rattle.std.proofs.Common.{◌≡◌, ℕ, zero, suc, ◌<◌, nat_eq, true, false, cond, List, [], ◌∷◌, set, get_or, length, map, take, find, slice_get, position, Option, Some, None, refl, sym, ap, ◌∙◌, arith, inl, inr, ◌||◌}
+use Rattle.std.proofs.Common.{◌≡◌, ℕ, zero, suc, ◌<◌, nat_eq, true, false, cond, List, [], ◌∷◌, ◌++◌, set, get_or, length, map, take, find, slice_get, position, Option, Some, None, refl, subst, sym, ap, ◌∙◌, arith, inl, inr, ◌||◌}
 use Rattle.std.specs.Prelude.{IfSome, IfNone}
 use Rattle.std.specs.List.{AllByRecursion, IsDistinct, list_any}
 use Rattle.std.proofs.lemmas.Option.{slice_get_within, slice_get-get_or}
-use Rattle.std.proofs.lemmas.List.{length-map}
+use Rattle.std.proofs.lemmas.List.{length-map, map-append}
+use Rattle.std.proofs.lemmas.List.Sorted.{IsPermutation-append_comm}
+use Rattle.std.proofs.lemmas.Map.Keys.{IsDistinct-IsPermutation}
 use Rattle.std.proofs.lemmas.List.Quantifiers.{position-Some}
 use Rattle.std.proofs.lemmas.Bool.{cases_Bool}
 use Rattle.std.proofs.lemmas.Bool.Decides.{nat_tests}
@@ -123,6 +125,15 @@ module _ {X : Type 0} (number : X → ℕ) where
           map_option (Some z) = Some (number z)
         mapped (z ∷ zs) (suc k) e = mapped zs k e
 
+  -- one more element, of a new number
+  pub distinct_more : (xs : List X) (y : X) → IsDistinct nat_eq (map number xs) → list_any (λ x. nat_eq (number y) (number x)) xs ≡ false → IsDistinct nat_eq (map number (xs ++ y ∷ []))
+  unfolding IsDistinct
+  distinct_more xs y d new =
+      subst (IsDistinct nat_eq) (sym (map-append number xs (y ∷ [])))
+      (IsDistinct-IsPermutation nat_eq either_way (number y ∷ map number xs) (map number xs ++ number y ∷ []) (IsPermutation-append_comm (number y ∷ []) (map number xs)) (any_false (number y) xs new, d)) where
+        either_way : (a b : ℕ) → nat_eq a b ≡ nat_eq b a
+        either_way a b = grind (arith, nat_tests)
+
   -- ---- the same of a list as it is seen
 
   pub found_in : (n : ℕ) (xs seen : List X) (i : ℕ) (x : X) → xs ≡ seen → IsDistinct nat_eq (map number seen) → IsPlaceOf number n seen i → x ≡ get_or xs i x → Some x ≡ find (λ y. nat_eq (number y) n) seen
@@ -135,6 +146,20 @@ module _ {X : Type 0} (number : X → ℕ) where
 
   pub numbers_kept : (ns : List ℕ) (xs : List X) (i : ℕ) (x y : X) → ns ≡ map number xs → number y ≡ number x → x ≡ get_or xs i x → ns ≡ map number (set xs i y)
   numbers_kept ns xs i x y ns-is same-number is = ns-is ∙ sym (numbers-set xs i x y (same-number ∙ ap number is))
+
+  -- the numbers, which are different, where the element at a place gives way to one of its number, and where one more comes
+  pub still_numbered : (ns : List ℕ) (xs : List X) (i : ℕ) (x y : X) → (ns ≡ map number xs) × IsDistinct nat_eq (map number xs) → number y ≡ number x → x ≡ get_or xs i x
+      → (ns ≡ map number (set xs i y)) × IsDistinct nat_eq (map number (set xs i y))
+  still_numbered ns xs i x y ok same-number is =
+      (numbers_kept ns xs i x y ok.0 same-number is, subst (IsDistinct nat_eq) (numbers_kept (map number xs) xs i x y refl same-number is) ok.1)
+
+  pub more_numbered : (ns more : List ℕ) (xs seen ys zs : List X) (y : X) → (ns ≡ map number xs) × IsDistinct nat_eq (map number xs) → xs ≡ seen → list_any (λ x. nat_eq (number y) (number x)) seen ≡ false
+      → more ≡ ns ++ number y ∷ [] → ys ≡ xs → zs ≡ ys ++ y ∷ [] → (more ≡ map number zs) × IsDistinct nat_eq (map number zs)
+  more_numbered ns more xs seen ys zs y ok view new more-is ys-is zs-is =
+      let all : zs ≡ xs ++ y ∷ [] = zs-is ∙ ap (λ (ws : List X). ws ++ y ∷ []) ys-is in
+      let unlike : list_any (λ x. nat_eq (number y) (number x)) xs ≡ false = ap (list_any (λ (x : X). nat_eq (number y) (number x))) view ∙ new in
+      (more-is ∙ ap (λ (ks : List ℕ). ks ++ number y ∷ []) ok.0 ∙ sym (map-append number xs (y ∷ [])) ∙ ap (map number) (sym all),
+      subst (λ (ws : List X). IsDistinct nat_eq (map number ws)) (sym all) (distinct_more xs y ok.1 unlike))
 
   pub none_listed : (n : ℕ) (ns : List ℕ) (xs seen : List X) → ns ≡ map number xs → xs ≡ seen → list_any (λ x. nat_eq n (number x)) seen ≡ false → list_any (λ k. nat_eq k n) ns ≡ false
   none_listed n ns xs seen ns-is view none = turned_any n ns ∙ ap (list_any (nat_eq n)) (ns-is ∙ ap (map number) view) ∙ any_number n seen ∙ none

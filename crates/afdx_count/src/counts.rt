@@ -50,7 +50,7 @@ impl<A: Allocator + Copy> Counts<A> {
         ensures { self.new ≡ noted step.now self.old }
     {
         self.ports.note_arrival(step.in_port, step.fate);
-        let class = self.links.note(step.fate);
+        let class = self.links.note(step.fate, step.place);
         self.ports.note_copies(class, &step.offers);
     }
 

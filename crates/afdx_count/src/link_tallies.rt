@@ -1,6 +1,6 @@
 //! The counters of links.
 
-ghost use Rattle.std.specs.Prelude.{◌≡◌, ◌==◌, ◌<◌, nat_eq, [], ◌∷◌, ◌++◌, false, length, map, IfSome, IfOk, IfNone, OnOk, find, slice_get, option_map};
+ghost use Rattle.std.specs.Prelude.{◌≡◌, ◌==◌, ◌<◌, nat_eq, [], ◌∷◌, ◌++◌, false, length, map, IsTrue, IfSome, IfOk, IfNone, OnOk, find, slice_get, option_map};
 ghost use Rattle.std.specs.List.{list_any, IsDistinct};
 ghost use Rattle.afdx_count.specs.Tally.{new_link, one_passed, one_policed, link_in, noted_link, class_of};
 ghost use Rattle.afdx_count.specs.Places.{IsPlaceOf, changed_at};
@@ -57,14 +57,15 @@ pub(crate) struct Links<A: Allocator> {
 }
 
 impl<A: Allocator> Model for Links<A> {
-    ghost use Rattle.std.specs.Prelude.{◌≡◌, List, map};
+    ghost use Rattle.std.specs.Prelude.{◌≡◌, nat_eq, List, map};
+    ghost use Rattle.std.specs.List.{IsDistinct};
     ghost use Rattle.afdx_count.specs.declared.link_tallies.LinkTally.{LinkTally as Seen};
 
     ghost Value = { List Seen };
 
     ghost view = { λ l. l.tallies.items };
 
-    ghost invariant = { λ l. l.numbers ≡ map (λ t. t.id) l.tallies.items };
+    ghost invariant = { λ l. (l.numbers ≡ map (λ t. t.id) l.tallies.items) × IsDistinct nat_eq (map (λ t. t.id) l.tallies.items) };
 }
 
 impl<A: Allocator + Copy> Links<A> {
@@ -115,6 +116,28 @@ impl<A: Allocator + Copy> Links<A> {
         self.numbers.place(id)
     }
 
+    /// Whether the link at a place has the number.
+    fn stands_at(&self, place: usize, id: u16) -> bool
+        ensures at { IsTrue result → IsPlaceOf (λ l. l.id) id self.now place }
+        ensures distinct { IsDistinct nat_eq (map (λ l. l.id) self.now) }
+    {
+        place < self.tallies.len() && self.tallies[place].id == id
+    }
+
+    /// The place of the link of a number: the one that is told, where that link has the number, and else the one that
+    /// is found.
+    fn place_told(&self, id: u16, told: Option<usize>) -> Option<usize>
+        ensures at { IfSome result (IsPlaceOf (λ l. l.id) id self.now) }
+        ensures absent { IfNone result (list_any (λ l. id == l.id) self.now ≡ false) }
+        ensures within { IfSome result (λ place. place < length self.now) }
+        ensures distinct { IsDistinct nat_eq (map (λ l. l.id) self.now) }
+    {
+        match told {
+            Some(place) if self.stands_at(place, id) => told,
+            _ => self.place(id),
+        }
+    }
+
     /// The counters of the link of a number.
     pub(crate) fn get(&self, id: u16) -> Option<LinkTally>
         ensures { result ≡ link_in id self.now }
@@ -125,12 +148,13 @@ impl<A: Allocator + Copy> Links<A> {
         }
     }
 
-    /// Counts a passed frame at the link of a number, and gives the priority of its copies.
-    fn note_passed(&mut self, id: u16) -> Option<Priority>
+    /// Counts a passed frame at the link of a number, which may stand at the place that is told, and gives the priority
+    /// of its copies.
+    fn note_passed(&mut self, id: u16, told: Option<usize>) -> Option<Priority>
         ensures links { self.new ≡ changed_at (λ l. l.id) id one_passed self.old }
         ensures class { result ≡ option_map (λ l. l.priority) (link_in id self.old) }
     {
-        match self.place(id) {
+        match self.place_told(id, told) {
             Some(place) => {
                 let tally = self.tallies[place];
                 self.tallies[place] = tally.with_passed();
@@ -140,23 +164,24 @@ impl<A: Allocator + Copy> Links<A> {
         }
     }
 
-    fn note_policed(&mut self, id: u16)
+    fn note_policed(&mut self, id: u16, told: Option<usize>)
         ensures { self.new ≡ changed_at (λ l. l.id) id one_policed self.old }
     {
-        if let Some(place) = self.place(id) {
+        if let Some(place) = self.place_told(id, told) {
             self.tallies[place] = self.tallies[place].with_policed();
         }
     }
 
-    /// Counts an arrival at its link, and gives the priority of the copies of a passed frame.
-    pub(crate) fn note(&mut self, fate: Fate) -> Option<Priority>
+    /// Counts an arrival at its link, which may stand at the place that is told, and gives the priority of the copies of a
+    /// passed frame.
+    pub(crate) fn note(&mut self, fate: Fate, told: Option<usize>) -> Option<Priority>
         ensures links { self.new ≡ map (noted_link fate) self.old }
         ensures class { result ≡ class_of fate self.old }
     {
         match fate {
-            Fate::Passed(id) => self.note_passed(id),
+            Fate::Passed(id) => self.note_passed(id, told),
             Fate::Policed(id) => {
-                self.note_policed(id);
+                self.note_policed(id, told);
                 None
             }
             Fate::Filtered(_) => None,

@@ -136,6 +136,7 @@ fn numbers_that_the_table_lacks(rt: HostRuntime) -> Result<(), Fail> {
         in_port: 7,
         fate: Fate::Passed(11),
         offers,
+        place: Some(0),
     };
     let report = report_of_step(alloc, &step)?;
     assert_eq!(rt; report.as_str(), NO_FRAMES);

@@ -96,6 +96,7 @@ fn one_step(alloc: Global) -> Result<Step<Global>, Fail> {
         in_port: 1,
         fate: Fate::Passed(10),
         offers,
+        place: Some(0),
     })
 }
 
