@@ -31,11 +31,13 @@ fn puts(
     let got = answer_over(alloc, words, b"", &mut folder)?;
     let arrivals = file(alloc, ARRIVALS, lines[0])?;
     let departures = file(alloc, DEPARTURES, lines[1])?;
-    Ok(got.status == 0
-        && got.out.is_empty()
-        && got.err.is_empty()
-        && folder.bytes("out/arrivals.csv") == Some(arrivals.as_bytes())
-        && folder.bytes("out/departures.csv") == Some(departures.as_bytes()))
+    Ok(
+        got.status == 0
+            && got.out.is_empty()
+            && got.err.is_empty()
+            && folder.bytes("out/arrivals.csv") == Some(arrivals.as_bytes())
+            && folder.bytes("out/departures.csv") == Some(departures.as_bytes()),
+    )
 }
 
 #[test]
