@@ -20,7 +20,7 @@ records() {
     local port
     for port in $(seq 1 24); do
         [ ! -f "out/port-$port.pcap" ] || tshark -r "out/port-$port.pcap" -T fields -E separator=, -e frame.number -e frame.time_epoch -e frame.len |
-            awk -F, -v OFS=, -v port="$port" '{ sub(/[.]/, "", $2); print port, $1, $2, $3 + 4 }'
+            awk -F, -v OFS=, -v port="$port" '{ sub(/[.]/, "", $2); sub(/^0+/, "", $2); print port, $1, $2, $3 + 4 }'
     done
 }
 

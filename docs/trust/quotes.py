@@ -337,7 +337,7 @@ def without_meaning(pages, kit):
     for page in pages:
         for mark in KIT.finditer(page):
             for row in mark["table"].splitlines():
-                told |= set(re.findall(r"`([^`]+)`", row.split(" | ")[0]))
+                told |= set(re.findall(r"`([^`]+)`", row.split(" | ")[0].replace("\\|", "|")))
     words = {path.rpartition(".")[2].replace("◌", " ").strip() for path in kit}
     return [f"a word of the kit without a meaning: {word}" for word in sorted(words - told)]
 

@@ -142,10 +142,10 @@ pub second_put : {T : Type 0} (r : Result T Failure) (a b c : Option Files) (n m
     → MatchResult r (λ _. PutsFile b c m y × (after ≡ before)) (λ f. FailsToPutOne f m before after)
     → MatchResult r (λ _. PutsFiles a c names texts × (after ≡ first)) (λ f. FailsToPut f names texts a c first after)
 second_put (Ok u) a b c n m x y names texts first before after same named told put others h = (
-      subst (λ (ns : List (List ℕ)). PutsFiles a c ns texts) named
+  subst (λ (ns : List (List ℕ)). PutsFiles a c ns texts) named
       (subst (λ (ts : List (List ℕ)). PutsFiles a c (n ∷ m ∷ []) ts) told (two_put a b c n m x y put h.0)),
-      h.1 ∙ same,
-    )
+  h.1 ∙ same,
+)
 second_put (Err f) a b c n m x y names texts first before after same named told put others h =
     subst (λ (ns : List (List ℕ)). FailsToPut f ns texts a c first after) named
     (subst (λ (ts : List (List ℕ)). FailsToPut f (n ∷ m ∷ []) ts a c first after) told

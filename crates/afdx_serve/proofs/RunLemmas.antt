@@ -117,8 +117,13 @@ module _ (paths : Paths) (a : Option Files) (plan : Plan) (captures : List Text)
       → MatchResult r (λ o. LeadsTo paths a o × (after ≡ before)) (λ f. FailsToGather f (inputs_of paths) a before after)
   gathered = leads_as (inputs_of paths) a plan captures before after of count (λ o. IsOutcome (table_in plan) captures o × (is_cleared plan ≡ true → IsIsolated (table_in plan) captures o)) (LeadsTo paths a)
       (λ o h. record {
-        table = table_in plan; captures = captures; has_plan = of.has_plan; has_captures = of.has_captures; outcome = h.0;
-        isolated = λ (checked : paths.unchecked ≡ false). h.1 (of.cleared ∙ ap not checked) })
+        table = table_in plan;
+        captures = captures;
+        has_plan = of.has_plan;
+        has_captures = of.has_captures;
+        outcome = h.0;
+        isolated = λ (checked : paths.unchecked ≡ false). h.1 (of.cleared ∙ ap not checked);
+      })
 
   -- a finished switch of the captures, and what is told of it
   abbrev pub IsTold : List (List ℕ) → Type 0
@@ -127,10 +132,18 @@ module _ (paths : Paths) (a : Option Files) (plan : Plan) (captures : List Text)
   pub traced : (r : Result (List (List ℕ)) Failure) → MatchResult r IsTold (λ f. FailsToLead f (table_in plan) captures)
       → MatchResult r (λ texts. IsTraceIn paths a texts × (after ≡ before)) (λ f. FailsToGather f (inputs_of paths) a before after)
   traced = leads_as (inputs_of paths) a plan captures before after of count IsTold (IsTraceIn paths a)
-      (λ texts h. (h.0, record {
-        table = table_in plan; captures = captures; has_plan = of.has_plan; has_captures = of.has_captures;
-        is_done = subst (λ (cleared : Bool). IsDoneOf cleared (table_in plan) captures h.0) of.cleared h.1;
-        isolated = λ (checked : paths.unchecked ≡ false). h.2 (of.cleared ∙ ap not checked) }, h.3))
+      (λ texts h. (
+        h.0,
+        record {
+          table = table_in plan;
+          captures = captures;
+          has_plan = of.has_plan;
+          has_captures = of.has_captures;
+          is_done = subst (λ (cleared : Bool). IsDoneOf cleared (table_in plan) captures h.0) of.cleared h.1;
+          isolated = λ (checked : paths.unchecked ≡ false). h.2 (of.cleared ∙ ap not checked);
+        },
+        h.3,
+      ))
 
 -- what was told was not all put, or was
 module _ (paths : Paths) (texts : List (List ℕ)) (a b c : Option Files) (first before after : DeviceLog) (is : IsTraceIn paths a texts) (keeps : KeepsFiles a b) (same : before ≡ first) where

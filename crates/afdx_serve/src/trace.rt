@@ -51,11 +51,7 @@ fn tell(alloc: Global, plan: Plan, captures: &[(u8, Vec<u8>)]) -> Result<Pair, F
 }
 
 /// What is told of the files of a run.
-fn traced<F: Folder>(
-    alloc: Global,
-    paths: &Paths<'_>,
-    folder: &mut F,
-) -> Result<Pair, Failure>
+fn traced<F: Folder>(alloc: Global, paths: &Paths<'_>, folder: &mut F) -> Result<Pair, Failure>
     ensures led { MatchResult result
         (λ texts. IsTraceIn paths.now (F.files folder.old) texts × (F.failed folder.new ≡ F.failed folder.old))
         (λ f. FailsToGather f (inputs_of paths.now) (F.files folder.old) (F.failed folder.old) (F.failed folder.new)) }

@@ -125,8 +125,8 @@ none_of_rows t port k before (row ∷ rows) others =
     list_any-append (is_copy k) (copies t port before row) (each_after (copies t port) (before ++ row ∷ []) rows)
     ∙ both_false _ _ (none_of_row t port k before row (ap (λ (n : ℕ). n == k) first ∙ others 0 (omega arith)))
     (none_of_rows t port k (before ++ row ∷ []) rows (λ i lt.
-      let same : length (before ++ row ∷ []) + i ≡ length before + suc i = omega (arith, longer) in
-      ap (λ (n : ℕ). n == k) same ∙ others (suc i) (omega (arith, lt))))
+    let same : length (before ++ row ∷ []) + i ≡ length before + suc i = omega (arith, longer) in
+    ap (λ (n : ℕ). n == k) same ∙ others (suc i) (omega (arith, lt))))
 
 -- ---- a feed in parts
 

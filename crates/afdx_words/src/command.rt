@@ -92,7 +92,8 @@ links ask for, 5 memory or a device.
 Example: afdx measure table.toml in";
 
 /// What the help of `trace` says at its end.
-const TRACE: &str = "Runs as run does, and puts two files of comma-separated values with a heading into
+const TRACE: &str =
+    "Runs as run does, and puts two files of comma-separated values with a heading into
 OUT, which must be there, in place of the captures: arrivals.csv has a line for
 each frame that came in, with its fate, how many ns too early a policed one came,
 and the ports whose buffers were full; departures.csv has one for each copy that a
