@@ -113,7 +113,7 @@ module _ {Z : Type 0} where
         let m = length-map new (λ (o : Outlet Z). due o.port.content) in
         let next : get_or dues k None ≡ due (get_or new k d).port.content = ap (λ ds. get_or ds k None) are ∙ get_or-map (λ (o : Outlet Z). due o.port.content) new k d None here in
         carried_no at (seen (get_or new k d)) (reached latency at (get_or new k d).port.content (same k d here) ∙ ap (starts_before (at + latency)) (sym next)
-            ∙ none k None (omega (arith, here, n, m)))
+        ∙ none k None (omega (arith, here, n, m)))
         ∙ way.same k d lt;
   }
 

@@ -157,9 +157,10 @@ module _ {X : Type 0} (number : X → ℕ) where
       → more ≡ ns ++ number y ∷ [] → ys ≡ xs → zs ≡ ys ++ y ∷ [] → (more ≡ map number zs) × IsDistinct nat_eq (map number zs)
   more_numbered ns more xs seen ys zs y ok view new more-is ys-is zs-is =
       let all : zs ≡ xs ++ y ∷ [] = zs-is ∙ ap (λ (ws : List X). ws ++ y ∷ []) ys-is in
-      let unlike : list_any (λ x. nat_eq (number y) (number x)) xs ≡ false = ap (list_any (λ (x : X). nat_eq (number y) (number x))) view ∙ new in
-      (more-is ∙ ap (λ (ks : List ℕ). ks ++ number y ∷ []) ok.0 ∙ sym (map-append number xs (y ∷ [])) ∙ ap (map number) (sym all),
-      subst (λ (ws : List X). IsDistinct nat_eq (map number ws)) (sym all) (distinct_more xs y ok.1 unlike))
+      let unlike : list_any (λ x. nat_eq (number y) (number x)) xs ≡ false = ap (list_any (λ (x : X). nat_eq (number y) (number x))) view ∙ new in (
+        more-is ∙ ap (λ (ks : List ℕ). ks ++ number y ∷ []) ok.0 ∙ sym (map-append number xs (y ∷ [])) ∙ ap (map number) (sym all),
+        subst (λ (ws : List X). IsDistinct nat_eq (map number ws)) (sym all) (distinct_more xs y ok.1 unlike),
+      )
 
   pub none_listed : (n : ℕ) (ns : List ℕ) (xs seen : List X) → ns ≡ map number xs → xs ≡ seen → list_any (λ x. nat_eq n (number x)) seen ≡ false → list_any (λ k. nat_eq k n) ns ≡ false
   none_listed n ns xs seen ns-is view none = turned_any n ns ∙ ap (list_any (nat_eq n)) (ns-is ∙ ap (map number) view) ∙ any_number n seen ∙ none

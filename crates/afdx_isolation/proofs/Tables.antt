@@ -158,7 +158,7 @@ module _ (latency : ℕ) (row : PortRow) (asks : AsksWhatItsAccountGives) where
   abbrev KeepsBounds : List Link → Type 0
   KeepsBounds links = (0 < (sums_of row.speed links).highs → ((sums_of row.speed links).high_burst + parts * (sums_of row.speed links).low_largest) / parts + latency ≤ row.max_delay)
       × (0 < (sums_of row.speed links).lows → ((sums_of row.speed links).high_rate < parts)
-          × ((sums_of row.speed links).burst / (parts - (sums_of row.speed links).high_rate) + latency ≤ row.max_delay))
+      × ((sums_of row.speed links).burst / (parts - (sums_of row.speed links).high_rate) + latency ≤ row.max_delay))
 
   carries : (links : List Link) → (0 < (sums_of row.speed links).highs + (sums_of row.speed links).lows → CarriesSums row (behind latency (sums_of row.speed links))) → KeepsBounds links
       → Carries (settings_of latency row) (map (flow_of row.speed) links)
@@ -307,7 +307,7 @@ isolated_at pays asks some keeps isolates t arrivals h row among c settings is =
     } in
     let bounds : KeepsBounds t.latency row asks links = All-contains (λ (row : PortRow). KeepsBounds t.latency row asks (routed row.id t.links)) t.ports row (keeps t h.well_formed h.accepted) among in
     let accepted = All-contains (λ (row : PortRow). 0 < (sums_at t.latency row.speed row.id t.links).highs + (sums_at t.latency row.speed row.id t.links).lows
-        → CarriesSums row (sums_at t.latency row.speed row.id t.links)) t.ports row h.accepted among in
+    → CarriesSums row (sums_at t.latency row.speed row.id t.links)) t.ports row h.accepted among in
     let load : Carries s flows = carries t.latency row asks links accepted bounds in
     let all : IsIsolatedSoFar flows arrivals c = isolates c flows arrivals (subst (λ s. Arrive s flows arrivals) (sym settings) arrive) (subst (λ s. Carries s flows) (sym settings) load) (subst (λ s. c.admitted ≡ admitted s (feed_of flows arrivals)) (sym settings) is) in
     let in_bound : All (IsInBound s (load_of s flows)) (sent_of (done c)) = subst (λ s. All (IsInBound s (load_of s flows)) (sent_of (done c))) settings all.in_bound in

@@ -243,7 +243,7 @@ one_fault c f g well a b =
     let row : a.row ≡ b.row = one_port c.ports a.row b.row well.ports_rise a.is_port b.is_port (omega (arith, no_higher c f g a b, no_higher c g f b a)) in
     let rule : f.rule ≡ g.rule = same_rule f.rule g.rule (omega (arith, no_later c f g a b row, no_later c g f b a (sym row))) in
     let need : Some f.need ≡ Some g.need = sym a.need ∙ ap (λ (r : Rule). need_of r (load_at c.latency c.links a.row)) rule ∙ ap (λ (p : PortRow). need_of g.rule (load_at c.latency c.links p)) row
-        ∙ b.need in
+    ∙ b.need in
     let limit : f.limit ≡ g.limit = sym a.limit ∙ ap (λ (r : Rule). limit_of r a.row) rule ∙ ap (limit_of g.rule) row ∙ b.limit in
     let port : f.port ≡ g.port = sym a.number ∙ ap (λ (p : PortRow). p.id) row ∙ b.number in
     same_fault f.port g.port f.rule g.rule f.need g.need f.limit g.limit port rule (let n : f.need ≡ g.need = cc in n) limit
