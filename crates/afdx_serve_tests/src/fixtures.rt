@@ -90,7 +90,7 @@ pub(crate) fn folder_of(
     alloc: Global,
     table: &str,
     captures: &[&[u8]],
-) -> Result<MemoryFolder, AllocError> {
+) -> Result<MemoryFolder<Global>, AllocError> {
     let mut folder = MemoryFolder::new(alloc);
     folder.add("t", table.as_bytes())?;
     let names = ["in/port-1.pcap", "in/port-2.pcap", "in/port-3.pcap"];
