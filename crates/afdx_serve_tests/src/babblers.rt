@@ -81,12 +81,11 @@ fn checks_the_table(rt: HostRuntime) -> Result<(), Fail> {
     let mut folder = MemoryFolder::new(alloc);
     folder.add("t", three_to_one(alloc)?.as_bytes())?;
     let got = answer_over(alloc, "afdx check t", b"", &mut folder)?;
-    assert_eq!(rt;
-        got.told(),
-        (
+    assert!(rt;
+        got.is(
             0,
-            b"port 4 rate 979292160 buffer 7516 high - low 478170\naccepted\n".as_slice(),
-            b"".as_slice()
+            b"port 4 rate 979292160 buffer 7516 high - low 478170\naccepted\n",
+            b""
         )
     );
     Ok(())
@@ -124,11 +123,7 @@ fn two_babblers(rt: HostRuntime) -> Result<(), Fail> {
                 place = place.saturating_add(1);
             }
             let got = answer_over(alloc, line, b"", &mut folder)?;
-            assert_eq!(rt;
-                got.told(),
-                (0, report.as_bytes(), b"".as_slice()),
-                "{line}"
-            );
+            assert!(rt; got.is(0, report.as_bytes(), b""), "{line}");
             for (_, output) in NAMES {
                 let wanted = if output == "out/port-4.pcap" {
                     left.as_slice()

@@ -118,9 +118,9 @@ pub(crate) struct Served {
 }
 
 impl Served {
-    /// The status, what is on standard output, and what is on standard error.
-    pub(crate) fn told(&self) -> (u8, &[u8], &[u8]) {
-        (self.status, &self.out, &self.err)
+    /// Whether it is this status, with this on standard output and that on standard error.
+    pub(crate) fn is(&self, status: u8, out: &[u8], err: &[u8]) -> bool {
+        self.status == status && self.out.as_slice() == out && self.err.as_slice() == err
     }
 }
 

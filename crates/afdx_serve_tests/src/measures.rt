@@ -121,7 +121,7 @@ fn refuses_as_a_run_does(rt: HostRuntime) -> Result<(), Fail> {
     ] {
         let mut folder = run.folder(failing, FolderFault::Device)?;
         let got = answer_over(alloc, "afdx measure t in", b"", &mut folder)?;
-        assert_eq!(rt; got.told(), (5, b"".as_slice(), said.as_bytes()));
+        assert!(rt; got.is(5, b"", said.as_bytes()));
     }
     let mut folder = folder_of(alloc, &mixed(alloc)?, &[&HEADER[..23], &HEADER])?;
     let got = answer_over(alloc, "afdx measure t in", b"", &mut folder)?;

@@ -24,11 +24,7 @@ fn serves_in_memory(rt: HostRuntime) -> Result<(), Fail> {
     for line in [CHECKED, RUN] {
         let mut folder = run.sound()?;
         let got = answer_over(alloc, line, b"", &mut folder)?;
-        assert_eq!(rt;
-            got.told(),
-            (0, REPORT.as_bytes(), b"".as_slice()),
-            "{line}"
-        );
+        assert!(rt; got.is(0, REPORT.as_bytes(), b""), "{line}");
         assert!(rt; folder.holds(&run.files(), 5), "{line}");
     }
     Ok(())
@@ -60,9 +56,8 @@ fn checks_a_table(rt: HostRuntime) -> Result<(), Fail> {
         let mut folder = MemoryFolder::new(alloc);
         folder.add("t", single_to(alloc, mbit, buffer)?.as_bytes())?;
         let got = answer_over(alloc, "afdx check t", b"", &mut folder)?;
-        assert_eq!(rt;
-            got.told(),
-            (status, out.as_bytes(), err.as_bytes()),
+        assert!(rt;
+            got.is(status, out.as_bytes(), err.as_bytes()),
             "{mbit} {buffer}"
         );
     }
@@ -75,12 +70,11 @@ fn checks_a_mixed_table(rt: HostRuntime) -> Result<(), Fail> {
     let mut folder = MemoryFolder::new(alloc);
     folder.add("t", mixed(alloc)?.as_bytes())?;
     let got = answer_over(alloc, "afdx check t", b"", &mut folder)?;
-    assert_eq!(rt;
-        got.told(),
-        (
+    assert!(rt;
+        got.is(
             0,
-            b"port 2 rate 979292160 buffer 7516 high 282430 low 568836\naccepted\n".as_slice(),
-            b"".as_slice()
+            b"port 2 rate 979292160 buffer 7516 high 282430 low 568836\naccepted\n",
+            b""
         )
     );
     Ok(())
@@ -126,14 +120,7 @@ fn stops_at_a_missing_capture(rt: HostRuntime) -> Result<(), Fail> {
     folder.add("t", single(alloc)?.as_bytes())?;
     folder.add("in/port-1.pcap", &HEADER)?;
     let got = answer_over(alloc, RUN, b"", &mut folder)?;
-    assert_eq!(rt;
-        got.told(),
-        (
-            5,
-            b"".as_slice(),
-            b"afdx: device get in/port-2.pcap\n".as_slice()
-        )
-    );
+    assert!(rt; got.is(5, b"", b"afdx: device get in/port-2.pcap\n"));
     assert_eq!(rt; folder.last_failure(), Some("in/port-2.pcap"));
     assert_eq!(rt; folder.bytes("out/port-1.pcap"), None);
     Ok(())
@@ -162,7 +149,7 @@ fn stops_at_a_failing_folder(rt: HostRuntime) -> Result<(), Fail> {
             ] {
                 let mut folder = run.folder(failing, fault)?;
                 let got = answer_over(alloc, words, b"", &mut folder)?;
-                assert_eq!(rt; got.told(), (5, b"".as_slice(), line.as_bytes()), "{name}");
+                assert!(rt; got.is(5, b"", line.as_bytes()), "{name}");
                 assert_eq!(rt; folder.calls(), failing, "{name}");
                 assert_eq!(rt; folder.last_failure(), last, "{name}");
                 assert!(rt; folder.holds(&run.files(), files), "{name}");
@@ -170,11 +157,7 @@ fn stops_at_a_failing_folder(rt: HostRuntime) -> Result<(), Fail> {
         }
         let mut folder = run.folder(6, FolderFault::Device)?;
         let got = answer_over(alloc, words, b"", &mut folder)?;
-        assert_eq!(rt;
-            got.told(),
-            (0, REPORT.as_bytes(), b"".as_slice()),
-            "{words}"
-        );
+        assert!(rt; got.is(0, REPORT.as_bytes(), b""), "{words}");
         assert!(rt; folder.holds(&run.files(), 5), "{words}");
     }
     Ok(())
@@ -228,7 +211,7 @@ fn tells_a_tables_refusal(rt: HostRuntime) -> Result<(), Fail> {
         let mut folder = MemoryFolder::new(alloc);
         folder.add("t", text.as_bytes())?;
         let got = answer_over(alloc, RUN, b"", &mut folder)?;
-        assert_eq!(rt; got.told(), (3, b"".as_slice(), line.as_bytes()), "{line}");
+        assert!(rt; got.is(3, b"", line.as_bytes()), "{line}");
     }
     Ok(())
 }

@@ -196,7 +196,7 @@ fn passes_what_conforms(rt: HostRuntime) -> Result<(), Fail> {
         let input = capture(alloc, given)?;
         let want = capture(alloc, passed)?;
         let got = answer(alloc, LINK_10, &input)?;
-        assert_eq!(rt; got.told(), (0, want.as_slice(), b"".as_slice()), "{name}");
+        assert!(rt; got.is(0, want.as_slice(), b""), "{name}");
     }
     Ok(())
 }
@@ -233,11 +233,7 @@ fn refuses_words(rt: HostRuntime) -> Result<(), Fail> {
         "afdx alone --id 10 --bag 1 --jitter 0 --size 64 in",
     ] {
         let got = answer(alloc, line, &HEADER)?;
-        assert_eq!(rt;
-            got.told(),
-            (2, b"".as_slice(), b"afdx: usage\n".as_slice()),
-            "{line}"
-        );
+        assert!(rt; got.is(2, b"", b"afdx: usage\n"), "{line}");
     }
     Ok(())
 }
@@ -250,11 +246,7 @@ fn takes_values_at_their_limits(rt: HostRuntime) -> Result<(), Fail> {
         "afdx alone --size=064 --jitter=+0 --bag=1 --id=0",
     ] {
         let got = answer(alloc, line, &HEADER)?;
-        assert_eq!(rt;
-            got.told(),
-            (0, HEADER.as_slice(), b"".as_slice()),
-            "{line}"
-        );
+        assert!(rt; got.is(0, HEADER.as_slice(), b""), "{line}");
     }
     Ok(())
 }
@@ -324,7 +316,7 @@ fn tells_the_first_fault(rt: HostRuntime) -> Result<(), Fail> {
             *place = byte;
         }
         let got = answer(alloc, LINK_10, &input)?;
-        assert_eq!(rt; got.told(), (3, b"".as_slice(), line.as_bytes()), "{line}");
+        assert!(rt; got.is(3, b"", line.as_bytes()), "{line}");
     }
     Ok(())
 }
@@ -344,7 +336,7 @@ fn shows_help(rt: HostRuntime) -> Result<(), Fail> {
         ("afdx -V", VERSION),
     ] {
         let got = answer(alloc, line, b"")?;
-        assert_eq!(rt; got.told(), (0, text.as_bytes(), b"".as_slice()), "{line}");
+        assert!(rt; got.is(0, text.as_bytes(), b""), "{line}");
     }
     Ok(())
 }
