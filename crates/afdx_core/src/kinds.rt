@@ -35,8 +35,6 @@ pub enum Fate {
 /// An arrival that was taken, as contracts see it.
 #[derive(Clone, Copy, Debug, PartialEq, Eq)]
 pub struct Row {
-    /// The port at which it came in.
-    pub in_port: u8,
     /// The instant at which it had wholly come.
     pub stamp: Stamp,
     /// Its size in bytes, check sequence included.
@@ -45,6 +43,8 @@ pub struct Row {
     pub verdict: Verdict,
     /// The number of the link that it names, where the filter found that link in the table.
     pub link: Option<u16>,
+    /// The port at which it came in; last, as fields stand in the order in which they are declared.
+    pub in_port: u8,
 }
 
 /// What became of an arrival.
