@@ -1,6 +1,7 @@
 //! Laws over the definitions: functions that do nothing, whose contracts are the laws.
 
-ghost use Rattle.afdx_account.specs.Laws.{StepsPassWhatConforms, ConformingIsTested, NextJoinsWhereItConforms, NextFrameJoinsWhereItConforms, PassedByTheirFrames, HeadroomIsCredited, HeadroomDecides, HeadroomIsDebited};
+ghost use Rattle.afdx_account.specs.Laws.{StepsPassWhatConforms, ConformingIsTested, NextJoinsWhereItConforms, NextFrameJoinsWhereItConforms, PassedByTheirFrames, HeadroomIsCredited};
+ghost use Rattle.afdx_account.specs.Laws.{HeadroomDecides, HeadroomIsDebited};
 ghost use Rattle.afdx_account.specs.Early.{EarlyIsLeast, EarlyByTheLevel};
 ghost use Rattle.afdx_account.specs.Laws.{BytePricesPay, FramePricesPay, PricesPay};
 

@@ -69,11 +69,13 @@ one_more next t i port l before row found leads = by_clean (says_clean i row.ver
   before_own : List Frame
   before_own = account_frames i before
 
-  by_pass : (b : Bool) → cond b (passed_frames (terms_of l) (account_frames i before) ++ frame_of row ∷ []) (passed_frames (terms_of l) (account_frames i before)) ≡ passed_frames (terms_of l) (account_frames i before) ++ part_of i (cond (b && true) (item_of l before row ∷ []) [])
+  by_pass : (b : Bool) → cond b (passed_frames (terms_of l) (account_frames i before) ++ frame_of row ∷ []) (passed_frames (terms_of l) (account_frames i before))
+      ≡ passed_frames (terms_of l) (account_frames i before) ++ part_of i (cond (b && true) (item_of l before row ∷ []) [])
   by_pass true = ap (λ v. passed_frames (terms_of l) (account_frames i before) ++ map frame_in (cond v (item_of l before row ∷ []) [])) (sym id)
   by_pass false = sym (append-nil (passed_frames (terms_of l) (account_frames i before)))
 
-  by_clean : (b : Bool) → says_clean i row.verdict ≡ b → passed_frames (terms_of l) (account_frames i (before ++ row ∷ [])) ≡ passed_frames (terms_of l) (account_frames i before) ++ part_of i (copies t port before row)
+  by_clean : (b : Bool) → says_clean i row.verdict ≡ b → passed_frames (terms_of l) (account_frames i (before ++ row ∷ [])) ≡ passed_frames (terms_of l) (account_frames i before)
+      ++ part_of i (copies t port before row)
   by_clean true is =
       let clean = clean_true i row.verdict is in
       let copied : copies t port before row ≡ cond (conforms (terms_of l) (passed_frames (terms_of l) (account_frames i before)) (frame_of row) && true) (item_of l before row ∷ []) [] =
@@ -92,7 +94,8 @@ part-append i xs ys = ap (map frame_in) (filter-append (λ (x : Item). x.link ==
 
 all_more : NextFrameJoinsWhereItConforms → (t : Content) (i port : ℕ) (l : Link) (before rows : List Row) → link_row t i ≡ Some l → leads_to port l ≡ true
     → passed_frames (terms_of l) (account_frames i before) ++ part_of i (each_after (copies t port) before rows) ≡ passed_frames (terms_of l) (account_frames i (before ++ rows))
-all_more next t i port l before [] found leads = append-nil (passed_frames (terms_of l) (account_frames i before)) ∙ ap (λ rs. passed_frames (terms_of l) (account_frames i rs)) (sym (append-nil before))
+all_more next t i port l before [] found leads = append-nil (passed_frames (terms_of l) (account_frames i before))
+    ∙ ap (λ rs. passed_frames (terms_of l) (account_frames i rs)) (sym (append-nil before))
 all_more next t i port l before (row ∷ rows) found leads =
     ap (λ fs. passed_frames (terms_of l) (account_frames i before) ++ fs) (part-append i (copies t port before row) (each_after (copies t port) (before ++ row ∷ []) rows))
     ∙ sym (append_assoc (passed_frames (terms_of l) (account_frames i before)) (part_of i (copies t port before row)) (part_of i (each_after (copies t port) (before ++ row ∷ []) rows)))
@@ -100,6 +103,7 @@ all_more next t i port l before (row ∷ rows) found leads =
     ∙ all_more next t i port l (before ++ row ∷ []) rows found leads
     ∙ ap (λ rs. passed_frames (terms_of l) (account_frames i rs)) (append_assoc before (row ∷ []) rows)
 
-pub feed_is_passed : NextFrameJoinsWhereItConforms → (t : Content) (i port : ℕ) (l : Link) (rows : List Row) → link_row t i ≡ Some l → leads_to port l ≡ true → part_of i (feed_of t port rows) ≡ passed_frames (terms_of l) (account_frames i rows)
+pub feed_is_passed : NextFrameJoinsWhereItConforms → (t : Content) (i port : ℕ) (l : Link) (rows : List Row) → link_row t i ≡ Some l → leads_to port l ≡ true → part_of i (feed_of t port rows)
+    ≡ passed_frames (terms_of l) (account_frames i rows)
 unfolding feed_of account_frames
 feed_is_passed next t i port l rows found leads = all_more next t i port l [] rows found leads

@@ -1,5 +1,6 @@
 -- The tree of what is due: what a write leaves of it, and what its root says of its leaves.
-use Rattle.std.proofs.Common.{◌≡◌, ◌≢◌, ℕ, zero, suc, ◌+◌, ◌*◌, ◌/◌, ◌<◌, ◌≤◌, ◌==◌, min, Bool, true, false, if◌then◌else◌, List, [], ◌∷◌, length, get_or, set, take, drop, map, replicate, Option, Some, None, All, refl, ap, sym, ◌∙◌, arith, get_or-set_same, get_or-set_other, inl, inr, slice_index_or, subst}
+use Rattle.std.proofs.Common.{◌≡◌, ◌≢◌, ℕ, zero, suc, ◌+◌, ◌*◌, ◌/◌, ◌<◌, ◌≤◌, ◌==◌, min, Bool, true, false, if◌then◌else◌, List, [], ◌∷◌, length, get_or, set, take, drop, map, replicate, Option}
+use Rattle.std.proofs.Common.{Some, None, All, refl, ap, sym, ◌∙◌, arith, get_or-set_same, get_or-set_other, inl, inr, slice_index_or, subst}
 use Rattle.std.proofs.lemmas.List.{get_or-replicate, length-set, length-map, length-take-le, length-drop, get_or-map, get_or-take, get_or-drop, map-set, drop-set-add, drop-set-lt}
 use Rattle.std.proofs.Math.Seq.{take-set-lt}
 use Rattle.std.proofs.lemmas.Bool.{cases_eq, cases_lt, le-ltb, ne_eqb}

@@ -81,7 +81,8 @@ unfolding account_frames passes feed_of next others reach links_and_ends
 large_one_first = refl
 
 -- the program's merge takes records of one instant by port
-by_port : map {B = ℕ × ℕ} (λ (a : Arrival). (a.port, a.frame.stamp)) (merged (record { port = 1; records = frame_at 0 ∷ frame_at 5 ∷ [] } ∷ record { port = 2; records = frame_at 0 ∷ frame_at 4 ∷ [] } ∷ [])) ≡ (1, 0) ∷ (2, 0) ∷ (2, 4) ∷ (1, 5) ∷ []
+by_port : map {B = ℕ × ℕ} (λ (a : Arrival). (a.port, a.frame.stamp)) (merged (record { port = 1; records = frame_at 0 ∷ frame_at 5 ∷ [] } ∷ record { port = 2; records = frame_at 0 ∷ frame_at 4 ∷ [] }
+    ∷ [])) ≡ (1, 0) ∷ (2, 0) ∷ (2, 4) ∷ (1, 5) ∷ []
 by_port = refl
 
 -- a frame that is policed is no port's, one that is filtered touches no account

@@ -1,5 +1,6 @@
 -- A switch's rows as the arrivals of the ports' laws: the headline.
-use Rattle.std.proofs.Common.{◌≡◌, ℕ, ◌≤◌, ◌<◌, ◌==◌, Bool, true, false, cond, ◌&&◌, nat_eq, List, [], ◌∷◌, ◌++◌, length, map, filter, get_or, Option, Some, None, refl, ap, sym, ◌∙◌, subst, arith, append-nil, append_assoc}
+use Rattle.std.proofs.Common.{◌≡◌, ℕ, ◌≤◌, ◌<◌, ◌==◌, Bool, true, false, cond, ◌&&◌, nat_eq, List, [], ◌∷◌, ◌++◌, length, map, filter, get_or, Option, Some, None, refl, ap, sym, ◌∙◌, subst, arith}
+use Rattle.std.proofs.Common.{append-nil, append_assoc}
 use Rattle.std.specs.Prelude.{All, Contains}
 use Rattle.std.proofs.lemmas.List.{map-append, get_or_default}
 use Rattle.std.proofs.lemmas.List.Elements.{All-nil, All-cons, All-head, All-tail, All-append, filter-append}
@@ -21,7 +22,8 @@ use Rattle.afdx_account.specs.Laws.{NextJoinsWhereItConforms, PassedByTheirFrame
 use Rattle.afdx_port.specs.declared.Item.{Item}
 use Rattle.afdx_port.specs.Admission.{admitted, AllFitIn}
 use Rattle.afdx_isolation.specs.Arrivals.{own, joins, feed_after, feed_of as offered_of}
-use Rattle.afdx_isolation.specs.Table.{flows_at, IsCleanIn, OffersWhatThePolicingPasses, AcceptedTablesIsolate as TablesIsolate, BuffersHoldTheBacklog as TablesHoldTheBacklog, ArriveAt, IsIsolatedAt, settings_of}
+use Rattle.afdx_isolation.specs.Table.{flows_at, IsCleanIn, OffersWhatThePolicingPasses, AcceptedTablesIsolate as TablesIsolate, BuffersHoldTheBacklog as TablesHoldTheBacklog, ArriveAt}
+use Rattle.afdx_isolation.specs.Table.{IsIsolatedAt, settings_of}
 use Rattle.afdx_load.specs.Sums.{terms_of, load_of}
 use Rattle.afdx_core.specs.declared.kinds.Row.{Row}
 use Rattle.afdx_core.specs.Rows.{frame_of, account_frames, says_clean, passes, named, item_of, copies_by, copies, each_after, feed_of}
@@ -87,7 +89,8 @@ module _ (links : LinksAreFound) (t : Content) where
   own_one l found before row WrongPort = refl
   own_one l found before row TooBig = refl
 
-  own_after : (l : Link) → link_row t l.id ≡ Some l → (before rows : List Row) → map frame_in (own l.id (each_after copy before rows)) ≡ map frame_of (filter (λ (row : Row). says_clean l.id row.verdict) rows)
+  own_after : (l : Link) → link_row t l.id ≡ Some l → (before rows : List Row) → map frame_in (own l.id (each_after copy before rows))
+      ≡ map frame_of (filter (λ (row : Row). says_clean l.id row.verdict) rows)
   own_after l found before [] = refl
   own_after l found before (row ∷ rows) =
       own-append l.id (copy before row) (each_after copy (before ++ row ∷ []) rows)
@@ -123,7 +126,8 @@ module _ (links : LinksAreFound) (t : Content) where
     offered_after before (row ∷ rows) = by (offered_after (before ++ row ∷ []) rows) (named t row.verdict) refl where
       by : each_after (copies t p.id) (before ++ row ∷ []) rows ≡ feed_after (flows_at t p) (clean_copies t (before ++ row ∷ [])) (each_after copy (before ++ row ∷ []) rows)
           → (o : Option Link) → named t row.verdict ≡ o
-          → copies_by o p.id before row ++ each_after (copies t p.id) (before ++ row ∷ []) rows ≡ feed_after (flows_at t p) (clean_copies t before) (copy_by o before row ++ each_after copy (before ++ row ∷ []) rows)
+          → copies_by o p.id before row ++ each_after (copies t p.id) (before ++ row ∷ []) rows
+          ≡ feed_after (flows_at t p) (clean_copies t before) (copy_by o before row ++ each_after copy (before ++ row ∷ []) rows)
       by ih None is = ih ∙ ap (λ bs. feed_after (flows_at t p) bs (each_after copy (before ++ row ∷ []) rows))
           (clean-push before row ∙ ap (λ o. clean_copies t before ++ copy_by o before row) is ∙ append-nil (clean_copies t before))
       by ih (Some l) is =
@@ -161,7 +165,8 @@ module _ (links : LinksAreFound) (t : Content) where
     clean_after : (before rows : List Row) → All (IsOfAnArrival t) rows → All (IsCleanIn t) (each_after copy before rows)
     clean_after before [] h = All-nil (IsCleanIn t)
     clean_after before (row ∷ rows) h =
-        All-append (IsCleanIn t) (copy before row) (each_after copy (before ++ row ∷ []) rows) (by (named t row.verdict) refl) (clean_after (before ++ row ∷ []) rows (All-tail (IsOfAnArrival t) row rows h)) where
+        All-append (IsCleanIn t) (copy before row) (each_after copy (before ++ row ∷ []) rows) (by (named t row.verdict) refl)
+        (clean_after (before ++ row ∷ []) rows (All-tail (IsOfAnArrival t) row rows h)) where
           by : (o : Option Link) → named t row.verdict ≡ o → All (IsCleanIn t) (copy_by o before row)
           by None is = All-nil (IsCleanIn t)
           by (Some l) is = All-cons (IsCleanIn t) (item_of l before row) [] (clean_one before row (All-head (IsOfAnArrival t) row rows h) l is) (All-nil (IsCleanIn t))
@@ -191,7 +196,8 @@ passed_are links by_frames t l rows well among =
 
 -- ---- the theorem
 
-module _ (links : LinksAreFound) (have_link : CleanFramesHaveALink) (offers : OffersWhatThePolicingPasses) (isolate : TablesIsolate) (r : Run) (run : IsRun r) (well : IsWellFormed r.table) (accepted : IsAccepted r.table) where
+module _ (links : LinksAreFound) (have_link : CleanFramesHaveALink) (offers : OffersWhatThePolicingPasses) (isolate : TablesIsolate) (r : Run) (run : IsRun r) (well : IsWellFormed r.table)
+    (accepted : IsAccepted r.table) where
   abbrev arrivals : List Item
   arrivals = clean_copies r.table r.rows
 
@@ -204,7 +210,8 @@ module _ (links : LinksAreFound) (have_link : CleanFramesHaveALink) (offers : Of
   pub holds_backlog : TablesHoldTheBacklog → (p : PortRow) → Contains r.table.ports p → (bytes : ℕ) → backlog (load_of r.table.latency p.speed p.id r.table.links) ≤ byte_time p.speed bytes
       → AllFitIn bytes (settings_of r.table.latency p) [] (port_in r p).admitted
   holds_backlog hold p among bytes holds =
-      subst (λ (feed : List Item). AllFitIn bytes (settings_of r.table.latency p) [] (admitted (settings_of r.table.latency p) feed)) (sym (offered_is links r.table well offers p r.rows)) (hold r.table arrivals arrive p among bytes holds)
+      subst (λ (feed : List Item). AllFitIn bytes (settings_of r.table.latency p) [] (admitted (settings_of r.table.latency p) feed)) (sym (offered_is links r.table well offers p r.rows))
+      (hold r.table arrivals arrive p among bytes holds)
 
   pub isolated : IsIsolated r
   isolated = record {

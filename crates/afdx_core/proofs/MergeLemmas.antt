@@ -39,7 +39,14 @@ placed_rising a [] rising = (tt, tt)
 placed_rising a (b ∷ arrivals) rising =
     elim (cases_Bool (nat_le a.frame.stamp b.frame.stamp)) [
       | inl before ↦ let le = le_true a.frame.stamp b.frame.stamp before in
-          rw before ((le, AllByRecursion-weaken (λ (c : Arrival). b.frame.stamp ≤ c.frame.stamp) (λ (c : Arrival). a.frame.stamp ≤ c.frame.stamp) arrivals (λ c more. omega (arith, le, more)) rising.0), rising)
+          rw before (
+            (
+              le,
+              AllByRecursion-weaken (λ (c : Arrival). b.frame.stamp ≤ c.frame.stamp) (λ (c : Arrival). a.frame.stamp ≤ c.frame.stamp) arrivals (λ c more. omega (arith, le, more))
+                  rising.0,
+            ),
+            rising,
+          )
       | inr after ↦ let lt = le_false a.frame.stamp b.frame.stamp after in
           rw after (placed_all (λ (c : Arrival). b.frame.stamp ≤ c.frame.stamp) a arrivals (omega (arith, lt)) rising.0, placed_rising a arrivals rising.1)
     ]
@@ -92,7 +99,8 @@ placed_own port a (b ∷ arrivals) own least =
 by_stamp_part : (port : ℕ) (arrivals : List Arrival) → Rises (part_at port arrivals) → part_at port (by_stamp arrivals) ≡ part_at port arrivals
 by_stamp_part port [] rises = refl
 by_stamp_part port (a ∷ arrivals) rises = by_head (a.port == port) refl (by_stamp_part port arrivals) where
-  by_head : (t : Bool) → (a.port == port) ≡ t → (Rises (part_at port arrivals) → part_at port (by_stamp arrivals) ≡ part_at port arrivals) → part_at port (placed a (by_stamp arrivals)) ≡ part_at port (a ∷ arrivals)
+  by_head : (t : Bool) → (a.port == port) ≡ t → (Rises (part_at port arrivals) → part_at port (by_stamp arrivals) ≡ part_at port arrivals) → part_at port (placed a (by_stamp arrivals))
+      ≡ part_at port (a ∷ arrivals)
   by_head true is more =
       let both = rw (part-cons port true a arrivals is) at rises in
       let same = more both.1 in
@@ -107,7 +115,8 @@ part-append : (port : ℕ) (xs ys : List Arrival) → part_at port (xs ++ ys) �
 part-append port xs ys = ap (map (λ (a : Arrival). a.frame)) (filter-append (λ (a : Arrival). a.port == port) xs ys)
     ∙ map-append (λ (a : Arrival). a.frame) (filter (λ (a : Arrival). a.port == port) xs) (filter (λ (a : Arrival). a.port == port) ys)
 
-part_of_capture : (port number : ℕ) (b : Bool) (records : List Entry) → (number == port) ≡ b → part_at port (map {B = Arrival} (λ (r : Entry). record { port = number; frame = r }) records) ≡ cond b records []
+part_of_capture : (port number : ℕ) (b : Bool) (records : List Entry) → (number == port) ≡ b → part_at port (map {B = Arrival} (λ (r : Entry). record { port = number; frame = r }) records)
+    ≡ cond b records []
 part_of_capture port number true [] is = refl
 part_of_capture port number false [] is = refl
 part_of_capture port number true (r ∷ records) is = rw is (ap (λ rs. r ∷ rs) (part_of_capture port number true records is))
@@ -128,7 +137,8 @@ merged_is_a_merge captures rises = record {
 
 -- ---- by stamp and port number
 
-placed_ordered : (a : Arrival) (arrivals : List Arrival) → AllByRecursion (λ (b : Arrival). a.port ≤ b.port) arrivals → AreByStampAndPort arrivals → Rising arrivals → AreByStampAndPort (placed a arrivals)
+placed_ordered : (a : Arrival) (arrivals : List Arrival) → AllByRecursion (λ (b : Arrival). a.port ≤ b.port) arrivals → AreByStampAndPort arrivals → Rising arrivals
+    → AreByStampAndPort (placed a arrivals)
 placed_ordered a [] ports ordered rising = (tt, tt)
 placed_ordered a (b ∷ arrivals) ports ordered rising =
     elim (cases_Bool (nat_le a.frame.stamp b.frame.stamp)) [
@@ -144,7 +154,8 @@ placed_ordered a (b ∷ arrivals) ports ordered rising =
         | inr ge ↦ inr (omega (arith, le, ge), port)
       ]
 
-      least : (cs : List Arrival) → AllByRecursion (λ (c : Arrival). a.port ≤ c.port) cs → AllByRecursion (λ (c : Arrival). a.frame.stamp ≤ c.frame.stamp) cs → AllByRecursion (λ (c : Arrival). Precedes a c) cs
+      least : (cs : List Arrival) → AllByRecursion (λ (c : Arrival). a.port ≤ c.port) cs → AllByRecursion (λ (c : Arrival). a.frame.stamp ≤ c.frame.stamp) cs
+          → AllByRecursion (λ (c : Arrival). Precedes a c) cs
       least [] ps ss = tt
       least (c ∷ cs) ps ss = (one c ps.0 ss.0, least cs ps.1 ss.1)
 

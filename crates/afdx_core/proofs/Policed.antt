@@ -1,5 +1,6 @@
 -- Accounts stand for one more arrival.
-use Rattle.std.proofs.Common.{◌≡◌, ◌≢◌, ℕ, ◌<◌, ◌≤◌, ◌==◌, nat_eq, Bool, false, List, [], ◌∷◌, ◌++◌, length, map, set, get_or, slice_index_or, ap, sym, ◌∙◌, arith, ◌+◌, ◌-◌, subst, subst₂, ⊎_elim, get_or-set_same, get_or-set_other}
+use Rattle.std.proofs.Common.{◌≡◌, ◌≢◌, ℕ, ◌<◌, ◌≤◌, ◌==◌, nat_eq, Bool, false, List, [], ◌∷◌, ◌++◌, length, map, set, get_or, slice_index_or, ap, sym, ◌∙◌, arith, ◌+◌, ◌-◌, subst, subst₂, ⊎_elim}
+use Rattle.std.proofs.Common.{get_or-set_same, get_or-set_other}
 use Rattle.std.specs.List.{IsDistinct}
 use Rattle.std.proofs.lemmas.Map.Keys.{apart_from_distinct}
 use Rattle.std.proofs.lemmas.List.{length-map, get_or-map, length-set, get_or_default, get_or_append_left, get_or-append_right}
@@ -78,7 +79,8 @@ other_link links place k l m distinct within klt ne at =
       differ a b apart same = grind (arith, nat_tests)
 
 -- where no account is asked
-pub unpoliced : (links : List Link) (rows : List Row) (latest : ℕ) (row : Row) (accounts : List Account) → ((k : ℕ) (l : Link) → k < length links → says_clean (slice_index_or links k l).id row.verdict ≡ false) → latest ≤ row.stamp
+pub unpoliced : (links : List Link) (rows : List Row) (latest : ℕ) (row : Row) (accounts : List Account)
+    → ((k : ℕ) (l : Link) → k < length links → says_clean (slice_index_or links k l).id row.verdict ≡ false) → latest ≤ row.stamp
     → AccountsStand links rows latest accounts → AccountsStand links (rows ++ row ∷ []) row.stamp accounts
 unpoliced links rows latest row accounts none le stand = record {
   len = stand.len;
@@ -101,7 +103,8 @@ policed p row place old d b lt since terms conforming links rows latest l stand 
         each = λ k m e klt. ⊎_elim
             (λ same. subst (λ j. AccountStands (slice_index_or links j m) (slice_index_or (set old place b) j e) (rows ++ row ∷ []) row.stamp) (sym same)
             (rw (get_or-set_same old place b e lt, get_or_default links place m l within, at) both.1))
-            (λ ne. rw (get_or-set_other old place k b e ne) (policed_other (slice_index_or links k m) (slice_index_or old k e) rows latest row l.id (stand.each k m e klt) clean (other_link links place k l m distinct within klt ne at) le))
+            (λ ne. rw (get_or-set_other old place k b e ne) (policed_other (slice_index_or links k m) (slice_index_or old k e) rows latest row l.id (stand.each k m e klt) clean
+            (other_link links place k l m distinct within klt ne at) le))
             (cases_eq k place);
       },
     )

@@ -56,7 +56,8 @@ module _ (links : LinksAreFound) (t : Content) (well : IsWellFormed t) (l : Link
   offered_are : (port : ℕ) (before rows : List Row) → All (IsAs l) (each_after (copies t port) before rows)
   offered_are port before [] = All-nil (IsAs l)
   offered_are port before (row ∷ rows) =
-      All-append (IsAs l) (copies t port before row) (each_after (copies t port) (before ++ row ∷ []) rows) (copies_are port before row (named t row.verdict) refl) (offered_are port (before ++ row ∷ []) rows)
+      All-append (IsAs l) (copies t port before row) (each_after (copies t port) (before ++ row ∷ []) rows) (copies_are port before row (named t row.verdict) refl)
+      (offered_are port (before ++ row ∷ []) rows)
 
   feed_is : (port : ℕ) (rows : List Row) → All (IsAs l) (feed_of t port rows)
   unfolding feed_of
@@ -68,4 +69,5 @@ have_their_priority links events r p l well among =
     let items = (port_in r p).admitted in
     let all : All (IsAs l) items = all_admitted (IsAs l) (settings_of r.table.latency p) [] (feed_of r.table p.id r.rows) (All-nil (IsAs l)) (feed_is links r.table well l among p.id r.rows) in
     sent_so_far (IsAs l) (service (settings_of r.table.latency p) 0 items) r.finished (reach (settings_of r.table.latency p) r.latest)
-    (All-weaker (λ e. Contains items (item_of e)) (λ e. IsAs l (item_of e)) (λ e one. All-contains (IsAs l) items (item_of e) all one) (service (settings_of r.table.latency p) 0 items) (events (settings_of r.table.latency p) 0 items))
+    (All-weaker (λ e. Contains items (item_of e)) (λ e. IsAs l (item_of e)) (λ e one. All-contains (IsAs l) items (item_of e) all one) (service (settings_of r.table.latency p) 0 items)
+    (events (settings_of r.table.latency p) 0 items))

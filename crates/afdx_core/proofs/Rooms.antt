@@ -1,5 +1,6 @@
 -- Room for one more item at the ports that it leads to.
-use Rattle.std.proofs.Common.{◌≡◌, ◌≢◌, ℕ, ◌+◌, ◌<◌, ◌≤◌, ◌==◌, ◌||◌, nat_eq, Bool, true, false, List, [], length, map, take, get_or, set, position, Option, Some, None, All, refl, ap, sym, ◌∙◌, arith, subst, ⊎_elim}
+use Rattle.std.proofs.Common.{◌≡◌, ◌≢◌, ℕ, ◌+◌, ◌<◌, ◌≤◌, ◌==◌, ◌||◌, nat_eq, Bool, true, false, List, [], length, map, take, get_or, set, position, Option, Some, None, All, refl, ap, sym, ◌∙◌}
+use Rattle.std.proofs.Common.{arith, subst, ⊎_elim}
 use Rattle.std.specs.List.{IsDistinct}
 use Rattle.std.proofs.lemmas.Bool.{cases_eq, cases_lt}
 use Rattle.std.proofs.lemmas.List.{length-set, get_or-set_same, get_or-set_other, get_or_default, get_or_past}
@@ -24,7 +25,8 @@ module _ {Z : Type 0} where
         (cases_eq k place);
   }
 
-  pub room_set : (os : List (Outlet Z)) (place port : ℕ) (o : Outlet Z) → IsDistinct nat_eq (ids os) → position (is_port port) os ≡ Some place → 0 < o.port.room → All (λ (x : Outlet Z). is_port port x ≡ true → 0 < x.port.room) (set os place o)
+  pub room_set : (os : List (Outlet Z)) (place port : ℕ) (o : Outlet Z) → IsDistinct nat_eq (ids os) → position (is_port port) os ≡ Some place → 0 < o.port.room
+      → All (λ (x : Outlet Z). is_port port x ≡ true → 0 < x.port.room) (set os place o)
   room_set os place port o distinct at room k d lt is =
       let klt : k < length os = let n = length-set os place o in omega (arith, lt, n) in
       let f = position-Some (is_port port) os place d at in ⊎_elim
@@ -41,7 +43,8 @@ module _ {Z : Type 0} where
   room_none os k d lt names = absurd (cc)
 
   pub room_next : (to : List ℕ) (i : ℕ) (mid new : List (Outlet Z)) → i < length to → HaveRoomFor (take i to) mid → Became (λ (x : Out). x) mid new
-      → ((k : ℕ) (d : Outlet Z) → (get_or mid k d).port.room ≤ (get_or new k d).port.room) → All (λ (x : Outlet Z). is_port (get_or to i 0) x ≡ true → 0 < x.port.room) new → HaveRoomFor (take (i + 1) to) new
+      → ((k : ℕ) (d : Outlet Z) → (get_or mid k d).port.room ≤ (get_or new k d).port.room) → All (λ (x : Outlet Z). is_port (get_or to i 0) x ≡ true → 0 < x.port.room) new
+      → HaveRoomFor (take (i + 1) to) new
   room_next to i mid new lt before became more here k d klt names =
       let kmid : k < length mid = omega (arith, klt, became.len) in
       let row : (get_or new k d).row ≡ (get_or mid k d).row = ap (λ (o : Out). o.row) (became.at k d kmid) in
@@ -52,7 +55,8 @@ module _ {Z : Type 0} where
         either true b e first second = first refl
         either false b e first second = second e
 
-  pub places_same : (places : List (Option ℕ)) (old new : List (Outlet Z)) → Became (λ (x : Out). x) old new → PlacesAre places (map (λ (o : Outlet Z). o.row) old) → PlacesAre places (map (λ (o : Outlet Z). o.row) new)
+  pub places_same : (places : List (Option ℕ)) (old new : List (Outlet Z)) → Became (λ (x : Out). x) old new → PlacesAre places (map (λ (o : Outlet Z). o.row) old)
+      → PlacesAre places (map (λ (o : Outlet Z). o.row) new)
   places_same places old new became are = subst (PlacesAre places) (sym (became_map (λ (o : Out). o) (λ (o : Out). o.row) old new (λ o. refl) became)) are
 
   pub once_same : (old new : List (Outlet Z)) → Became (λ (x : Out). x) old new → IsDistinct nat_eq (ids old) → IsDistinct nat_eq (ids new)
@@ -60,7 +64,8 @@ module _ {Z : Type 0} where
 
 -- ---- the table of places
 
-pub places_step : (places : List (Option ℕ)) (ports : List PortRow) (n : ℕ) (r : Option ℕ) → n < length places → ((port : ℕ) → port < n → get_or places port None ≡ position (λ (p : PortRow). p.id == port) ports)
+pub places_step : (places : List (Option ℕ)) (ports : List PortRow) (n : ℕ) (r : Option ℕ) → n < length places
+    → ((port : ℕ) → port < n → get_or places port None ≡ position (λ (p : PortRow). p.id == port) ports)
     → r ≡ position (λ (p : PortRow). p.id == n) ports → (port : ℕ) → port < n + 1 → get_or (set places n r) port None ≡ position (λ (p : PortRow). p.id == port) ports
 places_step places ports n r lt before is port plt = ⊎_elim
     (λ (here : port ≡ n). subst (λ j. get_or (set places n r) j None ≡ position (λ (p : PortRow). p.id == j) ports) (sym here) (get_or-set_same places n r None lt ∙ is))
@@ -80,7 +85,8 @@ no_port ports port all le = by_found (position (λ (p : PortRow). p.id == port) 
       let same = equal (get_or ports k d).id port f.1 in
       absurd (omega (arith, most, same, le))
 
-pub places_end : (places : List (Option ℕ)) (ports : List PortRow) (n : ℕ) → length places ≡ 25 → 25 ≤ n → All IsPort ports → ((port : ℕ) → port < n → get_or places port None ≡ position (λ (p : PortRow). p.id == port) ports) → PlacesAre places ports
+pub places_end : (places : List (Option ℕ)) (ports : List PortRow) (n : ℕ) → length places ≡ 25 → 25 ≤ n → All IsPort ports
+    → ((port : ℕ) → port < n → get_or places port None ≡ position (λ (p : PortRow). p.id == port) ports) → PlacesAre places ports
 places_end places ports n long le all each port = ⊎_elim
     (λ (lt : port < 25). each port (omega (arith, lt, le)))
     (λ (ge : 25 ≤ port). get_or_past places port None (omega (arith, long, ge)) ∙ sym (no_port ports port all ge))

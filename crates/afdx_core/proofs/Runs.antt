@@ -1,5 +1,6 @@
 -- Each call makes a run of a run, and over an accepted table no step is Full.
-use Rattle.std.proofs.Common.{◌≡◌, ℕ, ◌+◌, ◌≤◌, ◌<◌, ◌==◌, zero, suc, Bool, true, false, cond, ◌||◌, nat_lt, List, [], ◌∷◌, ◌++◌, length, map, find, get_or, Option, Some, None, is_none, Result, Ok, Err, refl, subst, ap, sym, ◌∙◌, arith}
+use Rattle.std.proofs.Common.{◌≡◌, ℕ, ◌+◌, ◌≤◌, ◌<◌, ◌==◌, zero, suc, Bool, true, false, cond, ◌||◌, nat_lt, List, [], ◌∷◌, ◌++◌, length, map, find, get_or, Option, Some, None, is_none, Result, Ok}
+use Rattle.std.proofs.Common.{Err, refl, subst, ap, sym, ◌∙◌, arith}
 use Rattle.std.specs.Prelude.{All, Contains, IfOk, IfErr, OnOk, OnErr}
 use Rattle.std.proofs.lemmas.Bool.Decides.{nat_tests}
 use Rattle.std.proofs.lemmas.List.Elements.{All-nil, All-push, All-weaker, All-map, All-contains, All-from_recursion, Contains-append_right}
@@ -33,7 +34,8 @@ use Rattle.afdx_core.proofs.Isolating.{named_by}
 
 -- ---- stamps that do not fall
 
-order_push : (from : ℕ) (rows : List Row) (row : Row) → from ≤ row.stamp → All (λ (r : Row). r.stamp ≤ row.stamp) rows → InOrder from (map frame_of rows) → InOrder from (map frame_of (rows ++ row ∷ []))
+order_push : (from : ℕ) (rows : List Row) (row : Row) → from ≤ row.stamp → All (λ (r : Row). r.stamp ≤ row.stamp) rows → InOrder from (map frame_of rows)
+    → InOrder from (map frame_of (rows ++ row ∷ []))
 order_push from [] row le late order = (le, tt)
 order_push from (r ∷ rows) row le late order = (order.0, order_push r.stamp rows row (late 0 r (omega arith)) (λ k d lt. late (suc k) d (omega arith)) order.1)
 
@@ -76,14 +78,16 @@ advances r to le h = record {
 row_found : (ports : List PortRow) (id : ℕ) → has_port ports id ≡ true → (p : PortRow) × (find (λ (p : PortRow). p.id == id) ports ≡ Some p)
 row_found [] id h = (cc)
 row_found (p ∷ ports) id h = by (p.id == id) h (row_found ports id) where
-  by : (b : Bool) → b || has_port ports id ≡ true → (has_port ports id ≡ true → (q : PortRow) × (find (λ (p : PortRow). p.id == id) ports ≡ Some q)) → (q : PortRow) × (cond b (Some p) (find (λ (p : PortRow). p.id == id) ports) ≡ Some q)
+  by : (b : Bool) → b || has_port ports id ≡ true → (has_port ports id ≡ true → (q : PortRow) × (find (λ (p : PortRow). p.id == id) ports ≡ Some q)) → (q : PortRow)
+      × (cond b (Some p) (find (λ (p : PortRow). p.id == id) ports) ≡ Some q)
   by true h ih = (p, refl)
   by false h ih = ih h
 
 port_true : (id : ℕ) (ports : List PortRow) (q : PortRow) → find (λ (p : PortRow). p.id == id) ports ≡ Some q → ((q.id == id) ≡ true) × Contains ports q
 port_true id [] q is = (cc)
 port_true id (p ∷ ports) q is = by (p.id == id) refl is (port_true id ports q) where
-  by : (b : Bool) → (p.id == id) ≡ b → cond b (Some p) (find (λ (p : PortRow). p.id == id) ports) ≡ Some q → (find (λ (p : PortRow). p.id == id) ports ≡ Some q → ((q.id == id) ≡ true) × Contains ports q) → ((q.id == id) ≡ true) × Contains (p ∷ ports) q
+  by : (b : Bool) → (p.id == id) ≡ b → cond b (Some p) (find (λ (p : PortRow). p.id == id) ports) ≡ Some q
+      → (find (λ (p : PortRow). p.id == id) ports ≡ Some q → ((q.id == id) ≡ true) × Contains ports q) → ((q.id == id) ≡ true) × Contains (p ∷ ports) q
   by true here is ih = let same : p ≡ q = (cc) in (ap (λ (x : PortRow). x.id == id) (sym same) ∙ here, (0, omega arith, same))
   by false here is ih = let rest = ih is in (rest.0, Contains-append_right (p ∷ []) ports q rest.1)
 
@@ -113,7 +117,8 @@ fits_where s a x is = by (fits s a x) is where
   by true is = refl
   by false is = absurd (longer (length (a ++ x ∷ [])) (length a) (length_more a x) (ap length is))
 
-module _ (links : LinksAreFound) (isolate : AcceptedTablesIsolate) (r : Run) (port : ℕ) (frame : Entry) (run : IsRun r) (taken : refusal_of r port frame.stamp ≡ None) (well : IsWellFormed r.table) (accepted : IsAccepted r.table) where
+module _ (links : LinksAreFound) (isolate : AcceptedTablesIsolate) (r : Run) (port : ℕ) (frame : Entry) (run : IsRun r) (taken : refusal_of r port frame.stamp ≡ None) (well : IsWellFormed r.table)
+    (accepted : IsAccepted r.table) where
   abbrev row : Row
   row = row_of r.table port frame
 
@@ -170,7 +175,8 @@ pub handed_run : (result : Result (Option Entry) AllocError) (old new : State) (
 handed_run (Ok out) old new port ok err run = next_run old new port out ok run
 handed_run (Err e) old new port ok err run = subst (λ (s : State). IsRun s.run) (sym err) run
 
-pub appended_run : (result : Result Bool AllocError) (old new : State) (port : ℕ) (before after : List ℕ) → IfOk result (λ some. IsAppended old new port before after some) → OnErr result (new ≡ old) → IsRun old.run → IsRun new.run
+pub appended_run : (result : Result Bool AllocError) (old new : State) (port : ℕ) (before after : List ℕ) → IfOk result (λ some. IsAppended old new port before after some) → OnErr result (new ≡ old)
+    → IsRun old.run → IsRun new.run
 appended_run (Ok true) old new port before after ok err run = let h = ok.text refl in next_run old new port (Some h.0) h.1 run
 appended_run (Ok false) old new port before after ok err run = next_run old new port None (ok.none refl).0 run
 appended_run (Err e) old new port before after ok err run = subst (λ (s : State). IsRun s.run) (sym err) run

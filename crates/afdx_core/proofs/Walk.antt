@@ -1,5 +1,6 @@
 -- A walk over the outlets that are due, and the table of what is due at each.
-use Rattle.std.proofs.Common.{◌≡◌, ◌≢◌, ℕ, suc, ◌+◌, ◌<◌, ◌≤◌, ◌==◌, nat_lt, Bool, true, false, cond, List, [], ◌∷◌, length, map, get_or, set, position, Option, Some, None, All, refl, ap, ap₂, sym, ◌∙◌, arith, subst, ⊎_elim}
+use Rattle.std.proofs.Common.{◌≡◌, ◌≢◌, ℕ, suc, ◌+◌, ◌<◌, ◌≤◌, ◌==◌, nat_lt, Bool, true, false, cond, List, [], ◌∷◌, length, map, get_or, set, position, Option, Some, None, All, refl, ap, ap₂, sym}
+use Rattle.std.proofs.Common.{◌∙◌, arith, subst, ⊎_elim}
 use Rattle.std.specs.Prelude.{sum_by, replicate}
 use Rattle.std.proofs.lemmas.Bool.{cases_eq}
 use Rattle.std.proofs.lemmas.List.{length-map, length-set, get_or-map, get_or-set_same, get_or-set_other, get_or_default, map-set}
@@ -76,7 +77,8 @@ module _ {Z : Type 0} where
         before : (a b : ℕ) → a < b → nat_lt a b ≡ true
         before a b lt = grind (arith)
 
-  pub dues_set : (dues : List (Option ℕ)) (os : List (Outlet Z)) (place : ℕ) (o : Outlet Z) (next : Option ℕ) → dues ≡ dues_of os → next ≡ due o.port.content → set dues place next ≡ dues_of (set os place o)
+  pub dues_set : (dues : List (Option ℕ)) (os : List (Outlet Z)) (place : ℕ) (o : Outlet Z) (next : Option ℕ) → dues ≡ dues_of os → next ≡ due o.port.content → set dues place next
+      ≡ dues_of (set os place o)
   dues_set dues os place o next are is = ap (λ ds. set ds place next) are ∙ ap (set (dues_of os) place) is ∙ sym (map-set (λ (x : Outlet Z). due x.port.content) os place o)
 
   -- ---- the walk
@@ -89,7 +91,8 @@ module _ {Z : Type 0} where
   pub way_start : (at : ℕ) (os : List (Outlet Z)) → OnTheWay at os os
   way_start at os = record { len = refl; same = λ k d lt. refl }
 
-  pub way_step : (at place : ℕ) (d o : Outlet Z) (old mid : List (Outlet Z)) → place < length mid → OnTheWay at old mid → has_due at (get_or mid place d).port.content ≡ true → seen o ≡ carried at (seen (get_or mid place d)) → OnTheWay at old (set mid place o)
+  pub way_step : (at place : ℕ) (d o : Outlet Z) (old mid : List (Outlet Z)) → place < length mid → OnTheWay at old mid → has_due at (get_or mid place d).port.content ≡ true → seen o
+      ≡ carried at (seen (get_or mid place d)) → OnTheWay at old (set mid place o)
   way_step at place d o old mid lt way is_due is = record {
     len = length-set mid place o ∙ way.len;
     same = λ k e klt. ⊎_elim
@@ -123,7 +126,8 @@ module _ {Z : Type 0} where
   latency_still latency at place d o os lt same is =
       All-set (λ (x : Outlet Z). x.port.content.settings.latency ≡ latency) os place o (ap (λ (r : Out). r.content.settings.latency) is ∙ same place d lt) same
 
-  pub can_still : AdvanceAdds → (at place : ℕ) (d o : Outlet Z) (os : List (Outlet Z)) → place < length os → All (λ (x : Outlet Z). CanCarry at x) os → seen o ≡ carried at (seen (get_or os place d)) → All (λ (x : Outlet Z). CanCarry at x) (set os place o)
+  pub can_still : AdvanceAdds → (at place : ℕ) (d o : Outlet Z) (os : List (Outlet Z)) → place < length os → All (λ (x : Outlet Z). CanCarry at x) os → seen o ≡ carried at (seen (get_or os place d))
+      → All (λ (x : Outlet Z). CanCarry at x) (set os place o)
   can_still adds at place d o os lt can is =
       let was = can place d lt in
       let c = (get_or os place d).port.content in

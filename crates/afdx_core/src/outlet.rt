@@ -1,6 +1,7 @@
 //! An output port beside its row of the table.
 
-ghost use Rattle.std.specs.Prelude.{◌≡◌, ℕ, ◌+◌, ◌<◌, ◌≤◌, ◌==◌, true, false, List, ◌++◌, length, map, drop, All, OnOk, vec_len, find, option_copied, position, slice_get, slice_index_or, set, IfSome, None, nat_eq};
+ghost use Rattle.std.specs.Prelude.{◌≡◌, ℕ, ◌+◌, ◌<◌, ◌≤◌, ◌==◌, true, false, List, ◌++◌, length, map, drop, All, OnOk, vec_len, find, option_copied, position, slice_get, slice_index_or, set};
+ghost use Rattle.std.specs.Prelude.{IfSome, None, nat_eq};
 ghost use Rattle.std.specs.List.{IsDistinct};
 ghost use Rattle.std.specs.Vec.{vec_capacity};
 ghost use Rattle.afdx_units.specs.Time.{last_second};
@@ -10,7 +11,8 @@ ghost use Rattle.afdx_isolation.specs.Table.{settings_of};
 ghost use Rattle.afdx_port.specs.Content.{fresh, done, answer};
 ghost use Rattle.afdx_port.specs.Service.{sent_of};
 ghost use Rattle.afdx_store.specs.Seen.{copies_of};
-ghost use Rattle.afdx_core.specs.Outlets.{seen, PlacesAre, dues_of, offered_to, offered_at, BecameAt, touched, carried, carried_due, ended, CanTake, CanCarry, IsCounted, Became, answer_at, queued_by, counted};
+ghost use Rattle.afdx_core.specs.Outlets.{seen, PlacesAre, dues_of, offered_to, offered_at, BecameAt, touched, carried, carried_due, ended, CanTake, CanCarry, IsCounted, Became, answer_at};
+ghost use Rattle.afdx_core.specs.Outlets.{queued_by, counted};
 ghost use Rattle.afdx_core.specs.Copies.{copies_at, copies_in, newly_aged, GaveUp, HoldsCopies, Thinned, Enough, AddsCopies};
 ghost use Rattle.afdx_core.specs.declared.outlet.Outlet.{Outlet as OneOutlet};
 

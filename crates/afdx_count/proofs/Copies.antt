@@ -1,5 +1,6 @@
 -- The counts of a port and of a link, by the parts of a run.
-use Rattle.std.proofs.Common.{◌≡◌, ℕ, ◌+◌, ◌<◌, ◌==◌, ◌&&◌, nat_eq, Bool, true, false, cond, List, [], ◌∷◌, ◌++◌, map, filter, find, Option, Some, None, option_map, refl, sym, ap, ◌∙◌, arith, append_assoc, inl, inr}
+use Rattle.std.proofs.Common.{◌≡◌, ℕ, ◌+◌, ◌<◌, ◌==◌, ◌&&◌, nat_eq, Bool, true, false, cond, List, [], ◌∷◌, ◌++◌, map, filter, find, Option, Some, None, option_map, refl, sym, ap, ◌∙◌, arith}
+use Rattle.std.proofs.Common.{append_assoc, inl, inr}
 use Rattle.std.specs.Prelude.{count_by}
 use Rattle.std.specs.List.{AllByRecursion, IsDistinct}
 use Rattle.std.proofs.lemmas.Bool.{cases_Bool}
@@ -90,7 +91,8 @@ map_all P f g (x ∷ xs) all h = (λ j. h x all.0 j ∷ map_all P f g xs all.1 h
 none_of : (A : ℕ → Offer) (port : ℕ) (to : List ℕ) → AllByRecursion (λ (q : ℕ). nat_eq port q ≡ false) to → answers_of port (map (λ q. (q, A q)) to) ≡ []
 none_of A port [] all = refl
 none_of A port (q ∷ to) all =
-    ap (λ b. map (λ (o : ℕ × Offer). o.1) (cond b ((q, A q) ∷ filter (λ (o : ℕ × Offer). o.0 == port) (map (λ q. (q, A q)) to)) (filter (λ (o : ℕ × Offer). o.0 == port) (map (λ q. (q, A q)) to)))) (turned port q all.0)
+    ap (λ b. map (λ (o : ℕ × Offer). o.1) (cond b ((q, A q) ∷ filter (λ (o : ℕ × Offer). o.0 == port) (map (λ q. (q, A q)) to)) (filter (λ (o : ℕ × Offer). o.0 == port) (map (λ q. (q, A q)) to))))
+    (turned port q all.0)
     ∙ none_of A port to all.1 where
       turned : (a b : ℕ) → nat_eq a b ≡ false → nat_eq b a ≡ false
       turned a b e = grind (arith, nat_tests)
@@ -147,7 +149,8 @@ module _ (r : Run) (row : Row) (p : PortRow) where
       (λ j. record { id = p.id; input = input; high = sym e1 j; low = sym e2 j })
 
   copied : (input : InCount) → IsWellFormed r.table → port_row r.table p.id ≡ Some p
-      → with_class (class_of (fate_of r.table r.rows row) (map (link_tally r.table r.rows) r.table.links)) (offers_of r row) (with_feed input feed) ≡ with_feed input (feed ++ copies r.table p.id r.rows row)
+      → with_class (class_of (fate_of r.table r.rows row) (map (link_tally r.table r.rows) r.table.links)) (offers_of r row) (with_feed input feed)
+      ≡ with_feed input (feed ++ copies r.table p.id r.rows row)
   copied input formed found = by_link (named r.table row.verdict) refl where
     links : List LinkTally
     links = map (link_tally r.table r.rows) r.table.links
@@ -175,8 +178,10 @@ module _ (r : Run) (row : Row) (p : PortRow) where
   arrived : with_arrival row.in_port (fate_of r.table r.rows row) (port_counts r.table r.rows (λ q. []) p) ≡ with_feed (input_counts (arrivals_at p.id (r.rows ++ row ∷ []))) feed
   arrived =
       elim (cases_Bool (nat_eq p.id row.in_port)) [
-        | inl hit ↦ rw hit (ap (λ i. with_feed i feed) (sym (input-push r.table p.id r.rows row ∙ ap (λ b. cond b (with_fate (fate_of r.table r.rows row) (input_counts (arrivals_at p.id r.rows))) (input_counts (arrivals_at p.id r.rows))) hit)))
-        | inr miss ↦ rw miss (ap (λ i. with_feed i feed) (sym (input-push r.table p.id r.rows row ∙ ap (λ b. cond b (with_fate (fate_of r.table r.rows row) (input_counts (arrivals_at p.id r.rows))) (input_counts (arrivals_at p.id r.rows))) miss)))
+        | inl hit ↦ rw hit (ap (λ i. with_feed i feed) (sym (input-push r.table p.id r.rows row
+            ∙ ap (λ b. cond b (with_fate (fate_of r.table r.rows row) (input_counts (arrivals_at p.id r.rows))) (input_counts (arrivals_at p.id r.rows))) hit)))
+        | inr miss ↦ rw miss (ap (λ i. with_feed i feed) (sym (input-push r.table p.id r.rows row
+            ∙ ap (λ b. cond b (with_fate (fate_of r.table r.rows row) (input_counts (arrivals_at p.id r.rows))) (input_counts (arrivals_at p.id r.rows))) miss)))
       ]
 
   feed-push : feed_of r.table p.id (r.rows ++ row ∷ []) ≡ feed ++ copies r.table p.id r.rows row
@@ -184,7 +189,8 @@ module _ (r : Run) (row : Row) (p : PortRow) where
   feed-push = each-push (copies r.table p.id) [] r.rows row
 
   pub port-push : IsWellFormed r.table → port_row r.table p.id ≡ Some p
-      → noted_port (class_of (fate_of r.table r.rows row) (map (link_tally r.table r.rows) r.table.links)) (handling_of r row) (port_counts r.table r.rows (λ q. []) p) ≡ port_counts r.table (r.rows ++ row ∷ []) (λ q. []) p
+      → noted_port (class_of (fate_of r.table r.rows row) (map (link_tally r.table r.rows) r.table.links)) (handling_of r row) (port_counts r.table r.rows (λ q. []) p)
+      ≡ port_counts r.table (r.rows ++ row ∷ []) (λ q. []) p
   port-push formed found =
       ap (with_class (class_of (fate_of r.table r.rows row) (map (link_tally r.table r.rows) r.table.links)) (offers_of r row)) arrived
       ∙ copied (input_counts (arrivals_at p.id (r.rows ++ row ∷ []))) formed found
@@ -203,7 +209,8 @@ note_counts_one_more r row formed =
 zero_start : (n : ℕ) → capped (capped 0 + n) ≡ capped n
 zero_start n = omega arith
 
-ended_output : (priority : Priority) (s : Settings) (feed : List Item) (events : List Event) → with_ended priority (sent_of events) (aged_of events) (output_counts priority s feed []) ≡ output_counts priority s feed events
+ended_output : (priority : Priority) (s : Settings) (feed : List Item) (events : List Event) → with_ended priority (sent_of events) (aged_of events) (output_counts priority s feed [])
+    ≡ output_counts priority s feed events
 ended_output priority s feed events =
     let e1 = zero_start (count_by (λ (a : Aged). is_of priority a.item.priority) (aged_of events)) in
     let e2 = zero_start (count_by (λ (e : Sent). is_of priority e.item.priority) (sent_of events)) in

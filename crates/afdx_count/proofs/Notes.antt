@@ -58,10 +58,12 @@ pub one_answer_more : (a : Offer) (more : List Offer) (c : OutCount) → with_an
 one_answer_more a [] c = refl
 one_answer_more a (b ∷ bs) c =
     let offered-is = offered_more c.offered (length (b ∷ bs)) in
-    let full-is = full_more c.full (cond (is_full a) 1 0) (count_by is_full (b ∷ bs)) (count_by is_full (a ∷ b ∷ bs)) (count_by is_full (a ∷ [])) (count_one is_full a (b ∷ bs)) (single (cond (is_full a) 1 0)) in
+    let full-is = full_more c.full (cond (is_full a) 1 0) (count_by is_full (b ∷ bs)) (count_by is_full (a ∷ b ∷ bs)) (count_by is_full (a ∷ [])) (count_one is_full a (b ∷ bs))
+    (single (cond (is_full a) 1 0)) in
     (λ j. record c { offered = offered-is j; full = full-is j })
 
-answers_more : (port : ℕ) (o : ℕ × Offer) (os : List (ℕ × Offer)) (c : OutCount) → with_answers (answers_of port (o ∷ os)) c ≡ with_answers (answers_of port os) (with_answers (answers_of port (o ∷ [])) c)
+answers_more : (port : ℕ) (o : ℕ × Offer) (os : List (ℕ × Offer)) (c : OutCount) → with_answers (answers_of port (o ∷ os)) c
+    ≡ with_answers (answers_of port os) (with_answers (answers_of port (o ∷ [])) c)
 answers_more port o os c =
     elim (cases_Bool (nat_eq o.0 port)) [
       | inl hit ↦ rw hit (one_answer_more o.1 (answers_of port os) c)
@@ -72,7 +74,8 @@ pub one_copy_more : (class : Priority) (o : ℕ × Offer) (os : List (ℕ × Off
 one_copy_more High o os p = ap (λ c. record p { high = c }) (answers_more p.id o os p.high)
 one_copy_more Low o os p = ap (λ c. record p { low = c }) (answers_more p.id o os p.low)
 
-pub copies_more : (class : Priority) (o : ℕ × Offer) (os : List (ℕ × Offer)) (ps : List PortTally) → map (with_copies class (o ∷ os)) ps ≡ map (with_copies class os) (map (with_copies class (o ∷ [])) ps)
+pub copies_more : (class : Priority) (o : ℕ × Offer) (os : List (ℕ × Offer)) (ps : List PortTally) → map (with_copies class (o ∷ os)) ps
+    ≡ map (with_copies class os) (map (with_copies class (o ∷ [])) ps)
 copies_more class o os ps =
     map_same (with_copies class (o ∷ os)) (λ p. with_copies class os (with_copies class (o ∷ []) p)) ps (one_copy_more class o os)
     ∙ sym (map_twice (with_copies class (o ∷ [])) (with_copies class os) ps)
@@ -92,7 +95,8 @@ one_copy class port offer p =
       elsewhere Low none = rw none refl
 
 -- a copy counts at one port alone
-pub one_copy_at : (class : Priority) (port : ℕ) (offer : Offer) (ps : List PortTally) → changed_at (λ (p : PortTally). p.id) port (with_copies class ((port, offer) ∷ [])) ps ≡ map (with_copies class ((port, offer) ∷ [])) ps
+pub one_copy_at : (class : Priority) (port : ℕ) (offer : Offer) (ps : List PortTally) → changed_at (λ (p : PortTally). p.id) port (with_copies class ((port, offer) ∷ [])) ps
+    ≡ map (with_copies class ((port, offer) ∷ [])) ps
 one_copy_at class port offer ps = map_same _ (with_copies class ((port, offer) ∷ [])) ps (one_copy class port offer)
 
 pub numbers_copies : (class : Priority) (os : List (ℕ × Offer)) (p : PortTally) → (with_copies class os p).id ≡ p.id

@@ -1,5 +1,6 @@
 -- Elements under their numbers, where the numbers are different.
-use Rattle.std.proofs.Common.{◌≡◌, ℕ, zero, suc, ◌<◌, nat_eq, true, false, cond, List, [], ◌∷◌, ◌++◌, set, get_or, length, map, take, find, slice_get, position, Option, Some, None, refl, subst, sym, ap, ◌∙◌, arith, inl, inr, ◌||◌}
+use Rattle.std.proofs.Common.{◌≡◌, ℕ, zero, suc, ◌<◌, nat_eq, true, false, cond, List, [], ◌∷◌, ◌++◌, set, get_or, length, map, take, find, slice_get, position, Option, Some, None, refl, subst}
+use Rattle.std.proofs.Common.{sym, ap, ◌∙◌, arith, inl, inr, ◌||◌}
 use Rattle.std.specs.Prelude.{IfSome, IfNone}
 use Rattle.std.specs.List.{AllByRecursion, IsDistinct, list_any}
 use Rattle.std.proofs.lemmas.Option.{slice_get_within, slice_get-get_or}
@@ -67,7 +68,8 @@ module _ {X : Type 0} (number : X → ℕ) where
   not_found n (x ∷ xs) h =
       elim (cases_Bool (nat_eq n (number x))) [
         | inl hit ↦ absurd (true_false (ap (λ b. b || list_any (λ x. nat_eq n (number x)) xs) (sym hit) ∙ h))
-        | inr miss ↦ not_found n xs (ap (λ b. b || list_any (λ x. nat_eq n (number x)) xs) (sym miss) ∙ h) ∙ ap (λ b. cond b (Some x) (find (λ y. nat_eq (number y) n) xs)) (sym (turned n (number x) miss))
+        | inr miss ↦ not_found n xs (ap (λ b. b || list_any (λ x. nat_eq n (number x)) xs) (sym miss) ∙ h)
+            ∙ ap (λ b. cond b (Some x) (find (λ y. nat_eq (number y) n) xs)) (sym (turned n (number x) miss))
       ] where
         true_false : true ≡ false → ⊥
         true_false e = cc
@@ -130,13 +132,15 @@ module _ {X : Type 0} (number : X → ℕ) where
   unfolding IsDistinct
   distinct_more xs y d new =
       subst (IsDistinct nat_eq) (sym (map-append number xs (y ∷ [])))
-      (IsDistinct-IsPermutation nat_eq either_way (number y ∷ map number xs) (map number xs ++ number y ∷ []) (IsPermutation-append_comm (number y ∷ []) (map number xs)) (any_false (number y) xs new, d)) where
+      (IsDistinct-IsPermutation nat_eq either_way (number y ∷ map number xs) (map number xs ++ number y ∷ []) (IsPermutation-append_comm (number y ∷ []) (map number xs))
+      (any_false (number y) xs new, d)) where
         either_way : (a b : ℕ) → nat_eq a b ≡ nat_eq b a
         either_way a b = grind (arith, nat_tests)
 
   -- ---- the same of a list as it is seen
 
-  pub found_in : (n : ℕ) (xs seen : List X) (i : ℕ) (x : X) → xs ≡ seen → IsDistinct nat_eq (map number seen) → IsPlaceOf number n seen i → x ≡ get_or xs i x → Some x ≡ find (λ y. nat_eq (number y) n) seen
+  pub found_in : (n : ℕ) (xs seen : List X) (i : ℕ) (x : X) → xs ≡ seen → IsDistinct nat_eq (map number seen) → IsPlaceOf number n seen i → x ≡ get_or xs i x → Some x
+      ≡ find (λ y. nat_eq (number y) n) seen
   found_in n xs seen i x view d at is = found n seen i x d at (is ∙ ap (λ (ys : List X). get_or ys i x) view)
 
   pub changed_in : (n : ℕ) (f : X → X) (xs seen : List X) (i : ℕ) (x y : X) → xs ≡ seen → IsDistinct nat_eq (map number seen) → IsPlaceOf number n seen i → x ≡ get_or xs i x → y ≡ f x
@@ -153,7 +157,8 @@ module _ {X : Type 0} (number : X → ℕ) where
   still_numbered ns xs i x y ok same-number is =
       (numbers_kept ns xs i x y ok.0 same-number is, subst (IsDistinct nat_eq) (numbers_kept (map number xs) xs i x y refl same-number is) ok.1)
 
-  pub more_numbered : (ns more : List ℕ) (xs seen ys zs : List X) (y : X) → (ns ≡ map number xs) × IsDistinct nat_eq (map number xs) → xs ≡ seen → list_any (λ x. nat_eq (number y) (number x)) seen ≡ false
+  pub more_numbered : (ns more : List ℕ) (xs seen ys zs : List X) (y : X) → (ns ≡ map number xs) × IsDistinct nat_eq (map number xs) → xs ≡ seen → list_any (λ x. nat_eq (number y) (number x)) seen
+      ≡ false
       → more ≡ ns ++ number y ∷ [] → ys ≡ xs → zs ≡ ys ++ y ∷ [] → (more ≡ map number zs) × IsDistinct nat_eq (map number zs)
   more_numbered ns more xs seen ys zs y ok view new more-is ys-is zs-is =
       let all : zs ≡ xs ++ y ∷ [] = zs-is ∙ ap (λ (ws : List X). ws ++ y ∷ []) ys-is in
@@ -165,7 +170,8 @@ module _ {X : Type 0} (number : X → ℕ) where
   pub none_listed : (n : ℕ) (ns : List ℕ) (xs seen : List X) → ns ≡ map number xs → xs ≡ seen → list_any (λ x. nat_eq n (number x)) seen ≡ false → list_any (λ k. nat_eq k n) ns ≡ false
   none_listed n ns xs seen ns-is view none = turned_any n ns ∙ ap (list_any (nat_eq n)) (ns-is ∙ ap (map number) view) ∙ any_number n seen ∙ none
 
-  pub absent_in : (n : ℕ) (ns : List ℕ) (xs seen : List X) (o : Option ℕ) → ns ≡ map number xs → xs ≡ seen → IfNone o (list_any (nat_eq n) ns ≡ false) → IfNone o (list_any (λ x. nat_eq n (number x)) seen ≡ false)
+  pub absent_in : (n : ℕ) (ns : List ℕ) (xs seen : List X) (o : Option ℕ) → ns ≡ map number xs → xs ≡ seen → IfNone o (list_any (nat_eq n) ns ≡ false)
+      → IfNone o (list_any (λ x. nat_eq n (number x)) seen ≡ false)
   absent_in n ns xs seen None ns-is view none = sym (any_number n seen) ∙ sym (ap (list_any (nat_eq n)) (ns-is ∙ ap (map number) view)) ∙ none
   absent_in n ns xs seen (Some i) ns-is view none = tt
 

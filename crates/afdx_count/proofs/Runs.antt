@@ -25,7 +25,8 @@ use Rattle.afdx_count.specs.declared.counters.LinkCount.{LinkCount}
 use Rattle.afdx_count.specs.declared.link_tallies.LinkTally.{LinkTally}
 use Rattle.afdx_count.specs.Counting.{capped, up, with_verdict, with_fate, verdict_in, is_full, is_of, with_answers}
 use Rattle.afdx_count.specs.Tally.{noted_link}
-use Rattle.afdx_count.specs.Run.{counted, is_cut, is_short, is_long, is_foreign, has_no_link, is_at_wrong_port, is_too_big, is_clean, arrivals_at, input_counts, is_passed, is_policed, link_counts, turned_away, of_priority, output_counts, link_tally}
+use Rattle.afdx_count.specs.Run.{counted, is_cut, is_short, is_long, is_foreign, has_no_link, is_at_wrong_port, is_too_big, is_clean, arrivals_at, input_counts, is_passed, is_policed, link_counts}
+use Rattle.afdx_count.specs.Run.{turned_away, of_priority, output_counts, link_tally}
 
 pub each-push : {X Y : Type 0} (f : List X → X → List Y) (before xs : List X) (x : X) → each_after f before (xs ++ x ∷ []) ≡ each_after f before xs ++ f (before ++ xs) x
 each-push f before [] x = append-nil (f before x) ∙ ap (λ b. f b x) (sym (append-nil before))
@@ -129,7 +130,11 @@ link-push t rows row l =
       tally c = record { id = l.id; priority = l.priority; count = c }
 
       grown : (f : Fate) → link_counts l.id (fates_of t rows ++ f ∷ [])
-          ≡ record { passed = cond (is_passed l.id f) (up (counted (is_passed l.id) (fates_of t rows))) (counted (is_passed l.id) (fates_of t rows)); policed = cond (is_policed l.id f) (up (counted (is_policed l.id) (fates_of t rows))) (counted (is_policed l.id) (fates_of t rows)) }
+          ≡ record {
+            passed = cond (is_passed l.id f) (up (counted (is_passed l.id) (fates_of t rows))) (counted (is_passed l.id) (fates_of t rows));
+            policed = cond (is_policed l.id f)
+                (up (counted (is_policed l.id) (fates_of t rows))) (counted (is_policed l.id) (fates_of t rows));
+          }
       grown f =
           let e1 = counted-push (is_passed l.id) (fates_of t rows) f in
           let e2 = counted-push (is_policed l.id) (fates_of t rows) f in
@@ -139,13 +144,29 @@ link-push t rows row l =
       by_fate (Filtered v) = ap tally (sym (grown (Filtered v)))
       by_fate (Policed j) =
           elim (cases_Bool (nat_eq l.id j)) [
-            | inl hit ↦ rw hit (ap tally (ap (λ b. record { passed = counted (is_passed l.id) (fates_of t rows); policed = cond b (up (counted (is_policed l.id) (fates_of t rows))) (counted (is_policed l.id) (fates_of t rows)) }) (sym hit) ∙ sym (grown (Policed j))))
-            | inr miss ↦ rw miss (ap tally (ap (λ b. record { passed = counted (is_passed l.id) (fates_of t rows); policed = cond b (up (counted (is_policed l.id) (fates_of t rows))) (counted (is_policed l.id) (fates_of t rows)) }) (sym miss) ∙ sym (grown (Policed j))))
+            | inl hit ↦ rw hit (ap tally (ap (λ b. record {
+              passed = counted (is_passed l.id) (fates_of t rows);
+              policed = cond b (up (counted (is_policed l.id) (fates_of t rows)))
+                  (counted (is_policed l.id) (fates_of t rows));
+            }) (sym hit) ∙ sym (grown (Policed j))))
+            | inr miss ↦ rw miss (ap tally (ap (λ b. record {
+              passed = counted (is_passed l.id) (fates_of t rows);
+              policed = cond b (up (counted (is_policed l.id) (fates_of t rows)))
+                  (counted (is_policed l.id) (fates_of t rows));
+            }) (sym miss) ∙ sym (grown (Policed j))))
           ]
       by_fate (Passed j) =
           elim (cases_Bool (nat_eq l.id j)) [
-            | inl hit ↦ rw hit (ap tally (ap (λ b. record { passed = cond b (up (counted (is_passed l.id) (fates_of t rows))) (counted (is_passed l.id) (fates_of t rows)); policed = counted (is_policed l.id) (fates_of t rows) }) (sym hit) ∙ sym (grown (Passed j))))
-            | inr miss ↦ rw miss (ap tally (ap (λ b. record { passed = cond b (up (counted (is_passed l.id) (fates_of t rows))) (counted (is_passed l.id) (fates_of t rows)); policed = counted (is_policed l.id) (fates_of t rows) }) (sym miss) ∙ sym (grown (Passed j))))
+            | inl hit ↦ rw hit (ap tally (ap (λ b. record {
+              passed = cond b (up (counted (is_passed l.id) (fates_of t rows))) (counted (is_passed l.id) (fates_of t rows));
+              policed = counted
+                  (is_policed l.id) (fates_of t rows);
+            }) (sym hit) ∙ sym (grown (Passed j))))
+            | inr miss ↦ rw miss (ap tally (ap (λ b. record {
+              passed = cond b (up (counted (is_passed l.id) (fates_of t rows))) (counted (is_passed l.id) (fates_of t rows));
+              policed = counted
+                  (is_policed l.id) (fates_of t rows);
+            }) (sym miss) ∙ sym (grown (Passed j))))
           ]
 
 -- ---- the copies at an output port
@@ -154,7 +175,8 @@ turned-push : (s : Settings) (feed : List Item) (x : Item) → turned_away s (fe
 unfolding turned_away
 turned-push s feed x = each-push (λ before y. cond (fits s (admitted s before) y) [] (y ∷ [])) [] feed x
 
-of_priority-push : (priority : Priority) (items : List Item) (x : Item) → of_priority priority (items ++ x ∷ []) ≡ cond (is_of priority x.priority) (up (of_priority priority items)) (of_priority priority items)
+of_priority-push : (priority : Priority) (items : List Item) (x : Item) → of_priority priority (items ++ x ∷ [])
+    ≡ cond (is_of priority x.priority) (up (of_priority priority items)) (of_priority priority items)
 of_priority-push priority items x = counted-push (λ (item : Item). is_of priority item.priority) items x
 
 -- how a port answers an item, after those of the feed

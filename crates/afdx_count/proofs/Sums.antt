@@ -40,7 +40,8 @@ number_of test rows = count_by (λ (row : Row). test row.verdict) rows
 number-cons : (test : Verdict → Bool) (row : Row) (rows : List Row) → number_of test (row ∷ rows) ≡ cond (test row.verdict) 1 0 + number_of test rows
 number-cons test row rows = one_more (λ (r : Row). test r.verdict) row rows
 
-one_verdict : (v : Verdict) → cond (is_cut v) 1 0 + cond (is_short v) 1 0 + cond (is_long v) 1 0 + cond (is_foreign v) 1 0 + cond (has_no_link v) 1 0 + cond (is_at_wrong_port v) 1 0 + cond (is_too_big v) 1 0 + cond (is_clean v) 1 0 ≡ 1
+one_verdict : (v : Verdict) → cond (is_cut v) 1 0 + cond (is_short v) 1 0 + cond (is_long v) 1 0 + cond (is_foreign v) 1 0 + cond (has_no_link v) 1 0 + cond (is_at_wrong_port v) 1 0
+    + cond (is_too_big v) 1 0 + cond (is_clean v) 1 0 ≡ 1
 one_verdict Cut = refl
 one_verdict Short = refl
 one_verdict Long = refl
@@ -50,7 +51,8 @@ one_verdict WrongPort = refl
 one_verdict TooBig = refl
 one_verdict (Clean i) = refl
 
-all_verdicts : (rows : List Row) → length rows ≡ number_of is_cut rows + number_of is_short rows + number_of is_long rows + number_of is_foreign rows + number_of has_no_link rows + number_of is_at_wrong_port rows + number_of is_too_big rows + number_of is_clean rows
+all_verdicts : (rows : List Row) → length rows ≡ number_of is_cut rows + number_of is_short rows + number_of is_long rows + number_of is_foreign rows + number_of has_no_link rows
+    + number_of is_at_wrong_port rows + number_of is_too_big rows + number_of is_clean rows
 all_verdicts [] = refl
 all_verdicts (row ∷ rows) =
     omega (
@@ -127,7 +129,8 @@ own-cons i row rows = by (says_clean i row.verdict) where
   by false = omega arith
 
 all_fates : (t : Content) (l : Link) (before rows : List Row) → link_row t l.id ≡ Some l
-    → count_by (is_passed l.id) (each_after (λ b row. fate_of t b row ∷ []) before rows) + count_by (is_policed l.id) (each_after (λ b row. fate_of t b row ∷ []) before rows) ≡ length (own_frames l.id rows)
+    → count_by (is_passed l.id) (each_after (λ b row. fate_of t b row ∷ []) before rows) + count_by (is_policed l.id) (each_after (λ b row. fate_of t b row ∷ []) before rows)
+    ≡ length (own_frames l.id rows)
 all_fates t l before [] found = refl
 all_fates t l before (row ∷ rows) found =
     let more = each_after (λ b r. fate_of t b r ∷ []) (before ++ row ∷ []) rows in
@@ -140,7 +143,8 @@ all_fates t l before (row ∷ rows) found =
       all_fates t l (before ++ row ∷ []) rows found,
     )
 
-all_of_run : (t : Content) (l : Link) (rows : List Row) → link_row t l.id ≡ Some l → count_by (is_passed l.id) (fates_of t rows) + count_by (is_policed l.id) (fates_of t rows) ≡ length (own_frames l.id rows)
+all_of_run : (t : Content) (l : Link) (rows : List Row) → link_row t l.id ≡ Some l → count_by (is_passed l.id) (fates_of t rows) + count_by (is_policed l.id) (fates_of t rows)
+    ≡ length (own_frames l.id rows)
 unfolding fates_of
 all_of_run t l rows found = all_fates t l [] rows found
 
@@ -159,7 +163,8 @@ count-push kind xs x = sum_by_push (λ y. cond (kind y) 1 0) xs x
 
 -- each item of a feed is admitted or refused
 one_or_other : (s : Settings) (kind : Item → Bool) (before feed : List Item)
-    → count_by kind (each_after (λ b x. cond (fits s (admitted s b) x) [] (x ∷ [])) before feed) + count_by kind (admit_all s (admitted s before) feed) ≡ count_by kind feed + count_by kind (admitted s before)
+    → count_by kind (each_after (λ b x. cond (fits s (admitted s b) x) [] (x ∷ [])) before feed) + count_by kind (admit_all s (admitted s before) feed) ≡ count_by kind feed
+    + count_by kind (admitted s before)
 one_or_other s kind before [] = refl
 one_or_other s kind before (x ∷ feed) =
     by (fits s (admitted s before) x) (one_or_other s kind (before ++ x ∷ []) feed) (admit_all-push s [] before x) where
@@ -200,4 +205,5 @@ offered_is_the_sum one_event priority s feed lt =
     let parts = refused_or_admitted s kind feed in
     let once = one_event s 0 (admitted s feed) kind in
     let either = sent_or_aged kind events in
-    three_below (count_by kind feed) (count_by kind (turned_away s feed)) (count_by (λ a. kind a.item) (aged_of events)) (count_by (λ e. kind e.item) (sent_of events)) (omega (arith, parts, once, either)) lt
+    three_below (count_by kind feed) (count_by kind (turned_away s feed)) (count_by (λ a. kind a.item) (aged_of events)) (count_by (λ e. kind e.item) (sent_of events))
+    (omega (arith, parts, once, either)) lt

@@ -57,7 +57,8 @@ none_at_first : (table : Content) (port : ℕ) (frame : Entry) → NoneBefore ta
 none_at_first table port frame other lt has = absurd (omega arith)
 
 -- one case more
-none_more : (table : Content) (port : ℕ) (frame : Entry) (v : Verdict) → place_of v < 7 → (HasCase table port frame v → ⊥) → NoneBefore table port frame (place_of v) → NoneBefore table port frame (place_of v + 1)
+none_more : (table : Content) (port : ℕ) (frame : Entry) (v : Verdict) → place_of v < 7 → (HasCase table port frame v → ⊥) → NoneBefore table port frame (place_of v)
+    → NoneBefore table port frame (place_of v + 1)
 none_more table port frame v low fails none other lt has =
     elim (cases_lt (place_of other) (place_of v)) [
       | inl before ↦ none other before has
@@ -117,7 +118,8 @@ first table port frame =
     ]
   where
     of_constant : (table : Content) (port : ℕ) (frame : Entry) → NoneBefore table port frame 3
-        → IsFirstCase table port frame (cond (not (bytes_eq (constant_of frame.bytes) table.constant)) Foreign (link_verdict port (size_of (length frame.bytes)) (link_row table (link_of frame.bytes))))
+        → IsFirstCase table port frame (cond (not (bytes_eq (constant_of frame.bytes) table.constant)) Foreign
+        (link_verdict port (size_of (length frame.bytes)) (link_row table (link_of frame.bytes))))
     of_constant table port frame none =
         let decides = bytes_eq-Decides (constant_of frame.bytes) table.constant in
         elim (cases_Bool (bytes_eq (constant_of frame.bytes) table.constant)) [

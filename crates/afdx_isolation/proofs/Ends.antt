@@ -78,12 +78,14 @@ low_within n r c e burst some le h = add (e - c) (n - r) (omega arith) (omega ar
 
   add : (m k : ℕ) → e ≡ c + m → n ≡ r + k → n - r ≡ k → e ≤ c + burst / (n - r)
   add m k is split same =
-      let h' : (r + k) * (c + m) + r * c ≤ (r + k) * c + r * (c + m) + burst = subst (λ n. n * (c + m) + r * c ≤ n * c + r * (c + m) + burst) split (subst (λ e. n * e + r * c ≤ n * c + r * e + burst) is h) in
+      let h' : (r + k) * (c + m) + r * c ≤ (r + k) * c + r * (c + m) + burst = subst (λ n. n * (c + m) + r * c ≤ n * c + r * (c + m) + burst) split
+      (subst (λ e. n * e + r * c ≤ n * c + r * e + burst) is h) in
       let q = le-div m burst k (omega arith) (times r k c m burst h') in
       rw same (omega (arith, is, q))
 
 item_fate : (s : Settings) (b : ℕ) (x : Item) → item_of (fate s b x) ≡ x
-item_fate s b x = elim (nat_lt s.max_delay (b - x.stamp)) as (λ v. item_of (cond v (aging (record { item = x; at = b })) (sending (record { item = x; begin = b; end = b + cost_of s.speed x.size }))) ≡ x) [ true ↦ refl | false ↦ refl ]
+item_fate s b x = elim (nat_lt s.max_delay (b - x.stamp)) as (λ v. item_of (cond v (aging (record { item = x; at = b })) (sending (record { item = x; begin = b; end = b + cost_of s.speed x.size })))
+    ≡ x) [ true ↦ refl | false ↦ refl ]
 
 fate_sent : (s : Settings) (b : ℕ) (x : Item) → b - x.stamp ≤ s.max_delay → fate s b x ≡ sending (record { item = x; begin = b; end = b + cost_of s.speed x.size })
 fate_sent s b x short = choose _ _ short where

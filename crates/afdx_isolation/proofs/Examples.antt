@@ -33,8 +33,12 @@ carries : Carries port (control ∷ bulk ∷ [])
 carries = record {
   rate = omega arith;
   buffer = omega arith;
-  high = All-cons (λ (flow : Flow). flow.priority ≡ High → bound (load_of port (control ∷ bulk ∷ [])) High ≤ 175977) control (bulk ∷ []) (λ _. omega arith) (All-cons (λ (flow : Flow). flow.priority ≡ High → bound (load_of port (control ∷ bulk ∷ [])) High ≤ 175977) bulk [] (λ _. omega arith) (All-nil (λ (flow : Flow). flow.priority ≡ High → bound (load_of port (control ∷ bulk ∷ [])) High ≤ 175977)));
-  low = All-cons (λ (flow : Flow). flow.priority ≡ Low → bound (load_of port (control ∷ bulk ∷ [])) Low ≤ 175977) control (bulk ∷ []) (λ _. omega arith) (All-cons (λ (flow : Flow). flow.priority ≡ Low → bound (load_of port (control ∷ bulk ∷ [])) Low ≤ 175977) bulk [] (λ _. omega arith) (All-nil (λ (flow : Flow). flow.priority ≡ Low → bound (load_of port (control ∷ bulk ∷ [])) Low ≤ 175977)));
+  high = All-cons (λ (flow : Flow). flow.priority ≡ High → bound (load_of port (control ∷ bulk ∷ [])) High ≤ 175977) control (bulk ∷ []) (λ _. omega arith)
+      (All-cons (λ (flow : Flow). flow.priority ≡ High → bound (load_of port (control ∷ bulk ∷ [])) High ≤ 175977) bulk [] (λ _. omega arith)
+      (All-nil (λ (flow : Flow). flow.priority ≡ High → bound (load_of port (control ∷ bulk ∷ [])) High ≤ 175977)));
+  low = All-cons (λ (flow : Flow). flow.priority ≡ Low → bound (load_of port (control ∷ bulk ∷ [])) Low ≤ 175977) control (bulk ∷ []) (λ _. omega arith)
+      (All-cons (λ (flow : Flow). flow.priority ≡ Low → bound (load_of port (control ∷ bulk ∷ [])) Low ≤ 175977) bulk [] (λ _. omega arith)
+      (All-nil (λ (flow : Flow). flow.priority ≡ Low → bound (load_of port (control ∷ bulk ∷ [])) Low ≤ 175977)));
 }
 
 apart : AreDistinct (control ∷ bulk ∷ [])

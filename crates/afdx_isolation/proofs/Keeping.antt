@@ -85,10 +85,13 @@ module _ (g : Ground) (s : Settings) (flows : List Flow) (paid : All (IsPaidFor 
         let capped' = capped flows after caps in
         let high_capped' = capped (high_flows flows) after (All-filter (λ flow. is_high flow.priority) (λ flow. after flow ≤ flow.terms.cap) flows caps) in
         let there : now + d ≡ to = omega arith in
-        let high_grow : Grow (high_flows flows) d level after = All-filter (λ flow. is_high flow.priority) (λ flow. (after flow ≤ flow.terms.cap) × (after flow ≤ level flow + flow.terms.rate * d)) flows grow in
-        let grown' = stand_growth parts s load now d q.free (held level flows) (held level (high_flows flows)) (held after flows) (held after (high_flows flows)) (highs q.waiting) (lows q.waiting) (omega (arith, slow)) high_slow (grown flows d level after grow) (grown (high_flows flows) d level after high_grow) h.potentials in
+        let high_grow : Grow (high_flows flows) d level after = All-filter (λ flow. is_high flow.priority) (λ flow. (after flow ≤ flow.terms.cap) × (after flow ≤ level flow + flow.terms.rate * d))
+        flows grow in
+        let grown' = stand_growth parts s load now d q.free (held level flows) (held level (high_flows flows)) (held after flows) (held after (high_flows flows)) (highs q.waiting) (lows q.waiting)
+        (omega (arith, slow)) high_slow (grown flows d level after grow) (grown (high_flows flows) d level after high_grow) h.potentials in
         let small = recursion_from_All (IsShort parts s load to (held after flows) (held after (high_flows flows)) capped' high_capped') q.waiting
-        (waiting_all (λ (item : Item). is_high item.priority ≡ false → item_cost s item ≤ load.low_largest) now items (All-weaker (IsOfAFlow flows) (λ (item : Item). is_high item.priority ≡ false → item_cost s item ≤ load.low_largest) cost_most_low items h.of_flows)) in
+        (waiting_all (λ (item : Item). is_high item.priority ≡ false → item_cost s item ≤ load.low_largest) now items
+        (All-weaker (IsOfAFlow flows) (λ (item : Item). is_high item.priority ≡ false → item_cost s item ≤ load.low_largest) cost_most_low items h.of_flows)) in
         subst (KeepsPotentials s flows to after) (sym (g.goes_on s now to items le h.come))
         (stand_starts parts s load to (held after flows) (held after (high_flows flows)) capped' high_capped' q.free q.waiting (lined_at s now items) small
         (subst (λ t. IsWithinPotentials parts s load t q.free (held after flows) (held after (high_flows flows)) (highs q.waiting) (lows q.waiting)) there grown'));
@@ -121,13 +124,15 @@ module _ (g : Ground) (s : Settings) (flows : List Flow) (paid : All (IsPaidFor 
       let ls : lows (items ++ x ∷ []) ≡ lows items = lows-push items x ∙ ap (λ v. lows items ++ cond (not v) (x ∷ []) []) is ∙ append-nil (lows items) in
       subst (λ xs. IsWithinPotentials parts s load now start (held after flows) (held after (high_flows flows)) xs (lows (items ++ x ∷ []))) (sym hs)
       (subst (λ ys. IsWithinPotentials parts s load now start (held after flows) (held after (high_flows flows)) (highs items ++ x ∷ []) ys) (sym ls)
-      (stand_high parts s load now start (held level flows) (held level (high_flows flows)) (held after flows) (held after (high_flows flows)) x (highs items) (lows items) now-is (omega (arith, price, gives)) (omega (arith, price, high_gives)) h)))
+      (stand_high parts s load now start (held level flows) (held level (high_flows flows)) (held after flows) (held after (high_flows flows)) x (highs items) (lows items) now-is
+      (omega (arith, price, gives)) (omega (arith, price, high_gives)) h)))
       (λ (is : is_high x.priority ≡ false).
       let hs : highs (items ++ x ∷ []) ≡ highs items = highs-push items x ∙ ap (λ v. highs items ++ cond v (x ∷ []) []) is ∙ append-nil (highs items) in
       let ls : lows (items ++ x ∷ []) ≡ lows items ++ x ∷ [] = lows-push items x ∙ ap (λ v. lows items ++ cond (not v) (x ∷ []) []) is in
       subst (λ xs. IsWithinPotentials parts s load now start (held after flows) (held after (high_flows flows)) xs (lows (items ++ x ∷ []))) (sym hs)
       (subst (λ ys. IsWithinPotentials parts s load now start (held after flows) (held after (high_flows flows)) (highs items) ys) (sym ls)
-      (stand_low parts s load now start (held level flows) (held level (high_flows flows)) (held after flows) (held after (high_flows flows)) x (highs items) (lows items) now-is (omega (arith, price, gives)) (falls (high_flows flows) x level after high_debits) (high_part (λ flow. flow.weight * after flow) flows) h)))
+      (stand_low parts s load now start (held level flows) (held level (high_flows flows)) (held after flows) (held after (high_flows flows)) x (highs items) (lows items) now-is
+      (omega (arith, price, gives)) (falls (high_flows flows) x level after high_debits) (high_part (λ flow. flow.weight * after flow) flows) h)))
       (cases_Bool (is_high x.priority))
 
   joined : (now : ℕ) (level after : Flow → ℕ) (items : List Item) (x : Item) → came s x ≡ now → IsOfAFlow flows x → AreDebited flows x level after
@@ -148,14 +153,17 @@ module _ (g : Ground) (s : Settings) (flows : List Flow) (paid : All (IsPaidFor 
       let come : HaveCome s now all = All-push (λ (item : Item). came s item ≤ now) items x h.come (omega arith) in
       let potentials = joined now level after items x refl r debits h.potentials in
       let q = line_at s now all in
-      let rest = ends parts s load now (held after flows) (held after (high_flows flows)) q.free q.waiting (lined_at s now all) (waiting_all (λ (item : Item). came s item ≤ now) now all come) (start_at s now all) potentials in
-      let done : All Q (before now (service s 0 all)) = All-same Q (before now (service s 0 all)) (before now (service s 0 items)) (g.earlier_stay s now 0 items x (omega arith)) (All-filter (λ e. nat_lt (instant e) now) Q (service s 0 items) h.ends) in
+      let rest = ends parts s load now (held after flows) (held after (high_flows flows)) q.free q.waiting (lined_at s now all) (waiting_all (λ (item : Item). came s item ≤ now) now all come)
+      (start_at s now all) potentials in
+      let done : All Q (before now (service s 0 all)) = All-same Q (before now (service s 0 all)) (before now (service s 0 items)) (g.earlier_stay s now 0 items x (omega arith))
+      (All-filter (λ e. nat_lt (instant e) now) Q (service s 0 items) h.ends) in
       record {
         come = come;
         of_flows = All-push (IsOfAFlow flows) items x h.of_flows r;
         in_order = all_pairs_push (λ (a b : Item). came s a ≤ came s b) items x h.in_order h.come;
         potentials = potentials;
-        ends = All-same Q (service s 0 all) (before now (service s 0 all) ++ in_line s q.free q.waiting) (g.follow s now all come) (All-append Q (before now (service s 0 all)) (in_line s q.free q.waiting) done rest);
+        ends = All-same Q (service s 0 all) (before now (service s 0 all) ++ in_line s q.free q.waiting) (g.follow s now all come)
+            (All-append Q (before now (service s 0 all)) (in_line s q.free q.waiting) done rest);
       }
 
   -- the costs of each priority are all costs
@@ -177,7 +185,9 @@ module _ (g : Ground) (s : Settings) (flows : List Flow) (paid : All (IsPaidFor 
       let bytes = g.bytes s now load.largest items (All-weaker (IsOfAFlow flows) (λ (item : Item). item_cost s item ≤ load.largest) cost_most items h.of_flows) in
       let sum = costs_parts (q.waiting ++ x ∷ []) in
       let more = sum_by_push (item_cost s) q.waiting x in
-      fits_by (tick_of s.speed) x.size (occupied s now items) s.buffer (work s now items) load.largest load.burst (costs s (highs (q.waiting ++ x ∷ []))) (costs s (lows (q.waiting ++ x ∷ []))) (held after flows) (sum_by (item_cost s) q.waiting) now q.free (tick_some s.speed) (start_at s now items) bytes (g.work s now items) (omega (arith, sum, more)) stands.all_work (omega (arith, buffer)) where
+      fits_by (tick_of s.speed) x.size (occupied s now items) s.buffer (work s now items) load.largest load.burst (costs s (highs (q.waiting ++ x ∷ []))) (costs s (lows (q.waiting ++ x ∷ [])))
+      (held after flows) (sum_by (item_cost s) q.waiting) now q.free (tick_some s.speed) (start_at s now items) bytes (g.work s now items) (omega (arith, sum, more)) stands.all_work
+      (omega (arith, buffer)) where
         tick_some : (speed : Speed) → 0 < tick_of speed
         tick_some Ten = omega arith
         tick_some Hundred = omega arith
@@ -186,7 +196,8 @@ module _ (g : Ground) (s : Settings) (flows : List Flow) (paid : All (IsPaidFor 
         within' : (a b : ℕ) → a ≤ b → nat_le a b ≡ true
         within' a b h = grind (arith, nat_tests)
 
-        fits_by : (k size held' room work' most burst hs ls level ws now free : ℕ) → 0 < k → now ≤ free → k * held' ≤ work' + most → work' ≡ (free - now) + ws → hs + ls ≡ ws + (size + 20) * k → parts * (free + hs + ls) + level ≤ parts * now + burst → burst + parts * most ≤ parts * (k * room) → nat_le (size + held') room ≡ true
+        fits_by : (k size held' room work' most burst hs ls level ws now free : ℕ) → 0 < k → now ≤ free → k * held' ≤ work' + most → work' ≡ (free - now) + ws → hs + ls ≡ ws + (size + 20) * k
+            → parts * (free + hs + ls) + level ≤ parts * now + burst → burst + parts * most ≤ parts * (k * room) → nat_le (size + held') room ≡ true
         fits_by k size held' room work' most burst hs ls level ws now free some start bytes is sum all buffer = within' (size + held') room (⊎_elim
             (λ (lt : room < size + held'). absurd (
             let lt' : room + 1 ≤ size + held' = omega arith in
@@ -205,7 +216,8 @@ module _ (g : Ground) (s : Settings) (flows : List Flow) (paid : All (IsPaidFor 
       let own' = All-contains (IsPaidFor s) flows flow paid among in
       omega (arith, slow, low_leaves flows flow among (ap is_high (is ∙ low)) own'.credited)
 
-  pub in_time : (items : List Item) (now : ℕ) (level : Flow → ℕ) (priority : Priority) → IsWithinDelay s flows priority → Keeps items now level → All (λ event. (item_of event).priority ≡ priority → IsTimely s load event) (service s 0 items)
+  pub in_time : (items : List Item) (now : ℕ) (level : Flow → ℕ) (priority : Priority) → IsWithinDelay s flows priority → Keeps items now level
+      → All (λ event. (item_of event).priority ≡ priority → IsTimely s load event) (service s 0 items)
   in_time items now level priority quick h k d lt class =
       let event = get_or (service s 0 items) k d in
       let r = All-contains (IsOfAFlow flows) items (item_of event) h.of_flows (g.events s 0 items k d lt) in
@@ -223,7 +235,8 @@ module _ (g : Ground) (s : Settings) (flows : List Flow) (paid : All (IsPaidFor 
       in_time items now level priority (delay_of a priority) h k d lt refl
 
   -- the items of a flow leave in the order in which they came
-  pub ordered : AreDistinct flows → (items : List Item) (now : ℕ) (level : Flow → ℕ) → Keeps items now level → (flow : Flow) → Contains flows flow → own flow.id (map item_of (service s 0 items)) ≡ own flow.id items
+  pub ordered : AreDistinct flows → (items : List Item) (now : ℕ) (level : Flow → ℕ) → Keeps items now level → (flow : Flow) → Contains flows flow → own flow.id (map item_of (service s 0 items))
+      ≡ own flow.id items
   ordered apart items now level h flow among = g.order s (λ item. nat_eq item.link flow.id) flow.priority items h.in_order
       (All-weaker (IsOfAFlow flows) (λ (item : Item). nat_eq item.link flow.id ≡ true → item.priority ≡ flow.priority)
       (λ item r same. sym r.priority ∙ ap (λ (f : Flow). f.priority) (apart r.flow flow r.among among (r.same ∙ equal _ _ same))) items h.of_flows) where

@@ -89,7 +89,8 @@ isolated_so_far g c flows arrivals arrive carries is =
     let timely : All (IsTimely s load) (service s 0 c.admitted) = subst (λ xs. All (IsTimely s load) (service s 0 xs)) (sym is) all.timely in
     let full = is ∙ all.none_full in
     let of : All (IsOfAFlow flows) c.admitted = subst (λ xs. All (IsOfAFlow flows) xs) (sym full) (kept g s flows arrivals arrive carries.rate).of_flows in
-    let of_events = All-weaker (λ e. Contains c.admitted (item_of e)) (λ e. IsOfAFlow flows (item_of e)) (λ e among. All-contains (IsOfAFlow flows) c.admitted (item_of e) of among) (service s 0 c.admitted) (g.events s 0 c.admitted) in
+    let of_events = All-weaker (λ e. Contains c.admitted (item_of e)) (λ e. IsOfAFlow flows (item_of e)) (λ e among. All-contains (IsOfAFlow flows) c.admitted (item_of e) of among)
+    (service s 0 c.admitted) (g.events s 0 c.admitted) in
     let so_far = carried_out g s load c.admitted timely c.finished (reach s c.horizon) in
     record {
       none_full = full;

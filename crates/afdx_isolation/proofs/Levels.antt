@@ -69,12 +69,13 @@ joined (k ∷ flows) before x h = ⊎_elim
 
 pub none_joined : (flows : List Flow) (before : List Item) (x : Item) → joins flows before x ≡ false → All (λ flow. is_passed before x flow ≡ false) flows
 none_joined [] before x h = All-nil (λ flow. is_passed before x flow ≡ false)
-none_joined (k ∷ flows) before x h = All-cons (λ flow. is_passed before x flow ≡ false) k flows (left' (is_passed before x k) (joins flows before x) h) (none_joined flows before x (right (is_passed before x k) (joins flows before x) h)) where
-  left' : (a b : Bool) → a || b ≡ false → a ≡ false
-  left' a b h = grind (arith, nat_tests)
+none_joined (k ∷ flows) before x h = All-cons (λ flow. is_passed before x flow ≡ false) k flows (left' (is_passed before x k) (joins flows before x) h)
+    (none_joined flows before x (right (is_passed before x k) (joins flows before x) h)) where
+      left' : (a b : Bool) → a || b ≡ false → a ≡ false
+      left' a b h = grind (arith, nat_tests)
 
-  right : (a b : Bool) → a || b ≡ false → b ≡ false
-  right a b h = grind (arith, nat_tests)
+      right : (a b : Bool) → a || b ≡ false → b ≡ false
+      right a b h = grind (arith, nat_tests)
 
 pub passed_link : (before : List Item) (x : Item) (flow : Flow) → is_passed before x flow ≡ true → x.link ≡ flow.id
 passed_link before x flow h = same x.link flow.id (conforms flow.terms (passed_frames flow.terms (frames flow.id before)) (frame_of x)) h where
@@ -83,12 +84,14 @@ passed_link before x flow h = same x.link flow.id (conforms flow.terms (passed_f
 
 module _ (g : Ground) where
   -- what is passed of a link's arrivals, with one more
-  pub passed_step : (flow : Flow) (before : List Item) (x : Item) → passed_frames flow.terms (frames flow.id (before ++ x ∷ [])) ≡ cond (is_passed before x flow) (passed_frames flow.terms (frames flow.id before) ++ frame_of x ∷ []) (passed_frames flow.terms (frames flow.id before))
+  pub passed_step : (flow : Flow) (before : List Item) (x : Item) → passed_frames flow.terms (frames flow.id (before ++ x ∷ []))
+      ≡ cond (is_passed before x flow) (passed_frames flow.terms (frames flow.id before) ++ frame_of x ∷ []) (passed_frames flow.terms (frames flow.id before))
   passed_step flow before x =
       let t = flow.terms in
       let fs = frames flow.id before in
       ap (passed_frames t) (own-push flow.id before x)
-      ∙ (elim (nat_eq x.link flow.id) as (λ v. passed_frames t (cond v (fs ++ frame_of x ∷ []) fs) ≡ cond (v && conforms t (passed_frames t fs) (frame_of x)) (passed_frames t fs ++ frame_of x ∷ []) (passed_frames t fs)) [
+      ∙ (elim (nat_eq x.link flow.id) as (λ v. passed_frames t (cond v (fs ++ frame_of x ∷ []) fs)
+      ≡ cond (v && conforms t (passed_frames t fs) (frame_of x)) (passed_frames t fs ++ frame_of x ∷ []) (passed_frames t fs)) [
         | true ↦ g.next_frame t fs (frame_of x)
         | false ↦ refl
       ])
@@ -100,13 +103,15 @@ module _ (g : Ground) where
       (omega (arith, e), omega (arith, e))
 
   -- an arrival that is passed takes its price
-  level_passed : (flow : Flow) (before : List Item) (x : Item) → Early before x.stamp → is_passed before x flow ≡ true → level_after (before ++ x ∷ []) x.stamp flow + flow.terms.price x.size ≤ level_after before x.stamp flow
+  level_passed : (flow : Flow) (before : List Item) (x : Item) → Early before x.stamp → is_passed before x flow ≡ true → level_after (before ++ x ∷ []) x.stamp flow + flow.terms.price x.size
+      ≤ level_after before x.stamp flow
   level_passed flow before x early is =
       let t = flow.terms in
       let fs = frames flow.id before in
       let ps = passed_frames t fs in
       let f = frame_of x in
-      let step : level_after (before ++ x ∷ []) x.stamp flow ≡ headroom t (ps ++ f ∷ []) x.stamp = ap (λ qs. headroom t qs x.stamp) (passed_step flow before x ∙ ap (λ v. cond v (ps ++ f ∷ []) ps) is) in
+      let step : level_after (before ++ x ∷ []) x.stamp flow ≡ headroom t (ps ++ f ∷ []) x.stamp = ap (λ qs. headroom t qs x.stamp) (passed_step flow before x ∙ ap (λ v. cond v (ps ++ f ∷ []) ps) is)
+      in
       let push = g.debited t ps f in
       let test : nat_le (t.price x.size) (headroom t ps x.stamp) ≡ true = sym (g.decides t fs f (early flow.id)) ∙ second (nat_eq x.link flow.id) (conforms t ps f) is in
       let le = below _ _ test in
@@ -125,13 +130,15 @@ module _ (g : Ground) where
       ap (λ qs. headroom t qs x.stamp) (passed_step flow before x ∙ ap (λ v. cond v (ps ++ frame_of x ∷ []) ps) is)
 
   -- of a flow's own arrival, its own policing decides
-  pub own_passes : (flows : List Flow) → AreDistinct flows → (before : List Item) (x : Item) (flow : Flow) → Contains flows flow → joins flows before x ≡ true → x.link ≡ flow.id → is_passed before x flow ≡ true
+  pub own_passes : (flows : List Flow) → AreDistinct flows → (before : List Item) (x : Item) (flow : Flow) → Contains flows flow → joins flows before x ≡ true → x.link ≡ flow.id
+      → is_passed before x flow ≡ true
   own_passes flows apart before x flow among h same =
       let m = joined flows before x h in
       let e : m.0 ≡ flow = apart m.0 flow m.1 among (sym (passed_link before x m.0 m.2) ∙ same) in
       subst (λ l. is_passed before x l ≡ true) e m.2
 
-  pub debits_joined : (flows : List Flow) → AreDistinct flows → (before : List Item) (x : Item) → Early before x.stamp → joins flows before x ≡ true → AreDebited flows x (level_after before x.stamp) (level_after (before ++ x ∷ []) x.stamp)
+  pub debits_joined : (flows : List Flow) → AreDistinct flows → (before : List Item) (x : Item) → Early before x.stamp → joins flows before x ≡ true
+      → AreDebited flows x (level_after before x.stamp) (level_after (before ++ x ∷ []) x.stamp)
   debits_joined flows apart before x early h k d lt =
       let flow = get_or flows k d in
       let among = Contains-get_or flows k d lt in
@@ -151,7 +158,8 @@ module _ (g : Ground) where
         apart' : (m n : ℕ) (b : Bool) → nat_eq n m ≡ false → nat_eq m n && b ≡ false
         apart' m n b h = grind (arith, nat_tests)
 
-  pub grow_kept : (flows : List Flow) (before : List Item) (x : Item) → Early before x.stamp → joins flows before x ≡ false → Grow flows (x.stamp - x.stamp) (level_after before x.stamp) (level_after (before ++ x ∷ []) x.stamp)
+  pub grow_kept : (flows : List Flow) (before : List Item) (x : Item) → Early before x.stamp → joins flows before x ≡ false
+      → Grow flows (x.stamp - x.stamp) (level_after before x.stamp) (level_after (before ++ x ∷ []) x.stamp)
   grow_kept flows before x early h k d lt =
       let flow = get_or flows k d in
       let kept = level_kept flow before x (none_joined flows before x h k d lt) in

@@ -13,14 +13,16 @@ use Rattle.afdx_isolation.specs.Flow.{Load}
 use Rattle.afdx_isolation.specs.Potential.{costs, Ahead, HighEnds, LowEnds, IsWithinPotentials}
 
 -- one queue ahead, at later ends by z at most and with a weaker claim
-pub ahead_weaker : (s : Settings) (Q Q' : ℕ → Item → Type 0) (z k k' : ℕ) (items : List Item) → k' ≤ k + z → ((e e' : ℕ) (y : Item) → e' ≤ e + z → Q e y → Q' e' y) → Ahead s Q k items → Ahead s Q' k' items
+pub ahead_weaker : (s : Settings) (Q Q' : ℕ → Item → Type 0) (z k k' : ℕ) (items : List Item) → k' ≤ k + z → ((e e' : ℕ) (y : Item) → e' ≤ e + z → Q e y → Q' e' y) → Ahead s Q k items
+    → Ahead s Q' k' items
 ahead_weaker s Q Q' z k k' [] le weaker h = tt
 ahead_weaker s Q Q' z k k' (y ∷ items) le weaker h =
     let le' : k' + item_cost s y ≤ (k + item_cost s y) + z = omega arith in
     (weaker (k + item_cost s y) (k' + item_cost s y) y le' h.0, ahead_weaker s Q Q' z (k + item_cost s y) (k' + item_cost s y) items le' weaker h.1)
 
 -- the same where a fact of each item helps, from some instant on
-pub ahead_with : (s : Settings) (P : Item → Type 0) (Q Q' : ℕ → Item → Type 0) (k : ℕ) (items : List Item) → ((e : ℕ) (y : Item) → P y → Q e y → Q' e y) → AllByRecursion P items → Ahead s Q k items → Ahead s Q' k items
+pub ahead_with : (s : Settings) (P : Item → Type 0) (Q Q' : ℕ → Item → Type 0) (k : ℕ) (items : List Item) → ((e : ℕ) (y : Item) → P y → Q e y → Q' e y) → AllByRecursion P items → Ahead s Q k items
+    → Ahead s Q' k items
 ahead_with s P Q Q' k [] weaker all h = tt
 ahead_with s P Q Q' k (y ∷ items) weaker all h = (weaker (k + item_cost s y) y all.0 h.0, ahead_with s P Q Q' (k + item_cost s y) items weaker all.1 h.1)
 
@@ -35,10 +37,12 @@ pub high_sooner : (n : ℕ) (s : Settings) (load : Load) (e e' : ℕ) (y : Item)
 high_sooner n s load e e' y le h = let le' : e' ≤ e = omega arith in omega (arith, mul-le-mul_left n le', h)
 
 -- the levels fall by the line time that a high item adds
-pub low_sooner : (n : ℕ) (s : Settings) (load : Load) (now high_level high_level' z e e' : ℕ) (y : Item) → e' ≤ e + z → n * z + high_level' ≤ high_level → LowEnds n s load now high_level e y → LowEnds n s load now high_level' e' y
+pub low_sooner : (n : ℕ) (s : Settings) (load : Load) (now high_level high_level' z e e' : ℕ) (y : Item) → e' ≤ e + z → n * z + high_level' ≤ high_level → LowEnds n s load now high_level e y
+    → LowEnds n s load now high_level' e' y
 low_sooner n s load now high_level high_level' z e e' y le pays h = omega (arith, mul-le-mul_left n le, h, pays)
 
-low_later : (n : ℕ) (s : Settings) (load : Load) (now d high_level high_level' e e' : ℕ) (y : Item) → e' ≤ e + 0 → high_level' ≤ high_level + load.high_rate * d → LowEnds n s load now high_level e y → LowEnds n s load (now + d) high_level' e' y
+low_later : (n : ℕ) (s : Settings) (load : Load) (now d high_level high_level' e e' : ℕ) (y : Item) → e' ≤ e + 0 → high_level' ≤ high_level + load.high_rate * d → LowEnds n s load now high_level e y
+    → LowEnds n s load (now + d) high_level' e' y
 low_later n s load now d high_level high_level' e e' y le grows h = let le' : e' ≤ e = omega arith in omega (arith, mul-le-mul_left n le', h, grows)
 
 -- d nanoseconds in which the levels grow no faster than the line works
@@ -48,7 +52,8 @@ pub stand_growth : (n : ℕ) (s : Settings) (load : Load) (now d start level hig
 stand_growth n s load now d start level high_level level' high_level' high low slow high_slow grows high_grows h = record {
   all_work = omega (arith, h.all_work, grows, mul-le-mul_right d slow);
   high_work = omega (arith, h.high_work, high_grows, mul-le-mul_right d high_slow);
-  low_ends = ahead_weaker s (LowEnds n s load now high_level) (LowEnds n s load (now + d) high_level') 0 (start + costs s high) (start + costs s high) low (omega arith) (λ e e' y le q. low_later n s load now d high_level high_level' e e' y le high_grows q) h.low_ends;
+  low_ends = ahead_weaker s (LowEnds n s load now high_level) (LowEnds n s load (now + d) high_level') 0 (start + costs s high) (start + costs s high) low (omega arith)
+      (λ e e' y le q. low_later n s load now d high_level high_level' e e' y le high_grows q) h.low_ends;
   high_ends = h.high_ends;
 }
 
@@ -63,7 +68,8 @@ stand_high_start n s load now start start' level high_level x high low le h =
     record {
       all_work = omega (arith, h.all_work, mul-le-mul_left n two);
       high_work = omega (arith, h.high_work, mul-le-mul_left n one);
-      low_ends = ahead_weaker s (LowEnds n s load now high_level) (LowEnds n s load now high_level) 0 (start + costs s (x ∷ high)) (start' + costs s high) low (omega (arith, one)) (λ e e' y le q. low_sooner n s load now high_level high_level 0 e e' y le (omega arith) q) h.low_ends;
+      low_ends = ahead_weaker s (LowEnds n s load now high_level) (LowEnds n s load now high_level) 0 (start + costs s (x ∷ high)) (start' + costs s high) low (omega (arith, one))
+          (λ e e' y le q. low_sooner n s load now high_level high_level 0 e e' y le (omega arith) q) h.low_ends;
       high_ends = ahead_weaker s (HighEnds n s load) (HighEnds n s load) 0 (start + item_cost s x) start' high (omega (arith, le)) (high_sooner n s load) h.high_ends.1;
     }
 
@@ -78,7 +84,8 @@ stand_low_start n s load now start start' level high_level x low le before small
     record {
       all_work = omega (arith, h.all_work, mul-le-mul_left n two);
       high_work = omega (arith, capped, mul-le-mul_left n one);
-      low_ends = ahead_weaker s (LowEnds n s load now high_level) (LowEnds n s load now high_level) 0 (start + 0 + item_cost s x) (start' + 0) low (omega (arith, le)) (λ e e' y le q. low_sooner n s load now high_level high_level 0 e e' y le (omega arith) q) h.low_ends.1;
+      low_ends = ahead_weaker s (LowEnds n s load now high_level) (LowEnds n s load now high_level) 0 (start + 0 + item_cost s x) (start' + 0) low (omega (arith, le))
+          (λ e e' y le q. low_sooner n s load now high_level high_level 0 e e' y le (omega arith) q) h.low_ends.1;
       high_ends = tt;
     }
 
@@ -107,12 +114,14 @@ pub stand_high : (n : ℕ) (s : Settings) (load : Load) (now start level high_le
 stand_high n s load now start level high_level level' high_level' x high low instant pays high_pays h =
     let sum = sum_by_push (item_cost s) high x in
     let more : n * (start + costs s (high ++ x ∷ [])) ≡ n * (start + costs s high) + n * item_cost s x = ap (λ c. n * (start + c)) sum ∙ spread n start (costs s high) (item_cost s x) in
-    let more_all : n * (start + costs s (high ++ x ∷ []) + costs s low) ≡ n * (start + costs s high + costs s low) + n * item_cost s x = ap (λ c. n * (start + c + costs s low)) sum ∙ spread_all n start (costs s high) (item_cost s x) (costs s low) in
+    let more_all : n * (start + costs s (high ++ x ∷ []) + costs s low) ≡ n * (start + costs s high + costs s low) + n * item_cost s x = ap (λ c. n * (start + c + costs s low)) sum
+    ∙ spread_all n start (costs s high) (item_cost s x) (costs s low) in
     let highest' : n * (start + costs s (high ++ x ∷ [])) + high_level' ≤ n * (now + load.low_largest) + load.high_burst = omega (arith, h.high_work, more, high_pays) in
     record {
       all_work = omega (arith, h.all_work, more_all, pays);
       high_work = highest';
-      low_ends = ahead_weaker s (LowEnds n s load now high_level) (LowEnds n s load now high_level') (item_cost s x) (start + costs s high) (start + costs s (high ++ x ∷ [])) low (omega (arith, sum)) (λ e e' y le q. low_sooner n s load now high_level high_level' (item_cost s x) e e' y le high_pays q) h.low_ends;
+      low_ends = ahead_weaker s (LowEnds n s load now high_level) (LowEnds n s load now high_level') (item_cost s x) (start + costs s high) (start + costs s (high ++ x ∷ [])) low (omega (arith, sum))
+          (λ e e' y le q. low_sooner n s load now high_level high_level' (item_cost s x) e e' y le high_pays q) h.low_ends;
       high_ends = ahead_push s (HighEnds n s load) start (start + costs s (high ++ x ∷ [])) high x (omega (arith, sum)) h.high_ends (ends _ highest');
     } where
       spread : (n a b c : ℕ) → n * (a + (b + c)) ≡ n * (a + b) + n * c
@@ -130,12 +139,15 @@ pub stand_low : (n : ℕ) (s : Settings) (load : Load) (now start level high_lev
     → IsWithinPotentials n s load now start level high_level high low → IsWithinPotentials n s load now start level' high_level' high (low ++ x ∷ [])
 stand_low n s load now start level high_level level' high_level' x high low instant pays falls part h =
     let sum = sum_by_push (item_cost s) low x in
-    let more_all : n * (start + costs s high + costs s (low ++ x ∷ [])) ≡ n * (start + costs s high + costs s low) + n * item_cost s x = ap (λ c. n * (start + costs s high + c)) sum ∙ spread_all n start (costs s high) (item_cost s x) (costs s low) in
+    let more_all : n * (start + costs s high + costs s (low ++ x ∷ [])) ≡ n * (start + costs s high + costs s low) + n * item_cost s x = ap (λ c. n * (start + costs s high + c)) sum
+    ∙ spread_all n start (costs s high) (item_cost s x) (costs s low) in
     let all' : n * (start + costs s high + costs s (low ++ x ∷ [])) + level' ≤ n * now + load.burst = omega (arith, h.all_work, more_all, pays) in
     record {
       all_work = all';
       high_work = omega (arith, h.high_work, falls);
-      low_ends = ahead_push s (LowEnds n s load now high_level') (start + costs s high) (start + costs s high + costs s (low ++ x ∷ [])) low x (omega (arith, sum)) (ahead_weaker s (LowEnds n s load now high_level) (LowEnds n s load now high_level') 0 (start + costs s high) (start + costs s high) low (omega arith) (λ e e' y le q. low_sooner n s load now high_level high_level' 0 e e' y le (omega (arith, falls)) q) h.low_ends) (ends _ all');
+      low_ends = ahead_push s (LowEnds n s load now high_level') (start + costs s high) (start + costs s high + costs s (low ++ x ∷ [])) low x (omega (arith, sum))
+          (ahead_weaker s (LowEnds n s load now high_level) (LowEnds n s load now high_level') 0 (start + costs s high) (start + costs s high) low (omega arith)
+          (λ e e' y le q. low_sooner n s load now high_level high_level' 0 e e' y le (omega (arith, falls)) q) h.low_ends) (ends _ all');
       high_ends = h.high_ends;
     } where
       spread_all : (n a b c d : ℕ) → n * (a + b + (d + c)) ≡ n * (a + b + d) + n * c

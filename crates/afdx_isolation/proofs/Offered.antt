@@ -51,7 +51,8 @@ module _ (g : Ground) (s : Settings) (flows : List Flow) (paid : All (IsPaidFor 
   gathered true x items rest = append_assoc items (x ∷ []) rest
   gathered false x items rest = refl
 
-  pub kept_all : (before arrivals items : List Item) (now to : ℕ) → Early before now → now ≤ to → InOrder now (map frame_of arrivals) → AllByRecursion (λ (x : Item). x.stamp ≤ to) arrivals → All (IsClean flows) arrivals
+  pub kept_all : (before arrivals items : List Item) (now to : ℕ) → Early before now → now ≤ to → InOrder now (map frame_of arrivals) → AllByRecursion (λ (x : Item). x.stamp ≤ to) arrivals
+      → All (IsClean flows) arrivals
       → Keeps items (reach s now) (level_after before now) → Keeps (items ++ feed_after flows before arrivals) (reach s to) (level_after (before ++ arrivals) to)
   kept_all before [] items now to early le order late clean h =
       subst (λ xs. Keeps xs (reach s to) (level_after (before ++ []) to)) (sym (append-nil items))
@@ -69,7 +70,8 @@ module _ (g : Ground) (s : Settings) (flows : List Flow) (paid : All (IsPaidFor 
   room_for : HasBuffer s flows → (before items : List Item) (x : Item) → IsClean flows x → Early before x.stamp → Keeps items (came s x) (level_after before x.stamp)
       → (v : Bool) → joins flows before x ≡ v → (rest : List Item) → admit_all s items (cond v (x ∷ rest) rest) ≡ admit_all s (cond v (items ++ x ∷ []) items) rest
   room_for buffer before items x clean early h true is rest =
-      let room = has_room g s flows paid slow buffer items x (level_after before x.stamp) (level_after (before ++ x ∷ []) x.stamp) (of_a_flow flows before x clean is) (debits_joined g flows apart before x early is) h in
+      let room = has_room g s flows paid slow buffer items x (level_after before x.stamp) (level_after (before ++ x ∷ []) x.stamp) (of_a_flow flows before x clean is)
+      (debits_joined g flows apart before x early is) h in
       ap (λ v. admit_all s (cond v (items ++ x ∷ []) items) rest) room
   room_for buffer before items x clean early h false is rest = refl
 
@@ -140,9 +142,11 @@ module _ (g : Ground) (flows : List Flow) (apart : AreDistinct flows) (flow : Fl
         one true ys zs is = ap (λ ys. x ∷ ys) is
         one false ys zs is = is
 
-        step : (v c : Bool) (ps : List Frame) (rows rest : List Item) → c ≡ conforms flow.terms ps (frame_of x) → rest ≡ passed_after frame_of flow.terms (cond (v && c) (ps ++ frame_of x ∷ []) ps) rows
+        step : (v c : Bool) (ps : List Frame) (rows rest : List Item) → c ≡ conforms flow.terms ps (frame_of x) → rest
+            ≡ passed_after frame_of flow.terms (cond (v && c) (ps ++ frame_of x ∷ []) ps) rows
             → cond (v && c) (x ∷ rest) rest ≡ passed_after frame_of flow.terms ps (cond v (x ∷ rows) rows)
-        step true c ps rows rest is ih = one c rest (passed_after frame_of flow.terms (cond c (ps ++ frame_of x ∷ []) ps) rows) ih ∙ ap (λ b. cond b (x ∷ []) [] ++ passed_after frame_of flow.terms (cond b (ps ++ frame_of x ∷ []) ps) rows) is
+        step true c ps rows rest is ih = one c rest (passed_after frame_of flow.terms (cond c (ps ++ frame_of x ∷ []) ps) rows) ih
+            ∙ ap (λ b. cond b (x ∷ []) [] ++ passed_after frame_of flow.terms (cond b (ps ++ frame_of x ∷ []) ps) rows) is
         step false c ps rows rest is ih = ih
 
   pub exactly : (arrivals : List Item) → own flow.id (feed_of flows arrivals) ≡ passed flow arrivals

@@ -20,7 +20,8 @@ grown [] d level after h = omega arith
 grown (k ∷ flows) d level after h =
     let here = (All-head (λ (flow : Flow). (after flow ≤ flow.terms.cap) × (after flow ≤ level flow + flow.terms.rate * d)) k flows h).1 in
     let ih = grown flows d level after (All-tail (λ (flow : Flow). (after flow ≤ flow.terms.cap) × (after flow ≤ level flow + flow.terms.rate * d)) k flows h) in
-    adds k.weight (after k) (level k) k.terms.rate d _ _ _ _ _ _ (sum_by-cons (λ flow. flow.weight * after flow) k flows) (sum_by-cons (λ flow. flow.weight * level flow) k flows) (sum_by-cons (λ (flow : Flow). flow.weight * flow.terms.rate) k flows) here ih where
+    adds k.weight (after k) (level k) k.terms.rate d _ _ _ _ _ _ (sum_by-cons (λ flow. flow.weight * after flow) k flows) (sum_by-cons (λ flow. flow.weight * level flow) k flows)
+    (sum_by-cons (λ (flow : Flow). flow.weight * flow.terms.rate) k flows) here ih where
       adds : (w a l r d m ls rs m' ls' rs' : ℕ) → m' ≡ w * a + m → ls' ≡ w * l + ls → rs' ≡ w * r + rs → a ≤ l + r * d → m ≤ ls + rs * d → m' ≤ ls' + rs' * d
       adds w a l r d m ls rs m' ls' rs' ea el er le ih = rw (ea, el, er) (omega (arith, mul-le-mul_left w le, ih))
 
@@ -36,7 +37,8 @@ debited [] x level after h = omega arith
 debited (k ∷ flows) x level after h =
     let here = All-head (λ (flow : Flow). after flow + charge x flow ≤ level flow) k flows h in
     let ih = debited flows x level after (All-tail (λ (flow : Flow). after flow + charge x flow ≤ level flow) k flows h) in
-    adds k.weight (after k) (charge x k) (level k) _ _ _ _ _ _ (sum_by-cons (λ flow. flow.weight * after flow) k flows) (sum_by-cons (λ flow. flow.weight * charge x flow) k flows) (sum_by-cons (λ flow. flow.weight * level flow) k flows) here ih where
+    adds k.weight (after k) (charge x k) (level k) _ _ _ _ _ _ (sum_by-cons (λ flow. flow.weight * after flow) k flows) (sum_by-cons (λ flow. flow.weight * charge x flow) k flows)
+    (sum_by-cons (λ flow. flow.weight * level flow) k flows) here ih where
       adds : (w a c l m cs ls m' cs' ls' : ℕ) → m' ≡ w * a + m → cs' ≡ w * c + cs → ls' ≡ w * l + ls → a + c ≤ l → m + cs ≤ ls → m' + cs' ≤ ls'
       adds w a c l m cs ls m' cs' ls' ea ec el le ih = rw (ea, ec, el) (omega (arith, mul-le-mul_left w le, ih))
 
@@ -51,7 +53,8 @@ charge_own x k same = choose k.id x.link (k.terms.price x.size) same where
   choose m n p h = grind (arith, nat_tests)
 
 -- the accounts pay for an item of a flow among them
-pub pays : (flows : List Flow) (x : Item) (k : Flow) → Contains flows k → k.id ≡ x.link → (level after : Flow → ℕ) → AreDebited flows x level after → held after flows + k.weight * k.terms.price x.size ≤ held level flows
+pub pays : (flows : List Flow) (x : Item) (k : Flow) → Contains flows k → k.id ≡ x.link → (level after : Flow → ℕ) → AreDebited flows x level after → held after flows + k.weight * k.terms.price x.size
+    ≤ held level flows
 pays flows x k among same level after h =
     let one = within (λ flow. flow.weight * charge x flow) flows k among in
     let own = ap (λ n. k.weight * n) (charge_own x k same) in
@@ -68,7 +71,8 @@ among_filter p flows k among = All-contains (λ flow. p flow ≡ true → Contai
   each (k ∷ flows) = All-cons (λ flow. p flow ≡ true → Contains (filter p (k ∷ flows)) flow) k flows
       (λ is. subst (λ v. Contains (cond v (k ∷ filter p flows) (filter p flows)) k) (sym is) (0, omega arith, refl))
       (All-weaker (λ flow. p flow ≡ true → Contains (filter p flows) flow) (λ flow. p flow ≡ true → Contains (filter p (k ∷ flows)) flow)
-      (λ flow h is. elim (p k) as (λ v. Contains (cond v (k ∷ filter p flows) (filter p flows)) flow) [ true ↦ Contains-append_right (k ∷ []) (filter p flows) flow (h is) | false ↦ h is ]) flows (each flows))
+      (λ flow h is. elim (p k) as (λ v. Contains (cond v (k ∷ filter p flows) (filter p flows)) flow) [ true ↦ Contains-append_right (k ∷ []) (filter p flows) flow (h is) | false ↦ h is ]) flows
+      (each flows))
 
 -- the sums of the two priorities are the whole sum
 parts : (f : Flow → ℕ) (flows : List Flow) → sum_by f (high_flows flows) + sum_by f (low_flows flows) ≡ sum_by f flows
@@ -96,7 +100,8 @@ cost_grows speed a b le = let le' : a + 20 ≤ b + 20 = omega arith in mul-le-mu
 within_all : (s : Settings) (flows : List Flow) → All (λ (flow : Flow). cost_of s.speed flow.largest ≤ longest s flows) flows
 within_all s [] = All-nil (λ (flow : Flow). cost_of s.speed flow.largest ≤ 0)
 within_all s (k ∷ flows) = All-cons (λ (flow : Flow). cost_of s.speed flow.largest ≤ longest s (k ∷ flows)) k flows (omega arith)
-    (All-weaker (λ (flow : Flow). cost_of s.speed flow.largest ≤ longest s flows) (λ (flow : Flow). cost_of s.speed flow.largest ≤ longest s (k ∷ flows)) (λ flow h. omega (arith, h)) flows (within_all s flows))
+    (All-weaker (λ (flow : Flow). cost_of s.speed flow.largest ≤ longest s flows) (λ (flow : Flow). cost_of s.speed flow.largest ≤ longest s (k ∷ flows)) (λ flow h. omega (arith, h)) flows
+    (within_all s flows))
 
 -- no frame that a flow allows takes longer than the longest
 pub within_longest : (s : Settings) (flows : List Flow) (k : Flow) (size : ℕ) → Contains flows k → size ≤ k.largest → cost_of s.speed size ≤ longest s flows

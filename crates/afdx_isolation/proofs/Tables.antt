@@ -1,5 +1,6 @@
 -- The rows of a table as a port's flows: their load, and what an accepted table gives.
-use Rattle.std.proofs.Common.{◌≡◌, ℕ, ◌+◌, ◌-◌, ◌*◌, ◌/◌, ◌<◌, ◌≤◌, Bool, true, false, cond, Option, Some, None, List, [], ◌∷◌, ◌++◌, length, get_or, refl, ap, sym, ◌∙◌, subst, arith, ⊎_elim, append-nil}
+use Rattle.std.proofs.Common.{◌≡◌, ℕ, ◌+◌, ◌-◌, ◌*◌, ◌/◌, ◌<◌, ◌≤◌, Bool, true, false, cond, Option, Some, None, List, [], ◌∷◌, ◌++◌, length, get_or, refl, ap, sym, ◌∙◌, subst, arith, ⊎_elim}
+use Rattle.std.proofs.Common.{append-nil}
 use Rattle.std.specs.Prelude.{nat_eq, nat_lt, ◌&&◌, not, max, map, filter, sum_by, count_by, All, Contains}
 use Rattle.std.proofs.lemmas.Bool.{cases_Bool, cases_lt, both_ways}
 use Rattle.std.proofs.lemmas.Bool.Decides.{nat_tests, Decides-eqb}
@@ -137,22 +138,26 @@ module _ (latency : ℕ) (row : PortRow) (asks : AsksWhatItsAccountGives) where
   counted p [] = All-nil (λ l. p l ≡ true → 0 < count_by p [])
   counted p (l ∷ links) = All-cons (λ k. p k ≡ true → 0 < count_by p (l ∷ links)) l links
       (λ is. let here : cond {A = ℕ} (p l) 1 0 ≡ 1 = ap (λ v. cond v 1 0) is in omega (arith, here, count_more p l links))
-      (All-weaker (λ k. p k ≡ true → 0 < count_by p links) (λ k. p k ≡ true → 0 < count_by p (l ∷ links)) (λ k h is. let some = h is in omega (arith, some, count_more p l links)) links (counted p links))
+      (All-weaker (λ k. p k ≡ true → 0 < count_by p links) (λ k. p k ≡ true → 0 < count_by p (l ∷ links)) (λ k h is. let some = h is in omega (arith, some, count_more p l links)) links
+      (counted p links))
 
   some_high : (links : List Link) → All (λ (flow : Flow). flow.priority ≡ High → 0 < (sums_of row.speed links).highs) (map (flow_of row.speed) links)
   unfolding sums_of
   some_high links = All-map (λ (flow : Flow). flow.priority ≡ High → 0 < count_by is_high_link links) (flow_of row.speed) links
-      (All-weaker (λ l. is_high_link l ≡ true → 0 < count_by is_high_link links) (λ l. l.priority ≡ High → 0 < count_by is_high_link links) (λ l h is. h (ap is_high_priority is)) links (counted is_high_link links))
+      (All-weaker (λ l. is_high_link l ≡ true → 0 < count_by is_high_link links) (λ l. l.priority ≡ High → 0 < count_by is_high_link links) (λ l h is. h (ap is_high_priority is)) links
+      (counted is_high_link links))
 
   some_low : (links : List Link) → All (λ (flow : Flow). flow.priority ≡ Low → 0 < (sums_of row.speed links).lows) (map (flow_of row.speed) links)
   unfolding sums_of
   some_low links = All-map (λ (flow : Flow). flow.priority ≡ Low → 0 < count_by is_low_link links) (flow_of row.speed) links
-      (All-weaker (λ l. is_low_link l ≡ true → 0 < count_by is_low_link links) (λ l. l.priority ≡ Low → 0 < count_by is_low_link links) (λ l h is. h (ap (λ p. not (is_high_priority p)) is)) links (counted is_low_link links))
+      (All-weaker (λ l. is_low_link l ≡ true → 0 < count_by is_low_link links) (λ l. l.priority ≡ Low → 0 < count_by is_low_link links) (λ l h is. h (ap (λ p. not (is_high_priority p)) is)) links
+      (counted is_low_link links))
 
   some_link : (l : Link) (links : List Link) → 0 < (sums_of row.speed (l ∷ links)).highs + (sums_of row.speed (l ∷ links)).lows
   unfolding sums_of
   some_link l links =
-      let one : 0 < cond {A = ℕ} (is_high_link l) 1 0 + cond (not (is_high_link l)) 1 0 = elim (is_high_link l) as (λ v. 0 < cond v 1 0 + cond (not v) 1 0) [ true ↦ omega arith | false ↦ omega arith ] in
+      let one : 0 < cond {A = ℕ} (is_high_link l) 1 0 + cond (not (is_high_link l)) 1 0 = elim (is_high_link l) as (λ v. 0 < cond v 1 0 + cond (not v) 1 0) [ true ↦ omega arith | false ↦ omega arith ]
+      in
       omega (arith, one, count_more is_high_link l links, count_more is_low_link l links)
 
   abbrev KeepsBounds : List Link → Type 0
@@ -253,7 +258,8 @@ module _ (t : Content) (row : PortRow) (well : IsWellFormed t) where
   distinct a b ia ib same =
       let m = in_map (flow_of row.speed) links a ia in
       let k = in_map (flow_of row.speed) links b ib in
-      sym m.2 ∙ ap (flow_of row.speed) (apart m.0 k.0 (in_filter (leads_to row.id) t.links m.0 m.1) (in_filter (leads_to row.id) t.links k.0 k.1) (ap (λ (f : Flow). f.id) m.2 ∙ same ∙ sym (ap (λ (f : Flow). f.id) k.2))) ∙ k.2
+      sym m.2 ∙ ap (flow_of row.speed) (apart m.0 k.0 (in_filter (leads_to row.id) t.links m.0 m.1) (in_filter (leads_to row.id) t.links k.0 k.1)
+      (ap (λ (f : Flow). f.id) m.2 ∙ same ∙ sym (ap (λ (f : Flow). f.id) k.2))) ∙ k.2
 
   -- a link's own flow decides of its arrivals
   pub offers : (link : Link) → Contains t.links link → (before : List Item) (x : Item) → x.link ≡ link.id
@@ -281,7 +287,8 @@ module _ (t : Content) (row : PortRow) (well : IsWellFormed t) where
         (λ (is : joins (flows_at t row) before x ≡ false). is)
         (cases_Bool (joins (flows_at t row) before x))
 
-    decide : (v c : Bool) → leads_to row.id link ≡ v → conforms (terms_of link) (passed_frames (terms_of link) (map frame_of (own link.id before))) (frame_of x) ≡ c → joins (flows_at t row) before x ≡ (v && c)
+    decide : (v c : Bool) → leads_to row.id link ≡ v → conforms (terms_of link) (passed_frames (terms_of link) (map frame_of (own link.id before))) (frame_of x) ≡ c → joins (flows_at t row) before x
+        ≡ (v && c)
     decide false c leads is = never (λ yes _. absurd (both_ways (leads_to row.id link) leads yes))
     decide true false leads is = never (λ _ yes. absurd (both_ways (is_passed before x (flow_of row.speed link)) (own_passes false is) yes))
     decide true true leads is = ⊎_elim
@@ -289,7 +296,8 @@ module _ (t : Content) (row : PortRow) (well : IsWellFormed t) where
         (λ (no' : joins (flows_at t row) before x ≡ false).
         let none = none_joined (flows_at t row) before x no' in
         let mine = of_map (flow_of row.speed) links link (among_filter (leads_to row.id) t.links link in_table leads) in
-        absurd (both_ways (is_passed before x (flow_of row.speed link)) (All-contains (λ flow. is_passed before x flow ≡ false) (flows_at t row) (flow_of row.speed link) none mine) (own_passes true is)))
+        absurd (both_ways (is_passed before x (flow_of row.speed link)) (All-contains (λ flow. is_passed before x flow ≡ false) (flows_at t row) (flow_of row.speed link) none mine)
+        (own_passes true is)))
         (cases_Bool (joins (flows_at t row) before x))
 
 -- ---- the laws
@@ -309,7 +317,8 @@ isolated_at pays asks some keeps isolates t arrivals h row among c settings is =
     let accepted = All-contains (λ (row : PortRow). 0 < (sums_at t.latency row.speed row.id t.links).highs + (sums_at t.latency row.speed row.id t.links).lows
     → CarriesSums row (sums_at t.latency row.speed row.id t.links)) t.ports row h.accepted among in
     let load : Carries s flows = carries t.latency row asks links accepted bounds in
-    let all : IsIsolatedSoFar flows arrivals c = isolates c flows arrivals (subst (λ s. Arrive s flows arrivals) (sym settings) arrive) (subst (λ s. Carries s flows) (sym settings) load) (subst (λ s. c.admitted ≡ admitted s (feed_of flows arrivals)) (sym settings) is) in
+    let all : IsIsolatedSoFar flows arrivals c = isolates c flows arrivals (subst (λ s. Arrive s flows arrivals) (sym settings) arrive) (subst (λ s. Carries s flows) (sym settings) load)
+    (subst (λ s. c.admitted ≡ admitted s (feed_of flows arrivals)) (sym settings) is) in
     let in_bound : All (IsInBound s (load_of s flows)) (sent_of (done c)) = subst (λ s. All (IsInBound s (load_of s flows)) (sent_of (done c))) settings all.in_bound in
     record {
       none_full = all.none_full;
@@ -341,13 +350,16 @@ none_past pays asks some keeps full t arrivals h row among bytes holds =
       stamps = h.stamps;
       clean = All-weaker (IsCleanIn t) (IsClean flows) (λ x is. clean t own h.well_formed x is) arrivals h.clean;
     } in
-    let bounds : KeepsBounds t.latency own asks (routed row.id t.links) = All-contains (λ (row : PortRow). KeepsBounds t.latency row asks (routed row.id t.links)) t.ports row (keeps t h.well_formed h.accepted) among in
-    let accepted = All-contains (λ (row : PortRow). 0 < (sums_at t.latency row.speed row.id t.links).highs + (sums_at t.latency row.speed row.id t.links).lows → CarriesSums row (sums_at t.latency row.speed row.id t.links)) t.ports row h.accepted among in
+    let bounds : KeepsBounds t.latency own asks (routed row.id t.links) = All-contains (λ (row : PortRow). KeepsBounds t.latency row asks (routed row.id t.links)) t.ports row
+    (keeps t h.well_formed h.accepted) among in
+    let accepted = All-contains (λ (row : PortRow). 0 < (sums_at t.latency row.speed row.id t.links).highs + (sums_at t.latency row.speed row.id t.links).lows
+    → CarriesSums row (sums_at t.latency row.speed row.id t.links)) t.ports row h.accepted among in
     let load : Carries s flows = carries t.latency own asks (routed row.id t.links) (λ has. let c = accepted has in record { rate = c.rate; buffer = holds; high = c.high; low = c.low }) bounds in
     full s flows arrivals arrive load.rate load.buffer
 
 pub holds_backlog : PricesPay → AsksWhatItsAccountGives → EachLinkAsks → AcceptedKeepsBounds → NoneIsFull → AdmittedFit → BuffersServeAlike → AcceptedTablesIsolate
-    → (t : Content) (arrivals : List Item) → ArriveAt t arrivals → (row : PortRow) → Contains t.ports row → (bytes : ℕ) → backlog (sums_at t.latency row.speed row.id t.links) ≤ byte_time row.speed bytes
+    → (t : Content) (arrivals : List Item) → ArriveAt t arrivals → (row : PortRow) → Contains t.ports row → (bytes : ℕ) → backlog (sums_at t.latency row.speed row.id t.links)
+    ≤ byte_time row.speed bytes
     → AllFitIn bytes (settings_of t.latency row) [] (admitted (settings_of t.latency row) (feed_of (flows_at t row) arrivals))
 holds_backlog pays asks some keeps full fit alike isolate t arrivals h row among bytes holds =
     let s = settings_of t.latency row in

@@ -106,7 +106,8 @@ line_is (x ∷ items) lined =
 
 -- the line is free again within the item's line time
 pub fate_free : (s : Settings) (b : ℕ) (x : Item) → (b ≤ free_after (fate s b x)) × (free_after (fate s b x) ≤ b + item_cost s x)
-fate_free s b x = elim (nat_lt s.max_delay (b - x.stamp)) as (λ v. let e = cond v (aging (record { item = x; at = b })) (sending (record { item = x; begin = b; end = b + cost_of s.speed x.size })) in (b ≤ free_after e) × (free_after e ≤ b + item_cost s x)) [ true ↦ (omega arith, omega arith) | false ↦ (omega arith, omega arith) ]
+fate_free s b x = elim (nat_lt s.max_delay (b - x.stamp)) as (λ v. let e = cond v (aging (record { item = x; at = b })) (sending (record { item = x; begin = b; end = b + cost_of s.speed x.size })) in
+    (b ≤ free_after e) × (free_after e ≤ b + item_cost s x)) [ true ↦ (omega arith, omega arith) | false ↦ (omega arith, omega arith) ]
 
 choose_yes : {b t : ℕ} (x y : LineState) → b < t → cond (nat_lt b t) x y ≡ x
 choose_yes x y h = grind (arith, nat_tests)

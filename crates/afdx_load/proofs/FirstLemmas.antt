@@ -99,7 +99,8 @@ first_at row s f h =
   where
     by_first : (a b : Option LoadFault) → a ≡ past_rule row s Rate → b ≡ past_rule row s Buffer → (a ≡ Some f) ⊎ ((a ≡ None) × (b ≡ Some f)) → IsFirstAt row s f
     by_first a b ea eb (inl rate) = first_by row s Rate f (sym ea ∙ rate) (before row s Rate (λ lt. absurd (omega (arith, lt))) (λ lt. absurd (omega (arith, lt))) (λ lt. absurd (omega (arith, lt))))
-    by_first a b ea eb (inr buffer) = first_by row s Buffer f (sym eb ∙ buffer.1) (before row s Buffer (λ lt. kept row s Rate (sym ea ∙ buffer.0)) (λ lt. absurd (omega (arith, lt))) (λ lt. absurd (omega (arith, lt))))
+    by_first a b ea eb (inr buffer) = first_by row s Buffer f (sym eb ∙ buffer.1)
+        (before row s Buffer (λ lt. kept row s Rate (sym ea ∙ buffer.0)) (λ lt. absurd (omega (arith, lt))) (λ lt. absurd (omega (arith, lt))))
 
     by_third : (a b c : Option LoadFault) → a ≡ past_rule row s Rate → b ≡ past_rule row s Buffer → c ≡ past_rule row s HighDelay
         → (option_or a b ≡ Some f) ⊎ ((option_or a b ≡ None) × (c ≡ Some f)) → IsFirstAt row s f
@@ -114,7 +115,8 @@ first_at row s f h =
     by_place a b c d ea eb ec ed (inr low) =
         let fine = or_none (option_or a b) c low.0 in
         let finer = or_none a b fine.0 in
-        first_by row s LowDelay f (sym ed ∙ low.1) (before row s LowDelay (λ lt. kept row s Rate (sym ea ∙ finer.0)) (λ lt. kept row s Buffer (sym eb ∙ finer.1)) (λ lt. kept row s HighDelay (sym ec ∙ fine.1)))
+        first_by row s LowDelay f (sym ed ∙ low.1) (before row s LowDelay (λ lt. kept row s Rate (sym ea ∙ finer.0)) (λ lt. kept row s Buffer (sym eb ∙ finer.1))
+        (λ lt. kept row s HighDelay (sym ec ∙ fine.1)))
 
 none_broken : (row : PortRow) (s : Sums) → fault_at row s ≡ None → (rule : Rule) → Broken row s rule → ⊥
 unfolding fault_at

@@ -39,7 +39,8 @@ bytes_burst t k s b = omega arith
 frames_burst : (t k s b : ℕ) → 16 * ((s + 20) * t) * k * b ≡ 16 * t * (s + 20) * k * b
 frames_burst t k s b = omega arith
 
-burst_is_by : (police : Police) (speed : Speed) (size : ℕ) (bag : Bag) (jitter : ℕ) → weight_by police size bag speed * (terms_by police size bag jitter).cap ≡ rate_by police speed size bag * (bag_ns bag + jitter)
+burst_is_by : (police : Police) (speed : Speed) (size : ℕ) (bag : Bag) (jitter : ℕ) → weight_by police size bag speed * (terms_by police size bag jitter).cap
+    ≡ rate_by police speed size bag * (bag_ns bag + jitter)
 burst_is_by Byte speed size bag jitter = bytes_burst (tick_of speed) (128 / bag_ms bag) size (bag_ns bag + jitter)
 burst_is_by Frame speed size bag jitter = frames_burst (tick_of speed) (128 / bag_ms bag) size (bag_ns bag + jitter)
 

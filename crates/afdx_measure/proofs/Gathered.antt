@@ -1,5 +1,6 @@
 -- The delays at the ports of a switch, each found by its number.
-use Rattle.std.proofs.Common.{◌≡◌, ℕ, zero, suc, ◌+◌, ◌<◌, ◌≤◌, ◌==◌, Bool, true, false, cond, List, [], ◌∷◌, ◌++◌, length, take, drop, get_or, slice_get, Option, Some, None, refl, sym, ap, subst, ◌∙◌, arith, append_assoc}
+use Rattle.std.proofs.Common.{◌≡◌, ℕ, zero, suc, ◌+◌, ◌<◌, ◌≤◌, ◌==◌, Bool, true, false, cond, List, [], ◌∷◌, ◌++◌, length, take, drop, get_or, slice_get, Option, Some, None, refl, sym, ap, subst}
+use Rattle.std.proofs.Common.{◌∙◌, arith, append_assoc}
 use Rattle.std.specs.Prelude.{find, flat_map}
 use Rattle.std.proofs.lemmas.List.{take_more}
 use Rattle.afdx_table.specs.declared.rows.PortRow.{PortRow}
@@ -49,7 +50,8 @@ none_there r (p ∷ ports) (e ∷ all) (suc i) n le h = none_there r ports all i
 
 -- ---- as loops come to them
 
-pub one_more_port : {Z : Type 0} (r : Run) (ports : List PortRow) (i : ℕ) (e : PortRow) (all longer : List (AtPort Z)) (d : AtPort Z) → longer ≡ all ++ d ∷ [] → i < length ports → d.port ≡ (get_or ports i e).id
+pub one_more_port : {Z : Type 0} (r : Run) (ports : List PortRow) (i : ℕ) (e : PortRow) (all longer : List (AtPort Z)) (d : AtPort Z) → longer ≡ all ++ d ∷ [] → i < length ports → d.port
+    ≡ (get_or ports i e).id
     → AreDelays (sent_in r (port_row r.table d.port)) d.delays.items → AreGathered r (take i ports) all → AreGathered r (take (i + 1) ports) longer
 one_more_port {Z} r ports i e all longer d grown lt is delays h =
     subst (λ (xs : List PortRow). AreGathered r xs longer) (sym (take_more ports i e lt))
@@ -59,7 +61,8 @@ pub gathered_here : {Z : Type 0} (r : Run) (ports : List PortRow) (all : List (A
     → AreDelays (sent_in r (port_row r.table d.port)) d.delays.items
 gathered_here {Z} r ports all i d lt is h = subst (λ (x : AtPort Z). AreDelays (sent_in r (port_row r.table x.port)) x.delays.items) (sym is) (gathered_at r ports all i d lt h)
 
-pub told_of : {Z : Type 0} (r : Run) (ports : List PortRow) (all : List (AtPort Z)) (i : ℕ) (d : AtPort Z) (link place port : ℕ) (x : Delays) → i < length all → d ≡ get_or all i d → place ≡ link → link < 65536
+pub told_of : {Z : Type 0} (r : Run) (ports : List PortRow) (all : List (AtPort Z)) (i : ℕ) (d : AtPort Z) (link place port : ℕ) (x : Delays) → i < length all → d ≡ get_or all i d → place ≡ link
+    → link < 65536
     → x ≡ get_or d.delays.items place x → d.port ≡ port → AreGathered r ports all → x ≡ told (delays_of link (sent_in r (port_row r.table port)))
 told_of r ports all i d link place port x lt is place_is small stands same h =
     let here = gathered_here r ports all i d lt is h in
@@ -81,7 +84,8 @@ drop_here (y ∷ ys) (suc i) x here =
     let further : suc (i + 1) ≡ suc i + 1 = omega arith in
     drop_here ys i x here ∙ ap (λ (k : ℕ). x ∷ drop k (y ∷ ys)) further
 
-pub lines_more : {X : Type 0} (f : X → List ℕ) (xs : List X) (i : ℕ) (x : X) (start text longer : List ℕ) → slice_get xs i ≡ Some x → longer ≡ text ++ f x → start ++ flat_map f xs ≡ text ++ flat_map f (drop i xs)
+pub lines_more : {X : Type 0} (f : X → List ℕ) (xs : List X) (i : ℕ) (x : X) (start text longer : List ℕ) → slice_get xs i ≡ Some x → longer ≡ text ++ f x → start ++ flat_map f xs ≡ text
+    ++ flat_map f (drop i xs)
     → start ++ flat_map f xs ≡ longer ++ flat_map f (drop (i + 1) xs)
 lines_more {X} f xs i x start text longer here grown h =
     h ∙ ap (λ (ys : List X). text ++ flat_map f ys) (drop_here xs i x here) ∙ sym (append_assoc text (f x) (flat_map f (drop (i + 1) xs)))

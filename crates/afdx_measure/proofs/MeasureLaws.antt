@@ -87,7 +87,8 @@ peak_within most (f ∷ fs) h = best_within most f fs (All-head (λ (g : Filling
 pub peak_is_within : AdmittedFit → (r : Run) (p : PortRow) → IfSome (peak_at r p) (λ f. f.bytes ≤ p.buffer)
 peak_is_within law r p =
     let items = (port_in r p).admitted in
-    peak_within p.buffer (fillings (settings_of r.table.latency p) [] items) (all_fit p.buffer (settings_of r.table.latency p) [] items (law (settings_of r.table.latency p) (feed_of r.table p.id r.rows)))
+    peak_within p.buffer (fillings (settings_of r.table.latency p) [] items) (all_fit p.buffer (settings_of r.table.latency p) [] items
+    (law (settings_of r.table.latency p) (feed_of r.table p.id r.rows)))
 
 -- ---- accepted tables
 
@@ -98,7 +99,8 @@ bounded isolate priorities r run well accepted p among l in_table bound is =
     delays_are_within r.table p (sent_in r (Some p)) l.id bound l.priority ((isolate r run well accepted).in_bound p among) (priorities r p l well in_table) is
 
 pub held : BuffersHoldTheBacklog → (r : Run) → IsRun r → IsWellFormed r.table → IsAccepted r.table → (p : PortRow) → Contains r.table.ports p
-    → (bytes : ℕ) → backlog (load_of r.table.latency p.speed p.id r.table.links) ≤ byte_time p.speed bytes → IfSome (peak_of (fillings (settings_of r.table.latency p) [] (port_in r p).admitted)) (λ f. f.bytes ≤ bytes)
+    → (bytes : ℕ) → backlog (load_of r.table.latency p.speed p.id r.table.links) ≤ byte_time p.speed bytes
+    → IfSome (peak_of (fillings (settings_of r.table.latency p) [] (port_in r p).admitted)) (λ f. f.bytes ≤ bytes)
 held hold r run well accepted p among bytes holds =
     let items = (port_in r p).admitted in
     peak_within bytes (fillings (settings_of r.table.latency p) [] items) (all_fit bytes (settings_of r.table.latency p) [] items (hold r run well accepted p among bytes holds))

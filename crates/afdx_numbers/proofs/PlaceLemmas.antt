@@ -1,5 +1,6 @@
 -- The place of a number among different ones.
-use Rattle.std.proofs.Common.{◌≡◌, ◌≢◌, ℕ, zero, suc, ◌+◌, ◌<◌, ◌≤◌, nat_eq, not, cond, true, false, ◌||◌, List, [], ◌∷◌, ◌++◌, length, get_or, set, position, Some, None, refl, sym, ap, ◌∙◌, subst, inl, inr, arith, get_or-set_same, get_or-set_other}
+use Rattle.std.proofs.Common.{◌≡◌, ◌≢◌, ℕ, zero, suc, ◌+◌, ◌<◌, ◌≤◌, nat_eq, not, cond, true, false, ◌||◌, List, [], ◌∷◌, ◌++◌, length, get_or, set, position, Some, None, refl, sym, ap, ◌∙◌, subst}
+use Rattle.std.proofs.Common.{inl, inr, arith, get_or-set_same, get_or-set_other}
 use Rattle.std.specs.List.{AllByRecursion, IsDistinct, list_any, prefix_len}
 use Rattle.std.proofs.lemmas.Bool.{cases_Bool, cases_lt, ne_eqb, false≢true}
 use Rattle.std.proofs.lemmas.Bool.Decides.{nat_tests}
@@ -103,7 +104,8 @@ places-push n xs old places ok same within fits new = record {
   at = λ k lt. elim (cases_lt k (length xs)) [
     | inl before ↦
         let other : get_or xs k 0 ≢ n = apart k before in
-        ap (λ m. get_or (set places n (length xs)) m 0) (get_or_append_left xs (n ∷ []) 0 k before) ∙ get_or-set_other places n (get_or xs k 0) (length xs) 0 other ∙ same (get_or xs k 0) ∙ ok.at k before
+        ap (λ m. get_or (set places n (length xs)) m 0) (get_or_append_left xs (n ∷ []) 0 k before) ∙ get_or-set_other places n (get_or xs k 0) (length xs) 0 other ∙ same (get_or xs k 0)
+        ∙ ok.at k before
     | inr past ↦ ap (λ m. get_or (set places n (length xs)) m 0) (last k lt past) ∙ get_or-set_same places n (length xs) 0 within ∙ omega (arith, length-append xs (n ∷ []))
   ];
 } where

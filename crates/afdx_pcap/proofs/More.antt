@@ -82,7 +82,8 @@ record_fault-more f last n xs ys e kept first =
     let p = whole_head (nat_lt (length xs) 16) n _ e kept first in
     let long : 16 ≤ length xs = ltb-false _ _ p.0 in
     rw (le-ltb (length (xs ++ ys)) 16 (omega (arith, length-append xs ys)), head-more f.endian xs ys long)
-    (of_head (head_fault f.resolution last n (head_of f.endian xs)) n (nat_lt (length xs) (16 + (head_of f.endian xs).captured)) (nat_lt (length (xs ++ ys)) (16 + (head_of f.endian xs).captured)) e kept p.1)
+    (of_head (head_fault f.resolution last n (head_of f.endian xs)) n (nat_lt (length xs) (16 + (head_of f.endian xs).captured)) (nat_lt (length (xs ++ ys)) (16 + (head_of f.endian xs).captured)) e
+    kept p.1)
 
 abbrev header_error : PcapFault → Result Format PcapFault
 header_error e = Err e

@@ -36,9 +36,9 @@ same_records last (r ∷ rs) (q ∷ qs) limits instants originals read =
     let original : r.original ≡ length r.bytes = All-head (λ (e : Entry). e.original ≡ length e.bytes) r rs originals in
     let same : q ≡ r = same_record last r q x limit instant original (subst (λ (t : List ℕ). Begins written last t q) text read.0) in
     let further : Splits written r.stamp x qs [] = subst (λ (t : List ℕ). Splits written r.stamp t qs []) (ap (after r) text ∙ after_is r x)
-        (same_tail written (flat_map record_text (r ∷ rs)) r q qs [] (sym same) read.1) in
+    (same_tail written (flat_map record_text (r ∷ rs)) r q qs [] (sym same) read.1) in
     let others : qs ≡ rs = same_records r.stamp rs qs (All-tail IsWithinLimit r rs limits) (All-tail (λ (e : Entry). IsInstant e.stamp) r rs instants)
-        (All-tail (λ (e : Entry). e.original ≡ length e.bytes) r rs originals) further in
+    (All-tail (λ (e : Entry). e.original ≡ length e.bytes) r rs originals) further in
     cc
 
 pub written_texts_read_back : (rs qs : List Entry) → All IsWithinLimit rs → All (λ r. IsInstant r.stamp) rs → All (λ r. r.original ≡ length r.bytes) rs

@@ -1,5 +1,6 @@
 -- A reader's place in its bytes, and what it tells of them.
-use Rattle.std.proofs.Common.{◌≡◌, ℕ, ◌+◌, ◌-◌, ◌<◌, Bool, true, false, List, [], ◌∷◌, ◌++◌, length, drop, Option, Some, None, Result, Ok, Err, sym, ap, subst, ◌∙◌, arith, inl, inr, refl, cond, not, ◌||◌}
+use Rattle.std.proofs.Common.{◌≡◌, ℕ, ◌+◌, ◌-◌, ◌<◌, Bool, true, false, List, [], ◌∷◌, ◌++◌, length, drop, Option, Some, None, Result, Ok, Err, sym, ap, subst, ◌∙◌, arith, inl, inr, refl, cond}
+use Rattle.std.proofs.Common.{not, ◌||◌}
 use Rattle.std.proofs.lemmas.List.{length-drop, length-append, drop-append-le, drop-drop, nil_from_length}
 use Rattle.std.specs.Prelude.{IfNone, IfErr, IsErr, IsErrAnd}
 use Rattle.afdx_pcap.specs.declared.format.Format.{Format}
@@ -17,8 +18,12 @@ use Rattle.afdx_pcap.proofs.More.{not_cut, header-more, format_long, Splits-more
 -- a record is found
 pub found_next : (bytes : List ℕ) (n : ℕ) (p : Progress) (r : Entry) → At bytes n p → Begins p.format p.last (drop p.place bytes) r → IsNext bytes n r
 found_next bytes n p r at b =
-    let begins : Begins p.format (last_stamp 0 at.given) (drop p.place bytes) r = subst (λ (l : ℕ). Begins p.format l (drop p.place bytes) r) at.latest b in
-    (at.given, after r (drop p.place bytes), record { format = p.format; header = at.header; records = Splits-push p.format 0 (drop 24 bytes) at.given (drop p.place bytes) r at.records begins }, at.count)
+    let begins : Begins p.format (last_stamp 0 at.given) (drop p.place bytes) r = subst (λ (l : ℕ). Begins p.format l (drop p.place bytes) r) at.latest b in (
+      at.given,
+      after r (drop p.place bytes),
+      record { format = p.format; header = at.header; records = Splits-push p.format 0 (drop 24 bytes) at.given (drop p.place bytes) r at.records begins },
+      at.count,
+    )
 
 -- a rest without a fault is a record
 pub fine_next : (bytes : List ℕ) (n : ℕ) (p : Progress) → At bytes n p → record_fault p.format p.last (n + 1) (drop p.place bytes) ≡ None → HasNext bytes n
@@ -61,11 +66,13 @@ no_next bytes n p e at fault r next =
     let held = next.2 in
     let same = one_format (header_of bytes) p.format held.format at.header held.header in
     let other : Splits p.format 0 (drop 24 bytes) (next.0 ++ r ∷ []) next.1 = subst (λ (f : Format). Splits f 0 (drop 24 bytes) (next.0 ++ r ∷ []) next.1) (sym same) held.records in
-    let first : record_fault p.format (last_stamp 0 at.given) (n + 1) (drop p.place bytes) ≡ Some e = subst (λ (l : ℕ). record_fault p.format l (n + 1) (drop p.place bytes) ≡ Some e) at.latest fault in
+    let first : record_fault p.format (last_stamp 0 at.given) (n + 1) (drop p.place bytes)
+    ≡ Some e = subst (λ (l : ℕ). record_fault p.format l (n + 1) (drop p.place bytes) ≡ Some e) at.latest fault in
     no_longer p.format 0 (n + 1) (drop 24 bytes) (drop p.place bytes) next.1 at.given next.0 r e at.records other (next.3 ∙ sym at.count) first
 
 -- the fault of the rest, numbered as one of the file's
-numbered : (bytes : List ℕ) (n : ℕ) (p : Progress) (e : PcapFault) (at : At bytes n p) → RestFault bytes p n e → record_fault p.format (last_stamp 0 at.given) (length at.given + 1) (drop p.place bytes) ≡ Some e
+numbered : (bytes : List ℕ) (n : ℕ) (p : Progress) (e : PcapFault) (at : At bytes n p) → RestFault bytes p n e
+    → record_fault p.format (last_stamp 0 at.given) (length at.given + 1) (drop p.place bytes) ≡ Some e
 numbered bytes n p e at fault =
     subst (λ (m : ℕ). record_fault p.format (last_stamp 0 at.given) (m + 1) (drop p.place bytes) ≡ Some e) (sym at.count)
     (subst (λ (l : ℕ). record_fault p.format l (n + 1) (drop p.place bytes) ≡ Some e) at.latest fault)
@@ -142,7 +149,8 @@ rest_answer bytes n p e true cut at fault more is = λ real. (no_next bytes n p 
 rest_answer bytes n p e false false at fault more is = λ real. (no_next bytes n p e at fault, (rest_is_fault bytes n p e at fault more, is))
 rest_answer bytes n p e false true at fault more is = (no_next bytes n p e at fault, none_early bytes n p e at fault is)
 
-pub header_answer : (bytes : List ℕ) (n : ℕ) (e : PcapFault) (closed cut : Bool) → header_of bytes ≡ Err e → is_cut e ≡ cut → Answers bytes n closed (answer_of (cond (closed || not cut) (Err e) (Ok None)))
+pub header_answer : (bytes : List ℕ) (n : ℕ) (e : PcapFault) (closed cut : Bool) → header_of bytes ≡ Err e → is_cut e ≡ cut
+    → Answers bytes n closed (answer_of (cond (closed || not cut) (Err e) (Ok None)))
 header_answer bytes n e true cut h is = λ real. (no_header_no_next bytes n e h, inl h)
 header_answer bytes n e false false h is = λ real. (no_header_no_next bytes n e h, (inl h, is))
 header_answer bytes n e false true h is = (no_header_no_next bytes n e h, no_header_none_early bytes e h is)

@@ -59,7 +59,8 @@ pub taken_are_all : (t : Taking) (rs : List Entry) → HasTaken t rs → IsSound
 taken_are_all t rs taken sound = first_are_all t.bytes rs taken.first (subst (λ (n : ℕ). IsSound t.bytes n true) (sym taken.count) sound)
 
 -- a file that holds all these records and nothing else has no record after them
-more_than : (f : Format) (last : ℕ) (bytes : List ℕ) (rs before : List Entry) (r : Entry) (rest : List ℕ) → Splits f last bytes rs [] → Splits f last bytes (before ++ r ∷ []) rest → length before < length rs
+more_than : (f : Format) (last : ℕ) (bytes : List ℕ) (rs before : List Entry) (r : Entry) (rest : List ℕ) → Splits f last bytes rs [] → Splits f last bytes (before ++ r ∷ []) rest
+    → length before < length rs
 more_than f last bytes [] [] r rest all some = let whole = some.0.whole in let none = ap length all in omega (arith, whole, none)
 more_than f last bytes [] (q ∷ qs) r rest all some = let whole = some.0.whole in let none = ap length all in omega (arith, whole, none)
 more_than f last bytes (p ∷ ps) [] r rest all some = omega arith

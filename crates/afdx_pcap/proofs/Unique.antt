@@ -1,5 +1,6 @@
 -- Each file has one reading.
-use Rattle.std.proofs.Common.{◌≡◌, ℕ, zero, suc, ◌+◌, ◌<◌, ◌≤◌, Bool, true, false, List, [], ◌∷◌, ◌++◌, length, take, drop, Option, Some, None, Result, Ok, Err, refl, sym, ap, subst, ◌∙◌, arith, nat_lt, nat_le, cond, inl, inr, ◌⊎◌, zero-add}
+use Rattle.std.proofs.Common.{◌≡◌, ℕ, zero, suc, ◌+◌, ◌<◌, ◌≤◌, Bool, true, false, List, [], ◌∷◌, ◌++◌, length, take, drop, Option, Some, None, Result, Ok, Err, refl, sym, ap, subst, ◌∙◌, arith}
+use Rattle.std.proofs.Common.{nat_lt, nat_le, cond, inl, inr, ◌⊎◌, zero-add}
 use Rattle.std.proofs.lemmas.Bool.{le-ltb, lt-leb, ltb-false, leb-false}
 use Rattle.std.proofs.lemmas.List.{length-drop, length-take}
 use Rattle.afdx_pcap.specs.declared.format.Format.{Format}

@@ -112,7 +112,8 @@ capture_text-push rs r = sym (flat_map_more record_text header_text rs r)
 text_more : (rs : List Entry) (i : ℕ) (r : Entry) → i < length rs → r ≡ get_or rs i r → capture_text (take (i + 1) rs) ≡ capture_text (take i rs) ++ record_text r
 text_more rs i r below is = ap capture_text (front_more rs i r below is) ∙ capture_text-push (take i rs) r
 
-pub written_more : (rs : List Entry) (i : ℕ) (r : Entry) (out longer : List ℕ) → i < length rs → r ≡ get_or rs i r → out ≡ capture_text (take i rs) → longer ≡ out ++ record_text r → longer ≡ capture_text (take (i + 1) rs)
+pub written_more : (rs : List Entry) (i : ℕ) (r : Entry) (out longer : List ℕ) → i < length rs → r ≡ get_or rs i r → out ≡ capture_text (take i rs) → longer ≡ out ++ record_text r → longer
+    ≡ capture_text (take (i + 1) rs)
 written_more rs i r out longer below is out-is longer-is = longer-is ∙ ap (λ (t : List ℕ). t ++ record_text r) out-is ∙ sym (text_more rs i r below is)
 
 pub length_more : (rs : List Entry) (i : ℕ) (r : Entry) → i < length rs → r ≡ get_or rs i r → length (capture_text (take (i + 1) rs)) ≡ length (capture_text (take i rs)) + (16 + length r.bytes)

@@ -39,7 +39,8 @@ start_is s t free first rest come due =
     let ge = due_no s t free first rest due in
     omega (arith, le, ge)
 
-all_by_start : (s : Settings) (t free : ℕ) (first : Item) (rest : List Item) → HaveCome s t (first ∷ rest) → is_due s t free (first ∷ rest) ≡ false → All (λ (item : Item). came s item ≤ max free (came s first)) (first ∷ rest)
+all_by_start : (s : Settings) (t free : ℕ) (first : Item) (rest : List Item) → HaveCome s t (first ∷ rest) → is_due s t free (first ∷ rest) ≡ false
+    → All (λ (item : Item). came s item ≤ max free (came s first)) (first ∷ rest)
 all_by_start s t free first rest come due =
     let start = start_is s t free first rest come due in
     All-weaker (λ (item : Item). came s item ≤ t) (λ (item : Item). came s item ≤ max free (came s first)) (λ item h. omega (arith, h, start)) (first ∷ rest) come
@@ -63,7 +64,8 @@ on_by s t u le = by_steps s u (λ free items. HaveCome s t items → is_due s t 
     let go = rest_in_line s u (free_after (fate s (max free t) x)) (line_up more) in
     let stay : LineState = record { free = max free t; waiting = x ∷ line_up more } in
     let line : rest_in_line s u (max free t) (line_up (first ∷ rest)) ≡ rest_in_line s u (max f t) (line_up more) =
-    ap (rest_in_line s u (max free t)) (line_up-step s free first rest (all_by_start s t free first rest come due)) ∙ choose_yes go stay (omega (arith, start, lt)) ∙ ap (λ e. rest_in_line s u (free_after e) (line_up more)) event ∙ ap (λ b. rest_in_line s u b (line_up more)) same in
+    ap (rest_in_line s u (max free t)) (line_up-step s free first rest (all_by_start s t free first rest come due)) ∙ choose_yes go stay (omega (arith, start, lt))
+    ∙ ap (λ e. rest_in_line s u (free_after e) (line_up more)) event ∙ ap (λ b. rest_in_line s u b (line_up more)) same in
     ap (lined u) (left-step s u free first rest lt) ∙ ih (others_all s (λ (item : Item). came s item ≤ t) free first rest come) (not_due s t f more (omega (arith, after))) ∙ sym (ap (reached u) line))
     (λ free first rest ge come due.
     let start = start_is s t free first rest come due in
@@ -150,7 +152,8 @@ first_due : (s : Settings) (b : ℕ) (items : List Item) → option_map instant 
 first_due s b [] = refl
 first_due s b (x ∷ items) = ap Some (instant-fate s b x)
 
-pub due_left : (s : Settings) (t : ℕ) (items : List Item) → HaveCome s t items → first_start (line_at s t items).free (line_at s t items).waiting ≡ option_map instant (slice_get (service s 0 items) (length (before t (service s 0 items))))
+pub due_left : (s : Settings) (t : ℕ) (items : List Item) → HaveCome s t items → first_start (line_at s t items).free (line_at s t items).waiting
+    ≡ option_map instant (slice_get (service s 0 items) (length (before t (service s 0 items))))
 due_left s t items come =
     let done = before t (service s 0 items) in
     let line = line_at s t items in

@@ -77,7 +77,8 @@ busy s = from_end (λ items. InOrder s items → (t : ℕ) → HaveCome s t item
     let grows = work_grows s now items y (omega arith) none_before in
     let falls = work_falls s now t (items ++ y ∷ []) le (come_all s items y sorted) none in
     step items y t le grows falls (ih (in_order_front s items y sorted) now come_now none_before)) where
-      step : (items : List Item) (y : Item) (t : ℕ) → came s y ≤ t → work s (came s y) (items ++ y ∷ []) ≡ work s (came s y) items + item_cost s y → work s t (items ++ y ∷ []) ≡ work s (came s y) (items ++ y ∷ []) - (t - (came s y))
+      step : (items : List Item) (y : Item) (t : ℕ) → came s y ≤ t → work s (came s y) (items ++ y ∷ []) ≡ work s (came s y) items + item_cost s y → work s t (items ++ y ∷ [])
+          ≡ work s (came s y) (items ++ y ∷ []) - (t - (came s y))
           → (work s (came s y) items ≡ 0) ⊎ Busy s (came s y) items → (work s t (items ++ y ∷ []) ≡ 0) ⊎ Busy s t (items ++ y ∷ [])
       step items y t le grows falls before' = ⊎_elim
           (λ (short : work s (came s y) (items ++ y ∷ []) < t - (came s y)). inl (omega (arith, falls, short)))
@@ -85,7 +86,16 @@ busy s = from_end (λ items. InOrder s items → (t : ℕ) → HaveCome s t item
           (λ (idle : work s (came s y) items ≡ 0).
           record { pre = items; start = y; mid = []; parted = refl; since = le; enough = omega (arith, falls, grows, idle, long, sum_by-cons (item_cost s) y []) })
           (λ (b : Busy s (came s y) items).
-          record { pre = b.pre; start = b.start; mid = b.mid ++ y ∷ []; parted = ap (λ xs. xs ++ y ∷ []) b.parted ∙ append_assoc b.pre (b.start ∷ b.mid) (y ∷ []); since = omega (arith, b.since, le); enough = omega (arith, falls, grows, long, b.enough, b.since, sum_by_push (item_cost s) (b.start ∷ b.mid) y) })
+          record {
+            pre = b.pre;
+            start = b.start;
+            mid = b.mid ++ y ∷ [];
+            parted = ap (λ xs. xs ++ y ∷ []) b.parted
+                ∙ append_assoc b.pre (b.start ∷ b.mid) (y ∷ []);
+            since = omega (arith, b.since, le);
+            enough = omega
+                (arith, falls, grows, long, b.enough, b.since, sum_by_push (item_cost s) (b.start ∷ b.mid) y);
+          })
           before'))
           (cases_lt (work s (came s y) (items ++ y ∷ [])) (t - (came s y)))
 

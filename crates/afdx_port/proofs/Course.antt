@@ -20,10 +20,12 @@ use Rattle.afdx_port.proofs.Earlier.{before-cons_out, before-cons_in}
 pub in_line_late : (s : Settings) (t b : ℕ) (items : List Item) → t ≤ b → before t (in_line s b items) ≡ []
 in_line_late s t b [] le = refl
 in_line_late s t b (x ∷ items) le =
-    before-cons_out t (fate s b x) (in_line s (free_after (fate s b x)) items) (omega (arith, instant-fate s b x)) ∙ in_line_late s t (free_after (fate s b x)) items (omega (arith, free_after-fate s b x))
+    before-cons_out t (fate s b x) (in_line s (free_after (fate s b x)) items) (omega (arith, instant-fate s b x))
+    ∙ in_line_late s t (free_after (fate s b x)) items (omega (arith, free_after-fate s b x))
 
 -- a step that lies before t moves the first event from what is to do to what was done
-pub before_split : (s s' : Settings) (t b : ℕ) (items : List Item) (q : LineState) → starts_before t (first_start b items) ≡ true → q ≡ after_next s b items → s' ≡ s → before t (in_line s b items) ≡ next_in_line s b items ++ before t (in_line s' q.free q.waiting)
+pub before_split : (s s' : Settings) (t b : ℕ) (items : List Item) (q : LineState) → starts_before t (first_start b items) ≡ true → q ≡ after_next s b items → s' ≡ s → before t (in_line s b items)
+    ≡ next_in_line s b items ++ before t (in_line s' q.free q.waiting)
 before_split s s' t b [] q due is same = rw (same, is) refl
 before_split s s' t b (x ∷ items) q due is same = rw (same, is) (before-cons_in t (fate s b x) (in_line s (free_after (fate s b x)) items) (omega (arith, instant-fate s b x, below b t due)))
 
@@ -31,9 +33,11 @@ pub all_split : (s s' : Settings) (b : ℕ) (items : List Item) (q : LineState) 
 all_split s s' b [] q is same = rw (same, is) refl
 all_split s s' b (x ∷ items) q is same = rw (same, is) refl
 
-pub rest_split : (s s' : Settings) (t b : ℕ) (items : List Item) (q goal : LineState) → starts_before t (first_start b items) ≡ true → q ≡ after_next s b items → s' ≡ s → rest_in_line s t b items ≡ goal → rest_in_line s' t q.free q.waiting ≡ goal
+pub rest_split : (s s' : Settings) (t b : ℕ) (items : List Item) (q goal : LineState) → starts_before t (first_start b items) ≡ true → q ≡ after_next s b items → s' ≡ s → rest_in_line s t b items
+    ≡ goal → rest_in_line s' t q.free q.waiting ≡ goal
 rest_split s s' t b [] q goal due is same so_far = rw (same, is) so_far
-rest_split s s' t b (x ∷ items) q goal due is same so_far = rw (same, is) (sym (ap (λ v. cond v (rest_in_line s t (free_after (fate s b x)) items) (record { free = b; waiting = x ∷ items })) due) ∙ so_far)
+rest_split s s' t b (x ∷ items) q goal due is same so_far = rw (same, is) (sym (ap (λ v. cond v (rest_in_line s t (free_after (fate s b x)) items) (record { free = b; waiting = x ∷ items })) due)
+    ∙ so_far)
 
 pub before_stop : (s : Settings) (t b : ℕ) (items : List Item) → starts_before t (first_start b items) ≡ false → before t (in_line s b items) ≡ []
 before_stop s t b [] due = refl

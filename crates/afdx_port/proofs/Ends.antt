@@ -28,7 +28,8 @@ ends_fate s b x more delay small h = ⊎_elim
     All-same EndsSoon (sent_of (fate s b x ∷ more)) (sent ∷ sent_of more) (ap (λ e. sent_of (e ∷ more)) (fate_sent s b x short)) (All-cons EndsSoon sent (sent_of more) soon h))
     (cases_lt s.max_delay (b - x.stamp))
 
-ends_by : (n : ℕ) (s : Settings) (free : ℕ) (items : List Item) → length items ≡ n → s.max_delay ≤ 500000000 → All (λ (item : Item). item.size ≤ 1518) items → All EndsSoon (sent_of (service s free items))
+ends_by : (n : ℕ) (s : Settings) (free : ℕ) (items : List Item) → length items ≡ n → s.max_delay ≤ 500000000 → All (λ (item : Item). item.size ≤ 1518) items
+    → All EndsSoon (sent_of (service s free items))
 ends_by n s free [] is delay small = All-nil EndsSoon
 ends_by zero s free (first ∷ rest) is delay small = absurd (omega (arith, is))
 ends_by (suc n) s free (first ∷ rest) is delay small =
@@ -37,8 +38,10 @@ ends_by (suc n) s free (first ∷ rest) is delay small =
     let e = next s free first rest in
     let more = service s (free_after e) (others s free first rest) in
     let here : x.size ≤ 1518 = All-get_or (λ (item : Item). item.size ≤ 1518) (first ∷ rest) (turn s b (first ∷ rest)) first (turn-lt s b first rest) small in
-    let ih = ends_by n s (free_after e) (others s free first rest) (omega (arith, is, length-others s free first rest)) delay (others_all s (λ (item : Item). item.size ≤ 1518) free first rest small) in
-    All-same EndsSoon (sent_of (service s free (first ∷ rest))) (sent_of (fate s b x ∷ more)) (ap sent_of (service-step s free first rest ∙ ap (λ e. e ∷ more) (next_is s free first rest))) (ends_fate s b x more delay here ih)
+    let ih = ends_by n s (free_after e) (others s free first rest) (omega (arith, is, length-others s free first rest)) delay (others_all s (λ (item : Item). item.size ≤ 1518) free first rest small)
+    in
+    All-same EndsSoon (sent_of (service s free (first ∷ rest))) (sent_of (fate s b x ∷ more)) (ap sent_of (service-step s free first rest ∙ ap (λ e. e ∷ more) (next_is s free first rest)))
+    (ends_fate s b x more delay here ih)
 
 pub ends_within_a_second : (s : Settings) (free : ℕ) (items : List Item) → s.max_delay ≤ 500000000 → All (λ (item : Item). item.size ≤ 1518) items → All EndsSoon (sent_of (service s free items))
 ends_within_a_second s free items delay small = ends_by (length items) s free items refl delay small
@@ -65,9 +68,10 @@ later_fate s b free x more start h = ⊎_elim
     let sent : Sent = record { item = x; begin = b; end = b + cost_of s.speed x.size } in
     let from : All (EndsFrom sent.end) (sent_of more) = subst (λ (e : Event). All (EndsFrom (free_after e)) (sent_of more)) e h.1 in
     let here : EndsFrom free sent = omega (arith, start) in
-    subst (λ (e : Event). InLater (sent_of (e ∷ more)) × All (EndsFrom free) (sent_of (e ∷ more))) (sym e)
-    (AllPairs-cons (λ (a : Sent) (b : Sent). a.end ≤ b.end) sent (sent_of more) from h.0,
-    All-cons (EndsFrom free) sent (sent_of more) here (All-weaker (EndsFrom sent.end) (EndsFrom free) (λ y le. omega (arith, le, here)) (sent_of more) from)))
+    subst (λ (e : Event). InLater (sent_of (e ∷ more)) × All (EndsFrom free) (sent_of (e ∷ more))) (sym e) (
+      AllPairs-cons (λ (a : Sent) (b : Sent). a.end ≤ b.end) sent (sent_of more) from h.0,
+      All-cons (EndsFrom free) sent (sent_of more) here (All-weaker (EndsFrom sent.end) (EndsFrom free) (λ y le. omega (arith, le, here)) (sent_of more) from),
+    ))
     (cases_lt s.max_delay (b - x.stamp))
 
 no_pairs : InLater []

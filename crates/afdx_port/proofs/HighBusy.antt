@@ -40,8 +40,10 @@ record HighBusy (s : Settings) (low t : ℕ) (items : List Item) : Type 0 where
 all_front : (P : Item → Type 0) (items : List Item) (y : Item) → All P (items ++ y ∷ []) → All P items
 all_front P items y h k d within = subst P (get_or_append_left items (y ∷ []) d k within) (h k d (omega (arith, length-append items (y ∷ []))))
 
-high_busy : (s : Settings) (low : ℕ) (items : List Item) → InOrder s items → All (λ item. is_high item.priority ≡ false → item_cost s item ≤ low) items → (t : ℕ) → HaveCome s t items → NoneAged s t items → (high_work s t items ≤ low) ⊎ HighBusy s low t items
-high_busy s low = from_end (λ items. InOrder s items → All (λ item. is_high item.priority ≡ false → item_cost s item ≤ low) items → (t : ℕ) → HaveCome s t items → NoneAged s t items → (high_work s t items ≤ low) ⊎ HighBusy s low t items)
+high_busy : (s : Settings) (low : ℕ) (items : List Item) → InOrder s items → All (λ item. is_high item.priority ≡ false → item_cost s item ≤ low) items → (t : ℕ) → HaveCome s t items
+    → NoneAged s t items → (high_work s t items ≤ low) ⊎ HighBusy s low t items
+high_busy s low = from_end (λ items. InOrder s items → All (λ item. is_high item.priority ≡ false → item_cost s item ≤ low) items → (t : ℕ) → HaveCome s t items → NoneAged s t items
+    → (high_work s t items ≤ low) ⊎ HighBusy s low t items)
     (λ _ _ t _ _. inl (omega arith))
     (λ items y ih sorted small t come none.
     let now = (came s y) in
@@ -50,8 +52,10 @@ high_busy s low = from_end (λ items. InOrder s items → All (λ item. is_high 
     let none_before : NoneAged s now items = sym (ap aged_of (earlier_events s now 0 items (y ∷ []) (omega arith, tt))) ∙ none_now in
     let grows = high_grows s now items y (omega arith) in
     let falls = high_work_falls s now t low (items ++ y ∷ []) le (come_all s items y sorted) none small in
-    step items y t le grows falls (ih (in_order_front s items y sorted) (all_front (λ item. is_high item.priority ≡ false → item_cost s item ≤ low) items y small) now (come_front s items y sorted) none_before)) where
-      step : (items : List Item) (y : Item) (t : ℕ) → came s y ≤ t → high_work s (came s y) (items ++ y ∷ []) ≡ high_work s (came s y) items + high_cost s y → high_work s t (items ++ y ∷ []) ≤ max (high_work s (came s y) (items ++ y ∷ []) - (t - (came s y))) low
+    step items y t le grows falls (ih (in_order_front s items y sorted) (all_front (λ item. is_high item.priority ≡ false → item_cost s item ≤ low) items y small) now (come_front s items y sorted)
+    none_before)) where
+      step : (items : List Item) (y : Item) (t : ℕ) → came s y ≤ t → high_work s (came s y) (items ++ y ∷ []) ≡ high_work s (came s y) items + high_cost s y → high_work s t (items ++ y ∷ [])
+          ≤ max (high_work s (came s y) (items ++ y ∷ []) - (t - (came s y))) low
           → (high_work s (came s y) items ≤ low) ⊎ HighBusy s low (came s y) items → (high_work s t (items ++ y ∷ []) ≤ low) ⊎ HighBusy s low t (items ++ y ∷ [])
       step items y t le grows falls before' = ⊎_elim
           (λ (short : high_work s (came s y) (items ++ y ∷ []) < (t - (came s y)) + low + 1). inl (omega (arith, falls, short)))
@@ -59,7 +63,16 @@ high_busy s low = from_end (λ items. InOrder s items → All (λ item. is_high 
           (λ (idle : high_work s (came s y) items ≤ low).
           record { pre = items; start = y; mid = []; parted = refl; since = le; enough = omega (arith, falls, grows, idle, long, sum_by-cons (high_cost s) y []) })
           (λ (b : HighBusy s low (came s y) items).
-          record { pre = b.pre; start = b.start; mid = b.mid ++ y ∷ []; parted = ap (λ xs. xs ++ y ∷ []) b.parted ∙ append_assoc b.pre (b.start ∷ b.mid) (y ∷ []); since = omega (arith, b.since, le); enough = omega (arith, falls, grows, long, b.enough, b.since, sum_by_push (high_cost s) (b.start ∷ b.mid) y) })
+          record {
+            pre = b.pre;
+            start = b.start;
+            mid = b.mid ++ y ∷ [];
+            parted = ap (λ xs. xs ++ y ∷ []) b.parted
+                ∙ append_assoc b.pre (b.start ∷ b.mid) (y ∷ []);
+            since = omega (arith, b.since, le);
+            enough = omega
+                (arith, falls, grows, long, b.enough, b.since, sum_by_push (high_cost s) (b.start ∷ b.mid) y);
+          })
           before'))
           (cases_lt (high_work s (came s y) (items ++ y ∷ [])) ((t - (came s y)) + low + 1))
 

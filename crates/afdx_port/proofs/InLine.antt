@@ -32,9 +32,11 @@ urgent_high s b x h = grind (arith, nat_tests)
 all_calm : (s : Settings) (b : ℕ) (items : List Item) → AllByRecursion (λ item. is_urgent s b item ≡ false) items → All (λ (item : Item). came s item ≤ b) items → filter high items ≡ []
 all_calm s b [] none come = refl
 all_calm s b (x ∷ items) none come =
-    ap (λ v. cond v (x ∷ filter high items) (filter high items)) (calm s b x none.0 (All-head (λ (item : Item). came s item ≤ b) x items come)) ∙ all_calm s b items none.1 (All-tail (λ (item : Item). came s item ≤ b) x items come)
+    ap (λ v. cond v (x ∷ filter high items) (filter high items)) (calm s b x none.0 (All-head (λ (item : Item). came s item ≤ b) x items come))
+    ∙ all_calm s b items none.1 (All-tail (λ (item : Item). came s item ≤ b) x items come)
 
-calm_before : (s : Settings) (b : ℕ) (items : List Item) (i : ℕ) → All (λ (item : Item). came s item ≤ b) items → position (is_urgent s b) items ≡ Some i → (k : ℕ) (e : Item) → k < length (take i items) → high (get_or (take i items) k e) ≡ false
+calm_before : (s : Settings) (b : ℕ) (items : List Item) (i : ℕ) → All (λ (item : Item). came s item ≤ b) items → position (is_urgent s b) items ≡ Some i → (k : ℕ) (e : Item)
+    → k < length (take i items) → high (get_or (take i items) k e) ≡ false
 calm_before s b items i come at k e lt =
     let facts = position-Some (is_urgent s b) items i e at in
     let low : k < i = omega (arith, length-take i items) in
@@ -53,14 +55,17 @@ module _ (s : Settings) (b : ℕ) (first : Item) (rest : List Item) (come : All 
   -- where it is a low item's turn, it is the first of all, and no high one waits
   pub low_first : high (get_or (first ∷ rest) (turn s b (first ∷ rest)) first) ≡ false → (filter low (take (turn s b (first ∷ rest)) (first ∷ rest)) ≡ []) × (filter high (first ∷ rest) ≡ [])
   low_first is = ⊎_elim
-      (λ (none : AllByRecursion (λ item. is_urgent s b item ≡ false) (first ∷ rest)). (ap (λ o. filter low (take (unwrap_or o 0) (first ∷ rest))) (position_none (is_urgent s b) (first ∷ rest) none), all_calm s b (first ∷ rest) none come))
+      (λ (none : AllByRecursion (λ item. is_urgent s b item ≡ false) (first ∷ rest)).
+      (ap (λ o. filter low (take (unwrap_or o 0) (first ∷ rest))) (position_none (is_urgent s b) (first ∷ rest) none), all_calm s b (first ∷ rest) none come))
       (λ (some : (i : ℕ) × (position (is_urgent s b) (first ∷ rest) ≡ Some i)).
       let urgent = (position-Some (is_urgent s b) (first ∷ rest) some.0 first some.1).1 in
-      absurd (both_ways (high (get_or (first ∷ rest) some.0 first)) (sym (ap (λ o. high (get_or (first ∷ rest) (unwrap_or o 0) first)) some.1) ∙ is) (urgent_high s b (get_or (first ∷ rest) some.0 first) urgent)))
+      absurd (both_ways (high (get_or (first ∷ rest) some.0 first)) (sym (ap (λ o. high (get_or (first ∷ rest) (unwrap_or o 0) first)) some.1) ∙ is)
+      (urgent_high s b (get_or (first ∷ rest) some.0 first) urgent)))
       (found (is_urgent s b) (first ∷ rest))
 
 -- it is the turn of the first high item or, where none waits, of the first low one
-pub turns : (s : Settings) (free : ℕ) (first : Item) (rest : List Item) → All (λ (item : Item). came s item ≤ max free (came s first)) (first ∷ rest) → HighTurn s free first rest ⊎ LowTurn s free first rest
+pub turns : (s : Settings) (free : ℕ) (first : Item) (rest : List Item) → All (λ (item : Item). came s item ≤ max free (came s first)) (first ∷ rest) → HighTurn s free first rest
+    ⊎ LowTurn s free first rest
 turns s free first rest come =
     let b = max free (came s first) in
     let x = in_turn s free first rest in
@@ -88,13 +93,15 @@ turns s free first rest come =
     (cases_Bool (high x))
 
 -- the item whose turn it is heads the line
-pub line_up-step : (s : Settings) (free : ℕ) (first : Item) (rest : List Item) → All (λ (item : Item). came s item ≤ max free (came s first)) (first ∷ rest) → line_up (first ∷ rest) ≡ in_turn s free first rest ∷ line_up (others s free first rest)
+pub line_up-step : (s : Settings) (free : ℕ) (first : Item) (rest : List Item) → All (λ (item : Item). came s item ≤ max free (came s first)) (first ∷ rest) → line_up (first ∷ rest)
+    ≡ in_turn s free first rest ∷ line_up (others s free first rest)
 line_up-step s free first rest come = ⊎_elim
     (λ (h : HighTurn s free first rest). ap (λ hs. hs ++ lows (first ∷ rest)) h.high ∙ ap (λ ls. (in_turn s free first rest ∷ highs (others s free first rest)) ++ ls) h.low)
     (λ (h : LowTurn s free first rest). ap (λ hs. hs ++ lows (first ∷ rest)) h.high ∙ h.low ∙ ap (λ hs. in_turn s free first rest ∷ (hs ++ lows (others s free first rest))) (sym h.still))
     (turns s free first rest come)
 
-pub next_is : (s : Settings) (free : ℕ) (first : Item) (rest : List Item) → next s free first rest ≡ fate s (max free (came s first)) (get_or (first ∷ rest) (turn s (max free (came s first)) (first ∷ rest)) first)
+pub next_is : (s : Settings) (free : ℕ) (first : Item) (rest : List Item) → next s free first rest
+    ≡ fate s (max free (came s first)) (get_or (first ∷ rest) (turn s (max free (came s first)) (first ∷ rest)) first)
 unfolding next
 next_is s free first rest = refl
 
@@ -102,7 +109,8 @@ start_free : (s : Settings) (free : ℕ) (items : List Item) → All (λ (item :
 start_free s free [] come = refl
 start_free s free (first ∷ rest) come = let le = All-head (λ (item : Item). came s item ≤ free) first rest come in omega (arith, le)
 
-in_line_by : (n : ℕ) (s : Settings) (free : ℕ) (items : List Item) → length items ≡ n → All (λ (item : Item). came s item ≤ start_of s free items) items → service s free items ≡ in_line s (start_of s free items) (line_up items)
+in_line_by : (n : ℕ) (s : Settings) (free : ℕ) (items : List Item) → length items ≡ n → All (λ (item : Item). came s item ≤ start_of s free items) items → service s free items
+    ≡ in_line s (start_of s free items) (line_up items)
 in_line_by n s free [] is come = refl
 in_line_by zero s free (first ∷ rest) is come = absurd (omega (arith, is))
 in_line_by (suc n) s free (first ∷ rest) is come =
@@ -110,7 +118,8 @@ in_line_by (suc n) s free (first ∷ rest) is come =
     let e = next s free first rest in
     let x = get_or (first ∷ rest) (turn s b (first ∷ rest)) first in
     let more = others s free first rest in
-    let later : All (λ (item : Item). came s item ≤ free_after e) more = All-weaker (λ (item : Item). came s item ≤ b) (λ (item : Item). came s item ≤ free_after e) (λ item h. omega (arith, h, free_after-next s free first rest)) more (others_all s (λ (item : Item). came s item ≤ b) free first rest come) in
+    let later : All (λ (item : Item). came s item ≤ free_after e) more = All-weaker (λ (item : Item). came s item ≤ b) (λ (item : Item). came s item ≤ free_after e)
+    (λ item h. omega (arith, h, free_after-next s free first rest)) more (others_all s (λ (item : Item). came s item ≤ b) free first rest come) in
     let start = start_free s (free_after e) more later in
     let come' : All (λ (item : Item). came s item ≤ start_of s (free_after e) more) more = rw start later in
     let ih = in_line_by n s (free_after e) more (omega (arith, is, length-others s free first rest)) come' in
@@ -119,5 +128,6 @@ in_line_by (suc n) s free (first ∷ rest) is come =
     ∙ ap (λ e. e ∷ in_line s (free_after e) (line_up more)) (next_is s free first rest)
     ∙ sym (ap (in_line s b) (line_up-step s free first rest come))
 
-pub serves_in_line : (s : Settings) (free : ℕ) (items : List Item) → All (λ (item : Item). came s item ≤ start_of s free items) items → service s free items ≡ in_line s (start_of s free items) (line_up items)
+pub serves_in_line : (s : Settings) (free : ℕ) (items : List Item) → All (λ (item : Item). came s item ≤ start_of s free items) items → service s free items
+    ≡ in_line s (start_of s free items) (line_up items)
 serves_in_line s free items come = in_line_by (length items) s free items refl come

@@ -43,7 +43,8 @@ kept_fresh s line admitted settings sound has fits sent aged state none = record
 }
 
 -- all events are those carried out, and then those of the line
-parted : {Z : Type 0} (p : Inside Z) → IsKept p → p.finished ≡ false → let s = p.line.settings in service s 0 p.admitted.items ≡ before (reach s p.horizon) (service s 0 p.admitted.items) ++ in_line s p.line.ready (queue_of p.line)
+parted : {Z : Type 0} (p : Inside Z) → IsKept p → p.finished ≡ false → let s = p.line.settings in service s 0 p.admitted.items ≡ before (reach s p.horizon) (service s 0 p.admitted.items)
+    ++ in_line s p.line.ready (queue_of p.line)
 parted p kept open' =
     let s = p.line.settings in
     let from = reach s p.horizon in
@@ -167,9 +168,11 @@ fits_kept p c x kept view is_open is_at =
     let h = reach z p.horizon in
     let q = left z h 0 p.admitted.items in
     let sent = kept.sent ∙ ap sent_of (done_open z p.admitted.items p.horizon p.finished open') in
-    let waiting : sum_by (λ (other : Item). other.size) (queue_of p.line) ≡ sum_by (λ (other : Item). other.size) q.waiting = ap (λ (r : LineState). sum_by (λ (other : Item). other.size) r.waiting) (kept.state open' ∙ line_is z h p.admitted.items) ∙ sum_line_up (λ (other : Item). other.size) q.waiting in
+    let waiting : sum_by (λ (other : Item). other.size) (queue_of p.line) ≡ sum_by (λ (other : Item). other.size) q.waiting = ap (λ (r : LineState). sum_by (λ (other : Item). other.size) r.waiting)
+    (kept.state open' ∙ line_is z h p.admitted.items) ∙ sum_line_up (λ (other : Item). other.size) q.waiting in
     let sum = ap (λ xs. on_line b xs + sum_by (λ (other : Item). other.size) (queue_of p.line)) sent ∙ ap (λ n. on_line b (sent_of (before h (service z 0 p.admitted.items))) + n) waiting in
-    let all = ap (λ h. on_line b (sent_of (before (reach z h) (service z 0 p.admitted.items))) + sum_by (λ (other : Item). other.size) (left z (reach z h) 0 p.admitted.items).waiting) at ∙ sym (occupied_is z b p.admitted.items) in
+    let all = ap (λ h. on_line b (sent_of (before (reach z h) (service z 0 p.admitted.items))) + sum_by (λ (other : Item). other.size) (left z (reach z h) 0 p.admitted.items).waiting) at
+    ∙ sym (occupied_is z b p.admitted.items) in
     ap (λ n. nat_le (x.size + n) z.buffer) (sum ∙ all) ∙ ap (λ (v : Content). fits v.settings v.admitted x) view
 
 -- what is due

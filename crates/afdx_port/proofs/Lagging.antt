@@ -44,7 +44,8 @@ nothing_due c to open' le none =
     let q = left s t 0 c.admitted in
     let rest = service s q.free q.waiting in
     let first : due c ≡ option_map instant (slice_get rest 0) =
-    ap (λ es. option_map instant (slice_get all (length es))) (open_is c open') ∙ ap (λ es. option_map instant (slice_get es (length (before t all)))) (split s t 0 c.admitted) ∙ due_at (before t all) rest in
+    ap (λ es. option_map instant (slice_get all (length es))) (open_is c open') ∙ ap (λ es. option_map instant (slice_get es (length (before t all)))) (split s t 0 c.admitted)
+    ∙ due_at (before t all) rest in
     let none_left = none_before s u q.free q.waiting (ap (starts_before u) (sym first) ∙ none) in
     advance_parts c to open' le ∙ ap (λ es. done c ++ es) none_left ∙ append-nil (done c)
 
@@ -60,7 +61,8 @@ none_due_after c to open' =
     let q = left s u 0 c.admitted in
     let rest = service s q.free q.waiting in
     let first : due (advanced to c) ≡ option_map instant (slice_get rest 0) =
-    ap (λ es. option_map instant (slice_get all (length es))) (done_open s c.admitted to c.finished open') ∙ ap (λ es. option_map instant (slice_get es (length (before u all)))) (split s u 0 c.admitted) ∙ due_at (before u all) rest in
+    ap (λ es. option_map instant (slice_get all (length es))) (done_open s c.admitted to c.finished open')
+    ∙ ap (λ es. option_map instant (slice_get es (length (before u all)))) (split s u 0 c.admitted) ∙ due_at (before u all) rest in
     ap (starts_before u) first ∙ first_late s u q.free q.waiting (left_waits s u 0 c.admitted)
 
 finished_cases : (c : Content) (b : Bool) → c.finished ≡ b → (more : List Event) × (done (closed c) ≡ done c ++ more)

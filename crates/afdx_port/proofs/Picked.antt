@@ -23,15 +23,18 @@ reach-most s t le = omega (arith, le)
 pub in_order : (s : Settings) (items : List Item) → AllPairs (λ a b. a.stamp ≤ b.stamp) items → InOrder s items
 in_order s items h = λ i j d lt within. reach-le s (slice_index_or items i d).stamp (slice_index_or items j d).stamp (h i j d lt within)
 
-pub done_open : (s : Settings) (admitted : List Item) (h : ℕ) (finished : Bool) → finished ≡ false → done (record { settings = s; admitted = admitted; horizon = h; finished = finished }) ≡ before (reach s h) (service s 0 admitted)
+pub done_open : (s : Settings) (admitted : List Item) (h : ℕ) (finished : Bool) → finished ≡ false → done (record { settings = s; admitted = admitted; horizon = h; finished = finished })
+    ≡ before (reach s h) (service s 0 admitted)
 done_open s admitted h finished open' = ap (λ b. cond b (service s 0 admitted) (before (reach s h) (service s 0 admitted))) open'
 
 -- what was picked of the events before t, and then of the rest
-pub picked : {X : Type 0} (pick : List Event → List X) (pick-append : (es fs : List Event) → pick (es ++ fs) ≡ pick es ++ pick fs) (t u : ℕ) (all rest : List Event) (xs ys : List X) → t ≤ u → all ≡ before t all ++ rest → xs ≡ pick (before t all) → ys ≡ xs ++ pick (before u rest) → ys ≡ pick (before u all)
+pub picked : {X : Type 0} (pick : List Event → List X) (pick-append : (es fs : List Event) → pick (es ++ fs) ≡ pick es ++ pick fs) (t u : ℕ) (all rest : List Event) (xs ys : List X) → t ≤ u → all
+    ≡ before t all ++ rest → xs ≡ pick (before t all) → ys ≡ xs ++ pick (before u rest) → ys ≡ pick (before u all)
 picked pick pick-append t u all rest xs ys le parted so_far more =
     more ∙ ap (λ zs. zs ++ pick (before u rest)) so_far ∙ sym (pick-append (before t all) (before u rest)) ∙ ap pick (sym (before_on t u all rest le parted))
 
-pub picked_all : {X : Type 0} (pick : List Event → List X) (pick-append : (es fs : List Event) → pick (es ++ fs) ≡ pick es ++ pick fs) (t : ℕ) (all rest : List Event) (xs ys : List X) → all ≡ before t all ++ rest → xs ≡ pick (before t all) → ys ≡ xs ++ pick rest → ys ≡ pick all
+pub picked_all : {X : Type 0} (pick : List Event → List X) (pick-append : (es fs : List Event) → pick (es ++ fs) ≡ pick es ++ pick fs) (t : ℕ) (all rest : List Event) (xs ys : List X) → all
+    ≡ before t all ++ rest → xs ≡ pick (before t all) → ys ≡ xs ++ pick rest → ys ≡ pick all
 picked_all pick pick-append t all rest xs ys parted so_far more =
     more ∙ ap (λ zs. zs ++ pick rest) so_far ∙ sym (pick-append (before t all) rest) ∙ ap pick (sym parted)
 

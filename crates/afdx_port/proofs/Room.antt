@@ -25,7 +25,8 @@ stays t event = not (is_gone t event)
 abbrev pub bytes : List Event → ℕ
 bytes events = sum_by (λ event. (item_of event).size) events
 
-pub sum_by-others : (s : Settings) (f : Item → ℕ) (free : ℕ) (first : Item) (rest : List Item) → sum_by f (others s free first rest) + f (get_or (first ∷ rest) (turn s (max free (came s first)) (first ∷ rest)) first) ≡ sum_by f (first ∷ rest)
+pub sum_by-others : (s : Settings) (f : Item → ℕ) (free : ℕ) (first : Item) (rest : List Item) → sum_by f (others s free first rest)
+    + f (get_or (first ∷ rest) (turn s (max free (came s first)) (first ∷ rest)) first) ≡ sum_by f (first ∷ rest)
 unfolding others
 sum_by-others s f free first rest = sum_by-remove f (first ∷ rest) (turn s (max free (came s first)) (first ∷ rest)) first (turn-lt s (max free (came s first)) first rest)
 
@@ -49,7 +50,8 @@ cost-positive Thousand size = omega arith
 stays_fate : (s : Settings) (t b : ℕ) (x : Item) → t ≤ b → stays t (fate s b x) ≡ true
 stays_fate s t b x le =
     let some = cost-positive s.speed x.size in
-    elim (nat_lt s.max_delay (b - x.stamp)) as (λ v. stays t (cond v (aging (record { item = x; at = b })) (sending (record { item = x; begin = b; end = b + cost_of s.speed x.size }))) ≡ true) [ true ↦ grind (arith, nat_tests) | false ↦ stays_end t b (cost_of s.speed x.size) le some ] where
+    elim (nat_lt s.max_delay (b - x.stamp)) as (λ v. stays t (cond v (aging (record { item = x; at = b })) (sending (record { item = x; begin = b; end = b + cost_of s.speed x.size }))) ≡ true)
+    [ true ↦ grind (arith, nat_tests) | false ↦ stays_end t b (cost_of s.speed x.size) le some ] where
       stays_end : (t b c : ℕ) → t ≤ b → 0 < c → not (nat_le (b + c) t) ≡ true
       stays_end t b c le some = grind (arith, nat_tests)
 
@@ -68,15 +70,18 @@ all_stay zero s t free items le = refl
 all_stay (suc n) s t free [] le = refl
 all_stay (suc n) s t free (first ∷ rest) le =
     let e = next s free first rest in
-    filter-yes (stays t) e (serve n s (free_after e) (others s free first rest)) (stays-next s t free first rest (omega arith)) ∙ ap (λ es. e ∷ es) (all_stay n s t (free_after e) (others s free first rest) (omega (arith, free_after-next s free first rest)))
+    filter-yes (stays t) e (serve n s (free_after e) (others s free first rest)) (stays-next s t free first rest (omega arith))
+    ∙ ap (λ es. e ∷ es) (all_stay n s t (free_after e) (others s free first rest) (omega (arith, free_after-next s free first rest)))
 
 all_stay_start : (s : Settings) (t free : ℕ) (first : Item) (rest : List Item) → t ≤ max free (came s first) → filter (stays t) (service s free (first ∷ rest)) ≡ service s free (first ∷ rest)
 all_stay_start s t free first rest le =
     let e = next s free first rest in
-    filter-yes (stays t) e (serve (length rest) s (free_after e) (others s free first rest)) (stays-next s t free first rest le) ∙ ap (λ es. e ∷ es) (all_stay (length rest) s t (free_after e) (others s free first rest) (omega (arith, free_after-next s free first rest)))
+    filter-yes (stays t) e (serve (length rest) s (free_after e) (others s free first rest)) (stays-next s t free first rest le)
+    ∙ ap (λ es. e ∷ es) (all_stay (length rest) s t (free_after e) (others s free first rest) (omega (arith, free_after-next s free first rest)))
 
 -- nothing of what is left at t has gone at t
-pub left_stays : (s : Settings) (t free : ℕ) (items : List Item) → filter (stays t) (service s (left s t free items).free (left s t free items).waiting) ≡ service s (left s t free items).free (left s t free items).waiting
+pub left_stays : (s : Settings) (t free : ℕ) (items : List Item) → filter (stays t) (service s (left s t free items).free (left s t free items).waiting)
+    ≡ service s (left s t free items).free (left s t free items).waiting
 left_stays s t = by_steps s t (λ free items. filter (stays t) (service s (left s t free items).free (left s t free items).waiting) ≡ service s (left s t free items).free (left s t free items).waiting)
     (λ free. refl)
     (λ free first rest lt ih. rw (left-step s t free first rest lt) ih)
@@ -87,7 +92,8 @@ on_line-done t x [] le = grind (arith, nat_tests)
 on_line-done t x (y ∷ xs) le = refl
 
 -- of the events before t only the last can be on the line
-line_bytes_step : (t : ℕ) (e : Event) (es : List Event) → instant e < t → (t < free_after e → es ≡ []) → bytes (filter (stays t) es) ≡ on_line t (sent_of es) → bytes (filter (stays t) (e ∷ es)) ≡ on_line t (sent_of (e ∷ es))
+line_bytes_step : (t : ℕ) (e : Event) (es : List Event) → instant e < t → (t < free_after e → es ≡ []) → bytes (filter (stays t) es) ≡ on_line t (sent_of es) → bytes (filter (stays t) (e ∷ es))
+    ≡ on_line t (sent_of (e ∷ es))
 line_bytes_step t (sending x) es lt stop ih =
     ⊎_elim
     (λ (on : t < x.end). rw (stop on) (last_on t x on))
@@ -113,7 +119,8 @@ line_bytes s t = by_steps s t (λ free items. bytes (filter (stays t) (before t 
     (λ free first rest ge. rw (late_start s t free first rest ge) refl)
 
 -- what is occupied at t is on the line or waits
-pub occupied_is : (s : Settings) (t : ℕ) (admitted : List Item) → occupied s t admitted ≡ on_line t (sent_of (before t (service s 0 admitted))) + sum_by (λ item. item.size) (left s t 0 admitted).waiting
+pub occupied_is : (s : Settings) (t : ℕ) (admitted : List Item) → occupied s t admitted ≡ on_line t (sent_of (before t (service s 0 admitted)))
+    + sum_by (λ item. item.size) (left s t 0 admitted).waiting
 occupied_is s t admitted =
     let done = before t (service s 0 admitted) in
     let rest = service s (left s t 0 admitted).free (left s t 0 admitted).waiting in

@@ -37,7 +37,8 @@ on_line_last t zero (x ∷ y ∷ xs) last is at = absurd (omega (arith, is))
 on_line_last t (suc k) (x ∷ y ∷ xs) last is at = on_line_last t k (y ∷ xs) last (omega (arith, is)) at
 
 -- what was done and what is left stay all of it, when the next events move from the one to the other
-pub carried : {X : Type 0} (pick : List Event → List X) (pick-append : (es fs : List Event) → pick (es ++ fs) ≡ pick es ++ pick fs) (all now rest : List Event) (xs ys goal : List X) → all ≡ now ++ rest → ys ≡ xs ++ pick now → xs ++ pick all ≡ goal → ys ++ pick rest ≡ goal
+pub carried : {X : Type 0} (pick : List Event → List X) (pick-append : (es fs : List Event) → pick (es ++ fs) ≡ pick es ++ pick fs) (all now rest : List Event) (xs ys goal : List X) → all ≡ now
+    ++ rest → ys ≡ xs ++ pick now → xs ++ pick all ≡ goal → ys ++ pick rest ≡ goal
 carried pick pick-append all now rest xs ys goal split moved so_far =
     ap (λ zs. zs ++ pick rest) moved ∙ append_assoc xs (pick now) (pick rest)
     ∙ ap (λ zs. xs ++ zs) (sym (pick-append now rest) ∙ ap pick (sym split)) ∙ so_far

@@ -35,10 +35,12 @@ pub turn-append : (s : Settings) (b t : ℕ) (items ys : List Item) → b < t �
 turn-append s b t items ys lt later = ap (λ o. unwrap_or o 0) (position-append (is_urgent s b) items ys (not_urgent s b t ys lt later))
 
 pub instant-fate : (s : Settings) (b : ℕ) (x : Item) → instant (fate s b x) ≡ b
-instant-fate s b x = elim (nat_lt s.max_delay (b - x.stamp)) as (λ v. instant (cond v (aging (record { item = x; at = b })) (sending (record { item = x; begin = b; end = b + cost_of s.speed x.size }))) ≡ b) [ true ↦ refl | false ↦ refl ]
+instant-fate s b x = elim (nat_lt s.max_delay (b - x.stamp)) as (λ v. instant (cond v (aging (record { item = x; at = b }))
+    (sending (record { item = x; begin = b; end = b + cost_of s.speed x.size }))) ≡ b) [ true ↦ refl | false ↦ refl ]
 
 pub free_after-fate : (s : Settings) (b : ℕ) (x : Item) → b ≤ free_after (fate s b x)
-free_after-fate s b x = elim (nat_lt s.max_delay (b - x.stamp)) as (λ v. b ≤ free_after (cond v (aging (record { item = x; at = b })) (sending (record { item = x; begin = b; end = b + cost_of s.speed x.size })))) [ true ↦ omega arith | false ↦ omega arith ]
+free_after-fate s b x = elim (nat_lt s.max_delay (b - x.stamp)) as (λ v. b ≤ free_after
+    (cond v (aging (record { item = x; at = b })) (sending (record { item = x; begin = b; end = b + cost_of s.speed x.size })))) [ true ↦ omega arith | false ↦ omega arith ]
 
 -- the event lies where the line is free and the first item has come
 pub instant-next : (s : Settings) (free : ℕ) (first : Item) (rest : List Item) → instant (next s free first rest) ≡ max free (came s first)
@@ -61,14 +63,17 @@ pub item_of-next : (s : Settings) (free : ℕ) (first : Item) (rest : List Item)
 unfolding next
 item_of-next s free first rest = item_fate s (max free (came s first)) _ where
   item_fate : (s : Settings) (b : ℕ) (x : Item) → item_of (fate s b x) ≡ x
-  item_fate s b x = elim (nat_lt s.max_delay (b - x.stamp)) as (λ v. item_of (cond v (aging (record { item = x; at = b })) (sending (record { item = x; begin = b; end = b + cost_of s.speed x.size }))) ≡ x) [ true ↦ refl | false ↦ refl ]
+  item_fate s b x = elim (nat_lt s.max_delay (b - x.stamp)) as (λ v. item_of (cond v (aging (record { item = x; at = b })) (sending (record { item = x; begin = b; end = b + cost_of s.speed x.size })))
+      ≡ x) [ true ↦ refl | false ↦ refl ]
 
 -- the service goes on by one event
-pub service-step : (s : Settings) (free : ℕ) (first : Item) (rest : List Item) → service s free (first ∷ rest) ≡ next s free first rest ∷ service s (free_after (next s free first rest)) (others s free first rest)
+pub service-step : (s : Settings) (free : ℕ) (first : Item) (rest : List Item) → service s free (first ∷ rest)
+    ≡ next s free first rest ∷ service s (free_after (next s free first rest)) (others s free first rest)
 service-step s free first rest = ap (λ n. next s free first rest ∷ serve n s (free_after (next s free first rest)) (others s free first rest)) (sym (length-others s free first rest))
 
 -- items that come after the next event do not change it
-pub next-append : (s : Settings) (t free : ℕ) (first : Item) (rest ys : List Item) → max free (came s first) < t → AllByRecursion (λ (y : Item). t ≤ came s y) ys → next s free first (rest ++ ys) ≡ next s free first rest
+pub next-append : (s : Settings) (t free : ℕ) (first : Item) (rest ys : List Item) → max free (came s first) < t → AllByRecursion (λ (y : Item). t ≤ came s y) ys → next s free first (rest ++ ys)
+    ≡ next s free first rest
 unfolding next
 next-append s t free first rest ys lt later =
     let b = max free (came s first) in
@@ -76,7 +81,8 @@ next-append s t free first rest ys lt later =
     let at = get_or_append_left (first ∷ rest) ys first (turn s b (first ∷ rest)) (turn-lt s b first rest) in
     ap (λ k. fate s b (get_or (first ∷ (rest ++ ys)) k first)) same ∙ ap (fate s b) at
 
-pub others-append : (s : Settings) (t free : ℕ) (first : Item) (rest ys : List Item) → max free (came s first) < t → AllByRecursion (λ (y : Item). t ≤ came s y) ys → others s free first (rest ++ ys) ≡ others s free first rest ++ ys
+pub others-append : (s : Settings) (t free : ℕ) (first : Item) (rest ys : List Item) → max free (came s first) < t → AllByRecursion (λ (y : Item). t ≤ came s y) ys → others s free first (rest ++ ys)
+    ≡ others s free first rest ++ ys
 unfolding others
 others-append s t free first rest ys lt later =
     let b = max free (came s first) in

@@ -24,7 +24,8 @@ Takes s (sending x) = x.end ≡ x.begin + item_cost s x.item
 Takes s (aging x) = Unit {0}
 
 takes_fate : (s : Settings) (b : ℕ) (x : Item) → Takes s (fate s b x)
-takes_fate s b x = elim (nat_lt s.max_delay (b - x.stamp)) as (λ v. Takes s (cond v (aging (record { item = x; at = b })) (sending (record { item = x; begin = b; end = b + cost_of s.speed x.size })))) [ true ↦ tt | false ↦ refl ]
+takes_fate s b x = elim (nat_lt s.max_delay (b - x.stamp)) as (λ v. Takes s (cond v (aging (record { item = x; at = b })) (sending (record { item = x; begin = b; end = b + cost_of s.speed x.size }))))
+    [ true ↦ tt | false ↦ refl ]
 
 takes-next : (s : Settings) (free : ℕ) (first : Item) (rest : List Item) → Takes s (next s free first rest)
 unfolding next
@@ -47,7 +48,8 @@ pub aged_tail : (e : Event) (es : List Event) → aged_of (e ∷ es) ≡ [] → 
 aged_tail (sending x) es none = none
 aged_tail (aging x) es none = (cc)
 
-balances_by : (n : ℕ) (s : Settings) (t free : ℕ) (items : List Item) → length items ≡ n → aged_of (before t (service s free items)) ≡ [] → sum_by (rest_at s t) (service s free items) + sum_by (taken_by t) (service s free items) ≡ sum_by (item_cost s) items
+balances_by : (n : ℕ) (s : Settings) (t free : ℕ) (items : List Item) → length items ≡ n → aged_of (before t (service s free items)) ≡ [] → sum_by (rest_at s t) (service s free items)
+    + sum_by (taken_by t) (service s free items) ≡ sum_by (item_cost s) items
 balances_by n s t free [] is none = refl
 balances_by zero s t free (first ∷ rest) is none = absurd (omega (arith, is))
 balances_by (suc n) s t free (first ∷ rest) is none =
@@ -128,7 +130,15 @@ rest_left (suc n) s t free (first ∷ rest) is due =
     let le = due_no s t free first rest due in
     let here = rest_late s t e (takes-next s free first rest) (omega (arith, instant-next s free first rest)) in
     let ih = rest_left n s t (free_after e) more (omega (arith, is, length-others s free first rest)) (not_due s t (free_after e) more (omega (arith, free_after-next s free first rest))) in
-    rw (service-step s free first rest) (omega (arith, sum_by-cons (rest_at s t) e (service s (free_after e) more), here, ih, ap (item_cost s) (item_of-next s free first rest), sum_by-others s (item_cost s) free first rest))
+    rw (service-step s free first rest) (omega (
+      arith,
+      sum_by-cons (rest_at s t) e (service s (free_after e) more),
+      here,
+      ih,
+      ap (item_cost s) (item_of-next s free first rest),
+      sum_by-others s
+          (item_cost s) free first rest,
+    ))
 
 pub others_all : (s : Settings) (P : Item → Type 0) (free : ℕ) (first : Item) (rest : List Item) → All P (first ∷ rest) → All P (others s free first rest)
 unfolding others
@@ -160,13 +170,16 @@ work_is s t items =
     ∙ rw (rest_before (length items) s t 0 items refl (omega arith), rest_left (length q.waiting) s t q.free q.waiting refl (left_waits s t 0 items)) refl
 
 -- an event that is no aging occupies the line for its item's cost
-pub sent_next : (s : Settings) (free : ℕ) (first : Item) (rest : List Item) → aged_of (next s free first rest ∷ []) ≡ [] → free_after (next s free first rest) ≡ max free (came s first) + item_cost s (item_of (next s free first rest))
+pub sent_next : (s : Settings) (free : ℕ) (first : Item) (rest : List Item) → aged_of (next s free first rest ∷ []) ≡ [] → free_after (next s free first rest) ≡ max free (came s first)
+    + item_cost s (item_of (next s free first rest))
 unfolding next
 sent_next s free first rest none = sent_fate s (max free (came s first)) _ none where
   sent_fate : (s : Settings) (b : ℕ) (x : Item) → aged_of (fate s b x ∷ []) ≡ [] → free_after (fate s b x) ≡ b + item_cost s (item_of (fate s b x))
-  sent_fate s b x = elim (nat_lt s.max_delay (b - x.stamp)) as (λ v. let e = cond v (aging (record { item = x; at = b })) (sending (record { item = x; begin = b; end = b + cost_of s.speed x.size })) in aged_of (e ∷ []) ≡ [] → free_after e ≡ b + item_cost s (item_of e)) [ true ↦ (λ none. (cc)) | false ↦ (λ _. refl) ]
+  sent_fate s b x = elim (nat_lt s.max_delay (b - x.stamp)) as (λ v. let e = cond v (aging (record { item = x; at = b })) (sending (record { item = x; begin = b; end = b + cost_of s.speed x.size }))
+      in aged_of (e ∷ []) ≡ [] → free_after e ≡ b + item_cost s (item_of e)) [ true ↦ (λ none. (cc)) | false ↦ (λ _. refl) ]
 
-falls_by : (n : ℕ) (s : Settings) (t u free : ℕ) (items : List Item) → length items ≡ n → t ≤ u → HaveCome s t items → is_due s t free items ≡ false → aged_of (before u (service s free items)) ≡ [] → backlog s u (left s u free items) ≡ ((free - t) + sum_by (item_cost s) items) - (u - t)
+falls_by : (n : ℕ) (s : Settings) (t u free : ℕ) (items : List Item) → length items ≡ n → t ≤ u → HaveCome s t items → is_due s t free items ≡ false → aged_of (before u (service s free items)) ≡ []
+    → backlog s u (left s u free items) ≡ ((free - t) + sum_by (item_cost s) items) - (u - t)
 falls_by n s t u free [] is le come due none = omega arith
 falls_by zero s t u free (first ∷ rest) is le come due none = absurd (omega (arith, is))
 falls_by (suc n) s t u free (first ∷ rest) is le come due none =
@@ -179,8 +192,10 @@ falls_by (suc n) s t u free (first ∷ rest) is le come due none =
     let none' = rw (before-step s u free first rest lt) at none in
     let free' = sent_next s free first rest (aged_head e (before u (service s (free_after e) more)) none') in
     let after : t ≤ free_after e = omega (arith, free_after-next s free first rest) in
-    let ih = falls_by n s t u (free_after e) more (omega (arith, is, length-others s free first rest)) le (others_all s (λ (item : Item). came s item ≤ t) free first rest come) (not_due s t (free_after e) more after) (aged_tail e (before u (service s (free_after e) more)) none') in
-    rw (left-step s u free first rest lt) (ih ∙ sums (free - t) (free_after e) (max free (came s first)) (item_cost s (item_of e)) (sum_by (item_cost s) more) (sum_by (item_cost s) (first ∷ rest)) t u (omega arith) start free' (omega (arith, ap (item_cost s) (item_of-next s free first rest), sum_by-others s (item_cost s) free first rest))))
+    let ih = falls_by n s t u (free_after e) more (omega (arith, is, length-others s free first rest)) le (others_all s (λ (item : Item). came s item ≤ t) free first rest come)
+    (not_due s t (free_after e) more after) (aged_tail e (before u (service s (free_after e) more)) none') in
+    rw (left-step s u free first rest lt) (ih ∙ sums (free - t) (free_after e) (max free (came s first)) (item_cost s (item_of e)) (sum_by (item_cost s) more) (sum_by (item_cost s) (first ∷ rest)) t u
+    (omega arith) start free' (omega (arith, ap (item_cost s) (item_of-next s free first rest), sum_by-others s (item_cost s) free first rest))))
     (λ (ge : u ≤ max free (came s first)). rw (left-stop s u free first rest ge) (stop free (came s first) (sum_by (item_cost s) (first ∷ rest)) t u le come_first ge))
     (cases_lt (max free (came s first)) u) where
       sums : (f f' b c m a t u : ℕ) → b - t ≡ f → t ≤ b → f' ≡ b + c → m + c ≡ a → (f' - t + m) - (u - t) ≡ (f + a) - (u - t)

@@ -7,7 +7,8 @@ use Rattle.afdx_table.specs.Content.{Content}
 use Rattle.afdx_table.specs.WellFormed.{IsLink, IsWellFormed}
 
 -- to write the changed row at its place is to give that place its jitter
-pub set_is : (links : List Link) (place jitter : ℕ) (l : Link) → l ≡ slice_index_or links place l → place < length links → slice_set links place (record l { jitter = jitter }) ≡ with_jitter place jitter links
+pub set_is : (links : List Link) (place jitter : ℕ) (l : Link) → l ≡ slice_index_or links place l → place < length links → slice_set links place (record l { jitter = jitter })
+    ≡ with_jitter place jitter links
 set_is [] place jitter l is less = absurd (omega (arith, less))
 set_is (first ∷ rest) zero jitter l is less = ap (λ (l : Link). record l { jitter = jitter } ∷ rest) is
 set_is (first ∷ rest) (suc place) jitter l is less = ap (λ links. first ∷ links) (set_is rest place jitter l is (omega (arith, less)))

@@ -1,5 +1,6 @@
 -- Links under their numbers, and as a list.
-use Rattle.std.proofs.Common.{◌≡◌, ℕ, Bool, zero, suc, ◌+◌, ◌<◌, not, true, false, ◌||◌, cond, is_some, nat_eq, nat_lt, List, [], ◌∷◌, ◌++◌, length, get_or, map, find, position, slice_get, Option, Some, None, refl, sym, ap, inl, inr, ◌∙◌, arith}
+use Rattle.std.proofs.Common.{◌≡◌, ℕ, Bool, zero, suc, ◌+◌, ◌<◌, not, true, false, ◌||◌, cond, is_some, nat_eq, nat_lt, List, [], ◌∷◌, ◌++◌, length, get_or, map, find, position, slice_get, Option}
+use Rattle.std.proofs.Common.{Some, None, refl, sym, ap, inl, inr, ◌∙◌, arith}
 use Rattle.std.specs.List.{list_any, prefix_len}
 use Rattle.std.proofs.lemmas.Bool.{cases_Bool}
 use Rattle.std.proofs.lemmas.Bool.Decides.{nat_tests}

@@ -80,7 +80,8 @@ next_target at ports from before p rest h =
           ]
     ]
 
-pub targets-formed : (at : At) (ports : List PortRow) (from : ℕ) (before rest : List ℕ) → AreTargets ports from before → targets at ports from before rest ≡ Ok tt → AreTargets ports from (before ++ rest)
+pub targets-formed : (at : At) (ports : List PortRow) (from : ℕ) (before rest : List ℕ) → AreTargets ports from before → targets at ports from before rest ≡ Ok tt
+    → AreTargets ports from (before ++ rest)
 targets-formed at ports from before [] good h = rw append-nil good
 targets-formed at ports from before (p ∷ rest) good h =
     let next = next_target at ports from before p rest h in
@@ -199,7 +200,8 @@ are_links-push ports links l good new = record {
   distinct = rw (ids-push links l) (distinct-push (map (λ k. k.id) links) l.id good.distinct (new-from_links l.id links new.is_new));
 }
 
-pub links_from-formed : (version : ℕ) (ports : List PortRow) (n : ℕ) (before : List Link) (tables : List Members) (links : List Link) → AreLinks ports before → links_from version ports n before tables ≡ Ok links → AreLinks ports links × (length links ≡ length before + length tables)
+pub links_from-formed : (version : ℕ) (ports : List PortRow) (n : ℕ) (before : List Link) (tables : List Members) (links : List Link) → AreLinks ports before → links_from version ports n before tables
+    ≡ Ok links → AreLinks ports links × (length links ≡ length before + length tables)
 unfolding links_from link_at
 links_from-formed version ports n before [] links good h =
     let same : before ≡ links = cc in

@@ -29,7 +29,8 @@ found_by (k ∷ links) apart l among = at (found_by links apart.1 l) among.0 amo
   differs : (a b : ℕ) → nat_eq a b ≡ false → (a == b) ≡ false
   differs a b h = grind (arith, nat_tests)
 
-  there : (Contains links l → find (λ (m : Link). m.id == l.id) links ≡ Some l) → (i : ℕ) → i < length links → get_or links i l ≡ l → cond (k.id == l.id) (Some k) (find (λ (m : Link). m.id == l.id) links) ≡ Some l
+  there : (Contains links l → find (λ (m : Link). m.id == l.id) links ≡ Some l) → (i : ℕ) → i < length links → get_or links i l ≡ l
+      → cond (k.id == l.id) (Some k) (find (λ (m : Link). m.id == l.id) links) ≡ Some l
   there ih i lt is =
       let numbers = All-from_recursion (λ n. nat_eq k.id n ≡ false) (map (λ (m : Link). m.id) links) apart.0 in
       let other = differs k.id l.id (All-contains (λ n. nat_eq k.id n ≡ false) (map (λ (m : Link). m.id) links) l.id numbers (of_map (λ (m : Link). m.id) links l (i, lt, is))) in

@@ -1,5 +1,6 @@
 -- A table holds what its text says.
-use Rattle.std.proofs.Common.{◌≡◌, ℕ, pos, ◌≤◌, ◌+◌, ◌*◌, ◌%◌, nat_eq, nat_lt, true, Bool, cond, List, [], ◌∷◌, ◌++◌, Option, Some, None, Result, Ok, Err, refl, sym, ◌∙◌, ap, subst, inl, inr, arith, append_assoc}
+use Rattle.std.proofs.Common.{◌≡◌, ℕ, pos, ◌≤◌, ◌+◌, ◌*◌, ◌%◌, nat_eq, nat_lt, true, Bool, cond, List, [], ◌∷◌, ◌++◌, Option, Some, None, Result, Ok, Err, refl, sym, ◌∙◌, ap, subst, inl, inr}
+use Rattle.std.proofs.Common.{arith, append_assoc}
 use Rattle.std.specs.List.{AllZip, count_by}
 use Rattle.std.proofs.lemmas.List.{append-nil}
 use Rattle.std.proofs.lemmas.List.Sums.{sum_by-cons}
@@ -25,7 +26,8 @@ use Rattle.afdx_table.specs.Links.{link_keys, police_from, row_at, fitting, link
 use Rattle.afdx_table.specs.Text.{content_of, tree_of, table_of}
 use Rattle.afdx_table.specs.Holds.{IsPortOf, IsLinkOf, HasNumber, HasVersion, HasConstant, HasLatency, HasTables, Holds, TablesHoldTheirTexts}
 use Rattle.afdx_table.proofs.Steps.{steps, ok_inside}
-use Rattle.afdx_table.proofs.Says.{there, known_at-says, number_at-says, bounded_at-says, text_at-says, optional_number_at-says, no_number, optional_text_at-says, no_text, tables_at-says, numbers_at-says, speed-says, bag-says, priority-says, police-says}
+use Rattle.afdx_table.proofs.Says.{there, known_at-says, number_at-says, bounded_at-says, text_at-says, optional_number_at-says, no_number, optional_text_at-says, no_text, tables_at-says}
+use Rattle.afdx_table.proofs.Says.{numbers_at-says, speed-says, bag-says, priority-says, police-says}
 use Rattle.afdx_table.proofs.PortsFormed.{fresh_port}
 use Rattle.afdx_table.proofs.LinksFormed.{fitting-fits}
 
@@ -126,7 +128,8 @@ record AreLinksOf (version : ℕ) (before : List Link) (tables : List Members) (
   rows_of : AllZip (IsLinkOf version) tables rows
   all : before ++ rows ≡ links
 
-links_from-rows : (version : ℕ) (ports : List PortRow) (n : ℕ) (before : List Link) (tables : List Members) (links : List Link) → links_from version ports n before tables ≡ Ok links → AreLinksOf version before tables links
+links_from-rows : (version : ℕ) (ports : List PortRow) (n : ℕ) (before : List Link) (tables : List Members) (links : List Link) → links_from version ports n before tables ≡ Ok links
+    → AreLinksOf version before tables links
 unfolding links_from link_at
 links_from-rows version ports n before [] links h =
     let same : before ≡ links = ok_inside before links h in

@@ -78,7 +78,8 @@ some_aged sent (a ∷ aged) next = omega arith
 grown : (start all text line more longer : List ℕ) → start ++ all ≡ text ++ (line ++ more) → longer ≡ text ++ line → start ++ all ≡ longer ++ more
 grown start all text line more longer before is = before ∙ sym (append_assoc text line more) ∙ sym (ap (λ (t : List ℕ). t ++ more) is)
 
-one_aged : (port : ℕ) (s : Settings) (all events : List Event) (sent : List Sent) (a : Aged) (aged : List Aged) (number : ℕ) (start text longer : List ℕ) → starts_aged events ≡ true → AreInOrder events
+one_aged : (port : ℕ) (s : Settings) (all events : List Event) (sent : List Sent) (a : Aged) (aged : List Aged) (number : ℕ) (start text longer : List ℕ) → starts_aged events ≡ true
+    → AreInOrder events
     → sent_of events ≡ sent → aged_of events ≡ a ∷ aged → start ++ event_lines port s 0 all ≡ text ++ event_lines port s number events → longer ≡ text ++ aged_line port s a
     → Left port s all sent aged number start longer
 one_aged port s all [] sent a aged number start text longer next order sent_is aged_is before is = not_both next
@@ -88,10 +89,12 @@ one_aged port s all (aging b ∷ events) sent a aged number start text longer ne
   order = order.1;
   sent_is = sent_is;
   aged_is = ap (drop 1) aged_is;
-  text_is = grown start (event_lines port s 0 all) text (aged_line port s b) (event_lines port s number events) longer before (is ∙ ap (λ (xs : List Aged). text ++ aged_line port s (get_or xs 0 a)) (sym aged_is));
+  text_is = grown start (event_lines port s 0 all) text (aged_line port s b) (event_lines port s number events) longer before
+      (is ∙ ap (λ (xs : List Aged). text ++ aged_line port s (get_or xs 0 a)) (sym aged_is));
 }
 
-one_sent : (port : ℕ) (s : Settings) (all events : List Event) (x : Sent) (sent : List Sent) (aged : List Aged) (number : ℕ) (start text longer : List ℕ) → starts_aged events ≡ false → AreInOrder events
+one_sent : (port : ℕ) (s : Settings) (all events : List Event) (x : Sent) (sent : List Sent) (aged : List Aged) (number : ℕ) (start text longer : List ℕ) → starts_aged events ≡ false
+    → AreInOrder events
     → sent_of events ≡ x ∷ sent → aged_of events ≡ aged → start ++ event_lines port s 0 all ≡ text ++ event_lines port s number events → longer ≡ text ++ sent_line port s (number + 1) x
     → Left port s all sent aged (number + 1) start longer
 one_sent port s all [] x sent aged number start text longer next order sent_is aged_is before is = absurd (let none : 0 ≡ length (x ∷ sent) = ap length sent_is in omega (arith, none))

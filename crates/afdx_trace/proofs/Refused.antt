@@ -1,5 +1,6 @@
 -- The ports that refused a copy are those that answered Full to it.
-use Rattle.std.proofs.Common.{◌≡◌, ℕ, suc, ◌+◌, ◌<◌, ◌==◌, nat_lt, ◌||◌, ◌&&◌, not, Bool, true, false, cond, List, [], ◌∷◌, ◌++◌, length, map, filter, Option, None, Some, refl, sym, ap, ◌∙◌, subst, arith}
+use Rattle.std.proofs.Common.{◌≡◌, ℕ, suc, ◌+◌, ◌<◌, ◌==◌, nat_lt, ◌||◌, ◌&&◌, not, Bool, true, false, cond, List, [], ◌∷◌, ◌++◌, length, map, filter, Option, None, Some, refl, sym, ap, ◌∙◌, subst}
+use Rattle.std.proofs.Common.{arith}
 use Rattle.std.proofs.Common.{append_assoc, append-nil}
 use Rattle.std.specs.Prelude.{count_by, find}
 use Rattle.std.specs.List.{list_any}
@@ -163,7 +164,8 @@ joins k s items x none same = by (fits s items x) where
 
 -- ---- one port
 
-module _ (one : EachHasOneEvent) (r : Run) (ends : r.finished ≡ true) (before after : List Row) (row : Row) (is : r.rows ≡ before ++ row ∷ after) (l : Link) (names : named r.table row.verdict ≡ Some l) (passed : passes l before row ≡ true) where
+module _ (one : EachHasOneEvent) (r : Run) (ends : r.finished ≡ true) (before after : List Row) (row : Row) (is : r.rows ≡ before ++ row ∷ after) (l : Link)
+    (names : named r.table row.verdict ≡ Some l) (passed : passes l before row ≡ true) where
   at_port : (p : PortRow) → leads_to p.id l ≡ true
       → list_any (is_copy (length before)) (admitted (settings_of r.table.latency p) (feed_of r.table p.id r.rows))
       ≡ fits (settings_of r.table.latency p) (admitted (settings_of r.table.latency p) (feed_of r.table p.id before)) (item_of l before row)
@@ -220,7 +222,8 @@ module _ (one : EachHasOneEvent) (r : Run) (ends : r.finished ≡ true) (before 
     told false = refl
 
     by : (o : Option PortRow) → port_row r.table port ≡ o → not (took r port (length before)) ≡ is_full (answer_of (run_before r before) (item_of l before row) o)
-    by None none = ap (λ (o : Option PortRow). not (list_any (λ (x : Sent). x.item.number == length before) (sent_in r o) || list_any (λ (x : Aged). x.item.number == length before) (aged_in r o))) none
+    by None none = ap (λ (o : Option PortRow). not (list_any (λ (x : Sent). x.item.number == length before) (sent_in r o) || list_any (λ (x : Aged). x.item.number == length before) (aged_in r o)))
+        none
     by (Some p) row_is =
         ap not (took_admitted one r port p (length before) ends row_is
         ∙ at_port p (ap (λ (n : ℕ). leads_to n l) (found_id r.table.ports port p row_is) ∙ leads))

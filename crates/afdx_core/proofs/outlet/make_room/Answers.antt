@@ -22,7 +22,8 @@ returns-in_err-make_room_at-clause-seen g c =
 pub loop-port-preserved : goal.loop-port-preserved
 loop-port-preserved g c = record {
   became = became_then (λ (o : Out). o) (λ (o : Out). o) c.args.outlets.now c.loop-port.outlets c.make_room_at.new.outlets c.loop-port.invariant.became c.make_room_at.ensures.seen;
-  room = room_next c.args.to.now c.loop-port.port-index c.loop-port.outlets c.make_room_at.new.outlets (omega (arith, c.loop-port-test.true)) c.loop-port.invariant.room c.make_room_at.ensures.seen c.make_room_at.ensures.more c.in_ok-make_room_at.ensures.room;
+  room = room_next c.args.to.now c.loop-port.port-index c.loop-port.outlets c.make_room_at.new.outlets (omega (arith, c.loop-port-test.true)) c.loop-port.invariant.room c.make_room_at.ensures.seen
+      c.make_room_at.ensures.more c.in_ok-make_room_at.ensures.room;
 }
 
 pub returns-clause-room : goal.returns-clause-room

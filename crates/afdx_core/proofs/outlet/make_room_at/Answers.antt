@@ -11,11 +11,13 @@ use Rattle.afdx_core.proofs.Rooms.{became_set, room_set}
 use Rattle.afdx_core.proofs.outlet.make_room_at.Goals as goal
 
 pub bounds-outlets-place : goal.bounds-outlets-place
-bounds-outlets-place g c = position_within (is_port c.args.port) c.args.outlets.now c.in-Some.place (place_at c.args.places.now c.args.outlets.now c.args.port (Some c.in-Some.place) c.requires.places (sym c.in-Some.is ∙ c.place_of.ensures))
+bounds-outlets-place g c = position_within (is_port c.args.port) c.args.outlets.now c.in-Some.place
+    (place_at c.args.places.now c.args.outlets.now c.args.port (Some c.in-Some.place) c.requires.places (sym c.in-Some.is ∙ c.place_of.ensures))
 
 pub offset_bounds-outlets-place : goal.offset_bounds-outlets-place
 offset_bounds-outlets-place g c =
-    let lt : c.in-Some.place < length c.args.outlets.now = position_within (is_port c.args.port) c.args.outlets.now c.in-Some.place (place_at c.args.places.now c.args.outlets.now c.args.port (Some c.in-Some.place) c.requires.places (sym c.in-Some.is ∙ c.place_of.ensures)) in
+    let lt : c.in-Some.place < length c.args.outlets.now = position_within (is_port c.args.port) c.args.outlets.now c.in-Some.place
+    (place_at c.args.places.now c.args.outlets.now c.args.port (Some c.in-Some.place) c.requires.places (sym c.in-Some.is ∙ c.place_of.ensures)) in
     search (rules, lt)
 
 pub returns-in-Some-clause-seen : goal.returns-in-Some-clause-seen
@@ -24,7 +26,8 @@ returns-in-Some-clause-seen g c =
     let k = c.in-Some.place in
     let lt = position_within (is_port c.args.port) os k (place_at c.args.places.now os c.args.port (Some k) c.requires.places (sym c.in-Some.is ∙ c.place_of.ensures)) in
     let o = get_or os k c.index-outlets-place.result in
-    became_set os k (record { row = o.row; port = c.reserve.new.self; handed = o.handed }) c.index-outlets-place.result lt (ap {B = Out} (λ (v : Content). record { row = o.row; content = v; handed = o.handed }) c.reserve.ensures.content)
+    became_set os k (record { row = o.row; port = c.reserve.new.self; handed = o.handed }) c.index-outlets-place.result lt
+    (ap {B = Out} (λ (v : Content). record { row = o.row; content = v; handed = o.handed }) c.reserve.ensures.content)
 
 pub returns-in-Some-clause-more : goal.returns-in-Some-clause-more
 returns-in-Some-clause-more g c k d =

@@ -21,7 +21,8 @@ returns-then-at-port g c =
     let small : c.args.link < 65536 = omega (arith, c.ranges.link.fits) in
     let yes = c.if-at-port.true in
     let same : c.at-item.result.port ≡ c.args.port = grind (arith, nat_tests) in
-    told_of r r.table.ports c.args.all.now c.loop-at.at-index c.at-item.result c.args.link c.from.result c.args.port c.index.result.now c.loop-at-test.true c.at-item.is place small c.index.ensures same c.requires
+    told_of r r.table.ports c.args.all.now c.loop-at.at-index c.at-item.result c.args.link c.from.result c.args.port c.index.result.now c.loop-at-test.true c.at-item.is place small c.index.ensures
+    same c.requires
 
 pub loop-at-preserved : goal.loop-at-preserved
 loop-at-preserved g c =

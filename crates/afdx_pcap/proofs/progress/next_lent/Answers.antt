@@ -9,4 +9,5 @@ returns-then-progress-bytes-clause-answer g c =
 
 pub returns-in-Err-read_on-clause-answer : goal.returns-in-Err-read_on-clause-answer
 returns-in-Err-read_on-clause-answer g c =
-    rw c.unless_it_waits-in-Err-read_on.ensures (rest_answer c.args.bytes.now c.args.given c.in-Ok.progress c.in-Err-read_on.fault c.args.closed (is_cut c.in-Err-read_on.fault) c.in-Ok.ensures.at c.in-Err-read_on.ensures.fault c.if-progress-bytes.false refl)
+    rw c.unless_it_waits-in-Err-read_on.ensures (rest_answer c.args.bytes.now c.args.given c.in-Ok.progress c.in-Err-read_on.fault c.args.closed (is_cut c.in-Err-read_on.fault) c.in-Ok.ensures.at
+    c.in-Err-read_on.ensures.fault c.if-progress-bytes.false refl)

@@ -12,7 +12,8 @@ pub returns : goal.returns
 returns g c =
     let r = c.args.done.now.run in
     let p = c.args.port.now in
-    let settings : settings_of r.table.latency p ≡ c.settings_of-settings.result = ap (λ (latency : ℕ). settings_of latency p) (ap (λ (t : Content). t.latency) (sym c.table.ensures) ∙ sym c.latency.ensures.latency)
+    let settings : settings_of r.table.latency p ≡ c.settings_of-settings.result = ap (λ (latency : ℕ). settings_of latency p)
+    (ap (λ (t : Content). t.latency) (sym c.table.ensures) ∙ sym c.latency.ensures.latency)
     ∙ sym c.settings_of-settings.ensures in
     let lines = c.put_events.ensures (done (port_in r p)) (c.events_are_in_order.ensures (port_in r p)) (sym (c.sent.ensures.sent ∙ ap (sent_in r) c.requires))
     (sym (c.aged.ensures.aged ∙ ap (aged_in r) c.requires)) in

@@ -11,4 +11,5 @@ filter-taken-requires-clause-unnamed g c = no_place c.args.self.now.table c.judg
 pub take-taken-requires-clause-sized : goal.take-taken-requires-clause-sized
 take-taken-requires-clause-sized g c =
     let row = c.judged-row.ensures.row in
-    subst IsSized (sym row) (sized_at c.args.self.now.table c.args.in_port c.args.arrived c.judged-row.result.0.verdict c.in-Some-place.place (ap (λ (r : Row). r.verdict) row) (sym c.judged-row.ensures.place ∙ c.in-Some-place.is))
+    subst IsSized (sym row) (sized_at c.args.self.now.table c.args.in_port c.args.arrived c.judged-row.result.0.verdict c.in-Some-place.place (ap (λ (r : Row). r.verdict) row)
+    (sym c.judged-row.ensures.place ∙ c.in-Some-place.is))

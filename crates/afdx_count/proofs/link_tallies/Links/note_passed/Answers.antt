@@ -12,7 +12,8 @@ returns-in-Some-clause-links g c =
 
 pub returns-in-Some-clause-class : goal.returns-in-Some-clause-class
 returns-in-Some-clause-class g c = ap (option_map (λ (x : LinkTally). x.priority))
-    (found_in (λ (x : LinkTally). x.id) c.args.id c.self.inside.tallies.items c.args.self.now c.in-Some.place c.index-tally.result.now c.self.view_is c.in-Some.ensures.distinct c.in-Some.ensures.at c.index-tally.ensures)
+    (found_in (λ (x : LinkTally). x.id) c.args.id c.self.inside.tallies.items c.args.self.now c.in-Some.place c.index-tally.result.now c.self.view_is c.in-Some.ensures.distinct c.in-Some.ensures.at
+    c.index-tally.ensures)
 
 pub returns-in-None-clause-links : goal.returns-in-None-clause-links
 returns-in-None-clause-links g c = unchanged (λ (x : LinkTally). x.id) c.args.id one_passed c.args.self.now c.in-None.ensures.absent

@@ -6,7 +6,8 @@ use Rattle.afdx_count.proofs.port_tallies.Ports.note_arrival.Goals as goal
 
 pub returns-in-Some : goal.returns-in-Some
 returns-in-Some g c =
-    changed_in (λ (p : PortTally). p.id) c.args.in_port (λ p. record p { input = with_fate c.args.fate p.input }) c.self.inside.tallies.items c.args.self.now c.in-Some.place c.index.result.now c.with_fate.result
+    changed_in (λ (p : PortTally). p.id) c.args.in_port (λ p. record p { input = with_fate c.args.fate p.input }) c.self.inside.tallies.items c.args.self.now c.in-Some.place c.index.result.now
+    c.with_fate.result
     c.self.view_is c.in-Some.ensures.distinct c.in-Some.ensures.at c.index.ensures c.with_fate.ensures
 
 pub returns-in_default : goal.returns-in_default

@@ -7,7 +7,8 @@ use Rattle.afdx_count.proofs.port_tallies.Ports.note_offer.Goals as goal
 
 pub returns-in-Some : goal.returns-in-Some
 returns-in-Some g c =
-    changed_in (λ (p : PortTally). p.id) c.args.port (with_copies c.args.class ((c.args.port, c.args.offer) ∷ [])) c.self.inside.tallies.items c.args.self.now c.in-Some.place c.index.result.now c.with_offer.result
+    changed_in (λ (p : PortTally). p.id) c.args.port (with_copies c.args.class ((c.args.port, c.args.offer) ∷ [])) c.self.inside.tallies.items c.args.self.now c.in-Some.place c.index.result.now
+    c.with_offer.result
     c.self.view_is c.in-Some.ensures.distinct c.in-Some.ensures.at c.index.ensures
     (c.with_offer.ensures ∙ ap (λ (n : ℕ). with_copies c.args.class ((n, c.args.offer) ∷ []) c.index.result.now)
     (number_at (λ (p : PortTally). p.id) c.args.port c.self.inside.tallies.items c.args.self.now c.in-Some.place c.index.result.now c.self.view_is c.in-Some.ensures.at c.index.ensures))

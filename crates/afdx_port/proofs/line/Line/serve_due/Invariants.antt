@@ -14,8 +14,10 @@ invariant-loop-self g l = record {
   sound : IsSound l.self;
   room : (room : ℕ) → HasRoom room l.fn.self → HasRoom room l.self;
   settings : l.self.settings ≡ l.fn.self.settings;
-  sent : l.self.sent.items ++ sent_of (before l.to (in_line l.self.settings l.self.ready (queue_of l.self))) ≡ l.fn.self.sent.items ++ sent_of (before l.to (in_line l.fn.self.settings l.fn.self.ready (queue_of l.fn.self)));
-  aged : l.self.aged.items ++ aged_of (before l.to (in_line l.self.settings l.self.ready (queue_of l.self))) ≡ l.fn.self.aged.items ++ aged_of (before l.to (in_line l.fn.self.settings l.fn.self.ready (queue_of l.fn.self)));
+  sent : l.self.sent.items ++ sent_of (before l.to (in_line l.self.settings l.self.ready (queue_of l.self))) ≡ l.fn.self.sent.items
+      ++ sent_of (before l.to (in_line l.fn.self.settings l.fn.self.ready (queue_of l.fn.self)));
+  aged : l.self.aged.items ++ aged_of (before l.to (in_line l.self.settings l.self.ready (queue_of l.self))) ≡ l.fn.self.aged.items
+      ++ aged_of (before l.to (in_line l.fn.self.settings l.fn.self.ready (queue_of l.fn.self)));
   state : rest_in_line l.self.settings l.to l.self.ready (queue_of l.self) ≡ rest_in_line l.fn.self.settings l.to l.fn.self.ready (queue_of l.fn.self);
   start : l.self.ready < max stamp_end (l.fn.self.ready + 1);
 }

@@ -37,7 +37,12 @@ returns-in-Ok-clause-sound g c = sound_after c.args.self.now _ c.in-Some.item re
     c.requires.sound
 
 pub returns-in-Ok-clause-room : goal.returns-in-Ok-clause-room
-returns-in-Ok-clause-room g c = λ room h. record { place = c.in-Some.ensures.place room h.place; sent = omega (arith, h.sent, c.in-Some.ensures.size, c.push_reserved.ensures.len, c.push_reserved.ensures.capacity); aged = omega (arith, h.aged, c.in-Some.ensures.size) }
+returns-in-Ok-clause-room g c = λ room h. record {
+  place = c.in-Some.ensures.place room h.place;
+  sent = omega
+      (arith, h.sent, c.in-Some.ensures.size, c.push_reserved.ensures.len, c.push_reserved.ensures.capacity);
+  aged = omega (arith, h.aged, c.in-Some.ensures.size);
+}
 
 pub returns-in-Err-clause-sound : goal.returns-in-Err-clause-sound
 returns-in-Err-clause-sound g c = sound_after c.args.self.now _ c.in-Some.item refl c.in-Some.ensures.queued c.in-Some.ensures.items (c.requires.sound.start c.requires.waits) c.requires.sound
@@ -46,4 +51,9 @@ pub returns-in-Err-clause-start : goal.returns-in-Err-clause-start
 returns-in-Err-clause-start g c = c.requires.sound.start c.requires.waits
 
 pub returns-in-Err-clause-room : goal.returns-in-Err-clause-room
-returns-in-Err-clause-room g c = λ room h. record { place = c.in-Some.ensures.place room h.place; sent = omega (arith, h.sent, c.in-Some.ensures.size); aged = omega (arith, h.aged, c.in-Some.ensures.size, c.push_reserved-in-Err.ensures.len, c.push_reserved-in-Err.ensures.capacity) }
+returns-in-Err-clause-room g c = λ room h. record {
+  place = c.in-Some.ensures.place room h.place;
+  sent = omega (arith, h.sent, c.in-Some.ensures.size);
+  aged = omega
+      (arith, h.aged, c.in-Some.ensures.size, c.push_reserved-in-Err.ensures.len, c.push_reserved-in-Err.ensures.capacity);
+}

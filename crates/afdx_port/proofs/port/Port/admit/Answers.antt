@@ -18,7 +18,8 @@ queue-requires-clause-start g c =
     omega (arith, c.self.invariant.start open', reach-most p.line.settings p.horizon c.self.invariant.sound.latency, at, c.requires.small.0)
 
 pub queue-requires-clause-bytes : goal.queue-requires-clause-bytes
-queue-requires-clause-bytes g c = room_for c.args.item.now.size _ _ _ (fits_kept c.self.inside c.args.self.now.content c.args.item.now c.self.invariant (ap (λ (v : PortValue). v.content) c.self.view_is) c.requires.open c.requires.at_once ∙ c.requires.fits)
+queue-requires-clause-bytes g c = room_for c.args.item.now.size _ _ _ (fits_kept c.self.inside c.args.self.now.content c.args.item.now c.self.invariant
+    (ap (λ (v : PortValue). v.content) c.self.view_is) c.requires.open c.requires.at_once ∙ c.requires.fits)
 
 pub invariant_of-self : goal.invariant_of-self
 invariant_of-self g c =
@@ -28,4 +29,5 @@ invariant_of-self g c =
     let some : 0 < p.room = omega (arith, ap (λ (v : PortValue). v.room) c.self.view_is, c.requires.room) in
     let q = c.queue.ensures in
     let a = c.push_reserved.ensures in
-    kept_queued p c.queue.new.self c.push_reserved.new.self c.args.item.now (p.room - 1) c.self.invariant open' at (omega (arith, some)) q.sound q.room q.settings q.state q.sent q.aged a.items a.len a.capacity
+    kept_queued p c.queue.new.self c.push_reserved.new.self c.args.item.now (p.room - 1) c.self.invariant open' at (omega (arith, some)) q.sound q.room q.settings q.state q.sent q.aged a.items a.len
+    a.capacity
