@@ -64,7 +64,7 @@ sent_copies r p l = own l.id (map (λ (s : Sent). s.item) (sent_in r (Some p)))
 pub record IsIsolated (r : Run) : Type 0 where
   -- no copy was refused by a full buffer: each port admitted all that it was offered
   pub none_full : (p : PortRow) → Contains r.table.ports p → (port_in r p).admitted ≡ feed_of r.table p.id r.rows
-  -- none was given up for its age
+  -- none was discarded for its age
   pub none_aged : (p : PortRow) → Contains r.table.ports p → aged_in r (Some p) ≡ []
   -- each that was sent ended within the port's bound for its priority
   pub in_bound : (p : PortRow) → Contains r.table.ports p → All (IsInBoundAt r.table p) (sent_in r (Some p))

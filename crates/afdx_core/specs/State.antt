@@ -52,7 +52,7 @@ port_after t rows latest finished p = record { settings = settings_of t.latency 
 abbrev pub port_in : Run → PortRow → PortContent
 port_in r p = port_after r.table r.rows r.latest r.finished p
 
--- what the port of a number admitted so far, what it sent, and what it gave up
+-- what the port of a number admitted so far, what it sent, and what it discarded
 abbrev pub admitted_in : Run → Option PortRow → List Item
 admitted_in r None = []
 admitted_in r (Some p) = (port_in r p).admitted

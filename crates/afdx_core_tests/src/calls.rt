@@ -57,7 +57,7 @@ fn checked_switch_by_calls(rt: HostRuntime) -> Result<(), Fail> {
     answers_calls(&rt, alloc, switch)
 }
 
-/// What a switch tells of port 2, how many frames it sent and gave up, and of all arrivals, how many fates.
+/// What a switch tells of port 2, how many frames it sent and discarded, and of all arrivals, how many fates.
 fn told(switch: &Switch<'static, Global>) -> (usize, usize, usize) {
     let sent = switch.sent(2).len();
     let aged = switch.aged(2).len();

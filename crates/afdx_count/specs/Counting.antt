@@ -79,7 +79,7 @@ is_of High Low = false
 is_of Low High = false
 is_of Low Low = true
 
--- a counter, with the copies of a priority that were sent, and with those that were given up
+-- a counter, with the copies of a priority that were sent, and with those that were discarded
 abbrev pub more_sent : ℕ → Priority → List Sent → ℕ
 more_sent start priority sent = capped (start + count_by (λ s. is_of priority s.item.priority) sent)
 

@@ -53,7 +53,7 @@ PassedAndPolicedAreClean = (t : Content) (l : Link) (rows : List Row) → link_r
 abbrev pub copies_at_end : Priority → Settings → List Item → OutCount
 copies_at_end priority s feed = output_counts priority s feed (service s 0 (admitted s feed))
 
--- each copy that was offered was refused, given up or sent
+-- each copy that was offered was refused, discarded or sent
 abbrev pub OfferedIsTheSum : Type 0
 OfferedIsTheSum = (priority : Priority) (s : Settings) (feed : List Item) → (copies_at_end priority s feed).offered < greatest
     → (copies_at_end priority s feed).offered ≡ (copies_at_end priority s feed).full + (copies_at_end priority s feed).aged + (copies_at_end priority s feed).sent

@@ -103,6 +103,6 @@ ended_port r p = record p {
   low = with_ended Low (sent_in r (port_row r.table p.id)) (aged_in r (port_row r.table p.id)) p.low;
 }
 
--- what each port sent and gave up counts there
+-- what each port sent and discarded counts there
 abbrev pub ended : Run → Tally → Tally
 ended r t = record { ports = map (ended_port r) t.ports; links = t.links }

@@ -40,7 +40,7 @@ pub struct OutCount {
     pub offered: u64,
     /// Those that the buffer had no room for.
     pub full: u64,
-    /// Those that were given up for their age.
+    /// Those that were discarded for their age.
     pub aged: u64,
     /// Those that were sent.
     pub sent: u64,
@@ -143,7 +143,7 @@ impl OutCount {
         count
     }
 
-    /// Counts the copies of a priority that were sent and given up.
+    /// Counts the copies of a priority that were sent and discarded.
     pub(crate) fn with_ended(self, priority: Priority, sent: &[Sent], aged: &[Aged]) -> OutCount
         ensures { result ≡ with_ended priority sent.now aged.now self }
     {
@@ -169,7 +169,7 @@ fn more_sent(start: u64, priority: Priority, sent: &[Sent]) -> u64
     count
 }
 
-/// The counter, with those of a priority that were given up.
+/// The counter, with those of a priority that were discarded.
 fn more_aged(start: u64, priority: Priority, aged: &[Aged]) -> u64
     ensures { result ≡ more_aged start priority aged.now }
 {

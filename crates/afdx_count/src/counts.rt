@@ -54,7 +54,7 @@ impl<A: Allocator + Copy> Counts<A> {
         self.ports.note_copies(class, &step.offers);
     }
 
-    /// Counts what the ports sent and gave up. It takes no memory. O(copies that were sent or given up), and for each port
+    /// Counts what the ports sent and discarded. It takes no memory. O(copies that were sent or discarded), and for each port
     /// two look-ups among the ports.
     pub fn note_end<B: Allocator + Copy>(&mut self, done: &Done<'_, B>)
         ensures { self.new ≡ ended done.now.run self.old }

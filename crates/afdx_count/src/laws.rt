@@ -34,7 +34,7 @@ pub fn passed_and_policed_are_clean()
     ensures { PassedAndPolicedAreClean }
 {}
 
-/// At the end, the copies that were offered are those that were refused, given up and sent.
+/// At the end, the copies that were offered are those that were refused, discarded and sent.
 pub fn offered_is_the_sum()
     ensures { OfferedIsTheSum }
 {

@@ -1,7 +1,7 @@
 //! The counters of a run, and its report (profile).
 //!
 //! [`Counts`] stand at 0 for each port and link of a table. [`Counts::note`] counts what a switch did with an arrival, and
-//! [`Counts::note_end`] what its ports sent and gave up. A counter stays at its greatest value.
+//! [`Counts::note_end`] what its ports sent and discarded. A counter stays at its greatest value.
 //!
 //! Contracts see the counters as two lists, and say of each call what it adds. The module `laws` has what they come to: after
 //! the notes of all arrivals, each counter is the number of arrivals, of frames or of copies of the whole run that it is named

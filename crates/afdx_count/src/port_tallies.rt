@@ -183,7 +183,7 @@ impl<A: Allocator + Copy> Ports<A> {
         }
     }
 
-    /// Counts what each port sent and gave up.
+    /// Counts what each port sent and discarded.
     pub(crate) fn note_end<B: Allocator + Copy>(&mut self, done: &Done<'_, B>)
         ensures { self.new ≡ map (ended_port done.now.run) self.old }
     {
@@ -191,7 +191,7 @@ impl<A: Allocator + Copy> Ports<A> {
     }
 }
 
-/// Counts what each of the ports sent and gave up.
+/// Counts what each of the ports sent and discarded.
 fn end_all<A: Allocator + Copy, B: Allocator + Copy>(
     tallies: &mut Vec<PortTally, A>,
     done: &Done<'_, B>,

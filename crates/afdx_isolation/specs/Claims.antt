@@ -29,7 +29,7 @@ pub record IsInBound (s : Settings) (load : Load) (x : Sent) : Type 0 where
   pub least : x.item.stamp + s.latency + item_cost s x.item ≤ x.end
   pub most : x.end ≤ x.item.stamp + bound load x.item.priority
 
--- the item is not given up for its age, but sent within its bound
+-- the item is not discarded for its age, but sent within its bound
 abbrev pub IsTimely : Settings → Load → Event → Type 0
 IsTimely s load (sending x) = IsInBound s load x
 IsTimely s load (aging x) = ⊥

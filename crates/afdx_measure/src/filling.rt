@@ -18,7 +18,7 @@ pub struct Filling {
     pub at: Stamp,
 }
 
-/// The bytes that a buffer holds, and how many of what was sent and of what was given up have left it.
+/// The bytes that a buffer holds, and how many of what was sent and of what was discarded have left it.
 #[derive(Clone, Copy, Debug, PartialEq, Eq)]
 struct Level {
     held: u64,
@@ -41,7 +41,7 @@ impl Level {
         }
     }
 
-    /// Lets go what was given up before the instant in nanoseconds.
+    /// Lets go what was discarded before the instant in nanoseconds.
     fn let_aged_go(&mut self, aged: &[Aged], at: u64)
         requires { self.old.aged ≤ length aged.now }
         ensures held { self.new.held ≡ self.old.held - sum_by (λ x. x.item.size) (take_while (λ x. nat_lt x.at at) (drop self.old.aged aged.now)) }
@@ -67,7 +67,7 @@ fn fuller(peak: Option<Filling>, next: Filling) -> Filling
 }
 
 /// The greatest number of bytes that a port's buffer held when a frame had been admitted, at the first admission that
-/// reached it; none where none was admitted. These are all that the port admitted, and what it sent and gave up of
+/// reached it; none where none was admitted. These are all that the port admitted, and what it sent and discarded of
 /// them in the end.
 ///
 /// O(admitted). It takes no memory.

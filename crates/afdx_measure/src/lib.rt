@@ -3,7 +3,7 @@
 //! [`delays_by_link`] tells of each link how many copies a port sent, and their least and greatest delay; [`peak_at`] how
 //! full a port's buffer was, and when first; [`report`] all of it as text.
 //!
-//! Contracts say what the numbers are of the lists of what was admitted, sent and given up.
+//! Contracts say what the numbers are of the lists of what was admitted, sent and discarded.
 #![tactic(auto)]
 
 mod delays;

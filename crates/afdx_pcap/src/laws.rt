@@ -66,7 +66,7 @@ pub fn taken_records_are_the_first()
         → IsCapture t.bytes rs }
 {}
 
-/// Want of memory apart, there is one answer after so many records, whoever gives it.
+/// But for out of memory there is one answer after so many records, whoever gives it.
 pub fn each_answer_is_the_only_one()
     ensures { (bytes : List ℕ) (n : ℕ) (closed : Bool) (a b : Result (Option Entry) PcapFault)
         → Answers bytes n closed a → Answers bytes n closed b → a ≢ Err Memory → b ≢ Err Memory → a ≡ b }

@@ -47,7 +47,7 @@ fn text_length<A: Allocator>(records: &[Record<'_, A>]) -> usize
 ///
 /// # Errors
 ///
-/// Want of memory, with nothing appended. O(1) amortized.
+/// Out of memory, with nothing appended. O(1) amortized.
 pub fn write_header<A: Allocator>(out: &mut Vec<u8, A>) -> Result<(), AllocError>
     ensures ok { OnOk result (out.new.items ≡ out.old.items ++ header_text) }
     ensures err { OnErr result (out.new.items ≡ out.old.items) }
@@ -59,7 +59,7 @@ pub fn write_header<A: Allocator>(out: &mut Vec<u8, A>) -> Result<(), AllocError
 ///
 /// # Errors
 ///
-/// Want of memory, with nothing appended. The record's bytes are copied once: O(bytes) amortized.
+/// Out of memory, with nothing appended. The record's bytes are copied once: O(bytes) amortized.
 #[tactic(auto, unfolding(crate::specs::Text::head_text))]
 pub fn write_record<A: Allocator, B: Allocator>(
     out: &mut Vec<u8, A>,
@@ -76,7 +76,7 @@ pub fn write_record<A: Allocator, B: Allocator>(
 ///
 /// # Errors
 ///
-/// Want of memory, with nothing appended. The bytes are copied once: O(bytes) amortized.
+/// Out of memory, with nothing appended. The bytes are copied once: O(bytes) amortized.
 pub fn write_frame<A: Allocator>(
     out: &mut Vec<u8, A>,
     stamp: Stamp,

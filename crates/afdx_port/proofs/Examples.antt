@@ -17,7 +17,7 @@ settings buffer max_delay = record { speed = Hundred; buffer = buffer; max_delay
 item : ℕ → ℕ → ℕ → Priority → Item
 item number stamp size priority = record { number = number; link = 1; stamp = stamp; size = size; priority = priority }
 
--- number and end of what is sent; number and instant of what is given up
+-- number and end of what is sent; number and instant of what is discarded
 ends : Settings → List Item → List (ℕ × ℕ)
 ends s feed = map (λ (x : Sent). (x.item.number, x.end)) (sent_of (service s 0 (admitted s feed)))
 
@@ -42,7 +42,7 @@ buffer_before_the_end : ends (settings 1518 500000000) (item 1 0 1518 Low ∷ it
 unfolding ends settings item reach next others
 buffer_before_the_end = refl
 
--- what is given up at an instant still takes room from an arrival of that instant
+-- what is discarded at an instant still takes room from an arrival of that instant
 buffer_beside_an_aged_item : ends (settings 1581 100000) (item 1 0 1517 Low ∷ item 2 0 64 Low ∷ item 3 122960 1518 Low ∷ []) ≡ (1, 122960) ∷ []
 unfolding ends settings item reach next others
 buffer_beside_an_aged_item = refl
@@ -55,7 +55,7 @@ buffer_after_an_aged_item : ends (settings 1581 100000) (item 1 0 1517 Low ∷ i
 unfolding ends settings item reach next others
 buffer_after_an_aged_item = refl
 
--- a wait equal to the greatest is sent, a longer one is given up
+-- a wait equal to the greatest is sent, a longer one is discarded
 age_at_the_edge : ends (settings 100000 100000) (item 1 0 1518 Low ∷ item 2 0 64 Low ∷ item 3 23040 64 Low ∷ []) ≡ (1, 123040) ∷ (3, 129760) ∷ []
 unfolding ends settings item reach next others
 age_at_the_edge = refl

@@ -1,4 +1,4 @@
--- What has gone from the buffer: told by what was sent and given up in the end, whose instants do not fall.
+-- What has gone from the buffer: told by what was sent and discarded in the end, whose instants do not fall.
 use Rattle.std.proofs.Common.{◌≡◌, ℕ, suc, zero, ◌+◌, ◌<◌, ◌≤◌, Bool, true, false, cond, List, [], ◌∷◌, ◌++◌, refl, ap, sym, subst, ◌∙◌, arith}
 use Rattle.std.specs.Prelude.{max, filter, nat_lt, nat_le, not, sum_by, All, AllPairs}
 use Rattle.std.specs.List.{AllByRecursion}
@@ -34,7 +34,7 @@ gone_before s t items =
     ∙ sum_by-append (λ event. (item_of event).size) (filter (is_gone t) done) (filter (is_gone t) rest) in
     omega (arith, parts, none)
 
--- by what was sent and given up
+-- by what was sent and discarded
 gone_is : (t : ℕ) (es : List Event) → bytes (filter (is_gone t) es) ≡ gone t (sent_of es) (aged_of es)
 gone_is t [] = refl
 gone_is t (sending x ∷ es) =

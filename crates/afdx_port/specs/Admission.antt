@@ -4,7 +4,7 @@ use Rattle.afdx_port.specs.declared.Settings.{Settings}
 use Rattle.afdx_port.specs.declared.Item.{Item}
 use Rattle.afdx_port.specs.Service.{came, Event, sending, aging, item_of, service, before}
 
--- the item's room is free again for an arrival at t: its sending ended by t, or it was given up before t
+-- the item's room is free again for an arrival at t: its sending ended by t, or it was discarded before t
 abbrev pub is_gone : ℕ → Event → Bool
 is_gone t (sending s) = nat_le s.end t
 is_gone t (aging a) = nat_lt a.at t

@@ -10,7 +10,7 @@ use Rattle.afdx_port.specs.declared.Item.{Item}
 use Rattle.afdx_port.specs.declared.Sent.{Sent}
 use Rattle.afdx_port.specs.declared.Aged.{Aged}
 
--- what becomes of an item: it is sent, or given up for its age
+-- what becomes of an item: it is sent, or discarded for its age
 pub data Event : Type 0 where
   sending : Sent → Event
   aging : Aged → Event
@@ -56,7 +56,7 @@ turn s b items = unwrap_or (position (is_urgent s b) items) 0
 abbrev pub in_turn : Settings → ℕ → Item → List Item → Item
 in_turn s free first rest = slice_index_or (first ∷ rest) (turn s (max free (came s first)) (first ∷ rest)) first
 
--- profile: what becomes of x at b: it is given up where it has waited longer than max_delay, and takes no line time; else it is
+-- profile: what becomes of x at b: it is discarded where it has waited longer than max_delay, and takes no line time; else it is
 -- sent, and the line is free again after its line time
 abbrev pub fate : Settings → ℕ → Item → Event
 fate s b x = if nat_lt s.max_delay (b - x.stamp) then aging (record { item = x; at = b }) else sending (record { item = x; begin = b; end = b + cost_of s.speed x.size })
@@ -84,7 +84,7 @@ service s free items = serve (length items) s free items
 abbrev pub before : ℕ → List Event → List Event
 before t events = filter (λ event. nat_lt (instant event) t) events
 
--- what is sent, and what is given up, in order
+-- what is sent, and what is discarded, in order
 abbrev pub sent_of : List Event → List Sent
 sent_of [] = []
 sent_of (sending s ∷ events) = s ∷ sent_of events

@@ -25,7 +25,7 @@ pub record IsSound {Z : Type 0} (line : Line Z) : Type 0 where
   pub bytes : sum_by (λ item. item.size) (queue_of line) ≤ line.settings.buffer
   pub start : 0 < count_of line.waiting → line.ready < stamp_end
 
--- so many more items can be taken, and whatever waits be sent or given up, with no list growing
+-- so many more items can be taken, and whatever waits be sent or discarded, with no list growing
 pub record HasRoom {Z : Type 0} (room : ℕ) (line : Line Z) : Type 0 where
   pub place : HasPlace room line.waiting
   pub sent : vec_len line.sent + count_of line.waiting + room ≤ vec_capacity line.sent

@@ -31,7 +31,7 @@ taken_by t (aging x) = 0
 abbrev pub line_time : ℕ → Settings → List Item → ℕ
 line_time t s items = sum_by (taken_by t) (service s 0 items)
 
--- no item is given up before t
+-- no item is discarded before t
 abbrev pub NoneAged : Settings → ℕ → List Item → Type 0
 NoneAged s t items = aged_of (before t (service s 0 items)) ≡ []
 
@@ -64,7 +64,7 @@ WorkGrows = (s : Settings) (t : ℕ) (items : List Item) (x : Item) → t ≤ ca
 abbrev pub WorkBoundsBytes : Type 0
 WorkBoundsBytes = (s : Settings) (t most : ℕ) (items : List Item) → All (λ item. item_cost s item ≤ most) items → tick_of s.speed * occupied s t items ≤ work s t items + most
 
--- while no high item is given up, the high work falls, save that a low item may be begun where there is none
+-- while no high item is discarded, the high work falls, save that a low item may be begun where there is none
 abbrev pub HighWorkFalls : Type 0
 HighWorkFalls = (s : Settings) (t u most : ℕ) (items : List Item) → t ≤ u → HaveCome s t items → NoneAged s u items
     → All (λ item. is_high item.priority ≡ false → item_cost s item ≤ most) items

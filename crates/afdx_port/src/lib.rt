@@ -1,8 +1,8 @@
-//! One output port: what waits, whose turn it is, what is sent and what is given up for its age.
+//! One output port: what waits, whose turn it is, what is sent and what is discarded for its age.
 //!
 //! A port has one line, a queue for each of the two priorities and one buffer for both. The line takes
 //! high items before low ones, each priority in order of arrival, and interrupts none (ARINC 664 Part 7);
-//! an item that has waited for more than the greatest delay is given up where it would start (profile).
+//! an item that has waited for more than the greatest delay is discarded where it would start (profile).
 //! An item is queued one latency after its stamp, from which its age is counted (profile).
 //!
 //! Contracts speak of the *service* of all items that the port admitted: a list of events that is
@@ -32,7 +32,7 @@ pub struct Settings {
     pub speed: Speed,
     /// Bytes that may wait or be on the line: at most 16,777,216.
     pub buffer: u32,
-    /// Nanoseconds from an item's stamp to its start, past which it is given up: at most 500,000,000.
+    /// Nanoseconds from an item's stamp to its start, past which it is discarded: at most 500,000,000.
     pub max_delay: u64,
     /// Nanoseconds from an item's stamp until it is queued: at most 100,000.
     pub latency: u64,
@@ -62,7 +62,7 @@ pub struct Sent {
     pub end: Stamp,
 }
 
-/// An item that was given up for its age.
+/// An item that was discarded for its age.
 #[derive(Clone, Copy, Debug, PartialEq, Eq)]
 pub struct Aged {
     pub item: Item,
@@ -88,7 +88,7 @@ impl Settings {
         to.ns() + self.latency
     }
 
-    /// What becomes of an item whose turn it is at the instant: it is sent, or given up for its age.
+    /// What becomes of an item whose turn it is at the instant: it is sent, or discarded for its age.
     fn fate(&self, at: Stamp, item: Item) -> Result<Sent, Aged>
         requires delay { self.now.max_delay ≤ 500000000 }
         requires small { IsSmall item }

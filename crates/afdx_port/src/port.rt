@@ -73,7 +73,7 @@ impl<A: Allocator + Copy> Port<A> {
     }
 
     /// Makes room for so many further offers, in the queues and in the lists of what was admitted,
-    /// sent and given up, so that no other call takes memory.
+    /// sent and discarded, so that no other call takes memory.
     ///
     /// An error says that a growth was refused; the content is as before then. O(items held) where a
     /// list moves.
@@ -107,7 +107,7 @@ impl<A: Allocator + Copy> Port<A> {
     /// Carries out the events before the instant at which the item is queued, one latency after its stamp, and queues it
     /// where the buffer has room.
     ///
-    /// An item occupies its size until its end, or until the instant at which it is given up has
+    /// An item occupies its size until its end, or until the instant at which it is discarded has
     /// passed (profile). O(1), and O(1) for each event.
     pub fn offer(&mut self, item: Item) -> Offer
         requires room { 0 < self.old.room }
@@ -206,7 +206,7 @@ impl<A: Allocator + Copy> Port<A> {
         &self.line.sent
     }
 
-    /// What was given up for its age so far, in order. O(1).
+    /// What was discarded for its age so far, in order. O(1).
     pub fn aged(&self) -> &[Aged]
         ensures { result.now ≡ aged_of (done self.now.content) }
     {

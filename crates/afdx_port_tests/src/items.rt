@@ -37,7 +37,7 @@ fn end_at(port: &Port<Global>, place: usize) -> Option<(usize, u64)> {
     Some((sent.item.number, sent.end.ns()))
 }
 
-/// The number of the item that was given up at this place, and when.
+/// The number of the item that was discarded at this place, and when.
 fn aged_at(port: &Port<Global>, place: usize) -> Option<(usize, u64)> {
     let aged = port.aged().get(place)?;
     Some((aged.item.number, aged.at.ns()))
@@ -141,7 +141,7 @@ fn second_in_buffer(alloc: Global, at: u64) -> Result<(Offer, Option<(usize, u64
     Ok((answer, end_at(&port, 1)))
 }
 
-/// The answer to an item that comes about when another is given up, and what became of both.
+/// The answer to an item that comes about when another is discarded, and what became of both.
 fn third_beside_aged(
     alloc: Global,
     at: u64,

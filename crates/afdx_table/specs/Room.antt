@@ -1,4 +1,4 @@
--- Where want of memory may be answered.
+-- Where a refusal for memory may be answered.
 use Rattle.std.specs.Prelude.{◌≡◌, ◌⊎◌, ℕ, List, Some, Result, Ok}
 use Rattle.std.specs.Str.{IsUtf8}
 use Rattle.toml.specs.Data.{Data, array, Items, item, Members, get_member}

@@ -42,7 +42,7 @@ sent_late t (sending y ∷ events) x sent late is =
 not_both : {A : Type 0} → false ≡ true → A
 not_both e = absurd (cc)
 
--- whether the first of some events was given up
+-- whether the first of some events was discarded
 abbrev pub starts_aged : List Event → Bool
 starts_aged [] = false
 starts_aged (sending x ∷ events) = false

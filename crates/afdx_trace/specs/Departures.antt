@@ -30,7 +30,7 @@ abbrev pub sent_line : ℕ → Settings → ℕ → Sent → List ℕ
 sent_line port s number x = decimal port ++ field (decimal number) ++ item_fields s x.item
     ++ flat_map field (decimal x.begin ∷ decimal x.end ∷ decimal (x.end - x.item.stamp) ∷ codes "sent\n" ∷ [])
 
--- a copy that a port gave up for its age at an instant: it is no record, and leaves at none
+-- a copy that a port discarded for its age at an instant: it is no record, and leaves at none
 abbrev pub aged_line : ℕ → Settings → Aged → List ℕ
 aged_line port s x = decimal port ++ field [] ++ item_fields s x.item ++ flat_map field (decimal x.at ∷ [] ∷ [] ∷ codes "aged\n" ∷ [])
 
@@ -49,7 +49,7 @@ departures_text r = departures_heading ++ flat_map (port_lines r) r.table.ports
 
 -- ---- the order of events
 
--- the next of two lists of events, in order, is one that was given up
+-- the next of two lists of events, in order, is one that was discarded
 abbrev pub ages_next : List Sent → List Aged → Bool
 ages_next sent [] = false
 ages_next [] (a ∷ aged) = true

@@ -9,7 +9,7 @@ use Rattle.afdx_core.specs.State.{Run, offers_of}
 use Rattle.afdx_trace.specs.Arrivals.{full_in}
 use Rattle.afdx_trace.specs.Departures.{AreInOrder}
 
--- what a port has carried out is in order of its instants: where a copy is given up at the instant at which another is sent, it comes first
+-- what a port has carried out is in order of its instants: where a copy is discarded at the instant at which another is sent, it comes first
 abbrev pub EventsAreInOrder : Type 0
 EventsAreInOrder = (c : Content) → AreInOrder (done c)
 

@@ -1,4 +1,4 @@
-//! The copies that ports sent or gave up.
+//! The copies that ports sent or discarded.
 
 ghost use Rattle.std.specs.Prelude.{◌≡◌, ◌+◌, ◌<◌, ◌≤◌, ◌∷◌, ◌++◌, List, length, Some, false, IsTrue, string_bytes, IfOk, OnOk};
 ghost use Rattle.afdx_table.specs.Content.{port_row};
@@ -75,7 +75,7 @@ fn put_sent<A: Allocator + Copy>(
     put_word(text, "sent\n")
 }
 
-/// Appends the line of a copy that a port gave up.
+/// Appends the line of a copy that a port discarded.
 fn put_aged<A: Allocator + Copy>(
     text: &mut String<A>,
     port: u8,
@@ -92,7 +92,7 @@ fn put_aged<A: Allocator + Copy>(
     put_word(text, ",,aged\n")
 }
 
-/// Whether the next event is one of those that were given up.
+/// Whether the next event is one of those that were discarded.
 fn ages_next(sent: &[Sent], aged: &[Aged]) -> bool
     ensures { result ≡ ages_next sent.now aged.now }
 {
@@ -168,7 +168,7 @@ fn put_port<A: Allocator + Copy, B: Allocator + Copy>(
     )
 }
 
-/// A line for each copy that a port sent or gave up, after a heading: for each port by rising number its events in order.
+/// A line for each copy that a port sent or discarded, after a heading: for each port by rising number its events in order.
 ///
 /// An error says that a growth was refused. O(copies + ports).
 pub fn departures<A: Allocator + Copy, B: Allocator + Copy>(

@@ -4,7 +4,7 @@ ghost use Rattle.afdx_trace.specs.Laws.{EventsAreInOrder, FullIsExact};
 
 use afdx_port::laws::each_has_one_event;
 
-/// The events of a port are in order of their instants, and a copy that is given up at the instant at which another starts
+/// The events of a port are in order of their instants, and a copy that is discarded at the instant at which another starts
 /// comes before it.
 pub fn events_are_in_order()
     ensures { EventsAreInOrder }

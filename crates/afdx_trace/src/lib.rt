@@ -1,6 +1,6 @@
 //! What became of each arrival and of each copy of a run, as comma-separated values (profile).
 //!
-//! [`arrivals`] has a line for each arrival, and [`departures`] one for each copy that a port sent or gave up. Both are made
+//! [`arrivals`] has a line for each arrival, and [`departures`] one for each copy that a port sent or discarded. Both are made
 //! of the finished switch, after the run. Contracts say that the texts are those of the definitions.
 #![tactic(auto)]
 

@@ -54,7 +54,7 @@ fn mark_aged(flags: &mut [bool], aged: &[Aged])
     }
 }
 
-/// The flags of the arrivals so far whose copies a port sent or gave up; none where it did neither.
+/// The flags of the arrivals so far whose copies a port sent or discarded; none where it did neither.
 fn flags_of<A: Allocator + Copy>(
     alloc: A,
     count: usize,
