@@ -1,13 +1,18 @@
 -- What a run did, and why it was not done.
-use Rattle.std.proofs.Common.{◌≡◌, ℕ, Bool, true, false, not, List, Option, Result, Ok, Err, sym, ap, subst, ◌∙◌, inr}
+use Rattle.std.proofs.Common.{◌≡◌, ℕ, not, List, Option, Result, Ok, Err, refl, sym, ap, subst, ◌∙◌, inr}
 use Rattle.std.specs.Prelude.{MatchResult, IsErr, IsErrAnd}
 use Rattle.std.proofs.Common.{map, length, Vec, String, Global}
 use Rattle.std.specs.Prelude.{string_bytes}
 use Rattle.std.proofs.lemmas.List.{length-map}
+use Rattle.std.proofs.lemmas.Simd.{map-map}
+use Rattle.afdx_table.specs.declared.rows.PortRow.{PortRow}
+use Rattle.afdx_core.specs.Merge.{Arrival, merged}
 use Rattle.afdx_table.specs.Content.{Content}
-use Rattle.afdx_session.specs.Texts.{Text, texts_of}
+use Rattle.afdx_session.specs.Texts.{Text, texts_of, AreOfPorts}
+use Rattle.afdx_session.specs.Output.{output_text, outputs}
+use Rattle.afdx_session.specs.Carried.{Rest, IsCarried, results_of}
 use Rattle.afdx_session.specs.Outcome.{Results, IsOutcome}
-use Rattle.afdx_session.specs.Headline.{IsIsolated}
+use Rattle.afdx_session.specs.Headline.{AcceptedRunsIsolate}
 use Rattle.afdx_words.specs.declared.request.Paths.{Paths}
 use Rattle.afdx_words.specs.declared.request.Inputs.{Inputs}
 use Rattle.afdx_serve.specs.declared.failure.Failure.{Failure}
@@ -73,7 +78,7 @@ module _ (inputs : Inputs) (a b : Option Files) (t : Content) (first before afte
   not_gathered failure.Write h = absurd h
 
   module _ (captures : List Text) (got : HasCaptures b inputs.input.now t captures) (count : after ≡ before) where
-    has_captures : HasCaptures a inputs.input.now t captures
+    pub has_captures : HasCaptures a inputs.input.now t captures
     has_captures = (got.0, ShowsAll-before a b _ _ keeps got.1)
 
     not_led : (f : Failure) → FailsToLead f t captures → FailsToGather f inputs a first after
@@ -91,24 +96,39 @@ module _ (inputs : Inputs) (a b : Option Files) (t : Content) (first before afte
     -- what the captures lead to is what the files lead to
     leads_as : {X : Type 0} (P Q : X → Type 0) → ((x : X) → P x → Q x) → (r : Result X Failure) → MatchResult r P (λ f. FailsToLead f t captures)
         → MatchResult r (λ x. Q x × (after ≡ first)) (λ f. FailsToGather f inputs a first after)
-    leads_as P Q as (Ok x) h = (as x h, count ∙ same)
-    leads_as P Q as (Err f) h = not_led f h
+    leads_as P Q makes (Ok x) h = (makes x h, count ∙ same)
+    leads_as P Q makes (Err f) h = not_led f h
 
     pub measured : (r : Result (String Global) Failure) → MatchResult r (λ text. IsMeasured (not inputs.unchecked) t captures (string_bytes text)) (λ f. FailsToLead f t captures)
         → MatchResult r (λ text. MeasuresTo inputs a (string_bytes text) × (after ≡ first)) (λ f. FailsToGather f inputs a first after)
     measured = leads_as (λ text. IsMeasured (not inputs.unchecked) t captures (string_bytes text)) (λ text. MeasuresTo inputs a (string_bytes text))
         (λ text h. record { table = t; captures = captures; has_plan = plan; has_captures = has_captures; measured = h })
 
-module _ (paths : Paths) (a b : Option Files) (t : Content) (first before after : DeviceLog) (plan : HasPlan a (inputs_of paths) t) (keeps : KeepsFiles a b) (same : before ≡ first) where
-  pub gathered : (captures : List Text) → HasCaptures b paths.input.now t captures → after ≡ before → (cleared : Bool) → cleared ≡ not paths.unchecked → (r : Result Results Failure)
-      → MatchResult r (λ o. IsOutcome t captures o × (cleared ≡ true → IsIsolated t captures o)) (λ f. FailsToLead f t captures)
-      → MatchResult r (λ o. LeadsTo paths a o × (after ≡ first)) (λ f. FailsToGather f (inputs_of paths) a first after)
-  gathered captures got count cleared is =
-      leads_as (inputs_of paths) a b t first before after plan keeps same captures got count (λ o. IsOutcome t captures o × (cleared ≡ true → IsIsolated t captures o)) (LeadsTo paths a)
-      (λ o h. record {
-        table = t; captures = captures; has_plan = plan;
-        has_captures = has_captures (inputs_of paths) a b t first before after plan keeps same captures got count;
-        outcome = h.0; isolated = λ (checked : paths.unchecked ≡ false). h.1 (is ∙ ap not checked) })
+    -- the captures lead to nothing
+    pub not_led_to : (f : Failure) → FailsToLead f t captures → FailsToGather f inputs a first after
+    not_led_to = not_led
+
+-- what the run of the captures leads to is what the files lead to
+pub leads : AcceptedRunsIsolate → (paths : Paths) (files : Option Files) (t : Content) (captures : List Text) (rest : Rest) → HasPlan files (inputs_of paths) t → HasCaptures files paths.input.now t captures → (carried : IsCarried t captures rest)
+    → LeadsTo paths files (results_of t (merged carried.read))
+leads isolate paths files t captures rest plan got carried = record {
+  table = t;
+  captures = captures;
+  has_plan = plan;
+  has_captures = got;
+  outcome = outcome;
+  isolated = λ checked. isolate t captures (results_of t (merged carried.read)) carried.left.formed (plan.1 checked) outcome;
+} where
+  outcome : IsOutcome t captures (results_of t (merged carried.read))
+  outcome = record { ports = carried.ports; read = carried.read; are_read = carried.are_read; captures = refl; counts = refl }
+
+-- the names of the outputs are those of the captures
+pub same_names : (path : List ℕ) (t : Content) (arrivals : List Arrival) (captures : List Text) → AreOfPorts t captures → names_in path captures ≡ names_in path (outputs t arrivals)
+same_names path t arrivals captures ports =
+    sym (map-map (capture_name path) (λ (x : Text). x.0) captures)
+    ∙ ap (map (capture_name path)) ports
+    ∙ map-map (capture_name path) (λ (p : PortRow). p.id) t.ports
+    ∙ sym (map-map (λ (x : Text). capture_name path x.0) (λ (p : PortRow). (p.id, output_text t arrivals p)) t.ports)
 
 -- there are as many names as captures
 pub same_count : {Z : Type 0} (path : List ℕ) (names : List (String Global)) (captures : List (ℕ × Vec ℕ Z)) → map (λ (s : String Global). string_bytes s) names ≡ names_in path (texts_of captures)

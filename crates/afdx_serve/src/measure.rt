@@ -41,11 +41,7 @@ fn tell(
 }
 
 /// What is told of the files of a run.
-fn gather<F: Folder>(
-    alloc: Global,
-    inputs: &Inputs<'_>,
-    folder: &mut F,
-) -> Result<String, Failure>
+fn gather<F: Folder>(alloc: Global, inputs: &Inputs<'_>, folder: &mut F) -> Result<String, Failure>
     ensures led { MatchResult result
         (λ text. MeasuresTo inputs.now (F.files folder.old) (string_bytes text) × (F.failed folder.new ≡ F.failed folder.old))
         (λ f. FailsToGather f inputs.now (F.files folder.old) (F.failed folder.old) (F.failed folder.new)) }

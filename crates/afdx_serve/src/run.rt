@@ -3,10 +3,11 @@
 ghost use Rattle.std.specs.Prelude.{◌≡◌, true, false, not, IfOk, MatchResult, string_bytes};
 ghost use Rattle.afdx_load.specs.Accepted.{IsAccepted};
 ghost use Rattle.afdx_session.specs.Texts.{texts_of, AreOfPorts};
-ghost use Rattle.afdx_session.specs.Outcome.{table_in, is_cleared, IsOutcome};
-ghost use Rattle.afdx_session.specs.Headline.{IsIsolated};
+ghost use Rattle.afdx_count.specs.Report.{report_of};
+ghost use Rattle.afdx_session.specs.Outcome.{table_in, is_cleared};
+ghost use Rattle.afdx_session.specs.Carried.{IsCarried};
 ghost use Rattle.afdx_serve.specs.Files.{KeepsFiles};
-ghost use Rattle.afdx_serve.specs.Runs.{LeadsTo, FailsToPlan, FailsToLead, FailsToGather, inputs_of, report_in};
+ghost use Rattle.afdx_serve.specs.Runs.{HasPlan, HasCaptures, FailsToPlan, FailsToLead, FailsToGather, inputs_of};
 ghost use Rattle.afdx_serve.specs.Serving.{world, Runs, FailsToRunAll};
 
 use crate::failure::Failure;
@@ -14,8 +15,9 @@ use crate::folder::Folder;
 use crate::get::{get_captures, get_table};
 use crate::names::names_in;
 use crate::output::write_bytes;
-use crate::put::put_captures;
-use afdx_session::{Outcome, Plan};
+use crate::put::put_outputs;
+use afdx_session::laws::accepted_runs_isolate;
+use afdx_session::{Carried, Plan};
 use afdx_table::Table;
 use afdx_words::Paths;
 use std::alloc::{AllocError, Global};
@@ -36,47 +38,52 @@ pub(crate) fn plan(table: Table, unchecked: bool) -> Result<Plan, Failure>
     }
 }
 
-/// What captures of the table's ports lead to; the headline holds of it, where the plan was checked.
-fn lead(alloc: Global, plan: Plan, captures: &[(u8, Vec<u8>)]) -> Result<Outcome<Global>, Failure>
+/// What captures of the table's ports lead to, still to be written.
+fn lead<'a>(
+    alloc: Global,
+    plan: Plan,
+    captures: &'a [(u8, Vec<u8>)],
+) -> Result<Carried<'a, Global>, Failure>
     requires { AreOfPorts (table_in plan) (texts_of captures.now) }
     ensures { MatchResult result
-        (λ outcome. IsOutcome (table_in plan) (texts_of captures.now) outcome
-        × (is_cleared plan ≡ true → IsIsolated (table_in plan) (texts_of captures.now) outcome))
+        (λ carried. IsCarried (table_in plan) (texts_of captures.now) carried)
         (λ f. FailsToLead f (table_in plan) (texts_of captures.now)) }
 {
-    let outcome = afdx_session::run(alloc, plan, captures)?;
-    Ok(outcome)
+    let carried = afdx_session::carried(alloc, plan, captures)?;
+    Ok(carried)
 }
 
-/// What the files of a run lead to.
+/// The plan of a run, and the captures of its table's ports, by rising number.
 fn gather<F: Folder>(
     alloc: Global,
     paths: &Paths<'_>,
     folder: &mut F,
-) -> Result<Outcome<Global>, Failure>
-    ensures led { MatchResult result
-        (λ outcome. LeadsTo paths.now (F.files folder.old) outcome × (F.failed folder.new ≡ F.failed folder.old))
+) -> Result<(Plan, Vec<(u8, Vec<u8>)>), Failure>
+    ensures got { MatchResult result
+        (λ both. HasPlan (F.files folder.old) (inputs_of paths.now) (table_in both.0)
+        × HasCaptures (F.files folder.old) paths.now.input.now (table_in both.0) (texts_of both.1.items) × (F.failed folder.new ≡ F.failed folder.old))
         (λ f. FailsToGather f (inputs_of paths.now) (F.files folder.old) (F.failed folder.old) (F.failed folder.new)) }
     ensures same { KeepsFiles (F.files folder.old) (F.files folder.new) }
 {
     let table = get_table(alloc, folder, paths.table)?;
     let plan = plan(table, paths.unchecked)?;
     let captures = get_captures(alloc, folder, paths.input, plan.table())?;
-    lead(alloc, plan, &captures)
+    Ok((plan, captures))
 }
 
 /// The report of a run.
-fn report_text(alloc: Global, outcome: &Outcome<Global>) -> Result<String, AllocError>
-    ensures { IfOk result (λ text. string_bytes text ≡ report_in outcome.now) }
+fn report_text(alloc: Global, carried: &Carried<'_, Global>) -> Result<String, AllocError>
+    ensures { IfOk result (λ text. string_bytes text ≡ report_of carried.now.counts) }
 {
-    outcome.counts.report(alloc)
+    carried.counts().report(alloc)
 }
 
 /// Runs the switch over the captures of a folder, puts what they lead to into another, and writes the report.
 ///
 /// The table is got first and, unless the run is unchecked, its load checked; then each port's capture is got by rising
-/// number; then what they lead to is put in the same order; then the report is written. All names and the report's text
-/// are made before the first put. After a put that failed the files before it stand, and no later one is put.
+/// number; then what they lead to is put in the same order, one output after the other, so that no more than one is held;
+/// then the report is written. All names and the report's text are made before the first put. After a put that failed, and
+/// where no memory is left for an output, the files before it stand, and no later one is put.
 ///
 /// # Errors
 ///
@@ -96,10 +103,12 @@ pub(crate) fn run<O: Write, F: Folder>(
         (λ f. FailsToRunAll f paths.now
         (world (O.contents out.old) (F.files folder.old) (F.failed folder.old)) (world (O.contents out.new) (F.files folder.new) (F.failed folder.new))) }
 {
-    let outcome = gather(alloc, paths, folder)?;
-    let names = names_in(alloc, paths.output, &outcome.captures)?;
-    let report = report_text(alloc, &outcome)?;
-    put_captures(alloc, folder, &names, &outcome.captures)?;
+    accepted_runs_isolate();
+    let (plan, captures) = gather(alloc, paths, folder)?;
+    let mut carried = lead(alloc, plan, &captures)?;
+    let names = names_in(alloc, paths.output, &captures)?;
+    let report = report_text(alloc, &carried)?;
+    put_outputs(alloc, folder, &names, &mut carried)?;
     write_bytes(out, report.as_bytes())?;
     Ok(())
 }

@@ -1,14 +1,14 @@
-use Rattle.std.proofs.Common.{sym, subst}
+use Rattle.std.proofs.Common.{sym, subst, ◌∙◌}
 use Rattle.afdx_table.specs.Content.{Content}
 use Rattle.afdx_load.specs.Accepted.{IsAccepted}
 use Rattle.afdx_session.specs.Texts.{texts_of}
-use Rattle.afdx_session.specs.Outcome.{table_in, is_cleared}
+use Rattle.afdx_session.specs.Outcome.{table_in}
 use Rattle.afdx_serve.specs.Runs.{inputs_of, HasTable, HasPlan, HasCaptures, FailsToGetAll}
-use Rattle.afdx_serve.proofs.RunLemmas.{of_error, not_gathered, gathered}
+use Rattle.afdx_serve.proofs.RunLemmas.{of_error, not_gathered, has_captures}
 use Rattle.afdx_serve.proofs.run.gather.Goals as goal
 
-pub returns-in_err-captures-clause-led : goal.returns-in_err-captures-clause-led
-returns-in_err-captures-clause-led g c =
+pub returns-in_err-captures-clause-got : goal.returns-in_err-captures-clause-got
+returns-in_err-captures-clause-got g c =
     let files = g.F.Folder.files c.args.folder.now in
     let paths = c.args.paths.now in
     let t = table_in c.in_ok-plan.plan in
@@ -19,8 +19,8 @@ returns-in_err-captures-clause-led g c =
     of_error _ _ _ c.in_err-captures.field-0.0 c.from_residual-in_err-captures.ensures
     (not_gathered (inputs_of paths) files _ t _ _ _ plan c.in_ok-table.ensures.same c.in_ok-table.ensures.got.1 c.in_err-captures.field-0.0 fails)
 
-pub returns-clause-led : goal.returns-clause-led
-returns-clause-led g c =
+pub returns-clause-got : goal.returns-clause-got
+returns-clause-got g c =
     let files = g.F.Folder.files c.args.folder.now in
     let paths = c.args.paths.now in
     let t = table_in c.in_ok-plan.plan in
@@ -29,5 +29,4 @@ returns-clause-led g c =
     (subst (λ (x : Content). HasTable files paths.table.now x) (sym same) c.in_ok-table.ensures.got.0, λ checked. subst (λ (x : Content). IsAccepted x) (sym same) (c.in_ok-plan.ensures.2 checked)) in
     let captures = texts_of c.in_ok-captures.captures.items in
     let got = subst (λ (x : Content). HasCaptures (g.F.Folder.files c.get_table.new.folder) paths.input.now x captures) c.table.ensures.table c.in_ok-captures.ensures.got.0 in
-    let led = rw c.deref.ensures.value at c.lead.ensures in
-    gathered paths files _ t _ _ _ plan c.in_ok-table.ensures.same c.in_ok-table.ensures.got.1 captures got c.in_ok-captures.ensures.got.1 (is_cleared c.in_ok-plan.plan) c.in_ok-plan.ensures.1 c.lead.result led
+    (plan, has_captures (inputs_of paths) files _ t _ _ _ plan c.in_ok-table.ensures.same c.in_ok-table.ensures.got.1 captures got c.in_ok-captures.ensures.got.1, c.in_ok-captures.ensures.got.1 ∙ c.in_ok-table.ensures.got.1)
