@@ -1,5 +1,5 @@
 -- What a run did, and why it was not done.
-use Rattle.std.proofs.Common.{◌≡◌, ℕ, not, List, Option, Result, Ok, Err, refl, sym, ap, subst, ◌∙◌, inr}
+use Rattle.std.proofs.Common.{◌≡◌, ℕ, not, List, Option, Result, Ok, Err, refl, sym, ap, subst, ◌∙◌, inl, inr}
 use Rattle.std.specs.Prelude.{MatchResult, IsErr, IsErrAnd}
 use Rattle.std.proofs.Common.{map, length, Vec, String, Global}
 use Rattle.std.specs.Prelude.{string_bytes}
@@ -104,9 +104,19 @@ module _ (inputs : Inputs) (a b : Option Files) (t : Content) (first before afte
     measured = leads_as (λ text. IsMeasured (not inputs.unchecked) t captures (string_bytes text)) (λ text. MeasuresTo inputs a (string_bytes text))
         (λ text h. record { table = t; captures = captures; has_plan = plan; has_captures = has_captures; measured = h })
 
-    -- the captures lead to nothing
-    pub not_led_to : (f : Failure) → FailsToLead f t captures → FailsToGather f inputs a first after
-    not_led_to = not_led
+-- captures lead to nothing, and nothing was put or written
+pub not_led_run : (paths : Paths) (a b : Option Files) (t : Content) (captures : List Text) (first after : DeviceLog) → HasPlan a (inputs_of paths) t → HasCaptures a paths.input.now t captures → KeepsFiles a b → after ≡ first
+    → (w v : Option (List ℕ)) → Keeps w v → (f : Failure) → FailsToLead f t captures → FailsToRunAll f paths (world w a first) (world v b after)
+not_led_run paths a b t captures first after plan got keeps count w v none (failure.PortCapture p r) h = (((t, captures, plan, got, h, count), keeps), none)
+not_led_run paths a b t captures first after plan got keeps count w v none failure.Memory h = (inl keeps, none)
+not_led_run paths a b t captures first after plan got keeps count w v none failure.Usage h = absurd h
+not_led_run paths a b t captures first after plan got keeps count w v none (failure.Table r) h = absurd h
+not_led_run paths a b t captures first after plan got keeps count w v none (failure.Capture r) h = absurd h
+not_led_run paths a b t captures first after plan got keeps count w v none (failure.Load r) h = absurd h
+not_led_run paths a b t captures first after plan got keeps count w v none (failure.Get s) h = absurd h
+not_led_run paths a b t captures first after plan got keeps count w v none (failure.Put s) h = absurd h
+not_led_run paths a b t captures first after plan got keeps count w v none failure.Read h = absurd h
+not_led_run paths a b t captures first after plan got keeps count w v none failure.Write h = absurd h
 
 -- what the run of the captures leads to is what the files lead to
 pub leads : AcceptedRunsIsolate → (paths : Paths) (files : Option Files) (t : Content) (captures : List Text) (rest : Rest) → HasPlan files (inputs_of paths) t → HasCaptures files paths.input.now t captures → (carried : IsCarried t captures rest)
@@ -130,9 +140,8 @@ same_names path t arrivals captures ports =
     ∙ map-map (capture_name path) (λ (p : PortRow). p.id) t.ports
     ∙ sym (map-map (λ (x : Text). capture_name path x.0) (λ (p : PortRow). (p.id, output_text t arrivals p)) t.ports)
 
--- there are as many names as captures
-pub same_count : {Z : Type 0} (path : List ℕ) (names : List (String Global)) (captures : List (ℕ × Vec ℕ Z)) → map (λ (s : String Global). string_bytes s) names ≡ names_in path (texts_of captures)
-    → length names ≡ length captures
-same_count {Z} path names captures is =
-    sym (length-map names (λ (s : String Global). string_bytes s)) ∙ ap length is ∙ length-map (texts_of captures) (λ (x : Text). capture_name path x.0)
-    ∙ length-map captures (λ (x : ℕ × Vec ℕ Z). (x.0, x.1.items))
+-- there are as many names as ports
+pub same_count : (path : List ℕ) (names : List (String Global)) (t : Content) (captures : List Text) → map (λ (s : String Global). string_bytes s) names ≡ names_in path captures → AreOfPorts t captures → length names ≡ length t.ports
+same_count path names t captures is ports =
+    sym (length-map names (λ (s : String Global). string_bytes s)) ∙ ap length is ∙ length-map captures (λ (x : Text). capture_name path x.0)
+    ∙ sym (length-map captures (λ (x : Text). x.0)) ∙ ap length ports ∙ length-map t.ports (λ (p : PortRow). p.id)
