@@ -19,7 +19,8 @@ pub record ArePut (t : Content) (arrivals : List Arrival) (names : List (String 
   pub put : PutsFiles old new (take n (map (λ (s : String Global). string_bytes s) names)) (take n (bytes_of (outputs t arrivals)))
   pub failed : now ≡ first
 
-pub none_put : (t : Content) (arrivals : List Arrival) (names : List (String Global)) (a : Option Files) (log : DeviceLog) (rest : Rest) → IsLeft t arrivals 0 rest → ArePut t arrivals names 0 a a log log rest
+pub none_put : (t : Content) (arrivals : List Arrival) (names : List (String Global)) (a : Option Files) (log : DeviceLog) (rest : Rest) → IsLeft t arrivals 0 rest
+    → ArePut t arrivals names 0 a a log log rest
 none_put t arrivals names a log rest left = record { left = left; put = PutsFiles-nil a; failed = refl }
 
 -- there are as many outputs as ports
@@ -43,8 +44,10 @@ output_at t arrivals i p is =
     ap (λ (x : Text). x.1) (get_or_from_slice_get (outputs t arrivals) i (view p) (0, []) (slice_get-map view t.ports i ∙ ap (option_map view) is))
 
 -- one more was put
-pub more_put : (t : Content) (arrivals : List Arrival) (names : List (String Global)) (i : ℕ) (p : PortRow) (d : String Global) (a b c : Option Files) (first log now : DeviceLog) (old new : Rest) (name bytes : List ℕ) → length names ≡ length t.ports → i < length names
-    → slice_get t.ports i ≡ Some p → ArePut t arrivals names i a b first log old → IsLeft t arrivals (i + 1) new → bytes ≡ output_text t arrivals p → name ≡ string_bytes (get_or names i d) → PutsFile b c name bytes → now ≡ log
+pub more_put : (t : Content) (arrivals : List Arrival) (names : List (String Global)) (i : ℕ) (p : PortRow) (d : String Global) (a b c : Option Files) (first log now : DeviceLog) (old new : Rest)
+    (name bytes : List ℕ) → length names ≡ length t.ports → i < length names
+    → slice_get t.ports i ≡ Some p → ArePut t arrivals names i a b first log old → IsLeft t arrivals (i + 1) new → bytes ≡ output_text t arrivals p → name ≡ string_bytes (get_or names i d)
+    → PutsFile b c name bytes → now ≡ log
     → ArePut t arrivals names (i + 1) a c first now new
 more_put t arrivals names i p d a b c first log now old new name bytes count lt is_port was left text named one same =
     let put = subst (λ (n : List ℕ). PutsFile b c n (get_or (outputs t arrivals) i (0, [])).1) named (subst (PutsFile b c name) (text ∙ sym (output_at t arrivals i p is_port)) one) in
@@ -55,7 +58,8 @@ more_put t arrivals names i p d a b c first log now old new name bytes count lt 
     }
 
 -- this one was not
-pub stops_here : (t : Content) (arrivals : List Arrival) (names : List (String Global)) (i : ℕ) (d : String Global) (a b c : Option Files) (first log : DeviceLog) (rest : Rest) (name : List ℕ) → i < length names → ArePut t arrivals names i a b first log rest
+pub stops_here : (t : Content) (arrivals : List Arrival) (names : List (String Global)) (i : ℕ) (d : String Global) (a b c : Option Files) (first log : DeviceLog) (rest : Rest) (name : List ℕ)
+    → i < length names → ArePut t arrivals names i a b first log rest
     → name ≡ string_bytes (get_or names i d) → KeepsOthers b c name → StopsAt name (map (λ (s : String Global). string_bytes s) names) (bytes_of (outputs t arrivals)) a c
 stops_here t arrivals names i d a b c first log rest name lt was named others =
     subst (λ (n : List ℕ). StopsAt n (map (λ (s : String Global). string_bytes s) names) (bytes_of (outputs t arrivals)) a c) (sym named)
@@ -72,10 +76,14 @@ take_all [] (suc n) le = refl
 take_all (x ∷ xs) zero le = absurd (omega (arith, le))
 take_all (x ∷ xs) (suc n) le = ap (λ ys. x ∷ ys) (take_all xs n (omega (arith, le)))
 
-pub all_are_put : (t : Content) (arrivals : List Arrival) (names : List (String Global)) (n : ℕ) (a b : Option Files) (first now : DeviceLog) (rest : Rest) → length names ≡ length t.ports → length names ≤ n → ArePut t arrivals names n a b first now rest
+pub all_are_put : (t : Content) (arrivals : List Arrival) (names : List (String Global)) (n : ℕ) (a b : Option Files) (first now : DeviceLog) (rest : Rest) → length names ≡ length t.ports
+    → length names ≤ n → ArePut t arrivals names n a b first now rest
     → PutsFiles a b (map (λ (s : String Global). string_bytes s) names) (bytes_of (outputs t arrivals)) × (now ≡ first)
 all_are_put t arrivals names n a b first now rest count le was =
-    let named : take n (map (λ (s : String Global). string_bytes s) names) ≡ map (λ (s : String Global). string_bytes s) names = take_all _ n (omega (arith, le, length-map names (λ (s : String Global). string_bytes s))) in
+    let named : take n (map (λ (s : String Global). string_bytes s) names) ≡ map (λ (s : String Global). string_bytes s) names = take_all _ n
+    (omega (arith, le, length-map names (λ (s : String Global). string_bytes s))) in
     let texts : take n (bytes_of (outputs t arrivals)) ≡ bytes_of (outputs t arrivals) =
-    take_all _ n (omega (arith, le, count, as_many t arrivals, length-map (outputs t arrivals) (λ (x : Text). x.1))) in
-    (subst (λ (ns : List (List ℕ)). PutsFiles a b ns (bytes_of (outputs t arrivals))) named (subst (PutsFiles a b (take n (map (λ (s : String Global). string_bytes s) names))) texts was.put), was.failed)
+    take_all _ n (omega (arith, le, count, as_many t arrivals, length-map (outputs t arrivals) (λ (x : Text). x.1))) in (
+      subst (λ (ns : List (List ℕ)). PutsFiles a b ns (bytes_of (outputs t arrivals))) named (subst (PutsFiles a b (take n (map (λ (s : String Global). string_bytes s) names))) texts was.put),
+      was.failed,
+    )

@@ -22,7 +22,8 @@ use Rattle.afdx_serve.specs.declared.failure.Failure.{Failure}
 use Rattle.afdx_serve.specs.declared.failure.Failure.TheVariants as failure
 use Rattle.afdx_serve.specs.Files.{Files, DeviceLog, KeepsFiles, PutsFiles, one_more}
 use Rattle.afdx_serve.specs.Measures.{IsMeasured, MeasuresTo}
-use Rattle.afdx_serve.specs.Runs.{inputs_of, IsRunOf, LeadsTo, names_in, bytes_of, StopsAt, StopsRun, FailsToPut, FailsToEnd, FailsToRun, HasPlan, FailsToGetAll, FailsToGather, FailsToLead, capture_name}
+use Rattle.afdx_serve.specs.Runs.{inputs_of, IsRunOf, LeadsTo, names_in, bytes_of, StopsAt, StopsRun, FailsToPut, FailsToEnd, FailsToRun, HasPlan, FailsToGetAll, FailsToGather, FailsToLead}
+use Rattle.afdx_serve.specs.Runs.{capture_name}
 use Rattle.afdx_serve.specs.Traces.{trace_names, trace_texts, IsTraceIn, PutsTrace, StopsTrace, FailsToTrace}
 use Rattle.std.specs.Io.KnownBytes.{Keeps}
 use Rattle.afdx_serve.specs.Serving.{world, PutsResults, FailsToRunAll}
@@ -111,7 +112,8 @@ module _ (inputs : Inputs) (a : Option Files) (plan : Plan) (captures : List Tex
   leads_as P Q turn (Ok x) h = (turn x h, count)
   leads_as P Q turn (Err f) h = not_led f h
 
-  pub measured : (r : Result (String Global) Failure) → MatchResult r (λ text. IsMeasured (not inputs.unchecked) (table_in plan) captures (string_bytes text)) (λ f. FailsToLead f (table_in plan) captures)
+  pub measured : (r : Result (String Global) Failure) → MatchResult r (λ text. IsMeasured (not inputs.unchecked) (table_in plan) captures (string_bytes text))
+      (λ f. FailsToLead f (table_in plan) captures)
       → MatchResult r (λ text. MeasuresTo inputs a (string_bytes text) × (after ≡ before)) (λ f. FailsToGather f inputs a before after)
   measured = leads_as (λ text. IsMeasured (not inputs.unchecked) (table_in plan) captures (string_bytes text)) (λ text. MeasuresTo inputs a (string_bytes text))
       (λ text h. record { table = table_in plan; captures = captures; has_plan = of.has_plan; has_captures = of.has_captures; measured = h })
@@ -157,7 +159,8 @@ module _ (paths : Paths) (texts : List (List ℕ)) (a b c : Option Files) (first
 -- captures lead to nothing, and nothing was put or written
 pub not_led_run : (paths : Paths) (a b : Option Files) (plan : Plan) (captures : List Text) (first after : DeviceLog) → IsRunOf (inputs_of paths) a plan captures → KeepsFiles a b → after ≡ first
     → (w v : Option (List ℕ)) → Keeps w v → (f : Failure) → FailsToLead f (table_in plan) captures → FailsToRunAll f paths (world w a first) (world v b after)
-not_led_run paths a b plan captures first after of keeps count w v none (failure.PortCapture p r) h = ((not_led (inputs_of paths) a plan captures first after of count (failure.PortCapture p r) h, keeps), none)
+not_led_run paths a b plan captures first after of keeps count w v none (failure.PortCapture p r)
+    h = ((not_led (inputs_of paths) a plan captures first after of count (failure.PortCapture p r) h, keeps), none)
 not_led_run paths a b plan captures first after of keeps count w v none failure.Memory h = (inl keeps, none)
 not_led_run paths a b plan captures first after of keeps count w v none failure.Usage h = absurd h
 not_led_run paths a b plan captures first after of keeps count w v none (failure.Table r) h = absurd h
@@ -169,7 +172,8 @@ not_led_run paths a b plan captures first after of keeps count w v none failure.
 not_led_run paths a b plan captures first after of keeps count w v none failure.Write h = absurd h
 
 -- what the run of the captures leads to is what the files lead to
-pub leads_to : AcceptedRunsIsolate → (paths : Paths) (files : Option Files) (plan : Plan) (captures : List Text) (rest : Rest) → IsRunOf (inputs_of paths) files plan captures → (carried : IsCarried (table_in plan) captures rest)
+pub leads_to : AcceptedRunsIsolate → (paths : Paths) (files : Option Files) (plan : Plan) (captures : List Text) (rest : Rest) → IsRunOf (inputs_of paths) files plan captures
+    → (carried : IsCarried (table_in plan) captures rest)
     → LeadsTo paths files (results_of (table_in plan) (merged carried.read))
 leads_to isolate paths files plan captures rest of carried = record {
   table = table_in plan;
@@ -191,7 +195,8 @@ same_names path t arrivals captures ports =
     ∙ sym (map-map (λ (x : Text). capture_name path x.0) (λ (p : PortRow). (p.id, output_text t arrivals p)) t.ports)
 
 -- there are as many names as ports
-pub same_count : (path : List ℕ) (names : List (String Global)) (t : Content) (captures : List Text) → map (λ (s : String Global). string_bytes s) names ≡ names_in path captures → AreOfPorts t captures → length names ≡ length t.ports
+pub same_count : (path : List ℕ) (names : List (String Global)) (t : Content) (captures : List Text) → map (λ (s : String Global). string_bytes s) names ≡ names_in path captures
+    → AreOfPorts t captures → length names ≡ length t.ports
 same_count path names t captures is ports =
     sym (length-map names (λ (s : String Global). string_bytes s)) ∙ ap length is ∙ length-map captures (λ (x : Text). capture_name path x.0)
     ∙ sym (length-map captures (λ (x : Text). x.0)) ∙ ap length ports ∙ length-map t.ports (λ (p : PortRow). p.id)

@@ -85,8 +85,10 @@ left_stays port k old new drained other =
     ∙ sym (sent_is old.run (slice_get old.run.table.ports k)))
 
 -- its output is then written, and those behind it are left
-pub writes : (t : Content) (arrivals : List Arrival) (n : ℕ) (p : PortRow) (old new : Rest) (text : Text) (before out : List ℕ) → IsLeft t arrivals n old → slice_get t.ports n ≡ Some p → slice_get old.texts n ≡ Some text → new.texts ≡ old.texts → new.counts ≡ old.counts → before ≡ text.1
-    → ((given : List Arrival) (place : ℕ) → place_of old.state.run text.0 ≡ Some place → length given ≡ length old.state.run.rows → HasBytesOf given old.state → Draws given text.0 place old.state new.state before out)
+pub writes : (t : Content) (arrivals : List Arrival) (n : ℕ) (p : PortRow) (old new : Rest) (text : Text) (before out : List ℕ) → IsLeft t arrivals n old → slice_get t.ports n ≡ Some p
+    → slice_get old.texts n ≡ Some text → new.texts ≡ old.texts → new.counts ≡ old.counts → before ≡ text.1
+    → ((given : List Arrival) (place : ℕ) → place_of old.state.run text.0 ≡ Some place → length given ≡ length old.state.run.rows → HasBytesOf given old.state
+    → Draws given text.0 place old.state new.state before out)
     → next_by new.state.run (place_of new.state.run text.0) ≡ None → IsLeft t arrivals (n + 1) new × (out ≡ output_text t arrivals p)
 writes t arrivals n p old new text before out left is_port is_text texts counts before_is draws none = (
   record {
@@ -155,7 +157,8 @@ lent_ended (text ∷ texts) [] streams lent are = absurd lent
 lent_ended (text ∷ texts) (l ∷ lanes) [] lent are = absurd are
 lent_ended (text ∷ texts) (l ∷ lanes) (s ∷ streams) lent are = (are.0.ended ∙ lent.0.closed, lent_ended texts lanes streams lent.1 are.1)
 
-lent_captures : {Z : Type 0} → TakenAreTheCapture → (texts : List Text) (lanes : List (Lane Z)) (streams : List Stream) → AreLent texts lanes → AreLanesOf lanes streams → AreCaptures texts (captures_of streams)
+lent_captures : {Z : Type 0} → TakenAreTheCapture → (texts : List Text) (lanes : List (Lane Z)) (streams : List Stream) → AreLent texts lanes → AreLanesOf lanes streams
+    → AreCaptures texts (captures_of streams)
 lent_captures law [] [] [] lent are = tt
 lent_captures law [] [] (s ∷ streams) lent are = absurd are
 lent_captures law [] (l ∷ lanes) streams lent are = absurd lent
@@ -194,7 +197,8 @@ unfolding sent_up_to sent_by
 all_sent t given p = refl
 
 -- what a lane has of the output, and what the finished switch did not hand out, are the whole
-rest_of_port : {Z : Type 0} → EventsAreInParts → ReachesInOrder → (given : List Arrival) (since : ℕ) (s : State) (p : PortRow) (place : ℕ) (l : Lane Z) → s.run.rows ≡ rows_of s.run.table given → slice_get s.run.table.ports place ≡ Some p → l.taken ≡ 0
+rest_of_port : {Z : Type 0} → EventsAreInParts → ReachesInOrder → (given : List Arrival) (since : ℕ) (s : State) (p : PortRow) (place : ℕ) (l : Lane Z) → s.run.rows ≡ rows_of s.run.table given
+    → slice_get s.run.table.ports place ≡ Some p → l.taken ≡ 0
     → IsOut s.run.table given since s p place l → l.out.items ++ flat_map record_text (map (written given) (left_at (after_finish s.run) (Some place))) ≡ output_text s.run.table given p
 rest_of_port {Z} parts reaches given since s p place l rows is_port taken out =
     ap (λ more. l.out.items ++ flat_map record_text (map (written given) more)) left_is
@@ -219,8 +223,10 @@ rest_of_port {Z} parts reaches given since s p place l rows is_port taken out =
           ∙ sent-front first rest.0
 
 -- what is left of a machine that all captures were lent to, and whose switch took all their records
-pub carried : {Z : Type 0} → EventsAreInParts → ReachesInOrder → TakenAreTheCapture → EndCountsTheRun → (t : Content) (texts : List Text) (m : Machine Z) (r : Rest) → AreOfPorts t texts → m.switch.run.table ≡ t → AreOfTable m.switch.run.table m.lanes.items → AreLent texts m.lanes.items
-    → length m.switch.run.handed ≡ length m.switch.run.table.ports → HasCome m.switch.run.table m.lanes.items m.switch m.counts → r.state.run ≡ after_finish m.switch.run → Keeps m.switch r.state → r.counts ≡ ended (after_finish m.switch.run) m.counts
+pub carried : {Z : Type 0} → EventsAreInParts → ReachesInOrder → TakenAreTheCapture → EndCountsTheRun → (t : Content) (texts : List Text) (m : Machine Z) (r : Rest) → AreOfPorts t texts
+    → m.switch.run.table ≡ t → AreOfTable m.switch.run.table m.lanes.items → AreLent texts m.lanes.items
+    → length m.switch.run.handed ≡ length m.switch.run.table.ports → HasCome m.switch.run.table m.lanes.items m.switch m.counts → r.state.run ≡ after_finish m.switch.run → Keeps m.switch r.state
+    → r.counts ≡ ended (after_finish m.switch.run) m.counts
     → r.texts ≡ map (λ (l : Lane Z). (l.port, l.out.items)) m.lanes.items → IsCarried t texts r
 carried {Z} parts reaches takes law t texts m r ports table of lent handed come run keeps counts outs = record {
   ports = ports;

@@ -29,7 +29,8 @@ returns-in_err-write g c = λ t arrivals left count.
     let files = g.F.Folder.files c.loop-place.folder in
     let named = ap (λ (x : String Global). string_bytes x) (sym (get_or_from_slice_get c.args.names.now i s.0 s.0 s.1)) in
     of_error _ _ _ Memory c.from_residual-in_err-write.ensures
-    (not_put Memory (string_bytes s.0) _ _ _ _ _ _ _ was.failed (search rules) (stops_here t arrivals c.args.names.now i s.0 _ files files _ _ _ (string_bytes s.0) lt was named (KeepsOthers-refl files (string_bytes s.0))))
+    (not_put Memory (string_bytes s.0) _ _ _ _ _ _ _ was.failed (search rules) (stops_here t arrivals c.args.names.now i s.0 _ files files _ _ _ (string_bytes s.0) lt was named
+    (KeepsOthers-refl files (string_bytes s.0))))
 
 pub returns-in_err-put : goal.returns-in_err-put
 returns-in_err-put g c = λ t arrivals left count.
@@ -48,7 +49,8 @@ loop-place-preserved g c = λ t arrivals left count.
     let port = within t.ports i (omega (arith, lt, count)) in
     let name = c.deref.ensures ∙ ap (λ (x : String Global). string_bytes x) c.index-names-place.is in
     let wrote = c.in_ok-write.ensures t arrivals port.0 was.left port.1 in
-    more_put t arrivals c.args.names.now i port.0 _ _ _ _ _ _ _ _ _ _ _ count lt port.1 was wrote.0 (c.deref-in-loop-place.ensures.value ∙ wrote.1) name c.in_ok-put.ensures.put.0 c.in_ok-put.ensures.put.1
+    more_put t arrivals c.args.names.now i port.0 _ _ _ _ _ _ _ _ _ _ _ count lt port.1 was wrote.0 (c.deref-in-loop-place.ensures.value ∙ wrote.1) name c.in_ok-put.ensures.put.0
+    c.in_ok-put.ensures.put.1
 
 pub returns : goal.returns
 returns g c = λ t arrivals left count.

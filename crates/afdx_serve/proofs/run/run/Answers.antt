@@ -30,7 +30,8 @@ put_outputs-requires g c =
     let got = rw c.inputs_of.ensures at c.in_ok-plan.ensures.got in
     let carried : IsCarried t captures c.in_ok-carried.carried = rw c.deref.ensures.value at c.in_ok-carried.ensures in
     let arrivals = merged carried.read in
-    let named : map (λ (s : String Global). string_bytes s) c.deref-3.result.now ≡ names_in path captures = ap (map (λ (s : String Global). string_bytes s)) c.deref-3.ensures.value ∙ c.in_ok-names.ensures
+    let named : map (λ (s : String Global). string_bytes s) c.deref-3.result.now ≡ names_in path captures = ap (map (λ (s : String Global). string_bytes s)) c.deref-3.ensures.value
+    ∙ c.in_ok-names.ensures
     ∙ ap (λ (cs : List (ℕ × Vec ℕ Global)). names_in path (texts_of cs)) c.deref-2.ensures.value in
     let count = same_count path c.deref-3.result.now t captures named carried.ports in
     (t, arrivals, carried.left, count)
@@ -45,7 +46,8 @@ returns-in_err-put_outputs g c =
     let got = rw c.inputs_of.ensures at c.in_ok-plan.ensures.got in
     let carried : IsCarried t captures c.in_ok-carried.carried = rw c.deref.ensures.value at c.in_ok-carried.ensures in
     let arrivals = merged carried.read in
-    let named : map (λ (s : String Global). string_bytes s) c.deref-3.result.now ≡ names_in path captures = ap (map (λ (s : String Global). string_bytes s)) c.deref-3.ensures.value ∙ c.in_ok-names.ensures
+    let named : map (λ (s : String Global). string_bytes s) c.deref-3.result.now ≡ names_in path captures = ap (map (λ (s : String Global). string_bytes s)) c.deref-3.ensures.value
+    ∙ c.in_ok-names.ensures
     ∙ ap (λ (cs : List (ℕ × Vec ℕ Global)). names_in path (texts_of cs)) c.deref-2.ensures.value in
     let count = same_count path c.deref-3.result.now t captures named carried.ports in
     let names = named ∙ same_names path t arrivals captures carried.ports in
@@ -64,7 +66,8 @@ returns-in_err-write_bytes g c =
     let got = rw c.inputs_of.ensures at c.in_ok-plan.ensures.got in
     let carried : IsCarried t captures c.in_ok-carried.carried = rw c.deref.ensures.value at c.in_ok-carried.ensures in
     let arrivals = merged carried.read in
-    let named : map (λ (s : String Global). string_bytes s) c.deref-3.result.now ≡ names_in path captures = ap (map (λ (s : String Global). string_bytes s)) c.deref-3.ensures.value ∙ c.in_ok-names.ensures
+    let named : map (λ (s : String Global). string_bytes s) c.deref-3.result.now ≡ names_in path captures = ap (map (λ (s : String Global). string_bytes s)) c.deref-3.ensures.value
+    ∙ c.in_ok-names.ensures
     ∙ ap (λ (cs : List (ℕ × Vec ℕ Global)). names_in path (texts_of cs)) c.deref-2.ensures.value in
     let count = same_count path c.deref-3.result.now t captures named carried.ports in
     let names = named ∙ same_names path t arrivals captures carried.ports in
@@ -85,7 +88,8 @@ returns g c =
     let got = rw c.inputs_of.ensures at c.in_ok-plan.ensures.got in
     let carried : IsCarried t captures c.in_ok-carried.carried = rw c.deref.ensures.value at c.in_ok-carried.ensures in
     let arrivals = merged carried.read in
-    let named : map (λ (s : String Global). string_bytes s) c.deref-3.result.now ≡ names_in path captures = ap (map (λ (s : String Global). string_bytes s)) c.deref-3.ensures.value ∙ c.in_ok-names.ensures
+    let named : map (λ (s : String Global). string_bytes s) c.deref-3.result.now ≡ names_in path captures = ap (map (λ (s : String Global). string_bytes s)) c.deref-3.ensures.value
+    ∙ c.in_ok-names.ensures
     ∙ ap (λ (cs : List (ℕ × Vec ℕ Global)). names_in path (texts_of cs)) c.deref-2.ensures.value in
     let count = same_count path c.deref-3.result.now t captures named carried.ports in
     let names = named ∙ same_names path t arrivals captures carried.ports in

@@ -47,6 +47,8 @@ returns-clause-ok g c =
     let ports = subst (λ (u : Content). AreOfPorts u texts) c.table-table.ensures.table (c.are_of_ports.ensures.are.0 c.if-not-are_of_ports.false) in
     let kept = fresh_kept c.starts_with_none.ensures (is_cleared c.args.plan) t c.in_ok-machine.machine made.formed made.accepted made.fresh.0 made.fresh.1 made.fresh.2 in
     let passed = c.in_ok-pass_on.ensures.ok in
-    carried c.events_follow_the_line.ensures.parts c.stamps_keep_their_order.ensures.instants c.taken_records_are_the_first.ensures.ends c.end_counts_the_run.ensures t texts c.pass_on.new.self c.into_carried.result ports
-    (c.pass_on.ensures.same.table ∙ ap (λ (s : State). s.run.table) made.fresh.0) passed.1 passed.2 (handed_stays c.in_ok-machine.machine.switch c.pass_on.new.self.switch c.pass_on.ensures.same kept.handed) passed.0
+    carried c.events_follow_the_line.ensures.parts c.stamps_keep_their_order.ensures.instants c.taken_records_are_the_first.ensures.ends c.end_counts_the_run.ensures t texts c.pass_on.new.self
+    c.into_carried.result ports
+    (c.pass_on.ensures.same.table ∙ ap (λ (s : State). s.run.table) made.fresh.0) passed.1 passed.2
+    (handed_stays c.in_ok-machine.machine.switch c.pass_on.new.self.switch c.pass_on.ensures.same kept.handed) passed.0
     c.into_carried.ensures.run c.into_carried.ensures.keeps c.into_carried.ensures.counts c.into_carried.ensures.texts

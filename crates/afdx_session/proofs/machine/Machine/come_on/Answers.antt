@@ -12,7 +12,8 @@ unreachable-requires g c =
     let mid = c.give_settled.new.self in
     let settled = c.in_ok-give_settled.ensures.ok in
     let limit = c.limit_of.ensures ∙ ap (λ ls. limit_at ls) c.deref.ensures.value in
-    err_told c.advance.result _ ⊥ (sym c.if-is_err.ensures.value) c.advance.ensures.err (λ e back. machine_no_back mid c.limit_of.result c.instant_of-frontier.result settled.0 limit c.instant_of-frontier.ensures back.0)
+    err_told c.advance.result _ ⊥ (sym c.if-is_err.ensures.value) c.advance.ensures.err
+    (λ e back. machine_no_back mid c.limit_of.result c.instant_of-frontier.result settled.0 limit c.instant_of-frontier.ensures back.0)
 
 pub returns-clause-same : goal.returns-clause-same
 returns-clause-same g c =

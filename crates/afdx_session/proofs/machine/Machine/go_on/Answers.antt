@@ -11,7 +11,8 @@ drain_all-requires g c = handed_stays c.args.self.now.switch c.come_on.new.self.
 pub returns-clause-touched : goal.returns-clause-touched
 returns-clause-touched g c =
     let mid = c.come_on.new.self in
-    all_touched_both c.args.self.now.lanes.items mid.lanes.items _ c.come_on.ensures.touched (touched_of mid.lanes.items _ (drained_back mid.lanes _ c.drain_all.new.lanes c.deref_mut.ensures.value c.drain_all.ensures.grown))
+    all_touched_both c.args.self.now.lanes.items mid.lanes.items _ c.come_on.ensures.touched
+    (touched_of mid.lanes.items _ (drained_back mid.lanes _ c.drain_all.new.lanes c.deref_mut.ensures.value c.drain_all.ensures.grown))
 
 pub returns-clause-same : goal.returns-clause-same
 returns-clause-same g c =
@@ -22,5 +23,6 @@ pub returns-clause-ok : goal.returns-clause-ok
 returns-clause-ok g c =
     let mid = c.come_on.new.self in
     on_ok_weaker c.drain_all.result
-    (λ out. machine_runs mid mid.switch c.drain_all.new.switch c.deref_mut.result.now c.drain_all.new.lanes c.in_ok-come_on.ensures.ok (touched_table c.args.self.now mid c.come_on.ensures.touched c.come_on.ensures.same c.requires.of) refl
+    (λ out. machine_runs mid mid.switch c.drain_all.new.switch c.deref_mut.result.now c.drain_all.new.lanes c.in_ok-come_on.ensures.ok
+    (touched_table c.args.self.now mid c.come_on.ensures.touched c.come_on.ensures.same c.requires.of) refl
     c.drain_all.ensures.hands c.deref_mut.ensures.value c.drain_all.ensures.grown out) c.drain_all.ensures.out
