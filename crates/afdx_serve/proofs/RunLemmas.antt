@@ -156,20 +156,26 @@ module _ (paths : Paths) (texts : List (List ℕ)) (a b c : Option Files) (first
   traced_all (Ok x) h = (all_traced h.0, h.1 ∙ same)
   traced_all (Err f) h = not_traced f h
 
--- captures lead to nothing, and nothing was put or written
+-- the files lead to nothing, and nothing was put or written
+pub not_gathered_run : (paths : Paths) (a b : Option Files) (first after : DeviceLog) → KeepsFiles a b → (w v : Option (List ℕ)) → Keeps w v → (f : Failure)
+    → FailsToGather f (inputs_of paths) a first after
+    → FailsToRunAll f paths (world w a first) (world v b after)
+not_gathered_run paths a b first after keeps w v none failure.Memory h = (inl keeps, none)
+not_gathered_run paths a b first after keeps w v none (failure.Table r) h = ((h, keeps), none)
+not_gathered_run paths a b first after keeps w v none (failure.Get s) h = ((h, keeps), none)
+not_gathered_run paths a b first after keeps w v none (failure.Load r) h = ((h, keeps), none)
+not_gathered_run paths a b first after keeps w v none (failure.PortCapture p r) h = ((h, keeps), none)
+not_gathered_run paths a b first after keeps w v none failure.Usage h = absurd h
+not_gathered_run paths a b first after keeps w v none (failure.Capture r) h = absurd h
+not_gathered_run paths a b first after keeps w v none (failure.Put s) h = absurd h
+not_gathered_run paths a b first after keeps w v none failure.Read h = absurd h
+not_gathered_run paths a b first after keeps w v none failure.Write h = absurd h
+
+-- neither do the captures
 pub not_led_run : (paths : Paths) (a b : Option Files) (plan : Plan) (captures : List Text) (first after : DeviceLog) → IsRunOf (inputs_of paths) a plan captures → KeepsFiles a b → after ≡ first
     → (w v : Option (List ℕ)) → Keeps w v → (f : Failure) → FailsToLead f (table_in plan) captures → FailsToRunAll f paths (world w a first) (world v b after)
-not_led_run paths a b plan captures first after of keeps count w v none (failure.PortCapture p r)
-    h = ((not_led (inputs_of paths) a plan captures first after of count (failure.PortCapture p r) h, keeps), none)
-not_led_run paths a b plan captures first after of keeps count w v none failure.Memory h = (inl keeps, none)
-not_led_run paths a b plan captures first after of keeps count w v none failure.Usage h = absurd h
-not_led_run paths a b plan captures first after of keeps count w v none (failure.Table r) h = absurd h
-not_led_run paths a b plan captures first after of keeps count w v none (failure.Capture r) h = absurd h
-not_led_run paths a b plan captures first after of keeps count w v none (failure.Load r) h = absurd h
-not_led_run paths a b plan captures first after of keeps count w v none (failure.Get s) h = absurd h
-not_led_run paths a b plan captures first after of keeps count w v none (failure.Put s) h = absurd h
-not_led_run paths a b plan captures first after of keeps count w v none failure.Read h = absurd h
-not_led_run paths a b plan captures first after of keeps count w v none failure.Write h = absurd h
+not_led_run paths a b plan captures first after of keeps count w v none f h = not_gathered_run paths a b first after keeps w v none f
+    (not_led (inputs_of paths) a plan captures first after of count f h)
 
 -- what the run of the captures leads to is what the files lead to
 pub leads_to : AcceptedRunsIsolate → (paths : Paths) (files : Option Files) (plan : Plan) (captures : List Text) (rest : Rest) → IsRunOf (inputs_of paths) files plan captures

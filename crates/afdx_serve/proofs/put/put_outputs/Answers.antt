@@ -29,7 +29,7 @@ returns-in_err-write g c = λ t arrivals left count.
     let files = g.F.Folder.files c.loop-place.folder in
     let named = ap (λ (x : String Global). string_bytes x) (sym (get_or_from_slice_get c.args.names.now i s.0 s.0 s.1)) in
     of_error _ _ _ Memory c.from_residual-in_err-write.ensures
-    (not_put Memory (string_bytes s.0) _ _ _ _ _ _ _ was.failed (search rules) (stops_here t arrivals c.args.names.now i s.0 _ files files _ _ _ (string_bytes s.0) lt was named
+    (not_put Memory (string_bytes s.0) _ _ _ _ _ _ _ was.failed tt (stops_here t arrivals c.args.names.now i s.0 _ files files _ _ _ (string_bytes s.0) lt was named
     (KeepsOthers-refl files (string_bytes s.0))))
 
 pub returns-in_err-put : goal.returns-in_err-put
@@ -54,5 +54,4 @@ loop-place-preserved g c = λ t arrivals left count.
 
 pub returns : goal.returns
 returns g c = λ t arrivals left count.
-    let le = c.loop-place-test.false in
     all_are_put t arrivals c.args.names.now c.loop-place.place _ _ _ _ _ count (search rules) (c.loop-place.invariant t arrivals left count)

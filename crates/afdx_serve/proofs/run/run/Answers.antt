@@ -6,11 +6,17 @@ use Rattle.afdx_session.specs.Outcome.{table_in}
 use Rattle.afdx_session.specs.Carried.{IsCarried, results_of}
 use Rattle.afdx_serve.specs.declared.failure.Failure.TheVariants.{Write}
 use Rattle.afdx_serve.specs.Runs.{names_in}
-use Rattle.afdx_serve.proofs.RunLemmas.{of_error, not_led_run, leads_to, same_names, same_count, not_all, all_put}
+use Rattle.afdx_serve.proofs.RunLemmas.{of_error, not_gathered_run, not_led_run, leads_to, same_names, same_count, not_all, all_put}
 use Rattle.afdx_serve.proofs.run.run.Goals as goal
 
 pub lead-requires : goal.lead-requires
 lead-requires g c = rw c.deref.ensures.value c.in_ok-plan.ensures.got.0.has_captures.0
+
+pub returns-in_err-plan : goal.returns-in_err-plan
+returns-in_err-plan g c =
+    let fails = rw c.inputs_of.ensures at c.in_err-plan.ensures.got in
+    of_error _ _ _ c.in_err-plan.field-0.0 c.from_residual-in_err-plan.ensures
+    (not_gathered_run c.args.paths.now _ _ _ _ c.in_err-plan.ensures.same _ _ (Keeps-refl _) c.in_err-plan.field-0.0 fails)
 
 pub returns-in_err-carried : goal.returns-in_err-carried
 returns-in_err-carried g c =
