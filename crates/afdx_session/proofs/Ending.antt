@@ -107,7 +107,7 @@ ends_all (suc n) (l ∷ old) (m ∷ new) le ends = (ends.0, ends_all n old new (
 abbrev pub TakenAreTheCapture : Type 0
 TakenAreTheCapture = (t : Taking) (rs : List Entry) → HasTaken t rs → IsSound t.bytes t.given true → IsCapture t.bytes rs
 
-lane_capture : {Z : Type 0} → TakenAreTheCapture → (l : Lane Z) (s : Stream) → IsLaneOf l s → l.reader.closed ≡ true → IsCapture l.reader.bytes s.records
+pub lane_capture : {Z : Type 0} → TakenAreTheCapture → (l : Lane Z) (s : Stream) → IsLaneOf l s → l.reader.closed ≡ true → IsCapture l.reader.bytes s.records
 lane_capture law l s is closed =
     law (record { bytes = l.reader.bytes; given = l.reader.given }) s.records is.read.taken (subst (λ b. IsSound l.reader.bytes l.reader.given b) closed is.all.sound)
 

@@ -44,3 +44,4 @@ pub mod Goings
 pub mod Readings
 pub mod Pieces
 pub mod Readable
+pub mod Writing

@@ -15,3 +15,4 @@ pub mod View
 pub mod Finish
 pub mod Pieces
 pub mod Readable
+pub mod Carried

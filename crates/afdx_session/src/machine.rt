@@ -6,11 +6,11 @@ ghost use Rattle.afdx_table.specs.WellFormed.{IsWellFormed};
 ghost use Rattle.afdx_load.specs.Accepted.{IsAccepted};
 ghost use Rattle.afdx_session.specs.Outcome.{table_in, is_cleared};
 ghost use Rattle.afdx_core.specs.Handling.{Handling};
-ghost use Rattle.afdx_core.specs.Held.{told, IsTaken};
+ghost use Rattle.afdx_core.specs.Held.{told, IsTaken, Keeps};
 ghost use Rattle.afdx_core.specs.Rows.{row_of};
 ghost use Rattle.afdx_core.specs.State.{refusal_of, fresh_state, after_finish};
 ghost use Rattle.afdx_count.specs.Tally.{noted, fresh, ended};
-ghost use Rattle.afdx_session.specs.Kept.{AreOfTable, AreTouched, IsOfSameTable, IsGoing, IsRunning, come_to};
+ghost use Rattle.afdx_session.specs.Kept.{AreOfTable, AreTouched, IsOfSameTable, IsGoing, HasCome, IsRunning, come_to};
 ghost use Rattle.afdx_session.specs.Lanes.{limit_at, NoneGoes};
 ghost use Rattle.afdx_session.specs.View.{IsRound, IsReady, IsOpenAt, IsFed, IsNotFed, IsEnded, IsNotEnded, AreSettledLanes, AreFreshLanes, AreHalfDone, AreEndedLanes, AreLent, texts_at};
 ghost use Rattle.afdx_session.specs.Texts.{texts_of, AreOfPorts};
@@ -19,6 +19,7 @@ ghost use Rattle.afdx_session.specs.Reading.{IsReadFault};
 use crate::drain::drain_all;
 use crate::lane::{Lane, lanes_of, limit_of, take_settled};
 use crate::plan::{Outcome, Plan, RunFault};
+use crate::rest::Carried;
 use afdx_core::laws::{merged_is_a_merge, merged_is_by_stamp_and_port};
 use afdx_core::{CoreFault, Switch};
 use afdx_count::Counts;
@@ -139,6 +140,24 @@ impl<'a, A: Allocator + Copy> Machine<'a, A> {
         Ok(())
     }
 
+    /// What is settled goes to the switch, which comes to the frontier.
+    ///
+    /// O(ports) for each record that goes, beside the switch's own work.
+    fn come_on(&mut self) -> Result<(), AllocError>
+        requires of { AreOfTable self.old.switch.run.table self.old.lanes.items }
+        requires going { IsGoing self.old.switch.run.table self.old.lanes.items self.old.switch self.old.counts }
+        ensures touched { AreTouched self.old.lanes.items self.new.lanes.items }
+        ensures same { IsOfSameTable self.old.switch self.new.switch }
+        ensures ok { OnOk result (HasCome self.new.switch.run.table self.new.lanes.items self.new.switch self.new.counts) }
+    {
+        self.give_settled()?;
+        let frontier = instant_of(limit_of(&self.lanes));
+        if self.switch.advance(frontier).is_err() {
+            unreachable!();
+        }
+        Ok(())
+    }
+
     /// What is settled goes to the switch, which comes to the frontier; what then has left goes out.
     ///
     /// O(ports), O(ports) for each record that goes, and O(bytes) of what goes out, beside the switch's own work.
@@ -150,11 +169,7 @@ impl<'a, A: Allocator + Copy> Machine<'a, A> {
         ensures same { IsOfSameTable self.old.switch self.new.switch }
         ensures ok { OnOk result (IsRunning self.new.switch.run.table self.new.lanes.items self.new.switch self.new.counts) }
     {
-        self.give_settled()?;
-        let frontier = instant_of(limit_of(&self.lanes));
-        if self.switch.advance(frontier).is_err() {
-            unreachable!();
-        }
+        self.come_on()?;
         drain_all(&mut self.switch, &mut self.lanes)
     }
 
@@ -245,6 +260,27 @@ impl<'a, A: Allocator + Copy> Machine<'a, A> {
         Ok(())
     }
 
+    /// The captures of all ports come whole, and stay where they are; all their records go to the switch, and nothing goes
+    /// out.
+    pub(crate) fn pass_on(
+        &mut self,
+        alloc: A,
+        captures: &'a [(u8, Vec<u8, A>)],
+    ) -> Result<(), RunFault>
+        requires of { AreOfTable self.old.switch.run.table self.old.lanes.items }
+        requires ports { AreOfPorts self.old.switch.run.table (texts_of captures.now) }
+        requires fresh { AreFreshLanes self.old.switch.run.table.ports self.old.lanes.items }
+        requires going { IsGoing self.old.switch.run.table self.old.lanes.items self.old.switch self.old.counts }
+        ensures same { IsOfSameTable self.old.switch self.new.switch }
+        ensures ok { OnOk result (HasCome self.new.switch.run.table self.new.lanes.items self.new.switch self.new.counts
+            × AreOfTable self.new.switch.run.table self.new.lanes.items × AreLent (texts_of captures.now) self.new.lanes.items) }
+        ensures err { IfErr result (λ fault. IsReadFault (texts_of captures.now) fault) }
+    {
+        self.read_all(alloc, captures)?;
+        self.come_on()?;
+        Ok(())
+    }
+
     /// All captures that have not ended end, by rising port.
     fn close_all(&mut self) -> Result<(), RunFault>
         requires of { AreOfTable self.old.switch.run.table self.old.lanes.items }
@@ -281,6 +317,27 @@ impl<'a, A: Allocator + Copy> Machine<'a, A> {
         self.close_all()?;
         self.go_on()?;
         Ok(Vec::with_capacity(alloc, self.lanes.len())?)
+    }
+
+    /// The switch carries out all that is left, and all counts.
+    pub(crate) fn into_carried(self) -> Carried<'a, A>
+        ensures run { result.state.run ≡ after_finish self.entry.switch.run }
+        ensures keeps { Keeps self.entry.switch result.state }
+        ensures counts { result.counts ≡ ended (after_finish self.entry.switch.run) self.entry.counts }
+        ensures texts { result.texts ≡ map (λ l. (l.port, l.out.items)) self.entry.lanes.items }
+    {
+        let Machine {
+            switch,
+            mut counts,
+            lanes,
+        } = self;
+        let switch = switch.finish();
+        counts.note_end(&switch);
+        Carried {
+            switch,
+            counts,
+            lanes,
+        }
     }
 
     /// What is left of each port, and the counts.
