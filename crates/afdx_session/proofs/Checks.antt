@@ -1,0 +1,2 @@
+-- Captures are checked, one after the other.
+use Rattle.std.proofs.Common.{◌≡◌}
