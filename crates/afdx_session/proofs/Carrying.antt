@@ -5,26 +5,33 @@ use Rattle.std.proofs.lemmas.Bool.{cases_Bool}
 use Rattle.std.proofs.lemmas.Bool.Decides.{nat_tests}
 use Rattle.afdx_pcap.specs.Entry.{Entry}
 use Rattle.afdx_pcap.specs.Reading.{IsWrong}
+use Rattle.afdx_pcap.specs.Capture.{IsCapture}
+use Rattle.afdx_pcap.specs.Fault.{IsFault}
+use Rattle.afdx_pcap.specs.declared.fault.PcapFault.{PcapFault}
 use Rattle.afdx_table.specs.Content.{Content}
-use Rattle.afdx_core.specs.Merge.{MergedIsAMerge, MergedIsByStampAndPort}
+use Rattle.std.specs.Vec.{with_items}
+use Rattle.afdx_core.specs.State.{State}
+use Rattle.afdx_core.specs.Merge.{Arrival, MergedIsAMerge, MergedIsByStampAndPort}
 use Rattle.afdx_session.specs.declared.lane.Lane.{Lane}
 use Rattle.afdx_session.specs.declared.machine.Machine.{Machine}
 use Rattle.afdx_session.specs.declared.plan.RunFault.{RunFault}
 use Rattle.afdx_session.specs.declared.plan.RunFault.TheVariants as run
 use Rattle.afdx_session.specs.Texts.{Text}
-use Rattle.afdx_session.specs.Settled.{first_place}
+use Rattle.afdx_session.specs.Reading.{IsSound, AreSound}
+use Rattle.afdx_session.specs.Settled.{first_place, IsGiven, HandsOut}
 use Rattle.afdx_session.specs.Lanes.{limit_at, with_waiting, head_of, head_stamp, IsFirstIn, IsFirstUpTo, IsFirstOf, IsWithinPlace, IsLimit, NoneGoes, IsReadOn, HasDrawn, IsLaneFault}
 use Rattle.afdx_session.specs.Lent.{IsOver, texts_over, left_of, left_in, IsOneFault, IsCarrying, CarriesOn}
-use Rattle.afdx_session.specs.Kept.{AreOfTable, IsGoing, IsTouched, AreTouched, AreGrown, IsOfSameTable}
+use Rattle.afdx_session.specs.Kept.{AreOfTable, AreOut, Every, IsGoing, AreTouched, IsGrown, AreGrown, IsOfSameTable}
 use Rattle.afdx_session.specs.View.{HasGone, IsRound}
 use Rattle.afdx_session.proofs.Firsts.{get-map}
-use Rattle.afdx_session.proofs.Gone.{at_index}
+use Rattle.afdx_session.proofs.Gone.{at_index, grown_length, drained_going}
 use Rattle.afdx_session.proofs.Going.{some_same, reads_on}
-use Rattle.afdx_session.proofs.Intakes.{still_of_table}
-use Rattle.afdx_session.proofs.Calls.{handed_stays, touched_table}
+use Rattle.afdx_session.proofs.Intakes.{still_of_table, touched_of}
+use Rattle.afdx_session.proofs.Settles.{back_items}
+use Rattle.afdx_session.proofs.Calls.{handed_stays, handed_same, drained_back, touched_table}
 use Rattle.afdx_session.proofs.Lending.{not_both, draws_over, drawn_adds, ports_stay}
 use Rattle.afdx_session.proofs.Numbered.{all_slice_get}
-use Rattle.afdx_session.proofs.ReadUp.{all_set}
+use Rattle.afdx_session.proofs.ReadUp.{read_same, all_set}
 
 -- ---- the limit
 
@@ -293,3 +300,67 @@ carries_fault {Z} old mid place l (run.Capture port fault) touched gone why = (
 carries_fault old mid place l run.WrongPorts touched gone why = why
 carries_fault old mid place l run.Closed touched gone why = why
 carries_fault old mid place l run.Failed touched gone why = why
+
+-- ---- what has left goes out
+
+over_grown : {Z : Type 0} (l n : Lane Z) → IsGrown l n → IsOver l → IsOver n
+over_grown l n grown over = record {
+  closed = ap (λ r. r.closed) grown.touched.reader ∙ over.closed;
+  taken = grown.touched.taken ∙ over.taken;
+  head = λ still_open. let one = over.head (sym grown.touched.ended ∙ still_open) in (one.0, ap (λ w. w.items) grown.waiting ∙ one.1, grown.last ∙ one.2);
+  read = λ ended. let all = over.read (sym grown.touched.ended ∙ ended) in (ap (λ w. w.items) grown.waiting ∙ all.0, read_same l n grown.touched.reader grown.touched.ended all.1);
+}
+
+all_over_grown : {Z : Type 0} (old new : List (Lane Z)) → AreGrown old new → AllByRecursion IsOver old → AllByRecursion IsOver new
+all_over_grown [] [] grown over = tt
+all_over_grown [] (n ∷ new) grown over = absurd grown
+all_over_grown (l ∷ old) [] grown over = absurd grown
+all_over_grown (l ∷ old) (n ∷ new) grown over = (over_grown l n grown.0 over.0, all_over_grown old new grown.1 over.1)
+
+pub record HandsOn {Z : Type 0} (old new : Machine Z) : Type 0 where
+  pub carrying : IsCarrying new
+  pub same : IsOfSameTable old.switch new.switch
+  pub texts : texts_over new.lanes.items ≡ texts_over old.lanes.items
+  pub left : left_in new.lanes.items ≡ left_in old.lanes.items
+
+pub hands_on : {Z : Type 0} (m next : Machine Z) (start now : List (Lane Z)) → IsCarrying m → HandsOut m.switch next.switch → start ≡ m.lanes.items → AreGrown start now
+    → ((t : Content) (given : List Arrival) (h : ℕ) → AreOfTable t start → IsGiven t given m.switch → h ≤ m.switch.run.latest → AreOut t given h m.switch start Every → AreOut t given m.switch.run.latest next.switch now Every)
+    → next.lanes.items ≡ (with_items m.lanes now).items → next.counts ≡ m.counts → HandsOn m next
+hands_on {Z} m next start now carrying hands is grown out lanes counts = record {
+  carrying = record {
+    of = touched_table m next touched same carrying.of;
+    handed = handed_stays m.switch next.switch same carrying.handed;
+    going = subst (λ (c : Content). IsGoing c next.lanes.items next.switch next.counts) (sym hands.table)
+        (subst (λ n. IsGoing t next.lanes.items next.switch n) (sym counts) (drained_going t m.lanes.items next.lanes.items m.switch next.switch m.counts carrying.going all hands outs));
+    over = all_over_grown m.lanes.items next.lanes.items all carrying.over;
+  };
+  same = same;
+  texts = texts_touched m.lanes.items next.lanes.items touched;
+  left = left_touched m.lanes.items next.lanes.items touched;
+} where
+  t : Content
+  t = m.switch.run.table
+
+  same : IsOfSameTable m.switch next.switch
+  same = handed_same m.switch next.switch hands
+
+  all : AreGrown m.lanes.items next.lanes.items
+  all = subst (λ (ls : List (Lane Z)). AreGrown m.lanes.items ls) (sym lanes) (drained_back m.lanes start now is grown)
+
+  touched : AreTouched m.lanes.items next.lanes.items
+  touched = touched_of m.lanes.items next.lanes.items all
+
+  now_is : now ≡ next.lanes.items
+  now_is = sym (lanes ∙ back_items m.lanes now (grown_length start now grown ∙ ap (λ (ls : List (Lane Z)). length ls) is))
+
+  outs : AreOut t carrying.going.given m.switch.run.latest next.switch next.lanes.items Every
+  outs = subst (λ (ls : List (Lane Z)). AreOut t carrying.going.given m.switch.run.latest next.switch ls Every) now_is
+      (out t carrying.going.given carrying.going.since (subst (λ (ls : List (Lane Z)). AreOfTable t ls) (sym is) carrying.of) carrying.going.is_given carrying.going.come
+      (subst (λ (ls : List (Lane Z)). AreOut t carrying.going.given carrying.going.since m.switch ls Every) (sym is) carrying.going.outs))
+
+-- ---- a fault
+
+-- none of the captures has one
+pub no_one_fault : ((bytes : List ℕ) (rs : List Entry) (e : PcapFault) → IsCapture bytes rs → IsFault bytes e → ⊥) → (texts : List Text) (port : ℕ) (why : PcapFault) → AreSound texts → IsOneFault texts (run.Capture port why) → ⊥
+no_one_fault law texts port why sound one =
+    let capture : IsSound (port, one.1) = all_slice_get IsSound texts one.0 (port, one.1) sound one.2 in law one.1 capture.0 why capture.1 one.3

@@ -213,28 +213,28 @@ hands_at t given k old new at hands = record {
   latest = hands.latest ∙ at.latest;
 }
 
+-- what has left goes out
+pub drained_going : {Z : Type 0} (t : Content) (old new : List (Lane Z)) (s next : State) (counts : Tally) (going : IsGoing t old s counts) → AreGrown old new → HandsOut s next → AreOut t going.given s.run.latest next new Every → IsGoing t new next counts
+drained_going t old new s next counts going grown hands outs = record {
+  streams = going.streams;
+  given = going.given;
+  since = s.run.latest;
+  lanes_are = grown_lanes old new going.streams grown going.lanes_are;
+  settling = subst (IsSettling going.streams going.given) (sym (grown_waiting old new grown)) going.settling;
+  is_given = (hands_at t going.given s.run.latest s next (record { is_given = going.is_given; latest = refl }) hands).is_given;
+  come = let same = hands.latest in omega (arith, same);
+  later = subst (λ ws. AllFrom next.run.latest (merged ws)) (sym (grown_waiting old new grown)) (subst (λ n. AllFrom n (merged (map waiting_of old))) (sym hands.latest) going.later);
+  until = let same = hands.latest in let le = going.until in omega (arith, same, le);
+  counts_are = going.counts_are;
+  few = going.few;
+  outs = outs;
+}
+
 -- so all has gone out up to the frontier
 pub runs_on : {Z : Type 0} (t : Content) (old new : List (Lane Z)) (s next : State) (counts : Tally) (come : HasCome t old s counts) → AreGrown old new → HandsOut s next → AreOut t come.going.given s.run.latest next new Every
     → IsRunning t new next counts
-runs_on t old new s next counts come grown hands outs = record {
-  going = record {
-    streams = going.streams;
-    given = going.given;
-    since = s.run.latest;
-    lanes_are = grown_lanes old new going.streams grown going.lanes_are;
-    settling = subst (IsSettling going.streams going.given) (sym (grown_waiting old new grown)) going.settling;
-    is_given = (hands_at t going.given s.run.latest s next (record { is_given = going.is_given; latest = refl }) hands).is_given;
-    come = let same = hands.latest in omega (arith, same);
-    later = subst (λ ws. AllFrom next.run.latest (merged ws)) (sym (grown_waiting old new grown)) (subst (λ n. AllFrom n (merged (map waiting_of old))) (sym hands.latest) going.later);
-    until = let same = hands.latest in let le = going.until in omega (arith, same, le);
-    counts_are = going.counts_are;
-    few = going.few;
-    outs = outs;
-  };
-  out = λ some. come.at;
-} where
-  going : IsGoing t old s counts
-  going = come.going
+unfolding drained_going
+runs_on t old new s next counts come grown hands outs = record { going = drained_going t old new s next counts come.going grown hands outs; out = λ some. come.at }
 
 -- ---- the bytes
 

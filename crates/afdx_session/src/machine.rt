@@ -311,11 +311,12 @@ impl<'a, A: Allocator + Copy> Machine<'a, A> {
     {
         each_file_has_one_reading();
         match self.lend_and_carry(alloc, captures) {
+            Ok(()) => Ok(()),
             Err(RunFault::Capture(..)) => {
                 check_texts(alloc, captures)?;
                 unreachable!()
             }
-            answer => answer,
+            Err(fault) => Err(fault),
         }
     }
 
