@@ -60,49 +60,46 @@ no : (a b : ℕ) → b < a → nat_le a b ≡ false
 no a b lt = grind (arith, nat_tests)
 
 -- a place before all that others have come to is the first
+first_of_two : (p q : ℕ × ℕ) (o : Option (ℕ × ℕ)) → p.0 ≤ q.0 → first_place p o ≡ p → first_place p (Some (first_place q o)) ≡ p
+first_of_two p q None le same = ap (λ b. cond b p q) (yes p.0 q.0 le)
+first_of_two p q (Some m) le same = by (nat_le q.0 m.0) where
+  by : (b : Bool) → cond (nat_le p.0 (cond b q m).0) p (cond b q m) ≡ p
+  by true = ap (λ b. cond b p q) (yes p.0 q.0 le)
+  by false = same
+
 first_stays : {Z : Type 0} (p : ℕ × ℕ) (lanes : List (Lane Z)) → AllByRecursion IsOver lanes → ((j u : ℕ) → j < length lanes → head_stamp (slice_get lanes j) ≡ Some u → p.0 ≤ u) → first_place p (limit_at lanes) ≡ p
 first_stays p [] over sooner = refl
-first_stays {Z} p (l ∷ lanes) over sooner = elim (cases_Bool l.ended) [
-  | inl ended ↦ ap (λ b. first_place p (cond b (limit_at lanes) (Some (first_place (l.last, l.port) (limit_at lanes))))) ended ∙ rest
-  | inr still_open ↦
-      ap (λ b. first_place p (cond b (limit_at lanes) (Some (first_place (l.last, l.port) (limit_at lanes))))) still_open
-      ∙ by (limit_at lanes) rest (sooner 0 l.last (omega arith) (head_is l over.0 still_open))
-] where
-  rest : first_place p (limit_at lanes) ≡ p
-  rest = first_stays p lanes over.1 (λ j u lt head. sooner (suc j) u (omega (arith, lt)) head)
+first_stays {Z} p (l ∷ lanes) over sooner =
+    let rest = first_stays p lanes over.1 (λ j u lt head. sooner (suc j) u (omega (arith, lt)) head) in
+    elim (cases_Bool l.ended) [
+      | inl ended ↦ ap (λ b. first_place p (cond b (limit_at lanes) (Some (first_place (l.last, l.port) (limit_at lanes))))) ended ∙ rest
+      | inr still_open ↦
+          ap (λ b. first_place p (cond b (limit_at lanes) (Some (first_place (l.last, l.port) (limit_at lanes))))) still_open
+          ∙ first_of_two p (l.last, l.port) (limit_at lanes) (sooner 0 l.last (omega arith) (head_is l over.0 still_open)) rest
+    ]
 
-  least : (m : ℕ × ℕ) (b : Bool) → nat_le p.0 m.0 ≡ b → cond b p m ≡ p → p.0 ≤ l.last → cond (nat_le p.0 (cond (nat_le l.last m.0) (l.last, l.port) m).0) p (cond (nat_le l.last m.0) (l.last, l.port) m) ≡ p
-  least m b is same le = inner (nat_le l.last m.0) refl where
-    inner : (c : Bool) → nat_le l.last m.0 ≡ c → cond (nat_le p.0 (cond c (l.last, l.port) m).0) p (cond c (l.last, l.port) m) ≡ p
-    inner true le_m = ap (λ d. cond d p (l.last, l.port)) (yes p.0 l.last le)
-    inner false gt_m = ap (λ d. cond d p m) is ∙ same
-
-  by : (o : Option (ℕ × ℕ)) → first_place p o ≡ p → p.0 ≤ l.last → first_place p (Some (first_place (l.last, l.port) o)) ≡ p
-  by None same le = ap (λ d. cond d p (l.last, l.port)) (yes p.0 l.last le)
-  by (Some m) same le = least m (nat_le p.0 m.0) refl same le
+limit_from : {Z : Type 0} (l : Lane Z) (t : ℕ) (ls : List (Lane Z)) (j : ℕ) → AllByRecursion IsOver ls → slice_get ls j ≡ Some l → head_stamp (slice_get ls j) ≡ Some t → ((i u : ℕ) → i < length ls → head_stamp (slice_get ls i) ≡ Some u → t ≤ u)
+    → ((i u : ℕ) → i < j → head_stamp (slice_get ls i) ≡ Some u → t < u) → limit_at ls ≡ Some (t, l.port)
+limit_from l t [] j all is here sooner former = absurd cc
+limit_from {Z} l t (m ∷ ls) zero all is here sooner former =
+    let w = waits_for m t all.0 here in
+    ap (λ b. cond b (limit_at ls) (Some (first_place (m.last, m.port) (limit_at ls)))) w.still_open
+    ∙ ap (λ n. Some (first_place (n, m.port) (limit_at ls))) w.last
+    ∙ ap Some (first_stays (t, m.port) ls all.1 (λ i u lt head. sooner (suc i) u (omega (arith, lt)) head))
+    ∙ ap (λ (x : Lane Z). Some (t, x.port)) (some_same m l is)
+limit_from {Z} l t (m ∷ ls) (suc j) all is here sooner former =
+    let rest = limit_from l t ls j all.1 is here (λ i u lt head. sooner (suc i) u (omega (arith, lt)) head) (λ i u lt head. former (suc i) u (omega (arith, lt)) head) in
+    elim (cases_Bool m.ended) [
+      | inl ended ↦ ap (λ b. cond b (limit_at ls) (Some (first_place (m.last, m.port) (limit_at ls)))) ended ∙ rest
+      | inr still_open ↦
+          ap (λ b. cond b (limit_at ls) (Some (first_place (m.last, m.port) (limit_at ls)))) still_open
+          ∙ ap (λ o. Some (first_place (m.last, m.port) o)) rest
+          ∙ ap (λ b. Some (cond b (m.last, m.port) (t, l.port))) (no m.last t (former 0 m.last (omega arith) (head_is m all.0 still_open)))
+    ]
 
 -- the first record that waits lies at the limit
 pub limit_first : {Z : Type 0} (lanes : List (Lane Z)) (k t : ℕ) (l : Lane Z) → AllByRecursion IsOver lanes → IsFirstUpTo lanes (length lanes) k t → slice_get lanes k ≡ Some l → limit_at lanes ≡ Some (t, l.port)
-limit_first lanes k t l over first at =
-    by lanes k over at (first.here) first.sooner first.former where
-      by : {Z : Type 0} (ls : List (Lane Z)) (j : ℕ) → AllByRecursion IsOver ls → slice_get ls j ≡ Some l → head_stamp (slice_get ls j) ≡ Some t → ((i u : ℕ) → i < length ls → head_stamp (slice_get ls i) ≡ Some u → t ≤ u)
-          → ((i u : ℕ) → i < j → head_stamp (slice_get ls i) ≡ Some u → t < u) → limit_at ls ≡ Some (t, l.port)
-      by [] j all is here sooner former = absurd cc
-      by (m ∷ ls) zero all is here sooner former =
-          let w = waits_for m t all.0 here in
-          ap (λ b. cond b (limit_at ls) (Some (first_place (m.last, m.port) (limit_at ls)))) w.still_open
-          ∙ ap Some (ap (λ n. first_place (n, m.port) (limit_at ls)) w.last
-          ∙ first_stays (t, m.port) ls all.1 (λ i u lt head. sooner (suc i) u (omega (arith, lt)) head)
-          ∙ ap (λ (x : Lane _). (t, x.port)) (some_same m l is))
-      by (m ∷ ls) (suc j) all is here sooner former = elim (cases_Bool m.ended) [
-        | inl ended ↦ ap (λ b. cond b (limit_at ls) (Some (first_place (m.last, m.port) (limit_at ls)))) ended ∙ rest
-        | inr still_open ↦
-            ap (λ b. cond b (limit_at ls) (Some (first_place (m.last, m.port) (limit_at ls)))) still_open
-            ∙ ap (λ o. Some (first_place (m.last, m.port) o)) rest
-            ∙ ap (λ b. Some (cond b (m.last, m.port) (t, l.port))) (no m.last t (former 0 m.last (omega arith) (head_is m all.0 still_open)))
-      ] where
-        rest : limit_at ls ≡ Some (t, l.port)
-        rest = by ls j all.1 is here (λ i u lt head. sooner (suc i) u (omega (arith, lt)) head) (λ i u lt head. former (suc i) u (omega (arith, lt)) head)
+limit_first lanes k t l over first at = limit_from l t lanes k over at first.here first.sooner first.former
 
 -- so it goes whatever the limit is
 pub no_limit : {Z : Type 0} (lanes : List (Lane Z)) → AllByRecursion IsOver lanes → IsLimit None lanes

@@ -39,7 +39,7 @@ adds_lent old mid new text more fresh lent last waiting adds = record {
   });
 }
 
-not_both : (b : Bool) → b ≡ true → b ≡ false → ⊥
+pub not_both : (b : Bool) → b ≡ true → b ≡ false → ⊥
 not_both b one other = absurd cc
 
 -- a lane whose last record has gone reads the next one
@@ -57,7 +57,7 @@ draws_over false old new closed taken still_open none on drawn = record {
   read = λ is. (drawn.adds.queue ∙ ap (λ rs. rs ++ []) none, drawn.read);
 }
 
-drawn_adds : {Z : Type 0} (found : Bool) (old new : Lane Z) → HasDrawn found old new → (more : List Entry) × Adds old new more
+pub drawn_adds : {Z : Type 0} (found : Bool) (old new : Lane Z) → HasDrawn found old new → (more : List Entry) × Adds old new more
 drawn_adds true old new drawn = (drawn.frame ∷ [], drawn.adds)
 drawn_adds false old new drawn = ([], drawn.adds)
 
