@@ -1,7 +1,7 @@
 -- Whole captures are carried to the switch: the first record goes, and the next one of its capture is read.
 use Rattle.std.proofs.Common.{◌≡◌, ℕ, zero, suc, ◌+◌, ◌-◌, ◌<◌, ◌≤◌, nat_le, Bool, true, false, cond, List, [], ◌∷◌, ◌++◌, map, length, length-set, set, get_or, slice_get, Option, Some, None, inl, inr, refl, ap, sym, ◌∙◌, arith, subst}
 use Rattle.std.specs.List.{AllByRecursion}
-use Rattle.std.proofs.lemmas.Bool.{cases_Bool}
+use Rattle.std.proofs.lemmas.Bool.{cases_Bool, cases_lt}
 use Rattle.std.proofs.lemmas.Bool.Decides.{nat_tests}
 use Rattle.afdx_pcap.specs.Entry.{Entry}
 use Rattle.afdx_pcap.specs.Reading.{IsWrong}
@@ -299,6 +299,13 @@ carries_fault old mid place l run.Closed touched gone why = why
 carries_fault old mid place l run.Failed touched gone why = why
 
 -- ---- what has left goes out
+
+-- fewer than go before that
+pub one_fewer : (n : ℕ) → n < 256 → (n + 1 ≡ 256 → ⊥) → n + 1 < 256
+one_fewer n few other = elim (cases_lt (n + 1) 256) [
+  | inl lt ↦ lt
+  | inr ge ↦ absurd (other (omega (arith, few, ge)))
+]
 
 over_grown : {Z : Type 0} (l n : Lane Z) → IsGrown l n → IsOver l → IsOver n
 over_grown l n grown over = record {

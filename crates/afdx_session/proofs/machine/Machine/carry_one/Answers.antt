@@ -26,7 +26,7 @@ returns-in_err-draw-in-Some-clause-err g c =
     let old = c.args.self.now.lanes.items in
     let mid = c.give_next.new.self.lanes.items in
     let at = gone_at old mid c.in-Some.place c.index_mut.result.now _ (round.gone c.in-Some.place refl) c.index_mut.ensures.value in
-    let why = carries_fault old mid c.in-Some.place c.index_mut.result.now c.in_err-draw.field-0.0 c.give_next.ensures.touched (gone_lane old mid c.in-Some.place c.index_mut.result.now c.requires.over (round.gone c.in-Some.place refl) at) c.in_err-draw.ensures.err in
+    let why = carries_fault old mid c.in-Some.place c.index_mut.result.now c.in_err-draw-in-Some.field-0.0 c.give_next.ensures.touched (gone_lane old mid c.in-Some.place c.index_mut.result.now c.requires.over (round.gone c.in-Some.place refl) at) c.in_err-draw-in-Some.ensures.err in
     search rules
 
 pub returns-in_ok-draw-in-Some-clause-ok : goal.returns-in_ok-draw-in-Some-clause-ok
@@ -35,8 +35,8 @@ returns-in_ok-draw-in-Some-clause-ok g c =
     let m = c.args.self.now in
     let mid = c.give_next.new.self in
     let at = gone_at m.lanes.items mid.lanes.items c.in-Some.place c.index_mut.result.now _ (round.gone c.in-Some.place refl) c.index_mut.ensures.value in
-    carries_one c.merged_is_a_merge.ensures c.merged_is_by_stamp_and_port.ensures c.in_ok-draw.field-0 m mid _ c.in-Some.place c.index_mut.result.now c.draw.new.self c.requires c.give_next.ensures.touched c.give_next.ensures.same round at
-    c.draw.ensures.read_on c.in_ok-draw.ensures.ok refl refl refl
+    carries_one c.merged_is_a_merge.ensures c.merged_is_by_stamp_and_port.ensures c.in_ok-draw-in-Some.field-0 m mid _ c.in-Some.place c.index_mut.result.now c.draw.new.self c.requires c.give_next.ensures.touched c.give_next.ensures.same round at
+    c.draw.ensures.read_on c.in_ok-draw-in-Some.ensures.ok refl refl refl
 
 pub returns-in-None-clause-ok : goal.returns-in-None-clause-ok
 returns-in-None-clause-ok g c = carries_none c.args.self.now c.give_next.new.self c.requires c.give_next.ensures.same (rw c.in-None.is at c.in_ok-place.ensures.ok)
