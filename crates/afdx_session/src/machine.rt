@@ -271,11 +271,7 @@ impl<'a, A: Allocator + Copy> Machine<'a, A> {
     }
 
     /// The captures of all ports come whole, and what they lead to goes out, unless one has a fault.
-    fn lend_and_carry(
-        &mut self,
-        alloc: A,
-        captures: &'a [(u8, Vec<u8, A>)],
-    ) -> Result<(), RunFault>
+    fn lend_and_carry(&mut self, alloc: A, captures: &'a [(u8, Vec<u8, A>)]) -> Result<(), RunFault>
         requires of { AreOfTable self.old.switch.run.table self.old.lanes.items }
         requires ports { AreOfPorts self.old.switch.run.table (texts_of captures.now) }
         requires handed { length self.old.switch.run.handed ≡ length self.old.switch.run.table.ports }
