@@ -17,10 +17,10 @@ use Rattle.afdx_session.specs.declared.machine.Machine.{Machine}
 use Rattle.afdx_session.specs.declared.plan.RunFault.{RunFault}
 use Rattle.afdx_session.specs.declared.plan.RunFault.TheVariants as run
 use Rattle.afdx_session.specs.Texts.{Text}
-use Rattle.afdx_session.specs.Reading.{IsSound, AreSound}
+use Rattle.afdx_session.specs.Reading.{IsSound}
 use Rattle.afdx_session.specs.Settled.{first_place, IsGiven, HandsOut}
 use Rattle.afdx_session.specs.Lanes.{limit_at, with_waiting, head_of, head_stamp, IsFirstIn, IsFirstUpTo, IsFirstOf, IsWithinPlace, IsLimit, NoneGoes, IsReadOn, HasDrawn, IsLaneFault}
-use Rattle.afdx_session.specs.Lent.{IsOver, texts_over, left_of, left_in, IsOneFault, IsCarrying, CarriesOn}
+use Rattle.afdx_session.specs.Lent.{AreSound, IsOver, texts_over, left_of, left_in, IsOneFault, IsCarrying, CarriesOn}
 use Rattle.afdx_session.specs.Kept.{AreOfTable, AreOut, Every, IsGoing, AreTouched, IsGrown, AreGrown, IsOfSameTable}
 use Rattle.afdx_session.specs.View.{HasGone, IsRound}
 use Rattle.afdx_session.proofs.Firsts.{get-map}

@@ -3,6 +3,7 @@ use Rattle.std.proofs.Common.{◌≡◌, ℕ, zero, suc, ◌+◌, ◌<◌, ◌�
 use Rattle.std.specs.List.{AllByRecursion}
 use Rattle.std.proofs.lemmas.List.{length-map}
 use Rattle.afdx_pcap.specs.Entry.{Entry}
+use Rattle.afdx_pcap.specs.Capture.{IsCapture}
 use Rattle.afdx_pcap.specs.Reading.{HasTaken, whole_reading}
 use Rattle.afdx_pcap.specs.Reading as pcap
 use Rattle.afdx_table.specs.declared.rows.PortRow.{PortRow}
@@ -12,7 +13,7 @@ use Rattle.afdx_session.specs.declared.machine.Machine.{Machine}
 use Rattle.afdx_session.specs.declared.plan.RunFault.{RunFault}
 use Rattle.afdx_session.specs.declared.plan.RunFault.TheVariants as run
 use Rattle.afdx_session.specs.Texts.{Text, texts_of, AreOfPorts}
-use Rattle.afdx_session.specs.Reading.{IsFaultAt, IsWholeCapture}
+use Rattle.afdx_session.specs.Reading.{IsFaultAt}
 use Rattle.afdx_session.specs.Lanes.{IsStill, IsReadOn, HasReadAll, Adds, HasDrawn}
 use Rattle.afdx_session.specs.Lent.{IsOver, texts_over, IsOneFault}
 use Rattle.afdx_session.specs.Kept.{AreOfTable, IsGoing, AreTouched}
@@ -200,7 +201,7 @@ text_at {Z} start captures n d of ports lt = get-map text captures n (get_or cap
 
 -- ---- all have ended
 
-whole_text : {Z : Type 0} (l : Lane Z) → IsOver l → l.ended ≡ true → IsWholeCapture l.reader.bytes
+whole_text : {Z : Type 0} (l : Lane Z) → IsOver l → l.ended ≡ true → (records : List Entry) × IsCapture l.reader.bytes records
 whole_text l over ended =
     let sound = subst (pcap.IsSound l.reader.bytes l.reader.given) over.closed (over.read ended).1.sound in (sound.0, sound.1)
 

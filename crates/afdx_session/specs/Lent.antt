@@ -8,6 +8,7 @@ use Rattle.afdx_session.specs.declared.machine.Machine.{Machine}
 use Rattle.afdx_session.specs.declared.plan.RunFault.{RunFault}
 use Rattle.afdx_session.specs.declared.plan.RunFault.TheVariants as run
 use Rattle.afdx_session.specs.Texts.{Text}
+use Rattle.afdx_session.specs.Reading.{IsSound}
 use Rattle.afdx_session.specs.Lanes.{HasReadAll}
 use Rattle.afdx_session.specs.Kept.{AreOfTable, IsGoing}
 
@@ -29,6 +30,10 @@ left_of l = if l.ended then 0 else length l.reader.bytes - l.reader.given + 1
 abbrev pub left_in : {Z : Type 0} → List (Lane Z) → ℕ
 left_in [] = 0
 left_in (l ∷ lanes) = left_of l + left_in lanes
+
+-- each of these texts is a capture
+abbrev pub AreSound : List Text → Type 0
+AreSound texts = AllByRecursion IsSound texts
 
 -- one of these captures has this fault
 abbrev pub IsOneFault : List Text → RunFault → Type 0

@@ -1,19 +1,20 @@
 //! The first fault of captures.
 
-ghost use Rattle.std.specs.Prelude.{◌≡◌, ◌≢◌, IfErr, OnOk};
-ghost use Rattle.afdx_pcap.specs.declared.fault.PcapFault.TheVariants.{Memory};
+ghost use Rattle.std.specs.Prelude.{List, IfErr, OnOk};
+ghost use Rattle.afdx_pcap.specs.Entry.{Entry};
+ghost use Rattle.afdx_pcap.specs.Capture.{IsCapture};
 ghost use Rattle.afdx_pcap.specs.Fault.{IsFault};
 ghost use Rattle.afdx_session.specs.Texts.{texts_of};
-ghost use Rattle.afdx_session.specs.Reading.{IsWholeCapture, AreSound, IsReadFault};
+ghost use Rattle.afdx_session.specs.Reading.{IsReadFault};
+ghost use Rattle.afdx_session.specs.Lent.{AreSound};
 
 use crate::plan::RunFault;
-use afdx_pcap::laws::taken_records_are_the_first;
 use afdx_pcap::{PcapFault, Reader};
 use std::alloc::Allocator;
 
 /// Whether a text is a capture, or its first fault. It takes no memory. O(records).
 fn check_text<A: Allocator + Copy>(alloc: A, text: &[u8]) -> Result<(), PcapFault>
-    ensures ok { OnOk result (IsWholeCapture text.now) }
+    ensures ok { OnOk result ((records : List Entry) × IsCapture text.now records) }
     ensures err { IfErr result (IsFault text.now) }
 {
     let mut reader = Reader::over(alloc, text);
