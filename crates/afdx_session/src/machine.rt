@@ -235,6 +235,8 @@ impl<'a, A: Allocator + Copy> Machine<'a, A> {
 
     /// The first of all records that wait goes to the switch, and the next one of its capture is read. Whether there
     /// was one. O(ports).
+    ///
+    /// One of each capture that has not ended waits, so the first of them comes before whatever is still to be read.
     fn carry_one(&mut self) -> Result<bool, RunFault>
         requires { IsCarrying self.old }
         ensures same { IsOfSameTable self.old.switch self.new.switch }
