@@ -6,6 +6,7 @@
 //! leave at its port. [`finished`] answers the switch itself, for what is asked of it beside that.
 #![tactic(auto)]
 
+mod check;
 mod drain;
 mod lane;
 pub mod laws;
