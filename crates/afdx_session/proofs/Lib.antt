@@ -39,6 +39,9 @@ pub mod Rounds
 pub mod Fresh
 pub mod Places
 pub mod Taken
+pub mod ReadUp
+pub mod Carrying
+pub mod Checks
 pub mod Firsts
 pub mod Goings
 pub mod Readings

@@ -2,7 +2,7 @@
 use Rattle.std.proofs.Common.{◌≡◌, ◌≢◌, ℕ, zero, suc, ◌+◌, ◌≤◌, ◌==◌, Bool, true, List, [], ◌∷◌, ◌++◌, map, length, drop, slice_get, slice_index, Option, Some, None, refl, ap, sym, ◌∙◌, arith, subst}
 use Rattle.std.specs.List.{AllByRecursion, flat_map, position}
 use Rattle.std.proofs.lemmas.List.{append-nil, length-map, map-append}
-use Rattle.afdx_pcap.specs.Capture.{IsCapture}
+use Rattle.afdx_pcap.specs.Entry.{Entry}
 use Rattle.afdx_pcap.specs.Text.{record_text, capture_text}
 use Rattle.afdx_table.specs.declared.rows.PortRow.{PortRow}
 use Rattle.afdx_table.specs.Content.{Content}
@@ -14,7 +14,7 @@ use Rattle.afdx_port.specs.Course.{EventsAreInParts}
 use Rattle.afdx_core.specs.declared.kinds.Row.{Row}
 use Rattle.afdx_core.specs.State.{Run, State, sent_in, port_after, place_of, next_by, after_finish}
 use Rattle.afdx_core.specs.Held.{Keeps}
-use Rattle.afdx_core.specs.Merge.{Arrival, merged}
+use Rattle.afdx_core.specs.Merge.{Arrival, arrivals_of, by_stamp, merged}
 use Rattle.afdx_count.specs.Tally.{ended}
 use Rattle.afdx_count.specs.Run.{counts_so_far, counts_of}
 use Rattle.afdx_count.specs.Laws.{EndCountsTheRun}
@@ -24,21 +24,20 @@ use Rattle.afdx_session.specs.Texts.{Text, AreOfPorts}
 use Rattle.afdx_session.specs.Reading.{AreCaptures}
 use Rattle.afdx_session.specs.Output.{rows_of, written, output_text, sent_by}
 use Rattle.afdx_session.specs.Replay.{HasBytesOf, left_at, IsDrained}
-use Rattle.afdx_session.specs.Streams.{Stream, captures_of, frontier, merged_so_far, sent_up_to, last_instant}
+use Rattle.afdx_session.specs.Streams.{Stream, captures_of, sent_up_to}
 use Rattle.afdx_session.specs.Settled.{Draws}
 use Rattle.afdx_session.specs.Lanes.{waiting_of}
-use Rattle.afdx_session.specs.Kept.{AreLanesOf, AreOfTable, come_to, text_up_to, IsOut, IsGoing, HasCome, AreTouched}
-use Rattle.afdx_session.specs.View.{AreLent}
+use Rattle.afdx_session.specs.Lent.{IsOver, texts_over, HaveGone}
+use Rattle.afdx_session.specs.Kept.{AreLanesOf, text_up_to, IsOut, IsGoing}
 use Rattle.afdx_session.specs.Carried.{Rest, IsLeft, IsCarried}
 use Rattle.afdx_session.proofs.Draining.{none_left}
 use Rattle.afdx_session.proofs.Drawing.{sent-front, capture-append, same_handed}
 use Rattle.afdx_session.proofs.Ending.{TakenAreTheCapture, lane_capture}
-use Rattle.afdx_session.proofs.Going.{Early, lanes_early, some_same}
-use Rattle.afdx_session.proofs.Gone.{none_late}
-use Rattle.afdx_session.proofs.Growing.{AllEnded, no_frontier, sent_later}
+use Rattle.afdx_session.proofs.Going.{some_same}
+use Rattle.afdx_session.proofs.Growing.{sent_later}
 use Rattle.afdx_session.proofs.Handing.{its_place}
+use Rattle.afdx_session.proofs.Numbered.{all_slice_get}
 use Rattle.afdx_session.proofs.Replaying.{bytes_stay}
-use Rattle.afdx_session.proofs.Settling.{all_back}
 
 -- ---- lists
 
@@ -132,50 +131,21 @@ writes t arrivals n p old new text before out left is_port is_text texts counts 
 
 -- ---- captures that were lent
 
-pub lent_touched : {Z : Type 0} (texts : List Text) (old new : List (Lane Z)) → AreLent texts old → AreTouched old new → AreLent texts new
-lent_touched [] [] [] lent touched = tt
-lent_touched [] [] (n ∷ new) lent touched = absurd touched
-lent_touched [] (l ∷ old) new lent touched = absurd lent
-lent_touched (text ∷ texts) [] new lent touched = absurd lent
-lent_touched (text ∷ texts) (l ∷ old) [] lent touched = absurd touched
-lent_touched (text ∷ texts) (l ∷ old) (n ∷ new) lent touched = (
-  record {
-    port = touched.0.port ∙ lent.0.port;
-    bytes = ap (λ r. r.bytes) touched.0.reader ∙ lent.0.bytes;
-    closed = ap (λ r. r.closed) touched.0.reader ∙ lent.0.closed;
-    sound = lent.0.sound;
-    taken = touched.0.taken ∙ lent.0.taken;
-  },
-  lent_touched texts old new lent.1 touched.1,
+over_captures : {Z : Type 0} → TakenAreTheCapture → (lanes : List (Lane Z)) (streams : List Stream) → AllByRecursion IsOver lanes → AllByRecursion (λ (l : Lane Z). l.ended ≡ true) lanes → AreLanesOf lanes streams → AreCaptures (texts_over lanes) (captures_of streams)
+over_captures law [] [] over ended are = tt
+over_captures law [] (s ∷ streams) over ended are = absurd are
+over_captures law (l ∷ lanes) [] over ended are = absurd are
+over_captures law (l ∷ lanes) (s ∷ streams) over ended are = (
+  are.0.port,
+  lane_capture law l s are.0 (over.0.read ended.0).1 over.0.closed,
+  over_captures law lanes streams over.1 ended.1 are.1,
 )
 
-lent_ended : {Z : Type 0} (texts : List Text) (lanes : List (Lane Z)) (streams : List Stream) → AreLent texts lanes → AreLanesOf lanes streams → AllEnded streams
-lent_ended [] [] [] lent are = tt
-lent_ended [] [] (s ∷ streams) lent are = absurd are
-lent_ended [] (l ∷ lanes) streams lent are = absurd lent
-lent_ended (text ∷ texts) [] streams lent are = absurd lent
-lent_ended (text ∷ texts) (l ∷ lanes) [] lent are = absurd are
-lent_ended (text ∷ texts) (l ∷ lanes) (s ∷ streams) lent are = (are.0.ended ∙ lent.0.closed, lent_ended texts lanes streams lent.1 are.1)
-
-lent_captures : {Z : Type 0} → TakenAreTheCapture → (texts : List Text) (lanes : List (Lane Z)) (streams : List Stream) → AreLent texts lanes → AreLanesOf lanes streams
-    → AreCaptures texts (captures_of streams)
-lent_captures law [] [] [] lent are = tt
-lent_captures law [] [] (s ∷ streams) lent are = absurd are
-lent_captures law [] (l ∷ lanes) streams lent are = absurd lent
-lent_captures law (text ∷ texts) [] streams lent are = absurd lent
-lent_captures law (text ∷ texts) (l ∷ lanes) [] lent are = absurd are
-lent_captures law (text ∷ texts) (l ∷ lanes) (s ∷ streams) lent are = (
-  are.0.port ∙ lent.0.port,
-  subst (λ bytes. IsCapture bytes s.records) lent.0.bytes (lane_capture law l s are.0 lent.0.closed),
-  lent_captures law texts lanes streams lent.1 are.1,
-)
-
-none_taken : {Z : Type 0} (texts : List Text) (lanes : List (Lane Z)) (k : ℕ) (l : Lane Z) → AreLent texts lanes → slice_get lanes k ≡ Some l → l.taken ≡ 0
-none_taken [] [] k l lent at = absurd cc
-none_taken [] (m ∷ lanes) k l lent at = absurd lent
-none_taken (text ∷ texts) [] k l lent at = absurd lent
-none_taken {Z = Z} (text ∷ texts) (m ∷ lanes) zero l lent at = ap (λ (x : Lane Z). x.taken) (sym (some_same m l at)) ∙ lent.0.taken
-none_taken (text ∷ texts) (m ∷ lanes) (suc k) l lent at = none_taken texts lanes k l lent.1 at
+none_waits : {Z : Type 0} (lanes : List (Lane Z)) → AllByRecursion IsOver lanes → AllByRecursion (λ (l : Lane Z). l.ended ≡ true) lanes → arrivals_of (map waiting_of lanes) ≡ []
+none_waits [] over ended = refl
+none_waits (l ∷ lanes) over ended =
+    ap (λ rs. map {B = Arrival} (λ (r : Entry). record { port = l.port; frame = r }) rs ++ arrivals_of (map waiting_of lanes)) (over.0.read ended.0).0
+    ∙ none_waits lanes over.1 ended.1
 
 -- what a lane shows of its output
 abbrev pub text_by : {Z : Type 0} → Lane Z → Text
@@ -222,16 +192,14 @@ rest_of_port {Z} parts reaches given since s p place l rows is_port taken out =
           ∙ ap (drop (length first)) (sent_in_the_end given s.run p rows ∙ rest.1)
           ∙ sent-front first rest.0
 
--- what is left of a machine that all captures were lent to, and whose switch took all their records
+-- what is left of a machine whose switch took all records of these captures
 pub carried : {Z : Type 0} → EventsAreInParts → ReachesInOrder → TakenAreTheCapture → EndCountsTheRun → (t : Content) (texts : List Text) (m : Machine Z) (r : Rest) → AreOfPorts t texts
-    → m.switch.run.table ≡ t → AreOfTable m.switch.run.table m.lanes.items → AreLent texts m.lanes.items
-    → length m.switch.run.handed ≡ length m.switch.run.table.ports → HasCome m.switch.run.table m.lanes.items m.switch m.counts → r.state.run ≡ after_finish m.switch.run → Keeps m.switch r.state
-    → r.counts ≡ ended (after_finish m.switch.run) m.counts
+    → m.switch.run.table ≡ t → HaveGone texts m → r.state.run ≡ after_finish m.switch.run → Keeps m.switch r.state → r.counts ≡ ended (after_finish m.switch.run) m.counts
     → r.texts ≡ map (λ (l : Lane Z). (l.port, l.out.items)) m.lanes.items → IsCarried t texts r
-carried {Z} parts reaches takes law t texts m r ports table of lent handed come run keeps counts outs = record {
+carried {Z} parts reaches takes law t texts m r ports table gone run keeps counts outs = record {
   ports = ports;
   read = captures_of going.streams;
-  are_read = lent_captures takes texts lanes going.streams lent going.lanes_are;
+  are_read = subst (λ ts. AreCaptures ts (captures_of going.streams)) gone.over (over_captures takes lanes going.streams gone.carrying.over gone.all going.lanes_are);
   left = subst (λ (c : Content). IsLeft c (merged (captures_of going.streams)) 0 r) table (subst (λ xs. IsLeft u xs 0 r) (sym given_is) left);
 } where
   u : Content
@@ -241,26 +209,13 @@ carried {Z} parts reaches takes law t texts m r ports table of lent handed come 
   lanes = m.lanes.items
 
   going : IsGoing u lanes m.switch m.counts
-  going = come.going
+  going = gone.carrying.going
 
   given : List Arrival
   given = going.given
 
-  waiting : List Arrival
-  waiting = merged (map waiting_of lanes)
-
-  whole : merged_so_far going.streams ≡ given ++ waiting
-  whole = going.settling.whole
-
-  latest : m.switch.run.latest ≡ last_instant
-  latest = come.at ∙ ap come_to (no_frontier going.streams (lent_ended texts lanes going.streams lent going.lanes_are))
-
-  none : waiting ≡ []
-  none = none_late waiting (subst (λ n. AllByRecursion (λ (a : Arrival). n ≤ a.frame.stamp) waiting) latest going.later)
-      (all_back Early given waiting (subst (AllByRecursion Early) whole (lanes_early lanes going.streams going.lanes_are)))
-
   given_is : merged (captures_of going.streams) ≡ given
-  given_is = whole ∙ ap (λ xs. given ++ xs) none ∙ append-nil given
+  given_is = going.settling.whole ∙ ap (λ xs. given ++ by_stamp xs) (none_waits lanes gone.carrying.over gone.all) ∙ append-nil given
 
   rows : m.switch.run.rows ≡ rows_of u given
   rows = going.is_given.rows
@@ -270,16 +225,17 @@ carried {Z} parts reaches takes law t texts m r ports table of lent handed come 
 
   left : IsLeft u given 0 r
   left = record {
-    formed = of.formed;
+    formed = gone.carrying.of.formed;
     table = ap (λ (x : Run). x.table) run;
     long = sym (ap (λ (x : Run). length x.rows) run ∙ long);
-    handed = ap (λ (x : Run). length x.handed) run ∙ handed ∙ ap (λ (x : Run). length x.table.ports) (sym run);
+    handed = ap (λ (x : Run). length x.handed) run ∙ gone.carrying.handed ∙ ap (λ (x : Run). length x.table.ports) (sym run);
     frames = bytes_stay given m.switch r.state (omega (arith, long)) keeps going.is_given.frames;
-    ports = ap (map (λ (x : Text). x.0)) outs ∙ out_ports lanes ∙ of.ports;
-    counts = counts ∙ ap (ended (after_finish m.switch.run)) (going.counts_are ∙ ap (counts_so_far u) (sym rows)) ∙ law m.switch.run of.formed ∙ ap (counts_of u) rows;
+    ports = ap (map (λ (x : Text). x.0)) outs ∙ out_ports lanes ∙ gone.carrying.of.ports;
+    counts = counts ∙ ap (ended (after_finish m.switch.run)) (going.counts_are ∙ ap (counts_so_far u) (sym rows)) ∙ law m.switch.run gone.carrying.of.formed ∙ ap (counts_of u) rows;
     rest = λ place p text le is_port is_text.
         let from = mapped_from (λ (l : Lane Z). (l.port, l.out.items)) lanes place text (ap (λ ts. slice_get ts place) (sym outs) ∙ is_text) in
+        let over = all_slice_get IsOver lanes place from.0 gone.carrying.over from.1 in
         ap (λ (x : Text). x.1 ++ flat_map record_text (map (written given) (left_at r.state.run (Some place)))) (sym from.2)
         ∙ ap (λ (x : Run). from.0.out.items ++ flat_map record_text (map (written given) (left_at x (Some place)))) run
-        ∙ rest_of_port parts reaches given going.since m.switch p place from.0 rows is_port (none_taken texts lanes place from.0 lent from.1) (going.outs place p from.0 tt is_port from.1);
+        ∙ rest_of_port parts reaches given going.since m.switch p place from.0 rows is_port over.taken (going.outs place p from.0 tt is_port from.1);
   }

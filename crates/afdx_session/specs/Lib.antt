@@ -11,6 +11,7 @@ pub mod Settled
 pub mod Session
 pub mod Lanes
 pub mod Kept
+pub mod Lent
 pub mod View
 pub mod Finish
 pub mod Pieces

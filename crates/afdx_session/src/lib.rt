@@ -7,6 +7,7 @@
 //! [`finished`] answers the switch itself, for what is asked of it beside that.
 #![tactic(auto)]
 
+mod check;
 mod drain;
 mod lane;
 pub mod laws;

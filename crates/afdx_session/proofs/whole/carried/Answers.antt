@@ -6,7 +6,6 @@ use Rattle.afdx_session.specs.Outcome.{table_in, is_cleared, IsRefusal}
 use Rattle.afdx_session.specs.View.{AreFreshLanes}
 use Rattle.afdx_session.proofs.Fresh.{fresh_kept}
 use Rattle.afdx_session.proofs.Sessions.{of_error}
-use Rattle.afdx_session.proofs.Calls.{handed_stays}
 use Rattle.afdx_session.proofs.WholeRuns.{is_refusal}
 use Rattle.afdx_session.proofs.Writing.{carried}
 use Rattle.afdx_session.proofs.whole.carried.Goals as goal
@@ -21,6 +20,11 @@ pass_on-requires-clause-ports g c =
     let texts = texts_of c.args.captures.now in
     let ports = subst (λ (t : Content). AreOfPorts t texts) c.table-table.ensures.table (c.are_of_ports.ensures.are.0 c.if-not-are_of_ports.false) in
     subst (λ (s : State). AreOfPorts s.run.table texts) (sym c.in_ok-machine.ensures.fresh.0) ports
+
+pub pass_on-requires-clause-handed : goal.pass_on-requires-clause-handed
+pass_on-requires-clause-handed g c =
+    let made = c.in_ok-machine.ensures in
+    (fresh_kept c.starts_with_none.ensures (is_cleared c.args.plan) (table_in c.args.plan) c.in_ok-machine.machine made.formed made.accepted made.fresh.0 made.fresh.1 made.fresh.2).handed
 
 pub pass_on-requires-clause-fresh : goal.pass_on-requires-clause-fresh
 pass_on-requires-clause-fresh g c = let made = c.in_ok-machine.ensures.fresh in subst (λ (s : State). AreFreshLanes s.run.table.ports c.in_ok-machine.machine.lanes.items) (sym made.0) made.2
@@ -45,10 +49,6 @@ returns-clause-ok g c =
     let texts = texts_of c.args.captures.now in
     let made = c.in_ok-machine.ensures in
     let ports = subst (λ (u : Content). AreOfPorts u texts) c.table-table.ensures.table (c.are_of_ports.ensures.are.0 c.if-not-are_of_ports.false) in
-    let kept = fresh_kept c.starts_with_none.ensures (is_cleared c.args.plan) t c.in_ok-machine.machine made.formed made.accepted made.fresh.0 made.fresh.1 made.fresh.2 in
-    let passed = c.in_ok-pass_on.ensures.ok in
     carried c.events_follow_the_line.ensures.parts c.stamps_keep_their_order.ensures.instants c.taken_records_are_the_first.ensures.ends c.end_counts_the_run.ensures t texts c.pass_on.new.self
-    c.into_carried.result ports
-    (c.pass_on.ensures.same.table ∙ ap (λ (s : State). s.run.table) made.fresh.0) passed.1 passed.2
-    (handed_stays c.in_ok-machine.machine.switch c.pass_on.new.self.switch c.pass_on.ensures.same kept.handed) passed.0
-    c.into_carried.ensures.run c.into_carried.ensures.keeps c.into_carried.ensures.counts c.into_carried.ensures.texts
+    c.into_carried.result ports (c.pass_on.ensures.same.table ∙ ap (λ (s : State). s.run.table) made.fresh.0) c.in_ok-pass_on.ensures.ok c.into_carried.ensures.run c.into_carried.ensures.keeps
+    c.into_carried.ensures.counts c.into_carried.ensures.texts
