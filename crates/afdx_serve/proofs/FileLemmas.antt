@@ -218,6 +218,3 @@ stops_at f names all i d a b c lt before others = record { place = i; before = b
 
 pub StopsAt-before : (name : List ℕ) (names all : List (List ℕ)) (a b c : Option Files) → KeepsFiles a b → StopsAt name names all b c → StopsAt name names all a c
 StopsAt-before name names all a b c keeps s = record { place = s.place; before = s.before; is_there = s.is_there; earlier = PutsFiles-before a b s.before _ _ keeps s.earlier; others = s.others }
-
-pub mapped_or : {X Y : Type 0} (f : X → Y) (xs : List X) (i : ℕ) (d : X) (e : Y) → i < length xs → get_or (map f xs) i e ≡ f (get_or xs i d)
-mapped_or f xs i d e lt = get_or_from_slice_get (map f xs) i _ e (mapped f xs i d lt)

@@ -7,3 +7,4 @@ pub mod MeasureLemmas
 pub mod ServingLemmas
 pub mod CheckLemmas
 pub mod OwnLemmas
+mod PutLemmas

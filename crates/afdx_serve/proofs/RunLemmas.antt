@@ -1,23 +1,29 @@
 -- What a run did, and why it was not done.
-use Rattle.std.proofs.Common.{◌≡◌, ℕ, Bool, true, false, not, List, Option, Result, Ok, Err, sym, ap, subst, ◌∙◌, inr}
+use Rattle.std.proofs.Common.{◌≡◌, ℕ, Bool, true, false, not, List, Option, Result, Ok, Err, refl, sym, ap, subst, ◌∙◌, inl, inr}
 use Rattle.std.specs.Prelude.{MatchResult, IsErr, IsErrAnd}
 use Rattle.std.proofs.Common.{map, length, Vec, String, Global}
 use Rattle.std.specs.Prelude.{string_bytes}
 use Rattle.std.proofs.lemmas.List.{length-map}
+use Rattle.std.proofs.lemmas.Simd.{map-map}
+use Rattle.afdx_table.specs.declared.rows.PortRow.{PortRow}
 use Rattle.afdx_table.specs.Content.{Content}
-use Rattle.afdx_session.specs.Texts.{Text, texts_of}
+use Rattle.afdx_core.specs.Merge.{Arrival, merged}
+use Rattle.afdx_session.specs.Texts.{Text, AreOfPorts}
+use Rattle.afdx_session.specs.Output.{output_text, outputs}
+use Rattle.afdx_session.specs.Carried.{Rest, IsCarried, results_of}
 use Rattle.afdx_core.specs.State.{State}
 use Rattle.afdx_core.specs.Isolation.{IsIsolated as KeepsApart}
 use Rattle.afdx_session.specs.declared.plan.Plan.{Plan}
 use Rattle.afdx_session.specs.Outcome.{Results, table_in, is_cleared, IsOutcome, IsDoneOf}
-use Rattle.afdx_session.specs.Headline.{IsIsolated}
+use Rattle.afdx_session.specs.Headline.{AcceptedRunsIsolate}
 use Rattle.afdx_words.specs.declared.request.Paths.{Paths}
 use Rattle.afdx_words.specs.declared.request.Inputs.{Inputs}
 use Rattle.afdx_serve.specs.declared.failure.Failure.{Failure}
 use Rattle.afdx_serve.specs.declared.failure.Failure.TheVariants as failure
 use Rattle.afdx_serve.specs.Files.{Files, DeviceLog, KeepsFiles, PutsFiles, one_more}
 use Rattle.afdx_serve.specs.Measures.{IsMeasured, MeasuresTo}
-use Rattle.afdx_serve.specs.Runs.{inputs_of, IsRunOf, LeadsTo, names_in, bytes_of, StopsAt, StopsRun, FailsToPut, FailsToEnd, FailsToRun, HasPlan, FailsToGetAll, FailsToGather, FailsToLead, capture_name}
+use Rattle.afdx_serve.specs.Runs.{inputs_of, IsRunOf, LeadsTo, names_in, bytes_of, StopsAt, StopsRun, FailsToPut, FailsToEnd, FailsToRun, HasPlan, FailsToGetAll, FailsToGather, FailsToLead}
+use Rattle.afdx_serve.specs.Runs.{capture_name}
 use Rattle.afdx_serve.specs.Traces.{trace_names, trace_texts, IsTraceIn, PutsTrace, StopsTrace, FailsToTrace}
 use Rattle.std.specs.Io.KnownBytes.{Keeps}
 use Rattle.afdx_serve.specs.Serving.{world, PutsResults, FailsToRunAll}
@@ -106,25 +112,13 @@ module _ (inputs : Inputs) (a : Option Files) (plan : Plan) (captures : List Tex
   leads_as P Q turn (Ok x) h = (turn x h, count)
   leads_as P Q turn (Err f) h = not_led f h
 
-  pub measured : (r : Result (String Global) Failure) → MatchResult r (λ text. IsMeasured (not inputs.unchecked) (table_in plan) captures (string_bytes text)) (λ f. FailsToLead f (table_in plan) captures)
+  pub measured : (r : Result (String Global) Failure) → MatchResult r (λ text. IsMeasured (not inputs.unchecked) (table_in plan) captures (string_bytes text))
+      (λ f. FailsToLead f (table_in plan) captures)
       → MatchResult r (λ text. MeasuresTo inputs a (string_bytes text) × (after ≡ before)) (λ f. FailsToGather f inputs a before after)
   measured = leads_as (λ text. IsMeasured (not inputs.unchecked) (table_in plan) captures (string_bytes text)) (λ text. MeasuresTo inputs a (string_bytes text))
       (λ text h. record { table = table_in plan; captures = captures; has_plan = of.has_plan; has_captures = of.has_captures; measured = h })
 
 module _ (paths : Paths) (a : Option Files) (plan : Plan) (captures : List Text) (before after : DeviceLog) (of : IsRunOf (inputs_of paths) a plan captures) (count : after ≡ before) where
-  pub gathered : (r : Result Results Failure)
-      → MatchResult r (λ o. IsOutcome (table_in plan) captures o × (is_cleared plan ≡ true → IsIsolated (table_in plan) captures o)) (λ f. FailsToLead f (table_in plan) captures)
-      → MatchResult r (λ o. LeadsTo paths a o × (after ≡ before)) (λ f. FailsToGather f (inputs_of paths) a before after)
-  gathered = leads_as (inputs_of paths) a plan captures before after of count (λ o. IsOutcome (table_in plan) captures o × (is_cleared plan ≡ true → IsIsolated (table_in plan) captures o)) (LeadsTo paths a)
-      (λ o h. record {
-        table = table_in plan;
-        captures = captures;
-        has_plan = of.has_plan;
-        has_captures = of.has_captures;
-        outcome = h.0;
-        isolated = λ (checked : paths.unchecked ≡ false). h.1 (of.cleared ∙ ap not checked);
-      })
-
   -- a finished switch of the captures, and what is told of it
   abbrev pub IsTold : List (List ℕ) → Type 0
   IsTold texts = (s : State) × IsDoneOf (is_cleared plan) (table_in plan) captures s × (is_cleared plan ≡ true → KeepsApart s.run) × (texts ≡ trace_texts s.run)
@@ -162,9 +156,53 @@ module _ (paths : Paths) (texts : List (List ℕ)) (a b c : Option Files) (first
   traced_all (Ok x) h = (all_traced h.0, h.1 ∙ same)
   traced_all (Err f) h = not_traced f h
 
--- there are as many names as captures
-pub same_count : {Z : Type 0} (path : List ℕ) (names : List (String Global)) (captures : List (ℕ × Vec ℕ Z)) → map (λ (s : String Global). string_bytes s) names ≡ names_in path (texts_of captures)
-    → length names ≡ length captures
-same_count {Z} path names captures is =
-    sym (length-map names (λ (s : String Global). string_bytes s)) ∙ ap length is ∙ length-map (texts_of captures) (λ (x : Text). capture_name path x.0)
-    ∙ length-map captures (λ (x : ℕ × Vec ℕ Z). (x.0, x.1.items))
+-- the files lead to nothing, and nothing was put or written
+pub not_gathered_run : (paths : Paths) (a b : Option Files) (first after : DeviceLog) → KeepsFiles a b → (w v : Option (List ℕ)) → Keeps w v → (f : Failure)
+    → FailsToGather f (inputs_of paths) a first after
+    → FailsToRunAll f paths (world w a first) (world v b after)
+not_gathered_run paths a b first after keeps w v none failure.Memory h = (inl keeps, none)
+not_gathered_run paths a b first after keeps w v none (failure.Table r) h = ((h, keeps), none)
+not_gathered_run paths a b first after keeps w v none (failure.Get s) h = ((h, keeps), none)
+not_gathered_run paths a b first after keeps w v none (failure.Load r) h = ((h, keeps), none)
+not_gathered_run paths a b first after keeps w v none (failure.PortCapture p r) h = ((h, keeps), none)
+not_gathered_run paths a b first after keeps w v none failure.Usage h = absurd h
+not_gathered_run paths a b first after keeps w v none (failure.Capture r) h = absurd h
+not_gathered_run paths a b first after keeps w v none (failure.Put s) h = absurd h
+not_gathered_run paths a b first after keeps w v none failure.Read h = absurd h
+not_gathered_run paths a b first after keeps w v none failure.Write h = absurd h
+
+-- neither do the captures
+pub not_led_run : (paths : Paths) (a b : Option Files) (plan : Plan) (captures : List Text) (first after : DeviceLog) → IsRunOf (inputs_of paths) a plan captures → KeepsFiles a b → after ≡ first
+    → (w v : Option (List ℕ)) → Keeps w v → (f : Failure) → FailsToLead f (table_in plan) captures → FailsToRunAll f paths (world w a first) (world v b after)
+not_led_run paths a b plan captures first after of keeps count w v none f h = not_gathered_run paths a b first after keeps w v none f
+    (not_led (inputs_of paths) a plan captures first after of count f h)
+
+-- what the run of the captures leads to is what the files lead to
+pub leads_to : AcceptedRunsIsolate → (paths : Paths) (files : Option Files) (plan : Plan) (captures : List Text) (rest : Rest) → IsRunOf (inputs_of paths) files plan captures
+    → (carried : IsCarried (table_in plan) captures rest)
+    → LeadsTo paths files (results_of (table_in plan) (merged carried.read))
+leads_to isolate paths files plan captures rest of carried = record {
+  table = table_in plan;
+  captures = captures;
+  has_plan = of.has_plan;
+  has_captures = of.has_captures;
+  outcome = outcome;
+  isolated = λ checked. isolate (table_in plan) captures (results_of (table_in plan) (merged carried.read)) carried.left.formed (of.has_plan.1 checked) outcome;
+} where
+  outcome : IsOutcome (table_in plan) captures (results_of (table_in plan) (merged carried.read))
+  outcome = record { ports = carried.ports; read = carried.read; are_read = carried.are_read; captures = refl; counts = refl }
+
+-- the names of the outputs are those of the captures
+pub same_names : (path : List ℕ) (t : Content) (arrivals : List Arrival) (captures : List Text) → AreOfPorts t captures → names_in path captures ≡ names_in path (outputs t arrivals)
+same_names path t arrivals captures ports =
+    sym (map-map (capture_name path) (λ (x : Text). x.0) captures)
+    ∙ ap (map (capture_name path)) ports
+    ∙ map-map (capture_name path) (λ (p : PortRow). p.id) t.ports
+    ∙ sym (map-map (λ (x : Text). capture_name path x.0) (λ (p : PortRow). (p.id, output_text t arrivals p)) t.ports)
+
+-- there are as many names as ports
+pub same_count : (path : List ℕ) (names : List (String Global)) (t : Content) (captures : List Text) → map (λ (s : String Global). string_bytes s) names ≡ names_in path captures
+    → AreOfPorts t captures → length names ≡ length t.ports
+same_count path names t captures is ports =
+    sym (length-map names (λ (s : String Global). string_bytes s)) ∙ ap length is ∙ length-map captures (λ (x : Text). capture_name path x.0)
+    ∙ sym (length-map captures (λ (x : Text). x.0)) ∙ ap length ports ∙ length-map t.ports (λ (p : PortRow). p.id)

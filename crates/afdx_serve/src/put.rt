@@ -1,12 +1,16 @@
 //! What is put into a folder.
 
-ghost use Rattle.std.specs.Prelude.{◌≡◌, map, length, string_bytes, MatchResult};
-ghost use Rattle.afdx_session.specs.Texts.{texts_of};
+ghost use Rattle.std.specs.Prelude.{◌≡◌, List, map, length, string_bytes, MatchResult};
+ghost use Rattle.afdx_table.specs.Content.{Content};
+ghost use Rattle.afdx_core.specs.Merge.{Arrival};
+ghost use Rattle.afdx_session.specs.Output.{outputs};
+ghost use Rattle.afdx_session.specs.Carried.{IsLeft};
 ghost use Rattle.afdx_serve.specs.Files.{KeepsOthers, PutsFile, PutsFiles, one_more};
 ghost use Rattle.afdx_serve.specs.Runs.{bytes_of, FailsToPut, FailsToPutOne};
 
 use crate::failure::Failure;
 use crate::folder::{Folder, FolderFault};
+use afdx_session::Carried;
 use std::alloc::Global;
 
 /// Puts a file.
@@ -31,22 +35,24 @@ pub(crate) fn put<F: Folder>(
     }
 }
 
-/// Puts the captures under these names, in order.
-pub(crate) fn put_captures<F: Folder>(
+/// Puts the outputs that are left of a run under these names, in order: each is written when the one before it was put.
+pub(crate) fn put_outputs<F: Folder>(
     alloc: Global,
     folder: &mut F,
     names: &[String],
-    captures: &[(u8, Vec<u8>)],
+    carried: &mut Carried<'_, Global>,
 ) -> Result<(), Failure>
-    requires { length names.now ≡ length captures.now }
-    ensures { MatchResult result
-        (λ _. PutsFiles (F.files folder.old) (F.files folder.new) (map string_bytes names.now) (bytes_of (texts_of captures.now))
+    requires { (t : Content) × (arrivals : List Arrival) × IsLeft t arrivals 0 carried.old × (length names.now ≡ length t.ports) }
+    ensures { (t : Content) (arrivals : List Arrival) → IsLeft t arrivals 0 carried.old → length names.now ≡ length t.ports → MatchResult result
+        (λ _. PutsFiles (F.files folder.old) (F.files folder.new) (map string_bytes names.now) (bytes_of (outputs t arrivals))
         × (F.failed folder.new ≡ F.failed folder.old))
-        (λ f. FailsToPut f (map string_bytes names.now) (bytes_of (texts_of captures.now))
+        (λ f. FailsToPut f (map string_bytes names.now) (bytes_of (outputs t arrivals))
         (F.files folder.old) (F.files folder.new) (F.failed folder.old) (F.failed folder.new)) }
 {
+    let mut text = Vec::new(alloc);
     for place in 0..names.len() {
-        put(alloc, folder, &names[place], &captures[place].1)?;
+        carried.write(place, &mut text)?;
+        put(alloc, folder, &names[place], &text)?;
     }
     Ok(())
 }

@@ -26,6 +26,7 @@ use Rattle.afdx_session.proofs.Going.{some_same, reads_on}
 use Rattle.afdx_session.proofs.Given.{comes_on, no_going_back}
 use Rattle.afdx_session.proofs.Numbered.{all_slice_get}
 use Rattle.afdx_session.proofs.Shown.{half_ports}
+use Rattle.afdx_session.proofs.ReadUp.{all_set, touched_read_up, settled_read_up}
 use Rattle.afdx_session.proofs.Gone.{at_index, grown_length, runs_on}
 use Rattle.afdx_session.proofs.Settles.{back_items}
 use Rattle.afdx_session.proofs.Intakes.{touched_ports, still_of_table, half_at, half_touched, fed_half, ended_half, intakes_after, fed_intake, ended_intake, marked_bytes, settled_marked, running_settled}
@@ -128,10 +129,16 @@ half_ended lanes k old new at still undone bytes = half_at lanes k old new at (e
 pub half_of_table : {Z : Type 0} (t : Content) (old new : List (Lane Z)) → AreHalfDone old new → AreOfTable t old → AreOfTable t new
 half_of_table t old new half of = still_of_table t old new (half_ports old new half) of
 
-pub lane_reads_on : {Z : Type 0} → MergedIsAMerge → MergedIsByStampAndPort → (begun : Bool) (t : Content) (lanes : List (Lane Z)) (s : State) (counts : Tally) (k : ℕ) (old new : Lane Z) (more : List Entry) → AreOfTable t lanes → AllByRecursion (IsMarked begun) lanes
-    → slice_get lanes k ≡ Some old → old.closed ≡ false → IsStill old new → Adds old new more → HasReadAll new → IsRunning t lanes s counts → IsGoing t (set lanes k new) s counts
-lane_reads_on merge sorted begun t lanes s counts k old new more of all at still_open still adds read running =
-    reads_on merge sorted t lanes s counts k old new more of at (sym (marked_at begun lanes k old all at).closed ∙ still_open) still.port (ap (λ o. o.items) still.out) still.taken adds read running.going
+pub lane_reads_on : {Z : Type 0} → MergedIsAMerge → MergedIsByStampAndPort → (begun : Bool) (m : Machine Z) (k : ℕ) (old new : Lane Z) (more : List Entry) → AreOfTable m.switch.run.table m.lanes.items → IsReady m begun
+    → slice_get m.lanes.items k ≡ Some old → old.closed ≡ false → IsStill old new → Adds old new more → IsGoing m.switch.run.table (set m.lanes.items k new) m.switch m.counts
+lane_reads_on merge sorted begun m k old new more of ready at still_open still adds =
+    reads_on merge sorted m.switch.run.table m.lanes.items m.switch m.counts k old new more of at
+    ((all_slice_get HasReadAll m.lanes.items k old ready.read at).ended ∙ sym (marked_at begun m.lanes.items k old ready.marked at).closed ∙ still_open)
+    still.port (ap (λ o. o.items) still.out) still.taken adds ready.running.going
+
+-- all that came was read, before what has left goes out
+pub read_after : {Z : Type 0} (lanes b : List (Lane Z)) (k : ℕ) (new : Lane Z) → AllByRecursion HasReadAll lanes → HasReadAll new → AreTouched (set lanes k new) b → AllByRecursion HasReadAll b
+read_after lanes b k new all read touched = touched_read_up (set lanes k new) b touched (all_set HasReadAll lanes k new all read)
 
 -- a piece did not come
 pub not_fed : {Z : Type 0} (begun : Bool) (lanes b : List (Lane Z)) (k : ℕ) (old new : Lane Z) (piece : List ℕ) (fault : RunFault) → AllByRecursion (IsMarked begun) lanes → slice_get lanes k ≡ Some old → IsStill old new
@@ -190,10 +197,12 @@ capture_ended begun lanes b c k old new all at still bytes closed read touched s
     is_ended begun lanes b c k old new sound.0 all at (marked_at begun lanes k old all at) still bytes closed (subst (λ (xs : List ℕ). IsCapture xs sound.0) bytes sound.1) touched settled
 
 -- all that was read counts, so that the next call may go on
-pub is_ready : {Z : Type 0} (mid next : Machine Z) → AreSettledLanes mid.lanes.items next.lanes.items → next.switch ≡ mid.switch → next.counts ≡ mid.counts → IsRunning mid.switch.run.table mid.lanes.items mid.switch mid.counts → IsReady next true
-is_ready {Z = Z} mid next settled switch counts running = record {
+pub is_ready : {Z : Type 0} (mid next : Machine Z) → AreSettledLanes mid.lanes.items next.lanes.items → next.switch ≡ mid.switch → next.counts ≡ mid.counts → IsRunning mid.switch.run.table mid.lanes.items mid.switch mid.counts
+    → AllByRecursion HasReadAll mid.lanes.items → IsReady next true
+is_ready {Z = Z} mid next settled switch counts running read = record {
   running = subst (λ (s : State). IsRunning s.run.table next.lanes.items s next.counts) (sym switch)
       (subst (λ (c : Tally). IsRunning mid.switch.run.table next.lanes.items mid.switch c) (sym counts)
       (running_settled mid.switch.run.table mid.lanes.items next.lanes.items mid.switch mid.counts settled running));
+  read = settled_read_up mid.lanes.items next.lanes.items settled read;
   marked = settled_marked mid.lanes.items next.lanes.items settled;
 }

@@ -10,7 +10,7 @@ use Rattle.afdx_session.specs.Reading.{IsFaultAt, IsReadFault}
 use Rattle.afdx_session.specs.Streams.{Stream}
 use Rattle.afdx_session.specs.Lanes.{IsStill, Adds, HasReadAll}
 use Rattle.afdx_session.specs.Kept.{AreLanesOf, AreOfTable, IsGoing, IsMarked}
-use Rattle.afdx_session.specs.View.{AreHalfDone, AreEndedLanes, texts_at}
+use Rattle.afdx_session.specs.View.{IsReady, AreHalfDone, AreEndedLanes, texts_at}
 use Rattle.afdx_session.proofs.Going.{some_same, reads_on}
 use Rattle.afdx_session.proofs.Intakes.{still_of_table, ended_half}
 use Rattle.afdx_session.proofs.Shown.{half_ports}
@@ -40,15 +40,19 @@ pub ended_as_marked : {Z : Type 0} (begun : Bool) (start : Machine Z) (now : Lis
 ended_as_marked {Z = Z} begun start now n l marked closes at =
     lane_stands (λ (x : Lane Z). x.closed ≡ x.reader.closed) n start.lanes.items now l closes.ends at (marks_of begun start.lanes.items marked)
 
+-- it was read up before
+read_before : {Z : Type 0} (begun : Bool) (start : Machine Z) (now : List (Lane Z)) (n : ℕ) (l : Lane Z) → IsReady start begun → Closes start now n → slice_get now n ≡ Some l → HasReadAll l
+read_before begun start now n l ready closes at = lane_stands HasReadAll n start.lanes.items now l closes.ends at ready.read
+
 set_same : {X : Type 0} (xs : List X) (k : ℕ) (x : X) → slice_get xs k ≡ Some x → set xs k x ≡ xs
 set_same [] k x at = absurd cc
 set_same (y ∷ xs) zero x at = ap (λ z. z ∷ xs) (sym (some_same y x at))
 set_same (y ∷ xs) (suc k) x at = ap (λ zs. y ∷ zs) (set_same xs k x at)
 
 -- a capture that had ended before
-pub closes_over : {Z : Type 0} (begun : Bool) (start : Machine Z) (now : List (Lane Z)) (n : ℕ) (l : Lane Z) → AllByRecursion (IsMarked begun) start.lanes.items → slice_get now n ≡ Some l → l.closed ≡ true → Closes start now n → Closes start (set now n l) (n + 1)
-closes_over {Z = Z} begun start now n l marked at closed was = subst (λ (ls : List (Lane Z)). Closes start ls (n + 1)) (sym (set_same now n l at)) (record {
-  ends = ends_over n start.lanes.items now l at (sym (ended_as_marked begun start now n l marked was at) ∙ closed) was.ends;
+pub closes_over : {Z : Type 0} (begun : Bool) (start : Machine Z) (now : List (Lane Z)) (n : ℕ) (l : Lane Z) → IsReady start begun → slice_get now n ≡ Some l → l.closed ≡ true → Closes start now n → Closes start (set now n l) (n + 1)
+closes_over {Z = Z} begun start now n l ready at closed was = subst (λ (ls : List (Lane Z)). Closes start ls (n + 1)) (sym (set_same now n l at)) (record {
+  ends = ends_over n start.lanes.items now l at (sym (ended_as_marked begun start now n l ready.marked was at) ∙ closed) (read_before begun start now n l ready was at) was.ends;
   going = was.going;
 })
 
@@ -58,11 +62,12 @@ of_now start now n of was =
 
 -- one that ends now
 pub closes_one : {Z : Type 0} → MergedIsAMerge → MergedIsByStampAndPort → (begun : Bool) (start : Machine Z) (now : List (Lane Z)) (n : ℕ) (old new : Lane Z) (more : List Entry) → AreOfTable start.switch.run.table start.lanes.items
-    → AllByRecursion (IsMarked begun) start.lanes.items → slice_get now n ≡ Some old → old.closed ≡ false → IsStill old new → new.undone ≡ old.undone → new.reader.bytes ≡ old.reader.bytes → new.reader.closed ≡ true → Adds old new more → HasReadAll new
+    → IsReady start begun → slice_get now n ≡ Some old → old.closed ≡ false → IsStill old new → new.undone ≡ old.undone → new.reader.bytes ≡ old.reader.bytes → new.reader.closed ≡ true → Adds old new more → HasReadAll new
     → Closes start now n → Closes start (set now n new) (n + 1)
-closes_one merge sorted begun start now n old new more of marked at still_open still undone bytes closed adds all was = record {
-  ends = ends_more n start.lanes.items now old new at (record { half = ended_half old new still undone bytes; bytes = bytes; closed = closed }) was.ends;
-  going = reads_on merge sorted start.switch.run.table now start.switch start.counts n old new more (of_now start now n of was) at (sym (ended_as_marked begun start now n old marked was at) ∙ still_open) still.port (ap (λ o. o.items) still.out) still.taken adds all was.going;
+closes_one merge sorted begun start now n old new more of ready at still_open still undone bytes closed adds all was = record {
+  ends = ends_more n start.lanes.items now old new at (record { half = ended_half old new still undone bytes; bytes = bytes; closed = closed; read = all }) was.ends;
+  going = reads_on merge sorted start.switch.run.table now start.switch start.counts n old new more (of_now start now n of was) at
+      ((read_before begun start now n old ready was at).ended ∙ sym (ended_as_marked begun start now n old ready.marked was at) ∙ still_open) still.port (ap (λ o. o.items) still.out) still.taken adds was.going;
 }
 
 -- one that has a fault: nothing that contracts see is another, and the fault is the first

@@ -114,11 +114,11 @@ draws_on given port place start now new before text more out k s at len long has
 
 -- ---- all goes out
 
-sent-front : (xs ys : List Sent) → drop (length xs) (xs ++ ys) ≡ ys
+pub sent-front : (xs ys : List Sent) → drop (length xs) (xs ++ ys) ≡ ys
 sent-front [] ys = refl
 sent-front (x ∷ xs) ys = sent-front xs ys
 
-capture-append : (es more : List Entry) → capture_text (es ++ more) ≡ capture_text es ++ flat_map record_text more
+pub capture-append : (es more : List Entry) → capture_text (es ++ more) ≡ capture_text es ++ flat_map record_text more
 capture-append es more = ap (λ text. header_text ++ text) (flat_map-append record_text es more) ∙ sym (append_assoc header_text (flat_map record_text es) (flat_map record_text more))
 
 drop-within : (n : ℕ) (xs ys : List ℕ) → n ≤ length xs → drop n (xs ++ ys) ≡ drop n xs ++ ys

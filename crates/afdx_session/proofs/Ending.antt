@@ -22,12 +22,13 @@ use Rattle.afdx_session.specs.Reading.{AreCaptures, IsFirstFault, IsFaultAt, IsR
 use Rattle.afdx_session.specs.Output.{output_text}
 use Rattle.afdx_session.specs.Streams.{Stream, captures_of, whole_of, merged_so_far, frontier, text_so_far, last_instant, AllStartBeforeTheLastInstant}
 use Rattle.afdx_session.specs.Session.{Intake}
-use Rattle.afdx_session.specs.Lanes.{waiting_of}
+use Rattle.afdx_session.specs.Lanes.{waiting_of, HasReadAll}
 use Rattle.afdx_session.specs.Kept.{IsLaneOf, AreLanesOf, AreOfTable, come_to, IsGoing, IsRunning, AreTouched, IsMarked}
 use Rattle.afdx_session.specs.View.{IsHalfDone, AreHalfDone, IsEndedLane, AreEndedLanes, texts_at}
 use Rattle.afdx_session.proofs.Going.{Early, lanes_early, some_same}
 use Rattle.afdx_session.proofs.Growing.{no_frontier, output_of_all, AllEnded}
 use Rattle.afdx_session.proofs.Settling.{all_back}
+use Rattle.afdx_session.proofs.ReadUp.{read_same}
 use Rattle.afdx_session.proofs.Gone.{text_is, none_late}
 use Rattle.afdx_session.proofs.Intakes.{half_of, half_both, half_none, marked_bytes}
 
@@ -72,9 +73,9 @@ pub ends_more : {Z : Type 0} (n : ℕ) (old new : List (Lane Z)) (l m : Lane Z) 
 ends_more n old new l m at one ends = subst (λ k. EndsUpTo k old (set new n m)) (plus_one n) (ends_suc n old new l m at one ends)
 
 -- one that had ended before
-pub ends_over : {Z : Type 0} (n : ℕ) (old new : List (Lane Z)) (l : Lane Z) → slice_get new n ≡ Some l → l.reader.closed ≡ true → EndsUpTo n old new → EndsUpTo (n + 1) old new
-ends_over n old new l at closed ends =
-    subst (λ ls. EndsUpTo (n + 1) old ls) (set_same new n l at) (ends_more n old new l l at (record { half = half_none l; bytes = refl; closed = closed }) ends)
+pub ends_over : {Z : Type 0} (n : ℕ) (old new : List (Lane Z)) (l : Lane Z) → slice_get new n ≡ Some l → l.reader.closed ≡ true → HasReadAll l → EndsUpTo n old new → EndsUpTo (n + 1) old new
+ends_over n old new l at closed read ends =
+    subst (λ ls. EndsUpTo (n + 1) old ls) (set_same new n l at) (ends_more n old new l l at (record { half = half_none l; bytes = refl; closed = closed; read = read }) ends)
 
 pub ends_half : {Z : Type 0} (n : ℕ) (old new : List (Lane Z)) → EndsUpTo n old new → AreHalfDone old new
 ends_half n [] [] ends = tt
@@ -107,9 +108,9 @@ ends_all (suc n) (l ∷ old) (m ∷ new) le ends = (ends.0, ends_all n old new (
 abbrev pub TakenAreTheCapture : Type 0
 TakenAreTheCapture = (t : Taking) (rs : List Entry) → HasTaken t rs → IsSound t.bytes t.given true → IsCapture t.bytes rs
 
-lane_capture : {Z : Type 0} → TakenAreTheCapture → (l : Lane Z) (s : Stream) → IsLaneOf l s → l.reader.closed ≡ true → IsCapture l.reader.bytes s.records
-lane_capture law l s is closed =
-    law (record { bytes = l.reader.bytes; given = l.reader.given }) s.records is.read.taken (subst (λ b. IsSound l.reader.bytes l.reader.given b) closed is.all.sound)
+pub lane_capture : {Z : Type 0} → TakenAreTheCapture → (l : Lane Z) (s : Stream) → IsLaneOf l s → HasReadAll l → l.reader.closed ≡ true → IsCapture l.reader.bytes s.records
+lane_capture law l s is read closed =
+    law (record { bytes = l.reader.bytes; given = l.reader.given }) s.records is.read.taken (subst (λ b. IsSound l.reader.bytes l.reader.given b) closed read.sound)
 
 first_fault : {Z : Type 0} → TakenAreTheCapture → (begun : Bool) (n : ℕ) (old new : List (Lane Z)) (streams : List Stream) (l : Lane Z) (why : PcapFault) → EndsUpTo n old new → AllByRecursion (IsMarked begun) old → AreLanesOf new streams
     → slice_get new n ≡ Some l → IsFault l.reader.bytes why → IsFirstFault (texts_at old) l.port why
@@ -125,7 +126,7 @@ first_fault {Z = Z} law begun zero (k ∷ old) (m ∷ new) (s ∷ streams) l why
     )
 first_fault law begun (suc n) (k ∷ old) (m ∷ new) (s ∷ streams) l why ends marked are at fault =
     inr (
-      (s.records, subst (λ bytes. IsCapture bytes s.records) (ends.0.bytes ∙ sym (marked_bytes begun k marked.0)) (lane_capture law m s are.0 ends.0.closed)),
+      (s.records, subst (λ bytes. IsCapture bytes s.records) (ends.0.bytes ∙ sym (marked_bytes begun k marked.0)) (lane_capture law m s are.0 ends.0.read ends.0.closed)),
       first_fault law begun n old new streams l why ends.1 marked.1 are.1 at fault,
     )
 
@@ -151,6 +152,7 @@ ended_touched (l ∷ old) (m ∷ mid) (n ∷ new) ends touched = (
     half = half_both l m n ends.0.half (half_of m n touched.0);
     bytes = ap (λ r. r.bytes) touched.0.reader ∙ ends.0.bytes;
     closed = ap (λ r. r.closed) touched.0.reader ∙ ends.0.closed;
+    read = read_same m n touched.0.reader touched.0.ended ends.0.read;
   },
   ended_touched old mid new ends.1 touched.1,
 )
@@ -165,7 +167,7 @@ streams_ended [] [] (s ∷ streams) ends are = absurd are
 streams_ended [] (n ∷ new) streams ends are = absurd ends
 streams_ended (l ∷ old) [] streams ends are = absurd ends
 streams_ended (l ∷ old) (n ∷ new) [] ends are = absurd are
-streams_ended (l ∷ old) (n ∷ new) (s ∷ streams) ends are = (are.0.ended ∙ ends.0.closed, streams_ended old new streams ends.1 are.1)
+streams_ended (l ∷ old) (n ∷ new) (s ∷ streams) ends are = (are.0.ended ∙ ends.0.read.ended ∙ ends.0.closed, streams_ended old new streams ends.1 are.1)
 
 pub are_captures : {Z : Type 0} → TakenAreTheCapture → (begun : Bool) (old new : List (Lane Z)) (streams : List Stream) → AllByRecursion (IsMarked begun) old → AreEndedLanes old new → AreLanesOf new streams → AreCaptures (texts_at old) (captures_of streams)
 are_captures law begun [] [] [] marked ends are = tt
@@ -175,7 +177,7 @@ are_captures law begun (l ∷ old) [] streams marked ends are = absurd ends
 are_captures law begun (l ∷ old) (n ∷ new) [] marked ends are = absurd are
 are_captures law begun (l ∷ old) (n ∷ new) (s ∷ streams) marked ends are = (
   are.0.port ∙ ap (λ (i : Intake). i.port) ends.0.half.intake,
-  subst (λ bytes. IsCapture bytes s.records) (ends.0.bytes ∙ sym (marked_bytes begun l marked.0)) (lane_capture law n s are.0 ends.0.closed),
+  subst (λ bytes. IsCapture bytes s.records) (ends.0.bytes ∙ sym (marked_bytes begun l marked.0)) (lane_capture law n s are.0 ends.0.read ends.0.closed),
   are_captures law begun old new streams marked.1 ends.1 are.1,
 )
 

@@ -61,17 +61,26 @@ fresh_stream p = record { port = p.id; records = []; closed = false }
 fresh_lane : {Z : Type 0} (p : PortRow) (l : Lane Z) → IsFreshLane p.id l → IsLaneOf l (fresh_stream p)
 fresh_lane p l fresh = record {
   port = sym fresh.port_is;
-  ended = ap (λ (r : Reading). r.closed) (sym fresh.reader);
+  ended = sym fresh.ended;
   read = record {
     no_fault = ap (λ (r : Reading). r.fault) fresh.reader;
     taken = record { first = tt; count = ap (λ (r : Reading). r.given) (sym fresh.reader) };
     last = fresh.last;
   };
-  all = record {
-    none_left = subst (λ (r : Reading). NoNext r.bytes r.given) (sym fresh.reader) (no_record 0);
-    sound = subst (λ (r : Reading). IsSound r.bytes r.given r.closed) (sym fresh.reader) no_early_fault;
-  };
 }
+
+fresh_read : {Z : Type 0} (ports : List PortRow) (lanes : List (Lane Z)) → AreFreshLanes ports lanes → AllByRecursion HasReadAll lanes
+fresh_read [] [] fresh = tt
+fresh_read [] (l ∷ lanes) fresh = absurd fresh
+fresh_read (p ∷ ports) [] fresh = absurd fresh
+fresh_read (p ∷ ports) (l ∷ lanes) fresh = (
+  record {
+    none_left = subst (λ (r : Reading). NoNext r.bytes r.given) (sym fresh.0.reader) (no_record 0);
+    sound = subst (λ (r : Reading). IsSound r.bytes r.given r.closed) (sym fresh.0.reader) no_early_fault;
+    ended = fresh.0.ended ∙ ap (λ (r : Reading). r.closed) (sym fresh.0.reader);
+  },
+  fresh_read ports lanes fresh.1,
+)
 
 fresh_lanes : {Z : Type 0} (ports : List PortRow) (lanes : List (Lane Z)) → AreFreshLanes ports lanes → AreLanesOf lanes (map fresh_stream ports)
 fresh_lanes [] [] fresh = tt
@@ -185,7 +194,7 @@ fresh_running starts accepted t lanes fresh = record {
 fresh_shown : {Z : Type 0} (t : Content) (lanes : List (Lane Z)) → AreFreshLanes t.ports lanes → IsShown t false lanes
 fresh_shown t lanes fresh = record {
   streams = map fresh_stream t.ports;
-  are = lanes_are_streams false lanes (map fresh_stream t.ports) (fresh_marked t.ports lanes fresh) (fresh_lanes t.ports lanes fresh);
+  are = lanes_are_streams false lanes (map fresh_stream t.ports) (fresh_marked t.ports lanes fresh) (fresh_read t.ports lanes fresh) (fresh_lanes t.ports lanes fresh);
   each = λ place p l is_port is_lane.
       let own = fresh_at t.ports lanes place l fresh is_lane in
       let taken = own.1.taken in
@@ -215,6 +224,7 @@ fresh_kept starts accepted t m formed is_accepted switch counts fresh = record {
   shown = rw switch (fresh_shown t m.lanes.items fresh);
   ready = λ not_failed. record {
     running = rw (switch, counts) (fresh_running starts accepted t m.lanes.items fresh);
+    read = fresh_read t.ports m.lanes.items fresh;
     marked = fresh_marked t.ports m.lanes.items fresh;
   };
 }

@@ -17,7 +17,7 @@ use Rattle.afdx_count.specs.Tally.{Tally}
 use Rattle.afdx_session.specs.declared.lane.Lane.{Lane}
 use Rattle.afdx_session.specs.Streams.{Stream, captures_of, last_of, frontier, merged_so_far, GoOn}
 use Rattle.afdx_session.specs.Settled.{Ascend, ports_of, AllRise, AreQueued, AllWait}
-use Rattle.afdx_session.specs.Lanes.{HasReadAll, Adds, waiting_of, with_waiting}
+use Rattle.afdx_session.specs.Lanes.{Adds, waiting_of, with_waiting}
 use Rattle.afdx_session.specs.Kept.{IsLaneOf, AreLanesOf, AreOfTable, come_to, text_up_to, IsOut, AreOut, Every, IsGoing}
 use Rattle.afdx_session.proofs.Joining.{AllFrom}
 use Rattle.afdx_session.proofs.Numbered.{all_append}
@@ -135,17 +135,17 @@ come_grows streams later ends on = by_old (frontier streams) refl where
 
 -- ---- a lane is read
 
-reads_lanes : {Z : Type 0} (lanes : List (Lane Z)) (streams : List Stream) (k : ℕ) (old new : Lane Z) (more : List Entry) → AreLanesOf lanes streams → slice_get lanes k ≡ Some old → new.port ≡ old.port → Adds old new more → HasReadAll new
+reads_lanes : {Z : Type 0} (lanes : List (Lane Z)) (streams : List Stream) (k : ℕ) (old new : Lane Z) (more : List Entry) → AreLanesOf lanes streams → slice_get lanes k ≡ Some old → new.port ≡ old.port → Adds old new more
     → AreLanesOf (set lanes k new) (streams_with streams k new more)
-reads_lanes [] [] k old new more are at port adds all = tt
-reads_lanes [] (s ∷ streams) k old new more are at port adds all = absurd are
-reads_lanes (l ∷ lanes) [] k old new more are at port adds all = absurd are
-reads_lanes {Z = Z} (l ∷ lanes) (s ∷ streams) zero old new more are at port adds all =
+reads_lanes [] [] k old new more are at port adds = tt
+reads_lanes [] (s ∷ streams) k old new more are at port adds = absurd are
+reads_lanes (l ∷ lanes) [] k old new more are at port adds = absurd are
+reads_lanes {Z = Z} (l ∷ lanes) (s ∷ streams) zero old new more are at port adds =
     let own : IsLaneOf old s = subst (λ (x : Lane Z). IsLaneOf x s) (some_same l old at) are.0 in (
-      record { port = own.port ∙ sym port; ended = refl; read = adds.read s.records own.read; all = all },
+      record { port = own.port ∙ sym port; ended = refl; read = adds.read s.records own.read },
       are.1,
     )
-reads_lanes (l ∷ lanes) (s ∷ streams) (suc k) old new more are at port adds all = (are.0, reads_lanes lanes streams k old new more are.1 at port adds all)
+reads_lanes (l ∷ lanes) (s ∷ streams) (suc k) old new more are at port adds = (are.0, reads_lanes lanes streams k old new more are.1 at port adds)
 
 on_of : (streams later : List Stream) (waiting more : List Capture) → AllWait streams later waiting more → GoOn streams later
 on_of [] [] [] [] wait = tt
@@ -227,13 +227,13 @@ outs_stay {Z = Z} t given h s lanes k old new at out taken outs place p l in_all
       })
 ]
 
-pub reads_on : {Z : Type 0} → MergedIsAMerge → MergedIsByStampAndPort → (t : Content) (lanes : List (Lane Z)) (s : State) (counts : Tally) (k : ℕ) (old new : Lane Z) (more : List Entry) → AreOfTable t lanes → slice_get lanes k ≡ Some old → old.reader.closed ≡ false
-    → new.port ≡ old.port → new.out.items ≡ old.out.items → new.taken ≡ old.taken → Adds old new more → HasReadAll new → IsGoing t lanes s counts → IsGoing t (set lanes k new) s counts
-reads_on merge sorted t lanes s counts k old new more of at still_open port out taken adds all going = record {
+pub reads_on : {Z : Type 0} → MergedIsAMerge → MergedIsByStampAndPort → (t : Content) (lanes : List (Lane Z)) (s : State) (counts : Tally) (k : ℕ) (old new : Lane Z) (more : List Entry) → AreOfTable t lanes → slice_get lanes k ≡ Some old → old.ended ≡ false
+    → new.port ≡ old.port → new.out.items ≡ old.out.items → new.taken ≡ old.taken → Adds old new more → IsGoing t lanes s counts → IsGoing t (set lanes k new) s counts
+reads_on merge sorted t lanes s counts k old new more of at still_open port out taken adds going = record {
   streams = next;
   given = going.given;
   since = going.since;
-  lanes_are = reads_lanes lanes going.streams k old new more going.lanes_are at port adds all;
+  lanes_are = reads_lanes lanes going.streams k old new more going.lanes_are at port adds;
   settling = reads_settle merge sorted lanes going.streams going.given k old new more (lanes_ascend t lanes going.streams of going.lanes_are) going.lanes_are at still_open port adds going.settling;
   is_given = going.is_given;
   come = going.come;
@@ -265,7 +265,6 @@ same_lanes {Z = Z} (m ∷ lanes) (s ∷ streams) zero l rest are at =
         port = own.port;
         ended = own.ended;
         read = record { no_fault = own.read.no_fault; taken = own.read.taken; last = own.read.last };
-        all = record { none_left = own.all.none_left; sound = own.all.sound };
       },
       are.1,
     )

@@ -20,7 +20,7 @@ use Rattle.afdx_session.specs.Replay.{HasBytesOf, IsDrained}
 use Rattle.afdx_session.specs.Streams.{Stream, merged_so_far, frontier, sent_up_to, output_so_far, text_so_far, last_instant, AllStartBeforeTheLastInstant}
 use Rattle.afdx_session.specs.Settled.{IsSettling, IsGiven, IsAt, HandsOut, Draws}
 use Rattle.afdx_session.specs.Lanes.{waiting_of}
-use Rattle.afdx_pcap.specs.Reading.{HasTaken, NoNext, IsSound}
+use Rattle.afdx_pcap.specs.Reading.{HasTaken}
 use Rattle.afdx_session.specs.Kept.{IsLaneOf, AreLanesOf, AreOfTable, come_to, text_up_to, IsOut, AreOut, Every, IsGoing, HasCome, IsRunning, IsTouched, IsGrown, AreGrown}
 use Rattle.afdx_session.proofs.Joining.{AllFrom}
 use Rattle.afdx_session.proofs.Settling.{all_front, all_back}
@@ -61,25 +61,22 @@ grown_lanes (l ∷ old) (n ∷ new) (s ∷ streams) grown are = (lane grown.0 ar
   lane : IsGrown l n → IsLaneOf l s → IsLaneOf n s
   lane g is = record {
     port = is.port ∙ sym g.touched.port;
-    ended = is.ended ∙ ap (λ r. r.closed) (sym g.touched.reader);
+    ended = is.ended ∙ sym g.touched.ended;
     read = record {
       no_fault = ap (λ r. r.fault) g.touched.reader ∙ is.read.no_fault;
       taken = subst (λ r. HasTaken (record { bytes = r.bytes; given = r.given }) s.records) (sym g.touched.reader) is.read.taken;
       last = g.last ∙ is.read.last;
     };
-    all = record {
-      none_left = subst (λ r. NoNext r.bytes r.given) (sym g.touched.reader) is.all.none_left;
-      sound = subst (λ r. IsSound r.bytes r.given r.closed) (sym g.touched.reader) is.all.sound;
-    };
   }
 
 pub touched_none : {Z : Type 0} (l : Lane Z) → IsTouched l l
-touched_none l = record { port = refl; reader = refl; undone = refl; closed = refl; ready = refl; taken = refl; more = []; out = sym (append-nil l.out.items) }
+touched_none l = record { port = refl; reader = refl; ended = refl; undone = refl; closed = refl; ready = refl; taken = refl; more = []; out = sym (append-nil l.out.items) }
 
 pub touched_both : {Z : Type 0} (a b c : Lane Z) → IsTouched a b → IsTouched b c → IsTouched a c
 touched_both a b c one two = record {
   port = two.port ∙ one.port;
   reader = two.reader ∙ one.reader;
+  ended = two.ended ∙ one.ended;
   undone = two.undone ∙ one.undone;
   closed = two.closed ∙ one.closed;
   ready = two.ready ∙ one.ready;
@@ -216,28 +213,28 @@ hands_at t given k old new at hands = record {
   latest = hands.latest ∙ at.latest;
 }
 
+-- what has left goes out
+pub drained_going : {Z : Type 0} (t : Content) (old new : List (Lane Z)) (s next : State) (counts : Tally) (going : IsGoing t old s counts) → AreGrown old new → HandsOut s next → AreOut t going.given s.run.latest next new Every → IsGoing t new next counts
+drained_going t old new s next counts going grown hands outs = record {
+  streams = going.streams;
+  given = going.given;
+  since = s.run.latest;
+  lanes_are = grown_lanes old new going.streams grown going.lanes_are;
+  settling = subst (IsSettling going.streams going.given) (sym (grown_waiting old new grown)) going.settling;
+  is_given = (hands_at t going.given s.run.latest s next (record { is_given = going.is_given; latest = refl }) hands).is_given;
+  come = let same = hands.latest in omega (arith, same);
+  later = subst (λ ws. AllFrom next.run.latest (merged ws)) (sym (grown_waiting old new grown)) (subst (λ n. AllFrom n (merged (map waiting_of old))) (sym hands.latest) going.later);
+  until = let same = hands.latest in let le = going.until in omega (arith, same, le);
+  counts_are = going.counts_are;
+  few = going.few;
+  outs = outs;
+}
+
 -- so all has gone out up to the frontier
 pub runs_on : {Z : Type 0} (t : Content) (old new : List (Lane Z)) (s next : State) (counts : Tally) (come : HasCome t old s counts) → AreGrown old new → HandsOut s next → AreOut t come.going.given s.run.latest next new Every
     → IsRunning t new next counts
-runs_on t old new s next counts come grown hands outs = record {
-  going = record {
-    streams = going.streams;
-    given = going.given;
-    since = s.run.latest;
-    lanes_are = grown_lanes old new going.streams grown going.lanes_are;
-    settling = subst (IsSettling going.streams going.given) (sym (grown_waiting old new grown)) going.settling;
-    is_given = (hands_at t going.given s.run.latest s next (record { is_given = going.is_given; latest = refl }) hands).is_given;
-    come = let same = hands.latest in omega (arith, same);
-    later = subst (λ ws. AllFrom next.run.latest (merged ws)) (sym (grown_waiting old new grown)) (subst (λ n. AllFrom n (merged (map waiting_of old))) (sym hands.latest) going.later);
-    until = let same = hands.latest in let le = going.until in omega (arith, same, le);
-    counts_are = going.counts_are;
-    few = going.few;
-    outs = outs;
-  };
-  out = λ some. come.at;
-} where
-  going : IsGoing t old s counts
-  going = come.going
+unfolding drained_going
+runs_on t old new s next counts come grown hands outs = record { going = drained_going t old new s next counts come.going grown hands outs; out = λ some. come.at }
 
 -- ---- the bytes
 
@@ -297,10 +294,10 @@ at_index (x ∷ xs) (suc k) d lt = at_index xs k d (omega (arith, lt))
 
 -- a lane with another output
 abbrev pub with_out : {Z : Type 0} → Vec ℕ Z → Lane Z → Lane Z
-with_out out l = record { port = l.port; reader = l.reader; last = l.last; waiting = l.waiting; out = out; undone = l.undone; closed = l.closed; ready = l.ready; taken = l.taken }
+with_out out l = record { port = l.port; reader = l.reader; last = l.last; ended = l.ended; waiting = l.waiting; out = out; undone = l.undone; closed = l.closed; ready = l.ready; taken = l.taken }
 
 pub grown_out : {Z : Type 0} (l : Lane Z) (out : Vec ℕ Z) (more : List ℕ) → out.items ≡ l.out.items ++ more → IsGrown l (with_out out l)
-grown_out l out more is = record { touched = record { port = refl; reader = refl; undone = refl; closed = refl; ready = refl; taken = refl; more = more; out = is }; last = refl; waiting = refl }
+grown_out l out more is = record { touched = record { port = refl; reader = refl; ended = refl; undone = refl; closed = refl; ready = refl; taken = refl; more = more; out = is }; last = refl; waiting = refl }
 
 -- the lanes before a place were drained
 pub record DrainsUpTo {Z : Type 0} (start : State) (lanes : List (Lane Z)) (now : State) (new : List (Lane Z)) (n : ℕ) : Type 0 where

@@ -2,7 +2,7 @@
 use Rattle.std.proofs.Common.{◌≡◌, ℕ, zero, suc, ◌-◌, ◌<◌, ◌≤◌, Bool, true, List, [], ◌∷◌, ◌++◌, map, length, take, drop, set, slice_get, Some, refl, ap, sym, ◌∙◌, arith, append_assoc, subst}
 use Rattle.std.specs.List.{AllByRecursion}
 use Rattle.std.proofs.lemmas.List.{append-nil}
-use Rattle.afdx_pcap.specs.Reading.{Reading, HasTaken, NoNext, IsSound}
+use Rattle.afdx_pcap.specs.Reading.{Reading, HasTaken}
 use Rattle.afdx_table.specs.Content.{Content}
 use Rattle.afdx_core.specs.State.{State}
 use Rattle.afdx_core.specs.Merge.{merged}
@@ -210,15 +210,11 @@ settled_lanes (l ∷ a) (m ∷ b) (s ∷ streams) settled are = (lane settled.0 
   lane : IsSettledLane l m → IsLaneOf l s → IsLaneOf m s
   lane g is = record {
     port = is.port ∙ sym g.port;
-    ended = is.ended ∙ ap (λ r. r.closed) (sym g.reader);
+    ended = is.ended ∙ sym g.ended;
     read = record {
       no_fault = ap (λ r. r.fault) g.reader ∙ is.read.no_fault;
       taken = subst (λ r. HasTaken (record { bytes = r.bytes; given = r.given }) s.records) (sym g.reader) is.read.taken;
       last = g.last ∙ is.read.last;
-    };
-    all = record {
-      none_left = subst (λ r. NoNext r.bytes r.given) (sym g.reader) is.all.none_left;
-      sound = subst (λ r. IsSound r.bytes r.given r.closed) (sym g.reader) is.all.sound;
     };
   }
 

@@ -1,11 +1,11 @@
 -- Captures that come whole, one lane after the other.
-use Rattle.std.proofs.Common.{◌≡◌, ℕ, zero, suc, ◌+◌, ◌<◌, ◌≤◌, true, List, [], ◌∷◌, ◌++◌, map, length, get_or, set, slice_get, Some, Vec, inl, inr, refl, ap, sym, ◌∙◌, arith, subst}
+use Rattle.std.proofs.Common.{◌≡◌, ℕ, zero, suc, ◌+◌, ◌<◌, ◌≤◌, Bool, true, false, List, [], ◌∷◌, ◌++◌, map, length, get_or, set, slice_get, Some, Vec, refl, ap, sym, ◌∙◌, arith, subst}
+use Rattle.std.specs.List.{AllByRecursion}
 use Rattle.std.proofs.lemmas.List.{length-map}
 use Rattle.afdx_pcap.specs.Entry.{Entry}
 use Rattle.afdx_pcap.specs.Capture.{IsCapture}
 use Rattle.afdx_pcap.specs.Reading.{HasTaken, whole_reading}
 use Rattle.afdx_pcap.specs.Reading as pcap
-use Rattle.afdx_pcap.specs.declared.fault.PcapFault.{PcapFault}
 use Rattle.afdx_table.specs.declared.rows.PortRow.{PortRow}
 use Rattle.afdx_core.specs.Merge.{MergedIsAMerge, MergedIsByStampAndPort}
 use Rattle.afdx_session.specs.declared.lane.Lane.{Lane}
@@ -13,10 +13,11 @@ use Rattle.afdx_session.specs.declared.machine.Machine.{Machine}
 use Rattle.afdx_session.specs.declared.plan.RunFault.{RunFault}
 use Rattle.afdx_session.specs.declared.plan.RunFault.TheVariants as run
 use Rattle.afdx_session.specs.Texts.{Text, texts_of, AreOfPorts}
-use Rattle.afdx_session.specs.Reading.{IsFaultAt, IsFirstFault, IsReadFault}
-use Rattle.afdx_session.specs.Lanes.{IsStill, HasReadAll, Adds}
+use Rattle.afdx_session.specs.Reading.{IsFaultAt}
+use Rattle.afdx_session.specs.Lanes.{IsStill, IsReadOn, HasReadAll, Adds, HasDrawn}
+use Rattle.afdx_session.specs.Lent.{IsOver, texts_over, IsOneFault}
 use Rattle.afdx_session.specs.Kept.{AreOfTable, IsGoing, AreTouched}
-use Rattle.afdx_session.specs.View.{IsFreshLane, AreFreshLanes, IsLent, AreLent, AreSettledLanes}
+use Rattle.afdx_session.specs.View.{IsFreshLane, AreFreshLanes, AreLent, AreSettledLanes}
 use Rattle.afdx_session.proofs.Firsts.{get-map}
 use Rattle.afdx_session.proofs.Going.{some_same, reads_on}
 use Rattle.afdx_session.proofs.Gone.{at_index}
@@ -39,16 +40,39 @@ adds_lent old mid new text more fresh lent last waiting adds = record {
   });
 }
 
-pub is_lent : {Z : Type 0} (old new : Lane Z) (text : Text) → old.port ≡ text.0 → IsFreshLane old.port old → IsStill old new → new.reader.bytes ≡ text.1 → new.reader.closed ≡ true → HasReadAll new → IsLent text new
-is_lent old new text port fresh still bytes closed read =
-    let sound = subst (pcap.IsSound new.reader.bytes new.reader.given) closed read.sound in
-    record {
-      port = still.port ∙ port;
-      bytes = bytes;
-      closed = closed;
-      sound = (sound.0, subst (λ (xs : List ℕ). IsCapture xs sound.0) bytes sound.1);
-      taken = still.taken ∙ fresh.taken;
-    }
+pub not_both : (b : Bool) → b ≡ true → b ≡ false → ⊥
+not_both b one other = absurd cc
+
+-- a lane whose last record has gone reads the next one
+pub draws_over : {Z : Type 0} (found : Bool) (old new : Lane Z) → old.reader.closed ≡ true → old.taken ≡ 0 → old.ended ≡ false → old.waiting.items ≡ [] → IsReadOn old new → HasDrawn found old new → IsOver new
+draws_over true old new closed taken still_open none on drawn = record {
+  closed = on.ended ∙ closed;
+  taken = on.taken ∙ taken;
+  head = λ is. (drawn.frame, drawn.adds.queue ∙ ap (λ rs. rs ++ drawn.frame ∷ []) none, drawn.last);
+  read = λ is. absurd (not_both new.ended is (drawn.ended ∙ still_open));
+}
+draws_over false old new closed taken still_open none on drawn = record {
+  closed = on.ended ∙ closed;
+  taken = on.taken ∙ taken;
+  head = λ is. absurd (not_both new.ended (drawn.read.ended ∙ on.ended ∙ closed) is);
+  read = λ is. (drawn.adds.queue ∙ ap (λ rs. rs ++ []) none, drawn.read);
+}
+
+pub drawn_adds : {Z : Type 0} (found : Bool) (old new : Lane Z) → HasDrawn found old new → (more : List Entry) × Adds old new more
+drawn_adds true old new drawn = (drawn.frame ∷ [], drawn.adds)
+drawn_adds false old new drawn = ([], drawn.adds)
+
+pub lends_first : {Z : Type 0} (found : Bool) (old mid new : Lane Z) (text : List ℕ) → IsFreshLane old.port old → mid.reader ≡ whole_reading text 0 → mid.last ≡ old.last → mid.waiting ≡ old.waiting → mid.ended ≡ old.ended → mid.taken ≡ old.taken → IsReadOn mid new → HasDrawn found mid new
+    → ((more : List Entry) × Adds old new more) × IsOver new
+lends_first found old mid new text fresh lent last waiting ended taken on drawn =
+    let added = drawn_adds found mid new drawn in (
+      (added.0, adds_lent old mid new text added.0 fresh lent last waiting added.1),
+      draws_over found mid new (ap (λ r. r.closed) lent) (taken ∙ fresh.taken) (ended ∙ fresh.ended) (ap (λ w. w.items) waiting ∙ fresh.waiting) on drawn,
+    )
+
+-- a lane is over a text
+abbrev pub IsOn : {Z : Type 0} → Text → Lane Z → Type 0
+IsOn text l = (l.port ≡ text.0) × (l.reader.bytes ≡ text.1) × IsOver l
 
 -- ---- one after the other
 
@@ -58,7 +82,7 @@ LentUpTo n [] [] = Unit {0}
 LentUpTo n [] (l ∷ lanes) = ⊥
 LentUpTo n (text ∷ texts) [] = ⊥
 LentUpTo zero (text ∷ texts) (l ∷ lanes) = (l.port ≡ text.0) × IsFreshLane l.port l × LentUpTo zero texts lanes
-LentUpTo (suc n) (text ∷ texts) (l ∷ lanes) = IsLent text l × LentUpTo n texts lanes
+LentUpTo (suc n) (text ∷ texts) (l ∷ lanes) = IsOn text l × LentUpTo n texts lanes
 
 first_same : (m n : ℕ) (ms ns : List ℕ) → m ∷ ms ≡ n ∷ ns → (m ≡ n) × (ms ≡ ns)
 first_same m n ms ns e = (head e, tail e) where
@@ -92,33 +116,30 @@ next_lane n (text ∷ texts) [] l lent at = absurd lent
 next_lane {Z = Z} zero (text ∷ texts) (m ∷ lanes) l lent at = subst (λ (x : Lane Z). IsNextOf (text ∷ texts) 0 x) (some_same m l at) (record { text = text; at = refl; port = lent.0; fresh = lent.1 })
 next_lane (suc n) (text ∷ texts) (m ∷ lanes) l lent at = let next = next_lane n texts lanes l lent.1 at in record { text = next.text; at = next.at; port = next.port; fresh = next.fresh }
 
-lent_suc : {Z : Type 0} (n : ℕ) (texts : List Text) (lanes : List (Lane Z)) (text : Text) (new : Lane Z) → LentUpTo n texts lanes → slice_get texts n ≡ Some text → IsLent text new → LentUpTo (suc n) texts (set lanes n new)
+lent_suc : {Z : Type 0} (n : ℕ) (texts : List Text) (lanes : List (Lane Z)) (text : Text) (new : Lane Z) → LentUpTo n texts lanes → slice_get texts n ≡ Some text → IsOn text new → LentUpTo (suc n) texts (set lanes n new)
 lent_suc n [] [] text new lent at is = absurd cc
 lent_suc n [] (m ∷ lanes) text new lent at is = absurd lent
 lent_suc n (other ∷ texts) [] text new lent at is = absurd lent
-lent_suc {Z} zero (other ∷ texts) (m ∷ lanes) text new lent at is = (subst (λ (t : Text). IsLent t new) (sym (some_same other text at)) is, lent.2)
+lent_suc {Z} zero (other ∷ texts) (m ∷ lanes) text new lent at is = (subst (λ (t : Text). IsOn t new) (sym (some_same other text at)) is, lent.2)
 lent_suc (suc n) (other ∷ texts) (m ∷ lanes) text new lent at is = (lent.0, lent_suc n texts lanes text new lent.1 at is)
 
 plus_one : (n : ℕ) → suc n ≡ n + 1
 plus_one n = omega arith
 
-lent_all : {Z : Type 0} (n : ℕ) (texts : List Text) (lanes : List (Lane Z)) → length lanes ≤ n → LentUpTo n texts lanes → AreLent texts lanes
-lent_all n [] [] le lent = tt
+lent_all : {Z : Type 0} (n : ℕ) (texts : List Text) (lanes : List (Lane Z)) → length lanes ≤ n → LentUpTo n texts lanes → AllByRecursion IsOver lanes × (texts_over lanes ≡ texts)
+lent_all n [] [] le lent = (tt, refl)
 lent_all n [] (l ∷ lanes) le lent = absurd lent
 lent_all n (text ∷ texts) [] le lent = absurd lent
 lent_all zero (text ∷ texts) (l ∷ lanes) le lent = absurd (omega (arith, le))
-lent_all (suc n) (text ∷ texts) (l ∷ lanes) le lent = (lent.0, lent_all n texts lanes (omega (arith, le)) lent.1)
-
-first_lent_fault : {Z : Type 0} (n : ℕ) (texts : List Text) (lanes : List (Lane Z)) (text : Text) (port : ℕ) (why : PcapFault) → LentUpTo n texts lanes → slice_get texts n ≡ Some text → text.0 ≡ port → pcap.IsWrong text.1 true why → IsFirstFault texts port why
-first_lent_fault n [] [] text port why lent at is fault = absurd cc
-first_lent_fault n [] (m ∷ lanes) text port why lent at is fault = absurd lent
-first_lent_fault n (other ∷ texts) [] text port why lent at is fault = absurd lent
-first_lent_fault {Z} zero (other ∷ texts) (m ∷ lanes) text port why lent at is fault = subst (λ (t : Text). IsFirstFault (t ∷ texts) port why) (sym (some_same other text at)) (inl (is, fault))
-first_lent_fault (suc n) (other ∷ texts) (m ∷ lanes) text port why lent at is fault = inr (lent.0.sound, first_lent_fault n texts lanes text port why lent.1 at is fault)
+lent_all (suc n) (text ∷ texts) (l ∷ lanes) le lent =
+    let rest = lent_all n texts lanes (omega (arith, le)) lent.1 in (
+      (lent.0.2, rest.0),
+      ap (λ m. (m, l.reader.bytes) ∷ texts_over lanes) lent.0.0 ∙ ap (λ bytes. (text.0, bytes) ∷ texts_over lanes) lent.0.1 ∙ ap (λ ts. text ∷ ts) rest.1,
+    )
 
 -- ---- the machine
 
-ports_stay : {Z : Type 0} (lanes : List (Lane Z)) (k : ℕ) (old new : Lane Z) → slice_get lanes k ≡ Some old → new.port ≡ old.port → map (λ (l : Lane Z). l.port) (set lanes k new) ≡ map (λ (l : Lane Z). l.port) lanes
+pub ports_stay : {Z : Type 0} (lanes : List (Lane Z)) (k : ℕ) (old new : Lane Z) → slice_get lanes k ≡ Some old → new.port ≡ old.port → map (λ (l : Lane Z). l.port) (set lanes k new) ≡ map (λ (l : Lane Z). l.port) lanes
 ports_stay [] k old new at port = absurd cc
 ports_stay {Z = Z} (l ∷ lanes) zero old new at port = ap (λ n. n ∷ map (λ (x : Lane Z). x.port) lanes) (port ∙ ap (λ (x : Lane Z). x.port) (sym (some_same l old at)))
 ports_stay {Z = Z} (l ∷ lanes) (suc k) old new at port = ap (λ ns. l.port ∷ ns) (ports_stay lanes k old new at port)
@@ -136,27 +157,28 @@ pub lends_next : {Z : Type 0} (start : Machine Z) (texts : List Text) (now : Lis
 lends_next start texts now n l lends at = next_lane n texts now l lends.lent at
 
 pub lends_one : {Z : Type 0} → MergedIsAMerge → MergedIsByStampAndPort → (start : Machine Z) (texts : List Text) (now : List (Lane Z)) (n : ℕ) (old new : Lane Z) (text : Text) (more : List Entry) → Lends start texts now n → slice_get now n ≡ Some old → slice_get texts n ≡ Some text
-    → IsStill old new → new.reader.bytes ≡ text.1 → new.reader.closed ≡ true → Adds old new more → HasReadAll new → Lends start texts (set now n new) (n + 1)
-lends_one {Z = Z} merge sorted start texts now n old new text more lends at text_at still bytes closed adds read =
+    → IsStill old new → new.reader.bytes ≡ text.1 → Adds old new more → IsOver new → Lends start texts (set now n new) (n + 1)
+lends_one {Z = Z} merge sorted start texts now n old new text more lends at text_at still bytes adds over =
     let next = next_lane n texts now old lends.lent at in
     let same = some_same next.text text (sym next.at ∙ text_at) in
-    let is = is_lent old new text (next.port ∙ ap (λ (t : Text). t.0) same) next.fresh still bytes closed read in
+    let is : IsOn text new = (still.port ∙ next.port ∙ ap (λ (t : Text). t.0) same, bytes, over) in
     record {
       lent = subst (λ k. LentUpTo k texts (set now n new)) (plus_one n) (lent_suc n texts now text new lends.lent text_at is);
       of = still_of_table start.switch.run.table now (set now n new) (ports_stay now n old new at still.port) lends.of;
-      going = reads_on merge sorted start.switch.run.table now start.switch start.counts n old new more lends.of at (ap (λ r. r.closed) next.fresh.reader) still.port (ap (λ o. o.items) still.out) still.taken adds read lends.going;
+      going = reads_on merge sorted start.switch.run.table now start.switch start.counts n old new more lends.of at next.fresh.ended still.port (ap (λ o. o.items) still.out) still.taken adds lends.going;
     }
 
-pub lends_fault : {Z : Type 0} (start : Machine Z) (texts : List Text) (now : List (Lane Z)) (n : ℕ) (old : Lane Z) (text : Text) (fault : RunFault) → Lends start texts now n → slice_get now n ≡ Some old → slice_get texts n ≡ Some text → IsFaultAt text.1 old.port fault → IsReadFault texts fault
+-- the text at a place has a fault
+pub lends_fault : {Z : Type 0} (start : Machine Z) (texts : List Text) (now : List (Lane Z)) (n : ℕ) (old : Lane Z) (text : Text) (fault : RunFault) → Lends start texts now n → slice_get now n ≡ Some old → slice_get texts n ≡ Some text → IsFaultAt text.1 old.port fault → IsOneFault texts fault
 lends_fault start texts now n old text run.Memory lends at text_at is = tt
 lends_fault start texts now n old text (run.Capture port why) lends at text_at is =
     let next = next_lane n texts now old lends.lent at in
-    first_lent_fault n texts now text port why lends.lent text_at (ap (λ (t : Text). t.0) (sym (some_same next.text text (sym next.at ∙ text_at))) ∙ sym next.port ∙ sym is.0) is.1
+    let same : text.0 ≡ port = ap (λ (t : Text). t.0) (sym (some_same next.text text (sym next.at ∙ text_at))) ∙ sym next.port ∙ sym is.0 in (n, text.1, text_at ∙ ap (λ m. Some (m, text.1)) same, is.1)
 lends_fault start texts now n old text run.WrongPorts lends at text_at is = is
 lends_fault start texts now n old text run.Closed lends at text_at is = is
 lends_fault start texts now n old text run.Failed lends at text_at is = is
 
-pub lends_all : {Z : Type 0} (start : Machine Z) (texts : List Text) (now : List (Lane Z)) (n : ℕ) → length now ≤ n → Lends start texts now n → AreLent texts now
+pub lends_all : {Z : Type 0} (start : Machine Z) (texts : List Text) (now : List (Lane Z)) (n : ℕ) → length now ≤ n → Lends start texts now n → AllByRecursion IsOver now × (texts_over now ≡ texts)
 lends_all start texts now n le lends = lent_all n texts now le lends.lent
 
 -- there are as many captures as lanes
@@ -176,6 +198,12 @@ text_at {Z} start captures n d of ports lt = get-map text captures n (get_or cap
 
   many : length captures ≡ length start.lanes.items
   many = as_many text start.lanes.items start.switch.run.table.ports captures of.ports ports
+
+-- ---- all have ended
+
+whole_text : {Z : Type 0} (l : Lane Z) → IsOver l → l.ended ≡ true → (records : List Entry) × IsCapture l.reader.bytes records
+whole_text l over ended =
+    let sound = subst (pcap.IsSound l.reader.bytes l.reader.given) over.closed (over.read ended).1.sound in (sound.0, sound.1)
 
 -- what goes on and is settled is still lent
 pub lent_settled : {Z : Type 0} (texts : List Text) (a b c : List (Lane Z)) → AreLent texts a → AreTouched a b → AreSettledLanes b c → AreLent texts c
@@ -197,3 +225,16 @@ lent_settled (text ∷ texts) (l ∷ a) (m ∷ b) (n ∷ c) lent touched settled
       },
       lent_settled texts a b c lent.1 touched.1 settled.1,
     )
+
+-- where all have ended, they are lent
+pub over_lent : {Z : Type 0} (lanes : List (Lane Z)) → AllByRecursion IsOver lanes → AllByRecursion (λ (l : Lane Z). l.ended ≡ true) lanes → AreLent (texts_over lanes) lanes
+over_lent [] over ended = tt
+over_lent (l ∷ lanes) over ended = (
+  record { port = refl; bytes = refl; closed = over.0.closed; sound = whole_text l over.0 ended.0; taken = over.0.taken },
+  over_lent lanes over.1 ended.1,
+)
+
+-- and all was read
+pub over_read : {Z : Type 0} (lanes : List (Lane Z)) → AllByRecursion IsOver lanes → AllByRecursion (λ (l : Lane Z). l.ended ≡ true) lanes → AllByRecursion HasReadAll lanes
+over_read [] over ended = tt
+over_read (l ∷ lanes) over ended = ((over.0.read ended.0).1, over_read lanes over.1 ended.1)

@@ -39,8 +39,12 @@ pub mod Rounds
 pub mod Fresh
 pub mod Places
 pub mod Taken
+pub mod ReadUp
+pub mod Carrying
+pub mod Checks
 pub mod Firsts
 pub mod Goings
 pub mod Readings
 pub mod Pieces
 pub mod Readable
+pub mod Writing

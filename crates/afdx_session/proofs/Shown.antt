@@ -10,6 +10,7 @@ use Rattle.afdx_session.specs.declared.lane.Lane.{Lane}
 use Rattle.afdx_session.specs.declared.machine.Machine.{Machine}
 use Rattle.afdx_session.specs.Streams.{Stream, AreWhole, AllStartBeforeTheLastInstant}
 use Rattle.afdx_session.specs.Session.{Intake, IsStream, AreStreams}
+use Rattle.afdx_session.specs.Lanes.{HasReadAll}
 use Rattle.afdx_session.specs.Kept.{AreLanesOf, AreOfTable, text_up_to, IsMarked, IsOfSameTable}
 use Rattle.afdx_session.specs.View.{intakes_of, gone_out, IsShownAt, IsShown, IsReady, IsKept, IsHalfDone, AreHalfDone}
 use Rattle.afdx_session.proofs.Going.{some_same}
@@ -22,20 +23,21 @@ use Rattle.afdx_load.specs.Accepted.{IsAccepted}
 -- ---- after a call that answered Ok
 
 -- the lanes stand for the whole records of what contracts see
-pub lanes_are_streams : {Z : Type 0} (begun : Bool) (lanes : List (Lane Z)) (streams : List Stream) → AllByRecursion (IsMarked begun) lanes → AreLanesOf lanes streams → AreStreams (intakes_of lanes) streams
-lanes_are_streams begun [] [] marked are = tt
-lanes_are_streams begun [] (s ∷ streams) marked are = absurd are
-lanes_are_streams begun (l ∷ lanes) [] marked are = absurd are
-lanes_are_streams begun (l ∷ lanes) (s ∷ streams) marked are = (
+pub lanes_are_streams : {Z : Type 0} (begun : Bool) (lanes : List (Lane Z)) (streams : List Stream) → AllByRecursion (IsMarked begun) lanes → AllByRecursion HasReadAll lanes → AreLanesOf lanes streams
+    → AreStreams (intakes_of lanes) streams
+lanes_are_streams begun [] [] marked read are = tt
+lanes_are_streams begun [] (s ∷ streams) marked read are = absurd are
+lanes_are_streams begun (l ∷ lanes) [] marked read are = absurd are
+lanes_are_streams begun (l ∷ lanes) (s ∷ streams) marked read are = (
   record {
     port = are.0.port;
     records = subst (λ bytes. AreWhole bytes s.records) (sym (marked_bytes begun l marked.0)) (record {
       first = are.0.read.taken.first;
-      none_left = subst (NoNext l.reader.bytes) (sym are.0.read.taken.count) are.0.all.none_left;
+      none_left = subst (NoNext l.reader.bytes) (sym are.0.read.taken.count) read.0.none_left;
     });
-    closed = are.0.ended ∙ sym marked.0.closed;
+    closed = are.0.ended ∙ read.0.ended ∙ sym marked.0.closed;
   },
-  lanes_are_streams begun lanes streams marked.1 are.1,
+  lanes_are_streams begun lanes streams marked.1 read.1 are.1,
 )
 
 take_whole : (xs : List ℕ) → take (length xs) xs ≡ xs
@@ -50,7 +52,7 @@ length-drop-within (suc n) (x ∷ xs) le = let more = length-drop-within n xs (o
 pub shown_ready : {Z : Type 0} → EarlierEventsStayAdmitted → ReachesInOrder → AllStartBeforeTheLastInstant → (m : Machine Z) → AreOfTable m.switch.run.table m.lanes.items → IsReady m true → IsShown m.switch.run.table true m.lanes.items
 shown_ready stay reaches ends m of ready = record {
   streams = ready.running.going.streams;
-  are = lanes_are_streams true m.lanes.items ready.running.going.streams ready.marked ready.running.going.lanes_are;
+  are = lanes_are_streams true m.lanes.items ready.running.going.streams ready.marked ready.read ready.running.going.lanes_are;
   each = λ place p l is_port is_lane.
       let out = ready.running.going.outs place p l tt is_port is_lane in
       let marked = all_slice_get (IsMarked true) m.lanes.items place l ready.marked is_lane in

@@ -15,12 +15,13 @@ use Rattle.afdx_session.specs.declared.machine.Machine.{Machine}
 use Rattle.afdx_session.specs.Streams.{Stream}
 use Rattle.afdx_session.specs.Settled.{IsSettling}
 use Rattle.afdx_session.specs.Session.{Intake, IsStream, AreStreams, took}
-use Rattle.afdx_session.specs.Lanes.{intake_of, waiting_of}
+use Rattle.afdx_session.specs.Lanes.{intake_of, waiting_of, HasReadAll}
 use Rattle.afdx_session.specs.Kept.{IsLaneOf, AreLanesOf, AreOfTable, text_up_to, IsOut, AreOut, Every, IsGoing, IsRunning, IsMarked}
 use Rattle.afdx_session.specs.View.{intakes_of, gone_out, IsShownAt, IsShown, IsReady, IsKept, IsTaken}
 use Rattle.afdx_session.proofs.Going.{some_same, get-set}
 use Rattle.afdx_session.proofs.Firsts.{map-set}
 use Rattle.afdx_session.proofs.Numbered.{all_slice_get}
+use Rattle.afdx_session.proofs.ReadUp.{read_same, all_set}
 use Rattle.afdx_session.proofs.Shown.{length-drop-within}
 
 length-take-within : (n : ℕ) (xs : List ℕ) → n ≤ length xs → length (take n xs) ≡ n
@@ -135,15 +136,11 @@ took_lanes {Z = Z} (l ∷ lanes) zero old new (s ∷ streams) at taken are =
     let own : IsLaneOf old s = subst (λ (x : Lane Z). IsLaneOf x s) (some_same l old at) are.0 in (
       record {
         port = own.port ∙ sym taken.port;
-        ended = own.ended ∙ ap (λ r. r.closed) (sym taken.reader);
+        ended = own.ended ∙ sym taken.ended;
         read = record {
           no_fault = ap (λ r. r.fault) taken.reader ∙ own.read.no_fault;
           taken = subst (λ r. HasTaken (record { bytes = r.bytes; given = r.given }) s.records) (sym taken.reader) own.read.taken;
           last = taken.last ∙ own.read.last;
-        };
-        all = record {
-          none_left = subst (λ r. NoNext r.bytes r.given) (sym taken.reader) own.all.none_left;
-          sound = subst (λ r. IsSound r.bytes r.given r.closed) (sym taken.reader) own.all.sound;
         };
       },
       are.1,
@@ -212,6 +209,7 @@ kept_taken {Z} m next begun failed k old new at taken switch counts lanes kept =
       let ready = kept.ready not_failed in
       record {
         running = rw (switch, lanes, counts) (running_took begun m.switch.run.table m.lanes.items m.switch m.counts k old new at taken ready.marked ready.running);
+        read = rw lanes (all_set HasReadAll m.lanes.items k new ready.read (read_same old new taken.reader taken.ended (all_slice_get HasReadAll m.lanes.items k old ready.read at)));
         marked = rw lanes (took_marked begun m.lanes.items k old new at taken ready.marked);
       };
 }

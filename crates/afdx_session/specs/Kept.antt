@@ -13,14 +13,13 @@ use Rattle.afdx_session.specs.declared.lane.Lane.{Lane}
 use Rattle.afdx_session.specs.Output.{rows_of, written}
 use Rattle.afdx_session.specs.Streams.{Stream, frontier, sent_up_to, last_instant}
 use Rattle.afdx_session.specs.Settled.{IsSettling, IsGiven}
-use Rattle.afdx_session.specs.Lanes.{HasRead, HasReadAll, waiting_of}
+use Rattle.afdx_session.specs.Lanes.{HasRead, waiting_of}
 
--- a lane stands for the whole records of its bytes
+-- a lane stands for the records that were read of its capture
 pub record IsLaneOf {Z : Type 0} (l : Lane Z) (s : Stream) : Type 0 where
   pub port : s.port ≡ l.port
-  pub ended : s.closed ≡ l.reader.closed
+  pub ended : s.closed ≡ l.ended
   pub read : HasRead l s.records
-  pub all : HasReadAll l
 
 abbrev pub AreLanesOf : {Z : Type 0} → List (Lane Z) → List Stream → Type 0
 AreLanesOf [] [] = Unit {0}
@@ -88,6 +87,7 @@ pub record IsRunning {Z : Type 0} (t : Content) (lanes : List (Lane Z)) (s : Sta
 pub record IsTouched {Z : Type 0} (old new : Lane Z) : Type 0 where
   pub port : new.port ≡ old.port
   pub reader : new.reader ≡ old.reader
+  pub ended : new.ended ≡ old.ended
   pub undone : new.undone ≡ old.undone
   pub closed : new.closed ≡ old.closed
   pub ready : new.ready ≡ old.ready

@@ -11,7 +11,9 @@ pub mod Settled
 pub mod Session
 pub mod Lanes
 pub mod Kept
+pub mod Lent
 pub mod View
 pub mod Finish
 pub mod Pieces
 pub mod Readable
+pub mod Carried

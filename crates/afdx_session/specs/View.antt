@@ -1,6 +1,7 @@
 -- What contracts see of a session's code, and what is true of it after each call.
 use Rattle.std.specs.Prelude.{ℕ, ◌+◌, ◌<◌, ◌≤◌, ◌≡◌, ◌^◌, ◌==◌, Bool, true, false, if◌then◌else◌, List, [], ◌∷◌, ◌++◌, length, map, take, drop, set, position, slice_get, Option, Some, None}
 use Rattle.std.specs.List.{AllByRecursion}
+use Rattle.std.specs.declared.collections.VecDeque.{VecDeque}
 use Rattle.afdx_pcap.specs.Entry.{Entry}
 use Rattle.afdx_pcap.specs.Text.{header_text}
 use Rattle.afdx_pcap.specs.Capture.{IsCapture}
@@ -16,7 +17,7 @@ use Rattle.afdx_session.specs.Texts.{Text, AreOfPorts}
 use Rattle.afdx_session.specs.Finish.{text_in}
 use Rattle.afdx_session.specs.Streams.{Stream, text_so_far}
 use Rattle.afdx_session.specs.Session.{Intake, Seen, AreStreams, IsSoundSoFar, fed, ended}
-use Rattle.afdx_session.specs.Lanes.{intake_of, waiting_of, limit_at, NoneGoes, IsPieceFault}
+use Rattle.afdx_session.specs.Lanes.{intake_of, waiting_of, with_waiting, limit_at, HasReadAll, NoneGoes, IsPieceFault}
 use Rattle.afdx_session.specs.Kept.{AreOfTable, IsGoing, IsRunning, IsMarked, IsOfSameTable}
 
 abbrev pub intakes_of : {Z : Type 0} → List (Lane Z) → List Intake
@@ -44,6 +45,7 @@ pub record IsShown {Z : Type 0} (t : Content) (begun : Bool) (lanes : List (Lane
 -- no call has failed, so that the next one may go on
 pub record IsReady {Z : Type 0} (m : Machine Z) (begun : Bool) : Type 0 where
   pub running : IsRunning m.switch.run.table m.lanes.items m.switch m.counts
+  pub read : AllByRecursion HasReadAll m.lanes.items
   pub marked : AllByRecursion (IsMarked begun) m.lanes.items
 
 -- what is true of each session
@@ -81,6 +83,7 @@ pub record IsSettledLane {Z : Type 0} (old new : Lane Z) : Type 0 where
   pub port : new.port ≡ old.port
   pub reader : new.reader ≡ old.reader
   pub last : new.last ≡ old.last
+  pub ended : new.ended ≡ old.ended
   pub waiting : new.waiting ≡ old.waiting
   pub out : new.out ≡ old.out
   pub taken : new.taken ≡ old.taken
@@ -99,6 +102,7 @@ pub record IsTaken {Z : Type 0} (old new : Lane Z) : Type 0 where
   pub port : new.port ≡ old.port
   pub reader : new.reader ≡ old.reader
   pub last : new.last ≡ old.last
+  pub ended : new.ended ≡ old.ended
   pub waiting : new.waiting ≡ old.waiting
   pub undone : new.undone ≡ old.undone
   pub closed : new.closed ≡ old.closed
@@ -133,11 +137,22 @@ pub record IsNotEnded {Z : Type 0} (old new : List (Lane Z)) (place : ℕ) (faul
   pub half : AreHalfDone old new
   pub why : IsFaultAt (intake_of lane).bytes lane.port fault
 
--- the first record that waits went to the switch, or its place is not settled; the switch did not go past the frontier
-pub record IsRound {Z : Type 0} (went : Bool) (old new : Machine Z) : Type 0 where
+-- the first record that waits went from the lane at a place
+pub record HasGone {Z : Type 0} (old new : List (Lane Z)) (place : ℕ) : Type 0 where
+  pub lane : Lane Z
+  pub frame : Entry
+  pub rest : VecDeque Entry Z
+  pub at : slice_get old place ≡ Some lane
+  pub head : lane.waiting.items ≡ frame ∷ rest.items
+  pub lanes : new ≡ set old place (with_waiting rest lane)
+
+-- the first record that waits went to the switch from a place, or its place is not settled; the switch did not go past the frontier
+pub record IsRound {Z : Type 0} (went : Option ℕ) (old new : Machine Z) : Type 0 where
   pub going : IsGoing new.switch.run.table new.lanes.items new.switch new.counts
-  pub fewer : went ≡ true → length (merged (map waiting_of new.lanes.items)) < length (merged (map waiting_of old.lanes.items))
-  pub none : went ≡ false → (first : Option (ℕ × ℕ)) × NoneGoes (limit_at new.lanes.items) new.lanes.items first
+  pub gone : (place : ℕ) → went ≡ Some place → HasGone old.lanes.items new.lanes.items place
+  pub fewer : (place : ℕ) → went ≡ Some place → length (merged (map waiting_of new.lanes.items)) < length (merged (map waiting_of old.lanes.items))
+  pub stays : went ≡ None → new.lanes.items ≡ old.lanes.items
+  pub none : went ≡ None → (first : Option (ℕ × ℕ)) × NoneGoes (limit_at new.lanes.items) new.lanes.items first
 
 -- ---- a session that was fed nothing
 
@@ -145,6 +160,7 @@ pub record IsFreshLane {Z : Type 0} (port : ℕ) (l : Lane Z) : Type 0 where
   pub port_is : l.port ≡ port
   pub reader : l.reader ≡ record { bytes = []; given = 0; closed = false; fault = None; lent = false }
   pub last : l.last ≡ 0
+  pub ended : l.ended ≡ false
   pub waiting : l.waiting.items ≡ []
   pub out : l.out.items ≡ header_text
   pub undone : l.undone ≡ 0
@@ -180,6 +196,7 @@ pub record IsEndedLane {Z : Type 0} (old new : Lane Z) : Type 0 where
   pub half : IsHalfDone old new
   pub bytes : new.reader.bytes ≡ old.reader.bytes
   pub closed : new.reader.closed ≡ true
+  pub read : HasReadAll new
 
 abbrev pub AreEndedLanes : {Z : Type 0} → List (Lane Z) → List (Lane Z) → Type 0
 AreEndedLanes [] [] = Unit {0}

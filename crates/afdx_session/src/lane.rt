@@ -3,7 +3,8 @@
 ghost use Rattle.std.specs.Prelude.{◌≡◌, ◌<◌, ◌≤◌, ◌-◌, ◌^◌, ◌==◌, ◌++◌, [], ℕ, true, false, take, None, Some, Ok, List, length, IfOk, IfErr, OnOk, OnErr, IfSome, IfNone, Option, is_some, if◌then◌else◌, ◌+◌, IsTrue, ◌↔◌, position, find};
 ghost use Rattle.afdx_pcap.specs.Entry.{Entry};
 ghost use Rattle.afdx_pcap.specs.Reading.{Answers};
-ghost use Rattle.afdx_session.specs.Lanes.{HasReadAll, IsReadOn, Adds, IsLaneFault, limit_at, best_place, IsFirstOf, IsWithinPlace, head_of, sooner_of, IsStill, IsPieceFault, Goes, NoneGoes};
+ghost use Rattle.afdx_session.specs.Lanes.{HasReadAll, HasDrawn, IsReadOn, Adds, IsLaneFault, limit_at, best_place, IsFirstOf, IsWithinPlace, head_of, sooner_of, IsStill, IsPieceFault, GoesAt, NoneGoes};
+ghost use Rattle.afdx_session.specs.Lent.{IsOver};
 ghost use Rattle.afdx_session.specs.Reading.{IsFaultAt};
 ghost use Rattle.afdx_session.specs.View.{IsFreshLane, AreFreshLanes, IsSettledLane, IsTaken, IsOpenAt, intakes_of};
 ghost use Rattle.afdx_session.specs.Session.{refusal_at};
@@ -25,9 +26,11 @@ use std::mem;
 pub(crate) struct Lane<'a, A: Allocator> {
     pub(crate) port: u8,
     pub(crate) reader: Reader<'a, A>,
-    /// The stamp of the last whole record, 0 where there is none.
+    /// The stamp of the last record that was read, 0 where there is none.
     pub(crate) last: Stamp,
-    /// Whole records that the switch did not take yet, in order.
+    /// All records were read, and none comes any more.
+    pub(crate) ended: bool,
+    /// Records that were read and that the switch did not take yet, in order.
     pub(crate) waiting: VecDeque<Record<'a, A>, A>,
     /// The port's output that was not taken.
     pub(crate) out: Vec<u8, A>,
@@ -50,6 +53,7 @@ impl<'a, A: Allocator + Copy> Lane<'a, A> {
             port,
             reader: Reader::new(alloc),
             last: Stamp::ZERO,
+            ended: false,
             waiting: VecDeque::new(alloc),
             out,
             undone: 0,
@@ -65,6 +69,7 @@ impl<'a, A: Allocator + Copy> Lane<'a, A> {
         ensures read_on { IsReadOn self.old self.new }
         ensures waiting { self.new.waiting ≡ self.old.waiting }
         ensures last { self.new.last ≡ self.old.last }
+        ensures ended { self.new.ended ≡ self.old.ended }
         ensures ok { IfOk result (λ found. (self.new.reader.fault ≡ None)
             × (self.new.reader.given ≡ (if is_some found then self.old.reader.given + 1 else self.old.reader.given))
             × Answers self.old.reader.bytes self.old.reader.given self.old.reader.closed (Ok found)) }
@@ -77,18 +82,35 @@ impl<'a, A: Allocator + Copy> Lane<'a, A> {
         }
     }
 
-    /// Whole records that are there join those that wait. O(their bytes), and O(their number) where these are lent.
+    /// The next whole record joins those that wait. Whether there was one. O(its bytes), and O(1) where these are lent.
+    pub(crate) fn draw(&mut self) -> Result<bool, RunFault>
+        requires { self.old.reader.fault ≡ None }
+        ensures read_on { IsReadOn self.old self.new }
+        ensures ok { IfOk result (λ found. HasDrawn found self.old self.new) }
+        ensures err { IfErr result (λ fault. IsLaneFault self.old fault) }
+    {
+        taken_records_are_the_first();
+        match self.next()? {
+            Some(record) => {
+                self.last = record.stamp();
+                self.waiting.push_back(record)?;
+                Ok(true)
+            }
+            None => {
+                self.ended = self.reader.is_closed();
+                Ok(false)
+            }
+        }
+    }
+
+    /// Whole records that are there join those that wait. O(their bytes).
     fn read_on(&mut self) -> Result<(), RunFault>
         requires { self.old.reader.fault ≡ None }
         ensures read_on { IsReadOn self.old self.new }
         ensures ok { OnOk result ((more : List Entry) × Adds self.old self.new more × HasReadAll self.new) }
         ensures err { IfErr result (λ fault. IsLaneFault self.old fault) }
     {
-        taken_records_are_the_first();
-        while let Some(record) = self.next()? {
-            self.last = record.stamp();
-            self.waiting.push_back(record)?;
-        }
+        while self.draw()? {}
         Ok(())
     }
 
@@ -126,18 +148,18 @@ impl<'a, A: Allocator + Copy> Lane<'a, A> {
         self.read_on()
     }
 
-    /// The whole capture comes, and stays where it is: its records are lent. O(their number).
-    pub(crate) fn read_whole(&mut self, alloc: A, text: &'a [u8]) -> Result<(), RunFault>
+    /// The whole capture comes, and stays where it is; its first record is read. O(1).
+    pub(crate) fn lend(&mut self, alloc: A, text: &'a [u8]) -> Result<(), RunFault>
         requires fresh { IsFreshLane self.old.port self.old }
         ensures still { IsStill self.old self.new }
         ensures undone { self.new.undone ≡ self.old.undone }
         ensures bytes { self.new.reader.bytes ≡ text.now }
-        ensures ended { self.new.reader.closed ≡ true }
-        ensures ok { OnOk result ((more : List Entry) × Adds self.old self.new more × HasReadAll self.new) }
+        ensures ok { OnOk result (((more : List Entry) × Adds self.old self.new more) × IsOver self.new) }
         ensures err { IfErr result (λ fault. IsFaultAt text.now self.old.port fault) }
     {
         self.reader = Reader::over(alloc, text);
-        self.read_on()
+        self.draw()?;
+        Ok(())
     }
 
     /// The call has answered Ok.
@@ -227,7 +249,7 @@ pub(crate) fn limit_of<A: Allocator + Copy>(lanes: &[Lane<'_, A>]) -> Option<(St
 {
     let mut limit: Option<(Stamp, u8)> = None;
     for lane in lanes {
-        if !lane.reader.is_closed() {
+        if !lane.ended {
             limit = Some(first_place(limit, (lane.last, lane.port)));
         }
     }
@@ -287,12 +309,12 @@ pub(crate) fn is_within(limit: Option<(Stamp, u8)>, stamp: Stamp, port: u8) -> b
     }
 }
 
-/// Takes the first of all records that wait, where it lies within the limit, and its port. O(ports).
+/// Takes the first of all records that wait, where it lies within the limit, and the place of its lane. O(ports).
 pub(crate) fn take_settled<'a, A: Allocator>(
     lanes: &mut [Lane<'a, A>],
     limit: Option<(Stamp, u8)>,
-) -> Option<(u8, Record<'a, A>)>
-    ensures some { IfSome result (λ x. Goes limit lanes.old lanes.new x.0 x.1) }
+) -> Option<(usize, Record<'a, A>)>
+    ensures some { IfSome result (λ x. GoesAt limit lanes.old lanes.new x.0 x.1) }
     ensures none { IfNone result ((lanes.new ≡ lanes.old) × ((first : Option (ℕ × ℕ)) × NoneGoes limit lanes.old first)) }
 {
     let first = first_of(lanes);
@@ -300,12 +322,11 @@ pub(crate) fn take_settled<'a, A: Allocator>(
         Some(found) => found,
         None => return None,
     };
-    let port = lanes[place].port;
-    if !is_within(limit, stamp, port) {
+    if !is_within(limit, stamp, lanes[place].port) {
         return None;
     }
     match lanes[place].waiting.pop_front() {
-        Some(record) => Some((port, record)),
+        Some(record) => Some((place, record)),
         None => None,
     }
 }

@@ -1,33 +1,48 @@
 //! Records that go from the lanes through the switch, and out again.
 
-ghost use Rattle.std.specs.Prelude.{◌≡◌, ◌<◌, ◌≤◌, ◌^◌, ◌==◌, ℕ, Bool, true, None, Some, List, [], length, map, vec_capacity, IfOk, IfErr, OnOk, IfSome, option_map, Option};
+ghost use Rattle.std.specs.Prelude.{◌≡◌, ◌<◌, ◌≤◌, ◌^◌, ◌==◌, ℕ, Bool, true, false, None, Some, List, [], length, map, vec_capacity, IfOk, IfErr, OnOk, IfSome, option_map, Option};
 ghost use Rattle.afdx_units.specs.Time.{last_second};
 ghost use Rattle.afdx_table.specs.WellFormed.{IsWellFormed};
 ghost use Rattle.afdx_load.specs.Accepted.{IsAccepted};
 ghost use Rattle.afdx_session.specs.Outcome.{table_in, is_cleared};
 ghost use Rattle.afdx_core.specs.Handling.{Handling};
-ghost use Rattle.afdx_core.specs.Held.{told, IsTaken};
+ghost use Rattle.afdx_core.specs.Held.{told, IsTaken, Keeps};
 ghost use Rattle.afdx_core.specs.Rows.{row_of};
 ghost use Rattle.afdx_core.specs.State.{refusal_of, fresh_state, after_finish};
 ghost use Rattle.afdx_count.specs.Tally.{noted, fresh, ended};
 ghost use Rattle.afdx_session.specs.Kept.{AreOfTable, AreTouched, IsOfSameTable, IsGoing, IsRunning, come_to};
-ghost use Rattle.afdx_session.specs.Lanes.{limit_at, NoneGoes};
+ghost use Rattle.afdx_session.specs.Lanes.{limit_at, NoneGoes, IsLimit};
+ghost use Rattle.afdx_session.specs.Lent.{texts_over, IsOneFault, IsCarrying, CarriesOn, HandsOn, HaveGone};
 ghost use Rattle.afdx_session.specs.View.{IsRound, IsReady, IsOpenAt, IsFed, IsNotFed, IsEnded, IsNotEnded, AreSettledLanes, AreFreshLanes, AreHalfDone, AreEndedLanes, AreLent, texts_at};
 ghost use Rattle.afdx_session.specs.Texts.{texts_of, AreOfPorts};
 ghost use Rattle.afdx_session.specs.Reading.{IsReadFault};
 
+use crate::check::check_texts;
 use crate::drain::drain_all;
 use crate::lane::{Lane, lanes_of, limit_of, take_settled};
 use crate::plan::{Outcome, Plan, RunFault};
+use crate::rest::Carried;
 use afdx_core::laws::{merged_is_a_merge, merged_is_by_stamp_and_port};
 use afdx_core::{CoreFault, Switch};
 use afdx_count::Counts;
 use afdx_count::laws::note_counts_one_more;
 use afdx_pcap::Record;
-use afdx_pcap::laws::taken_records_are_the_first;
+use afdx_pcap::laws::{each_file_has_one_reading, taken_records_are_the_first};
 use afdx_port::laws::{arrivals_change_nothing_earlier, stamps_keep_their_order};
 use afdx_units::Stamp;
 use std::alloc::{AllocError, Allocator};
+
+/// How many records of captures that come whole go to the switch before what has left goes out.
+const RECORDS_BETWEEN_DRAINS: usize = 256;
+
+/// What becomes of frames that have left while captures that come whole are carried to the switch.
+#[derive(Clone, Copy)]
+pub(crate) enum Leaving {
+    /// They go out to the lanes, so that the switch holds few of them.
+    GoOut,
+    /// They stay in the switch, until each port is asked for its own.
+    Stay,
+}
 
 /// A switch, its counters, and what there is of each port.
 #[derive(Drop)]
@@ -105,10 +120,12 @@ impl<'a, A: Allocator + Copy> Machine<'a, A> {
         }
     }
 
-    /// The first of all records that wait goes to the switch where its place is settled. Whether it did. O(ports).
-    fn give_next(&mut self) -> Result<bool, AllocError>
+    /// The first of all records that wait goes to the switch where it lies within the limit. The place of its lane.
+    /// O(ports).
+    fn give_next(&mut self, limit: Option<(Stamp, u8)>) -> Result<Option<usize>, AllocError>
         requires of { AreOfTable self.old.switch.run.table self.old.lanes.items }
         requires going { IsGoing self.old.switch.run.table self.old.lanes.items self.old.switch self.old.counts }
+        requires limit { IsLimit limit self.old.lanes.items }
         ensures touched { AreTouched self.old.lanes.items self.new.lanes.items }
         ensures same { IsOfSameTable self.old.switch self.new.switch }
         ensures ok { IfOk result (λ went. IsRound went self.old self.new) }
@@ -116,13 +133,13 @@ impl<'a, A: Allocator + Copy> Machine<'a, A> {
         arrivals_change_nothing_earlier();
         stamps_keep_their_order();
         note_counts_one_more();
-        let limit = limit_of(&self.lanes);
         match take_settled(&mut self.lanes, limit) {
-            Some((port, frame)) => {
+            Some((place, frame)) => {
+                let port = self.lanes[place].port;
                 self.give(port, frame)?;
-                Ok(true)
+                Ok(Some(place))
             }
-            None => Ok(false),
+            None => Ok(None),
         }
     }
 
@@ -135,7 +152,8 @@ impl<'a, A: Allocator + Copy> Machine<'a, A> {
         ensures ok { OnOk result (IsGoing self.new.switch.run.table self.new.lanes.items self.new.switch self.new.counts
             × ((first : Option (ℕ × ℕ)) × NoneGoes (limit_at self.new.lanes.items) self.new.lanes.items first)) }
     {
-        while self.give_next()? {}
+        let limit = limit_of(&self.lanes);
+        while self.give_next(limit)?.is_some() {}
         Ok(())
     }
 
@@ -205,23 +223,124 @@ impl<'a, A: Allocator + Copy> Machine<'a, A> {
         Ok(())
     }
 
-    /// The captures of all ports come whole, in the order of the lanes, and stay where they are.
-    fn read_all(&mut self, alloc: A, captures: &'a [(u8, Vec<u8, A>)]) -> Result<(), RunFault>
+    /// The captures of all ports come whole, in the order of the lanes, and stay where they are. The first record of
+    /// each is read.
+    fn lend_all(&mut self, alloc: A, captures: &'a [(u8, Vec<u8, A>)]) -> Result<(), RunFault>
         requires of { AreOfTable self.old.switch.run.table self.old.lanes.items }
         requires ports { AreOfPorts self.old.switch.run.table (texts_of captures.now) }
+        requires handed { length self.old.switch.run.handed ≡ length self.old.switch.run.table.ports }
         requires fresh { AreFreshLanes self.old.switch.run.table.ports self.old.lanes.items }
         requires going { IsGoing self.old.switch.run.table self.old.lanes.items self.old.switch self.old.counts }
         ensures switch { self.new.switch ≡ self.old.switch }
-        ensures ok { OnOk result (IsGoing self.new.switch.run.table self.new.lanes.items self.new.switch self.new.counts
-            × AreOfTable self.new.switch.run.table self.new.lanes.items × AreLent (texts_of captures.now) self.new.lanes.items) }
-        ensures err { IfErr result (λ fault. IsReadFault (texts_of captures.now) fault) }
+        ensures ok { OnOk result (IsCarrying self.new × (texts_over self.new.lanes.items ≡ texts_of captures.now)) }
+        ensures err { IfErr result (λ fault. IsOneFault (texts_of captures.now) fault) }
     {
         merged_is_a_merge();
         merged_is_by_stamp_and_port();
         for place in 0..self.lanes.len() {
-            self.lanes[place].read_whole(alloc, &captures[place].1)?;
+            self.lanes[place].lend(alloc, &captures[place].1)?;
         }
         Ok(())
+    }
+
+    /// The first of all records that wait goes to the switch, and the next one of its capture is read. Whether there
+    /// was one. O(ports).
+    ///
+    /// One of each capture that has not ended waits, so the first of them comes before whatever is still to be read.
+    fn carry_one(&mut self) -> Result<bool, RunFault>
+        requires { IsCarrying self.old }
+        ensures same { IsOfSameTable self.old.switch self.new.switch }
+        ensures ok { IfOk result (λ more. CarriesOn more self.old self.new) }
+        ensures err { IfErr result (λ fault. IsOneFault (texts_over self.old.lanes.items) fault) }
+    {
+        merged_is_a_merge();
+        merged_is_by_stamp_and_port();
+        match self.give_next(None)? {
+            Some(place) => {
+                self.lanes[place].draw()?;
+                Ok(true)
+            }
+            None => Ok(false),
+        }
+    }
+
+    /// What has left goes out, or stays in the switch.
+    fn let_out(&mut self, frames: Leaving) -> Result<(), AllocError>
+        requires { IsCarrying self.old }
+        ensures same { IsOfSameTable self.old.switch self.new.switch }
+        ensures ok { OnOk result (HandsOn self.old self.new) }
+    {
+        match frames {
+            Leaving::GoOut => drain_all(&mut self.switch, &mut self.lanes),
+            Leaving::Stay => Ok(()),
+        }
+    }
+
+    /// All records go to the switch, by stamp and then by port.
+    fn carry_all(&mut self, frames: Leaving) -> Result<(), RunFault>
+        requires { IsCarrying self.old }
+        ensures same { IsOfSameTable self.old.switch self.new.switch }
+        ensures ok { OnOk result (CarriesOn false self.old self.new) }
+        ensures err { IfErr result (λ fault. IsOneFault (texts_over self.old.lanes.items) fault) }
+    {
+        let mut given = 0;
+        while self.carry_one()? {
+            given += 1;
+            if given == RECORDS_BETWEEN_DRAINS {
+                self.let_out(frames)?;
+                given = 0;
+            }
+        }
+        Ok(())
+    }
+
+    /// The captures of all ports come whole, and all their records go to the switch, unless one has a fault.
+    fn lend_and_carry(
+        &mut self,
+        alloc: A,
+        captures: &'a [(u8, Vec<u8, A>)],
+        frames: Leaving,
+    ) -> Result<(), RunFault>
+        requires of { AreOfTable self.old.switch.run.table self.old.lanes.items }
+        requires ports { AreOfPorts self.old.switch.run.table (texts_of captures.now) }
+        requires handed { length self.old.switch.run.handed ≡ length self.old.switch.run.table.ports }
+        requires fresh { AreFreshLanes self.old.switch.run.table.ports self.old.lanes.items }
+        requires going { IsGoing self.old.switch.run.table self.old.lanes.items self.old.switch self.old.counts }
+        ensures same { IsOfSameTable self.old.switch self.new.switch }
+        ensures ok { OnOk result (HaveGone (texts_of captures.now) self.new) }
+        ensures err { IfErr result (λ fault. IsOneFault (texts_of captures.now) fault) }
+    {
+        self.lend_all(alloc, captures)?;
+        self.carry_all(frames)
+    }
+
+    /// The captures of all ports come whole, and stay where they are; all their records go to the switch.
+    ///
+    /// A fault is met when its record is reached. The one that is answered is that of the lowest port that has one.
+    pub(crate) fn pass_on(
+        &mut self,
+        alloc: A,
+        captures: &'a [(u8, Vec<u8, A>)],
+        frames: Leaving,
+    ) -> Result<(), RunFault>
+        requires of { AreOfTable self.old.switch.run.table self.old.lanes.items }
+        requires ports { AreOfPorts self.old.switch.run.table (texts_of captures.now) }
+        requires handed { length self.old.switch.run.handed ≡ length self.old.switch.run.table.ports }
+        requires fresh { AreFreshLanes self.old.switch.run.table.ports self.old.lanes.items }
+        requires going { IsGoing self.old.switch.run.table self.old.lanes.items self.old.switch self.old.counts }
+        ensures same { IsOfSameTable self.old.switch self.new.switch }
+        ensures ok { OnOk result (HaveGone (texts_of captures.now) self.new) }
+        ensures err { IfErr result (λ fault. IsReadFault (texts_of captures.now) fault) }
+    {
+        each_file_has_one_reading();
+        match self.lend_and_carry(alloc, captures, frames) {
+            Ok(()) => Ok(()),
+            Err(RunFault::Capture(..)) => {
+                check_texts(alloc, captures)?;
+                unreachable!()
+            }
+            Err(fault) => Err(fault),
+        }
     }
 
     /// The captures of all ports come whole, and stay where they are; what they lead to goes out.
@@ -239,7 +358,7 @@ impl<'a, A: Allocator + Copy> Machine<'a, A> {
         ensures ok { OnOk result (IsReady self.new true × AreLent (texts_of captures.now) self.new.lanes.items) }
         ensures err { IfErr result (λ fault. IsReadFault (texts_of captures.now) fault) }
     {
-        self.read_all(alloc, captures)?;
+        self.pass_on(alloc, captures, Leaving::GoOut)?;
         self.go_on()?;
         self.settle();
         Ok(())
@@ -281,6 +400,27 @@ impl<'a, A: Allocator + Copy> Machine<'a, A> {
         self.close_all()?;
         self.go_on()?;
         Ok(Vec::with_capacity(alloc, self.lanes.len())?)
+    }
+
+    /// The switch carries out all that is left, and all counts.
+    pub(crate) fn into_carried(self) -> Carried<'a, A>
+        ensures run { result.state.run ≡ after_finish self.entry.switch.run }
+        ensures keeps { Keeps self.entry.switch result.state }
+        ensures counts { result.counts ≡ ended (after_finish self.entry.switch.run) self.entry.counts }
+        ensures texts { result.texts ≡ map (λ l. (l.port, l.out.items)) self.entry.lanes.items }
+    {
+        let Machine {
+            switch,
+            mut counts,
+            lanes,
+        } = self;
+        let switch = switch.finish();
+        counts.note_end(&switch);
+        Carried {
+            switch,
+            counts,
+            lanes,
+        }
     }
 
     /// What is left of each port, and the counts.

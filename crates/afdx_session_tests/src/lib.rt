@@ -22,6 +22,8 @@ mod ports;
 #[cfg(test)]
 mod refused;
 #[cfg(test)]
+mod rest;
+#[cfg(test)]
 mod sessions;
 #[cfg(test)]
 mod single;

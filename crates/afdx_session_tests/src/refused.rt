@@ -116,6 +116,19 @@ fn wrong_ports_come_first(rt: HostRuntime) -> Result<(), Fail> {
     Ok(())
 }
 
+/// The first record of port 2 has a fault, and only the second one of port 1.
+#[test]
+fn lowest_port_is_answered(rt: HostRuntime) -> Result<(), Fail> {
+    let alloc = rt.alloc();
+    let text = single(alloc)?;
+    let mut first = capture(alloc, &[small(10, 0), small(10, 1_000_000)])?;
+    first.truncate(175);
+    let second = damaged(alloc, 0, &HEADER_START, 99)?;
+    let answered = refusal(alloc, &text, &[&first, &second])?;
+    assert_eq!(rt; answered, Some(RunFault::Capture(1, PcapFault::CutData(2))));
+    Ok(())
+}
+
 #[test]
 fn messages(rt: HostRuntime) -> Result<(), Fail> {
     for (fault, name) in [

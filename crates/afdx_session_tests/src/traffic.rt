@@ -8,7 +8,7 @@ use std::alloc::Global;
 use std::test::Fail;
 
 /// These captures, of the ports from 1 on.
-fn of_ports(alloc: Global, texts: &[&[u8]]) -> Result<Vec<(u8, Vec<u8>)>, Fail> {
+pub(crate) fn of_ports(alloc: Global, texts: &[&[u8]]) -> Result<Vec<(u8, Vec<u8>)>, Fail> {
     let mut captures = Vec::new(alloc);
     let mut port = 1u8;
     for text in texts {

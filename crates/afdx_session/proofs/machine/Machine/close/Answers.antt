@@ -2,7 +2,7 @@ use Rattle.std.proofs.Common.{rules, set}
 use Rattle.afdx_session.specs.declared.plan.RunFault.TheVariants as run
 use Rattle.afdx_session.proofs.Closing.{no_fault}
 use Rattle.afdx_session.proofs.Intakes.{all_touched_none}
-use Rattle.afdx_session.proofs.Calls.{reads_open, half_ended, not_ended, capture_ended, half_of_table, lane_reads_on, is_ready}
+use Rattle.afdx_session.proofs.Calls.{reads_open, half_ended, not_ended, capture_ended, half_of_table, lane_reads_on, read_after, is_ready}
 use Rattle.afdx_session.proofs.machine.Machine.close.Goals as goal
 
 pub close-requires : goal.close-requires
@@ -29,8 +29,8 @@ pub go_on-requires-clause-going : goal.go_on-requires-clause-going
 go_on-requires-clause-going g c =
     let m = c.args.self.now in
     let at = reads_open m.lanes.items c.requires.still_open.0 c.args.place c.index_mut.result.now _ c.requires.still_open.1 c.index_mut.ensures.value in
-    lane_reads_on c.merged_is_a_merge.ensures c.merged_is_by_stamp_and_port.ensures c.requires.ready.0 m.switch.run.table m.lanes.items m.switch m.counts c.args.place c.index_mut.result.now c.close.new.self c.in_ok-close.ensures.ok.0 c.requires.of c.requires.ready.1.marked at.0 at.1 c.close.ensures.still
-    c.in_ok-close.ensures.ok.1 c.in_ok-close.ensures.ok.2 c.requires.ready.1.running
+    lane_reads_on c.merged_is_a_merge.ensures c.merged_is_by_stamp_and_port.ensures c.requires.ready.0 m c.args.place c.index_mut.result.now c.close.new.self c.in_ok-close.ensures.ok.0 c.requires.of c.requires.ready.1 at.0 at.1 c.close.ensures.still
+    c.in_ok-close.ensures.ok.1
 
 pub returns-in_err-go_on-clause-err : goal.returns-in_err-go_on-clause-err
 returns-in_err-go_on-clause-err g c =
@@ -43,6 +43,7 @@ pub returns-clause-ok : goal.returns-clause-ok
 returns-clause-ok g c =
     let m = c.args.self.now in
     let at = reads_open m.lanes.items c.requires.still_open.0 c.args.place c.index_mut.result.now _ c.requires.still_open.1 c.index_mut.ensures.value in (
-      is_ready c.go_on.new.self c.settle.new.self c.settle.ensures.lanes c.settle.ensures.switch c.settle.ensures.counts c.in_ok-go_on.ensures.ok,
+      is_ready c.go_on.new.self c.settle.new.self c.settle.ensures.lanes c.settle.ensures.switch c.settle.ensures.counts c.in_ok-go_on.ensures.ok
+          (read_after m.lanes.items c.go_on.new.self.lanes.items c.args.place c.close.new.self c.requires.ready.1.read c.in_ok-close.ensures.ok.2 c.go_on.ensures.touched),
       capture_ended c.requires.ready.0 m.lanes.items c.go_on.new.self.lanes.items c.settle.new.self.lanes.items c.args.place c.index_mut.result.now c.close.new.self c.requires.ready.1.marked at.0 c.close.ensures.still c.close.ensures.bytes c.close.ensures.ended c.in_ok-close.ensures.ok.2 c.go_on.ensures.touched c.settle.ensures.lanes,
     )

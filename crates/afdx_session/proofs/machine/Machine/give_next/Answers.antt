@@ -1,42 +1,47 @@
 use Rattle.std.proofs.Common.{ap, sym, ◌∙◌, refl, subst}
 use Rattle.std.specs.Vec.{with_items}
-use Rattle.afdx_session.specs.Lanes.{limit_at, NoneGoes}
+use Rattle.afdx_session.specs.Lanes.{NoneGoes}
 use Rattle.afdx_session.specs.Kept.{AreTouched}
 use Rattle.afdx_session.proofs.Given.{none_else}
 use Rattle.afdx_session.proofs.Intakes.{all_touched_none}
-use Rattle.afdx_session.proofs.Rounds.{goes_here, none_here, round_arrives, round_touched, round_goes, round_ends}
+use Rattle.afdx_session.proofs.Rounds.{goes_within, goes_from, none_here, round_arrives, round_touched, round_goes, round_ends}
 use Rattle.afdx_session.proofs.machine.Machine.give_next.Goals as goal
+
+pub index-requires : goal.index-requires
+index-requires g c = goes_within _ c.args.self.now.lanes _ _ _ _ c.deref_mut.ensures.value c.in-Some.ensures.some
 
 pub give-requires-clause-early : goal.give-requires-clause-early
 give-requires-clause-early g c =
-    let v = c.args.self.now.lanes in
-    let limit = c.limit_of-limit.ensures ∙ ap (λ ls. limit_at ls) c.deref.ensures.value in
-    (round_arrives _ c.args.self.now (with_items v c.take_settled.new.lanes).items _ _ limit c.requires.going (goes_here _ v _ _ _ _ c.deref_mut.ensures.value c.in-Some.ensures.some)).early
+    let m = c.args.self.now in
+    let from = goes_from _ m.lanes _ _ _ _ c.index.result.now _ c.deref_mut.ensures.value c.in-Some.ensures.some c.index.ensures in
+    (round_arrives _ m (with_items m.lanes c.take_settled.new.lanes).items _ _ c.requires.limit c.requires.going from.goes).early
 
 pub give-requires-clause-none_else : goal.give-requires-clause-none_else
 give-requires-clause-none_else g c =
     let m = c.args.self.now in
     let new = (with_items m.lanes c.take_settled.new.lanes).items in
-    let limit = c.limit_of-limit.ensures ∙ ap (λ ls. limit_at ls) c.deref.ensures.value in
-    none_else m.switch.run.table m.lanes.items new m.switch m.counts _ _ c.requires.of (round_arrives _ m new _ _ limit c.requires.going (goes_here _ m.lanes _ _ _ _ c.deref_mut.ensures.value c.in-Some.ensures.some))
+    let from = goes_from _ m.lanes _ _ _ _ c.index.result.now _ c.deref_mut.ensures.value c.in-Some.ensures.some c.index.ensures in
+    none_else m.switch.run.table m.lanes.items new m.switch m.counts _ _ c.requires.of (round_arrives _ m new _ _ c.requires.limit c.requires.going from.goes)
 
 pub returns-in_err-give-in-Some-clause-touched : goal.returns-in_err-give-in-Some-clause-touched
 returns-in_err-give-in-Some-clause-touched g c =
-    let v = c.args.self.now.lanes in
-    round_touched _ v.items (with_items v c.take_settled.new.lanes).items c.give.new.self.lanes.items _ _ (goes_here _ v _ _ _ _ c.deref_mut.ensures.value c.in-Some.ensures.some) (ap (λ w. w.items) c.give.ensures.lanes)
+    let m = c.args.self.now in
+    let from = goes_from _ m.lanes _ _ _ _ c.index.result.now _ c.deref_mut.ensures.value c.in-Some.ensures.some c.index.ensures in
+    round_touched _ m.lanes.items (with_items m.lanes c.take_settled.new.lanes).items c.give.new.self.lanes.items _ _ from.goes (ap (λ w. w.items) c.give.ensures.lanes)
 
 pub returns-in_ok-give-in-Some-clause-touched : goal.returns-in_ok-give-in-Some-clause-touched
 returns-in_ok-give-in-Some-clause-touched g c =
-    let v = c.args.self.now.lanes in
-    round_touched _ v.items (with_items v c.take_settled.new.lanes).items c.give.new.self.lanes.items _ _ (goes_here _ v _ _ _ _ c.deref_mut.ensures.value c.in-Some.ensures.some) (ap (λ w. w.items) c.give.ensures.lanes)
+    let m = c.args.self.now in
+    let from = goes_from _ m.lanes _ _ _ _ c.index.result.now _ c.deref_mut.ensures.value c.in-Some.ensures.some c.index.ensures in
+    round_touched _ m.lanes.items (with_items m.lanes c.take_settled.new.lanes).items c.give.new.self.lanes.items _ _ from.goes (ap (λ w. w.items) c.give.ensures.lanes)
 
 pub returns-in_ok-give-in-Some-clause-ok : goal.returns-in_ok-give-in-Some-clause-ok
 returns-in_ok-give-in-Some-clause-ok g c =
     let m = c.args.self.now in
     let given = c.in_ok-give-in-Some.ensures.ok in
-    let limit = c.limit_of-limit.ensures ∙ ap (λ ls. limit_at ls) c.deref.ensures.value in
-    round_goes c.arrivals_change_nothing_earlier.ensures.admission c.stamps_keep_their_order.ensures.instants c.note_counts_one_more.ensures _ m c.give.new.self (with_items m.lanes c.take_settled.new.lanes).items _ _ given.0 c.requires.of limit c.requires.going
-    (goes_here _ m.lanes _ _ _ _ c.deref_mut.ensures.value c.in-Some.ensures.some) (ap (λ w. w.items) c.give.ensures.lanes) c.give.ensures.same given.1 given.2 given.3
+    let from = goes_from _ m.lanes _ _ _ _ c.index.result.now _ c.deref_mut.ensures.value c.in-Some.ensures.some c.index.ensures in
+    round_goes c.arrivals_change_nothing_earlier.ensures.admission c.stamps_keep_their_order.ensures.instants c.note_counts_one_more.ensures _ m c.give.new.self (with_items m.lanes c.take_settled.new.lanes).items _ _ given.0 c.in-Some.place c.requires.of c.requires.limit
+    c.requires.going from.goes from.here (ap (λ w. w.items) c.give.ensures.lanes) c.give.ensures.same given.1 given.2 given.3
 
 pub returns-in-None-clause-touched : goal.returns-in-None-clause-touched
 returns-in-None-clause-touched g c =
@@ -47,6 +52,5 @@ pub returns-in-None-clause-ok : goal.returns-in-None-clause-ok
 returns-in-None-clause-ok g c =
     let m = c.args.self.now in
     let none = c.in-None.ensures.none in
-    let limit = c.limit_of-limit.ensures ∙ ap (λ ls. limit_at ls) c.deref.ensures.value in
-    round_ends c.limit_of-limit.result m _ none.1.0 limit c.requires.going (none_here m.lanes _ c.take_settled.new.lanes c.deref_mut.ensures.value none.0) refl refl
-    (subst (λ ls. NoneGoes c.limit_of-limit.result ls none.1.0) c.deref_mut.ensures.value none.1.1)
+    round_ends c.args.limit m _ none.1.0 c.requires.limit c.requires.going (none_here m.lanes _ c.take_settled.new.lanes c.deref_mut.ensures.value none.0) refl refl
+    (subst (λ ls. NoneGoes c.args.limit ls none.1.0) c.deref_mut.ensures.value none.1.1)

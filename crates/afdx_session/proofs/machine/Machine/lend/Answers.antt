@@ -1,12 +1,18 @@
+use Rattle.std.proofs.Common.{subst}
+use Rattle.afdx_session.specs.View.{AreLent}
+use Rattle.afdx_session.proofs.ReadUp.{touched_read_up}
 use Rattle.afdx_session.proofs.Calls.{is_ready}
-use Rattle.afdx_session.proofs.Lending.{lent_settled}
+use Rattle.afdx_session.proofs.Lending.{lent_settled, over_lent, over_read}
 use Rattle.afdx_session.proofs.machine.Machine.lend.Goals as goal
 
-pub go_on-requires-clause-of : goal.go_on-requires-clause-of
-go_on-requires-clause-of g c = c.in_ok-read_all.ensures.ok.1
-
 pub returns-clause-ok : goal.returns-clause-ok
-returns-clause-ok g c = (
-  is_ready c.go_on.new.self c.settle.new.self c.settle.ensures.lanes c.settle.ensures.switch c.settle.ensures.counts c.in_ok-go_on.ensures.ok,
-  lent_settled _ c.read_all.new.self.lanes.items c.go_on.new.self.lanes.items c.settle.new.self.lanes.items c.in_ok-read_all.ensures.ok.2 c.go_on.ensures.touched c.settle.ensures.lanes,
-)
+returns-clause-ok g c =
+    let have = c.in_ok-pass_on.ensures.ok in
+    let mid = c.pass_on.new.self in
+    let gone = c.go_on.new.self in
+    let next = c.settle.new.self in (
+      is_ready gone next c.settle.ensures.lanes c.settle.ensures.switch c.settle.ensures.counts c.in_ok-go_on.ensures.ok
+          (touched_read_up mid.lanes.items gone.lanes.items c.go_on.ensures.touched (over_read mid.lanes.items have.carrying.over have.all)),
+      subst (λ ts. AreLent ts next.lanes.items) have.over
+          (lent_settled _ mid.lanes.items gone.lanes.items next.lanes.items (over_lent mid.lanes.items have.carrying.over have.all) c.go_on.ensures.touched c.settle.ensures.lanes),
+    )

@@ -1,7 +1,7 @@
 use Rattle.std.proofs.Common.{◌≡◌, length}
 use Rattle.afdx_session.specs.Texts.{texts_of}
 use Rattle.afdx_session.proofs.Lending.{Lends}
-use Rattle.afdx_session.proofs.machine.Machine.read_all.Given as goal
+use Rattle.afdx_session.proofs.machine.Machine.lend_all.Given as goal
 
 abbrev pub invariant-loop-place : goal.invariant-loop-place
 invariant-loop-place g l = record {

@@ -1,0 +1,371 @@
+-- Whole captures are carried to the switch: the first record goes, and the next one of its capture is read.
+use Rattle.std.proofs.Common.{◌≡◌, ℕ, zero, suc, ◌+◌, ◌-◌, ◌<◌, ◌≤◌, nat_le, Bool, true, false, cond, List, [], ◌∷◌, ◌++◌, map, length, length-set, set, get_or, slice_get, Option, Some, None, inl, inr, refl, ap, sym, ◌∙◌, arith, subst}
+use Rattle.std.specs.List.{AllByRecursion}
+use Rattle.std.proofs.lemmas.Bool.{cases_Bool, cases_lt}
+use Rattle.std.proofs.lemmas.Bool.Decides.{nat_tests}
+use Rattle.afdx_pcap.specs.Entry.{Entry}
+use Rattle.afdx_pcap.specs.Reading.{IsWrong}
+use Rattle.afdx_pcap.specs.Capture.{IsCapture}
+use Rattle.afdx_pcap.specs.Fault.{IsFault}
+use Rattle.afdx_pcap.specs.declared.fault.PcapFault.{PcapFault}
+use Rattle.afdx_table.specs.Content.{Content}
+use Rattle.std.specs.Vec.{with_items}
+use Rattle.afdx_core.specs.State.{State}
+use Rattle.afdx_core.specs.Merge.{Arrival, MergedIsAMerge, MergedIsByStampAndPort}
+use Rattle.afdx_session.specs.declared.lane.Lane.{Lane}
+use Rattle.afdx_session.specs.declared.machine.Machine.{Machine}
+use Rattle.afdx_session.specs.declared.plan.RunFault.{RunFault}
+use Rattle.afdx_session.specs.declared.plan.RunFault.TheVariants as run
+use Rattle.afdx_session.specs.Texts.{Text}
+use Rattle.afdx_session.specs.Reading.{IsSound}
+use Rattle.afdx_session.specs.Settled.{first_place, IsGiven, HandsOut}
+use Rattle.afdx_session.specs.Lanes.{limit_at, with_waiting, head_of, head_stamp, IsFirstIn, IsFirstUpTo, IsFirstOf, IsWithinPlace, IsLimit, NoneGoes, IsReadOn, HasDrawn, IsLaneFault}
+use Rattle.afdx_session.specs.Lent.{AreSound, IsOver, texts_over, left_of, left_in, IsOneFault, IsCarrying, CarriesOn, HandsOn}
+use Rattle.afdx_session.specs.Kept.{AreOfTable, AreOut, Every, IsGoing, AreTouched, IsGrown, AreGrown, IsOfSameTable}
+use Rattle.afdx_session.specs.View.{HasGone, IsRound}
+use Rattle.afdx_session.proofs.Firsts.{get-map}
+use Rattle.afdx_session.proofs.Gone.{at_index, grown_length, drained_going}
+use Rattle.afdx_session.proofs.Going.{some_same, reads_on}
+use Rattle.afdx_session.proofs.Intakes.{still_of_table, touched_of}
+use Rattle.afdx_session.proofs.Settles.{back_items}
+use Rattle.afdx_session.proofs.Calls.{handed_stays, handed_same, drained_back, touched_table}
+use Rattle.afdx_session.proofs.Lending.{not_both, draws_over, drawn_adds, ports_stay}
+use Rattle.afdx_session.proofs.Numbered.{all_slice_get}
+use Rattle.afdx_session.proofs.ReadUp.{read_same, all_set}
+
+-- ---- the limit
+
+-- a lane whose first record waits has not ended, and this is the last record that was read
+record Waits {Z : Type 0} (l : Lane Z) (t : ℕ) : Type 0 where
+  still_open : l.ended ≡ false
+  last : l.last ≡ t
+
+waits_for : {Z : Type 0} (l : Lane Z) (t : ℕ) → IsOver l → head_stamp (Some l) ≡ Some t → Waits l t
+waits_for {Z} l t over head = elim (cases_Bool l.ended) [
+  | inl ended ↦ absurd (none (ap head_of (sym (over.read ended).0) ∙ head))
+  | inr still_open ↦
+      let one = over.head still_open in
+      record { still_open = still_open; last = one.2 ∙ some_same one.0.stamp t (ap head_of (sym one.1) ∙ head) }
+] where
+  none : None ≡ Some t → ⊥
+  none e = absurd cc
+
+head_is : {Z : Type 0} (l : Lane Z) → IsOver l → l.ended ≡ false → head_stamp (Some l) ≡ Some l.last
+head_is l over still_open = let one = over.head still_open in ap head_of one.1 ∙ ap Some (sym one.2)
+
+yes : (a b : ℕ) → a ≤ b → nat_le a b ≡ true
+yes a b le = grind (arith, nat_tests)
+
+no : (a b : ℕ) → b < a → nat_le a b ≡ false
+no a b lt = grind (arith, nat_tests)
+
+-- a place before all that others have come to is the first
+first_of_two : (p q : ℕ × ℕ) (o : Option (ℕ × ℕ)) → p.0 ≤ q.0 → first_place p o ≡ p → first_place p (Some (first_place q o)) ≡ p
+first_of_two p q None le same = ap (λ b. cond b p q) (yes p.0 q.0 le)
+first_of_two p q (Some m) le same = by (nat_le q.0 m.0) where
+  by : (b : Bool) → cond (nat_le p.0 (cond b q m).0) p (cond b q m) ≡ p
+  by true = ap (λ b. cond b p q) (yes p.0 q.0 le)
+  by false = same
+
+first_stays : {Z : Type 0} (p : ℕ × ℕ) (lanes : List (Lane Z)) → AllByRecursion IsOver lanes → ((j u : ℕ) → j < length lanes → head_stamp (slice_get lanes j) ≡ Some u → p.0 ≤ u) → first_place p (limit_at lanes) ≡ p
+first_stays p [] over sooner = refl
+first_stays {Z} p (l ∷ lanes) over sooner =
+    let rest = first_stays p lanes over.1 (λ j u lt head. sooner (suc j) u (omega (arith, lt)) head) in
+    elim (cases_Bool l.ended) [
+      | inl ended ↦ ap (λ b. first_place p (cond b (limit_at lanes) (Some (first_place (l.last, l.port) (limit_at lanes))))) ended ∙ rest
+      | inr still_open ↦
+          ap (λ b. first_place p (cond b (limit_at lanes) (Some (first_place (l.last, l.port) (limit_at lanes))))) still_open
+          ∙ first_of_two p (l.last, l.port) (limit_at lanes) (sooner 0 l.last (omega arith) (head_is l over.0 still_open)) rest
+    ]
+
+limit_from : {Z : Type 0} (l : Lane Z) (t : ℕ) (ls : List (Lane Z)) (j : ℕ) → AllByRecursion IsOver ls → slice_get ls j ≡ Some l → head_stamp (slice_get ls j) ≡ Some t → ((i u : ℕ) → i < length ls → head_stamp (slice_get ls i) ≡ Some u → t ≤ u)
+    → ((i u : ℕ) → i < j → head_stamp (slice_get ls i) ≡ Some u → t < u) → limit_at ls ≡ Some (t, l.port)
+limit_from l t [] j all is here sooner former = absurd cc
+limit_from {Z} l t (m ∷ ls) zero all is here sooner former =
+    let w = waits_for m t all.0 here in
+    ap (λ b. cond b (limit_at ls) (Some (first_place (m.last, m.port) (limit_at ls)))) w.still_open
+    ∙ ap (λ n. Some (first_place (n, m.port) (limit_at ls))) w.last
+    ∙ ap Some (first_stays (t, m.port) ls all.1 (λ i u lt head. sooner (suc i) u (omega (arith, lt)) head))
+    ∙ ap (λ (x : Lane Z). Some (t, x.port)) (some_same m l is)
+limit_from {Z} l t (m ∷ ls) (suc j) all is here sooner former =
+    let rest = limit_from l t ls j all.1 is here (λ i u lt head. sooner (suc i) u (omega (arith, lt)) head) (λ i u lt head. former (suc i) u (omega (arith, lt)) head) in
+    elim (cases_Bool m.ended) [
+      | inl ended ↦ ap (λ b. cond b (limit_at ls) (Some (first_place (m.last, m.port) (limit_at ls)))) ended ∙ rest
+      | inr still_open ↦
+          ap (λ b. cond b (limit_at ls) (Some (first_place (m.last, m.port) (limit_at ls)))) still_open
+          ∙ ap (λ o. Some (first_place (m.last, m.port) o)) rest
+          ∙ ap (λ b. Some (cond b (m.last, m.port) (t, l.port))) (no m.last t (former 0 m.last (omega arith) (head_is m all.0 still_open)))
+    ]
+
+-- the first record that waits lies at the limit
+pub limit_first : {Z : Type 0} (lanes : List (Lane Z)) (k t : ℕ) (l : Lane Z) → AllByRecursion IsOver lanes → IsFirstUpTo lanes (length lanes) k t → slice_get lanes k ≡ Some l → limit_at lanes ≡ Some (t, l.port)
+limit_first lanes k t l over first at = limit_from l t lanes k over at first.here first.sooner first.former
+
+-- so it goes whatever the limit is
+pub no_limit : {Z : Type 0} (lanes : List (Lane Z)) → AllByRecursion IsOver lanes → IsLimit None lanes
+no_limit lanes over place stamp lane first at = (
+  (λ within. subst (λ o. IsWithinPlace o stamp lane.port) (sym (limit_first lanes place stamp lane over first at)) (inr (refl, omega arith))),
+  λ within. tt,
+)
+
+-- where none goes, all have ended
+all_ended : {Z : Type 0} (lanes : List (Lane Z)) → AllByRecursion IsOver lanes → ((j : ℕ) → j < length lanes → head_stamp (slice_get lanes j) ≡ None) → AllByRecursion (λ (l : Lane Z). l.ended ≡ true) lanes
+all_ended [] over none = tt
+all_ended {Z} (l ∷ lanes) over none = (
+  elim (cases_Bool l.ended) [
+    | inl ended ↦ ended
+    | inr still_open ↦ absurd (differ (sym (none 0 (omega arith)) ∙ head_is l over.0 still_open))
+  ],
+  all_ended lanes over.1 (λ j lt. none (suc j) (omega (arith, lt))),
+) where
+  differ : None ≡ Some l.last → ⊥
+  differ e = absurd cc
+
+lane_at : {Z : Type 0} (ls : List (Lane Z)) (k : ℕ) → k < length ls → (l : Lane Z) × (slice_get ls k ≡ Some l)
+lane_at [] k lt = absurd (omega (arith, lt))
+lane_at (l ∷ ls) zero lt = (l, refl)
+lane_at (l ∷ ls) (suc k) lt = lane_at ls k (omega (arith, lt))
+
+pub none_left : {Z : Type 0} (lanes : List (Lane Z)) (first : Option (ℕ × ℕ)) → AllByRecursion IsOver lanes → NoneGoes (limit_at lanes) lanes first → AllByRecursion (λ (l : Lane Z). l.ended ≡ true) lanes
+none_left {Z} lanes first over none = by first none.is none.past where
+  by : (found : Option (ℕ × ℕ)) → IsFirstOf lanes found → ((place stamp : ℕ) (lane : Lane Z) → found ≡ Some (place, stamp) → slice_get lanes place ≡ Some lane → IsWithinPlace (limit_at lanes) stamp lane.port → ⊥)
+      → AllByRecursion (λ (l : Lane Z). l.ended ≡ true) lanes
+  by None is past = all_ended lanes over is
+  by (Some x) is past =
+      let at = lane_at lanes x.0 is.within in
+      absurd (past x.0 x.1 at.0 refl at.1 (subst (λ o. IsWithinPlace o x.1 at.0.port) (sym (limit_first lanes x.0 x.1 at.0 over is at.1)) (inr (refl, omega arith))))
+
+-- ---- the lanes
+
+pub texts_touched : {Z : Type 0} (old new : List (Lane Z)) → AreTouched old new → texts_over new ≡ texts_over old
+texts_touched [] [] touched = refl
+texts_touched [] (n ∷ new) touched = absurd touched
+texts_touched (l ∷ old) [] touched = absurd touched
+texts_touched (l ∷ old) (n ∷ new) touched =
+    ap (λ m. (m, n.reader.bytes) ∷ texts_over new) touched.0.port
+    ∙ ap (λ r. (l.port, r.bytes) ∷ texts_over new) touched.0.reader
+    ∙ ap (λ ts. (l.port, l.reader.bytes) ∷ ts) (texts_touched old new touched.1)
+
+texts_set : {Z : Type 0} (lanes : List (Lane Z)) (k : ℕ) (old new : Lane Z) → slice_get lanes k ≡ Some old → new.port ≡ old.port → new.reader.bytes ≡ old.reader.bytes → texts_over (set lanes k new) ≡ texts_over lanes
+texts_set [] k old new at port bytes = absurd cc
+texts_set {Z} (l ∷ lanes) zero old new at port bytes =
+    ap (λ m. (m, new.reader.bytes) ∷ texts_over lanes) port
+    ∙ ap (λ xs. (old.port, xs) ∷ texts_over lanes) bytes
+    ∙ ap (λ (x : Lane Z). (x.port, x.reader.bytes) ∷ texts_over lanes) (sym (some_same l old at))
+texts_set (l ∷ lanes) (suc k) old new at port bytes = ap (λ ts. (l.port, l.reader.bytes) ∷ ts) (texts_set lanes k old new at port bytes)
+
+pub left_touched : {Z : Type 0} (old new : List (Lane Z)) → AreTouched old new → left_in new ≡ left_in old
+left_touched [] [] touched = refl
+left_touched [] (n ∷ new) touched = absurd touched
+left_touched (l ∷ old) [] touched = absurd touched
+left_touched (l ∷ old) (n ∷ new) touched =
+    ap (λ r. cond n.ended 0 (length r.bytes - r.given + 1) + left_in new) touched.0.reader
+    ∙ ap (λ b. cond b 0 (length l.reader.bytes - l.reader.given + 1) + left_in new) touched.0.ended
+    ∙ ap (λ m. left_of l + m) (left_touched old new touched.1)
+
+left_set : {Z : Type 0} (lanes : List (Lane Z)) (k : ℕ) (old new : Lane Z) → slice_get lanes k ≡ Some old → left_of new < left_of old → left_in (set lanes k new) < left_in lanes
+left_set [] k old new at lt = absurd cc
+left_set {Z} (l ∷ lanes) zero old new at lt = let same = ap (λ (x : Lane Z). left_of x) (some_same l old at) in omega (arith, lt, same)
+left_set (l ∷ lanes) (suc k) old new at lt = let more = left_set lanes k old new at lt in omega (arith, more)
+
+left_drawn : {Z : Type 0} (found : Bool) (old new : Lane Z) → old.reader.closed ≡ true → old.ended ≡ false → IsReadOn old new → HasDrawn found old new → left_of new < left_of old
+left_drawn {Z} true old new closed still_open on drawn =
+    let was : left_of old ≡ length old.reader.bytes - old.reader.given + 1 = ap (λ b. cond b 0 (length old.reader.bytes - old.reader.given + 1)) still_open in
+    let is : left_of new ≡ length new.reader.bytes - new.reader.given + 1 = ap (λ b. cond b 0 (length new.reader.bytes - new.reader.given + 1)) (drawn.ended ∙ still_open) in
+    let fewer = drawn.fewer in
+    omega (arith, was, is, fewer)
+left_drawn {Z} false old new closed still_open on drawn =
+    let was : left_of old ≡ length old.reader.bytes - old.reader.given + 1 = ap (λ b. cond b 0 (length old.reader.bytes - old.reader.given + 1)) still_open in
+    let is : left_of new ≡ 0 = ap (λ b. cond b 0 (length new.reader.bytes - new.reader.given + 1)) (drawn.read.ended ∙ on.ended ∙ closed) in
+    omega (arith, was, is)
+
+set_twice : {X : Type 0} (xs : List X) (k : ℕ) (x y : X) → set (set xs k x) k y ≡ set xs k y
+set_twice [] k x y = refl
+set_twice (z ∷ xs) zero x y = refl
+set_twice (z ∷ xs) (suc k) x y = ap (λ ys. z ∷ ys) (set_twice xs k x y)
+
+set_here : {X : Type 0} (xs : List X) (k : ℕ) (x y : X) → slice_get xs k ≡ Some x → slice_get (set xs k y) k ≡ Some y
+set_here [] k x y at = absurd cc
+set_here (z ∷ xs) zero x y at = refl
+set_here (z ∷ xs) (suc k) x y at = set_here xs k x y at
+
+-- ---- one record
+
+place_in : {X : Type 0} (xs : List X) (k : ℕ) (x : X) → slice_get xs k ≡ Some x → k < length xs
+place_in [] k x at = absurd cc
+place_in (y ∷ xs) zero x at = omega arith
+place_in (y ∷ xs) (suc k) x at = let lt = place_in xs k x at in omega (arith, lt)
+
+pub gone_within : {Z : Type 0} (old new : List (Lane Z)) (place : ℕ) → HasGone old new place → place < length new
+gone_within {Z} old new place gone =
+    let lt = place_in old place gone.lane gone.at in
+    let long = ap (λ (ls : List (Lane Z)). length ls) gone.lanes ∙ length-set old place (with_waiting gone.rest gone.lane) in
+    omega (arith, lt, long)
+
+-- the lane whose first record has gone
+pub record IsGone {Z : Type 0} (lanes : List (Lane Z)) (place : ℕ) (l : Lane Z) : Type 0 where
+  pub at : slice_get lanes place ≡ Some l
+  pub closed : l.reader.closed ≡ true
+  pub taken : l.taken ≡ 0
+  pub still_open : l.ended ≡ false
+  pub none : l.waiting.items ≡ []
+
+rest_none : (frame : Entry) (rest : List Entry) (one : Entry) → frame ∷ rest ≡ one ∷ [] → rest ≡ []
+rest_none frame rest one e = cc
+
+-- the lane there, as the code reads it
+pub gone_at : {Z : Type 0} (old new : List (Lane Z)) (place : ℕ) (l d : Lane Z) → HasGone old new place → l ≡ get_or new place d → slice_get new place ≡ Some l
+gone_at {Z} old new place l d gone is = at_index new place d (gone_within old new place gone) ∙ ap Some (sym is)
+
+pub gone_lane : {Z : Type 0} (old new : List (Lane Z)) (place : ℕ) (l : Lane Z) → AllByRecursion IsOver old → HasGone old new place → slice_get new place ≡ Some l → IsGone new place l
+gone_lane {Z} old new place l over gone at = subst (IsGone new place) (sym same) (record {
+  at = subst (λ (x : Lane Z). slice_get new place ≡ Some x) same at;
+  closed = was.closed;
+  taken = was.taken;
+  still_open = waits.still_open;
+  none = let one = was.head waits.still_open in rest_none gone.frame gone.rest.items one.0 (sym gone.head ∙ one.1);
+}) where
+  was : IsOver gone.lane
+  was = all_slice_get IsOver old place gone.lane over gone.at
+
+  waits : Waits gone.lane gone.frame.stamp
+  waits = waits_for gone.lane gone.frame.stamp was (ap head_of gone.head)
+
+  same : l ≡ with_waiting gone.rest gone.lane
+  same = some_same l (with_waiting gone.rest gone.lane) (sym at ∙ ap (λ (ls : List (Lane Z)). slice_get ls place) gone.lanes ∙ set_here old place gone.lane (with_waiting gone.rest gone.lane) gone.at)
+
+-- it went, and the next one was read
+pub carries_one : {Z : Type 0} → MergedIsAMerge → MergedIsByStampAndPort → (found : Bool) (old mid next : Machine Z) (place : ℕ) (l new : Lane Z) → IsCarrying old → AreTouched old.lanes.items mid.lanes.items → IsOfSameTable old.switch mid.switch → IsRound (Some place) old mid
+    → slice_get mid.lanes.items place ≡ Some l → IsReadOn l new → HasDrawn found l new → next.lanes.items ≡ set mid.lanes.items place new → next.switch ≡ mid.switch → next.counts ≡ mid.counts → CarriesOn true old next
+carries_one {Z} merge sorted found old mid next place l new carrying touched same round at on drawn lanes switch counts =
+    let added = drawn_adds found l new drawn in
+    let of_mid : AreOfTable mid.switch.run.table mid.lanes.items = touched_table old mid touched same carrying.of in
+    let going : IsGoing mid.switch.run.table (set mid.lanes.items place new) mid.switch mid.counts =
+    reads_on merge sorted mid.switch.run.table mid.lanes.items mid.switch mid.counts place l new added.0 of_mid at gone.still_open on.port (ap (λ o. o.items) on.out) on.taken added.1 round.going in
+    let fewer = left_set mid.lanes.items place l new at (left_drawn found l new gone.closed gone.still_open on drawn) in
+    let was = left_touched old.lanes.items mid.lanes.items touched in
+    let now = ap (λ ls. left_in ls) lanes in
+    record {
+      carrying = record {
+        of = rw (switch, lanes) (still_of_table mid.switch.run.table mid.lanes.items (set mid.lanes.items place new) (ports_stay mid.lanes.items place l new at on.port) of_mid);
+        handed = rw switch (handed_stays old.switch mid.switch same carrying.handed);
+        going = rw (switch, lanes, counts) going;
+        over = rw lanes over;
+      };
+      texts = ap (λ ls. texts_over ls) lanes ∙ texts_set mid.lanes.items place l new at on.port on.bytes ∙ texts_touched old.lanes.items mid.lanes.items touched;
+      fewer = λ more. omega (arith, fewer, was, now);
+      all = λ none. absurd (not_both true refl none);
+    } where
+      has_gone : HasGone old.lanes.items mid.lanes.items place
+      has_gone = round.gone place refl
+
+      gone : IsGone mid.lanes.items place l
+      gone = gone_lane old.lanes.items mid.lanes.items place l carrying.over has_gone at
+
+      over : AllByRecursion IsOver (set mid.lanes.items place new)
+      over = subst (AllByRecursion IsOver) (sym (ap (λ (ls : List (Lane Z)). set ls place new) has_gone.lanes ∙ set_twice old.lanes.items place (with_waiting has_gone.rest has_gone.lane) new))
+          (all_set IsOver old.lanes.items place new carrying.over (draws_over found l new gone.closed gone.taken gone.still_open gone.none on drawn))
+
+-- none was left
+pub carries_none : {Z : Type 0} (old next : Machine Z) → IsCarrying old → IsOfSameTable old.switch next.switch → IsRound None old next → CarriesOn false old next
+carries_none {Z} old next carrying same round = record {
+  carrying = record {
+    of = subst (λ (c : Content). AreOfTable c next.lanes.items) (sym same.table) (subst (λ (ls : List (Lane Z)). AreOfTable old.switch.run.table ls) (sym lanes) carrying.of);
+    handed = handed_stays old.switch next.switch same carrying.handed;
+    going = round.going;
+    over = over;
+  };
+  texts = ap (λ ls. texts_over ls) lanes;
+  fewer = λ more. absurd (not_both true refl (sym more));
+  all = λ is. let none = round.none refl in none_left next.lanes.items none.0 over none.1;
+} where
+  lanes : next.lanes.items ≡ old.lanes.items
+  lanes = round.stays refl
+
+  over : AllByRecursion IsOver next.lanes.items
+  over = subst (AllByRecursion IsOver) (sym lanes) carrying.over
+
+-- why it cannot be read
+pub carries_fault : {Z : Type 0} (old mid : List (Lane Z)) (place : ℕ) (l : Lane Z) (fault : RunFault) → AreTouched old mid → IsGone mid place l → IsLaneFault l fault → IsOneFault (texts_over old) fault
+carries_fault old mid place l run.Memory touched gone why = tt
+carries_fault {Z} old mid place l (run.Capture port fault) touched gone why = (
+  place,
+  l.reader.bytes,
+  ap (λ ts. slice_get ts place) (sym (texts_touched old mid touched)) ∙ get-map (λ (x : Lane Z). (x.port, x.reader.bytes)) mid place l gone.at ∙ ap (λ n. Some (n, l.reader.bytes)) (sym why.0),
+  subst (λ b. IsWrong l.reader.bytes b fault) gone.closed why.1,
+)
+carries_fault old mid place l run.WrongPorts touched gone why = why
+carries_fault old mid place l run.Closed touched gone why = why
+carries_fault old mid place l run.Failed touched gone why = why
+
+-- ---- what has left goes out
+
+-- fewer than go before that
+pub one_fewer : (n : ℕ) → n < 256 → (n + 1 ≡ 256 → ⊥) → n + 1 < 256
+one_fewer n few other = elim (cases_lt (n + 1) 256) [
+  | inl lt ↦ lt
+  | inr ge ↦ absurd (other (omega (arith, few, ge)))
+]
+
+over_grown : {Z : Type 0} (l n : Lane Z) → IsGrown l n → IsOver l → IsOver n
+over_grown l n grown over = record {
+  closed = ap (λ r. r.closed) grown.touched.reader ∙ over.closed;
+  taken = grown.touched.taken ∙ over.taken;
+  head = λ still_open. let one = over.head (sym grown.touched.ended ∙ still_open) in (one.0, ap (λ w. w.items) grown.waiting ∙ one.1, grown.last ∙ one.2);
+  read = λ ended. let all = over.read (sym grown.touched.ended ∙ ended) in (ap (λ w. w.items) grown.waiting ∙ all.0, read_same l n grown.touched.reader grown.touched.ended all.1);
+}
+
+all_over_grown : {Z : Type 0} (old new : List (Lane Z)) → AreGrown old new → AllByRecursion IsOver old → AllByRecursion IsOver new
+all_over_grown [] [] grown over = tt
+all_over_grown [] (n ∷ new) grown over = absurd grown
+all_over_grown (l ∷ old) [] grown over = absurd grown
+all_over_grown (l ∷ old) (n ∷ new) grown over = (over_grown l n grown.0 over.0, all_over_grown old new grown.1 over.1)
+
+pub hands_on : {Z : Type 0} (m next : Machine Z) (start now : List (Lane Z)) → IsCarrying m → HandsOut m.switch next.switch → start ≡ m.lanes.items → AreGrown start now
+    → ((t : Content) (given : List Arrival) (h : ℕ) → AreOfTable t start → IsGiven t given m.switch → h ≤ m.switch.run.latest → AreOut t given h m.switch start Every → AreOut t given m.switch.run.latest next.switch now Every)
+    → next.lanes.items ≡ (with_items m.lanes now).items → next.counts ≡ m.counts → HandsOn m next
+hands_on {Z} m next start now carrying hands is grown out lanes counts = record {
+  carrying = record {
+    of = touched_table m next touched same carrying.of;
+    handed = handed_stays m.switch next.switch same carrying.handed;
+    going = subst (λ (c : Content). IsGoing c next.lanes.items next.switch next.counts) (sym hands.table)
+        (subst (λ n. IsGoing t next.lanes.items next.switch n) (sym counts) (drained_going t m.lanes.items next.lanes.items m.switch next.switch m.counts carrying.going all hands outs));
+    over = all_over_grown m.lanes.items next.lanes.items all carrying.over;
+  };
+  same = same;
+  texts = texts_touched m.lanes.items next.lanes.items touched;
+  left = left_touched m.lanes.items next.lanes.items touched;
+} where
+  t : Content
+  t = m.switch.run.table
+
+  same : IsOfSameTable m.switch next.switch
+  same = handed_same m.switch next.switch hands
+
+  all : AreGrown m.lanes.items next.lanes.items
+  all = subst (λ (ls : List (Lane Z)). AreGrown m.lanes.items ls) (sym lanes) (drained_back m.lanes start now is grown)
+
+  touched : AreTouched m.lanes.items next.lanes.items
+  touched = touched_of m.lanes.items next.lanes.items all
+
+  now_is : now ≡ next.lanes.items
+  now_is = sym (lanes ∙ back_items m.lanes now (grown_length start now grown ∙ ap (λ (ls : List (Lane Z)). length ls) is))
+
+  outs : AreOut t carrying.going.given m.switch.run.latest next.switch next.lanes.items Every
+  outs = subst (λ (ls : List (Lane Z)). AreOut t carrying.going.given m.switch.run.latest next.switch ls Every) now_is
+      (out t carrying.going.given carrying.going.since (subst (λ (ls : List (Lane Z)). AreOfTable t ls) (sym is) carrying.of) carrying.going.is_given carrying.going.come
+      (subst (λ (ls : List (Lane Z)). AreOut t carrying.going.given carrying.going.since m.switch ls Every) (sym is) carrying.going.outs))
+
+-- nothing goes out
+same_table : (s : State) → IsOfSameTable s s
+same_table s = record { table = refl; accepted = refl; handed = refl }
+
+pub hands_none : {Z : Type 0} (m : Machine Z) → IsCarrying m → HandsOn m m
+hands_none m carrying = record { carrying = carrying; same = same_table m.switch; texts = refl; left = refl }
+
+-- ---- a fault
+
+-- none of the captures has one
+pub no_one_fault : ((bytes : List ℕ) (rs : List Entry) (e : PcapFault) → IsCapture bytes rs → IsFault bytes e → ⊥) → (texts : List Text) (port : ℕ) (why : PcapFault) → AreSound texts → IsOneFault texts (run.Capture port why) → ⊥
+no_one_fault law texts port why sound one =
+    let capture : IsSound (port, one.1) = all_slice_get IsSound texts one.0 (port, one.1) sound one.2 in law one.1 capture.0 why capture.1 one.3
