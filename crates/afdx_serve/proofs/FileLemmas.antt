@@ -4,7 +4,7 @@ use Rattle.std.proofs.Common.{min, Vec}
 use Rattle.std.specs.Prelude.{option_map, MatchResult}
 use Rattle.std.proofs.lemmas.List.{map-append, take_more, take-map, length-map, length-take}
 use Rattle.std.proofs.lemmas.Simd.{map-map}
-use Rattle.std.proofs.lemmas.Option.{slice_get-map, slice_get-get_or, get_or_from_slice_get}
+use Rattle.std.proofs.lemmas.Option.{slice_get-map, slice_get-get_or}
 use Rattle.afdx_table.specs.declared.rows.PortRow.{PortRow}
 use Rattle.afdx_session.specs.Texts.{Text, texts_of}
 use Rattle.afdx_table.specs.Content.{Content}

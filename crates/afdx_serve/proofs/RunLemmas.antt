@@ -1,7 +1,7 @@
 -- What a run did, and why it was not done.
 use Rattle.std.proofs.Common.{◌≡◌, ℕ, Bool, true, false, not, List, Option, Result, Ok, Err, refl, sym, ap, subst, ◌∙◌, inl, inr}
 use Rattle.std.specs.Prelude.{MatchResult, IsErr, IsErrAnd}
-use Rattle.std.proofs.Common.{map, length, Vec, String, Global}
+use Rattle.std.proofs.Common.{map, length, String, Global}
 use Rattle.std.specs.Prelude.{string_bytes}
 use Rattle.std.proofs.lemmas.List.{length-map}
 use Rattle.std.proofs.lemmas.Simd.{map-map}

@@ -1,4 +1,4 @@
-use Rattle.std.proofs.Common.{◌≡◌, ◌∙◌, ◌<◌, ℕ, List, Global, String, length, rules, string_bytes, ap, sym, refl, arith}
+use Rattle.std.proofs.Common.{◌∙◌, ◌<◌, Global, String, length, rules, string_bytes, ap, sym, arith}
 use Rattle.std.proofs.lemmas.Option.{get_or_from_slice_get}
 use Rattle.afdx_serve.specs.declared.failure.Failure.TheVariants.{Memory}
 use Rattle.afdx_serve.proofs.FileLemmas.{not_put}
@@ -28,9 +28,8 @@ returns-in_err-write g c = λ t arrivals left count.
     let s = within c.args.names.now i lt in
     let files = g.F.Folder.files c.loop-place.folder in
     let named = ap (λ (x : String Global). string_bytes x) (sym (get_or_from_slice_get c.args.names.now i s.0 s.0 s.1)) in
-    of_error _ _ _ Memory c.from_residual-in_err-write.ensures
-    (not_put Memory (string_bytes s.0) _ _ _ _ _ _ _ was.failed tt (stops_here t arrivals c.args.names.now i s.0 _ files files _ _ _ (string_bytes s.0) lt was named
-    (KeepsOthers-refl files (string_bytes s.0))))
+    of_error _ _ _ Memory c.from_residual.ensures
+    (string_bytes s.0, stops_here t arrivals c.args.names.now i s.0 _ files files _ _ _ (string_bytes s.0) lt was named (KeepsOthers-refl files (string_bytes s.0)))
 
 pub returns-in_err-put : goal.returns-in_err-put
 returns-in_err-put g c = λ t arrivals left count.

@@ -1,7 +1,6 @@
-use Rattle.std.proofs.Common.{List}
+use Rattle.std.proofs.Common.{◌≡◌, List, length}
 use Rattle.afdx_table.specs.Content.{Content}
 use Rattle.afdx_core.specs.Merge.{Arrival}
-use Rattle.std.proofs.Common.{◌≡◌, length}
 use Rattle.afdx_session.specs.Carried.{IsLeft}
 use Rattle.afdx_serve.proofs.PutLemmas.{ArePut}
 use Rattle.afdx_serve.proofs.put.put_outputs.Given as goal
