@@ -1,44 +1,38 @@
 //! A switch by calls: refusals, offers and records.
 
-use crate::traffic::{advances, arrive, checked, finished, left, next, offers, switch_of};
+use crate::traffic::{
+    Call, answered, arrive, checked, finished, leaves, plays_to_the_end, switch_of,
+};
 use afdx_core::{CoreFault, Done, Fate, Switch};
 use afdx_filter::Verdict;
 use afdx_port::Offer;
 use afdx_samples::{FRAME, joined, narrow, one_of_each, single, slow, small};
 use std::alloc::Global;
-use std::process::Abort;
 use std::test::*;
 
-/// A switch over a table of one link answers these calls so, be its table checked or not.
+/// How many of eight calls a switch over a table of one link answers as it should, be its table checked or not, whether it then
+/// hands out the rest, and what it tells at the end.
 fn answers_calls(
-    rt: &impl Abort,
     alloc: Global,
     mut switch: Switch<'static, Global>,
-) -> Result<(), Fail> {
-    let unknown = arrive(alloc, &mut switch, 7, small(10, 5));
-    assert_eq!(rt; unknown, (None, None, Some(CoreFault::NoSuchPort), 5));
-    let first = arrive(alloc, &mut switch, 1, small(10, 5));
-    assert_eq!(rt;
-        first,
-        (Some(Fate::Passed(10)), Some((2, Offer::Queued)), None, 0)
-    );
-    let early = arrive(alloc, &mut switch, 1, small(10, 4));
-    assert_eq!(rt; early, (None, None, Some(CoreFault::Earlier), 4));
-    let second = arrive(alloc, &mut switch, 1, small(10, 5));
-    assert_eq!(rt;
-        second,
-        (Some(Fate::Passed(10)), Some((2, Offer::Queued)), None, 0)
-    );
-    assert!(rt; !advances(&mut switch, 4));
-    assert_eq!(rt; next(&mut switch, 2), Ok(None));
-    assert!(rt; advances(&mut switch, 6));
-    assert_eq!(rt; next(&mut switch, 2), Ok(Some((6_725, 60))));
+) -> (usize, bool, (usize, usize, usize)) {
+    let queued = (Some(Fate::Passed(10)), Some((2, Offer::Queued)), None, 0);
+    let unknown = (None, None, Some(CoreFault::NoSuchPort), 5);
+    let earlier = (None, None, Some(CoreFault::Earlier), 4);
+    let calls = [
+        Call::Arrive(7, small(10, 5), unknown),
+        Call::Arrive(1, small(10, 5), queued),
+        Call::Arrive(1, small(10, 4), earlier),
+        Call::Arrive(1, small(10, 5), queued),
+        Call::Advance(4, false),
+        Call::Next(2, None),
+        Call::Advance(6, true),
+        Call::Next(2, Some((6_725, 60))),
+    ];
+    let count = answered(alloc, &mut switch, &calls);
     let mut done = finished(switch);
-    assert_eq!(rt; left(&mut done, 2), Ok(Some((13_445, 60))));
-    assert_eq!(rt; left(&mut done, 2), Ok(None));
-    assert_eq!(rt; done.fates().len(), 2);
-    assert!(rt; done.aged(2).is_empty());
-    Ok(())
+    let is_left = leaves(&mut done, 2, &[(13_445, 60)]);
+    (count, is_left, told_at_the_end(&done))
 }
 
 #[test]
@@ -46,7 +40,8 @@ fn switch_by_calls(rt: HostRuntime) -> Result<(), Fail> {
     let alloc = rt.alloc();
     let switch = switch_of(alloc, &single(alloc)?)?;
     assert!(rt; !switch.accepted());
-    answers_calls(&rt, alloc, switch)
+    assert_eq!(rt; answers_calls(rt.alloc(), switch), (8, true, (2, 0, 2)));
+    Ok(())
 }
 
 #[test]
@@ -54,7 +49,8 @@ fn checked_switch_by_calls(rt: HostRuntime) -> Result<(), Fail> {
     let alloc = rt.alloc();
     let switch = checked(alloc, &single(alloc)?)?;
     assert!(rt; switch.accepted());
-    answers_calls(&rt, alloc, switch)
+    assert_eq!(rt; answers_calls(rt.alloc(), switch), (8, true, (2, 0, 2)));
+    Ok(())
 }
 
 /// What a switch tells of port 2, how many frames it sent and discarded, and of all arrivals, how many fates.
@@ -78,9 +74,9 @@ fn readers_before_and_after_the_end(rt: HostRuntime) -> Result<(), Fail> {
     let _second = arrive(alloc, &mut switch, 1, small(10, 6_720));
     assert_eq!(rt; told(&switch), (1, 0, 2));
     let mut capture = Vec::new(alloc);
-    assert_eq!(rt; switch.next_out_into(2, &mut capture), Ok(true));
-    assert_eq!(rt; switch.next_out_into(2, &mut capture), Ok(false));
-    assert_eq!(rt; capture.len(), 76);
+    let first = switch.next_out_into(2, &mut capture);
+    let second = switch.next_out_into(2, &mut capture);
+    assert_eq!(rt; (first, second, capture.len()), (Ok(true), Ok(false), 76));
     let done = finished(switch);
     assert_eq!(rt; told_at_the_end(&done), (2, 0, 2));
     Ok(())
@@ -97,35 +93,35 @@ fn one_frame_as_a_capture(rt: HostRuntime) -> Result<(), Fail> {
     assert_eq!(rt; first.0, Some(Fate::Passed(10)));
     let mut done = finished(switch);
     let mut capture = Vec::new(alloc);
-    assert_eq!(rt; done.next_out_into(2, &mut capture), Ok(true));
-    assert_eq!(rt; done.next_out_into(2, &mut capture), Ok(false));
-    assert_eq!(rt; done.next_out_into(7, &mut capture), Ok(false));
+    let one = done.next_out_into(2, &mut capture);
+    let none = done.next_out_into(2, &mut capture);
+    let nowhere = done.next_out_into(7, &mut capture);
+    assert_eq!(rt; (one, none, nowhere), (Ok(true), Ok(false), Ok(false)));
     assert!(rt; capture.as_slice() == expected.as_slice());
-    assert_eq!(rt; left(&mut done, 2), Ok(None));
+    assert!(rt; leaves(&mut done, 2, &[]));
     Ok(())
 }
 
 #[test]
 fn full_at_one_port_only(rt: HostRuntime) -> Result<(), Fail> {
     let alloc = rt.alloc();
-    let mut switch = switch_of(alloc, &slow(alloc)?)?;
-    let first = offers(alloc, &mut switch, 1, small(10, 0));
-    assert_eq!(rt; first, (Some((2, Offer::Queued)), Some((3, Offer::Queued))));
-    let second = offers(alloc, &mut switch, 1, small(10, 0));
-    assert_eq!(rt; second, (Some((2, Offer::Full)), Some((3, Offer::Queued))));
-    let mut done = finished(switch);
-    assert_eq!(rt; left(&mut done, 2), Ok(Some((67_200, 60))));
-    assert_eq!(rt; left(&mut done, 2), Ok(None));
-    assert_eq!(rt; left(&mut done, 3), Ok(Some((6_720, 60))));
-    assert_eq!(rt; left(&mut done, 3), Ok(Some((13_440, 60))));
-    assert_eq!(rt; left(&mut done, 3), Ok(None));
+    let both = (Some((2, Offer::Queued)), Some((3, Offer::Queued)));
+    let one = (Some((2, Offer::Full)), Some((3, Offer::Queued)));
+    let calls = [
+        Call::Offers(1, small(10, 0), both),
+        Call::Offers(1, small(10, 0), one),
+    ];
+    let text = slow(alloc)?;
+    let at_2 = plays_to_the_end(alloc, &text, &calls, 2, &[(67_200, 60)])?;
+    assert_eq!(rt; at_2, (2, true));
+    let at_3 = plays_to_the_end(alloc, &text, &calls, 3, &[(6_720, 60), (13_440, 60)])?;
+    assert_eq!(rt; at_3, (2, true));
     Ok(())
 }
 
 #[test]
 fn every_verdict(rt: HostRuntime) -> Result<(), Fail> {
     let alloc = rt.alloc();
-    let mut switch = switch_of(alloc, &narrow(alloc)?)?;
     let fates = [
         Fate::Filtered(Verdict::Cut),
         Fate::Filtered(Verdict::Short),
@@ -137,14 +133,14 @@ fn every_verdict(rt: HostRuntime) -> Result<(), Fail> {
         Fate::Filtered(Verdict::Short),
         Fate::Passed(10),
     ];
+    let mut calls = Vec::new(alloc);
     for (sample, fate) in one_of_each().iter().zip(&fates) {
-        assert_eq!(rt; arrive(alloc, &mut switch, 1, *sample).0, Some(*fate));
+        calls.push(Call::Fate(1, *sample, *fate))?;
     }
-    let wrong_port = Some(Fate::Filtered(Verdict::WrongPort));
-    assert_eq!(rt; arrive(alloc, &mut switch, 2, small(10, 0)).0, wrong_port);
-    let mut done = finished(switch);
-    assert_eq!(rt; left(&mut done, 3), Ok(Some((6_720, 60))));
-    assert_eq!(rt; left(&mut done, 3), Ok(None));
+    let wrong_port = Fate::Filtered(Verdict::WrongPort);
+    calls.push(Call::Fate(2, small(10, 0), wrong_port))?;
+    let played = plays_to_the_end(alloc, &narrow(alloc)?, &calls, 3, &[(6_720, 60)])?;
+    assert_eq!(rt; played, (10, true));
     Ok(())
 }
 

@@ -2,7 +2,7 @@
 
 ghost use Rattle.std.specs.Prelude.{◌<◌};
 
-use crate::traffic::{advances, arrive, next, offers, switch_of};
+use crate::traffic::{Call, arrive, next, plays, switch_of};
 use afdx_core::Fate;
 use afdx_filter::Verdict;
 use afdx_port::Offer;
@@ -13,22 +13,27 @@ use std::test::*;
 #[test]
 fn shared_frame_held(rt: HostRuntime) -> Result<(), Fail> {
     let alloc = rt.alloc();
-    let mut switch = switch_of(alloc, &slow(alloc)?)?;
-    let _first = arrive(alloc, &mut switch, 1, small(10, 0));
-    assert_eq!(rt; switch.held(), 1);
-    let second = offers(alloc, &mut switch, 1, small(10, 0));
-    assert_eq!(rt; second, (Some((2, Offer::Full)), Some((3, Offer::Queued))));
-    assert_eq!(rt; switch.held(), 2);
-    assert_eq!(rt; next(&mut switch, 3), Ok(None));
-    assert!(rt; advances(&mut switch, 1));
-    assert_eq!(rt; next(&mut switch, 3), Ok(Some((6_720, 60))));
-    assert_eq!(rt; switch.held(), 2);
-    assert_eq!(rt; next(&mut switch, 2), Ok(Some((67_200, 60))));
-    assert_eq!(rt; switch.held(), 1);
-    assert_eq!(rt; next(&mut switch, 3), Ok(None));
-    assert!(rt; advances(&mut switch, 6_721));
-    assert_eq!(rt; next(&mut switch, 3), Ok(Some((13_440, 60))));
-    assert_eq!(rt; switch.held(), 0);
+    let calls = [
+        Call::Fate(1, small(10, 0), Fate::Passed(10)),
+        Call::Held(1),
+        Call::Offers(
+            1,
+            small(10, 0),
+            (Some((2, Offer::Full)), Some((3, Offer::Queued))),
+        ),
+        Call::Held(2),
+        Call::Next(3, None),
+        Call::Advance(1, true),
+        Call::Next(3, Some((6_720, 60))),
+        Call::Held(2),
+        Call::Next(2, Some((67_200, 60))),
+        Call::Held(1),
+        Call::Next(3, None),
+        Call::Advance(6_721, true),
+        Call::Next(3, Some((13_440, 60))),
+        Call::Held(0),
+    ];
+    assert_eq!(rt; plays(rt.alloc(), &slow(alloc)?, &calls)?, calls.len());
     Ok(())
 }
 
@@ -40,16 +45,21 @@ fn aged_frame_not_held(rt: HostRuntime) -> Result<(), Fail> {
         max_delay_us: 100,
         ..port(3)
     };
-    let mut switch = switch_of(alloc, &double(alloc, third)?)?;
-    let _first = arrive(alloc, &mut switch, 1, large(10, 0));
-    let _second = arrive(alloc, &mut switch, 2, small(20, 0));
-    let _third = arrive(alloc, &mut switch, 2, small(20, 23_040));
-    assert_eq!(rt; switch.held(), 3);
-    assert!(rt; advances(&mut switch, 123_041));
-    assert_eq!(rt; switch.held(), 2);
-    assert_eq!(rt; next(&mut switch, 3), Ok(Some((123_040, 1514))));
-    assert_eq!(rt; next(&mut switch, 3), Ok(Some((129_760, 60))));
-    assert_eq!(rt; switch.held(), 0);
+    let calls = [
+        Call::Fate(1, large(10, 0), Fate::Passed(10)),
+        Call::Fate(2, small(20, 0), Fate::Passed(20)),
+        Call::Fate(2, small(20, 23_040), Fate::Passed(20)),
+        Call::Held(3),
+        Call::Advance(123_041, true),
+        Call::Held(2),
+        Call::Next(3, Some((123_040, 1514))),
+        Call::Next(3, Some((129_760, 60))),
+        Call::Held(0),
+    ];
+    assert_eq!(rt;
+        plays(rt.alloc(), &double(alloc, third)?, &calls)?,
+        calls.len()
+    );
     Ok(())
 }
 
@@ -61,19 +71,20 @@ fn frame_that_no_port_admits_is_not_held(rt: HostRuntime) -> Result<(), Fail> {
         buffer: 1_600,
         ..port(3)
     };
-    let mut switch = switch_of(alloc, &double(alloc, third)?)?;
-    let foreign = arrive(alloc, &mut switch, 1, small(11, 0));
-    assert_eq!(rt; foreign.0, Some(Fate::Filtered(Verdict::NoLink)));
-    assert_eq!(rt; switch.held(), 0);
-    let first = arrive(alloc, &mut switch, 1, large(10, 0));
-    assert_eq!(rt; first.1, Some((3, Offer::Queued)));
-    assert_eq!(rt; switch.held(), 1);
-    let full = arrive(alloc, &mut switch, 2, large(20, 0));
-    assert_eq!(rt; full.1, Some((3, Offer::Full)));
-    assert_eq!(rt; switch.held(), 1);
-    let policed = arrive(alloc, &mut switch, 1, small(10, 0));
-    assert_eq!(rt; policed.0, Some(Fate::Policed(10)));
-    assert_eq!(rt; switch.held(), 1);
+    let calls = [
+        Call::Fate(1, small(11, 0), Fate::Filtered(Verdict::NoLink)),
+        Call::Held(0),
+        Call::Offers(1, large(10, 0), (Some((3, Offer::Queued)), None)),
+        Call::Held(1),
+        Call::Offers(2, large(20, 0), (Some((3, Offer::Full)), None)),
+        Call::Held(1),
+        Call::Fate(1, small(10, 0), Fate::Policed(10)),
+        Call::Held(1),
+    ];
+    assert_eq!(rt;
+        plays(rt.alloc(), &double(alloc, third)?, &calls)?,
+        calls.len()
+    );
     Ok(())
 }
 
@@ -105,15 +116,19 @@ fn keys_used_again(rt: HostRuntime) -> Result<(), Fail> {
             1,
             frame(10, length(number), number * 100_000),
         );
-        assert_eq!(rt; came.0, Some(Fate::Passed(10)));
-        assert_eq!(rt; switch.held(), 3);
+        let held = switch.held();
+        let out = next(&mut switch, 2);
         let first = number - 2;
         let end = first * 100_000 + (length(first) + 24) * 80;
         assert_eq!(rt;
-            next(&mut switch, 2),
-            Ok(Some((end as u64, length(first) as usize)))
+            (came.0, held, out, switch.held()),
+            (
+                Some(Fate::Passed(10)),
+                3,
+                Ok(Some((end as u64, length(first) as usize))),
+                2
+            )
         );
-        assert_eq!(rt; switch.held(), 2);
     }
     Ok(())
 }

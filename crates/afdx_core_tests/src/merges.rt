@@ -1,6 +1,6 @@
 //! Frames of two links at one instant.
 
-use crate::traffic::{arrive, finished, left, sent_as, switch_of, whole};
+use crate::traffic::{Call, arrive, finished, plays_to_the_end, sent_as, switch_of, whole};
 use afdx_core::Fate;
 use afdx_pcap::Record;
 use afdx_samples::{double, large, port, small};
@@ -10,19 +10,15 @@ use std::test::*;
 #[test]
 fn babbler_beside_a_quiet_link(rt: HostRuntime) -> Result<(), Fail> {
     let alloc = rt.alloc();
-    let mut switch = switch_of(alloc, &double(alloc, port(3))?)?;
-    let quiet = arrive(alloc, &mut switch, 1, small(10, 0));
-    assert_eq!(rt; quiet.0, Some(Fate::Passed(10)));
-    let babble = arrive(alloc, &mut switch, 2, large(20, 0));
-    assert_eq!(rt; babble.0, Some(Fate::Passed(20)));
-    for _ in 1..1000 {
-        let more = arrive(alloc, &mut switch, 2, large(20, 0));
-        assert_eq!(rt; more.0, Some(Fate::Policed(20)));
-    }
-    let mut done = finished(switch);
-    assert_eq!(rt; left(&mut done, 3), Ok(Some((6_720, 60))));
-    assert_eq!(rt; left(&mut done, 3), Ok(Some((129_760, 1514))));
-    assert_eq!(rt; left(&mut done, 3), Ok(None));
+    let mut calls = Vec::new(alloc);
+    calls.extend_from_slice(&[
+        Call::Fate(1, small(10, 0), Fate::Passed(10)),
+        Call::Fate(2, large(20, 0), Fate::Passed(20)),
+    ])?;
+    calls.extend_from_slice(&[Call::Fate(2, large(20, 0), Fate::Policed(20)); 999])?;
+    let left = [(6_720, 60), (129_760, 1514)];
+    let played = plays_to_the_end(alloc, &double(alloc, port(3))?, &calls, 3, &left)?;
+    assert_eq!(rt; played, (1001, true));
     Ok(())
 }
 
@@ -58,14 +54,12 @@ fn quiet_link_without_the_babbler(rt: HostRuntime) -> Result<(), Fail> {
 #[test]
 fn second_merge_of_one_instant(rt: HostRuntime) -> Result<(), Fail> {
     let alloc = rt.alloc();
-    let mut switch = switch_of(alloc, &double(alloc, port(3))?)?;
-    let babble = arrive(alloc, &mut switch, 2, large(20, 0));
-    assert_eq!(rt; babble.0, Some(Fate::Passed(20)));
-    let quiet = arrive(alloc, &mut switch, 1, small(10, 0));
-    assert_eq!(rt; quiet.0, Some(Fate::Passed(10)));
-    let mut done = finished(switch);
-    assert_eq!(rt; left(&mut done, 3), Ok(Some((123_040, 1514))));
-    assert_eq!(rt; left(&mut done, 3), Ok(Some((129_760, 60))));
-    assert_eq!(rt; left(&mut done, 3), Ok(None));
+    let calls = [
+        Call::Fate(2, large(20, 0), Fate::Passed(20)),
+        Call::Fate(1, small(10, 0), Fate::Passed(10)),
+    ];
+    let left = [(123_040, 1514), (129_760, 60)];
+    let played = plays_to_the_end(alloc, &double(alloc, port(3))?, &calls, 3, &left)?;
+    assert_eq!(rt; played, (2, true));
     Ok(())
 }

@@ -96,6 +96,20 @@ pub(crate) fn sent_as(out: Option<Record<'static, Global>>) -> Option<(u64, usiz
     }
 }
 
+/// Whether a port of a finished switch hands out these, by their ends and numbers of bytes, and nothing more.
+pub(crate) fn leaves(
+    done: &mut Done<'static, Global>,
+    port: u8,
+    expected: &[(u64, usize)],
+) -> bool {
+    for one in expected {
+        if left(done, port) != Ok(Some(*one)) {
+            return false;
+        }
+    }
+    left(done, port) == Ok(None)
+}
+
 /// The whole of it.
 pub(crate) fn whole(
     done: &mut Done<'static, Global>,
@@ -111,4 +125,70 @@ pub(crate) fn advances(switch: &mut Switch<'static, Global>, ns: u64) -> bool {
         Some(to) => switch.advance(to).is_ok(),
         None => false,
     }
+}
+
+/// A call of a switch, and what it should answer.
+#[derive(Clone, Copy)]
+pub(crate) enum Call {
+    /// A frame arrives at a port.
+    Arrive(u8, Sample, Answer),
+    /// A frame arrives at a port, of which the fate is told alone.
+    Fate(u8, Sample, Fate),
+    /// A frame arrives at a port, of which the first two offers are told alone.
+    Offers(u8, Sample, (Option<(u8, Offer)>, Option<(u8, Offer)>)),
+    /// An advance to so many nanoseconds, and whether it is made.
+    Advance(u64, bool),
+    /// The next frame of a port, by its end and its number of bytes.
+    Next(u8, Option<(u64, usize)>),
+    /// How many frames are held.
+    Held(usize),
+}
+
+/// Whether a switch answers this call so.
+fn answers(alloc: Global, switch: &mut Switch<'static, Global>, call: Call) -> bool {
+    match call {
+        Call::Arrive(port, sample, expected) => arrive(alloc, switch, port, sample) == expected,
+        Call::Fate(port, sample, fate) => arrive(alloc, switch, port, sample).0 == Some(fate),
+        Call::Offers(port, sample, expected) => offers(alloc, switch, port, sample) == expected,
+        Call::Advance(ns, expected) => advances(switch, ns) == expected,
+        Call::Next(port, expected) => next(switch, port) == Ok(expected),
+        Call::Held(expected) => switch.held() == expected,
+    }
+}
+
+/// How many of these calls it answers so, up to the first that it does not.
+pub(crate) fn answered(
+    alloc: Global,
+    switch: &mut Switch<'static, Global>,
+    calls: &[Call],
+) -> usize {
+    let mut count = 0usize;
+    for call in calls {
+        if !answers(alloc, switch, *call) {
+            break;
+        }
+        count = count.saturating_add(1);
+    }
+    count
+}
+
+/// How many of these calls a switch over the table of a text, which is not checked, answers so.
+pub(crate) fn plays(alloc: Global, text: &str, calls: &[Call]) -> Result<usize, Fail> {
+    let mut switch = switch_of(alloc, text)?;
+    Ok(answered(alloc, &mut switch, calls))
+}
+
+/// The same, and whether the finished switch then hands out these at a port and nothing more.
+pub(crate) fn plays_to_the_end(
+    alloc: Global,
+    text: &str,
+    calls: &[Call],
+    port: u8,
+    expected: &[(u64, usize)],
+) -> Result<(usize, bool), Fail> {
+    let mut switch = switch_of(alloc, text)?;
+    let count = answered(alloc, &mut switch, calls);
+    let mut done = finished(switch);
+    let is_left = leaves(&mut done, port, expected);
+    Ok((count, is_left))
 }

@@ -115,18 +115,39 @@ fn read_pieces(alloc: Global, pieces: &[&[u8]]) -> Result<Vec<Record<'static, Gl
     Ok(records)
 }
 
+/// Whether the text of these records is this one.
+fn are_written(alloc: Global, records: &[Record<Global>], text: &[u8]) -> Result<bool, PcapFault> {
+    Ok(write_all(alloc, records)?.as_slice() == text)
+}
+
+/// Whether a reader gives a record, or its fault.
+fn has_next(reader: &mut Reader<'_, Global>) -> Result<bool, PcapFault> {
+    Ok(reader.next()?.is_some())
+}
+
+/// The fault that an open reader answers once it was fed these bytes.
+fn early_fault(alloc: Global, bytes: &[u8]) -> Option<PcapFault> {
+    let mut reader = Reader::new(alloc);
+    match reader.feed(bytes) {
+        Ok(()) => has_next(&mut reader).err(),
+        Err(_) => None,
+    }
+}
+
+/// Whether this is the record of the frame at 0.
+fn is_the_frame_at_zero(record: &Record<Global>) -> bool {
+    record.stamp() == Stamp::ZERO && record.original() == 60 && record.bytes() == FRAME.as_slice()
+}
+
 #[test]
 fn first_capture(rt: HostRuntime) -> Result<(), Fail> {
     let bytes = one_frame(rt.alloc())?;
     let records = read_all(rt.alloc(), &bytes)?;
     assert_eq!(rt; records.len(), 1);
     for record in &records {
-        assert_eq!(rt; record.stamp(), Stamp::ZERO);
-        assert_eq!(rt; record.original(), 60);
-        assert_eq!(rt; record.bytes(), FRAME.as_slice());
+        assert!(rt; is_the_frame_at_zero(record));
     }
-    let written = write_all(rt.alloc(), &records)?;
-    assert_eq!(rt; written.as_slice(), bytes.as_slice());
+    assert!(rt; are_written(rt.alloc(), &records, &bytes)?);
     Ok(())
 }
 
@@ -169,10 +190,7 @@ fn four_magics(rt: HostRuntime) -> Result<(), Fail> {
         let records = read_all(rt.alloc(), &bytes)?;
         let stamp = records.first().ok_or("a record")?.stamp();
         assert_eq!(rt; stamp.ns(), 1_000_005_000, "in {header:?}");
-        assert_eq!(rt;
-            write_all(rt.alloc(), &records)?.as_slice(),
-            written.as_slice()
-        );
+        assert!(rt; are_written(rt.alloc(), &records, &written)?);
     }
     Ok(())
 }
@@ -222,9 +240,11 @@ fn capture_faults(rt: HostRuntime) -> Result<(), Fail> {
             "{patch:?} at {place}"
         );
         // An open reader answers each of them before the input has ended.
-        let mut reader = Reader::new(rt.alloc());
-        reader.feed(&bytes)?;
-        assert_eq!(rt; reader.next().err(), Some(fault), "{patch:?} at {place}");
+        assert_eq!(rt;
+            early_fault(rt.alloc(), &bytes),
+            Some(fault),
+            "{patch:?} at {place}"
+        );
     }
     assert_eq!(rt; read_whole(rt.alloc(), &[0; 23]), Err(PcapFault::NoHeader));
     let micros = [0, 0, 0, 0, 0x40, 0x42, 0x0f, 0, 60, 0, 0, 0, 60, 0, 0, 0];
@@ -244,12 +264,17 @@ fn capture_faults(rt: HostRuntime) -> Result<(), Fail> {
 #[test]
 fn largest_record(rt: HostRuntime) -> Result<(), Fail> {
     let head = [0, 0, 0, 0, 0, 0, 0, 0, 0, 0, 4, 0, 0, 0, 4, 0];
-    let mut data = vec![in rt.alloc(); 7u8; 262_144]?;
+    let data = vec![in rt.alloc(); 7u8; 262_144]?;
     let bytes = joined(rt.alloc(), &[&HEADER, &head, &data])?;
     let records = read_all(rt.alloc(), &bytes)?;
     let record = records.first().ok_or("a record")?;
     assert_eq!(rt; record.bytes(), data.as_slice());
-    data.push(7)?;
+    Ok(())
+}
+
+#[test]
+fn one_byte_too_many(rt: HostRuntime) -> Result<(), Fail> {
+    let data = vec![in rt.alloc(); 7u8; 262_145]?;
     assert!(rt; Record::<Global>::lent(Stamp::ZERO, 60, &data).is_none());
     let back = Record::new(Stamp::ZERO, 60, data)
         .err()
@@ -283,11 +308,11 @@ fn byte_by_byte(rt: HostRuntime) -> Result<(), Fail> {
             reader.feed(&[*byte])?;
         }
         fed = fed.saturating_add(1);
-        assert_eq!(rt; reader.next()?.is_some(), fed == 100, "{fed} bytes");
+        assert_eq!(rt; has_next(&mut reader), Ok(fed == 100), "{fed} bytes");
     }
     reader.close();
     assert!(rt; reader.is_closed());
-    assert!(rt; reader.next()?.is_none());
+    assert_eq!(rt; has_next(&mut reader), Ok(false));
     Ok(())
 }
 
@@ -298,16 +323,16 @@ fn any_pieces(rt: HostRuntime) -> Result<(), Fail> {
     for length in [1, 2, 3, 5, 7, 16, 23, 24, 25, 39, 40, 64, 99, 100, 101, 176] {
         let lengths = vec![in rt.alloc(); length; bytes.len()]?;
         let records = read_pieces(rt.alloc(), &cut(rt.alloc(), &bytes, &lengths)?)?;
-        let written = write_all(rt.alloc(), &records)?;
-        assert_eq!(rt; written.as_slice(), bytes.as_slice(), "pieces of {length}");
+        assert!(rt;
+            are_written(rt.alloc(), &records, &bytes)?,
+            "pieces of {length}"
+        );
     }
     for seed in 0..20 {
         let lengths = random_lengths(rt.alloc(), bytes.len(), seed)?;
         let records = read_pieces(rt.alloc(), &cut(rt.alloc(), &bytes, &lengths)?)?;
-        let written = write_all(rt.alloc(), &records)?;
-        assert_eq!(rt;
-            written.as_slice(),
-            bytes.as_slice(),
+        assert!(rt;
+            are_written(rt.alloc(), &records, &bytes)?,
             "pieces of seed {seed}"
         );
     }
@@ -319,7 +344,7 @@ fn faults_for_good(rt: HostRuntime) -> Result<(), Fail> {
     let mut reader = Reader::new(rt.alloc());
     reader.feed(&[0; 24])?;
     for _ in 0..2 {
-        assert_eq!(rt; reader.next().err(), Some(PcapFault::Magic));
+        assert_eq!(rt; has_next(&mut reader), Err(PcapFault::Magic));
         if !reader.is_closed() {
             assert_eq!(rt; reader.feed(&HEADER), Err(PcapFault::Magic));
         }
@@ -332,16 +357,21 @@ fn record_before_fault(rt: HostRuntime) -> Result<(), Fail> {
     let huge = [0, 0, 0, 0, 0, 0, 0, 0, 1, 0, 4, 0, 60, 0, 0, 0];
     let mut reader = Reader::new(rt.alloc());
     reader.feed(&joined(rt.alloc(), &[&one_frame(rt.alloc())?, &huge])?)?;
-    assert!(rt; reader.next()?.is_some());
-    assert_eq!(rt; reader.next().err(), Some(PcapFault::Huge(2)));
-    // A length of 4,294,967,295 is told as soon as the record's header is whole.
-    let mut reader = Reader::new(rt.alloc());
+    assert_eq!(rt; has_next(&mut reader), Ok(true));
+    assert_eq!(rt; has_next(&mut reader), Err(PcapFault::Huge(2)));
+    Ok(())
+}
+
+/// A length of 4,294,967,295 is told as soon as the record's header is whole.
+#[test]
+fn huge_length(rt: HostRuntime) -> Result<(), Fail> {
     let bytes = patched(rt.alloc(), 32, &[0xff; 4])?;
-    reader.feed(bytes.get(..39).ok_or("a front")?)?;
-    assert!(rt; reader.next()?.is_none());
+    let mut reader = Reader::new(rt.alloc());
+    reader.feed(bytes.get(..39).ok_or("a prefix")?)?;
+    assert_eq!(rt; has_next(&mut reader), Ok(false));
     assert!(rt; !reader.is_closed());
     reader.feed(&[0])?;
-    assert_eq!(rt; reader.next().err(), Some(PcapFault::Huge(1)));
+    assert_eq!(rt; has_next(&mut reader), Err(PcapFault::Huge(1)));
     Ok(())
 }
 

@@ -1,9 +1,9 @@
 //! Two babbling ports beside a quiet one. Values from outside: instants worked out by hand, bytes of pcap 2.4 captures, printed
 //! lines.
 
-use crate::fixtures::{CHECKED, RUN, answer_over};
+use crate::fixtures::{CHECKED, RUN, answers, folder_of, tells};
 use crate::memory_folder::MemoryFolder;
-use afdx_samples::{HEADER, capture, large, link, port, small, table};
+use afdx_samples::{HEADER, Sample, capture, large, link, port, small, table};
 use std::alloc::{AllocError, Global};
 use std::test::Fail;
 
@@ -23,20 +23,22 @@ fn babble(alloc: Global, own: u8) -> Result<Vec<u8>, AllocError> {
     capture(alloc, &samples)
 }
 
-/// What comes in at ports 1 to 4: at ports 1 and 2 a babble or nothing, at port 3 one frame of link 30.
-fn captures(alloc: Global, babbles: bool) -> Result<Vec<(u8, Vec<u8>)>, AllocError> {
-    let mut captures = Vec::new(alloc);
-    for (port, own) in [(1, 10), (2, 20)] {
-        let bytes = if babbles {
-            babble(alloc, own)?
-        } else {
-            capture(alloc, &[])?
-        };
-        captures.push((port, bytes))?;
+/// What comes in at a port: a babble, or nothing.
+fn came(alloc: Global, own: u8, babbles: bool) -> Result<Vec<u8>, AllocError> {
+    if babbles {
+        babble(alloc, own)
+    } else {
+        capture(alloc, &[])
     }
-    captures.push((3, capture(alloc, &[small(30, 0)])?))?;
-    captures.push((4, capture(alloc, &[])?))?;
-    Ok(captures)
+}
+
+/// The table, and what comes in at ports 1 to 4: at ports 1 and 2 a babble or nothing, at port 3 one frame of link 30.
+fn world(alloc: Global, babbles: bool) -> Result<MemoryFolder<Global>, AllocError> {
+    let first = came(alloc, 10, babbles)?;
+    let second = came(alloc, 20, babbles)?;
+    let third = capture(alloc, &[small(30, 0)])?;
+    let captures = [first.as_slice(), &second, &third, &HEADER];
+    folder_of(alloc, &three_to_one(alloc)?, &captures)
 }
 
 const BABBLED: &str =
@@ -78,61 +80,52 @@ out 4 low offered 1 full 0 aged 0 sent 1
 #[test]
 fn checks_the_table(rt: HostRuntime) -> Result<(), Fail> {
     let alloc = rt.alloc();
-    let mut folder = MemoryFolder::new(alloc);
-    folder.add("t", three_to_one(alloc)?.as_bytes())?;
-    let got = answer_over(alloc, "afdx check t", b"", &mut folder)?;
+    let lines = "port 4 rate 979292160 buffer 7516 high - low 478170\naccepted\n";
     assert!(rt;
-        got.is(
-            0,
-            b"port 4 rate 979292160 buffer 7516 high - low 478170\naccepted\n",
-            b""
-        )
+        tells(
+            rt.alloc(),
+            "afdx check t",
+            &three_to_one(alloc)?,
+            &[],
+            (0, lines, "")
+        )?
     );
     Ok(())
 }
 
-/// The names of port-1.pcap to port-4.pcap in the folder that captures come from, and in that for what leaves.
-const NAMES: [(&str, &str); 4] = [
-    ("in/port-1.pcap", "out/port-1.pcap"),
-    ("in/port-2.pcap", "out/port-2.pcap"),
-    ("in/port-3.pcap", "out/port-3.pcap"),
-    ("in/port-4.pcap", "out/port-4.pcap"),
-];
+/// Whether nothing leaves ports 1 to 3, and this port 4.
+fn has_left(folder: &MemoryFolder<Global>, left: &[u8]) -> bool {
+    folder.bytes("out/port-1.pcap") == Some(&HEADER)
+        && folder.bytes("out/port-2.pcap") == Some(&HEADER)
+        && folder.bytes("out/port-3.pcap") == Some(&HEADER)
+        && folder.bytes("out/port-4.pcap") == Some(left)
+}
 
-/// What leaves port 4, and the report, where ports 1 and 2 babble and where they are silent.
-fn worlds(alloc: Global) -> Result<[(bool, Vec<u8>, &'static str); 2], AllocError> {
-    let babbled = [large(10, 123_040), large(20, 246_080), small(30, 252_800)];
-    Ok([
-        (true, capture(alloc, &babbled)?, BABBLED),
-        (false, capture(alloc, &[small(30, 6_720)])?, QUIET),
-    ])
+/// Whether these frames leave port 4, with this report, where ports 1 and 2 babble or are silent.
+fn leaves(
+    alloc: Global,
+    words: &str,
+    babbles: bool,
+    frames: &[Sample],
+    report: &str,
+) -> Result<bool, AllocError> {
+    let left = capture(alloc, frames)?;
+    let mut folder = world(alloc, babbles)?;
+    let is_said = answers(alloc, words, &mut folder, (0, report, ""))?;
+    let is_left = has_left(&folder, &left);
+    Ok(is_said && is_left)
 }
 
 #[test]
 fn two_babblers(rt: HostRuntime) -> Result<(), Fail> {
-    let alloc = rt.alloc();
-    let text = three_to_one(alloc)?;
-    for (babbles, left, report) in worlds(alloc)? {
-        for line in [CHECKED, RUN] {
-            let mut folder = MemoryFolder::new(alloc);
-            folder.add("t", text.as_bytes())?;
-            let mut place = 0usize;
-            for (_, bytes) in &captures(alloc, babbles)? {
-                let (input, _) = NAMES.get(place).ok_or("a name")?;
-                folder.add(input, bytes)?;
-                place = place.saturating_add(1);
-            }
-            let got = answer_over(alloc, line, b"", &mut folder)?;
-            assert!(rt; got.is(0, report.as_bytes(), b""), "{line}");
-            for (_, output) in NAMES {
-                let wanted = if output == "out/port-4.pcap" {
-                    left.as_slice()
-                } else {
-                    &HEADER
-                };
-                assert_eq!(rt; folder.bytes(output), Some(wanted), "{line}");
-            }
-        }
+    let babbled = [large(10, 123_040), large(20, 246_080), small(30, 252_800)];
+    let quiet = [small(30, 6_720)];
+    for line in [CHECKED, RUN] {
+        assert!(rt;
+            leaves(rt.alloc(), line, true, &babbled, BABBLED)?,
+            "{line}"
+        );
+        assert!(rt; leaves(rt.alloc(), line, false, &quiet, QUIET)?, "{line}");
     }
     Ok(())
 }

@@ -83,6 +83,51 @@ impl OneFrame {
     pub(crate) fn sound(&self) -> Result<MemoryFolder<Global>, AllocError> {
         self.folder(0, FolderFault::Device)
     }
+
+    /// Whether the program, over what is there, answers so, and the first so many of these files stand then and no others.
+    pub(crate) fn leaves(
+        &self,
+        words: &str,
+        said: Said,
+        files: &[(&str, &[u8])],
+        count: usize,
+    ) -> Result<bool, AllocError> {
+        let mut folder = self.sound()?;
+        let is_said = answers(self.alloc, words, &mut folder, said)?;
+        let is_left = folder.holds(files, count);
+        Ok(is_said && is_left)
+    }
+
+    /// Whether the program, over a folder one of whose calls fails, has status 5 and this line, made no call after that one, and left
+    /// the first so many of these files and no others.
+    pub(crate) fn stops(
+        &self,
+        words: &str,
+        broken: &Broken,
+        files: &[(&str, &[u8])],
+        count: usize,
+    ) -> Result<bool, AllocError> {
+        let mut folder = self.folder(broken.call, broken.fault)?;
+        let is_said = answers(self.alloc, words, &mut folder, (5, "", broken.line))?;
+        let is_left = broken.is_of(&folder) && folder.holds(files, count);
+        Ok(is_said && is_left)
+    }
+}
+
+/// A call of the folder that fails: its number, from 1, how it fails, the name that the folder then tells, and the program's line.
+#[derive(Clone, Copy)]
+pub(crate) struct Broken<'a> {
+    pub(crate) call: u64,
+    pub(crate) fault: FolderFault,
+    pub(crate) name: Option<&'a str>,
+    pub(crate) line: &'a str,
+}
+
+impl Broken<'_> {
+    /// Whether the folder was given no call after that one, and tells this name.
+    fn is_of(&self, folder: &MemoryFolder<Global>) -> bool {
+        folder.calls() == self.call && folder.last_failure() == self.name
+    }
 }
 
 /// A folder with a table and with captures of ports 1 and up.
@@ -93,7 +138,12 @@ pub(crate) fn folder_of(
 ) -> Result<MemoryFolder<Global>, AllocError> {
     let mut folder = MemoryFolder::new(alloc);
     folder.add("t", table.as_bytes())?;
-    let names = ["in/port-1.pcap", "in/port-2.pcap", "in/port-3.pcap"];
+    let names = [
+        "in/port-1.pcap",
+        "in/port-2.pcap",
+        "in/port-3.pcap",
+        "in/port-4.pcap",
+    ];
     for (name, bytes) in names.iter().zip(captures) {
         folder.add(name, bytes)?;
     }
@@ -136,6 +186,32 @@ pub(crate) fn answer_over(
     let mut err = Vec::new(alloc);
     let status = serve(alloc, &words, &mut input, &mut out, &mut err, folder);
     Ok(Served { status, out, err })
+}
+
+/// A status, and what is on standard output and on standard error.
+pub(crate) type Said<'a> = (u8, &'a str, &'a str);
+
+/// Whether the program answers so over a folder.
+pub(crate) fn answers(
+    alloc: Global,
+    line: &str,
+    folder: &mut MemoryFolder<Global>,
+    (status, out, err): Said,
+) -> Result<bool, AllocError> {
+    let got = answer_over(alloc, line, b"", folder)?;
+    Ok(got.is(status, out.as_bytes(), err.as_bytes()))
+}
+
+/// Whether it answers so over a folder with a table and with captures of ports 1 and up.
+pub(crate) fn tells(
+    alloc: Global,
+    line: &str,
+    table: &str,
+    captures: &[&[u8]],
+    said: Said,
+) -> Result<bool, AllocError> {
+    let mut folder = folder_of(alloc, table, captures)?;
+    answers(alloc, line, &mut folder, said)
 }
 
 /// What it answers over a folder without files.

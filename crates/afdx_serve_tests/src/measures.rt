@@ -1,22 +1,23 @@
 //! `afdx measure` over a folder in memory. Values from outside: a table, captures, and lines that were worked out by hand.
 
-use crate::fixtures::{OneFrame, answer_over, folder_of};
+use crate::fixtures::{Broken, OneFrame, answer_over, folder_of, tells};
 use afdx_samples::{HEADER, Port, capture, double, frame, later, mixed, port, single};
 use afdx_serve::FolderFault;
-use std::alloc::Global;
+use std::alloc::{AllocError, Global};
 use std::test::Fail;
 
-/// Whether these lines are told of the captures, with status 0 and nothing beside them.
-fn tells(
-    alloc: Global,
-    words: &str,
-    table: &str,
-    captures: &[&[u8]],
-    lines: &str,
-) -> Result<bool, Fail> {
+/// The status of the words over a folder with a table and with captures of ports 1 and up.
+fn status(alloc: Global, words: &str, table: &str, captures: &[&[u8]]) -> Result<u8, AllocError> {
     let mut folder = folder_of(alloc, table, captures)?;
+    Ok(answer_over(alloc, words, b"", &mut folder)?.status)
+}
+
+/// Whether what is there is left as it is, with status 0.
+fn is_left(run: &OneFrame, alloc: Global, words: &str) -> Result<bool, AllocError> {
+    let mut folder = run.sound()?;
     let got = answer_over(alloc, words, b"", &mut folder)?;
-    Ok(got.status == 0 && got.out.as_slice() == lines.as_bytes() && got.err.is_empty())
+    let is_left = folder.holds(&run.files(), 3);
+    Ok(got.status == 0 && is_left)
 }
 
 #[test]
@@ -37,7 +38,11 @@ fn tells_of_one_link(rt: HostRuntime) -> Result<(), Fail> {
             "afdx measure t in",
             &table,
             &[&early, &HEADER],
-            "link 10 out 2 sent 2 least 123040 greatest 123040 bound 159390\nout 1 occupied 0 of 100000 at -\nout 2 occupied 1518 of 100000 at 0\n"
+            (
+                0,
+                "link 10 out 2 sent 2 least 123040 greatest 123040 bound 159390\nout 1 occupied 0 of 100000 at -\nout 2 occupied 1518 of 100000 at 0\n",
+                ""
+            )
         )?
     );
     assert!(rt;
@@ -46,7 +51,11 @@ fn tells_of_one_link(rt: HostRuntime) -> Result<(), Fail> {
             "afdx measure t in --unchecked",
             &table,
             &[&HEADER, &HEADER],
-            "link 10 out 2 sent 0 least - greatest - bound -\nout 1 occupied 0 of 100000 at -\nout 2 occupied 0 of 100000 at -\n"
+            (
+                0,
+                "link 10 out 2 sent 0 least - greatest - bound -\nout 1 occupied 0 of 100000 at -\nout 2 occupied 0 of 100000 at -\n",
+                ""
+            )
         )?
     );
     Ok(())
@@ -64,7 +73,11 @@ fn counts_the_latency(rt: HostRuntime) -> Result<(), Fail> {
             "afdx measure t in",
             &table,
             &[&two, &HEADER],
-            "link 10 out 2 sent 2 least 56720 greatest 56720 bound 209390\nout 1 occupied 0 of 100000 at -\nout 2 occupied 64 of 100000 at 0\n"
+            (
+                0,
+                "link 10 out 2 sent 2 least 56720 greatest 56720 bound 209390\nout 1 occupied 0 of 100000 at -\nout 2 occupied 64 of 100000 at 0\n",
+                ""
+            )
         )?
     );
     Ok(())
@@ -87,12 +100,16 @@ fn tells_what_was_lost_by_what_is_missing(rt: HostRuntime) -> Result<(), Fail> {
             "afdx measure t in --unchecked",
             &table,
             &[&first, &second, &HEADER],
-            "link 10 out 3 sent 1 least 122960 greatest 122960 bound -
+            (
+                0,
+                "link 10 out 3 sent 1 least 122960 greatest 122960 bound -
 link 20 out 3 sent 0 least - greatest - bound -
 out 1 occupied 0 of 100000 at -
 out 2 occupied 0 of 100000 at -
 out 3 occupied 1581 of 1581 at 0
-"
+",
+                ""
+            )
         )?
     );
     Ok(())
@@ -102,10 +119,7 @@ out 3 occupied 1581 of 1581 at 0
 fn puts_nothing(rt: HostRuntime) -> Result<(), Fail> {
     let alloc = rt.alloc();
     let run = OneFrame::new(alloc)?;
-    let mut folder = run.sound()?;
-    let got = answer_over(alloc, "afdx measure t in", b"", &mut folder)?;
-    assert_eq!(rt; got.status, 0);
-    assert!(rt; folder.holds(&run.files(), 3));
+    assert!(rt; is_left(&run, rt.alloc(), "afdx measure t in")?);
     Ok(())
 }
 
@@ -113,18 +127,27 @@ fn puts_nothing(rt: HostRuntime) -> Result<(), Fail> {
 fn refuses_as_a_run_does(rt: HostRuntime) -> Result<(), Fail> {
     let alloc = rt.alloc();
     let run = OneFrame::new(alloc)?;
-    // The call that fails, and what is said.
-    for (failing, said) in [
-        (1, "afdx: device get t\n"),
-        (2, "afdx: device get in/port-1.pcap\n"),
-        (3, "afdx: device get in/port-2.pcap\n"),
+    // The call that fails, the name that it is for, and what is said.
+    for (call, name, line) in [
+        (1, "t", "afdx: device get t\n"),
+        (2, "in/port-1.pcap", "afdx: device get in/port-1.pcap\n"),
+        (3, "in/port-2.pcap", "afdx: device get in/port-2.pcap\n"),
     ] {
-        let mut folder = run.folder(failing, FolderFault::Device)?;
-        let got = answer_over(alloc, "afdx measure t in", b"", &mut folder)?;
-        assert!(rt; got.is(5, b"", said.as_bytes()));
+        let broken = Broken {
+            call,
+            fault: FolderFault::Device,
+            name: Some(name),
+            line,
+        };
+        assert!(rt;
+            run.stops("afdx measure t in", &broken, &run.files(), 3)?,
+            "{name}"
+        );
     }
-    let mut folder = folder_of(alloc, &mixed(alloc)?, &[&HEADER[..23], &HEADER])?;
-    let got = answer_over(alloc, "afdx measure t in", b"", &mut folder)?;
-    assert_eq!(rt; got.status, 3);
+    let cut = [&HEADER[..23], &HEADER];
+    assert_eq!(rt;
+        status(rt.alloc(), "afdx measure t in", &mixed(alloc)?, &cut)?,
+        3
+    );
     Ok(())
 }

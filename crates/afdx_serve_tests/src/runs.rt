@@ -1,6 +1,9 @@
 //! `afdx run` over a folder in memory. Values from outside: a table, captures and printed lines.
 
-use crate::fixtures::{CHECKED, OneFrame, REPORT, RUN, answer_over, captured};
+use crate::fixtures::{
+    Broken, CHECKED, OneFrame, REPORT, RUN, Served, answer_over, answers, captured, folder_of,
+    tells,
+};
 use crate::memory_folder::MemoryFolder;
 use afdx_samples::{HEADER, Link, Port, capture, link, mixed, port, single, table};
 use afdx_serve::FolderFault;
@@ -22,10 +25,10 @@ fn serves_in_memory(rt: HostRuntime) -> Result<(), Fail> {
     let alloc = rt.alloc();
     let run = OneFrame::new(alloc)?;
     for line in [CHECKED, RUN] {
-        let mut folder = run.sound()?;
-        let got = answer_over(alloc, line, b"", &mut folder)?;
-        assert!(rt; got.is(0, REPORT.as_bytes(), b""), "{line}");
-        assert!(rt; folder.holds(&run.files(), 5), "{line}");
+        assert!(rt;
+            run.leaves(line, (0, REPORT, ""), &run.files(), 5)?,
+            "{line}"
+        );
     }
     Ok(())
 }
@@ -53,11 +56,9 @@ fn checks_a_table(rt: HostRuntime) -> Result<(), Fail> {
             "afdx: load L1 Rate, port 2, need 3264307200, limit 2048000000\n",
         ),
     ] {
-        let mut folder = MemoryFolder::new(alloc);
-        folder.add("t", single_to(alloc, mbit, buffer)?.as_bytes())?;
-        let got = answer_over(alloc, "afdx check t", b"", &mut folder)?;
+        let text = single_to(alloc, mbit, buffer)?;
         assert!(rt;
-            got.is(status, out.as_bytes(), err.as_bytes()),
+            tells(rt.alloc(), "afdx check t", &text, &[], (status, out, err))?,
             "{mbit} {buffer}"
         );
     }
@@ -67,15 +68,15 @@ fn checks_a_table(rt: HostRuntime) -> Result<(), Fail> {
 #[test]
 fn checks_a_mixed_table(rt: HostRuntime) -> Result<(), Fail> {
     let alloc = rt.alloc();
-    let mut folder = MemoryFolder::new(alloc);
-    folder.add("t", mixed(alloc)?.as_bytes())?;
-    let got = answer_over(alloc, "afdx check t", b"", &mut folder)?;
+    let lines = "port 2 rate 979292160 buffer 7516 high 282430 low 568836\naccepted\n";
     assert!(rt;
-        got.is(
-            0,
-            b"port 2 rate 979292160 buffer 7516 high 282430 low 568836\naccepted\n",
-            b""
-        )
+        tells(
+            rt.alloc(),
+            "afdx check t",
+            &mixed(alloc)?,
+            &[],
+            (0, lines, "")
+        )?
     );
     Ok(())
 }
@@ -93,6 +94,34 @@ fn short_of_room(alloc: Global) -> Result<String, AllocError> {
     table(alloc, &[port(1), second], &[early])
 }
 
+/// Whether the folder has captures of both ports, or of neither.
+fn has_put(folder: &MemoryFolder<Global>, put: bool) -> bool {
+    folder.bytes("out/port-1.pcap").is_some() == put
+        && folder.bytes("out/port-2.pcap").is_some() == put
+}
+
+/// Whether it is this status and this line, with something on standard output or nothing.
+fn is_told(got: &Served, status: u8, line: &str, put: bool) -> bool {
+    got.status == status && got.err.as_slice() == line.as_bytes() && got.out.is_empty() != put
+}
+
+/// Whether the run of one frame, at a port that is short of room, has this status and this line after so many calls of the folder,
+/// and puts captures and tells something or does neither.
+fn runs_short_of_room(
+    run: &OneFrame,
+    alloc: Global,
+    words: &str,
+    (status, line): (u8, &str),
+    calls: u64,
+    put: bool,
+) -> Result<bool, AllocError> {
+    let mut folder = run.sound()?;
+    folder.add("t", short_of_room(alloc)?.as_bytes())?;
+    let got = answer_over(alloc, words, b"", &mut folder)?;
+    let is_right = is_told(&got, status, line, put) && has_put(&folder, put);
+    Ok(is_right && folder.calls() == calls)
+}
+
 #[test]
 fn refuses_a_load_unless_unchecked(rt: HostRuntime) -> Result<(), Fail> {
     let alloc = rt.alloc();
@@ -100,15 +129,10 @@ fn refuses_a_load_unless_unchecked(rt: HostRuntime) -> Result<(), Fail> {
     let run = OneFrame::new(alloc)?;
     // The words, the status, the line, the calls that the folder was given, and whether a capture was put.
     for (words, status, line, calls, put) in [(CHECKED, 4, line, 1, false), (RUN, 0, "", 5, true)] {
-        let mut folder = run.sound()?;
-        folder.add("t", short_of_room(alloc)?.as_bytes())?;
-        let got = answer_over(alloc, words, b"", &mut folder)?;
-        assert_eq!(rt; got.status, status, "{words}");
-        assert_eq!(rt; got.err.as_slice(), line.as_bytes(), "{words}");
-        assert_eq!(rt; got.out.is_empty(), !put, "{words}");
-        assert_eq!(rt; folder.calls(), calls, "{words}");
-        assert_eq!(rt; folder.bytes("out/port-1.pcap").is_some(), put, "{words}");
-        assert_eq!(rt; folder.bytes("out/port-2.pcap").is_some(), put, "{words}");
+        assert!(rt;
+            runs_short_of_room(&run, rt.alloc(), words, (status, line), calls, put)?,
+            "{words}"
+        );
     }
     Ok(())
 }
@@ -116,11 +140,9 @@ fn refuses_a_load_unless_unchecked(rt: HostRuntime) -> Result<(), Fail> {
 #[test]
 fn stops_at_a_missing_capture(rt: HostRuntime) -> Result<(), Fail> {
     let alloc = rt.alloc();
-    let mut folder = MemoryFolder::new(alloc);
-    folder.add("t", single(alloc)?.as_bytes())?;
-    folder.add("in/port-1.pcap", &HEADER)?;
-    let got = answer_over(alloc, RUN, b"", &mut folder)?;
-    assert!(rt; got.is(5, b"", b"afdx: device get in/port-2.pcap\n"));
+    let mut folder = folder_of(alloc, &single(alloc)?, &[&HEADER])?;
+    let said = (5, "", "afdx: device get in/port-2.pcap\n");
+    assert!(rt; answers(rt.alloc(), RUN, &mut folder, said)?);
     assert_eq!(rt; folder.last_failure(), Some("in/port-2.pcap"));
     assert_eq!(rt; folder.bytes("out/port-1.pcap"), None);
     Ok(())
@@ -135,6 +157,14 @@ const CALLS: [(&str, &str, usize); 5] = [
     ("out/port-2.pcap", "afdx: device put out/port-2.pcap\n", 4),
 ];
 
+/// Whether the run of one frame is done where the sixth call would fail.
+fn is_done_before_call_6(run: &OneFrame, alloc: Global, words: &str) -> Result<bool, AllocError> {
+    let mut folder = run.folder(6, FolderFault::Device)?;
+    let is_said = answers(alloc, words, &mut folder, (0, REPORT, ""))?;
+    let is_left = folder.holds(&run.files(), 5);
+    Ok(is_said && is_left)
+}
+
 #[test]
 fn stops_at_a_failing_folder(rt: HostRuntime) -> Result<(), Fail> {
     let alloc = rt.alloc();
@@ -147,48 +177,51 @@ fn stops_at_a_failing_folder(rt: HostRuntime) -> Result<(), Fail> {
                 (FolderFault::Device, line, Some(name)),
                 (FolderFault::Memory, "afdx: memory\n", None),
             ] {
-                let mut folder = run.folder(failing, fault)?;
-                let got = answer_over(alloc, words, b"", &mut folder)?;
-                assert!(rt; got.is(5, b"", line.as_bytes()), "{name}");
-                assert_eq!(rt; folder.calls(), failing, "{name}");
-                assert_eq!(rt; folder.last_failure(), last, "{name}");
-                assert!(rt; folder.holds(&run.files(), files), "{name}");
+                let broken = Broken {
+                    call: failing,
+                    fault,
+                    name: last,
+                    line,
+                };
+                assert!(rt; run.stops(words, &broken, &run.files(), files)?, "{name}");
             }
         }
-        let mut folder = run.folder(6, FolderFault::Device)?;
-        let got = answer_over(alloc, words, b"", &mut folder)?;
-        assert!(rt; got.is(0, REPORT.as_bytes(), b""), "{words}");
-        assert!(rt; folder.holds(&run.files(), 5), "{words}");
+        assert!(rt; is_done_before_call_6(&run, rt.alloc(), words)?, "{words}");
     }
     Ok(())
 }
 
+/// So many bytes of the capture of one frame.
+fn cut(alloc: Global, left: usize) -> Result<Vec<u8>, AllocError> {
+    let mut bytes = capture(alloc, &[captured(60, 0, 0)])?;
+    bytes.truncate(left);
+    Ok(bytes)
+}
+
+/// Whether a run, of which so many bytes are left of each port's capture, has status 3 and this line, and puts no capture.
+fn is_refused(alloc: Global, left: [usize; 2], line: &str) -> Result<bool, AllocError> {
+    let first = cut(alloc, left[0])?;
+    let second = cut(alloc, left[1])?;
+    let mut folder = folder_of(alloc, &single(alloc)?, &[&first, &second])?;
+    let got = answer_over(alloc, RUN, b"", &mut folder)?;
+    let is_told = got.status == 3 && got.err.as_slice() == line.as_bytes();
+    Ok(is_told && folder.bytes("out/port-1.pcap").is_none())
+}
+
 #[test]
 fn tells_a_ports_fault(rt: HostRuntime) -> Result<(), Fail> {
-    let alloc = rt.alloc();
     // How many bytes are left of each port's capture, and the line.
-    for (first, second, line) in [
-        (99, 23, "afdx: capture P11 CutData, port 1, record 1\n"),
-        (100, 23, "afdx: capture P2 NoHeader, port 2\n"),
+    for (left, line) in [
+        ([99, 23], "afdx: capture P11 CutData, port 1, record 1\n"),
+        ([100, 23], "afdx: capture P2 NoHeader, port 2\n"),
     ] {
-        let mut folder = MemoryFolder::new(alloc);
-        folder.add("t", single(alloc)?.as_bytes())?;
-        for (name, left) in [("in/port-1.pcap", first), ("in/port-2.pcap", second)] {
-            let mut cut = capture(alloc, &[captured(60, 0, 0)])?;
-            cut.truncate(left);
-            folder.add(name, &cut)?;
-        }
-        let got = answer_over(alloc, RUN, b"", &mut folder)?;
-        assert_eq!(rt; got.status, 3, "{line}");
-        assert_eq!(rt; got.err.as_slice(), line.as_bytes());
-        assert_eq!(rt; folder.bytes("out/port-1.pcap"), None, "{line}");
+        assert!(rt; is_refused(rt.alloc(), left, line)?, "{line}");
     }
     Ok(())
 }
 
 #[test]
 fn tells_a_tables_refusal(rt: HostRuntime) -> Result<(), Fail> {
-    let alloc = rt.alloc();
     for (text, line) in [
         ("x = ", "afdx: table C2 Toml\n"),
         ("color = 1", "afdx: table C3 UnknownKey, top\n"),
@@ -208,10 +241,7 @@ fn tells_a_tables_refusal(rt: HostRuntime) -> Result<(), Fail> {
             "afdx: table C10 NoSuchPort, link 1\n",
         ),
     ] {
-        let mut folder = MemoryFolder::new(alloc);
-        folder.add("t", text.as_bytes())?;
-        let got = answer_over(alloc, RUN, b"", &mut folder)?;
-        assert!(rt; got.is(3, b"", line.as_bytes()), "{line}");
+        assert!(rt; tells(rt.alloc(), RUN, text, &[], (3, "", line))?, "{line}");
     }
     Ok(())
 }

@@ -1,6 +1,6 @@
 //! `afdx size` over a folder in memory. Values from outside: tables, and lines that were worked out by hand.
 
-use crate::fixtures::answer_over;
+use crate::fixtures::{answer_over, answers, tells};
 use crate::memory_folder::MemoryFolder;
 use afdx_samples::{Link, Port, link, mixed, port, single, table};
 use afdx_serve::FolderFault;
@@ -125,13 +125,10 @@ fn has_no_lines_without_links(rt: HostRuntime) -> Result<(), Fail> {
 
 #[test]
 fn refuses_what_is_no_table(rt: HostRuntime) -> Result<(), Fail> {
-    let alloc = rt.alloc();
-    let mut folder = MemoryFolder::new(alloc);
-    folder.add("t", b"version = 4")?;
-    let got = answer_over(alloc, "afdx size t", b"", &mut folder)?;
-    assert!(rt; got.is(3, b"", b"afdx: table C6 Range, top, version\n"));
-    let mut broken = MemoryFolder::failing(alloc, 1, FolderFault::Device);
-    let none = answer_over(alloc, "afdx size t", b"", &mut broken)?;
-    assert!(rt; none.is(5, b"", b"afdx: device get t\n"));
+    let said = (3, "", "afdx: table C6 Range, top, version\n");
+    assert!(rt; tells(rt.alloc(), "afdx size t", "version = 4", &[], said)?);
+    let mut broken = MemoryFolder::failing(rt.alloc(), 1, FolderFault::Device);
+    let said = (5, "", "afdx: device get t\n");
+    assert!(rt; answers(rt.alloc(), "afdx size t", &mut broken, said)?);
     Ok(())
 }

@@ -32,7 +32,7 @@ const WITHOUT_INPUT: [(&str, usize); 5] = [
 type LineWriter = (usize, u64, bool);
 
 /// One that takes the line: reading up to the greatest number of turns takes its time.
-const SOUND_WRITER: [LineWriter; 1] = [(50, 0, true)];
+const SOUND_WRITER: LineWriter = (50, 0, true);
 
 const LINE_WRITERS: [LineWriter; 4] = [(50, 0, true), (1, 0, true), (0, 0, false), (50, 1, false)];
 
@@ -56,6 +56,48 @@ fn told(line: &'static str, writer: LineWriter) -> &'static [u8] {
     if writer.2 { line.as_bytes() } else { b"" }
 }
 
+/// What is to be seen of a command: its status, what standard output took, what a writer for the line took, and how many files of
+/// the run of one frame stand.
+#[derive(Clone, Copy)]
+struct Wanted<'a> {
+    status: u8,
+    out: Option<&'a [u8]>,
+    err: &'a [u8],
+    files: usize,
+}
+
+impl Wanted<'_> {
+    /// Whether that is to be seen.
+    fn is_seen(&self, got: &(u8, Vec<u8>), out: &Sink) -> bool {
+        got.0 == self.status
+            && Some(out.bytes.as_slice()) == self.out
+            && got.1.as_slice() == self.err
+    }
+}
+
+/// Whether that is seen of a command over the run of one frame.
+fn shows<R: Read>(
+    run: &OneFrame,
+    alloc: Global,
+    line: &str,
+    input: &mut R,
+    mut out: Sink,
+    writer: LineWriter,
+    wanted: &Wanted,
+) -> Result<bool, AllocError> {
+    let mut folder = run.sound()?;
+    let got = served(alloc, line, input, &mut out, &mut folder, writer)?;
+    let is_seen = wanted.is_seen(&got, &out);
+    let is_left = folder.holds(&run.files(), wanted.files);
+    Ok(is_seen && is_left)
+}
+
+/// What a command writes, where nothing fails.
+fn written(run: &OneFrame, alloc: Global, line: &str) -> Result<Vec<u8>, AllocError> {
+    let mut folder = run.sound()?;
+    Ok(answer_over(alloc, line, run.came(), &mut folder)?.out)
+}
+
 #[test]
 fn stops_where_a_writer_fails(rt: HostRuntime) -> Result<(), Fail> {
     let alloc = rt.alloc();
@@ -63,8 +105,8 @@ fn stops_where_a_writer_fails(rt: HostRuntime) -> Result<(), Fail> {
     let broken = Some(ErrorKind::BrokenPipe);
     let again = Some(ErrorKind::Interrupted);
     for (line, files) in COMMANDS {
-        let whole = answer_over(alloc, line, run.came(), &mut run.sound()?)?;
-        let length = whole.out.len();
+        let whole = written(&run, alloc, line)?;
+        let length = whole.len();
         // How many bytes the writer takes at once, the call that fails and how, and how many bytes are written.
         for (most, failing, kind, written) in [
             (50, 0, None, length),
@@ -86,23 +128,16 @@ fn stops_where_a_writer_fails(rt: HostRuntime) -> Result<(), Fail> {
                 (5, "afdx: device write\n")
             };
             for writer in LINE_WRITERS {
-                let mut folder = run.sound()?;
+                let wanted = Wanted {
+                    status,
+                    out: whole.get(..written),
+                    err: told(said, writer),
+                    files,
+                };
                 let mut reader = run.came();
-                let mut out = Sink::new(alloc, most, failing, kind);
-                let got = served(alloc, line, &mut reader, &mut out, &mut folder, writer)?;
-                assert_eq!(rt; got.0, status, "{line} {most} {failing}");
-                assert_eq!(rt;
-                    Some(out.bytes.as_slice()),
-                    whole.out.get(..written),
-                    "{line} {most} {failing}"
-                );
-                assert_eq!(rt;
-                    got.1.as_slice(),
-                    told(said, writer),
-                    "{line} {most} {failing}"
-                );
+                let out = Sink::new(alloc, most, failing, kind);
                 assert!(rt;
-                    folder.holds(&run.files(), files),
+                    shows(&run, alloc, line, &mut reader, out, writer, &wanted)?,
                     "{line} {most} {failing}"
                 );
             }
@@ -129,20 +164,24 @@ fn stops_where_a_reader_fails(rt: HostRuntime) -> Result<(), Fail> {
         (15, broken, false),
         (16, broken, false),
     ] {
-        let (status, answer, said) = if done {
-            (0, run.came(), "")
+        let (status, written, said) = if done {
+            (0, run.came().len(), "")
         } else {
-            (5, b"".as_slice(), "afdx: device read\n")
+            (5, 0, "afdx: device read\n")
         };
         for writer in LINE_WRITERS {
-            let mut folder = run.sound()?;
+            let wanted = Wanted {
+                status,
+                out: run.came().get(..written),
+                err: told(said, writer),
+                files: 3,
+            };
             let mut reader = Source::new(run.came(), failing, kind);
-            let mut out = Sink::new(alloc, 50, 0, None);
-            let got = served(alloc, LINK_10, &mut reader, &mut out, &mut folder, writer)?;
-            assert_eq!(rt; got.0, status, "read {failing}");
-            assert_eq!(rt; out.bytes.as_slice(), answer, "read {failing}");
-            assert_eq!(rt; got.1.as_slice(), told(said, writer), "read {failing}");
-            assert!(rt; folder.holds(&run.files(), 3), "read {failing}");
+            let out = Sink::new(alloc, 50, 0, None);
+            assert!(rt;
+                shows(&run, alloc, LINK_10, &mut reader, out, writer, &wanted)?,
+                "read {failing}"
+            );
         }
     }
     Ok(())
@@ -153,17 +192,21 @@ fn reads_for_alone_only(rt: HostRuntime) -> Result<(), Fail> {
     let alloc = rt.alloc();
     let run = OneFrame::new(alloc)?;
     for (line, files) in WITHOUT_INPUT {
-        let whole = answer_over(alloc, line, b"", &mut run.sound()?)?;
-        let mut folder = run.sound()?;
+        let whole = written(&run, alloc, line)?;
+        let wanted = Wanted {
+            status: 0,
+            out: Some(&whole),
+            err: b"",
+            files,
+        };
         let mut reader = Source::new(b"", 1, ErrorKind::BrokenPipe);
-        let mut out = Sink::new(alloc, 50, 0, None);
-        let writer = (50, 0, true);
-        let got = served(alloc, line, &mut reader, &mut out, &mut folder, writer)?;
-        assert_eq!(rt; got.0, 0, "{line}");
-        assert_eq!(rt; out.bytes.as_slice(), whole.out.as_slice(), "{line}");
-        assert_eq!(rt; got.1.as_slice(), b"".as_slice(), "{line}");
+        let out = Sink::new(alloc, 50, 0, None);
+        let writer = SOUND_WRITER;
+        assert!(rt;
+            shows(&run, alloc, line, &mut reader, out, writer, &wanted)?,
+            "{line}"
+        );
         assert_eq!(rt; reader.calls, 0, "{line}");
-        assert!(rt; folder.holds(&run.files(), files), "{line}");
     }
     Ok(())
 }
@@ -172,21 +215,23 @@ fn reads_for_alone_only(rt: HostRuntime) -> Result<(), Fail> {
 fn gives_up_where_every_read_is_interrupted(rt: HostRuntime) -> Result<(), Fail> {
     let alloc = rt.alloc();
     let run = OneFrame::new(alloc)?;
-    for writer in SOUND_WRITER {
-        let mut folder = run.sound()?;
-        let mut out = Sink::new(alloc, 50, 0, None);
-        let got = served(
+    let wanted = Wanted {
+        status: 5,
+        out: Some(b""),
+        err: b"afdx: device read\n",
+        files: 3,
+    };
+    let out = Sink::new(alloc, 50, 0, None);
+    assert!(rt;
+        shows(
+            &run,
             alloc,
             LINK_10,
             &mut Interrupted,
-            &mut out,
-            &mut folder,
-            writer,
-        )?;
-        assert_eq!(rt; got.0, 5);
-        assert_eq!(rt; out.bytes.as_slice(), b"".as_slice());
-        assert_eq!(rt; got.1.as_slice(), told("afdx: device read\n", writer));
-        assert!(rt; folder.holds(&run.files(), 3));
-    }
+            out,
+            SOUND_WRITER,
+            &wanted
+        )?
+    );
     Ok(())
 }

@@ -1,6 +1,7 @@
 //! `afdx trace` over a folder in memory. Values from outside: tables, captures, and lines that were worked out by hand.
 
-use crate::fixtures::{OneFrame, answer_over, folder_of};
+use crate::fixtures::{Broken, OneFrame, answer_over, answers, folder_of};
+use crate::memory_folder::MemoryFolder;
 use afdx_samples::{HEADER, Port, capture, double, frame, later, mixed, port, single};
 use afdx_serve::FolderFault;
 use std::alloc::{AllocError, Global};
@@ -19,6 +20,12 @@ fn file(alloc: Global, heading: &str, lines: &str) -> Result<String, AllocError>
     Ok(text)
 }
 
+/// Whether the folder has these two files.
+fn has(folder: &MemoryFolder<Global>, arrivals: &str, departures: &str) -> bool {
+    folder.bytes("out/arrivals.csv") == Some(arrivals.as_bytes())
+        && folder.bytes("out/departures.csv") == Some(departures.as_bytes())
+}
+
 /// Whether these lines are put below the headings, with status 0 and nothing said.
 fn puts(
     alloc: Global,
@@ -26,18 +33,21 @@ fn puts(
     table: &str,
     captures: &[&[u8]],
     lines: [&str; 2],
-) -> Result<bool, Fail> {
-    let mut folder = folder_of(alloc, table, captures)?;
-    let got = answer_over(alloc, words, b"", &mut folder)?;
+) -> Result<bool, AllocError> {
     let arrivals = file(alloc, ARRIVALS, lines[0])?;
     let departures = file(alloc, DEPARTURES, lines[1])?;
-    Ok(
-        got.status == 0
-            && got.out.is_empty()
-            && got.err.is_empty()
-            && folder.bytes("out/arrivals.csv") == Some(arrivals.as_bytes())
-            && folder.bytes("out/departures.csv") == Some(departures.as_bytes()),
-    )
+    let mut folder = folder_of(alloc, table, captures)?;
+    let is_said = answers(alloc, words, &mut folder, (0, "", ""))?;
+    let is_put = has(&folder, &arrivals, &departures);
+    Ok(is_said && is_put)
+}
+
+/// The status of the trace of captures that are none, and whether no arrivals are put.
+fn refused(alloc: Global, table: &str, captures: &[&[u8]]) -> Result<(u8, bool), AllocError> {
+    let mut folder = folder_of(alloc, table, captures)?;
+    let got = answer_over(alloc, TRACE, b"", &mut folder)?;
+    let is_put = folder.bytes("out/arrivals.csv").is_some();
+    Ok((got.status, !is_put))
 }
 
 #[test]
@@ -135,14 +145,16 @@ fn stops_at_a_failing_folder(rt: HostRuntime) -> Result<(), Fail> {
         second,
         ("out/arrivals.csv", arrivals.as_bytes()),
     ];
-    let mut failing = 0u64;
+    let mut call = 0u64;
     for (name, line, count) in CALLS {
-        failing = failing.saturating_add(1);
-        let mut folder = run.folder(failing, FolderFault::Device)?;
-        let got = answer_over(alloc, TRACE, b"", &mut folder)?;
-        assert!(rt; got.is(5, b"", line.as_bytes()), "{name}");
-        assert_eq!(rt; folder.last_failure(), Some(name), "{name}");
-        assert!(rt; folder.holds(&files, count), "{name}");
+        call = call.saturating_add(1);
+        let broken = Broken {
+            call,
+            fault: FolderFault::Device,
+            name: Some(name),
+            line,
+        };
+        assert!(rt; run.stops(TRACE, &broken, &files, count)?, "{name}");
     }
     Ok(())
 }
@@ -150,9 +162,7 @@ fn stops_at_a_failing_folder(rt: HostRuntime) -> Result<(), Fail> {
 #[test]
 fn refuses_as_a_run_does(rt: HostRuntime) -> Result<(), Fail> {
     let alloc = rt.alloc();
-    let mut folder = folder_of(alloc, &mixed(alloc)?, &[&HEADER[..23], &HEADER])?;
-    let got = answer_over(alloc, TRACE, b"", &mut folder)?;
-    assert_eq!(rt; got.status, 3);
-    assert_eq!(rt; folder.bytes("out/arrivals.csv"), None);
+    let cut = [&HEADER[..23], &HEADER];
+    assert_eq!(rt; refused(rt.alloc(), &mixed(alloc)?, &cut)?, (3, true));
     Ok(())
 }
