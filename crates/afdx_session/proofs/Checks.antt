@@ -1,6 +1,5 @@
 -- Captures are checked, one after the other.
-use Rattle.std.proofs.Common.{◌≡◌, ℕ, zero, suc, ◌+◌, ◌<◌, ◌≤◌, List, [], ◌∷◌, length, take, get_or, slice_get, Some, Vec, inl, inr, refl, sym, ap, ◌∙◌, arith, subst}
-use Rattle.std.specs.List.{AllByRecursion}
+use Rattle.std.proofs.Common.{◌≡◌, ℕ, zero, suc, ◌+◌, ◌<◌, ◌≤◌, List, [], ◌∷◌, length, take, get_or, slice_get, Some, Vec, inl, inr, refl, sym, ap, arith, subst}
 use Rattle.std.proofs.lemmas.Option.{slice_get_read}
 use Rattle.afdx_pcap.specs.Fault.{IsFault}
 use Rattle.afdx_pcap.specs.declared.fault.PcapFault.{PcapFault}

@@ -1,5 +1,5 @@
 -- The outcome of a session is that of a run over the whole captures.
-use Rattle.std.proofs.Common.{◌≡◌, ℕ, zero, suc, ◌+◌, ◌<◌, ◌≤◌, ◌==◌, Bool, true, false, cond, List, [], ◌∷◌, ◌++◌, map, length, drop, slice_get, Option, Some, None, refl, ap, sym, ◌∙◌, arith, subst}
+use Rattle.std.proofs.Common.{◌≡◌, ℕ, zero, suc, ◌<◌, ◌==◌, Bool, true, false, cond, List, [], ◌∷◌, map, drop, slice_get, Some, refl, ap, sym, ◌∙◌, arith, subst}
 use Rattle.std.specs.Prelude.{find}
 use Rattle.std.specs.List.{AllByRecursion}
 use Rattle.std.proofs.lemmas.Bool.Decides.{nat_tests}
@@ -7,25 +7,24 @@ use Rattle.afdx_table.specs.declared.rows.PortRow.{PortRow}
 use Rattle.afdx_table.specs.Content.{Content}
 use Rattle.afdx_table.specs.WellFormed.{IsWellFormed}
 use Rattle.afdx_table.specs.WellFormed as table
-use Rattle.afdx_load.specs.Accepted.{IsAccepted}
 use Rattle.afdx_port.specs.Admission.{EarlierEventsStayAdmitted}
 use Rattle.afdx_port.specs.Order.{ReachesInOrder}
-use Rattle.afdx_core.specs.State.{Run, State, after_finish}
+use Rattle.afdx_core.specs.State.{after_finish}
 use Rattle.afdx_core.specs.Merge.{Arrival, Capture, merged}
-use Rattle.afdx_count.specs.Tally.{Tally, ended}
+use Rattle.afdx_count.specs.Tally.{ended}
 use Rattle.afdx_count.specs.Run.{counts_so_far, counts_of}
 use Rattle.afdx_count.specs.Laws.{EndCountsTheRun}
 use Rattle.afdx_session.specs.declared.lane.Lane.{Lane}
 use Rattle.afdx_session.specs.declared.machine.Machine.{Machine}
-use Rattle.afdx_session.specs.Texts.{Text, AreOfPorts}
+use Rattle.afdx_session.specs.Texts.{Text}
 use Rattle.afdx_session.specs.Output.{rows_of, output_text, outputs}
 use Rattle.afdx_session.specs.Outcome.{Results, IsOutcome}
 use Rattle.afdx_session.specs.Headline.{AcceptedRunsIsolate}
 use Rattle.afdx_session.specs.Streams.{captures_of, AllStartBeforeTheLastInstant}
-use Rattle.afdx_session.specs.Session.{Intake, Seen, taken_in, taken_of}
+use Rattle.afdx_session.specs.Session.{Intake, Seen, taken_in}
 use Rattle.afdx_session.specs.Finish.{rest_of, texts_in, IsFinished}
 use Rattle.afdx_session.specs.Lanes.{intake_of}
-use Rattle.afdx_session.specs.Kept.{AreOfTable, IsGoing, IsRunning, IsMarked, IsOfSameTable}
+use Rattle.afdx_session.specs.Kept.{AreOfTable, IsRunning, IsMarked, IsOfSameTable}
 use Rattle.afdx_session.specs.View.{intakes_of, texts_at, seen_of, AreHalfDone, AreEndedLanes, IsKept}
 use Rattle.afdx_session.proofs.Going.{some_same}
 use Rattle.afdx_session.proofs.Numbered.{all_slice_get}

@@ -1,33 +1,33 @@
 -- A session that was fed nothing.
-use Rattle.std.proofs.Common.{◌≡◌, ℕ, zero, suc, ◌+◌, ◌<◌, ◌≤◌, ◌^◌, min, Bool, true, false, List, [], ◌∷◌, ◌++◌, map, length, drop, take, get_or, slice_get, slice_index, Option, Some, None, Ok, Err, refl, ap, sym, ◌∙◌, arith, inl, inr, subst}
+use Rattle.std.proofs.Common.{◌≡◌, ℕ, zero, suc, ◌<◌, ◌≤◌, Bool, true, false, List, [], ◌∷◌, ◌++◌, map, length, drop, take, slice_get, slice_index, Option, Some, None, Ok, Err, refl, ap, sym, ◌∙◌, arith, inl, inr, subst}
 use Rattle.std.specs.Prelude.{Result}
 use Rattle.std.specs.List.{AllByRecursion}
 use Rattle.afdx_pcap.specs.declared.fault.PcapFault.{PcapFault}
 use Rattle.afdx_pcap.specs.declared.fault.PcapFault.TheVariants.{NoHeader}
 use Rattle.afdx_pcap.specs.declared.format.Format.{Format}
 use Rattle.afdx_pcap.specs.Entry.{Entry}
-use Rattle.afdx_pcap.specs.Capture.{header_of, Holds, Splits}
+use Rattle.afdx_pcap.specs.Capture.{header_of, Holds}
 use Rattle.afdx_pcap.specs.Fault.{IsFault, IsEarlyFault, is_cut}
-use Rattle.afdx_pcap.specs.Reading.{Reading, HasTaken, IsNext, NoNext, IsSound}
-use Rattle.afdx_pcap.specs.Text.{header_text, capture_text}
+use Rattle.afdx_pcap.specs.Reading.{Reading, NoNext, IsSound}
+use Rattle.afdx_pcap.specs.Text.{capture_text}
 use Rattle.afdx_table.specs.declared.rows.PortRow.{PortRow}
 use Rattle.afdx_table.specs.Content.{Content}
 use Rattle.afdx_table.specs.WellFormed.{IsWellFormed}
 use Rattle.afdx_load.specs.Accepted.{IsAccepted}
 use Rattle.afdx_core.specs.Rows.{feed_of}
-use Rattle.afdx_core.specs.State.{State, fresh_state}
-use Rattle.afdx_core.specs.Merge.{Arrival, Capture, arrivals_of, by_stamp, merged}
-use Rattle.afdx_count.specs.Tally.{Tally, fresh}
+use Rattle.afdx_core.specs.State.{fresh_state}
+use Rattle.afdx_core.specs.Merge.{Arrival, arrivals_of, by_stamp}
+use Rattle.afdx_count.specs.Tally.{fresh}
 use Rattle.afdx_count.specs.Laws.{StartsWithNone}
 use Rattle.afdx_session.specs.declared.lane.Lane.{Lane}
 use Rattle.afdx_session.specs.declared.machine.Machine.{Machine}
 use Rattle.afdx_session.specs.Output.{written}
-use Rattle.afdx_session.specs.Streams.{Stream, captures_of, merged_so_far, frontier, least, sent_up_to}
-use Rattle.afdx_session.specs.Settled.{IsSettling, AreQueued, IsGiven}
-use Rattle.afdx_session.specs.Session.{Intake, Seen, AreStreams, fresh_intake, fresh_session}
-use Rattle.afdx_session.specs.Lanes.{intake_of, waiting_of, HasRead, HasReadAll}
-use Rattle.afdx_session.specs.Kept.{IsLaneOf, AreLanesOf, AreOfTable, come_to, text_up_to, IsOut, IsGoing, IsRunning, IsMarked}
-use Rattle.afdx_session.specs.View.{IsFreshLane, AreFreshLanes, intakes_of, seen_of, IsShownAt, IsShown, IsReady, IsKept}
+use Rattle.afdx_session.specs.Streams.{Stream, captures_of, frontier, least, sent_up_to}
+use Rattle.afdx_session.specs.Settled.{AreQueued, IsGiven}
+use Rattle.afdx_session.specs.Session.{fresh_intake, fresh_session}
+use Rattle.afdx_session.specs.Lanes.{intake_of, waiting_of, HasReadAll}
+use Rattle.afdx_session.specs.Kept.{IsLaneOf, AreLanesOf, come_to, text_up_to, IsGoing, IsRunning, IsMarked}
+use Rattle.afdx_session.specs.View.{IsFreshLane, AreFreshLanes, intakes_of, seen_of, IsShown, IsKept}
 use Rattle.afdx_session.proofs.Shown.{lanes_are_streams}
 
 -- ---- no bytes

@@ -1,5 +1,5 @@
 -- However captures come in pieces, and whenever output is taken: what was taken of a port is a front of its output.
-use Rattle.std.proofs.Common.{◌≡◌, ℕ, zero, suc, ◌+◌, ◌≤◌, ◌==◌, Bool, true, false, cond, List, [], ◌∷◌, ◌++◌, map, length, drop, Option, Some, None, Ok, refl, ap, sym, ◌∙◌, arith, append_assoc, subst}
+use Rattle.std.proofs.Common.{◌≡◌, ℕ, zero, suc, ◌==◌, Bool, true, false, cond, List, [], ◌∷◌, ◌++◌, map, length, drop, Some, None, Ok, refl, ap, sym, ◌∙◌, arith, append_assoc, subst}
 use Rattle.std.specs.Prelude.{find, Result}
 use Rattle.std.specs.List.{AllZip}
 use Rattle.std.proofs.lemmas.List.{append-nil}
@@ -15,15 +15,13 @@ use Rattle.afdx_port.specs.Admission.{EarlierEventsStayAdmitted}
 use Rattle.afdx_port.specs.Order.{ReachesInOrder}
 use Rattle.afdx_port.specs.Course.{EventsAreInParts}
 use Rattle.afdx_core.specs.Merge.{Capture, merged}
-use Rattle.afdx_session.specs.declared.plan.RunFault.{RunFault}
 use Rattle.afdx_session.specs.declared.plan.RunFault.TheVariants as run
 use Rattle.afdx_session.specs.Texts.{Text}
 use Rattle.afdx_session.specs.Reading.{AreCaptures}
 use Rattle.afdx_session.specs.Output.{output_text}
-use Rattle.afdx_session.specs.Outcome.{Results, IsOutcome}
 use Rattle.afdx_session.specs.Streams.{Stream, AreWhole, whole_of, text_so_far, GoOn}
-use Rattle.afdx_session.specs.Session.{Intake, Seen, fresh_intake, fresh_session, IsStream, AreStreams, HasGoneOut, taken_in, intake_at, taken_of, refusal_at, refusal, changed, fed, ended, took, after_feed, after_close, after_take, after_failure, IsFedOn, AreFedOn}
-use Rattle.afdx_session.specs.Finish.{text_in, texts_in, rest_of, IsFinished}
+use Rattle.afdx_session.specs.Session.{Intake, Seen, fresh_intake, AreStreams, HasGoneOut, taken_in, intake_at, taken_of, refusal_at, refusal, changed, fed, ended, took, after_take, IsFedOn, AreFedOn}
+use Rattle.afdx_session.specs.Finish.{text_in, texts_in, rest_of}
 use Rattle.afdx_session.specs.Pieces.{GoesOnTo, CallsGoOn, WasTaken, NothingWasTaken, TakenStays, TakesJoin, IsContinued, bytes_in, capture_at, TakenIsAFront, TakesAndRestAreTheOutput}
 use Rattle.afdx_session.proofs.Growing.{front_of_output}
 use Rattle.afdx_session.proofs.WholeRecords.{RecordsStay, RecordsAreUnique, holds_front, go_on, grows_with_bytes, streams_unique}

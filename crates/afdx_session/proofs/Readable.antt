@@ -84,7 +84,8 @@ module _ (order : EndsDoNotFall) (soon : EndsWithinASecond) (have_link : CleanFr
   pub outputs_are_readable : (t : Content) (texts : List Text) (read : List Capture) → IsWellFormed t → AreCaptures texts read
       → AllByRecursion (λ (a : Arrival). a.frame.stamp + second ≤ last_second) (merged read) → (p : PortRow) → Contains t.ports p
       → AreReadable 0 (output_of t (merged read) p) × All IsWithinLimit (output_of t (merged read) p)
-  outputs_are_readable t texts read formed are early p among =
-      (output_readable t (merged read) p formed among early,
-      All-from_recursion IsWithinLimit (output_of t (merged read) p)
-      (written_within (merged read) (sent_by t (merged read) p) (by_stamp_every Within (arrivals_of read) (captures_within texts read are))))
+  outputs_are_readable t texts read formed are early p among = (
+    output_readable t (merged read) p formed among early,
+    All-from_recursion IsWithinLimit (output_of t (merged read) p)
+        (written_within (merged read) (sent_by t (merged read) p) (by_stamp_every Within (arrivals_of read) (captures_within texts read are))),
+  )

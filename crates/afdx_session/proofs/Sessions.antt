@@ -1,6 +1,6 @@
 -- What contracts see of a session after a call, from what its lanes are then.
-use Rattle.std.proofs.Common.{◌≡◌, ℕ, zero, suc, ◌+◌, ◌<◌, ◌≤◌, ◌^◌, ◌==◌, Bool, true, false, cond, List, [], ◌∷◌, ◌++◌, map, length, take, drop, set, slice_get, slice_index_or, Option, Some, None, Ok, Err, refl, ap, sym, ◌∙◌, arith, inl, inr, subst}
-use Rattle.std.specs.Prelude.{◌⊎◌, find, Result, IsErr, IsErrAnd, IfErr, IfSome, IfNone}
+use Rattle.std.proofs.Common.{◌≡◌, ℕ, zero, suc, ◌+◌, ◌<◌, ◌≤◌, ◌^◌, ◌==◌, Bool, true, false, cond, List, [], ◌∷◌, ◌++◌, map, length, take, drop, set, slice_get, slice_index_or, Some, None, Ok, Err, refl, ap, sym, ◌∙◌, arith, inl, inr, subst}
+use Rattle.std.specs.Prelude.{find, Result, IsErr, IsErrAnd, IfErr, IfSome, IfNone}
 use Rattle.std.specs.List.{position}
 use Rattle.std.proofs.lemmas.Bool.Decides.{nat_tests}
 use Rattle.afdx_pcap.specs.Entry.{Entry}

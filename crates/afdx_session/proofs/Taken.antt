@@ -1,12 +1,12 @@
 -- What is taken of a lane's output.
-use Rattle.std.proofs.Common.{◌≡◌, ℕ, zero, suc, ◌+◌, ◌-◌, ◌<◌, ◌≤◌, ◌^◌, ◌==◌, Bool, true, false, cond, List, [], ◌∷◌, ◌++◌, map, length, take, drop, set, slice_get, Option, Some, None, refl, ap, sym, ◌∙◌, arith, inl, inr, subst}
+use Rattle.std.proofs.Common.{◌≡◌, ℕ, zero, suc, ◌+◌, ◌<◌, ◌≤◌, ◌==◌, Bool, true, false, cond, List, [], ◌∷◌, map, length, take, drop, set, slice_get, Some, refl, ap, sym, ◌∙◌, arith, inl, inr, subst}
 use Rattle.std.specs.List.{AllByRecursion}
 use Rattle.std.proofs.lemmas.Bool.{cases_Bool}
 use Rattle.std.proofs.lemmas.Bool.Decides.{nat_tests}
 use Rattle.std.proofs.Math.ListN.{drop_of_length-le}
 use Rattle.afdx_table.specs.declared.rows.PortRow.{PortRow}
 use Rattle.afdx_table.specs.Content.{Content}
-use Rattle.afdx_pcap.specs.Reading.{HasTaken, NoNext, IsSound}
+use Rattle.afdx_pcap.specs.Reading.{HasTaken}
 use Rattle.afdx_core.specs.State.{State}
 use Rattle.afdx_core.specs.Merge.{Arrival, merged}
 use Rattle.afdx_count.specs.Tally.{Tally}
@@ -14,12 +14,11 @@ use Rattle.afdx_session.specs.declared.lane.Lane.{Lane}
 use Rattle.afdx_session.specs.declared.machine.Machine.{Machine}
 use Rattle.afdx_session.specs.Streams.{Stream}
 use Rattle.afdx_session.specs.Settled.{IsSettling}
-use Rattle.afdx_session.specs.Session.{Intake, IsStream, AreStreams, took}
+use Rattle.afdx_session.specs.Session.{IsStream, AreStreams, took}
 use Rattle.afdx_session.specs.Lanes.{intake_of, waiting_of, HasReadAll}
-use Rattle.afdx_session.specs.Kept.{IsLaneOf, AreLanesOf, AreOfTable, text_up_to, IsOut, AreOut, Every, IsGoing, IsRunning, IsMarked}
-use Rattle.afdx_session.specs.View.{intakes_of, gone_out, IsShownAt, IsShown, IsReady, IsKept, IsTaken}
+use Rattle.afdx_session.specs.Kept.{IsLaneOf, AreLanesOf, text_up_to, IsOut, IsGoing, IsRunning, IsMarked}
+use Rattle.afdx_session.specs.View.{intakes_of, gone_out, IsShownAt, IsShown, IsKept, IsTaken}
 use Rattle.afdx_session.proofs.Going.{some_same, get-set}
-use Rattle.afdx_session.proofs.Firsts.{map-set}
 use Rattle.afdx_session.proofs.Numbered.{all_slice_get}
 use Rattle.afdx_session.proofs.ReadUp.{read_same, all_set}
 use Rattle.afdx_session.proofs.Shown.{length-drop-within}

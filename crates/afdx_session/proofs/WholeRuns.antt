@@ -24,7 +24,7 @@ use Rattle.afdx_session.specs.Streams.{captures_of, AllStartBeforeTheLastInstant
 use Rattle.afdx_session.specs.Session.{Intake, Seen, taken_in, taken_of}
 use Rattle.afdx_session.specs.Finish.{rest_of, IsFinished}
 use Rattle.afdx_session.specs.Lanes.{intake_of}
-use Rattle.afdx_session.specs.Kept.{IsMarked, IsOfSameTable, IsGoing, IsRunning}
+use Rattle.afdx_session.specs.Kept.{IsMarked, IsOfSameTable, IsGoing}
 use Rattle.afdx_session.specs.View.{texts_at, seen_of, intakes_of, IsReady, IsKept, AreLent, HasCarried}
 use Rattle.afdx_session.proofs.Intakes.{marked_bytes}
 use Rattle.afdx_session.proofs.Shown.{kept_ready}

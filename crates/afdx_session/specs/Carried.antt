@@ -1,5 +1,5 @@
 -- A run that is over, whose outputs are still to be written.
-use Rattle.std.specs.Prelude.{ℕ, ◌≡◌, ◌≤◌, true, List, ◌++◌, length, map, slice_get, Some}
+use Rattle.std.specs.Prelude.{ℕ, ◌≡◌, ◌≤◌, List, ◌++◌, length, map, slice_get, Some}
 use Rattle.std.specs.List.{flat_map}
 use Rattle.afdx_pcap.specs.Text.{record_text}
 use Rattle.afdx_table.specs.declared.rows.PortRow.{PortRow}

@@ -1,5 +1,5 @@
 -- However captures come in pieces, and whenever output is taken: what was taken of a port is a front of its output.
-use Rattle.std.specs.Prelude.{ℕ, ◌≡◌, ◌==◌, Bool, true, List, [], ◌∷◌, ◌++◌, length, drop, find, Option, Some, None}
+use Rattle.std.specs.Prelude.{ℕ, ◌≡◌, ◌==◌, Bool, true, List, [], ◌++◌, length, drop, find, Option, Some, None}
 use Rattle.std.specs.List.{AllZip}
 use Rattle.afdx_table.specs.declared.rows.PortRow.{PortRow}
 use Rattle.afdx_table.specs.Content.{Content, port_row}

@@ -1,4 +1,4 @@
-use Rattle.std.proofs.Common.{refl, Bool, true, false}
+use Rattle.std.proofs.Common.{refl}
 use Rattle.afdx_session.proofs.Lending.{lends_first}
 use Rattle.afdx_session.proofs.lane.Lane.lend.Goals as goal
 

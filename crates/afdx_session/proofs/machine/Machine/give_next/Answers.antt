@@ -1,4 +1,4 @@
-use Rattle.std.proofs.Common.{ap, sym, ◌∙◌, refl, subst}
+use Rattle.std.proofs.Common.{ap, sym, refl, subst}
 use Rattle.std.specs.Vec.{with_items}
 use Rattle.afdx_session.specs.Lanes.{NoneGoes}
 use Rattle.afdx_session.specs.Kept.{AreTouched}

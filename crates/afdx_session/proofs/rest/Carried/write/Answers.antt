@@ -1,4 +1,4 @@
-use Rattle.std.proofs.Common.{◌≡◌, ◌+◌, ◌<◌, ℕ, List, slice_get, Some, refl, sym, ap, subst, ◌∙◌, length, map, rules, arith}
+use Rattle.std.proofs.Common.{◌≡◌, ◌<◌, slice_get, Some, refl, sym, ap, subst, ◌∙◌, length, map, rules, arith}
 use Rattle.std.proofs.lemmas.List.{length-map}
 use Rattle.std.proofs.lemmas.Result.{on_ok_weaker}
 use Rattle.afdx_session.specs.Carried.{Rest, IsLeft}
