@@ -15,7 +15,7 @@ lead-requires g c = rw c.deref.ensures.value c.in_ok-plan.ensures.got.0.has_capt
 pub returns-in_err-plan : goal.returns-in_err-plan
 returns-in_err-plan g c =
     let fails = rw c.inputs_of.ensures at c.in_err-plan.ensures.got in
-    of_error _ _ _ c.in_err-plan.field-0.0 c.from_residual-in_err-plan.ensures
+    of_error _ _ _ c.in_err-plan.field-0.0 c.from_residual.ensures
     (not_gathered_run c.args.paths.now _ _ _ _ c.in_err-plan.ensures.same _ _ (Keeps-refl _) c.in_err-plan.field-0.0 fails)
 
 pub returns-in_err-carried : goal.returns-in_err-carried
