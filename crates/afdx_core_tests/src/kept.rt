@@ -10,8 +10,8 @@ use std::test::*;
 #[test]
 fn bytes_that_are_kept(rt: HostRuntime) -> Result<(), Fail> {
     assert_eq!(rt; (size_of::<Row>(), size_of::<Fate>()), (24, 6));
-    assert_eq!(rt; size_of::<Item>(), 32);
-    assert_eq!(rt; (size_of::<Sent>(), size_of::<Aged>()), (48, 40));
+    assert_eq!(rt; size_of::<Item>(), 24);
+    assert_eq!(rt; (size_of::<Sent>(), size_of::<Aged>()), (40, 32));
     assert_eq!(rt; size_of::<Record<'static, Global>>(), 48);
     Ok(())
 }

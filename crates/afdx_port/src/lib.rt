@@ -43,12 +43,12 @@ pub struct Settings {
 pub struct Item {
     /// Tells the frame from all others: each is offered with a greater number than those admitted before it.
     pub number: usize,
-    /// The virtual link that the frame belongs to.
-    pub link: u16,
     /// The instant at which the frame had wholly come.
     pub stamp: Stamp,
     /// Bytes of the frame with its check sequence: 64 to 1518.
     pub size: u32,
+    /// The virtual link that the frame belongs to.
+    pub link: u16,
     pub priority: Priority,
 }
 
