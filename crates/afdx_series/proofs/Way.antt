@@ -6,7 +6,7 @@ use Rattle.afdx_series.specs.declared.delays.Delays.{Delays}
 use Rattle.afdx_series.specs.Delay.{joined, at_once}
 use Rattle.afdx_series.specs.Series.{AllConform, ComeLater}
 use Rattle.afdx_series.specs.Hops.{Hop, GoesOn, AllowOnTheWay, AllPassOnTheWay}
-use Rattle.afdx_series.specs.Laws.{DelaysAddUp, DelaysBeginAtOnce, WaysPassAll}
+use Rattle.afdx_series.specs.Laws.{DelaysAddUp, DelaysBeginAtOnce}
 use Rattle.afdx_series.proofs.Later.{passed_conform, conforming_are_passed, later_conform}
 
 pub delays_add_up : DelaysAddUp
@@ -42,6 +42,7 @@ on-the-way t passed now d (h ∷ hops) all so_far goes allow =
     = conforming_are_passed (λ (f : Frame). f) h.terms h.frames (subst (AllConform h.terms []) (sym (map-same h.frames)) there) in
     (pass, zip, on-the-way t passed h.frames (joined d h.delays) hops all zip (subst (λ (fs : List Frame). GoesOn fs hops) pass goes.1) allow.1)
 
-pub ways_pass_all : WaysPassAll
+pub ways_pass_all : (t : Terms) (frames : List Frame) (hops : List Hop) → GoesOn (passed_frames t frames) hops → AllowOnTheWay t at_once hops
+    → AllPassOnTheWay (passed_frames t frames) at_once hops
 ways_pass_all t frames hops goes allow =
     on-the-way t (passed_frames t frames) (passed_frames t frames) at_once hops (passed_conform t frames) (begin_at_once (passed_frames t frames)) goes allow
