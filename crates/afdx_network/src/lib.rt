@@ -1,0 +1,4 @@
+//! A network of switches: delivery and delay from end to end.
+#![tactic(auto)]
+
+pub mod laws;
