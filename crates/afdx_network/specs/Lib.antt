@@ -1,1 +1,6 @@
+pub mod File
+pub mod Names
+pub mod Net
+pub mod Rules
+pub mod Runs
 pub mod Way
