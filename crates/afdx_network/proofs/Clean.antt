@@ -129,5 +129,6 @@ module _ (exact : CleanExactly) (links : LinksAreFound) where
         ap (filter (λ (r : Entry). says_clean s.stage.link.id (verdict_of s.stage.node.table s.stage.link.from r))) follows.wired
         ∙ filter_of_map (λ (r : Entry). says_clean s.stage.link.id (verdict_of s.stage.node.table s.stage.link.from r)) (delayed s.cable) (x.node.out x.port)
         ∙ ap (map (delayed s.cable)) (filter_alike says_again (λ (r : Entry). link_of r.bytes == x.link.id) (x.node.out x.port)
-        (all_weaken (λ (r : Entry). (link_of r.bytes == x.link.id) ≡ true → IsOf x.node.table.constant x.link r.bytes) (λ (r : Entry). says_again r ≡ (link_of r.bytes == x.link.id)) (x.node.out x.port)
+        (all_weaken (λ (r : Entry). (link_of r.bytes == x.link.id) ≡ true → IsOf x.node.table.constant x.link r.bytes)
+        (λ (r : Entry). says_again r ≡ (link_of r.bytes == x.link.id)) (x.node.out x.port)
         clean_again (all_tested (λ (r : Entry). IsOf x.node.table.constant x.link r.bytes) (λ (r : Entry). link_of r.bytes == x.link.id) (x.node.out x.port) (leave_clean x here))))
