@@ -6,6 +6,7 @@ install python3=python3
 export PYTHONDONTWRITEBYTECODE=1
 
 check "the model gives the numbers that were worked out by hand" python3 "$top/end_to_end/network_rows.py"
+check "the example of three switches is accepted" python3 "$top/end_to_end/network_model.py" check "$top/examples/aircraft/network.toml"
 check "what is passed once is delivered in time" python3 "$top/end_to_end/networks.py" 150
 grep networks "$room/said"
 finish
