@@ -70,13 +70,12 @@ module _ (exact : CleanExactly) (links : LinksAreFound) where
   own_clean : (t : Content) (l : Link) (rs : List Entry) → IsWellFormed t → Contains t.links l
       → AllByRecursion (λ r. IsOf t.constant l r.bytes) (filter (λ r. says_clean l.id (verdict_of t l.from r)) rs)
   own_clean t l [] formed known = tt
-  own_clean t l (r ∷ rs) formed known = by (says_clean l.id (verdict_of t l.from r)) refl where
-    rest : List Entry
-    rest = filter (λ q. says_clean l.id (verdict_of t l.from q)) rs
-
-    by : (b : Bool) → says_clean l.id (verdict_of t l.from r) ≡ b → AllByRecursion (λ q. IsOf t.constant l q.bytes) (cond b (r ∷ rest) rest)
-    by true is = (clean_of t l r formed known is, own_clean t l rs formed known)
-    by false not = own_clean t l rs formed known
+  own_clean t l (r ∷ rs) formed known = by (says_clean l.id (verdict_of t l.from r)) refl (own_clean t l rs formed known) where
+    by : (b : Bool) → says_clean l.id (verdict_of t l.from r) ≡ b
+        → AllByRecursion (λ q. IsOf t.constant l q.bytes) (filter (λ q. says_clean l.id (verdict_of t l.from q)) rs)
+        → AllByRecursion (λ q. IsOf t.constant l q.bytes) (cond b (r ∷ filter (λ q. says_clean l.id (verdict_of t l.from q)) rs) (filter (λ q. says_clean l.id (verdict_of t l.from q)) rs))
+    by true is rest = (clean_of t l r formed known is, rest)
+    by false not rest = rest
 
   -- so are those that the policing passes, and what leaves
   pub passed_clean : (x : Stage) → IsStage x → AllByRecursion (λ r. IsOf x.node.table.constant x.link r.bytes) (passed_at x)

@@ -23,17 +23,19 @@ all_unmap P f (x ∷ xs) all = (all.0, all_unmap P f xs all.1)
 -- what holds of those that a test lets through
 pub all_tested : {X : Type 0} (P : X → Type 0) (p : X → Bool) (xs : List X) → AllByRecursion P (filter p xs) → AllByRecursion (λ x. p x ≡ true → P x) xs
 all_tested P p [] all = tt
-all_tested P p (x ∷ xs) all = by (p x) refl all where
-  by : (b : Bool) → p x ≡ b → AllByRecursion P (cond b (x ∷ filter p xs) (filter p xs)) → (p x ≡ true → P x) × AllByRecursion (λ y. p y ≡ true → P y) xs
-  by true is all = (λ h. all.0, all_tested P p xs all.1)
-  by false not all = (λ is. absurd (apart (p x) is not), all_tested P p xs all)
+all_tested P p (x ∷ xs) all = by (p x) refl (all_tested P p xs) all where
+  by : (b : Bool) → p x ≡ b → (AllByRecursion P (filter p xs) → AllByRecursion (λ y. p y ≡ true → P y) xs)
+      → AllByRecursion P (cond b (x ∷ filter p xs) (filter p xs)) → (p x ≡ true → P x) × AllByRecursion (λ y. p y ≡ true → P y) xs
+  by true is rest all = (λ h. all.0, rest all.1)
+  by false not rest all = (λ is. absurd (apart (p x) is not), rest all)
 
 pub filter_of_map : {X Y : Type 0} (p : Y → Bool) (f : X → Y) (xs : List X) → filter p (map f xs) ≡ map f (filter (λ x. p (f x)) xs)
 filter_of_map p f [] = refl
-filter_of_map p f (x ∷ xs) = by (p (f x)) where
-  by : (b : Bool) → cond b (f x ∷ filter p (map f xs)) (filter p (map f xs)) ≡ map f (cond b (x ∷ filter (λ y. p (f y)) xs) (filter (λ y. p (f y)) xs))
-  by true = ap (λ ys. f x ∷ ys) (filter_of_map p f xs)
-  by false = filter_of_map p f xs
+filter_of_map p f (x ∷ xs) = by (p (f x)) (filter_of_map p f xs) where
+  by : (b : Bool) → filter p (map f xs) ≡ map f (filter (λ y. p (f y)) xs)
+      → cond b (f x ∷ filter p (map f xs)) (filter p (map f xs)) ≡ map f (cond b (x ∷ filter (λ y. p (f y)) xs) (filter (λ y. p (f y)) xs))
+  by true rest = ap (λ ys. f x ∷ ys) rest
+  by false rest = rest
 
 pub filter_alike : {X : Type 0} (p q : X → Bool) (xs : List X) → AllByRecursion (λ x. p x ≡ q x) xs → filter p xs ≡ filter q xs
 filter_alike p q [] all = refl
