@@ -1,5 +1,5 @@
 -- The delay from one switch to the next, and from the first one on.
-use Rattle.std.proofs.Common.{◌≡◌, ℕ, ◌+◌, ◌*◌, ◌≤◌, List, [], ◌∷◌, length, map, Some, refl, ap, sym, ◌∙◌, arith, subst}
+use Rattle.std.proofs.Common.{◌≡◌, ℕ, ◌+◌, ◌≤◌, List, [], ◌∷◌, length, map, Some, refl, ap, sym, ◌∙◌, arith, subst}
 use Rattle.std.specs.List.{AllByRecursion, AllZip}
 use Rattle.afdx_units.specs.Line.{size_of, cost_of}
 use Rattle.afdx_pcap.specs.Entry.{Entry}
@@ -14,7 +14,7 @@ use Rattle.afdx_series.specs.Series.{ComeLater}
 use Rattle.afdx_series.specs.Laws.{CrossingIsAHop}
 use Rattle.afdx_session.specs.Headline.{frame_in, bytes_of, IsInBound}
 use Rattle.afdx_network.specs.Way.{delayed}
-use Rattle.afdx_network.proofs.Lists.{all_weaken, all_map}
+use Rattle.afdx_network.proofs.Lists.{all_map}
 
 heads : {X : Type 0} {x y : X} {xs ys : List X} → x ∷ xs ≡ y ∷ ys → x ≡ y
 heads h = cc

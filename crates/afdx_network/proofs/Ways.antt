@@ -7,7 +7,7 @@ use Rattle.afdx_table.specs.Link.{Link}
 use Rattle.afdx_table.specs.Found.{LinksAreFound}
 use Rattle.afdx_filter.specs.Exactly.{CleanExactly}
 use Rattle.afdx_account.specs.declared.frame.Frame.{Frame}
-use Rattle.afdx_account.specs.Policing.{Terms, terms_by, passed_of, passed_frames}
+use Rattle.afdx_account.specs.Policing.{Terms, terms_by, passed_of}
 use Rattle.afdx_account.specs.Laws.{PassedByTheirFrames}
 use Rattle.afdx_load.specs.Sums.{terms_of}
 use Rattle.afdx_series.specs.declared.delays.Delays.{Delays}
