@@ -41,3 +41,4 @@ pub mod Firsts
 pub mod Goings
 pub mod Readings
 pub mod Pieces
+pub mod Readable
