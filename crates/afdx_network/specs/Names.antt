@@ -1,5 +1,5 @@
 -- What the words of a network file name (profile).
-use Rattle.std.specs.Prelude.{ℕ, ◌+◌, ◌==◌, ◌&&◌, ◌||◌, Bool, nat_le, codes, if◌then◌else◌, List, [], ◌∷◌, ◌++◌, length, take, drop, find, Option, Some, None, option_map}
+use Rattle.std.specs.Prelude.{ℕ, ◌+◌, ◌==◌, ◌&&◌, ◌||◌, Bool, nat_le, codes, if◌then◌else◌, List, [], ◌∷◌, ◌++◌, length, take, drop, position, Option, Some, None, option_map}
 use Rattle.std.specs.Fmt.{decimal}
 use Rattle.std.specs.List.{list_all, position_or_len}
 use Rattle.std.specs.Str.{bytes_eq}
@@ -36,15 +36,16 @@ is_name text = nat_le 1 (length text) && nat_le (length text) 16 && list_all is_
 
 -- ---- ends
 
--- the numbers that a port may have
-abbrev pub port_numbers : List ℕ
-port_numbers =
-    1 ∷ 2 ∷ 3 ∷ 4 ∷ 5 ∷ 6 ∷ 7 ∷ 8 ∷ 9 ∷ 10 ∷ 11 ∷ 12
-    ∷ 13 ∷ 14 ∷ 15 ∷ 16 ∷ 17 ∷ 18 ∷ 19 ∷ 20 ∷ 21 ∷ 22 ∷ 23 ∷ 24 ∷ []
+-- the numbers that a port may have, from 1 on
+abbrev pub port_texts : List (List ℕ)
+port_texts =
+    codes "1" ∷ codes "2" ∷ codes "3" ∷ codes "4" ∷ codes "5" ∷ codes "6" ∷ codes "7" ∷ codes "8"
+    ∷ codes "9" ∷ codes "10" ∷ codes "11" ∷ codes "12" ∷ codes "13" ∷ codes "14" ∷ codes "15" ∷ codes "16"
+    ∷ codes "17" ∷ codes "18" ∷ codes "19" ∷ codes "20" ∷ codes "21" ∷ codes "22" ∷ codes "23" ∷ codes "24" ∷ []
 
 -- the one that a text is
 abbrev pub port_in : List ℕ → Option ℕ
-port_in text = find (λ n. bytes_eq text (decimal n)) port_numbers
+port_in text = option_map (λ place. place + 1) (position (bytes_eq text) port_texts)
 
 -- an end as it is written: a name, a dot and the number of a port
 abbrev pub end_in : List ℕ → Option (List ℕ × ℕ)
