@@ -1,6 +1,6 @@
 #!/usr/bin/env bash
-# The pages against the repository: the quotes of docs/trust are what their sources have, all that the contracts of `run` and
-# `serve` rest on is quoted, and no page names a file or a section that is not there.
+# The pages against the repository: the quotes of docs/trust are what their sources have, all that the contracts of `run`,
+# `Session` and `serve` rest on is quoted, and no page names a file or a section that is not there.
 . "$(dirname "$0")/common.sh"
 install python3=python3
 export PYTHONDONTWRITEBYTECODE=1 LC_ALL=C.UTF-8

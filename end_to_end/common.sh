@@ -55,6 +55,12 @@ shown() {
         tshark -r "$@" -x 2>/dev/null
 }
 
+# is_printed FILE PRINTED: the lines of a page are what was printed. tshark warns root, and the warnings of two at once may run
+# into each other: they are left out, and so are the blank lines that stay of them.
+is_printed() {
+    diff <(grep . "$1") <(sed -e 's/Running as user[^.]*\. This could be dangerous\.//g' -e '/^$/d' "$2")
+}
+
 # ends STATUS LINE FILE WORD..: $afdx ends with this status and this line for these words and this input, and nothing is
 # on standard output.
 ends() {

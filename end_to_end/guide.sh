@@ -12,10 +12,9 @@ cd "$room" || exit 1
 prints() {
     local wanted=$room/steps/$1.txt status=0 refused=0
     (cd work && bash -euo pipefail "$room/steps/$1.sh") >printed.txt 2>&1 || status=$?
-    sed -i '/^Running as user/d' printed.txt
     tail -n 1 "$wanted" | grep -q '^afdx: ' && refused=1
     echo "status $status"
-    [ $((status > 1)) -eq "$refused" ] && diff "$wanted" printed.txt
+    [ $((status > 1)) -eq "$refused" ] && is_printed "$wanted" printed.txt
 }
 
 # sections: those that have commands, in the page's order, as steps.py names them.

@@ -14,10 +14,9 @@ cd "$room" || exit 1
 prints() {
     local wanted=$room/steps/$1.txt status=0 refused=0
     (cd "work/${1%/*}" && bash -euo pipefail "$room/steps/$1.sh") >printed.txt 2>&1 || status=$?
-    sed -i '/^Running as user/d' printed.txt
     tail -n 1 "$wanted" | grep -q '^afdx: ' && refused=1
     echo "status $status"
-    [ $((status != 0)) -eq "$refused" ] && diff "$wanted" printed.txt
+    [ $((status != 0)) -eq "$refused" ] && is_printed "$wanted" printed.txt
 }
 
 # prepared SECTION: its folder, with recordings.

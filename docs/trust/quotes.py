@@ -9,8 +9,8 @@
 
 A quote is a line `<!-- quote FILE NAME.. -->`, and after it the file's name and the block of code, which this script writes. In a
 file of specs/ a NAME is that of a definition. In a file of src/ it is that of a type, a trait or a function (its docstring and
-contract), or `TYPE.Model` (what contracts see of the type). The line `<!-- kit -->` stands before a table whose first column has
-the words of the kit that the quotes use, in backticks.
+contract), `TYPE.FUNCTION` (one of the type's), or `TYPE.Model` (what contracts see of the type). The line `<!-- kit -->` stands before a
+table whose first column has the words of the kit that the quotes use, in backticks.
 """
 
 import re
@@ -26,8 +26,16 @@ ROOTS = [
     ("afdx_session", "run"),
     ("afdx_session", "own_frames_are_the_links_alone"),
     ("afdx_session", "others_change_nothing"),
+    ("afdx_session", "Session.new"),
+    ("afdx_session", "Session.feed"),
+    ("afdx_session", "Session.close"),
+    ("afdx_session", "Session.take"),
+    ("afdx_session", "Session.finish"),
     ("afdx_serve", "serve"),
 ]
+
+# Types whose fields are of the crate's private types: how these stand for the `Value`, no contract says.
+BY_VALUE_ALONE = ["Session.Model"]
 
 WORD = r"[A-Za-z_][A-Za-z0-9_']*"
 DEFINITION = re.compile(r"^(?:(?:abbrev|unfoldable|opaque) )?(?:pub )?(?:(?:record|data) )?(?P<name>\S+) ")
@@ -151,7 +159,7 @@ def named(words, brought, here, kit):
 
 def head_of(lines, start):
     """The first line of the docstring and attributes above an item."""
-    while start > 0 and re.match(r"(///|#\[)", lines[start - 1]):
+    while start > 0 and re.match(r" *(///|#\[)", lines[start - 1]):
         start -= 1
     return start
 
@@ -168,17 +176,22 @@ def item_at(lines, start):
 def contract_at(lines, start):
     """The lines of a function that begins here, but for its body."""
     end = start
-    while not lines[end].startswith("{"):
+    while not lines[end].lstrip().startswith("{"):
         end += 1
-    return lines[head_of(lines, start) : end]
+    indent = len(lines[start]) - len(lines[start].lstrip())
+    return [line[indent:] for line in lines[head_of(lines, start) : end]]
 
 
 def rust_item(file, name):
-    """A type or trait, a function's docstring and contract, or TYPE.Model, as it stands in a file."""
+    """A type or trait, a function's docstring and contract, that of TYPE.FUNCTION, or TYPE.Model, as it stands in a file."""
     lines = read(file).split("\n")
     type_name, _, model = name.partition(".")
     if model == "Model":
         pattern = rf"impl.* Model for {type_name}\b"
+    elif model:
+        pattern = rf"    pub(?:\(crate\))? fn {model}[<(]"
+        inside = [at for at, line in enumerate(lines) if re.match(rf"impl\b(?!.* for ).*\b{type_name}\b", line)]
+        lines = lines[inside[0] :] if inside else []
     else:
         pattern = rf"pub(?:\(crate\))? (?:(?:struct|enum|trait) {name}\b|fn {name}[<(])"
     for start, line in enumerate(lines):
@@ -212,6 +225,8 @@ def uses_of_item(file, name, kit):
     code = without_comments(text, "//")
     brought = imports(read(file), "ghost use") | imports(text, "ghost use")
     clauses = re.sub(r"^\s*ghost use .*$", "", code, flags=re.M)
+    if name in BY_VALUE_ALONE:
+        clauses = "\n".join(re.findall(r"^\s*ghost Value = .*$", clauses, re.M))
     if not re.search(r"\bghost\b|\bensures\b|\brequires\b", clauses):
         ghost = set()
     else:

@@ -43,7 +43,8 @@ fewer leaves latency at place dues c open' same first =
       before : (a b : ℕ) → a < b → nat_lt a b ≡ true
       before a b lt = grind (arith)
 
-pub smaller : AdvanceLeavesNothingDue → (latency at place : ℕ) (dues new : List (Option ℕ)) (next : Option ℕ) (c : Content) → c.finished ≡ false → c.settings.latency ≡ latency → IsFirstBefore (at + latency) dues place
+pub smaller : AdvanceLeavesNothingDue → (latency at place : ℕ) (dues new : List (Option ℕ)) (next : Option ℕ) (c : Content) → c.finished ≡ false → c.settings.latency ≡ latency
+    → IsFirstBefore (at + latency) dues place
     → new ≡ set dues place next → next ≡ due (advanced at c) → lates (at + latency) new < lates (at + latency) dues
 smaller leaves latency at place dues new next c open' same first is next_is =
     let n = fewer leaves latency at place dues c open' same first in
@@ -65,7 +66,8 @@ module _ {Z : Type 0} where
   abbrev pub HaveLatency : ℕ → List (Outlet Z) → Type 0
   HaveLatency latency os = All (λ (o : Outlet Z). o.port.content.settings.latency ≡ latency) os
 
-  pub is_due_first : (latency at place : ℕ) (d : Outlet Z) (dues : List (Option ℕ)) (os : List (Outlet Z)) → HaveLatency latency os → dues ≡ dues_of os → IsFirstBefore (at + latency) dues place → has_due at (get_or os place d).port.content ≡ true
+  pub is_due_first : (latency at place : ℕ) (d : Outlet Z) (dues : List (Option ℕ)) (os : List (Outlet Z)) → HaveLatency latency os → dues ≡ dues_of os → IsFirstBefore (at + latency) dues place
+      → has_due at (get_or os place d).port.content ≡ true
   is_due_first latency at place d dues os same are first =
       let within = within_dues (at + latency) place dues os are first in
       reached latency at (get_or os place d).port.content (same place d within)
@@ -101,7 +103,8 @@ module _ {Z : Type 0} where
   }
 
   -- where nothing is due any more, the walk is at its end
-  pub way_end : (latency at : ℕ) (dues : List (Option ℕ)) (old new : List (Outlet Z)) → HaveLatency latency new → dues ≡ dues_of new → All (λ next. starts_before (at + latency) next ≡ false) dues → OnTheWay at old new → Became (carried_due at) old new
+  pub way_end : (latency at : ℕ) (dues : List (Option ℕ)) (old new : List (Outlet Z)) → HaveLatency latency new → dues ≡ dues_of new → All (λ next. starts_before (at + latency) next ≡ false) dues
+      → OnTheWay at old new → Became (carried_due at) old new
   way_end latency at dues old new same are none way = record {
     len = way.len;
     at = λ k d lt.
@@ -109,12 +112,14 @@ module _ {Z : Type 0} where
         let n = ap length are in
         let m = length-map new (λ (o : Outlet Z). due o.port.content) in
         let next : get_or dues k None ≡ due (get_or new k d).port.content = ap (λ ds. get_or ds k None) are ∙ get_or-map (λ (o : Outlet Z). due o.port.content) new k d None here in
-        carried_no at (seen (get_or new k d)) (reached latency at (get_or new k d).port.content (same k d here) ∙ ap (starts_before (at + latency)) (sym next) ∙ none k None (omega (arith, here, n, m)))
+        carried_no at (seen (get_or new k d)) (reached latency at (get_or new k d).port.content (same k d here) ∙ ap (starts_before (at + latency)) (sym next)
+            ∙ none k None (omega (arith, here, n, m)))
         ∙ way.same k d lt;
   }
 
   -- what is carried keeps its latency
-  pub latency_still : (latency at place : ℕ) (d o : Outlet Z) (os : List (Outlet Z)) → place < length os → HaveLatency latency os → seen o ≡ carried at (seen (get_or os place d)) → HaveLatency latency (set os place o)
+  pub latency_still : (latency at place : ℕ) (d o : Outlet Z) (os : List (Outlet Z)) → place < length os → HaveLatency latency os → seen o ≡ carried at (seen (get_or os place d))
+      → HaveLatency latency (set os place o)
   latency_still latency at place d o os lt same is =
       All-set (λ (x : Outlet Z). x.port.content.settings.latency ≡ latency) os place o (ap (λ (r : Out). r.content.settings.latency) is ∙ same place d lt) same
 

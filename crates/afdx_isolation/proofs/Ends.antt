@@ -90,7 +90,8 @@ fate_sent s b x short = choose _ _ short where
   choose : {m n : ℕ} (x y : Event) → n ≤ m → cond (nat_lt m n) x y ≡ y
   choose x y h = grind (arith, nat_tests)
 
-in_bound : (s : Settings) (load : Load) (e : ℕ) (y : Item) (priority : Priority) → (priority ≡ Low → load.high_rate < parts) → y.priority ≡ priority → came s y ≤ e → EndsBy parts s load e y → e ≤ came s y + queue_bound load priority
+in_bound : (s : Settings) (load : Load) (e : ℕ) (y : Item) (priority : Priority) → (priority ≡ Low → load.high_rate < parts) → y.priority ≡ priority → came s y ≤ e → EndsBy parts s load e y
+    → e ≤ came s y + queue_bound load priority
 in_bound s load e y High some is le h =
     let within = high_within parts (came s y) e load.low_largest load.high_burst (omega arith) le (h.0 (ap is_high is)) in
     omega (arith, within)
@@ -99,7 +100,8 @@ in_bound s load e y Low some is le h =
     omega (arith, within)
 
 -- where the bound is within the greatest delay, the item is sent in time; here alone is the stamp what time is counted from
-pub timely : (s : Settings) (load : Load) (priority : Priority) (event : Event) → load.latency ≡ s.latency → (priority ≡ Low → load.high_rate < parts) → bound load priority ≤ s.max_delay → (item_of event).priority ≡ priority → BeginsAs s (EndsBy parts s load) event → IsTimely s load event
+pub timely : (s : Settings) (load : Load) (priority : Priority) (event : Event) → load.latency ≡ s.latency → (priority ≡ Low → load.high_rate < parts) → bound load priority ≤ s.max_delay
+    → (item_of event).priority ≡ priority → BeginsAs s (EndsBy parts s load) event → IsTimely s load event
 timely s load priority event late some quick class h =
     let same : h.item.priority ≡ priority = sym (ap (λ (e : Event). (item_of e).priority) h.is ∙ ap (λ (y : Item). y.priority) (item_fate s h.at h.item)) ∙ class in
     let since = h.since in

@@ -114,13 +114,15 @@ module _ (latency : ℕ) (row : PortRow) (asks : AsksWhatItsAccountGives) where
   }
 
   -- the two bounds are those of the load
-  high_is : (links : List Link) → bound (load_of (settings_of latency row) (map (flow_of row.speed) links)) High ≡ ((sums_of row.speed links).high_burst + parts * (sums_of row.speed links).low_largest) / parts + latency
+  high_is : (links : List Link) → bound (load_of (settings_of latency row) (map (flow_of row.speed) links)) High ≡
+      ((sums_of row.speed links).high_burst + parts * (sums_of row.speed links).low_largest) / parts + latency
   high_is links =
       let same = same_load links in
       ap (λ n. (n + parts * (load_of (settings_of latency row) (map (flow_of row.speed) links)).low_largest) / parts + latency) same.high_burst
       ∙ ap (λ n. ((sums_of row.speed links).high_burst + parts * n) / parts + latency) same.low_largest
 
-  low_is : (links : List Link) → bound (load_of (settings_of latency row) (map (flow_of row.speed) links)) Low ≡ (sums_of row.speed links).burst / (parts - (sums_of row.speed links).high_rate) + latency
+  low_is : (links : List Link) → bound (load_of (settings_of latency row) (map (flow_of row.speed) links)) Low ≡ (sums_of row.speed links).burst / (parts - (sums_of row.speed links).high_rate)
+      + latency
   low_is links =
       let same = same_load links in
       ap (λ n. n / (parts - (load_of (settings_of latency row) (map (flow_of row.speed) links)).high_rate) + latency) same.burst
@@ -154,7 +156,8 @@ module _ (latency : ℕ) (row : PortRow) (asks : AsksWhatItsAccountGives) where
 
   abbrev KeepsBounds : List Link → Type 0
   KeepsBounds links = (0 < (sums_of row.speed links).highs → ((sums_of row.speed links).high_burst + parts * (sums_of row.speed links).low_largest) / parts + latency ≤ row.max_delay)
-      × (0 < (sums_of row.speed links).lows → ((sums_of row.speed links).high_rate < parts) × ((sums_of row.speed links).burst / (parts - (sums_of row.speed links).high_rate) + latency ≤ row.max_delay))
+      × (0 < (sums_of row.speed links).lows → ((sums_of row.speed links).high_rate < parts)
+          × ((sums_of row.speed links).burst / (parts - (sums_of row.speed links).high_rate) + latency ≤ row.max_delay))
 
   carries : (links : List Link) → (0 < (sums_of row.speed links).highs + (sums_of row.speed links).lows → CarriesSums row (behind latency (sums_of row.speed links))) → KeepsBounds links
       → Carries (settings_of latency row) (map (flow_of row.speed) links)
@@ -172,9 +175,11 @@ module _ (latency : ℕ) (row : PortRow) (asks : AsksWhatItsAccountGives) where
       record {
         rate = omega (arith, all.rate, same.rate);
         buffer = omega (arith, all.buffer, same.burst, same.largest);
-        high = All-weaker (λ (flow : Flow). flow.priority ≡ High → 0 < (sums_of row.speed links).highs) (λ (flow : Flow). flow.priority ≡ High → bound (load_of (settings_of latency row) flows) High ≤ row.max_delay)
+        high = All-weaker (λ (flow : Flow). flow.priority ≡ High → 0 < (sums_of row.speed links).highs)
+            (λ (flow : Flow). flow.priority ≡ High → bound (load_of (settings_of latency row) flows) High ≤ row.max_delay)
             (λ flow some is. let le = bounds.0 (some is) in omega (arith, le, high_is links)) flows (some_high links);
-        low = All-weaker (λ (flow : Flow). flow.priority ≡ Low → 0 < (sums_of row.speed links).lows) (λ (flow : Flow). flow.priority ≡ Low → bound (load_of (settings_of latency row) flows) Low ≤ row.max_delay)
+        low = All-weaker (λ (flow : Flow). flow.priority ≡ Low → 0 < (sums_of row.speed links).lows)
+            (λ (flow : Flow). flow.priority ≡ Low → bound (load_of (settings_of latency row) flows) Low ≤ row.max_delay)
             (λ flow some is. let le = (bounds.1 (some is)).1 in omega (arith, le, low_is links)) flows (some_low links);
       }
 
@@ -300,7 +305,8 @@ isolated_at pays asks some keeps isolates t arrivals h row among c settings is =
       clean = All-weaker (IsCleanIn t) (IsClean flows) (λ x is. clean t row h.well_formed x is) arrivals h.clean;
     } in
     let bounds : KeepsBounds t.latency row asks links = All-contains (λ (row : PortRow). KeepsBounds t.latency row asks (routed row.id t.links)) t.ports row (keeps t h.well_formed h.accepted) among in
-    let accepted = All-contains (λ (row : PortRow). 0 < (sums_at t.latency row.speed row.id t.links).highs + (sums_at t.latency row.speed row.id t.links).lows → CarriesSums row (sums_at t.latency row.speed row.id t.links)) t.ports row h.accepted among in
+    let accepted = All-contains (λ (row : PortRow). 0 < (sums_at t.latency row.speed row.id t.links).highs + (sums_at t.latency row.speed row.id t.links).lows
+        → CarriesSums row (sums_at t.latency row.speed row.id t.links)) t.ports row h.accepted among in
     let load : Carries s flows = carries t.latency row asks links accepted bounds in
     let all : IsIsolatedSoFar flows arrivals c = isolates c flows arrivals (subst (λ s. Arrive s flows arrivals) (sym settings) arrive) (subst (λ s. Carries s flows) (sym settings) load) (subst (λ s. c.admitted ≡ admitted s (feed_of flows arrivals)) (sym settings) is) in
     let in_bound : All (IsInBound s (load_of s flows)) (sent_of (done c)) = subst (λ s. All (IsInBound s (load_of s flows)) (sent_of (done c))) settings all.in_bound in

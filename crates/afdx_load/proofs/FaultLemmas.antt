@@ -66,11 +66,13 @@ none_fine row s h =
       low = none_bound row.id LowDelay row.max_delay (low_bound s) d.1;
     }
 
-nothing_fine : (row : PortRow) (latency : ℕ) (s : Sums) → s ≡ record { highs = 0; lows = 0; rate = 0; high_rate = 0; burst = 0; high_burst = 0; largest = 0; low_largest = 0; latency = latency } → Carries row s
+nothing_fine : (row : PortRow) (latency : ℕ) (s : Sums) → s ≡ record { highs = 0; lows = 0; rate = 0; high_rate = 0; burst = 0; high_burst = 0; largest = 0; low_largest = 0; latency = latency }
+    → Carries row s
 nothing_fine row latency s h = rw h (record { rate = omega arith; buffer = omega arith; high = tt; low = tt })
 
 -- a port without links carries its load
-with_links : (row : PortRow) (latency : ℕ) (speed : Speed) (links : List Link) → (0 < (sums_of speed links).highs + (sums_of speed links).lows → Carries row (behind latency (sums_of speed links))) → Carries row (behind latency (sums_of speed links))
+with_links : (row : PortRow) (latency : ℕ) (speed : Speed) (links : List Link) → (0 < (sums_of speed links).highs + (sums_of speed links).lows → Carries row (behind latency (sums_of speed links)))
+    → Carries row (behind latency (sums_of speed links))
 with_links row latency speed [] h = nothing_fine row latency (behind latency (sums_of speed [])) (ap (behind latency) (load_none speed))
 with_links row latency speed (link ∷ links) h = h (omega (arith, all_counted speed (link ∷ links)))
 

@@ -242,7 +242,8 @@ unfolding fault
 one_fault c f g well a b =
     let row : a.row ≡ b.row = one_port c.ports a.row b.row well.ports_rise a.is_port b.is_port (omega (arith, no_higher c f g a b, no_higher c g f b a)) in
     let rule : f.rule ≡ g.rule = same_rule f.rule g.rule (omega (arith, no_later c f g a b row, no_later c g f b a (sym row))) in
-    let need : Some f.need ≡ Some g.need = sym a.need ∙ ap (λ (r : Rule). need_of r (load_at c.latency c.links a.row)) rule ∙ ap (λ (p : PortRow). need_of g.rule (load_at c.latency c.links p)) row ∙ b.need in
+    let need : Some f.need ≡ Some g.need = sym a.need ∙ ap (λ (r : Rule). need_of r (load_at c.latency c.links a.row)) rule ∙ ap (λ (p : PortRow). need_of g.rule (load_at c.latency c.links p)) row
+        ∙ b.need in
     let limit : f.limit ≡ g.limit = sym a.limit ∙ ap (λ (r : Rule). limit_of r a.row) rule ∙ ap (limit_of g.rule) row ∙ b.limit in
     let port : f.port ≡ g.port = sym a.number ∙ ap (λ (p : PortRow). p.id) row ∙ b.number in
     same_fault f.port g.port f.rule g.rule f.need g.need f.limit g.limit port rule (let n : f.need ≡ g.need = cc in n) limit
@@ -257,7 +258,8 @@ none_in latency links (row ∷ rows) h =
 is_named : (c : Content) (f : LoadFault) → IsWellFormed c → IsFirstFault c f → first_fault c.latency c.links c.ports ≡ Some f
 is_named c f well first = by (first_fault c.latency c.links c.ports) refl where
   by : (o : Option LoadFault) → first_fault c.latency c.links c.ports ≡ o → first_fault c.latency c.links c.ports ≡ Some f
-  by None e = absurd (All-contains (λ row. (rule : Rule) → Broken row (load_at c.latency c.links row) rule → ⊥) c.ports first.row (none_in c.latency c.links c.ports e) first.is_port f.rule (breaks c f first))
+  by None e = absurd (All-contains (λ row. (rule : Rule) → Broken row (load_at c.latency c.links row) rule → ⊥) c.ports first.row (none_in c.latency c.links c.ports e) first.is_port f.rule
+      (breaks c f first))
   by (Some g) e = e ∙ ap Some (one_fault c g f well (is_first c g well e) first)
 
 pub fault_is_first : FaultIsTheFirst

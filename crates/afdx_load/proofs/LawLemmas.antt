@@ -67,7 +67,7 @@ links_shown speed [] = (λ h. h, λ h. h)
 links_shown speed (link ∷ links) = (λ _. omega (arith, all_counted speed (link ∷ links)), λ _. omega (arith, time_above speed link))
 
 pub shows_links : LongestShowsLinks
-shows_links latency speed port links = links_shown speed (routed port links)
+shows_links speed port links = links_shown speed (routed port links)
 
 sum_above : (speed : Speed) (links : List Link) → All IsLong links → 0 < length links → 0 < sum_by (rate_of speed) links
 sum_above speed [] long some = absurd (omega arith)

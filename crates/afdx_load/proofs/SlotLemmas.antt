@@ -64,4 +64,5 @@ pub slot_found : (c : Content) (slots : List Sums) (port slot : ℕ) (row : Port
     → Some (behind c.latency (get_or slots slot d)) ≡ port_load c port
 slot_found c slots port slot row d loads found is =
     let placed_at = each_found (λ r. (r.id < 25) × ((e : Sums) → get_or slots r.id e ≡ asked_of r.speed r.id c.links)) (λ r. r.id == port) c.ports row loads found in
-    ap (λ (n : ℕ). Some (behind c.latency (get_or slots n d))) is ∙ ap (λ (s : Sums). Some (behind c.latency s)) (placed_at.1 d) ∙ ap (option_map (λ (r : PortRow). load_of c.latency r.speed r.id c.links)) found
+    ap (λ (n : ℕ). Some (behind c.latency (get_or slots n d))) is ∙ ap (λ (s : Sums). Some (behind c.latency s)) (placed_at.1 d)
+        ∙ ap (option_map (λ (r : PortRow). load_of c.latency r.speed r.id c.links)) found

@@ -5,7 +5,7 @@ use Rattle.afdx_units.specs.Line.{tick_of, cost_of}
 use Rattle.afdx_table.specs.Link.{Link, leads_to}
 use Rattle.afdx_table.specs.Content.{Content}
 use Rattle.afdx_table.specs.WellFormed.{IsWellFormed}
-use Rattle.afdx_load.specs.Sums.{parts, is_high, terms_of, weight_of, rate_of, burst_of, load_of}
+use Rattle.afdx_load.specs.Sums.{parts, is_high, terms_of, weight_of, rate_of, burst_of, asked_of, load_of}
 use Rattle.afdx_load.specs.Accepted.{IsAccepted, first_fault}
 
 -- profile: the factor 21/16 of the rate of a link policed by bytes covers the 20 bytes that go with each frame exactly for frames of 64 bytes
@@ -35,7 +35,7 @@ SumsTakeEachLinkOnce = (latency : ℕ) (speed : Speed) (port : ℕ) (links : Lis
 
 -- a port has links exactly where its longest frame takes time
 abbrev pub LongestShowsLinks : Type 0
-LongestShowsLinks = (latency : ℕ) (speed : Speed) (port : ℕ) (links : List Link) → let s = load_of latency speed port links in
+LongestShowsLinks = (speed : Speed) (port : ℕ) (links : List Link) → let s = asked_of speed port links in
     (0 < s.largest) ↔ (0 < s.highs + s.lows)
 
 -- where the line can give the rate and there is a low link, the high links leave a part of the line

@@ -48,7 +48,8 @@ module _ (s : Settings) (within : s.latency ≤ s.max_delay) where
 
   fate_later : (b : ℕ) (x : Item) → fate s (b + s.latency) x ≡ later_by s.latency (fate (at_once s) b x)
   fate_later b x =
-      ap (λ v. cond v (aging (record { item = x; at = b + s.latency })) (sending (record { item = x; begin = b + s.latency; end = b + s.latency + cost_of s.speed x.size }))) (lt_later s.max_delay b x.stamp s.latency within)
+      ap (λ v. cond v (aging (record { item = x; at = b + s.latency })) (sending (record { item = x; begin = b + s.latency; end = b + s.latency + cost_of s.speed x.size })))
+          (lt_later s.max_delay b x.stamp s.latency within)
       ∙ by_age (nat_lt (s.max_delay - s.latency) (b - x.stamp)) where
         swapped : (a c v : ℕ) → a + v + c ≡ a + c + v
         swapped a c v = omega arith

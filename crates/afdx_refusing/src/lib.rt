@@ -4,6 +4,8 @@
 //! So it sees each call want memory at each of its growths.
 #![tactic(auto)]
 
+ghost use Rattle.std.specs.Prelude.{◌≡◌, ◌==◌, ◌-◌};
+
 use std::alloc::{AllocError, Allocator};
 use std::cell::Cell;
 
@@ -34,11 +36,25 @@ impl<B: Allocator> Drop for Refusing<B> {
     }
 }
 
+/// Whether an allocation is to be refused, where it is the last of so many; none is where they are 0.
+fn is_last(left: u64) -> bool
+    ensures { result ≡ (left == 1) }
+{
+    left == 1
+}
+
+/// How many are left after one of so many; none after the last.
+fn left_after(left: u64) -> u64
+    ensures { result ≡ left - 1 }
+{
+    left.saturating_sub(1)
+}
+
 /// Counts an allocation, and answers whether it is the one to be refused.
 fn refuses(left: &Cell<u64>) -> bool {
     let n = left.get();
-    left.set(n.saturating_sub(1));
-    n == 1
+    left.set(left_after(n));
+    is_last(n)
 }
 
 unsafe impl<B: Allocator> Allocator for Refusing<B> {

@@ -57,18 +57,6 @@ comes t given h old new is run keeps = record {
   latest = ap (λ (r : Run). r.latest) run;
 }
 
--- it hands out frames of a port
-pub drains_at : (t : Content) (given : List Arrival) (h port : ℕ) (old new : State) → IsAt t given h old → IsDrained port old new → IsAt t given h new
-drains_at t given h port old new is drained = record {
-  is_given = record {
-    table = drained.table ∙ is.is_given.table;
-    rows = drained.rows ∙ is.is_given.rows;
-    still_open = drained.finished ∙ is.is_given.still_open;
-    frames = drained.frames given (sym (long_rows t given old is.is_given)) is.is_given.frames;
-  };
-  latest = drained.latest ∙ is.latest;
-}
-
 -- ---- one port is drained
 
 pub draws_start : (given : List Arrival) (port place : ℕ) (start : State) (before : List ℕ) → Draws given port place start start before before

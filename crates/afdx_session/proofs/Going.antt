@@ -10,7 +10,6 @@ use Rattle.afdx_pcap.specs.Reading.{AreFirst}
 use Rattle.afdx_pcap.specs.Fault.{last_stamp}
 use Rattle.afdx_table.specs.declared.rows.PortRow.{PortRow}
 use Rattle.afdx_table.specs.Content.{Content}
-use Rattle.afdx_table.specs.WellFormed.{IsWellFormed}
 use Rattle.afdx_table.specs.WellFormed as table
 use Rattle.afdx_core.specs.State.{State}
 use Rattle.afdx_core.specs.Merge.{Arrival, Capture, Rises, arrivals_of, MergedIsAMerge, MergedIsByStampAndPort}
@@ -135,9 +134,6 @@ come_grows streams later ends on = by_old (frontier streams) refl where
       omega (arith, here, le)
 
 -- ---- a lane is read
-
-abbrev with_lane : {Z : Type 0} → List (Lane Z) → ℕ → Lane Z → List (Lane Z)
-with_lane lanes k new = set lanes k new
 
 reads_lanes : {Z : Type 0} (lanes : List (Lane Z)) (streams : List Stream) (k : ℕ) (old new : Lane Z) (more : List Entry) → AreLanesOf lanes streams → slice_get lanes k ≡ Some old → new.port ≡ old.port → Adds old new more → HasReadAll new
     → AreLanesOf (set lanes k new) (streams_with streams k new more)

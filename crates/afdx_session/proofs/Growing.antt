@@ -409,10 +409,3 @@ pub front_of_output : EarlierEventsStayAdmitted → ReachesInOrder → EventsAre
 front_of_output stay reaches parts t streams captures p on =
     let more = text_grows stay reaches parts t streams (map whole_of captures) p on in
     (more.0, ap capture_text (sym (output_of_all t captures p)) ∙ more.1)
-
--- what is sent goes on where later arrivals come and the instant goes on
-pub sent_goes_on : EarlierEventsStayAdmitted → ReachesInOrder → EventsAreInParts → (t : Content) (arrivals later : List Arrival) (h : ℕ) (k : Option ℕ) (p : PortRow) → AllFrom h later → IsBeyond h k
-    → (rest : List Sent) × (sent_up_to t (arrivals ++ later) k p ≡ sent_up_to t arrivals (Some h) p ++ rest)
-sent_goes_on stay reaches parts t arrivals later h k p all beyond =
-    let more = sent_later parts reaches t (arrivals ++ later) h k p beyond in
-    (more.0, more.1 ∙ ap (λ sent. sent ++ more.0) (same_sent stay reaches t arrivals later h p all))

@@ -201,12 +201,6 @@ settled_waiting (l ∷ a) (m ∷ b) settled =
     ∙ ap (λ n. record { port = n; records = l.waiting.items } ∷ map waiting_of b) settled.0.port
     ∙ ap (λ ws. waiting_of l ∷ ws) (settled_waiting a b settled.1)
 
-pub settled_ports : {Z : Type 0} (a b : List (Lane Z)) → AreSettledLanes a b → map (λ (l : Lane Z). l.port) b ≡ map (λ (l : Lane Z). l.port) a
-settled_ports [] [] settled = refl
-settled_ports [] (m ∷ b) settled = absurd settled
-settled_ports (l ∷ a) [] settled = absurd settled
-settled_ports {Z = Z} (l ∷ a) (m ∷ b) settled = ap (λ n. n ∷ map (λ (x : Lane Z). x.port) b) settled.0.port ∙ ap (λ ns. l.port ∷ ns) (settled_ports a b settled.1)
-
 settled_lanes : {Z : Type 0} (a b : List (Lane Z)) (streams : List Stream) → AreSettledLanes a b → AreLanesOf a streams → AreLanesOf b streams
 settled_lanes [] [] streams settled are = are
 settled_lanes [] (m ∷ b) streams settled are = absurd settled

@@ -17,6 +17,8 @@ pub mod Giving
 pub mod Showing
 pub mod WholeRecords
 pub mod Last
+pub mod Lending
+pub mod WholeRuns
 pub mod Drawing
 pub mod Laning
 pub mod Limits

@@ -11,7 +11,7 @@ use Rattle.afdx_core.specs.Merge.{merged}
 use Rattle.afdx_session.specs.declared.lane.Lane.{Lane}
 use Rattle.afdx_session.specs.declared.machine.Machine.{Machine}
 use Rattle.afdx_session.specs.declared.plan.RunFault.{RunFault}
-use Rattle.afdx_session.specs.Reading.{IsFaultAt}
+use Rattle.afdx_session.specs.Reading.{IsFaultAt, IsSound}
 use Rattle.afdx_session.specs.Texts.{Text}
 use Rattle.afdx_session.specs.Finish.{text_in}
 use Rattle.afdx_session.specs.Streams.{Stream, text_so_far}
@@ -157,6 +157,22 @@ AreFreshLanes [] [] = Unit {0}
 AreFreshLanes [] (l ∷ lanes) = ⊥
 AreFreshLanes (p ∷ ports) [] = ⊥
 AreFreshLanes (p ∷ ports) (l ∷ lanes) = IsFreshLane p.id l × AreFreshLanes ports lanes
+
+-- ---- captures that come whole
+
+-- a lane has read a whole capture, and nothing was taken of it
+pub record IsLent {Z : Type 0} (text : Text) (l : Lane Z) : Type 0 where
+  pub port : l.port ≡ text.0
+  pub bytes : l.reader.bytes ≡ text.1
+  pub closed : l.reader.closed ≡ true
+  pub sound : IsSound text
+  pub taken : l.taken ≡ 0
+
+abbrev pub AreLent : {Z : Type 0} → List Text → List (Lane Z) → Type 0
+AreLent [] [] = Unit {0}
+AreLent [] (l ∷ lanes) = ⊥
+AreLent (text ∷ texts) [] = ⊥
+AreLent (text ∷ texts) (l ∷ lanes) = IsLent text l × AreLent texts lanes
 
 -- ---- all captures end
 

@@ -1,9 +1,9 @@
-//! What a session has of one port.
+//! What the machine has of one port.
 
 ghost use Rattle.std.specs.Prelude.{◌≡◌, ◌<◌, ◌≤◌, ◌-◌, ◌^◌, ◌==◌, ◌++◌, [], ℕ, true, false, take, None, Some, Ok, List, length, IfOk, IfErr, OnOk, OnErr, IfSome, IfNone, Option, is_some, if◌then◌else◌, ◌+◌, IsTrue, ◌↔◌, position, find};
 ghost use Rattle.afdx_pcap.specs.Entry.{Entry};
 ghost use Rattle.afdx_pcap.specs.Reading.{Answers};
-ghost use Rattle.afdx_session.specs.Lanes.{HasRead, HasReadAll, IsReadOn, Adds, IsLaneFault, limit_at, best_place, IsFirstOf, IsWithinPlace, head_of, sooner_of, IsStill, IsPieceFault, Goes, NoneGoes};
+ghost use Rattle.afdx_session.specs.Lanes.{HasReadAll, IsReadOn, Adds, IsLaneFault, limit_at, best_place, IsFirstOf, IsWithinPlace, head_of, sooner_of, IsStill, IsPieceFault, Goes, NoneGoes};
 ghost use Rattle.afdx_session.specs.Reading.{IsFaultAt};
 ghost use Rattle.afdx_session.specs.View.{IsFreshLane, AreFreshLanes, IsSettledLane, IsTaken, IsOpenAt, intakes_of};
 ghost use Rattle.afdx_session.specs.Session.{refusal_at};
@@ -77,7 +77,7 @@ impl<'a, A: Allocator + Copy> Lane<'a, A> {
         }
     }
 
-    /// Whole records that are there join those that wait. O(their bytes).
+    /// Whole records that are there join those that wait. O(their bytes), and O(their number) where these are lent.
     fn read_on(&mut self) -> Result<(), RunFault>
         requires { self.old.reader.fault ≡ None }
         ensures read_on { IsReadOn self.old self.new }
@@ -123,6 +123,20 @@ impl<'a, A: Allocator + Copy> Lane<'a, A> {
         ensures err { IfErr result (λ fault. IsFaultAt self.old.reader.bytes self.old.port fault) }
     {
         self.reader.close();
+        self.read_on()
+    }
+
+    /// The whole capture comes, and stays where it is: its records are lent. O(their number).
+    pub(crate) fn read_whole(&mut self, alloc: A, text: &'a [u8]) -> Result<(), RunFault>
+        requires fresh { IsFreshLane self.old.port self.old }
+        ensures still { IsStill self.old self.new }
+        ensures undone { self.new.undone ≡ self.old.undone }
+        ensures bytes { self.new.reader.bytes ≡ text.now }
+        ensures ended { self.new.reader.closed ≡ true }
+        ensures ok { OnOk result ((more : List Entry) × Adds self.old self.new more × HasReadAll self.new) }
+        ensures err { IfErr result (λ fault. IsFaultAt text.now self.old.port fault) }
+    {
+        self.reader = Reader::over(alloc, text);
         self.read_on()
     }
 

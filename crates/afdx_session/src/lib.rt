@@ -6,16 +6,11 @@
 //! leave at its port.
 #![tactic(auto)]
 
-mod arrival;
 mod drain;
 mod lane;
 pub mod laws;
 mod machine;
-mod merge;
-mod output;
 mod plan;
-mod read;
-mod replay;
 mod session;
 mod whole;
 

@@ -10,9 +10,10 @@ ghost use Rattle.afdx_core.specs.Held.{told, IsTaken};
 ghost use Rattle.afdx_core.specs.Rows.{row_of};
 ghost use Rattle.afdx_core.specs.State.{refusal_of, fresh_state, after_finish};
 ghost use Rattle.afdx_count.specs.Tally.{noted, fresh, ended};
-ghost use Rattle.afdx_session.specs.Kept.{AreOfTable, AreTouched, IsOfSameTable, IsGoing, HasCome, IsRunning, come_to};
+ghost use Rattle.afdx_session.specs.Kept.{AreOfTable, AreTouched, IsOfSameTable, IsGoing, IsRunning, come_to};
 ghost use Rattle.afdx_session.specs.Lanes.{limit_at, NoneGoes};
-ghost use Rattle.afdx_session.specs.View.{IsRound, IsReady, IsOpenAt, IsFed, IsNotFed, IsEnded, IsNotEnded, AreSettledLanes, AreFreshLanes, AreHalfDone, AreEndedLanes, texts_at};
+ghost use Rattle.afdx_session.specs.View.{IsRound, IsReady, IsOpenAt, IsFed, IsNotFed, IsEnded, IsNotEnded, AreSettledLanes, AreFreshLanes, AreHalfDone, AreEndedLanes, AreLent, texts_at};
+ghost use Rattle.afdx_session.specs.Texts.{texts_of, AreOfPorts};
 ghost use Rattle.afdx_session.specs.Reading.{IsReadFault};
 
 use crate::drain::drain_all;
@@ -140,7 +141,7 @@ impl<'a, A: Allocator + Copy> Machine<'a, A> {
 
     /// What is settled goes to the switch, which comes to the frontier; what then has left goes out.
     ///
-    /// O(ports) for each record, beside the switch's own work on it, and O(ports * ports).
+    /// O(ports), O(ports) for each record that goes, and O(bytes) of what goes out, beside the switch's own work.
     pub(crate) fn go_on(&mut self) -> Result<(), AllocError>
         requires of { AreOfTable self.old.switch.run.table self.old.lanes.items }
         requires going { IsGoing self.old.switch.run.table self.old.lanes.items self.old.switch self.old.counts }
@@ -199,6 +200,46 @@ impl<'a, A: Allocator + Copy> Machine<'a, A> {
         merged_is_a_merge();
         merged_is_by_stamp_and_port();
         self.lanes[place].close()?;
+        self.go_on()?;
+        self.settle();
+        Ok(())
+    }
+
+    /// The captures of all ports come whole, in the order of the lanes, and stay where they are.
+    fn read_all(&mut self, alloc: A, captures: &'a [(u8, Vec<u8, A>)]) -> Result<(), RunFault>
+        requires of { AreOfTable self.old.switch.run.table self.old.lanes.items }
+        requires ports { AreOfPorts self.old.switch.run.table (texts_of captures.now) }
+        requires fresh { AreFreshLanes self.old.switch.run.table.ports self.old.lanes.items }
+        requires going { IsGoing self.old.switch.run.table self.old.lanes.items self.old.switch self.old.counts }
+        ensures switch { self.new.switch ≡ self.old.switch }
+        ensures ok { OnOk result (IsGoing self.new.switch.run.table self.new.lanes.items self.new.switch self.new.counts
+            × AreOfTable self.new.switch.run.table self.new.lanes.items × AreLent (texts_of captures.now) self.new.lanes.items) }
+        ensures err { IfErr result (λ fault. IsReadFault (texts_of captures.now) fault) }
+    {
+        merged_is_a_merge();
+        merged_is_by_stamp_and_port();
+        for place in 0..self.lanes.len() {
+            self.lanes[place].read_whole(alloc, &captures[place].1)?;
+        }
+        Ok(())
+    }
+
+    /// The captures of all ports come whole, and stay where they are; what they lead to goes out.
+    pub(crate) fn lend(
+        &mut self,
+        alloc: A,
+        captures: &'a [(u8, Vec<u8, A>)],
+    ) -> Result<(), RunFault>
+        requires of { AreOfTable self.old.switch.run.table self.old.lanes.items }
+        requires ports { AreOfPorts self.old.switch.run.table (texts_of captures.now) }
+        requires handed { length self.old.switch.run.handed ≡ length self.old.switch.run.table.ports }
+        requires fresh { AreFreshLanes self.old.switch.run.table.ports self.old.lanes.items }
+        requires running { IsRunning self.old.switch.run.table self.old.lanes.items self.old.switch self.old.counts }
+        ensures same { IsOfSameTable self.old.switch self.new.switch }
+        ensures ok { OnOk result (IsReady self.new true × AreLent (texts_of captures.now) self.new.lanes.items) }
+        ensures err { IfErr result (λ fault. IsReadFault (texts_of captures.now) fault) }
+    {
+        self.read_all(alloc, captures)?;
         self.go_on()?;
         self.settle();
         Ok(())

@@ -1,50 +1,51 @@
 //! Ports as busy as an accepted table lets them be.
 
 use crate::traffic::{bounds_at, leaves};
-use afdx_samples::{HEADER, Link, Port, capture, large, link, port, small, table};
+use afdx_samples::{HEADER, Link, Port, Sample, capture, large, link, port, small, table};
 use std::alloc::{AllocError, Global};
 use std::test::*;
 
-/// Six links, and a buffer that holds exactly what they may ask for.
-fn six_links(alloc: Global) -> Result<String, AllocError> {
-    let tight = Port {
-        buffer: 13_493,
-        ..port(2)
-    };
-    let to = "[2]";
-    let links = [
-        link(1, 1, to),
-        link(2, 1, to),
-        link(3, 1, to),
-        link(4, 1, to),
-        link(5, 1, to),
-        link(6, 1, to),
-    ];
-    table(alloc, &[port(1), tight], &links)
+/// Port 2 with a buffer of so many bytes.
+pub(crate) fn tight(buffer: u32) -> Port {
+    Port { buffer, ..port(2) }
 }
 
-/// One of the largest frames of each link at once: each leaves within the low bound.
+/// So many links as this one, with the numbers from 1 on.
+pub(crate) fn links(alloc: Global, first: Link, count: u16) -> Result<Vec<Link>, AllocError> {
+    let mut links = Vec::new(alloc);
+    for id in 1..=count {
+        links.push(Link { id, ..first })?;
+    }
+    Ok(links)
+}
+
+/// One of the largest frames of each of the links from 1 on, so many at once.
+pub(crate) fn at_once(alloc: Global, count: u8) -> Result<Vec<Sample>, AllocError> {
+    let mut frames = Vec::new(alloc);
+    for id in 1..=count {
+        frames.push(large(id, 0))?;
+    }
+    Ok(frames)
+}
+
+/// The same frames as they leave, one after the other.
+pub(crate) fn in_turn(alloc: Global, count: u8) -> Result<Vec<Sample>, AllocError> {
+    let mut frames = Vec::new(alloc);
+    for id in 1..=count {
+        frames.push(large(id, u32::from(id) * 123_040))?;
+    }
+    Ok(frames)
+}
+
+/// One of the largest frames of each of six links at once, and a buffer that holds exactly what they may ask for: each leaves
+/// within the low bound.
 #[test]
 fn six_links_fit(rt: HostRuntime) -> Result<(), Fail> {
     let alloc = rt.alloc();
-    let text = six_links(alloc)?;
-    let frames = [
-        large(1, 0),
-        large(2, 0),
-        large(3, 0),
-        large(4, 0),
-        large(5, 0),
-        large(6, 0),
-    ];
-    let came = capture(alloc, &frames)?;
-    let left = [
-        large(1, 123_040),
-        large(2, 246_080),
-        large(3, 369_120),
-        large(4, 492_160),
-        large(5, 615_200),
-        large(6, 738_240),
-    ];
+    let links = links(alloc, link(1, 1, "[2]"), 6)?;
+    let text = table(alloc, &[port(1), tight(13_493)], &links)?;
+    let came = capture(alloc, &at_once(alloc, 6)?)?;
+    let left = in_turn(alloc, 6)?;
     assert!(rt; leaves(alloc, &text, &[&came, &HEADER], &[&[], &left], "")?);
     assert_eq!(rt; bounds_at(alloc, &text, 2)?.low, Some(956_340));
     Ok(())

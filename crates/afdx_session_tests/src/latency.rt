@@ -1,7 +1,9 @@
 //! Lines of 1000 Mbit/s, and switches with a latency.
 
 use crate::traffic::{bounds_at, leaves, leaves_unchecked};
-use afdx_samples::{HEADER, Port, Sample, capture, large, later, link, mixed, port, single, small, table};
+use afdx_samples::{
+    HEADER, Port, Sample, capture, large, later, link, mixed, port, single, small, table,
+};
 use std::alloc::{AllocError, Global};
 use std::test::*;
 

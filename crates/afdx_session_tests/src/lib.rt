@@ -6,9 +6,13 @@
 #[cfg(test)]
 mod bounds;
 #[cfg(test)]
+mod feeding;
+#[cfg(test)]
 mod formats;
 #[cfg(test)]
 mod latency;
+#[cfg(test)]
+mod latency_in_pieces;
 #[cfg(test)]
 mod pieces;
 #[cfg(test)]
@@ -17,6 +21,8 @@ mod policing;
 mod ports;
 #[cfg(test)]
 mod refused;
+#[cfg(test)]
+mod sessions;
 #[cfg(test)]
 mod single;
 #[cfg(test)]

@@ -1,7 +1,8 @@
 //! Links that are policed by frames.
 
+use crate::bounds::{at_once, in_turn, links, tight};
 use crate::traffic::{bounds_at, leaves};
-use afdx_samples::{HEADER, Link, Port, capture, frame, large, link, port, small, table};
+use afdx_samples::{HEADER, Link, capture, frame, large, link, port, small, table};
 use std::alloc::{AllocError, Global};
 use std::test::*;
 
@@ -105,99 +106,36 @@ fn both_kinds_of_policing(rt: HostRuntime) -> Result<(), Fail> {
 #[test]
 fn eight_links_fit(rt: HostRuntime) -> Result<(), Fail> {
     let alloc = rt.alloc();
-    let tight = Port {
-        buffer: 13_842,
-        ..port(2)
-    };
-    let to = "[2]";
-    let links = [
-        framed(1, 1, to),
-        framed(2, 1, to),
-        framed(3, 1, to),
-        framed(4, 1, to),
-        framed(5, 1, to),
-        framed(6, 1, to),
-        framed(7, 1, to),
-        framed(8, 1, to),
-    ];
-    let text = table(alloc, &[port(1), tight], &links)?;
-    let frames = [
-        large(1, 0),
-        large(2, 0),
-        large(3, 0),
-        large(4, 0),
-        large(5, 0),
-        large(6, 0),
-        large(7, 0),
-        large(8, 0),
-    ];
-    let came = capture(alloc, &frames)?;
-    let left = [
-        large(1, 123_040),
-        large(2, 246_080),
-        large(3, 369_120),
-        large(4, 492_160),
-        large(5, 615_200),
-        large(6, 738_240),
-        large(7, 861_280),
-        large(8, 984_320),
-    ];
+    let links = links(alloc, framed(1, 1, "[2]"), 8)?;
+    let text = table(alloc, &[port(1), tight(13_842)], &links)?;
+    let came = capture(alloc, &at_once(alloc, 8)?)?;
+    let left = in_turn(alloc, 8)?;
     assert!(rt; leaves(alloc, &text, &[&came, &HEADER], &[&[], &left], "")?);
     assert_eq!(rt; bounds_at(alloc, &text, 2)?.low, Some(984_320));
     Ok(())
 }
 
-/// Eight such links and a shorter one that ask for exactly the whole line: the last one leaves exactly at the low bound, at
-/// the instant when the next gap's first frame comes, and the line is never idle.
+/// Eight such links and a shorter one that ask for exactly the whole line.
+fn whole_line(alloc: Global) -> Result<String, AllocError> {
+    let mut links = links(alloc, framed(1, 1, "[2]"), 8)?;
+    links.push(Link {
+        max_size: 176,
+        ..framed(9, 1, "[2]")
+    })?;
+    table(alloc, &[port(1), tight(14_038)], &links)
+}
+
+/// The last frame leaves exactly at the low bound, at the instant when the next gap's first frame comes, and the line is never
+/// idle.
 #[test]
 fn the_whole_line(rt: HostRuntime) -> Result<(), Fail> {
     let alloc = rt.alloc();
-    let tight = Port {
-        buffer: 14_038,
-        ..port(2)
-    };
-    let to = "[2]";
-    let shorter = Link {
-        max_size: 176,
-        ..framed(9, 1, to)
-    };
-    let links = [
-        framed(1, 1, to),
-        framed(2, 1, to),
-        framed(3, 1, to),
-        framed(4, 1, to),
-        framed(5, 1, to),
-        framed(6, 1, to),
-        framed(7, 1, to),
-        framed(8, 1, to),
-        shorter,
-    ];
-    let text = table(alloc, &[port(1), tight], &links)?;
-    let frames = [
-        large(1, 0),
-        large(2, 0),
-        large(3, 0),
-        large(4, 0),
-        large(5, 0),
-        large(6, 0),
-        large(7, 0),
-        large(8, 0),
-        frame(9, 172, 0),
-        large(1, 1_000_000),
-    ];
+    let text = whole_line(alloc)?;
+    let mut frames = at_once(alloc, 8)?;
+    frames.extend_from_slice(&[frame(9, 172, 0), large(1, 1_000_000)])?;
     let came = capture(alloc, &frames)?;
-    let left = [
-        large(1, 123_040),
-        large(2, 246_080),
-        large(3, 369_120),
-        large(4, 492_160),
-        large(5, 615_200),
-        large(6, 738_240),
-        large(7, 861_280),
-        large(8, 984_320),
-        frame(9, 172, 1_000_000),
-        large(1, 1_123_040),
-    ];
+    let mut left = in_turn(alloc, 8)?;
+    left.extend_from_slice(&[frame(9, 172, 1_000_000), large(1, 1_123_040)])?;
     assert!(rt; leaves(alloc, &text, &[&came, &HEADER], &[&[], &left], "")?);
     assert_eq!(rt; bounds_at(alloc, &text, 2)?.low, Some(1_000_000));
     Ok(())

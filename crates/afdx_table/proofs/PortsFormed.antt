@@ -118,7 +118,8 @@ pub record ArePorts (ps : List PortRow) : Type 0 where
   pub limits : AllByRecursion IsPort ps
   pub rise : Rises ps
 
-pub ports_from-formed : (version n : ℕ) (before : List PortRow) (tables : List Members) (ports : List PortRow) → ArePorts before → ports_from version n before tables ≡ Ok ports → ArePorts ports × (length ports ≡ length before + length tables)
+pub ports_from-formed : (version n : ℕ) (before : List PortRow) (tables : List Members) (ports : List PortRow) → ArePorts before → ports_from version n before tables ≡ Ok ports → ArePorts ports
+    × (length ports ≡ length before + length tables)
 unfolding ports_from
 ports_from-formed version n before [] ports good h =
     let same : before ≡ ports = cc in

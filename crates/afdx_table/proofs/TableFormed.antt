@@ -103,7 +103,8 @@ no_links : (ports : List PortRow) → AreLinks ports []
 unfolding IsDistinct
 no_links ports = record { limits = tt; distinct = tt }
 
-pub parts-formed : (ms : Members) (t : Top) (ports : List PortRow) (links : List Link) → top_at ms ≡ Ok t → ports_from t.version 0 [] t.ports ≡ Ok ports → links_from t.version ports 0 [] t.links ≡ Ok links → IsWellFormed (record { constant = t.constant; latency = t.latency; ports = ports; links = links })
+pub parts-formed : (ms : Members) (t : Top) (ports : List PortRow) (links : List Link) → top_at ms ≡ Ok t → ports_from t.version 0 [] t.ports ≡ Ok ports
+    → links_from t.version ports 0 [] t.links ≡ Ok links → IsWellFormed (record { constant = t.constant; latency = t.latency; ports = ports; links = links })
 parts-formed ms t ports links h p l =
     let top = top_at-formed ms t h in
     let all_ports = ports_from-formed t.version 0 [] t.ports ports no_ports p in

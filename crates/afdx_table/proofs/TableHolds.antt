@@ -172,7 +172,8 @@ constant-says ms (Some text) bytes h c = inr (text, optional_text_at-says place.
 
 latency-says : (ms : Members) (stated : Option ℕ) (us : ℕ) → optional_number_at place.Top key.Latency ms ≡ Ok stated → latency_from stated ≡ Ok us → HasLatency ms (us * 1000)
 latency-says ms None us h l = let same : 0 ≡ us = ok_inside 0 us l in inl (no_number place.Top key.Latency ms h, omega (arith, same))
-latency-says ms (Some n) us h l = let same : n ≡ us = (bounded-same key.Latency 0 100 n us l).0 in inr (us, subst (HasNumber ms key.Latency) same (optional_number_at-says place.Top key.Latency ms n h), refl)
+latency-says ms (Some n) us h l = let same : n ≡ us = (bounded-same key.Latency 0 100 n us l).0 in
+    inr (us, subst (HasNumber ms key.Latency) same (optional_number_at-says place.Top key.Latency ms n h), refl)
 
 record Tops (ms : Members) (top : Top) : Type 0 where
   version : HasVersion ms top.version

@@ -1,40 +1,105 @@
-use Rattle.std.proofs.Common.{subst}
+use Rattle.std.proofs.Common.{refl, sym, ap, subst, ◌∙◌, true}
 use Rattle.afdx_table.specs.Content.{Content}
-use Rattle.afdx_table.specs.WellFormed.{IsWellFormed}
+use Rattle.afdx_core.specs.State.{State}
 use Rattle.afdx_session.specs.Texts.{AreOfPorts, texts_of}
-use Rattle.afdx_session.specs.Outcome.{table_in}
-use Rattle.afdx_session.proofs.Gathering.{merged_early, merged_in_order, merged_known}
-use Rattle.afdx_session.proofs.Handing.{none_handed, outcome_is, memory_refused}
+use Rattle.afdx_session.specs.Outcome.{table_in, is_cleared, IsRefusal}
+use Rattle.afdx_session.specs.View.{AreFreshLanes}
+use Rattle.afdx_session.proofs.Fresh.{fresh_kept}
+use Rattle.afdx_session.proofs.Sessions.{of_error}
+use Rattle.afdx_session.proofs.WholeRuns.{kept_lent, lent_fault, is_refusal, lent_outcome}
 use Rattle.afdx_session.proofs.whole.run.Goals as goal
 
-pub replay-requires-clause-early : goal.replay-requires-clause-early
-replay-requires-clause-early g c = merged_early _ _ c.in_ok-arrivals.ensures.ok
+pub lend-requires-clause-of : goal.lend-requires-clause-of
+lend-requires-clause-of g c =
+    let made = c.in_ok-machine.ensures in
+    (fresh_kept c.starts_with_none.ensures (is_cleared c.args.plan) (table_in c.args.plan) c.in_ok-machine.machine made.formed made.accepted made.fresh.0 made.fresh.1 made.fresh.2).of
 
-pub replay-requires-clause-in_order : goal.replay-requires-clause-in_order
-replay-requires-clause-in_order g c = merged_in_order _ _ c.in_ok-arrivals.ensures.ok
+pub lend-requires-clause-ports : goal.lend-requires-clause-ports
+lend-requires-clause-ports g c =
+    let texts = texts_of c.args.captures.now in
+    let ports = subst (λ (t : Content). AreOfPorts t texts) c.table.ensures.table (c.are_of_ports.ensures.are.0 c.if-not-are_of_ports.false) in
+    subst (λ (s : State). AreOfPorts s.run.table texts) (sym c.in_ok-machine.ensures.fresh.0) ports
 
-pub replay-requires-clause-known : goal.replay-requires-clause-known
-replay-requires-clause-known g c =
-    let ports = subst (λ (t : Content). AreOfPorts t (texts_of c.args.captures.now)) c.table.ensures.table (c.are_of_ports.ensures.are.0 c.if-not-are_of_ports.false) in
-    merged_known (table_in c.args.plan) _ _ ports c.in_ok-arrivals.ensures.ok
+pub lend-requires-clause-handed : goal.lend-requires-clause-handed
+lend-requires-clause-handed g c =
+    let made = c.in_ok-machine.ensures in
+    (fresh_kept c.starts_with_none.ensures (is_cleared c.args.plan) (table_in c.args.plan) c.in_ok-machine.machine made.formed made.accepted made.fresh.0 made.fresh.1 made.fresh.2).handed
 
-pub outputs-requires : goal.outputs-requires
-outputs-requires g c = none_handed _ _ _ c.in_ok-done.ensures.done
+pub lend-requires-clause-fresh : goal.lend-requires-clause-fresh
+lend-requires-clause-fresh g c = let made = c.in_ok-machine.ensures.fresh in subst (λ (s : State). AreFreshLanes s.run.table.ports c.in_ok-machine.machine.lanes.items) (sym made.0) made.2
 
-pub returns-in_err-captures-clause-err : goal.returns-in_err-captures-clause-err
-returns-in_err-captures-clause-err g c =
-    let ports = subst (λ (t : Content). AreOfPorts t (texts_of c.args.captures.now)) c.table.ensures.table (c.are_of_ports.ensures.are.0 c.if-not-are_of_ports.false) in
-    memory_refused (table_in c.args.plan) (texts_of c.args.captures.now) _ c.from_residual-in_err-captures.ensures ports
+pub lend-requires-clause-running : goal.lend-requires-clause-running
+lend-requires-clause-running g c =
+    let made = c.in_ok-machine.ensures in
+    let kept = fresh_kept c.starts_with_none.ensures (is_cleared c.args.plan) (table_in c.args.plan) c.in_ok-machine.machine made.formed made.accepted made.fresh.0 made.fresh.1 made.fresh.2 in
+    (kept.ready refl).running
+
+pub returns-in_err-lend-clause-err : goal.returns-in_err-lend-clause-err
+returns-in_err-lend-clause-err g c =
+    let t = table_in c.args.plan in
+    let texts = texts_of c.args.captures.now in
+    let fault = c.in_err-lend.field-0.0 in
+    let ports = subst (λ (u : Content). AreOfPorts u texts) c.table.ensures.table (c.are_of_ports.ensures.are.0 c.if-not-are_of_ports.false) in
+    of_error (λ e. IsRefusal t texts e) c.from_residual-in_err-lend.result fault c.from_residual-in_err-lend.ensures (is_refusal t texts fault ports c.in_err-lend.ensures.err)
+
+pub end-requires-clause-of : goal.end-requires-clause-of
+end-requires-clause-of g c =
+    let t = table_in c.args.plan in
+    let texts = texts_of c.args.captures.now in
+    let made = c.in_ok-machine.ensures in
+    let ports = subst (λ (u : Content). AreOfPorts u texts) c.table.ensures.table (c.are_of_ports.ensures.are.0 c.if-not-are_of_ports.false) in
+    let kept = fresh_kept c.starts_with_none.ensures (is_cleared c.args.plan) t c.in_ok-machine.machine made.formed made.accepted made.fresh.0 made.fresh.1 made.fresh.2 in
+    (kept_lent c.arrivals_change_nothing_earlier.ensures.admission c.stamps_keep_their_order.ensures.instants c.all_start_before_the_last_instant.ensures c.in_ok-machine.machine c.lend.new.self t texts kept (ap (λ (s : State). s.run.table) made.fresh.0) ports
+    c.lend.ensures.same c.in_ok-lend.ensures.ok.0 c.in_ok-lend.ensures.ok.1).of
+
+pub end-requires-clause-handed : goal.end-requires-clause-handed
+end-requires-clause-handed g c =
+    let t = table_in c.args.plan in
+    let texts = texts_of c.args.captures.now in
+    let made = c.in_ok-machine.ensures in
+    let ports = subst (λ (u : Content). AreOfPorts u texts) c.table.ensures.table (c.are_of_ports.ensures.are.0 c.if-not-are_of_ports.false) in
+    let kept = fresh_kept c.starts_with_none.ensures (is_cleared c.args.plan) t c.in_ok-machine.machine made.formed made.accepted made.fresh.0 made.fresh.1 made.fresh.2 in
+    (kept_lent c.arrivals_change_nothing_earlier.ensures.admission c.stamps_keep_their_order.ensures.instants c.all_start_before_the_last_instant.ensures c.in_ok-machine.machine c.lend.new.self t texts kept (ap (λ (s : State). s.run.table) made.fresh.0) ports
+    c.lend.ensures.same c.in_ok-lend.ensures.ok.0 c.in_ok-lend.ensures.ok.1).handed
+
+pub end-requires-clause-ready : goal.end-requires-clause-ready
+end-requires-clause-ready g c = (true, c.in_ok-lend.ensures.ok.0)
+
+pub returns-in_err-room-clause-err : goal.returns-in_err-room-clause-err
+returns-in_err-room-clause-err g c =
+    let t = table_in c.args.plan in
+    let texts = texts_of c.args.captures.now in
+    let fault = c.in_err-room.field-0.0 in
+    let ports = subst (λ (u : Content). AreOfPorts u texts) c.table.ensures.table (c.are_of_ports.ensures.are.0 c.if-not-are_of_ports.false) in
+    of_error (λ e. IsRefusal t texts e) c.from_residual-in_err-room.result fault c.from_residual-in_err-room.ensures
+    (is_refusal t texts fault ports (lent_fault c.lend.new.self texts fault c.in_ok-lend.ensures.ok.1 c.in_ok-lend.ensures.ok.0 c.in_err-room.ensures.err))
 
 pub returns-clause-ok : goal.returns-clause-ok
 returns-clause-ok g c =
-    let ports = subst (λ (t : Content). AreOfPorts t (texts_of c.args.captures.now)) c.table.ensures.table (c.are_of_ports.ensures.are.0 c.if-not-are_of_ports.false) in
-    let formed = subst IsWellFormed c.table.ensures.table c.are_of_ports.ensures.well_formed in
-    outcome_is _ _ _ _ _ _ formed ports c.in_ok-arrivals.ensures.ok c.in_ok-done.ensures.done c.in_ok-done.ensures.counts c.in_ok-captures.ensures
+    let t = table_in c.args.plan in
+    let texts = texts_of c.args.captures.now in
+    let made = c.in_ok-machine.ensures in
+    let ports = subst (λ (u : Content). AreOfPorts u texts) c.table.ensures.table (c.are_of_ports.ensures.are.0 c.if-not-are_of_ports.false) in
+    let stay = c.arrivals_change_nothing_earlier.ensures.admission in
+    let reaches = c.stamps_keep_their_order.ensures.instants in
+    let ends = c.all_start_before_the_last_instant.ensures in
+    let kept = fresh_kept c.starts_with_none.ensures (is_cleared c.args.plan) t c.in_ok-machine.machine made.formed made.accepted made.fresh.0 made.fresh.1 made.fresh.2 in
+    let lent = kept_lent stay reaches ends c.in_ok-machine.machine c.lend.new.self t texts kept (ap (λ (s : State). s.run.table) made.fresh.0) ports c.lend.ensures.same c.in_ok-lend.ensures.ok.0 c.in_ok-lend.ensures.ok.1 in
+    (lent_outcome stay reaches ends c.taken_records_are_the_first.ensures.ends c.end_counts_the_run.ensures c.accepted_runs_isolate.ensures c.lend.new.self c.end.new.self (is_cleared c.args.plan) t texts c.into_outcome.result
+    (c.lend.ensures.same.table ∙ ap (λ (s : State). s.run.table) made.fresh.0) (c.lend.ensures.same.accepted ∙ ap (λ (s : State). s.accepted) made.fresh.0) lent c.in_ok-lend.ensures.ok.1 c.end.ensures.same c.end.ensures.half c.in_ok-room.ensures.ok.1 c.in_ok-room.ensures.ok.0
+    c.into_outcome.ensures.captures c.into_outcome.ensures.counts).0
 
 pub returns-clause-isolated : goal.returns-clause-isolated
-returns-clause-isolated g c = λ cleared.
-    let ports = subst (λ (t : Content). AreOfPorts t (texts_of c.args.captures.now)) c.table.ensures.table (c.are_of_ports.ensures.are.0 c.if-not-are_of_ports.false) in
-    let formed = subst IsWellFormed c.table.ensures.table c.are_of_ports.ensures.well_formed in
-    c.accepted_runs_isolate.ensures _ _ _ formed (c.table.ensures.accepted cleared)
-    (outcome_is _ _ _ _ _ _ formed ports c.in_ok-arrivals.ensures.ok c.in_ok-done.ensures.done c.in_ok-done.ensures.counts c.in_ok-captures.ensures)
+returns-clause-isolated g c =
+    let t = table_in c.args.plan in
+    let texts = texts_of c.args.captures.now in
+    let made = c.in_ok-machine.ensures in
+    let ports = subst (λ (u : Content). AreOfPorts u texts) c.table.ensures.table (c.are_of_ports.ensures.are.0 c.if-not-are_of_ports.false) in
+    let stay = c.arrivals_change_nothing_earlier.ensures.admission in
+    let reaches = c.stamps_keep_their_order.ensures.instants in
+    let ends = c.all_start_before_the_last_instant.ensures in
+    let kept = fresh_kept c.starts_with_none.ensures (is_cleared c.args.plan) t c.in_ok-machine.machine made.formed made.accepted made.fresh.0 made.fresh.1 made.fresh.2 in
+    let lent = kept_lent stay reaches ends c.in_ok-machine.machine c.lend.new.self t texts kept (ap (λ (s : State). s.run.table) made.fresh.0) ports c.lend.ensures.same c.in_ok-lend.ensures.ok.0 c.in_ok-lend.ensures.ok.1 in
+    (lent_outcome stay reaches ends c.taken_records_are_the_first.ensures.ends c.end_counts_the_run.ensures c.accepted_runs_isolate.ensures c.lend.new.self c.end.new.self (is_cleared c.args.plan) t texts c.into_outcome.result
+    (c.lend.ensures.same.table ∙ ap (λ (s : State). s.run.table) made.fresh.0) (c.lend.ensures.same.accepted ∙ ap (λ (s : State). s.accepted) made.fresh.0) lent c.in_ok-lend.ensures.ok.1 c.end.ensures.same c.end.ensures.half c.in_ok-room.ensures.ok.1 c.in_ok-room.ensures.ok.0
+    c.into_outcome.ensures.captures c.into_outcome.ensures.counts).1

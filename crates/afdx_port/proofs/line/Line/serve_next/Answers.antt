@@ -14,7 +14,8 @@ pub unwrap-start-requires : goal.unwrap-start-requires
 unwrap-start-requires g c = some_if c.from_ns.result _ _ c.from_ns.ensures (c.requires.sound.start c.requires.waits)
 
 -- a line without its first item is sound
-sound_after : {Z : Type 0} (line after : Line Z) (x : Item) → after.settings ≡ line.settings → IsQueued after.waiting → queue_of line ≡ x ∷ queue_of after → after.ready < stamp_end → IsSound line → IsSound after
+sound_after : {Z : Type 0} (line after : Line Z) (x : Item) → after.settings ≡ line.settings → IsQueued after.waiting → queue_of line ≡ x ∷ queue_of after → after.ready < stamp_end → IsSound line
+    → IsSound after
 sound_after line after x settings queued is start sound = record {
   delay = rw settings sound.delay;
   latency = rw settings sound.latency;
@@ -32,7 +33,8 @@ fate-requires-clause-small g c =
     All-head IsSmall x rest (All-same IsSmall (x ∷ rest) (line_of c.args.self.now.waiting) (sym c.in-Some.ensures.items) c.requires.sound.small)
 
 pub returns-in-Ok-clause-sound : goal.returns-in-Ok-clause-sound
-returns-in-Ok-clause-sound g c = sound_after c.args.self.now _ c.in-Some.item refl c.in-Some.ensures.queued c.in-Some.ensures.items (omega (arith, c.ns-self.ensures.same, c.ns-self.ensures.instant)) c.requires.sound
+returns-in-Ok-clause-sound g c = sound_after c.args.self.now _ c.in-Some.item refl c.in-Some.ensures.queued c.in-Some.ensures.items (omega (arith, c.ns-self.ensures.same, c.ns-self.ensures.instant))
+    c.requires.sound
 
 pub returns-in-Ok-clause-room : goal.returns-in-Ok-clause-room
 returns-in-Ok-clause-room g c = λ room h. record { place = c.in-Some.ensures.place room h.place; sent = omega (arith, h.sent, c.in-Some.ensures.size, c.push_reserved.ensures.len, c.push_reserved.ensures.capacity); aged = omega (arith, h.aged, c.in-Some.ensures.size) }

@@ -1,0 +1,50 @@
+//! Growths that are refused in turn.
+
+use afdx_refusing::Refusing;
+use std::alloc::Global;
+use std::process::Abort;
+use std::test::*;
+
+/// More growths than any calls here take.
+const MOST: u64 = 100_000;
+
+/// Memory that refuses one growth.
+pub(crate) type Memory = Refusing<Global>;
+
+/// Calls that take memory, and the answers that they should give.
+pub(crate) trait Calls {
+    /// Whether they answer so; none for want of memory.
+    fn answer(&self, memory: &Memory) -> Result<Option<bool>, Fail>;
+}
+
+/// Refuses the first growth of these calls, then the second, and so on until none is refused: how many there were. Each time
+/// they want memory exactly where a growth was refused, and answer as they should elsewhere.
+pub(crate) fn growths(rt: &impl Abort, alloc: Global, calls: &impl Calls) -> Result<u64, Fail> {
+    let mut refused = 0u64;
+    for n in 1..MOST {
+        let memory = Refusing::new(alloc, n);
+        let answer = calls.answer(&memory)?;
+        let wanted = if memory.is_spent() { None } else { Some(true) };
+        assert_eq!(rt; answer, wanted, "{n}");
+        if wanted.is_some() {
+            break;
+        }
+        refused = n;
+    }
+    Ok(refused)
+}
+
+/// One more.
+pub(crate) fn count(wants: &mut u64) {
+    *wants = wants.saturating_add(1);
+}
+
+/// What calls answer of which those that wanted memory were made once more: whether all was right in the end, and how often
+/// memory was wanted.
+pub(crate) fn made_again(right: bool, wants: u64) -> Option<bool> {
+    match wants {
+        0 => Some(right),
+        1 if right => None,
+        _ => Some(false),
+    }
+}

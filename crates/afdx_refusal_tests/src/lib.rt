@@ -1,0 +1,19 @@
+//! Tests of each call that takes memory, with each of its growths refused in turn, and of captures that are cut at each byte.
+//!
+//! They stand in a crate of their own, since a crate with tests is proved twice.
+#![tactic(auto)]
+
+#[cfg(test)]
+mod captures;
+#[cfg(test)]
+mod counters;
+#[cfg(test)]
+mod cuts;
+#[cfg(test)]
+mod growths;
+#[cfg(test)]
+mod ports;
+#[cfg(test)]
+mod sessions;
+#[cfg(test)]
+mod tables;

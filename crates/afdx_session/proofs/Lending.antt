@@ -1,0 +1,199 @@
+-- Captures that come whole, one lane after the other.
+use Rattle.std.proofs.Common.{◌≡◌, ℕ, zero, suc, ◌+◌, ◌<◌, ◌≤◌, true, List, [], ◌∷◌, ◌++◌, map, length, get_or, set, slice_get, Some, Vec, inl, inr, refl, ap, sym, ◌∙◌, arith, subst}
+use Rattle.std.proofs.lemmas.List.{length-map}
+use Rattle.afdx_pcap.specs.Entry.{Entry}
+use Rattle.afdx_pcap.specs.Capture.{IsCapture}
+use Rattle.afdx_pcap.specs.Reading.{HasTaken, whole_reading}
+use Rattle.afdx_pcap.specs.Reading as pcap
+use Rattle.afdx_pcap.specs.declared.fault.PcapFault.{PcapFault}
+use Rattle.afdx_table.specs.declared.rows.PortRow.{PortRow}
+use Rattle.afdx_core.specs.Merge.{MergedIsAMerge, MergedIsByStampAndPort}
+use Rattle.afdx_session.specs.declared.lane.Lane.{Lane}
+use Rattle.afdx_session.specs.declared.machine.Machine.{Machine}
+use Rattle.afdx_session.specs.declared.plan.RunFault.{RunFault}
+use Rattle.afdx_session.specs.declared.plan.RunFault.TheVariants as run
+use Rattle.afdx_session.specs.Texts.{Text, texts_of, AreOfPorts}
+use Rattle.afdx_session.specs.Reading.{IsFaultAt, IsFirstFault, IsReadFault}
+use Rattle.afdx_session.specs.Lanes.{IsStill, HasReadAll, Adds}
+use Rattle.afdx_session.specs.Kept.{AreOfTable, IsGoing, AreTouched}
+use Rattle.afdx_session.specs.View.{IsFreshLane, AreFreshLanes, IsLent, AreLent, AreSettledLanes}
+use Rattle.afdx_session.proofs.Firsts.{get-map}
+use Rattle.afdx_session.proofs.Going.{some_same, reads_on}
+use Rattle.afdx_session.proofs.Gone.{at_index}
+use Rattle.afdx_session.proofs.Intakes.{still_of_table}
+
+-- ---- one lane
+
+-- nothing is taken at first
+taken_none : (bytes : List ℕ) (records : List Entry) → length records ≡ 0 → HasTaken (record { bytes = bytes; given = 0 }) records
+taken_none bytes [] count = record { first = tt; count = count }
+taken_none bytes (r ∷ records) count = absurd (omega (arith, count))
+
+pub adds_lent : {Z : Type 0} (old mid new : Lane Z) (text : List ℕ) (more : List Entry) → IsFreshLane old.port old → mid.reader ≡ whole_reading text 0 → mid.last ≡ old.last → mid.waiting ≡ old.waiting → Adds mid new more → Adds old new more
+adds_lent old mid new text more fresh lent last waiting adds = record {
+  queue = adds.queue ∙ ap (λ w. w.items ++ more) waiting;
+  read = λ records was. adds.read records (record {
+    no_fault = ap (λ r. r.fault) lent;
+    taken = subst (λ (r : pcap.Reading). HasTaken (record { bytes = r.bytes; given = r.given }) records) (sym lent) (taken_none text records (was.taken.count ∙ ap (λ r. r.given) fresh.reader));
+    last = last ∙ was.last;
+  });
+}
+
+pub is_lent : {Z : Type 0} (old new : Lane Z) (text : Text) → old.port ≡ text.0 → IsFreshLane old.port old → IsStill old new → new.reader.bytes ≡ text.1 → new.reader.closed ≡ true → HasReadAll new → IsLent text new
+is_lent old new text port fresh still bytes closed read =
+    let sound = subst (pcap.IsSound new.reader.bytes new.reader.given) closed read.sound in
+    record {
+      port = still.port ∙ port;
+      bytes = bytes;
+      closed = closed;
+      sound = (sound.0, subst (λ (xs : List ℕ). IsCapture xs sound.0) bytes sound.1);
+      taken = still.taken ∙ fresh.taken;
+    }
+
+-- ---- one after the other
+
+-- those before a place have theirs, the others have nothing
+abbrev pub LentUpTo : {Z : Type 0} → ℕ → List Text → List (Lane Z) → Type 0
+LentUpTo n [] [] = Unit {0}
+LentUpTo n [] (l ∷ lanes) = ⊥
+LentUpTo n (text ∷ texts) [] = ⊥
+LentUpTo zero (text ∷ texts) (l ∷ lanes) = (l.port ≡ text.0) × IsFreshLane l.port l × LentUpTo zero texts lanes
+LentUpTo (suc n) (text ∷ texts) (l ∷ lanes) = IsLent text l × LentUpTo n texts lanes
+
+first_same : (m n : ℕ) (ms ns : List ℕ) → m ∷ ms ≡ n ∷ ns → (m ≡ n) × (ms ≡ ns)
+first_same m n ms ns e = (head e, tail e) where
+  head : m ∷ ms ≡ n ∷ ns → m ≡ n
+  head e = cc
+
+  tail : m ∷ ms ≡ n ∷ ns → ms ≡ ns
+  tail e = cc
+
+lent_none : {Z : Type 0} (texts : List Text) (ports : List PortRow) (lanes : List (Lane Z)) → map (λ (text : Text). text.0) texts ≡ map (λ (p : PortRow). p.id) ports → AreFreshLanes ports lanes → LentUpTo 0 texts lanes
+lent_none [] [] [] same fresh = tt
+lent_none [] [] (l ∷ lanes) same fresh = absurd fresh
+lent_none [] (p ∷ ports) lanes same fresh = absurd cc
+lent_none (text ∷ texts) [] lanes same fresh = absurd cc
+lent_none (text ∷ texts) (p ∷ ports) [] same fresh = absurd fresh
+lent_none {Z} (text ∷ texts) (p ∷ ports) (l ∷ lanes) same fresh =
+    let both = first_same text.0 p.id (map (λ (other : Text). other.0) texts) (map (λ (q : PortRow). q.id) ports) same in
+    (fresh.0.port_is ∙ sym both.0, subst (λ n. IsFreshLane n l) (sym fresh.0.port_is) fresh.0, lent_none texts ports lanes both.1 fresh.1)
+
+-- the next lane is a fresh one
+pub record IsNextOf {Z : Type 0} (texts : List Text) (n : ℕ) (l : Lane Z) : Type 0 where
+  pub text : Text
+  pub at : slice_get texts n ≡ Some text
+  pub port : l.port ≡ text.0
+  pub fresh : IsFreshLane l.port l
+
+next_lane : {Z : Type 0} (n : ℕ) (texts : List Text) (lanes : List (Lane Z)) (l : Lane Z) → LentUpTo n texts lanes → slice_get lanes n ≡ Some l → IsNextOf texts n l
+next_lane n [] [] l lent at = absurd cc
+next_lane n [] (m ∷ lanes) l lent at = absurd lent
+next_lane n (text ∷ texts) [] l lent at = absurd lent
+next_lane {Z = Z} zero (text ∷ texts) (m ∷ lanes) l lent at = subst (λ (x : Lane Z). IsNextOf (text ∷ texts) 0 x) (some_same m l at) (record { text = text; at = refl; port = lent.0; fresh = lent.1 })
+next_lane (suc n) (text ∷ texts) (m ∷ lanes) l lent at = let next = next_lane n texts lanes l lent.1 at in record { text = next.text; at = next.at; port = next.port; fresh = next.fresh }
+
+lent_suc : {Z : Type 0} (n : ℕ) (texts : List Text) (lanes : List (Lane Z)) (text : Text) (new : Lane Z) → LentUpTo n texts lanes → slice_get texts n ≡ Some text → IsLent text new → LentUpTo (suc n) texts (set lanes n new)
+lent_suc n [] [] text new lent at is = absurd cc
+lent_suc n [] (m ∷ lanes) text new lent at is = absurd lent
+lent_suc n (other ∷ texts) [] text new lent at is = absurd lent
+lent_suc {Z} zero (other ∷ texts) (m ∷ lanes) text new lent at is = (subst (λ (t : Text). IsLent t new) (sym (some_same other text at)) is, lent.2)
+lent_suc (suc n) (other ∷ texts) (m ∷ lanes) text new lent at is = (lent.0, lent_suc n texts lanes text new lent.1 at is)
+
+plus_one : (n : ℕ) → suc n ≡ n + 1
+plus_one n = omega arith
+
+lent_all : {Z : Type 0} (n : ℕ) (texts : List Text) (lanes : List (Lane Z)) → length lanes ≤ n → LentUpTo n texts lanes → AreLent texts lanes
+lent_all n [] [] le lent = tt
+lent_all n [] (l ∷ lanes) le lent = absurd lent
+lent_all n (text ∷ texts) [] le lent = absurd lent
+lent_all zero (text ∷ texts) (l ∷ lanes) le lent = absurd (omega (arith, le))
+lent_all (suc n) (text ∷ texts) (l ∷ lanes) le lent = (lent.0, lent_all n texts lanes (omega (arith, le)) lent.1)
+
+first_lent_fault : {Z : Type 0} (n : ℕ) (texts : List Text) (lanes : List (Lane Z)) (text : Text) (port : ℕ) (why : PcapFault) → LentUpTo n texts lanes → slice_get texts n ≡ Some text → text.0 ≡ port → pcap.IsWrong text.1 true why → IsFirstFault texts port why
+first_lent_fault n [] [] text port why lent at is fault = absurd cc
+first_lent_fault n [] (m ∷ lanes) text port why lent at is fault = absurd lent
+first_lent_fault n (other ∷ texts) [] text port why lent at is fault = absurd lent
+first_lent_fault {Z} zero (other ∷ texts) (m ∷ lanes) text port why lent at is fault = subst (λ (t : Text). IsFirstFault (t ∷ texts) port why) (sym (some_same other text at)) (inl (is, fault))
+first_lent_fault (suc n) (other ∷ texts) (m ∷ lanes) text port why lent at is fault = inr (lent.0.sound, first_lent_fault n texts lanes text port why lent.1 at is fault)
+
+-- ---- the machine
+
+ports_stay : {Z : Type 0} (lanes : List (Lane Z)) (k : ℕ) (old new : Lane Z) → slice_get lanes k ≡ Some old → new.port ≡ old.port → map (λ (l : Lane Z). l.port) (set lanes k new) ≡ map (λ (l : Lane Z). l.port) lanes
+ports_stay [] k old new at port = absurd cc
+ports_stay {Z = Z} (l ∷ lanes) zero old new at port = ap (λ n. n ∷ map (λ (x : Lane Z). x.port) lanes) (port ∙ ap (λ (x : Lane Z). x.port) (sym (some_same l old at)))
+ports_stay {Z = Z} (l ∷ lanes) (suc k) old new at port = ap (λ ns. l.port ∷ ns) (ports_stay lanes k old new at port)
+
+pub record Lends {Z : Type 0} (start : Machine Z) (texts : List Text) (now : List (Lane Z)) (n : ℕ) : Type 0 where
+  pub lent : LentUpTo n texts now
+  pub of : AreOfTable start.switch.run.table now
+  pub going : IsGoing start.switch.run.table now start.switch start.counts
+
+pub lends_none : {Z : Type 0} (start : Machine Z) (texts : List Text) → map (λ (text : Text). text.0) texts ≡ map (λ (p : PortRow). p.id) start.switch.run.table.ports → AreFreshLanes start.switch.run.table.ports start.lanes.items → AreOfTable start.switch.run.table start.lanes.items
+    → IsGoing start.switch.run.table start.lanes.items start.switch start.counts → Lends start texts start.lanes.items 0
+lends_none start texts ports fresh of going = record { lent = lent_none texts start.switch.run.table.ports start.lanes.items ports fresh; of = of; going = going }
+
+pub lends_next : {Z : Type 0} (start : Machine Z) (texts : List Text) (now : List (Lane Z)) (n : ℕ) (l : Lane Z) → Lends start texts now n → slice_get now n ≡ Some l → IsNextOf texts n l
+lends_next start texts now n l lends at = next_lane n texts now l lends.lent at
+
+pub lends_one : {Z : Type 0} → MergedIsAMerge → MergedIsByStampAndPort → (start : Machine Z) (texts : List Text) (now : List (Lane Z)) (n : ℕ) (old new : Lane Z) (text : Text) (more : List Entry) → Lends start texts now n → slice_get now n ≡ Some old → slice_get texts n ≡ Some text
+    → IsStill old new → new.reader.bytes ≡ text.1 → new.reader.closed ≡ true → Adds old new more → HasReadAll new → Lends start texts (set now n new) (n + 1)
+lends_one {Z = Z} merge sorted start texts now n old new text more lends at text_at still bytes closed adds read =
+    let next = next_lane n texts now old lends.lent at in
+    let same = some_same next.text text (sym next.at ∙ text_at) in
+    let is = is_lent old new text (next.port ∙ ap (λ (t : Text). t.0) same) next.fresh still bytes closed read in
+    record {
+      lent = subst (λ k. LentUpTo k texts (set now n new)) (plus_one n) (lent_suc n texts now text new lends.lent text_at is);
+      of = still_of_table start.switch.run.table now (set now n new) (ports_stay now n old new at still.port) lends.of;
+      going = reads_on merge sorted start.switch.run.table now start.switch start.counts n old new more lends.of at (ap (λ r. r.closed) next.fresh.reader) still.port (ap (λ o. o.items) still.out) still.taken adds read lends.going;
+    }
+
+pub lends_fault : {Z : Type 0} (start : Machine Z) (texts : List Text) (now : List (Lane Z)) (n : ℕ) (old : Lane Z) (text : Text) (fault : RunFault) → Lends start texts now n → slice_get now n ≡ Some old → slice_get texts n ≡ Some text → IsFaultAt text.1 old.port fault → IsReadFault texts fault
+lends_fault start texts now n old text run.Memory lends at text_at is = tt
+lends_fault start texts now n old text (run.Capture port why) lends at text_at is =
+    let next = next_lane n texts now old lends.lent at in
+    first_lent_fault n texts now text port why lends.lent text_at (ap (λ (t : Text). t.0) (sym (some_same next.text text (sym next.at ∙ text_at))) ∙ sym next.port ∙ sym is.0) is.1
+lends_fault start texts now n old text run.WrongPorts lends at text_at is = is
+lends_fault start texts now n old text run.Closed lends at text_at is = is
+lends_fault start texts now n old text run.Failed lends at text_at is = is
+
+pub lends_all : {Z : Type 0} (start : Machine Z) (texts : List Text) (now : List (Lane Z)) (n : ℕ) → length now ≤ n → Lends start texts now n → AreLent texts now
+lends_all start texts now n le lends = lent_all n texts now le lends.lent
+
+-- there are as many captures as lanes
+pub as_many : {Z Y : Type 0} (f : Y → Text) (lanes : List (Lane Z)) (ports : List PortRow) (captures : List Y) → map (λ (l : Lane Z). l.port) lanes ≡ map (λ (p : PortRow). p.id) ports
+    → map (λ (text : Text). text.0) (map f captures) ≡ map (λ (p : PortRow). p.id) ports → length captures ≡ length lanes
+as_many f lanes ports captures of are =
+    let a = sym (length-map lanes (λ l. l.port)) ∙ ap (λ (ns : List ℕ). length ns) of ∙ length-map ports (λ p. p.id) in
+    let b = sym (length-map captures f) ∙ sym (length-map (map f captures) (λ text. text.0)) ∙ ap (λ (ns : List ℕ). length ns) are ∙ length-map ports (λ p. p.id) in
+    omega (arith, a, b)
+
+-- the capture at the place of a lane
+pub text_at : {Z : Type 0} (start : Machine Z) (captures : List (ℕ × Vec ℕ Z)) (n : ℕ) (d : ℕ × Vec ℕ Z) → AreOfTable start.switch.run.table start.lanes.items → AreOfPorts start.switch.run.table (texts_of captures) → n < length start.lanes.items
+    → slice_get (texts_of captures) n ≡ Some ((get_or captures n d).0, (get_or captures n d).1.items)
+text_at {Z} start captures n d of ports lt = get-map text captures n (get_or captures n d) (at_index captures n d (omega (arith, lt, many))) where
+  text : ℕ × Vec ℕ Z → Text
+  text p = (p.0, p.1.items)
+
+  many : length captures ≡ length start.lanes.items
+  many = as_many text start.lanes.items start.switch.run.table.ports captures of.ports ports
+
+-- what goes on and is settled is still lent
+pub lent_settled : {Z : Type 0} (texts : List Text) (a b c : List (Lane Z)) → AreLent texts a → AreTouched a b → AreSettledLanes b c → AreLent texts c
+lent_settled [] [] [] [] lent touched settled = tt
+lent_settled [] [] [] (n ∷ c) lent touched settled = absurd settled
+lent_settled [] [] (m ∷ b) c lent touched settled = absurd touched
+lent_settled [] (l ∷ a) b c lent touched settled = absurd lent
+lent_settled (text ∷ texts) [] b c lent touched settled = absurd lent
+lent_settled (text ∷ texts) (l ∷ a) [] c lent touched settled = absurd touched
+lent_settled (text ∷ texts) (l ∷ a) (m ∷ b) [] lent touched settled = absurd settled
+lent_settled (text ∷ texts) (l ∷ a) (m ∷ b) (n ∷ c) lent touched settled =
+    let reader = settled.0.reader ∙ touched.0.reader in (
+      record {
+        port = settled.0.port ∙ touched.0.port ∙ lent.0.port;
+        bytes = ap (λ r. r.bytes) reader ∙ lent.0.bytes;
+        closed = ap (λ r. r.closed) reader ∙ lent.0.closed;
+        sound = lent.0.sound;
+        taken = settled.0.taken ∙ touched.0.taken ∙ lent.0.taken;
+      },
+      lent_settled texts a b c lent.1 touched.1 settled.1,
+    )

@@ -1,0 +1,54 @@
+use Rattle.std.proofs.Common.{rules, arith, ◌<◌, ◌≤◌, length, length-set, slice_index_or, refl, sym, subst, ◌∙◌, ap, Some}
+use Rattle.afdx_session.specs.Texts.{texts_of}
+use Rattle.afdx_session.specs.Reading.{IsFaultAt}
+use Rattle.afdx_session.proofs.Gone.{at_index}
+use Rattle.afdx_session.proofs.Lending.{lends_none, lends_next, text_at, lends_fault, lends_one, lends_all}
+use Rattle.afdx_session.proofs.machine.Machine.read_all.Goals as goal
+
+pub loop-place-init : goal.loop-place-init
+loop-place-init g c = record { lends = lends_none c.args.self.now (texts_of c.args.captures.now) c.requires.ports c.requires.fresh c.requires.of c.requires.going; switch = refl; counts = refl; long = refl }
+
+pub read_whole-requires : goal.read_whole-requires
+read_whole-requires g c =
+    let items = c.loop-place.self.lanes.items in
+    let lt : c.loop-place.place < length items = let test = c.loop-place-test.true in let end = c.len-place-end.ensures in let long = c.loop-place.invariant.long in omega (arith, test, end, long) in
+    let at = at_index items c.loop-place.place c.index_mut.result.now lt ∙ ap Some (sym c.index_mut.ensures.value) in
+    record { fresh = (lends_next c.args.self.now (texts_of c.args.captures.now) items c.loop-place.place c.index_mut.result.now c.loop-place.invariant.lends at).fresh }
+
+pub returns-in_err-read_whole-clause-err : goal.returns-in_err-read_whole-clause-err
+returns-in_err-read_whole-clause-err g c =
+    let items = c.loop-place.self.lanes.items in
+    let old = c.index_mut.result.now in
+    let pair = slice_index_or c.args.captures.now c.loop-place.place c.index-captures-place.result in
+    let fault = c.in_err-read_whole.field-0.0 in
+    let lt : c.loop-place.place < length items = let test = c.loop-place-test.true in let end = c.len-place-end.ensures in let long = c.loop-place.invariant.long in omega (arith, test, end, long) in
+    let at = at_index items c.loop-place.place old lt ∙ ap Some (sym c.index_mut.ensures.value) in
+    let first : c.loop-place.place < length c.args.self.now.lanes.items = let long = c.loop-place.invariant.long in omega (arith, lt, long) in
+    let here = text_at c.args.self.now c.args.captures.now c.loop-place.place c.index-captures-place.result c.requires.of c.requires.ports first in
+    let why = lends_fault c.args.self.now (texts_of c.args.captures.now) items c.loop-place.place old (pair.0, pair.1.items) fault c.loop-place.invariant.lends at here (subst (λ xs. IsFaultAt xs old.port fault) c.deref.ensures.value c.in_err-read_whole.ensures.err) in
+    search rules
+
+pub loop-place-preserved : goal.loop-place-preserved
+loop-place-preserved g c =
+    let items = c.loop-place.self.lanes.items in
+    let old = c.index_mut.result.now in
+    let pair = slice_index_or c.args.captures.now c.loop-place.place c.index-captures-place.result in
+    let lt : c.loop-place.place < length items = let test = c.loop-place-test.true in let end = c.len-place-end.ensures in let long = c.loop-place.invariant.long in omega (arith, test, end, long) in
+    let at = at_index items c.loop-place.place old lt ∙ ap Some (sym c.index_mut.ensures.value) in
+    let first : c.loop-place.place < length c.args.self.now.lanes.items = let long = c.loop-place.invariant.long in omega (arith, lt, long) in
+    let here = text_at c.args.self.now c.args.captures.now c.loop-place.place c.index-captures-place.result c.requires.of c.requires.ports first in
+    let read = c.in_ok-read_whole.ensures in
+    record {
+      lends = lends_one c.merged_is_a_merge.ensures c.merged_is_by_stamp_and_port.ensures c.args.self.now (texts_of c.args.captures.now) items c.loop-place.place old c.read_whole.new.self (pair.0, pair.1.items) read.ok.0 c.loop-place.invariant.lends at here
+          read.still (read.bytes ∙ c.deref.ensures.value) read.ended read.ok.1 read.ok.2;
+      switch = c.loop-place.invariant.switch;
+      counts = c.loop-place.invariant.counts;
+      long = length-set items c.loop-place.place c.read_whole.new.self ∙ c.loop-place.invariant.long;
+    }
+
+pub returns-clause-ok : goal.returns-clause-ok
+returns-clause-ok g c =
+    let items = c.loop-place.self.lanes.items in
+    let lends = c.loop-place.invariant.lends in
+    let le : length items ≤ c.loop-place.place = let test = c.loop-place-test.false in let end = c.len-place-end.ensures in let long = c.loop-place.invariant.long in omega (arith, test, end, long) in
+    rw (c.loop-place.invariant.switch, c.loop-place.invariant.counts) (lends.going, lends.of, lends_all c.args.self.now (texts_of c.args.captures.now) items c.loop-place.place le lends)

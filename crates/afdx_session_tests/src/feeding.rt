@@ -1,0 +1,231 @@
+//! Captures that are fed to a session piece by piece, while what goes out is taken.
+
+use crate::traffic::{checked, outcome_of, unchecked};
+use afdx_session::{Outcome, Plan, RunFault, Session};
+use std::alloc::{AllocError, Global};
+use std::test::Fail;
+
+/// A table, and whether it is checked.
+#[derive(Clone, Copy)]
+pub(crate) struct Setting<'a> {
+    pub(crate) table: &'a str,
+    pub(crate) checked: bool,
+}
+
+fn plan(alloc: Global, setting: Setting<'_>) -> Result<Plan, Fail> {
+    if setting.checked {
+        checked(alloc, setting.table)
+    } else {
+        unchecked(alloc, setting.table)
+    }
+}
+
+/// A session over the table.
+pub(crate) fn open(alloc: Global, setting: Setting<'_>) -> Result<Session<Global>, Fail> {
+    let session = Session::new(alloc, plan(alloc, setting)?)?;
+    Ok(session)
+}
+
+/// What goes out of each port, by rising number, and the report.
+#[derive(Drop)]
+pub(crate) struct Told {
+    pub(crate) captures: Vec<(u8, Vec<u8>)>,
+    report: String,
+}
+
+fn tell(alloc: Global, outcome: Outcome<Global>) -> Result<Told, AllocError> {
+    let report = outcome.counts.report(alloc)?;
+    let Outcome { captures, .. } = outcome;
+    Ok(Told { captures, report })
+}
+
+/// What a run over the whole captures of the ports from 1 on tells.
+pub(crate) fn whole(alloc: Global, setting: Setting<'_>, texts: &[&[u8]]) -> Result<Told, Fail> {
+    let outcome = outcome_of(alloc, plan(alloc, setting)?, texts)?;
+    let told = tell(alloc, outcome)?;
+    Ok(told)
+}
+
+/// The next bytes of a port's capture.
+pub(crate) fn feed(session: &mut Session<Global>, port: u8, piece: &[u8]) -> Result<(), RunFault> {
+    session.feed(port, piece)
+}
+
+/// The end of a port's capture.
+pub(crate) fn close(session: &mut Session<Global>, port: u8) -> Result<(), RunFault> {
+    session.close(port)
+}
+
+/// What has gone out of a port.
+pub(crate) fn take(session: &mut Session<Global>, port: u8) -> Vec<u8> {
+    session.take(port)
+}
+
+/// The end of a session.
+pub(crate) fn finish(
+    session: Session<Global>,
+) -> Result<Outcome<Global>, (RunFault, Session<Global>)> {
+    session.finish()
+}
+
+/// What the end of a session tells, where it has an outcome.
+pub(crate) fn rest(alloc: Global, session: Session<Global>) -> Option<Told> {
+    match finish(session) {
+        Ok(outcome) => tell(alloc, outcome).ok(),
+        Err(_) => None,
+    }
+}
+
+/// What is left of a port's capture, and what was taken of its output.
+#[derive(Drop)]
+pub(crate) struct Intake<'a> {
+    port: u8,
+    left: &'a [u8],
+    closed: bool,
+    taken: Vec<u8>,
+}
+
+/// These captures, of the ports from 1 on.
+pub(crate) fn intakes<'a>(
+    alloc: Global,
+    texts: &[&'a [u8]],
+) -> Result<Vec<Intake<'a>>, AllocError> {
+    let mut intakes = Vec::new(alloc);
+    let mut port = 1u8;
+    for text in texts {
+        let left: &'a [u8] = *text;
+        let taken = Vec::new(alloc);
+        intakes.push(Intake {
+            port,
+            left,
+            closed: false,
+            taken,
+        })?;
+        port = port.saturating_add(1);
+    }
+    Ok(intakes)
+}
+
+/// A piece of a port's capture, and its end where it is the last one.
+fn bring(
+    session: &mut Session<Global>,
+    port: u8,
+    piece: &[u8],
+    last: bool,
+) -> Result<(), RunFault> {
+    feed(session, port, piece)?;
+    if last { close(session, port) } else { Ok(()) }
+}
+
+/// The next bytes of a capture come, so many at most; with the last of them it ends.
+fn feed_more(
+    session: &mut Session<Global>,
+    intake: &mut Intake<'_>,
+    size: usize,
+) -> Result<(), RunFault> {
+    if intake.closed {
+        return Ok(());
+    }
+    let (piece, left) = intake.left.split_at(size.min(intake.left.len()));
+    intake.left = left;
+    intake.closed = left.is_empty();
+    bring(session, intake.port, piece, intake.closed)
+}
+
+/// The same of the capture at a place.
+pub(crate) fn feed_at(
+    session: &mut Session<Global>,
+    intakes: &mut [Intake<'_>],
+    place: usize,
+    size: usize,
+) -> Result<(), RunFault> {
+    match intakes.get_mut(place) {
+        Some(intake) => feed_more(session, intake, size),
+        None => Err(RunFault::WrongPorts),
+    }
+}
+
+/// Takes what has gone out of a port.
+fn take_more(session: &mut Session<Global>, intake: &mut Intake<'_>) -> Result<(), AllocError> {
+    let bytes = take(session, intake.port);
+    intake.taken.extend_from_slice(&bytes)
+}
+
+/// The same of the port at a place.
+pub(crate) fn take_at(
+    session: &mut Session<Global>,
+    intakes: &mut [Intake<'_>],
+    place: usize,
+) -> Result<(), AllocError> {
+    match intakes.get_mut(place) {
+        Some(intake) => take_more(session, intake),
+        None => Ok(()),
+    }
+}
+
+/// Takes what has gone out of each port.
+fn take_all(session: &mut Session<Global>, intakes: &mut [Intake<'_>]) -> Result<(), AllocError> {
+    for intake in intakes.iter_mut() {
+        take_more(session, intake)?;
+    }
+    Ok(())
+}
+
+/// A piece for each port at these places, one after the other; after each call all is taken.
+fn round(
+    session: &mut Session<Global>,
+    intakes: &mut [Intake<'_>],
+    places: &[usize],
+    size: usize,
+) -> Result<(), RunFault> {
+    for place in places {
+        feed_at(session, intakes, *place, size)?;
+        take_all(session, intakes)?;
+    }
+    Ok(())
+}
+
+fn are_closed(intakes: &[Intake<'_>]) -> bool {
+    intakes.iter().all(|intake| intake.closed)
+}
+
+/// Rounds until all captures have ended, but no more than 100,000.
+pub(crate) fn feed_all(
+    session: &mut Session<Global>,
+    intakes: &mut [Intake<'_>],
+    places: &[usize],
+    size: usize,
+) -> Result<(), RunFault> {
+    for _ in 0..100_000 {
+        if are_closed(intakes) {
+            break;
+        }
+        round(session, intakes, places, size)?;
+    }
+    Ok(())
+}
+
+/// Whether what was taken of a port and then this rest is this text.
+fn is_joined(taken: &[u8], rest: &[u8], text: &[u8]) -> bool {
+    text.len() == taken.len() + rest.len() && text.starts_with(taken) && text.ends_with(rest)
+}
+
+/// Whether what was taken of each port, and then what the end tells, is what the whole run tells.
+pub(crate) fn agree(intakes: &[Intake<'_>], rest: &Told, whole: &Told) -> bool {
+    if rest.captures.len() != intakes.len() || whole.captures.len() != intakes.len() {
+        return false;
+    }
+    let mut place = 0usize;
+    for intake in intakes {
+        let (left, text) = (rest.captures.get(place), whole.captures.get(place));
+        let same = match (left, text) {
+            (Some(left), Some(text)) => is_joined(&intake.taken, &left.1, &text.1),
+            _ => false,
+        };
+        if !same {
+            return false;
+        }
+        place = place.saturating_add(1);
+    }
+    rest.report.as_str() == whole.report.as_str()
+}
