@@ -1,38 +1,53 @@
 -- A run of a network: each switch's run over captures that agree with the wires.
-use Rattle.std.specs.Prelude.{◌≡◌, ℕ, List, map, slice_get, Contains, Option, Some, None}
+use Rattle.std.specs.Prelude.{◌≡◌, ℕ, List, map, slice_get, Contains, Some, None}
+use Rattle.afdx_pcap.specs.Entry.{Entry}
 use Rattle.afdx_pcap.specs.Text.{capture_text}
-use Rattle.afdx_table.specs.declared.rows.PortRow.{PortRow}
+use Rattle.afdx_pcap.specs.Capture.{IsCapture}
 use Rattle.afdx_table.specs.Content.{Content}
 use Rattle.afdx_session.specs.Texts.{Text}
-use Rattle.afdx_session.specs.Outcome.{Results}
+use Rattle.afdx_session.specs.Outcome.{Results, IsOutcome}
 use Rattle.afdx_session.specs.Headline.{IsIsolated}
 use Rattle.afdx_network.specs.File.{Wire, End}
-use Rattle.afdx_network.specs.Net.{Network, port_at, wire_to}
+use Rattle.afdx_network.specs.Net.{Network, wire_to}
 use Rattle.afdx_network.specs.Way.{delayed}
 
--- a switch's run: its table, the texts that came in, and the headline of what they led to
+-- a switch's run: its table, the texts that came in, what they led to, and the headline of it
 pub record SwitchRun : Type 0 where
   pub table : Content
   pub texts : List Text
   pub results : Results
+  pub outcome : IsOutcome table texts results
   pub isolated : IsIsolated table texts results
 
--- the text that comes in at the end of a wire is the capture of what left at its start, so much later
-pub record Carries (net : Network) (runs : List SwitchRun) (w : Wire) : Type 0 where
+-- what left at the start of a wire, as the capture there tells it, comes in at the wire's end, so much later
+pub record Brings (runs : List SwitchRun) (came : List (List Text)) (w : Wire) : Type 0 where
   pub here : SwitchRun
-  pub there : SwitchRun
-  pub port : PortRow
+  pub there : List Text
+  pub bytes : List ℕ
+  pub left : List Entry
   pub here_is : slice_get runs w.from.switch ≡ Some here
-  pub there_is : slice_get runs w.to.switch ≡ Some there
-  pub port_is : port_at net w.from ≡ Some port
-  pub text : Contains there.texts (w.to.port, capture_text (map (delayed w.delay) (here.isolated.out port)))
+  pub there_is : slice_get came w.to.switch ≡ Some there
+  pub written : Contains here.results.captures (w.from.port, bytes)
+  pub read : IsCapture bytes left
+  pub comes : Contains there (w.to.port, capture_text (map (delayed w.delay) left))
 
 -- the captures that were given for the ports without a wire, by switch
 abbrev pub Given : Type 0
 Given = List (List Text)
 
+-- at a port without a wire there comes in what was given
+pub record IsGiven (given : Given) (switch : ℕ) (text : Text) : Type 0 where
+  pub texts : List Text
+  pub texts_is : slice_get given switch ≡ Some texts
+  pub has : Contains texts text
+
+-- these texts come in at the switches where they have left these: over wires what left, elsewhere what was given
+pub record IsFedBy (net : Network) (given : Given) (runs : List SwitchRun) (came : List (List Text)) : Type 0 where
+  pub wires : (w : Wire) → Contains net.layout.wires w → Brings runs came w
+  pub others : (e : End) (texts : List Text) (text : Text) → wire_to net e ≡ None → slice_get came e.switch ≡ Some texts
+      → text.0 ≡ e.port → Contains texts text → IsGiven given e.switch text
+
+-- the texts that came in at each switch are those that the runs lead to
 pub record IsNetworkRun (net : Network) (given : Given) (runs : List SwitchRun) : Type 0 where
-  pub tables : map (λ r. r.table) runs ≡ net.tables
-  pub wires : (w : Wire) → Contains net.layout.wires w → Carries net runs w
-  pub others : (e : End) (r : SwitchRun) (texts : List Text) (text : Text) → wire_to net e ≡ None → slice_get runs e.switch ≡ Some r
-      → slice_get given e.switch ≡ Some texts → text.0 ≡ e.port → Contains r.texts text → Contains texts text
+  pub tables : map (λ (run : SwitchRun). run.table) runs ≡ net.tables
+  pub fed : IsFedBy net given runs (map (λ (run : SwitchRun). run.texts) runs)

@@ -1,12 +1,14 @@
 //! Laws over the definitions: functions that do nothing, whose contracts are the laws.
 
+ghost use Rattle.afdx_network.specs.Laws.{RunsAreNodes, AgreementIsWired, NetworkRunsDeliver, RestIsAgreement, WaysAreShort, NoneIsLate};
 ghost use Rattle.afdx_network.specs.Way.{WaysDeliver, OthersChangeNothingOnTheWay};
 
 use afdx_account::laws::passed_by_their_frames;
 use afdx_filter::laws::clean_exactly;
 use afdx_pcap::Record;
+use afdx_pcap::laws::{what_is_written_is_a_capture, written_texts_read_back};
 use afdx_series::laws::{crossing_is_a_hop, delays_add_up, jitter_enough};
-use afdx_session::laws::own_frames_are_the_links_alone;
+use afdx_session::laws::{outputs_are_readable, own_frames_are_the_links_alone};
 use afdx_table::laws::links_are_found;
 use std::alloc::Global;
 
@@ -30,4 +32,52 @@ pub fn others_change_nothing_on_the_way()
     ensures { OthersChangeNothingOnTheWay }
 {
     own_frames_are_the_links_alone();
+}
+
+/// A run of a switch is a node of a way.
+pub fn runs_are_nodes()
+    ensures { RunsAreNodes }
+{}
+
+/// What the checks of a network accept and the wires agree on is all that the theorem of a way asks for.
+pub fn agreement_is_wired()
+    ensures { AgreementIsWired }
+{
+    clean_exactly();
+    links_are_found();
+    written_texts_read_back();
+}
+
+/// In a run of an accepted network each way delivers: what leaves at its end has the bytes of what the first switch's
+/// policing passes of the link's own frames, and no later switch polices any.
+pub fn network_runs_deliver()
+    ensures { NetworkRunsDeliver }
+{
+    agreement_is_wired();
+    ways_deliver();
+}
+
+/// Where what the runs lead to is what came in, they are the network's.
+pub fn rest_is_agreement()
+    ensures { RestIsAgreement }
+{}
+
+/// A way back goes over fewer wires than there are switches.
+pub fn ways_are_short()
+    ensures { WaysAreShort }
+{
+    links_are_found();
+}
+
+/// Where no frame came in the last 64 seconds that a stamp can tell, each capture that a switch puts out can be read
+/// again.
+pub fn none_is_late()
+    ensures { NoneIsLate }
+{
+    clean_exactly();
+    links_are_found();
+    written_texts_read_back();
+    what_is_written_is_a_capture();
+    outputs_are_readable();
+    ways_are_short();
 }

@@ -1,0 +1,57 @@
+-- What holds of each run of an accepted network.
+use Rattle.std.specs.Prelude.{◌≡◌, ℕ, ◌+◌, ◌*◌, ◌<◌, ◌≤◌, List, length, map, All, Contains}
+use Rattle.afdx_units.specs.Time.{second, last_second}
+use Rattle.afdx_pcap.specs.Entry.{Entry}
+use Rattle.afdx_pcap.specs.Capture.{IsCapture}
+use Rattle.afdx_table.specs.WellFormed.{IsWellFormed}
+use Rattle.afdx_session.specs.Texts.{Text}
+use Rattle.afdx_series.specs.Delay.{at_once}
+use Rattle.afdx_network.specs.Net.{Network, Row, Back, rows_of, IsWayBack}
+use Rattle.afdx_network.specs.Rules.{IsAcceptedNetwork}
+use Rattle.afdx_network.specs.Way.{Stage, Step, IsNode, IsWay, AreEnough, IsDelivered}
+use Rattle.afdx_network.specs.Runs.{SwitchRun, Given, IsFedBy, IsNetworkRun}
+use Rattle.afdx_network.specs.Ways.{node_of, IsWayIn}
+
+-- a run of a switch is a node of a way
+abbrev pub RunsAreNodes : Type 0
+RunsAreNodes = (run : SwitchRun) → IsWellFormed run.table → IsNode (node_of run)
+
+-- a run of a network whose tables were accepted
+pub record IsAcceptedRun (net : Network) (given : Given) (runs : List SwitchRun) : Type 0 where
+  pub well_formed : All IsWellFormed net.tables
+  pub accepted : IsAcceptedNetwork net
+  pub run : IsNetworkRun net given runs
+
+-- what the checks accept and the wires agree on is all that the theorem of a way asks for
+abbrev pub AgreementIsWired : Type 0
+AgreementIsWired = (net : Network) (given : Given) (runs : List SwitchRun) → IsAcceptedRun net given runs → (x : Stage) (steps : List Step) → IsWayIn net runs x steps
+    → IsWay x steps × AreEnough x.link at_once x steps
+
+-- so each way of the network delivers
+abbrev pub NetworkRunsDeliver : Type 0
+NetworkRunsDeliver = (net : Network) (given : Given) (runs : List SwitchRun) → IsAcceptedRun net given runs → (x : Stage) (steps : List Step) → IsWayIn net runs x steps
+    → IsDelivered x steps
+
+-- where what comes in next is what came in, the runs are those of the network
+abbrev pub RestIsAgreement : Type 0
+RestIsAgreement = (net : Network) (given : Given) (runs : List SwitchRun) (next : List (List Text)) → map (λ (run : SwitchRun). run.table) runs ≡ net.tables
+    → IsFedBy net given runs next → next ≡ map (λ (run : SwitchRun). run.texts) runs → IsNetworkRun net given runs
+
+-- a way back goes over fewer wires than there are switches
+abbrev pub WaysAreShort : Type 0
+WaysAreShort = (net : Network) (r : Row) (backs : List Back) → All IsWellFormed net.tables → Contains (rows_of net) r → IsWayBack net r backs → length backs < length net.tables
+
+-- no frame that was given came in the last 64 seconds that pcap can tell
+abbrev pub NoneComesLate : Given → Type 0
+NoneComesLate given = (texts : List Text) (text : Text) (records : List Entry) → Contains given texts → Contains texts text → IsCapture text.1 records
+    → All (λ r. r.stamp + 64 * second ≤ last_second) records
+
+-- the limits of a network file
+pub record IsWithinLimits (net : Network) : Type 0 where
+  pub switches : length net.tables ≤ 64
+  pub delays : All (λ w. w.delay ≤ 1000000) net.layout.wires
+
+-- then each capture that a switch puts out can be read again
+abbrev pub NoneIsLate : Type 0
+NoneIsLate = (net : Network) (given : Given) (runs : List SwitchRun) → IsAcceptedRun net given runs → IsWithinLimits net → NoneComesLate given
+    → (run : SwitchRun) (text : Text) → Contains runs run → Contains run.results.captures text → (records : List Entry) × IsCapture text.1 records
