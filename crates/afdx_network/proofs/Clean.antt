@@ -48,12 +48,12 @@ pub record IsOf (constant : List ℕ) (l : Link) (bytes : List ℕ) : Type 0 whe
   pub constant_is : constant_of bytes ≡ constant
   pub address : link_of bytes ≡ l.id
 
-over_bytes : (P : List ℕ → Type 0) (came left : List Entry) → bytes_of left ≡ bytes_of came → AllByRecursion (λ r. P r.bytes) came → AllByRecursion (λ r. P r.bytes) left
+pub over_bytes : (P : List ℕ → Type 0) (came left : List Entry) → bytes_of left ≡ bytes_of came → AllByRecursion (λ r. P r.bytes) came → AllByRecursion (λ r. P r.bytes) left
 over_bytes P came left same all =
     all_unmap P (λ (r : Entry). r.bytes) left (subst (AllByRecursion P) (sym same) (all_map P (λ (r : Entry). r.bytes) came all))
 
 module _ (exact : CleanExactly) (links : LinksAreFound) where
-  clean_of : (t : Content) (l : Link) (r : Entry) → IsWellFormed t → Contains t.links l → says_clean l.id (verdict_of t l.from r) ≡ true → IsOf t.constant l r.bytes
+  pub clean_of : (t : Content) (l : Link) (r : Entry) → IsWellFormed t → Contains t.links l → says_clean l.id (verdict_of t l.from r) ≡ true → IsOf t.constant l r.bytes
   clean_of t l r formed known is =
       let h = (exact t l.from r l.id).0 (says l.id (verdict_of t l.from r) is) in
       let f = h.2 in
@@ -67,7 +67,7 @@ module _ (exact : CleanExactly) (links : LinksAreFound) where
         address = address;
       }
 
-  own_clean : (t : Content) (l : Link) (rs : List Entry) → IsWellFormed t → Contains t.links l
+  pub own_clean : (t : Content) (l : Link) (rs : List Entry) → IsWellFormed t → Contains t.links l
       → AllByRecursion (λ r. IsOf t.constant l r.bytes) (filter (λ r. says_clean l.id (verdict_of t l.from r)) rs)
   own_clean t l [] formed known = tt
   own_clean t l (r ∷ rs) formed known = by (says_clean l.id (verdict_of t l.from r)) refl (own_clean t l rs formed known) where

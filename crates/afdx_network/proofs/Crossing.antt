@@ -16,10 +16,10 @@ use Rattle.afdx_session.specs.Headline.{frame_in, bytes_of, IsInBound}
 use Rattle.afdx_network.specs.Way.{delayed}
 use Rattle.afdx_network.proofs.Lists.{all_map}
 
-heads : {X : Type 0} {x y : X} {xs ys : List X} → x ∷ xs ≡ y ∷ ys → x ≡ y
+pub heads : {X : Type 0} {x y : X} {xs ys : List X} → x ∷ xs ≡ y ∷ ys → x ≡ y
 heads h = cc
 
-tails : {X : Type 0} {x y : X} {xs ys : List X} → x ∷ xs ≡ y ∷ ys → xs ≡ ys
+pub tails : {X : Type 0} {x y : X} {xs ys : List X} → x ∷ xs ≡ y ∷ ys → xs ≡ ys
 tails h = cc
 
 some_same : {X : Type 0} {a b : X} → Some a ≡ Some b → a ≡ b

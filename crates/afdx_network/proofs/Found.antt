@@ -18,8 +18,11 @@ same_number a b e = grind (arith, nat_tests)
 pub equal : (a b : ℕ) → (a == b) ≡ true → a ≡ b
 equal a b e = grind (arith, nat_tests)
 
-above : (a b : ℕ) → a < b → (a == b) ≡ false
+pub above : (a b : ℕ) → a < b → (a == b) ≡ false
 above a b e = grind (arith, nat_tests)
+
+pub below : (a b : ℕ) → b < a → (a == b) ≡ false
+below a b e = grind (arith, nat_tests)
 
 -- ---- at a place
 
@@ -59,13 +62,10 @@ kept_at : {X : Type 0} (p : X → Bool) (xs : List X) (x : X) (k : ℕ) → k < 
 kept_at p [] x k within at is = absurd (omega (arith, within))
 kept_at p (y ∷ ys) x zero within at is =
     subst (λ b. Contains (cond b (y ∷ filter p ys) (filter p ys)) x) (sym (ap p at ∙ is)) (contains_head (filter p ys) x y at)
-kept_at p (y ∷ ys) x (suc k) within at is = by (p y) where
-  rest : Contains (filter p ys) x
-  rest = kept_at p ys x k (omega (arith, within)) at is
-
-  by : (b : Bool) → Contains (cond b (y ∷ filter p ys) (filter p ys)) x
-  by true = contains_tail (filter p ys) x y rest
-  by false = rest
+kept_at p (y ∷ ys) x (suc k) within at is = by (kept_at p ys x k (omega (arith, within)) at is) (p y) where
+  by : Contains (filter p ys) x → (b : Bool) → Contains (cond b (y ∷ filter p ys) (filter p ys)) x
+  by rest true = contains_tail (filter p ys) x y rest
+  by rest false = rest
 
 pub contains_filter : {X : Type 0} (p : X → Bool) (xs : List X) (x : X) → Contains xs x → p x ≡ true → Contains (filter p xs) x
 contains_filter p xs x among is = kept_at p xs x among.0 among.1 among.2 is
@@ -80,7 +80,7 @@ contains_map f xs x among = mapped_at f xs x among.0 among.1 among.2
 
 -- an element of a mapped list is made of one
 pub map_contains : {X Y : Type 0} (f : X → Y) (xs : List X) (y : Y) → Contains (map f xs) y → (x : X) × Contains xs x × (f x ≡ y)
-map_contains f xs y among = of_all (λ z. (x : X) × Contains xs x × (f x ≡ z)) (map f xs) y (each xs (λ x has. has)) among where
+map_contains {X = X} f xs y among = of_all (λ z. (x : X) × Contains xs x × (f x ≡ z)) (map f xs) y (each xs (λ x has. has)) among where
   each : (ys : List X) → ((x : X) → Contains ys x → Contains xs x) → AllByRecursion (λ z. (x : X) × Contains xs x × (f x ≡ z)) (map f ys)
   each [] within = tt
   each (x ∷ ys) within = ((x, within x (contains_head ys x x refl), refl), each ys (λ z has. within z (contains_tail ys z x has)))
@@ -88,10 +88,10 @@ map_contains f xs y among = of_all (λ z. (x : X) × Contains xs x × (f x ≡ z
 -- what is found passes the test, and is there
 pub found_passes : {X : Type 0} (p : X → Bool) (xs : List X) (x : X) → find p xs ≡ Some x → (p x ≡ true) × Contains xs x
 found_passes p [] x is = absurd cc
-found_passes p (y ∷ ys) x is = by (p y) refl is where
-  by : (b : Bool) → p y ≡ b → cond b (Some y) (find p ys) ≡ Some x → (p x ≡ true) × Contains (y ∷ ys) x
-  by true passes is = (subst (λ z. p z ≡ true) (some_same is) passes, contains_head ys x y (some_same is))
-  by false fails is = let rest = found_passes p ys x is in (rest.0, contains_tail ys x y rest.1)
+found_passes p (y ∷ ys) x is = by (found_passes p ys x) (p y) refl is where
+  by : (find p ys ≡ Some x → (p x ≡ true) × Contains ys x) → (b : Bool) → p y ≡ b → cond b (Some y) (find p ys) ≡ Some x → (p x ≡ true) × Contains (y ∷ ys) x
+  by rest true passes is = (subst (λ z. p z ≡ true) (some_same is) passes, contains_head ys x y (some_same is))
+  by rest false fails is = let there = rest is in (there.0, contains_tail ys x y there.1)
 
 -- ---- ports of a table
 

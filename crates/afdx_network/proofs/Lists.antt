@@ -57,3 +57,15 @@ zip_weaken R S [] [] h zip = tt
 zip_weaken R S [] (y ∷ ys) h zip = absurd zip
 zip_weaken R S (x ∷ xs) [] h zip = absurd zip
 zip_weaken R S (x ∷ xs) (y ∷ ys) h zip = (h x y zip.0, zip_weaken R S xs ys h zip.1)
+
+-- what a filter keeps is a part of what was there
+pub all_kept : {X : Type 0} (P : X → Type 0) (p : X → Bool) (xs : List X) → AllByRecursion P xs → AllByRecursion P (filter p xs)
+all_kept P p [] all = tt
+all_kept P p (x ∷ xs) all = by (all_kept P p xs all.1) (p x) where
+  by : AllByRecursion P (filter p xs) → (b : Bool) → AllByRecursion P (cond b (x ∷ filter p xs) (filter p xs))
+  by rest true = (all.0, rest)
+  by rest false = rest
+
+pub all_append : {X : Type 0} (P : X → Type 0) (xs ys : List X) → AllByRecursion P xs → AllByRecursion P ys → AllByRecursion P (xs ++ ys)
+all_append P [] ys one two = two
+all_append P (x ∷ xs) ys one two = (one.0, all_append P xs ys one.1 two)

@@ -17,10 +17,13 @@ both : (a b : Bool) → (a && b) ≡ true → (a ≡ true) × (b ≡ true)
 both true b is = (refl, is)
 both false b is = absurd cc
 
+abbrev end_of : ℕ → ℕ → End
+end_of switch port = record { switch = switch; port = port }
+
 pub same_end : (e f : End) → is_end e f ≡ true → e ≡ f
 same_end e f is =
     let parts = both (e.switch == f.switch) (e.port == f.port) is in
-    ap (λ (n : ℕ). record { switch = n; port = e.port }) (equal e.switch f.switch parts.0) ∙ ap (λ (n : ℕ). record { switch = f.switch; port = n }) (equal e.port f.port parts.1)
+    ap (λ (n : ℕ). end_of n e.port) (equal e.switch f.switch parts.0) ∙ ap (end_of f.switch) (equal e.port f.port parts.1)
 
 pub is_itself : (e : End) → is_end e e ≡ true
 is_itself e = ap (λ b. b && (e.port == e.port)) (same_number e.switch e.switch refl) ∙ same_number e.port e.port refl
@@ -31,17 +34,19 @@ wire_goes_there net e w is = let h = found_passes (λ (v : Wire). is_end v.to e)
 
 -- ---- rows
 
-abbrev row_in : ℕ → Link → Row
-row_in n l = record { switch = n; link = l }
+abbrev pub row_in : ℕ → Link → Row
+row_in n = λ l. record { switch = n; link = l }
 
-abbrev rows_from : ℕ → List Content → List Row
-rows_from n tables = flat_map (λ at. map (row_in at.0) at.1.links) (enumerate_from n tables)
+abbrev pub rows_from : ℕ → List Content → List Row
+rows_from n tables = flat_map (λ at. map (λ l. record { switch = at.0; link = l }) at.1.links) (enumerate_from n tables)
 
 has_from : (n k : ℕ) (tables : List Content) (t : Content) (l : Link) → slice_get tables k ≡ Some t → Contains t.links l → Contains (rows_from n tables) (row_in (n + k) l)
 has_from n k [] t l is among = absurd cc
 has_from n zero (u ∷ tables) t l is among =
-    Contains-append_left (map (row_in n) u.links) (rows_from (n + 1) tables) (row_in n l)
-    (contains_map (row_in n) u.links l (subst (λ (c : Content). Contains c.links l) (sym (some_same is)) among))
+    let place : n ≡ n + 0 = omega arith in
+    subst (λ (m : ℕ). Contains (rows_from n (u ∷ tables)) (row_in m l)) place
+    (Contains-append_left (map (row_in n) u.links) (rows_from (n + 1) tables) (row_in n l)
+    (contains_map (row_in n) u.links l (subst (λ (c : Content). Contains c.links l) (sym (some_same is)) among)))
 has_from n (suc k) (u ∷ tables) t l is among =
     let further = has_from (n + 1) k tables t l is among in
     let place : n + 1 + k ≡ n + suc k = omega arith in
@@ -49,7 +54,9 @@ has_from n (suc k) (u ∷ tables) t l is among =
     (subst (λ (m : ℕ). Contains (rows_from (n + 1) tables) (row_in m l)) place further)
 
 pub rows_have : (net : Network) (r : Row) (t : Content) → slice_get net.tables r.switch ≡ Some t → Contains t.links r.link → Contains (rows_of net) r
-rows_have net r t is among = has_from 0 r.switch net.tables t r.link is among
+rows_have net r t is among =
+    let place : 0 + r.switch ≡ r.switch = omega arith in
+    subst (λ (n : ℕ). Contains (rows_of net) (row_in n r.link)) place (has_from 0 r.switch net.tables t r.link is among)
 
 pub rows_on_have : (net : Network) (r : Row) (w : Wire) → Contains (rows_of net) r → w.from.switch ≡ r.switch → leads_to w.from.port r.link ≡ true → Contains (rows_on net w) r
 rows_on_have net r w among at leads =

@@ -1,14 +1,17 @@
 -- What holds of each run of an accepted network.
-use Rattle.std.specs.Prelude.{◌≡◌, ℕ, ◌+◌, ◌*◌, ◌<◌, ◌≤◌, List, length, map, All, Contains}
+use Rattle.std.specs.Prelude.{◌≡◌, ℕ, ◌+◌, ◌*◌, ◌<◌, ◌≤◌, true, List, length, map, slice_get, Some, All, Contains, Ok}
 use Rattle.afdx_units.specs.Time.{second, last_second}
 use Rattle.afdx_pcap.specs.Entry.{Entry}
 use Rattle.afdx_pcap.specs.Capture.{IsCapture}
+use Rattle.afdx_table.specs.declared.rows.PortRow.{PortRow}
+use Rattle.afdx_table.specs.Link.{leads_to}
 use Rattle.afdx_table.specs.WellFormed.{IsWellFormed}
 use Rattle.afdx_session.specs.Texts.{Text}
 use Rattle.afdx_series.specs.Delay.{at_once}
+use Rattle.afdx_network.specs.File.{Layout, layout_of}
 use Rattle.afdx_network.specs.Net.{Network, Row, Back, rows_of, IsWayBack}
 use Rattle.afdx_network.specs.Rules.{IsAcceptedNetwork}
-use Rattle.afdx_network.specs.Way.{Stage, Step, IsNode, IsWay, AreEnough, IsDelivered}
+use Rattle.afdx_network.specs.Way.{Stage, Step, IsNode, IsWay, last_of, AreEnough, IsDelivered}
 use Rattle.afdx_network.specs.Runs.{SwitchRun, Given, IsFedBy, IsNetworkRun}
 use Rattle.afdx_network.specs.Ways.{node_of, IsWayIn}
 
@@ -16,11 +19,22 @@ use Rattle.afdx_network.specs.Ways.{node_of, IsWayIn}
 abbrev pub RunsAreNodes : Type 0
 RunsAreNodes = (run : SwitchRun) → IsWellFormed run.table → IsNode (node_of run)
 
--- a run of a network whose tables were accepted
-pub record IsAcceptedRun (net : Network) (given : Given) (runs : List SwitchRun) : Type 0 where
+-- a network that was read: each switch has a table, and the limits of the file are kept
+pub record IsOfFile (net : Network) : Type 0 where
   pub well_formed : All IsWellFormed net.tables
+  pub tables : length net.tables ≡ length net.layout.switches
+  pub few : length net.layout.switches ≤ 64
+  pub delays : All (λ w. w.delay ≤ 1000000) net.layout.wires
+
+-- a run of it where it was accepted
+pub record IsAcceptedRun (net : Network) (given : Given) (runs : List SwitchRun) : Type 0 where
+  pub of_file : IsOfFile net
   pub accepted : IsAcceptedNetwork net
   pub run : IsNetworkRun net given runs
+
+-- the limits are those of every text that is read
+abbrev pub LayoutsAreWithinLimits : Type 0
+LayoutsAreWithinLimits = (bytes : List ℕ) (l : Layout) → layout_of bytes ≡ Ok l → (length l.switches ≤ 64) × All (λ w. w.delay ≤ 1000000) l.wires
 
 -- what the checks accept and the wires agree on is all that the theorem of a way asks for
 abbrev pub AgreementIsWired : Type 0
@@ -31,6 +45,18 @@ AgreementIsWired = (net : Network) (given : Given) (runs : List SwitchRun) → I
 abbrev pub NetworkRunsDeliver : Type 0
 NetworkRunsDeliver = (net : Network) (given : Given) (runs : List SwitchRun) → IsAcceptedRun net given runs → (x : Stage) (steps : List Step) → IsWayIn net runs x steps
     → IsDelivered x steps
+
+-- a way ends at a row, at a port that it leads to
+pub record EndsAt (run : SwitchRun) (r : Row) (p : PortRow) (x : Stage) : Type 0 where
+  pub node : x.node ≡ node_of run
+  pub link : x.link ≡ r.link
+  pub port : x.port ≡ p
+
+-- and each row ends one, at each of its ports
+abbrev pub WaysAreThere : Type 0
+WaysAreThere = (net : Network) (given : Given) (runs : List SwitchRun) → IsAcceptedRun net given runs
+    → (r : Row) (run : SwitchRun) (p : PortRow) → slice_get runs r.switch ≡ Some run → Contains run.table.links r.link → Contains run.table.ports p
+    → leads_to p.id r.link ≡ true → (x : Stage) × (steps : List Step) × IsWayIn net runs x steps × EndsAt run r p (last_of x steps)
 
 -- where what comes in next is what came in, the runs are those of the network
 abbrev pub RestIsAgreement : Type 0
@@ -46,12 +72,7 @@ abbrev pub NoneComesLate : Given → Type 0
 NoneComesLate given = (texts : List Text) (text : Text) (records : List Entry) → Contains given texts → Contains texts text → IsCapture text.1 records
     → All (λ r. r.stamp + 64 * second ≤ last_second) records
 
--- the limits of a network file
-pub record IsWithinLimits (net : Network) : Type 0 where
-  pub switches : length net.tables ≤ 64
-  pub delays : All (λ w. w.delay ≤ 1000000) net.layout.wires
-
--- then each capture that a switch puts out can be read again
+-- then each capture that a switch puts out can be read again: a frame goes over at most 64 switches and cables, each in at most 501 ms
 abbrev pub NoneIsLate : Type 0
-NoneIsLate = (net : Network) (given : Given) (runs : List SwitchRun) → IsAcceptedRun net given runs → IsWithinLimits net → NoneComesLate given
+NoneIsLate = (net : Network) (given : Given) (runs : List SwitchRun) → IsAcceptedRun net given runs → NoneComesLate given
     → (run : SwitchRun) (text : Text) → Contains runs run → Contains run.results.captures text → (records : List Entry) × IsCapture text.1 records

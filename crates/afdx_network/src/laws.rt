@@ -1,12 +1,16 @@
 //! Laws over the definitions: functions that do nothing, whose contracts are the laws.
 
-ghost use Rattle.afdx_network.specs.Laws.{RunsAreNodes, AgreementIsWired, NetworkRunsDeliver, RestIsAgreement, WaysAreShort, NoneIsLate};
+ghost use Rattle.afdx_network.specs.Laws.{RunsAreNodes, AgreementIsWired, NetworkRunsDeliver, WaysAreThere};
+ghost use Rattle.afdx_network.specs.Laws.{RestIsAgreement, WaysAreShort, NoneIsLate};
 ghost use Rattle.afdx_network.specs.Way.{WaysDeliver, OthersChangeNothingOnTheWay};
 
 use afdx_account::laws::passed_by_their_frames;
 use afdx_filter::laws::clean_exactly;
+use afdx_load::laws::accepted_keeps_bounds;
 use afdx_pcap::Record;
-use afdx_pcap::laws::{what_is_written_is_a_capture, written_texts_read_back};
+use afdx_pcap::laws::{
+    each_file_has_one_reading, what_is_written_is_a_capture, written_texts_read_back,
+};
 use afdx_series::laws::{crossing_is_a_hop, delays_add_up, jitter_enough};
 use afdx_session::laws::{outputs_are_readable, own_frames_are_the_links_alone};
 use afdx_table::laws::links_are_found;
@@ -57,6 +61,16 @@ pub fn network_runs_deliver()
     ways_deliver();
 }
 
+/// Each row of a link ends a way, at each port that it leads to.
+pub fn ways_are_there()
+    ensures { WaysAreThere }
+{
+    clean_exactly();
+    links_are_found();
+    written_texts_read_back();
+    accepted_keeps_bounds();
+}
+
 /// Where what the runs lead to is what came in, they are the network's.
 pub fn rest_is_agreement()
     ensures { RestIsAgreement }
@@ -78,6 +92,7 @@ pub fn none_is_late()
     links_are_found();
     written_texts_read_back();
     what_is_written_is_a_capture();
+    each_file_has_one_reading();
     outputs_are_readable();
     ways_are_short();
 }

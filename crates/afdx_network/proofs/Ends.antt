@@ -1,0 +1,135 @@
+-- Each row ends a way, at each port that it leads to.
+use Rattle.std.proofs.Common.{◌≡◌, ℕ, ◌+◌, ◌-◌, ◌*◌, ◌/◌, ◌<◌, ◌≤◌, ◌&&◌, nat_lt, Bool, true, not, cond, List, [], ◌∷◌, length, filter, count_by, slice_get, Option, Some, None, option_and_then, refl, ap, sym, ◌∙◌, arith, subst}
+use Rattle.std.specs.Prelude.{All, Contains}
+use Rattle.std.proofs.lemmas.Bool.{and_from, lt-ltb}
+use Rattle.std.proofs.lemmas.List.Elements.{All-contains}
+use Rattle.std.proofs.lemmas.List.Sums.{length-filter}
+use Rattle.afdx_units.specs.declared.line.Priority.{Priority}
+use Rattle.afdx_units.specs.declared.line.Priority.TheVariants.{High, Low}
+use Rattle.afdx_table.specs.declared.rows.PortRow.{PortRow}
+use Rattle.afdx_table.specs.Link.{Link, leads_to}
+use Rattle.afdx_table.specs.Content.{Content}
+use Rattle.afdx_table.specs.WellFormed.{IsWellFormed}
+use Rattle.afdx_load.specs.Sums.{Sums, parts, is_high_priority, is_high, is_low, routed, sums_of, load_of}
+use Rattle.afdx_load.specs.Bounds.{high_bound, low_bound}
+use Rattle.afdx_load.specs.Accepted.{IsAccepted}
+use Rattle.afdx_load.specs.Laws.{AcceptedKeepsBounds}
+use Rattle.afdx_isolation.specs.Table.{bound_of}
+use Rattle.afdx_network.specs.File.{End}
+use Rattle.afdx_network.specs.Net.{Network, Row, Back, rows_of, ingress, IsWayBack}
+use Rattle.afdx_network.specs.Way.{Stage, Step, last_of}
+use Rattle.afdx_network.specs.Runs.{SwitchRun, Given}
+use Rattle.afdx_network.specs.Ways.{node_of, IsStageAt, IsWayFrom, IsWayIn}
+use Rattle.afdx_network.specs.Laws.{IsAcceptedRun, EndsAt}
+use Rattle.afdx_network.proofs.Found.{some_same, contains_filter}
+use Rattle.afdx_network.proofs.Rows.{wire_goes_there, rows_have}
+use Rattle.afdx_network.proofs.Lengths.{found_row}
+use Rattle.afdx_network.proofs.Agreement.{Ground, stage_by, table_at, formed_at, accepted_at, Behind, behind, first_stage}
+
+-- ---- a port has a bound for each link that leads to it
+
+counted : (q : Link → Bool) (links : List Link) (l : Link) → Contains links l → q l ≡ true → 0 < count_by q links
+counted q links l among is =
+    let place = (contains_filter q links l among is).1 in
+    let same = length-filter q links in
+    omega (arith, place, same)
+
+highs : (latency : ℕ) (t : Content) (p : PortRow) (l : Link) → Contains (routed p.id t.links) l → is_high l ≡ true → 0 < (load_of latency p.speed p.id t.links).highs
+unfolding sums_of
+highs latency t p l among high = counted is_high (routed p.id t.links) l among high
+
+lows : (latency : ℕ) (t : Content) (p : PortRow) (l : Link) → Contains (routed p.id t.links) l → is_low l ≡ true → 0 < (load_of latency p.speed p.id t.links).lows
+unfolding sums_of
+lows latency t p l among low = counted is_low (routed p.id t.links) l among low
+
+record HasBound (t : Content) (p : PortRow) (priority : Priority) : Type 0 where
+  pub bound : ℕ
+  pub is : bound_of (load_of t.latency p.speed p.id t.links) priority ≡ Some bound
+
+has_bound : AcceptedKeepsBounds → (t : Content) (p : PortRow) (l : Link) → IsWellFormed t → IsAccepted t → Contains t.ports p → Contains t.links l → leads_to p.id l ≡ true
+    → HasBound t p l.priority
+has_bound keeps t p l formed accepted among known leads = by l.priority refl where
+  abbrev s : Sums
+  s = load_of t.latency p.speed p.id t.links
+
+  here : Contains (routed p.id t.links) l
+  here = contains_filter (leads_to p.id) t.links l known leads
+
+  by : (priority : Priority) → l.priority ≡ priority → HasBound t p priority
+  by High is =
+      let some = lt-ltb 0 s.highs (highs t.latency t p l here (ap is_high_priority is)) in
+      record { bound = (s.high_burst + parts * s.low_largest) / parts + s.latency; is = ap (λ b. cond b (Some ((s.high_burst + parts * s.low_largest) / parts + s.latency)) None) some }
+  by Low is =
+      let there = lows t.latency t p l here (ap (λ priority. not (is_high_priority priority)) is) in
+      let bounds = All-contains (λ (row : PortRow). let s = load_of t.latency row.speed row.id t.links in
+          (0 < s.highs → (s.high_burst + parts * s.low_largest) / parts + t.latency ≤ row.max_delay)
+          × (0 < s.lows → (s.high_rate < parts) × (s.burst / (parts - s.high_rate) + t.latency ≤ row.max_delay))) t.ports p (keeps t formed accepted) among in
+      let some = and_from (nat_lt 0 s.lows) (nat_lt s.high_rate parts) (lt-ltb 0 s.lows there) (lt-ltb s.high_rate parts (bounds.1 there).0) in
+      record { bound = s.burst / (parts - s.high_rate) + s.latency; is = ap (λ b. cond b (Some (s.burst / (parts - s.high_rate) + s.latency)) None) some }
+
+-- ---- ways
+
+abbrev end_by : ℕ → ℕ → End
+end_by switch port = record { switch = switch; port = port }
+
+module _ (g : Ground) (keeps : AcceptedKeepsBounds) (net : Network) (given : Given) (runs : List SwitchRun) (acc : IsAcceptedRun net given runs) where
+  record StageThere (r : Row) (run : SwitchRun) (p : PortRow) : Type 0 where
+    pub stage : Stage
+    pub at : IsStageAt net runs r stage
+    pub ends : EndsAt run r p stage
+
+  stage_there : (r : Row) (run : SwitchRun) (p : PortRow) → slice_get runs r.switch ≡ Some run → Contains run.table.links r.link → Contains run.table.ports p → leads_to p.id r.link ≡ true
+      → StageThere r run p
+  stage_there r run p is known among leads =
+      let table = table_at g net given runs acc r.switch run is in
+      let h = has_bound keeps run.table p r.link (formed_at g net given runs acc r.switch run is) (accepted_at g net given runs acc r.switch run is) among known leads in
+      record {
+        stage = stage_by p h.bound (node_of run) r.link;
+        at = record {
+          run = run;
+          run_is = is;
+          node = refl;
+          link = refl;
+          known = known;
+          has = among;
+          leads = leads;
+          bound_is = ap (option_and_then (λ (t : Content). bound_of (load_of t.latency p.speed p.id t.links) r.link.priority)) table ∙ h.is;
+        };
+        ends = record { node = refl; link = refl; port = refl };
+      }
+
+  -- a way that ends as this one does
+  record WayThere (x : Stage) (steps : List Step) : Type 0 where
+    pub first : Stage
+    pub all : List Step
+    pub way : IsWayIn net runs first all
+    pub same : last_of first all ≡ last_of x steps
+
+  from_the_source : (backs : List Back) (r : Row) (x : Stage) (steps : List Step) → IsWayBack net r backs → IsWayFrom net runs r x steps → WayThere x steps
+  from_the_source [] r x steps source way = record { first = x; all = steps; way = (r, source, way); same = refl }
+  from_the_source (b ∷ backs) r x steps back way =
+      let w = b.wire in
+      let h = first_stage g net given runs acc r x steps way in
+      let there = wire_goes_there net (ingress r) w back.0 in
+      let at_end : slice_get runs w.to.switch ≡ Some h.run = ap (λ (e : End). slice_get runs e.switch) there.0 ∙ h.run_is in
+      let before = behind g net given runs acc w h.run there.1 at_end in
+      let row = found_row g.links net w.from.switch r.link.id b.row back.1 in
+      let table : row.table ≡ before.here.table = some_same (sym row.table_is ∙ table_at g net given runs acc w.from.switch before.here before.here_is) in
+      let known : Contains before.here.table.links b.row.link = subst (λ (t : Content). Contains t.links b.row.link) table row.known in
+      let here_is : slice_get runs b.row.switch ≡ Some before.here = ap (slice_get runs) row.switch_is ∙ before.here_is in
+      let leads : leads_to before.port.id b.row.link ≡ true = ap (λ (n : ℕ). leads_to n b.row.link) before.number ∙ back.2 in
+      let y = stage_there b.row before.here before.port here_is known before.has leads in
+      let port : y.stage.port.id ≡ w.from.port = ap (λ (p : PortRow). p.id) y.ends.port ∙ before.number in
+      let start : w.from ≡ end_by b.row.switch y.stage.port.id = ap (λ (n : ℕ). end_by n w.from.port) (sym row.switch_is) ∙ ap (end_by b.row.switch) (sym port) in
+      let rest = from_the_source backs b.row y.stage (record { cable = w.delay; stage = x } ∷ steps) back.3
+          (y.at, r, record { wire = w; wire_is = back.0; start = start; cable = refl; number = sym row.number }, way) in
+      record { first = rest.first; all = rest.all; way = rest.way; same = rest.same }
+
+  pub ways_are_there : (r : Row) (run : SwitchRun) (p : PortRow) → slice_get runs r.switch ≡ Some run → Contains run.table.links r.link → Contains run.table.ports p → leads_to p.id r.link ≡ true
+      → (x : Stage) × (steps : List Step) × IsWayIn net runs x steps × EndsAt run r p (last_of x steps)
+  ways_are_there r run p is known among leads =
+      let row = rows_have net r run.table (table_at g net given runs acc r.switch run is) known in
+      let back = All-contains (λ (q : Row). (backs : List Back) × IsWayBack net q backs) (rows_of net) r acc.accepted.fits.sources row in
+      let last = stage_there r run p is known among leads in
+      let there = from_the_source back.0 r last.stage [] back.1 last.at in
+      (there.first, there.all, there.way, subst (EndsAt run r p) (sym there.same) last.ends)
