@@ -42,30 +42,37 @@ lows : (latency : ℕ) (t : Content) (p : PortRow) (l : Link) → Contains (rout
 unfolding sums_of
 lows latency t p l among low = counted is_low (routed p.id t.links) l among low
 
-record HasBound (t : Content) (p : PortRow) (priority : Priority) : Type 0 where
-  pub bound : ℕ
-  pub is : bound_of (load_of t.latency p.speed p.id t.links) priority ≡ Some bound
+abbrev load_at : Content → PortRow → Sums
+load_at t p = load_of t.latency p.speed p.id t.links
+
+some_high : (s : Sums) → 0 < s.highs → (bound : ℕ) × (high_bound s ≡ Some bound)
+some_high s there =
+    let bound = (s.high_burst + parts * s.low_largest) / parts + s.latency in
+    (bound, ap (λ b. cond b (Some bound) None) (lt-ltb 0 s.highs there))
+
+some_low : (s : Sums) → 0 < s.lows → s.high_rate < parts → (bound : ℕ) × (low_bound s ≡ Some bound)
+some_low s there part =
+    let bound = s.burst / (parts - s.high_rate) + s.latency in
+    (bound, ap (λ b. cond b (Some bound) None) (and_from (nat_lt 0 s.lows) (nat_lt s.high_rate parts) (lt-ltb 0 s.lows there) (lt-ltb s.high_rate parts part)))
+
+a_part_is_left : AcceptedKeepsBounds → (t : Content) (p : PortRow) → IsWellFormed t → IsAccepted t → Contains t.ports p → 0 < (load_at t p).lows → (load_at t p).high_rate < parts
+a_part_is_left keeps t p formed accepted among there =
+    let bounds = All-contains (λ (row : PortRow). let s = load_of t.latency row.speed row.id t.links in
+        (0 < s.highs → (s.high_burst + parts * s.low_largest) / parts + t.latency ≤ row.max_delay)
+        × (0 < s.lows → (s.high_rate < parts) × (s.burst / (parts - s.high_rate) + t.latency ≤ row.max_delay))) t.ports p (keeps t formed accepted) among in
+    (bounds.1 there).0
 
 has_bound : AcceptedKeepsBounds → (t : Content) (p : PortRow) (l : Link) → IsWellFormed t → IsAccepted t → Contains t.ports p → Contains t.links l → leads_to p.id l ≡ true
-    → HasBound t p l.priority
+    → (bound : ℕ) × (bound_of (load_at t p) l.priority ≡ Some bound)
 has_bound keeps t p l formed accepted among known leads = by l.priority refl where
-  abbrev s : Sums
-  s = load_of t.latency p.speed p.id t.links
-
   here : Contains (routed p.id t.links) l
   here = contains_filter (leads_to p.id) t.links l known leads
 
-  by : (priority : Priority) → l.priority ≡ priority → HasBound t p priority
-  by High is =
-      let some = lt-ltb 0 s.highs (highs t.latency t p l here (ap is_high_priority is)) in
-      record { bound = (s.high_burst + parts * s.low_largest) / parts + s.latency; is = ap (λ b. cond b (Some ((s.high_burst + parts * s.low_largest) / parts + s.latency)) None) some }
+  by : (priority : Priority) → l.priority ≡ priority → (bound : ℕ) × (bound_of (load_at t p) priority ≡ Some bound)
+  by High is = some_high (load_at t p) (highs t.latency t p l here (ap is_high_priority is))
   by Low is =
       let there = lows t.latency t p l here (ap (λ priority. not (is_high_priority priority)) is) in
-      let bounds = All-contains (λ (row : PortRow). let s = load_of t.latency row.speed row.id t.links in
-          (0 < s.highs → (s.high_burst + parts * s.low_largest) / parts + t.latency ≤ row.max_delay)
-          × (0 < s.lows → (s.high_rate < parts) × (s.burst / (parts - s.high_rate) + t.latency ≤ row.max_delay))) t.ports p (keeps t formed accepted) among in
-      let some = and_from (nat_lt 0 s.lows) (nat_lt s.high_rate parts) (lt-ltb 0 s.lows there) (lt-ltb s.high_rate parts (bounds.1 there).0) in
-      record { bound = s.burst / (parts - s.high_rate) + s.latency; is = ap (λ b. cond b (Some (s.burst / (parts - s.high_rate) + s.latency)) None) some }
+      some_low (load_at t p) there (a_part_is_left keeps t p formed accepted among there)
 
 -- ---- ways
 
@@ -84,7 +91,7 @@ module _ (g : Ground) (keeps : AcceptedKeepsBounds) (net : Network) (given : Giv
       let table = table_at g net given runs acc r.switch run is in
       let h = has_bound keeps run.table p r.link (formed_at g net given runs acc r.switch run is) (accepted_at g net given runs acc r.switch run is) among known leads in
       record {
-        stage = stage_by p h.bound (node_of run) r.link;
+        stage = stage_by p h.0 (node_of run) r.link;
         at = record {
           run = run;
           run_is = is;
@@ -93,7 +100,7 @@ module _ (g : Ground) (keeps : AcceptedKeepsBounds) (net : Network) (given : Giv
           known = known;
           has = among;
           leads = leads;
-          bound_is = ap (option_and_then (λ (t : Content). bound_of (load_of t.latency p.speed p.id t.links) r.link.priority)) table ∙ h.is;
+          bound_is = ap (option_and_then (λ (t : Content). bound_of (load_of t.latency p.speed p.id t.links) r.link.priority)) table ∙ h.1;
         };
         ends = record { node = refl; link = refl; port = refl };
       }

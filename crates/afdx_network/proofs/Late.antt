@@ -83,7 +83,7 @@ placed_all : (P : Arrival → Type 0) (a : Arrival) (arrivals : List Arrival) �
 placed_all P a [] here all = (here, tt)
 placed_all P a (b ∷ arrivals) here all = by (placed_all P a arrivals here all.1) (nat_le a.frame.stamp b.frame.stamp) where
   by : AllByRecursion P (placed a arrivals) → (before : Bool) → AllByRecursion P (cond before (a ∷ b ∷ arrivals) (b ∷ placed a arrivals))
-  by rest true = (here, all.0, all.1)
+  by rest true = (here, all)
   by rest false = (all.0, rest)
 
 merged_all : (P : Arrival → Type 0) (arrivals : List Arrival) → AllByRecursion P arrivals → AllByRecursion P (by_stamp arrivals)

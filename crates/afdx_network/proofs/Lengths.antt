@@ -150,5 +150,5 @@ module _ (links : LinksAreFound) (net : Network) where
       let all = there_below r backs (slice_get_within net.tables r.switch h.table there) way in
       let count = length-le_from_distinct_below (r.switch ∷ switches backs) (length net.tables) (are_distinct r backs is way)
           (λ q h. of_all (λ (n : ℕ). n < length net.tables) (r.switch ∷ switches backs) q all (Contains-from_any equal q (r.switch ∷ switches backs) h)) in
-      let lengths = length-map (λ (b : Back). b.row.switch) backs in
+      let lengths = length-map backs (λ (b : Back). b.row.switch) in
       omega (arith, count, lengths)
