@@ -1,0 +1,3 @@
+pub mod ArrayLemmas
+pub mod Examples
+pub mod TextLemmas
