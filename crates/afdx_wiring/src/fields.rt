@@ -1,6 +1,6 @@
 //! The fields of one TOML table.
 
-ghost use Rattle.std.specs.Prelude.{◌≡◌, map, option_map, string_bytes};
+ghost use Rattle.std.specs.Prelude.{◌≡◌, ◌≤◌, IfOk, map, option_map, string_bytes};
 ghost use Rattle.std.specs.List.{list_all};
 ghost use Rattle.std.specs.Map.{keys_of};
 ghost use Rattle.toml.specs.Data.{get_member};
@@ -45,7 +45,8 @@ fn natural(number: i64) -> Option<u64>
 /// The number that a value is, from 0 to the greatest.
 #[tactic(auto, unfolding(crate::specs::Fields::number_in))]
 fn number_in(at: At, key: Key, greatest: u64, value: &Value) -> Result<u64, NetworkFault>
-    ensures { Gives (λ n. n) result (number_in at key greatest (view value.now)) }
+    ensures number { Gives (λ n. n) result (number_in at key greatest (view value.now)) }
+    ensures within { IfOk result (λ n. n ≤ greatest) }
 {
     let Some(integer) = value.as_integer() else {
         return Err(NetworkFault::Kind(at, key));
@@ -91,7 +92,9 @@ impl<'a> Fields<'a> {
         greatest: u64,
         missing: u64,
     ) -> Result<u64, NetworkFault>
-        ensures { Gives (λ n. n) result (optional_number_at self.now.at key greatest missing (table_view self.now.table.now)) }
+        requires { missing ≤ greatest }
+        ensures number { Gives (λ n. n) result (optional_number_at self.now.at key greatest missing (table_view self.now.table.now)) }
+        ensures within { IfOk result (λ n. n ≤ greatest) }
     {
         match self.find(key) {
             Some(value) => number_in(self.at, key, greatest, value),

@@ -39,7 +39,7 @@ pub struct Wire {
     /// The ingress port that it goes to.
     pub to: End,
     /// Its delay in nanoseconds, at most 1,000,000.
-    pub delay: u64,
+    pub delay: u32,
 }
 
 /// What a network file says.

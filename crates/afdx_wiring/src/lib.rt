@@ -4,14 +4,24 @@
 #![tactic(auto)]
 
 mod arrays;
+mod checking;
+mod cleared;
 mod fault;
 mod fields;
+mod fitting;
+mod hops;
+mod joints;
 mod layout;
 mod names;
+mod network;
 mod reading;
+mod sources;
 mod switches;
+mod terms;
 mod wires;
 
+pub use cleared::ClearedNetwork;
 pub use fault::{At, Key, NetworkFault, Short};
 pub use layout::{End, Layout, Switch, Wire};
+pub use network::{Network, Row};
 pub use reading::read;

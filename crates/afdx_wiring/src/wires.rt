@@ -86,7 +86,7 @@ fn read_wire(
     fields.known(&[Key::From, Key::To, Key::Delay])?;
     let (from_name, from_port) = end_at(fields, Key::From)?;
     let (to_name, to_port) = end_at(fields, Key::To)?;
-    let delay = fields.optional_number(Key::Delay, MAX_DELAY, 0)?;
+    let delay = fields.optional_number(Key::Delay, MAX_DELAY, 0)? as u32;
     let from = found(fields.at, switches, from_name, from_port)?;
     let to = found(fields.at, switches, to_name, to_port)?;
     fit(fields.at, before, Wire { from, to, delay })
