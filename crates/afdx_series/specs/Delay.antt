@@ -1,5 +1,5 @@
 -- What a frame takes from one switch to the next, and what it asks of the jitter there.
-use Rattle.std.specs.Prelude.{◌≡◌, ℕ, ◌+◌, ◌≤◌}
+use Rattle.std.specs.Prelude.{◌≡◌, ℕ, ◌+◌, ◌-◌, ◌/◌, ◌≤◌}
 use Rattle.afdx_units.specs.declared.line.Speed.{Speed}
 use Rattle.afdx_units.specs.Line.{cost_of}
 use Rattle.afdx_account.specs.declared.frame.Frame.{Frame}
@@ -22,6 +22,10 @@ at_once = record { least = 0; most = 0 }
 -- profile: where a link has the jitter `first` at a switch, `later` is enough for it after this part of its way
 abbrev pub IsEnough : Delays → (first later : ℕ) → Type 0
 IsEnough d first later = first + d.most ≤ later + d.least
+
+-- the least jitter that is enough, in whole microseconds, which a table has
+abbrev pub need_of : Delays → (first : ℕ) → ℕ
+need_of d first = (first + d.most - d.least + 999) / 1000
 
 -- a frame that came to a switch has come to the next one: behind a port of this speed and bound, at a switch of this latency, and
 -- over a cable of so many ns

@@ -1,6 +1,6 @@
 //! What a frame takes for a part of its way.
 
-ghost use Rattle.std.specs.Prelude.{◌≡◌, ◌+◌, ◌≤◌};
+ghost use Rattle.std.specs.Prelude.{◌≡◌, ◌+◌, ◌<◌, ◌≤◌};
 ghost use Rattle.afdx_series.specs.Delay.{hop_of, joined, at_once};
 
 use afdx_units::{Speed, cost};
@@ -39,10 +39,10 @@ impl Delays {
 }
 
 /// From a frame's arrival at a switch to its arrival at the next one, over a port of this speed and bound: all in nanoseconds.
-/// The latency is at most 1 ms, and so is the cable's delay. The bound has the latency in it, and is at most 2^59 ns.
+/// The latency is at most 1 ms, the cable's delay less than 2^32 ns. The bound has the latency in it, and is at most 2^59 ns.
 pub fn hop(speed: Speed, latency: u64, bound: u64, cable: u64) -> Delays
     requires latency_limit { latency ≤ 1000000 }
-    requires cable_limit { cable ≤ 1000000 }
+    requires cable_limit { cable < 4294967296 }
     requires bound_limit { bound ≤ 576460752303423488 }
     ensures { result ≡ hop_of speed latency bound cable }
 {

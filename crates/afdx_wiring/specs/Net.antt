@@ -8,7 +8,9 @@ use Rattle.afdx_load.specs.Sums.{load_of}
 use Rattle.afdx_isolation.specs.Table.{bound_of}
 use Rattle.afdx_series.specs.declared.delays.Delays.{Delays}
 use Rattle.afdx_series.specs.Delay.{hop_of, joined, at_once}
-use Rattle.afdx_network.specs.File.{Layout, End, Wire, is_end}
+use Rattle.afdx_wiring.specs.declared.layout.End.{End}
+use Rattle.afdx_wiring.specs.declared.layout.Wire.{Wire}
+use Rattle.afdx_wiring.specs.File.{Layout, is_end}
 
 pub record Network : Type 0 where
   pub layout : Layout

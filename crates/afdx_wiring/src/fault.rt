@@ -1,6 +1,14 @@
 //! Why a network is refused, and where.
 
+ghost use Rattle.std.specs.Prelude.{◌≡◌};
+ghost use Rattle.afdx_wiring.specs.Names.{key_text};
+
+use std::alloc::AllocError;
+use std::fmt;
+
 /// A place in the network file: the top, or a switch or a wire by its place in its array, counted from 1.
+///
+/// It is printed as in the line of a fault: `top`, `switch 1`, `wire 1`.
 #[derive(Clone, Copy, Debug, PartialEq, Eq)]
 pub enum At {
     Top,
@@ -8,7 +16,7 @@ pub enum At {
     Wire(usize),
 }
 
-/// A key of the network file.
+/// A key of the network file, printed as it is written there.
 #[derive(Clone, Copy, Debug, PartialEq, Eq)]
 pub enum Key {
     Version,
@@ -71,8 +79,6 @@ pub enum NetworkFault {
     Jitter(Short),
     /// J2: no jitter that a table can have is enough.
     NoJitter(Short),
-    /// R1: the wires did not come to rest.
-    Unsettled,
 }
 
 /// A row's jitter, and what it needs, in whole microseconds.
@@ -86,4 +92,58 @@ pub struct Short {
     pub need: u64,
     /// What it has.
     pub has: u64,
+}
+
+impl Key {
+    /// The key as it is written in the network file.
+    pub fn as_str(self) -> &'static str
+        ensures { result.now ≡ key_text self }
+    {
+        match self {
+            Key::Version => "version",
+            Key::Switch => "switch",
+            Key::Wire => "wire",
+            Key::Name => "name",
+            Key::Table => "table",
+            Key::From => "from",
+            Key::To => "to",
+            Key::Delay => "delay_ns",
+        }
+    }
+}
+
+impl fmt::Display for Key {
+    ghost use Rattle.std.specs.Prelude.{Some};
+    ghost use Rattle.afdx_wiring.specs.Names.{key_text};
+
+    ghost output = { λ key. Some (key_text key) };
+
+    fn fmt<W: fmt::Write>(&self, f: &mut fmt::Formatter<W>) -> fmt::Result {
+        f.write_str(self.as_str())
+    }
+}
+
+impl fmt::Display for At {
+    ghost use Rattle.std.specs.Prelude.{Some};
+    ghost use Rattle.afdx_wiring.specs.Names.{place_text};
+
+    ghost output = { λ at. Some (place_text at) };
+
+    fn fmt<W: fmt::Write>(&self, f: &mut fmt::Formatter<W>) -> fmt::Result {
+        match self {
+            At::Top => f.write_str("top"),
+            At::Switch(number) => write!(f, "switch {number}"),
+            At::Wire(number) => write!(f, "wire {number}"),
+        }
+    }
+}
+
+impl From<AllocError> for NetworkFault {
+    ghost use Rattle.afdx_wiring.specs.declared.fault.NetworkFault.TheVariants.{Memory};
+
+    ghost from_gives = { λ _ fault. fault ≡ Memory };
+
+    fn from(_error: AllocError) -> NetworkFault {
+        NetworkFault::Memory
+    }
 }

@@ -1,13 +1,13 @@
 -- What a network's tables must agree on, and that the jitters are enough; with no order of cases.
-use Rattle.std.specs.Prelude.{◌≡◌, ◌↔◌, ℕ, ◌≤◌, List, Some, All, Contains}
+use Rattle.std.specs.Prelude.{◌≡◌, List, Some, All, Contains}
 use Rattle.afdx_table.specs.declared.rows.PortRow.{PortRow}
 use Rattle.afdx_table.specs.Content.{Content}
 use Rattle.std.specs.Prelude.{slice_get}
 use Rattle.afdx_load.specs.Accepted.{IsAccepted}
 use Rattle.afdx_series.specs.declared.delays.Delays.{Delays}
 use Rattle.afdx_series.specs.Delay.{IsEnough}
-use Rattle.afdx_network.specs.File.{Wire}
-use Rattle.afdx_network.specs.Net.{Network, Row, Back, port_at, row_at, rows_of, rows_on, IsSource, IsWayBack, source_of, AreDelays}
+use Rattle.afdx_wiring.specs.declared.layout.Wire.{Wire}
+use Rattle.afdx_wiring.specs.Net.{Network, Row, Back, port_at, row_at, rows_of, rows_on, IsSource, IsWayBack, source_of, AreDelays}
 
 -- both ends of a wire are ports, of one speed, at switches of one constant field
 pub record Joins (net : Network) (w : Wire) : Type 0 where

@@ -1,0 +1,6 @@
+pub mod ArrayLemmas
+pub mod Chains
+pub mod Examples
+pub mod Joints
+pub mod Sources
+pub mod TextLemmas

@@ -1,0 +1,7 @@
+pub mod Fields
+pub mod File
+pub mod Names
+pub mod Net
+pub mod Order
+pub mod Refusal
+pub mod Rules
