@@ -18,9 +18,10 @@ use Rattle.afdx_core.specs.Merge.{records_of}
 use Rattle.afdx_series.specs.declared.delays.Delays.{Delays}
 use Rattle.afdx_series.specs.Delay.{hop_of, joined, at_once, IsEnough}
 use Rattle.afdx_session.specs.Texts.{Text}
-use Rattle.afdx_network.specs.File.{End, Wire}
-use Rattle.afdx_network.specs.Net.{Network, Row, Back, port_at, row_at, rows_of, rows_on, ingress, wire_to, bound_at, IsWayBack, AreDelays, source_of}
-use Rattle.afdx_network.specs.Rules.{Joins, GoesOn}
+use Rattle.afdx_wiring.specs.declared.layout.End.{End}
+use Rattle.afdx_wiring.specs.declared.layout.Wire.{Wire}
+use Rattle.afdx_wiring.specs.Net.{Network, Row, Back, port_at, row_at, rows_of, rows_on, ingress, wire_to, bound_at, IsWayBack, AreDelays, source_of}
+use Rattle.afdx_wiring.specs.Rules.{Joins, GoesOn}
 use Rattle.afdx_network.specs.Way.{Node, Stage, IsStage, Step, Follows, IsWay, AreEnough, delayed}
 use Rattle.afdx_network.specs.Runs.{SwitchRun, Given}
 use Rattle.afdx_network.specs.Ways.{node_of, IsStageAt, GoesOver, IsWayFrom, IsWayIn}

@@ -15,8 +15,8 @@ use Rattle.afdx_load.specs.Bounds.{high_bound, low_bound}
 use Rattle.afdx_load.specs.Accepted.{IsAccepted}
 use Rattle.afdx_load.specs.Laws.{AcceptedKeepsBounds}
 use Rattle.afdx_isolation.specs.Table.{bound_of}
-use Rattle.afdx_network.specs.File.{End}
-use Rattle.afdx_network.specs.Net.{Network, Row, Back, rows_of, ingress, IsWayBack}
+use Rattle.afdx_wiring.specs.declared.layout.End.{End}
+use Rattle.afdx_wiring.specs.Net.{Network, Row, Back, rows_of, ingress, IsWayBack}
 use Rattle.afdx_network.specs.Way.{Stage, Step, last_of}
 use Rattle.afdx_network.specs.Runs.{SwitchRun, Given}
 use Rattle.afdx_network.specs.Ways.{node_of, IsStageAt, IsWayFrom, IsWayIn}

@@ -19,8 +19,9 @@ use Rattle.afdx_session.specs.Reading.{AreCaptures}
 use Rattle.afdx_session.specs.Output.{output_of, output_text}
 use Rattle.afdx_session.specs.Headline.{own_records, records_for}
 use Rattle.afdx_session.specs.Readable.{OutputsAreReadable}
-use Rattle.afdx_network.specs.File.{End, Wire}
-use Rattle.afdx_network.specs.Net.{Network, Row, Back, rows_of, ingress, wire_to, IsWayBack}
+use Rattle.afdx_wiring.specs.declared.layout.End.{End}
+use Rattle.afdx_wiring.specs.declared.layout.Wire.{Wire}
+use Rattle.afdx_wiring.specs.Net.{Network, Row, Back, rows_of, ingress, wire_to, IsWayBack}
 use Rattle.afdx_network.specs.Way.{delayed}
 use Rattle.afdx_network.specs.Runs.{SwitchRun, Given}
 use Rattle.afdx_network.specs.Laws.{IsAcceptedRun, NoneComesLate, WaysAreShort}

@@ -10,8 +10,8 @@ use Rattle.afdx_table.specs.Link.{Link, leads_to}
 use Rattle.afdx_table.specs.Content.{Content, link_row}
 use Rattle.afdx_table.specs.WellFormed.{IsWellFormed}
 use Rattle.afdx_table.specs.Found.{LinksAreFound}
-use Rattle.afdx_network.specs.File.{Wire}
-use Rattle.afdx_network.specs.Net.{Network, Row, Back, row_at, rows_of, ingress, wire_to, IsWayBack}
+use Rattle.afdx_wiring.specs.declared.layout.Wire.{Wire}
+use Rattle.afdx_wiring.specs.Net.{Network, Row, Back, row_at, rows_of, ingress, wire_to, IsWayBack}
 use Rattle.afdx_network.proofs.Lists.{apart, all_weaken, all_map, all_append}
 use Rattle.afdx_network.proofs.Found.{some_same, equal, all_at, all_by, of_all}
 use Rattle.afdx_network.proofs.Rows.{row_in, rows_from, row_is}

@@ -7,8 +7,10 @@ use Rattle.afdx_table.specs.Link.{Link, leads_to}
 use Rattle.afdx_table.specs.Content.{Content, link_row}
 use Rattle.afdx_table.specs.WellFormed.{IsWellFormed}
 use Rattle.afdx_table.specs.Found.{LinksAreFound}
-use Rattle.afdx_network.specs.File.{End, Wire, is_end}
-use Rattle.afdx_network.specs.Net.{Network, Row, row_at, rows_of, rows_on, wire_to}
+use Rattle.afdx_wiring.specs.declared.layout.End.{End}
+use Rattle.afdx_wiring.specs.declared.layout.Wire.{Wire}
+use Rattle.afdx_wiring.specs.File.{is_end}
+use Rattle.afdx_wiring.specs.Net.{Network, Row, row_at, rows_of, rows_on, wire_to}
 use Rattle.afdx_network.proofs.Found.{some_same, same_number, equal, contains_filter, contains_map, found_passes}
 
 -- ---- ends

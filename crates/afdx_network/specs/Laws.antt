@@ -1,5 +1,5 @@
 -- What holds of each run of an accepted network.
-use Rattle.std.specs.Prelude.{◌≡◌, ℕ, ◌+◌, ◌*◌, ◌<◌, ◌≤◌, true, List, length, map, slice_get, Some, All, Contains, Ok}
+use Rattle.std.specs.Prelude.{◌≡◌, ℕ, ◌+◌, ◌*◌, ◌<◌, ◌≤◌, true, List, length, map, slice_get, Some, All, Contains}
 use Rattle.afdx_units.specs.Time.{second, last_second}
 use Rattle.afdx_pcap.specs.Entry.{Entry}
 use Rattle.afdx_pcap.specs.Capture.{IsCapture}
@@ -8,9 +8,8 @@ use Rattle.afdx_table.specs.Link.{leads_to}
 use Rattle.afdx_table.specs.WellFormed.{IsWellFormed}
 use Rattle.afdx_session.specs.Texts.{Text}
 use Rattle.afdx_series.specs.Delay.{at_once}
-use Rattle.afdx_network.specs.File.{Layout, layout_of}
-use Rattle.afdx_network.specs.Net.{Network, Row, Back, rows_of, IsWayBack}
-use Rattle.afdx_network.specs.Rules.{IsAcceptedNetwork}
+use Rattle.afdx_wiring.specs.Net.{Network, Row, Back, rows_of, IsWayBack}
+use Rattle.afdx_wiring.specs.Rules.{IsAcceptedNetwork}
 use Rattle.afdx_network.specs.Way.{Stage, Step, IsNode, IsWay, last_of, AreEnough, IsDelivered}
 use Rattle.afdx_network.specs.Runs.{SwitchRun, Given, IsFedBy, IsNetworkRun}
 use Rattle.afdx_network.specs.Ways.{node_of, IsWayIn}
@@ -31,10 +30,6 @@ pub record IsAcceptedRun (net : Network) (given : Given) (runs : List SwitchRun)
   pub of_file : IsOfFile net
   pub accepted : IsAcceptedNetwork net
   pub run : IsNetworkRun net given runs
-
--- the limits are those of every text that is read
-abbrev pub LayoutsAreWithinLimits : Type 0
-LayoutsAreWithinLimits = (bytes : List ℕ) (l : Layout) → layout_of bytes ≡ Ok l → (length l.switches ≤ 64) × All (λ w. w.delay ≤ 1000000) l.wires
 
 -- what the checks accept and the wires agree on is all that the theorem of a way asks for
 abbrev pub AgreementIsWired : Type 0

@@ -1,9 +1,4 @@
-pub mod File
 pub mod Laws
-pub mod Names
-pub mod Net
-pub mod Order
-pub mod Rules
 pub mod Runs
 pub mod Way
 pub mod Ways

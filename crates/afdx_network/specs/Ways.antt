@@ -1,8 +1,8 @@
 -- The ways in a network's run: each begins at a row that an end system's port feeds, and goes on over the wires of the file.
 use Rattle.std.specs.Prelude.{◌≡◌, true, List, [], ◌∷◌, slice_get, Some, Contains}
 use Rattle.afdx_table.specs.Link.{leads_to}
-use Rattle.afdx_network.specs.File.{Wire}
-use Rattle.afdx_network.specs.Net.{Network, Row, ingress, wire_to, IsSource, bound_at}
+use Rattle.afdx_wiring.specs.declared.layout.Wire.{Wire}
+use Rattle.afdx_wiring.specs.Net.{Network, Row, ingress, wire_to, IsSource, bound_at}
 use Rattle.afdx_network.specs.Way.{Node, Stage, Step}
 use Rattle.afdx_network.specs.Runs.{SwitchRun}
 

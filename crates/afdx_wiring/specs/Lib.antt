@@ -1,5 +1,6 @@
 pub mod Fields
 pub mod File
+pub mod Limits
 pub mod Names
 pub mod Net
 pub mod Order

@@ -11,6 +11,7 @@ mod fields;
 mod fitting;
 mod hops;
 mod joints;
+pub mod laws;
 mod layout;
 mod names;
 mod network;
