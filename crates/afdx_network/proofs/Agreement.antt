@@ -36,7 +36,7 @@ pub record Ground : Type 0 where
   pub links : LinksAreFound
   pub back : WrittenTextsReadBack
 
-abbrev stage_by : PortRow → ℕ → Node → Link → Stage
+abbrev pub stage_by : PortRow → ℕ → Node → Link → Stage
 stage_by port bound node link = record { node = node; link = link; port = port; bound = bound }
 
 module _ (g : Ground) (net : Network) (given : Given) (runs : List SwitchRun) (acc : IsAcceptedRun net given runs) where
