@@ -1,7 +1,7 @@
 pub mod ArrayLemmas
 pub mod Chains
 pub mod Examples
-pub mod Joints
+pub mod FeedLemmas
+pub mod JointLemmas
 pub mod LimitLemmas
-pub mod Sources
 pub mod TextLemmas
