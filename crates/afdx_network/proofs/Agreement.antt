@@ -28,6 +28,7 @@ use Rattle.afdx_network.specs.Ways.{node_of, IsStageAt, GoesOver, IsWayFrom, IsW
 use Rattle.afdx_network.specs.Laws.{IsAcceptedRun}
 use Rattle.afdx_network.proofs.Found.{some_same, get_map, map_contains, all_at, ports_are_found, one_port}
 use Rattle.afdx_network.proofs.Rows.{wire_goes_there, rows_have, rows_on_have, row_is}
+use Rattle.afdx_network.proofs.Lengths.{IsFound, found_row}
 use Rattle.afdx_network.proofs.Wired.{wired}
 
 -- the laws that this stands on
@@ -35,6 +36,9 @@ pub record Ground : Type 0 where
   pub exact : CleanExactly
   pub links : LinksAreFound
   pub back : WrittenTextsReadBack
+
+abbrev pub end_by : ℕ → ℕ → End
+end_by switch port = record { switch = switch; port = port }
 
 abbrev pub stage_by : PortRow → ℕ → Node → Link → Stage
 stage_by port bound node link = record { node = node; link = link; port = port; bound = bound }
@@ -79,6 +83,42 @@ module _ (g : Ground) (net : Network) (given : Given) (runs : List SwitchRun) (a
             (subst (λ (n : ℕ). Contains b.here.results.captures (n, b.bytes)) (sym number) b.written) b.read
             (subst (λ (texts : List Text). Contains texts (w.to.port, capture_text (map (delayed w.delay) b.left))) there b.comes);
       }
+
+  -- a row, and the one that sends its link on the wire to it
+  pub record RowBefore (b : Back) (r : Row) (run : SwitchRun) : Type 0 where
+    pub here : SwitchRun
+    pub here_is : slice_get runs b.row.switch ≡ Some here
+    pub port : PortRow
+    pub has : Contains here.table.ports port
+    pub start : b.wire.from ≡ end_by b.row.switch port.id
+    pub known : Contains here.table.links b.row.link
+    pub leads : leads_to port.id b.row.link ≡ true
+    pub number : b.row.link.id ≡ r.link.id
+    pub small : b.wire.delay ≤ 1000000
+    pub comes : records_of run.isolated.read r.link.from ≡ map (delayed b.wire.delay) (here.isolated.out port)
+
+  sent_by : (b : Back) (r : Row) (run : SwitchRun) → (b.wire.to ≡ ingress r) × Contains net.layout.wires b.wire → Behind b.wire run
+      → IsFound net b.wire.from.switch r.link.id b.row → leads_to b.wire.from.port b.row.link ≡ true → RowBefore b r run
+  sent_by b r run there h row leads =
+      let table : row.table ≡ h.here.table = some_same (sym row.table_is ∙ table_at b.wire.from.switch h.here h.here_is) in
+      record {
+        here = h.here;
+        here_is = ap (slice_get runs) row.switch_is ∙ h.here_is;
+        port = h.port;
+        has = h.has;
+        start = ap (λ (n : ℕ). end_by n b.wire.from.port) (sym row.switch_is) ∙ ap (end_by b.row.switch) (sym h.number);
+        known = subst (λ (t : Content). Contains t.links b.row.link) table row.known;
+        leads = ap (λ (n : ℕ). leads_to n b.row.link) h.number ∙ leads;
+        number = row.number;
+        small = All-contains (λ (w : Wire). w.delay ≤ 1000000) net.layout.wires b.wire acc.of_file.delays there.1;
+        comes = ap (λ (e : End). records_of run.isolated.read e.port) (sym there.0) ∙ h.comes;
+      }
+
+  pub row_before : (b : Back) (r : Row) (run : SwitchRun) → slice_get runs r.switch ≡ Some run → wire_to net (ingress r) ≡ Some b.wire
+      → row_at net b.wire.from.switch r.link.id ≡ Some b.row → leads_to b.wire.from.port b.row.link ≡ true → RowBefore b r run
+  row_before b r run is to at leads =
+      let there = wire_goes_there net (ingress r) b.wire to in
+      sent_by b r run there (behind b.wire run there.1 (ap (λ (e : End). slice_get runs e.switch) there.0 ∙ is)) (found_row g.links net b.wire.from.switch r.link.id b.row at) leads
 
   -- ---- a stage
 

@@ -15,16 +15,14 @@ use Rattle.afdx_load.specs.Bounds.{high_bound, low_bound}
 use Rattle.afdx_load.specs.Accepted.{IsAccepted}
 use Rattle.afdx_load.specs.Laws.{AcceptedKeepsBounds}
 use Rattle.afdx_isolation.specs.Table.{bound_of}
-use Rattle.afdx_wiring.specs.declared.layout.End.{End}
-use Rattle.afdx_wiring.specs.Net.{Network, Row, Back, rows_of, ingress, IsWayBack}
+use Rattle.afdx_wiring.specs.Net.{Network, Row, Back, rows_of, ingress, wire_to, IsWayBack}
 use Rattle.afdx_network.specs.Way.{Stage, Step, last_of}
 use Rattle.afdx_network.specs.Runs.{SwitchRun, Given}
-use Rattle.afdx_network.specs.Ways.{node_of, IsStageAt, IsWayFrom, IsWayIn}
+use Rattle.afdx_network.specs.Ways.{node_of, IsStageAt, GoesOver, IsWayFrom, IsWayIn}
 use Rattle.afdx_network.specs.Laws.{IsAcceptedRun, EndsAt}
-use Rattle.afdx_network.proofs.Found.{some_same, contains_filter}
-use Rattle.afdx_network.proofs.Rows.{wire_goes_there, rows_have}
-use Rattle.afdx_network.proofs.Lengths.{found_row}
-use Rattle.afdx_network.proofs.Agreement.{Ground, stage_by, table_at, formed_at, accepted_at, Behind, behind, first_stage}
+use Rattle.afdx_network.proofs.Found.{contains_filter}
+use Rattle.afdx_network.proofs.Rows.{rows_have}
+use Rattle.afdx_network.proofs.Agreement.{Ground, stage_by, end_by, table_at, formed_at, accepted_at, RowBefore, row_before, first_stage}
 
 -- ---- a port has a bound for each link that leads to it
 
@@ -76,9 +74,6 @@ has_bound keeps t p l formed accepted among known leads = by l.priority refl whe
 
 -- ---- ways
 
-abbrev end_by : ℕ → ℕ → End
-end_by switch port = record { switch = switch; port = port }
-
 module _ (g : Ground) (keeps : AcceptedKeepsBounds) (net : Network) (given : Given) (runs : List SwitchRun) (acc : IsAcceptedRun net given runs) where
   record StageThere (r : Row) (run : SwitchRun) (p : PortRow) : Type 0 where
     pub stage : Stage
@@ -112,24 +107,26 @@ module _ (g : Ground) (keeps : AcceptedKeepsBounds) (net : Network) (given : Giv
     pub way : IsWayIn net runs first all
     pub same : last_of first all ≡ last_of x steps
 
+  earlier : (b : Back) (r : Row) (run : SwitchRun) (before : RowBefore g net given runs acc b r run) → StageThere b.row before.here before.port
+  earlier b r run before = stage_there b.row before.here before.port before.here_is before.known before.has before.leads
+
+  goes_over : (b : Back) (r : Row) (x : Stage) (run : SwitchRun) (before : RowBefore g net given runs acc b r run) (y : StageThere b.row before.here before.port)
+      → wire_to net (ingress r) ≡ Some b.wire → GoesOver net b.row y.stage r (record { cable = b.wire.delay; stage = x })
+  goes_over b r x run before y to = record {
+    wire = b.wire;
+    wire_is = to;
+    start = before.start ∙ ap (λ (p : PortRow). end_by b.row.switch p.id) (sym y.ends.port);
+    cable = refl;
+    number = sym before.number;
+  }
+
   from_the_source : (backs : List Back) (r : Row) (x : Stage) (steps : List Step) → IsWayBack net r backs → IsWayFrom net runs r x steps → WayThere x steps
   from_the_source [] r x steps source way = record { first = x; all = steps; way = (r, source, way); same = refl }
   from_the_source (b ∷ backs) r x steps back way =
-      let w = b.wire in
       let h = first_stage g net given runs acc r x steps way in
-      let there = wire_goes_there net (ingress r) w back.0 in
-      let at_end : slice_get runs w.to.switch ≡ Some h.run = ap (λ (e : End). slice_get runs e.switch) there.0 ∙ h.run_is in
-      let before = behind g net given runs acc w h.run there.1 at_end in
-      let row = found_row g.links net w.from.switch r.link.id b.row back.1 in
-      let table : row.table ≡ before.here.table = some_same (sym row.table_is ∙ table_at g net given runs acc w.from.switch before.here before.here_is) in
-      let known : Contains before.here.table.links b.row.link = subst (λ (t : Content). Contains t.links b.row.link) table row.known in
-      let here_is : slice_get runs b.row.switch ≡ Some before.here = ap (slice_get runs) row.switch_is ∙ before.here_is in
-      let leads : leads_to before.port.id b.row.link ≡ true = ap (λ (n : ℕ). leads_to n b.row.link) before.number ∙ back.2 in
-      let y = stage_there b.row before.here before.port here_is known before.has leads in
-      let port : y.stage.port.id ≡ w.from.port = ap (λ (p : PortRow). p.id) y.ends.port ∙ before.number in
-      let start : w.from ≡ end_by b.row.switch y.stage.port.id = ap (λ (n : ℕ). end_by n w.from.port) (sym row.switch_is) ∙ ap (end_by b.row.switch) (sym port) in
-      let rest = from_the_source backs b.row y.stage (record { cable = w.delay; stage = x } ∷ steps) back.3
-          (y.at, r, record { wire = w; wire_is = back.0; start = start; cable = refl; number = sym row.number }, way) in
+      let before = row_before g net given runs acc b r h.run h.run_is back.0 back.1 back.2 in
+      let y = earlier b r h.run before in
+      let rest = from_the_source backs b.row y.stage (record { cable = b.wire.delay; stage = x } ∷ steps) back.3 (y.at, r, goes_over b r x h.run before y back.0, way) in
       record { first = rest.first; all = rest.all; way = rest.way; same = rest.same }
 
   pub ways_are_there : (r : Row) (run : SwitchRun) (p : PortRow) → slice_get runs r.switch ≡ Some run → Contains run.table.links r.link → Contains run.table.ports p → leads_to p.id r.link ≡ true

@@ -26,12 +26,11 @@ use Rattle.afdx_network.specs.Way.{delayed}
 use Rattle.afdx_network.specs.Runs.{SwitchRun, Given}
 use Rattle.afdx_network.specs.Laws.{IsAcceptedRun, NoneComesLate, WaysAreShort}
 use Rattle.afdx_network.proofs.Lists.{all_weaken, all_map, all_append, all_kept, all_tested}
-use Rattle.afdx_network.proofs.Found.{some_same, same_number, equal, get_map, contains_at, map_contains, of_all}
+use Rattle.afdx_network.proofs.Found.{same_number, equal, get_map, contains_at, map_contains, of_all}
 use Rattle.afdx_network.proofs.Rows.{wire_goes_there, rows_have}
-use Rattle.afdx_network.proofs.Lengths.{found_row}
 use Rattle.afdx_network.proofs.Clean.{clean_of}
 use Rattle.afdx_network.proofs.Leaves.{half, each_left, leave_later}
-use Rattle.afdx_network.proofs.Agreement.{Ground, table_at, formed_at, accepted_at, behind}
+use Rattle.afdx_network.proofs.Agreement.{Ground, table_at, formed_at, accepted_at, behind, RowBefore, row_before}
 
 -- ---- lists
 
@@ -140,6 +139,27 @@ module _ (g : Ground) (short : WaysAreShort) (net : Network) (given : Given) (ru
         all_weaken (λ (r : Entry). r.stamp + 64 * second ≤ last_second) (λ (r : Entry). r.stamp ≤ latest) records (λ r soon. omega (arith, soon))
         (recursion_from_All (λ (r : Entry). r.stamp + 64 * second ≤ last_second) records all)
 
+  -- a link's own frames come over a wire at most 501 ms later
+  came_over : (b : Back) (r : Row) (run : SwitchRun) → slice_get runs r.switch ≡ Some run → Contains run.table.links r.link → (m n : ℕ) → m + 501000000 ≤ n
+      → (before : RowBefore g net given runs acc b r run) → AllByRecursion (λ (q : Entry). q.stamp ≤ m) (own_records before.here.table b.row.link before.here.isolated.read)
+      → AllByRecursion (λ (q : Entry). q.stamp ≤ n) (own_records run.table r.link run.isolated.read)
+  came_over b r run is known m n enough before own =
+      let here = before.here in
+      let out = here.isolated.out before.port in
+      let left : AllByRecursion (λ (e : Entry). e.stamp ≤ m + half) (records_for b.row.link out)
+          = leave_later here.table here.isolated.read before.port out b.row.link m (formed_at g net given runs acc b.row.switch here before.here_is)
+          (accepted_at g net given runs acc b.row.switch here before.here_is) before.has (here.isolated.isolated before.port before.has) before.known before.leads own in
+      let came = came_later (m + half) b.wire.delay b.row.link.id out (all_tested (λ (e : Entry). e.stamp ≤ m + half) (λ (e : Entry). link_of e.bytes == b.row.link.id) out left) in
+      let small = before.small in
+      let formed = formed_at g net given runs acc r.switch run is in
+      let passes : (q : Entry) → says_clean r.link.id (verdict_of run.table r.link.from q) ≡ true → ((link_of q.bytes == b.row.link.id) ≡ true → q.stamp ≤ m + half + b.wire.delay)
+          → q.stamp ≤ n
+          = λ q clean by. let of = clean_of g.exact g.links run.table r.link q formed known clean in
+          let soon = by (same_number (link_of q.bytes) b.row.link.id (of.address ∙ sym before.number)) in omega (arith, soon, small, enough) in
+      all_kept_of (λ (q : Entry). q.stamp ≤ n) (λ (q : Entry). (link_of q.bytes == b.row.link.id) ≡ true → q.stamp ≤ m + half + b.wire.delay)
+      (λ (q : Entry). says_clean r.link.id (verdict_of run.table r.link.from q)) (records_of run.isolated.read r.link.from) passes
+      (subst (λ (qs : List Entry). AllByRecursion (λ (q : Entry). (link_of q.bytes == b.row.link.id) ≡ true → q.stamp ≤ m + half + b.wire.delay) qs) (sym before.comes) came)
+
   -- a link's own frames
   own_early : (backs : List Back) (r : Row) (run : SwitchRun) → slice_get runs r.switch ≡ Some run → Contains run.table.links r.link → IsWayBack net r backs
       → AllByRecursion (λ (q : Entry). q.stamp ≤ after_hops (length backs)) (own_records run.table r.link run.isolated.read)
@@ -148,34 +168,9 @@ module _ (g : Ground) (short : WaysAreShort) (net : Network) (given : Given) (ru
       (all_weaken (λ (q : Entry). q.stamp ≤ latest) (λ (q : Entry). q.stamp ≤ after_hops 0) (records_of run.isolated.read r.link.from) (λ q soon. omega (arith, soon))
       (given_early r.switch r.link.from run is source))
   own_early (b ∷ backs) r run is known way =
-      let w = b.wire in
-      let there = wire_goes_there net (ingress r) w way.0 in
-      let to_port : w.to.port ≡ r.link.from = ap (λ (e : End). e.port) there.0 in
-      let at_end : slice_get runs w.to.switch ≡ Some run = ap (λ (e : End). slice_get runs e.switch) there.0 ∙ is in
-      let h = behind g net given runs acc w run there.1 at_end in
-      let row = found_row g.links net w.from.switch r.link.id b.row way.1 in
-      let table : row.table ≡ h.here.table = some_same (sym row.table_is ∙ table_at g net given runs acc w.from.switch h.here h.here_is) in
-      let known_there : Contains h.here.table.links b.row.link = subst (λ (t : Content). Contains t.links b.row.link) table row.known in
-      let here_is : slice_get runs b.row.switch ≡ Some h.here = ap (slice_get runs) row.switch_is ∙ h.here_is in
-      let leads : leads_to h.port.id b.row.link ≡ true = ap (λ (n : ℕ). leads_to n b.row.link) h.number ∙ way.2 in
-      let before = own_early backs b.row h.here here_is known_there way.3 in
-      let m = after_hops (length backs) + half in
-      let left : AllByRecursion (λ (e : Entry). e.stamp ≤ m) (records_for b.row.link (h.here.isolated.out h.port))
-          = leave_later h.here.table h.here.isolated.read h.port (h.here.isolated.out h.port) b.row.link (after_hops (length backs))
-          (formed_at g net given runs acc w.from.switch h.here h.here_is) (accepted_at g net given runs acc w.from.switch h.here h.here_is) h.has
-          (h.here.isolated.isolated h.port h.has) known_there leads before in
-      let tested = all_tested (λ (e : Entry). e.stamp ≤ m) (λ (e : Entry). link_of e.bytes == b.row.link.id) (h.here.isolated.out h.port) left in
-      let came = came_later m w.delay b.row.link.id (h.here.isolated.out h.port) tested in
-      let small = All-contains (λ (v : Wire). v.delay ≤ 1000000) net.layout.wires w acc.of_file.delays there.1 in
-      let formed = formed_at g net given runs acc r.switch run is in
-      let passes : (q : Entry) → says_clean r.link.id (verdict_of run.table r.link.from q) ≡ true → ((link_of q.bytes == b.row.link.id) ≡ true → q.stamp ≤ m + w.delay)
-          → q.stamp ≤ after_hops (length (b ∷ backs))
-          = λ q clean by. let of = clean_of g.exact g.links run.table r.link q formed known clean in
-          let soon = by (same_number (link_of q.bytes) b.row.link.id (of.address ∙ sym row.number)) in omega (arith, soon, small) in
-      all_kept_of (λ (q : Entry). q.stamp ≤ after_hops (length (b ∷ backs))) (λ (q : Entry). (link_of q.bytes == b.row.link.id) ≡ true → q.stamp ≤ m + w.delay)
-      (λ (q : Entry). says_clean r.link.id (verdict_of run.table r.link.from q)) (records_of run.isolated.read r.link.from) passes
-      (subst (λ (qs : List Entry). AllByRecursion (λ (q : Entry). (link_of q.bytes == b.row.link.id) ≡ true → q.stamp ≤ m + w.delay) qs)
-      (sym h.comes ∙ ap (records_of run.isolated.read) to_port) came)
+      let before = row_before g net given runs acc b r run is way.0 way.1 way.2 in
+      came_over b r run is known (after_hops (length backs)) (after_hops (length (b ∷ backs))) (omega arith) before
+      (own_early backs b.row before.here before.here_is before.known way.3)
 
   -- whatever leaves a port
   left_early : (n : ℕ) (run : SwitchRun) (p : PortRow) → slice_get runs n ≡ Some run → Contains run.table.ports p

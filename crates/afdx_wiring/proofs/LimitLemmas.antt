@@ -12,16 +12,19 @@ use Rattle.afdx_wiring.specs.declared.fault.At.TheVariants as place
 use Rattle.afdx_wiring.specs.declared.fault.Key.{Key}
 use Rattle.afdx_wiring.specs.declared.fault.Key.TheVariants as key
 use Rattle.afdx_wiring.specs.declared.fault.NetworkFault.{NetworkFault}
-use Rattle.afdx_wiring.specs.declared.fault.NetworkFault.TheVariants.{Toml, Kind, Range}
+use Rattle.afdx_wiring.specs.declared.fault.NetworkFault.TheVariants.{Kind, Range, TwiceFrom, TwiceTo, OwnPort}
 use Rattle.afdx_wiring.specs.declared.layout.Wire.{Wire}
 use Rattle.afdx_wiring.specs.Refusal.{◌>>=◌, or_refuse, unless}
 use Rattle.afdx_wiring.specs.Names.{key_text}
-use Rattle.afdx_wiring.specs.Fields.{number_in, number_from, optional_number_at, natural_of}
-use Rattle.afdx_wiring.specs.File.{Switch, Layout, Top, switch_at, switches_from, fitting, wire_at, wires_from, top_at, layout_in, tree_of, layout_of}
+use Rattle.afdx_wiring.specs.Fields.{known_at, number_in, number_from, optional_number_at, natural_of, tables_at}
+use Rattle.afdx_wiring.specs.File.{Switch, Layout, Top, switch_at, switches_from, end_at, found, is_end, comes_from, goes_to, fitting, wire_at, wires_from, top_at, layout_in, tree_of, layout_of}
 
 -- ---- first refusals
 
-pub ok_same : {A : Type 0} {x y : A} → Ok {E = NetworkFault} x ≡ Ok y → x ≡ y
+abbrev answered : {A : Type 0} → A → Result A NetworkFault
+answered x = Ok x
+
+ok_same : {A : Type 0} {x y : A} → answered x ≡ answered y → x ≡ y
 ok_same h = cc
 
 -- what is answered in two steps
@@ -63,21 +66,21 @@ optional_within at k greatest missing ms m small is = by (get_member (key_text k
 same_wire : (at : At) (before : List Wire) (w v : Wire) → fitting at before w ≡ Ok v → w ≡ v
 unfolding fitting
 same_wire at before w v is =
-    let one = stepped _ _ v is in
-    let two = stepped _ _ v one.rest in
-    let three = stepped _ _ v two.rest in
+    let one = stepped (unless (comes_from before w.from) (TwiceFrom at)) _ v is in
+    let two = stepped (unless (goes_to before w.to) (TwiceTo at)) _ v one.rest in
+    let three = stepped (unless (is_end w.from w.to) (OwnPort at)) _ v two.rest in
     ok_same three.rest
 
 wire_short : (at : At) (switches : List Switch) (before : List Wire) (ms : Members) (w : Wire) → wire_at at switches before ms ≡ Ok w → w.delay ≤ 1000000
 unfolding wire_at
 wire_short at switches before ms w is =
-    let known = stepped _ _ w is in
-    let from_text = stepped _ _ w known.rest in
-    let to_text = stepped _ _ w from_text.rest in
+    let known = stepped (known_at at (key.From ∷ key.To ∷ key.Delay ∷ []) ms) _ w is in
+    let from_text = stepped (end_at at key.From ms) _ w known.rest in
+    let to_text = stepped (end_at at key.To ms) _ w from_text.rest in
     let delay = stepped (optional_number_at at key.Delay 1000000 0 ms) _ w to_text.rest in
-    let from = stepped _ _ w delay.rest in
-    let to = stepped _ _ w from.rest in
-    subst (λ (v : Wire). v.delay ≤ 1000000) (same_wire at before _ w to.rest) (optional_within at key.Delay 1000000 0 ms delay.first (omega arith) delay.first_is)
+    let from = stepped (found at switches from_text.first) _ w delay.rest in
+    let to = stepped (found at switches to_text.first) _ w from.rest in
+    subst (λ (v : Wire). v.delay ≤ 1000000) (same_wire at before (record { from = from.first; to = to.first; delay = delay.first }) w to.rest) (optional_within at key.Delay 1000000 0 ms delay.first (omega arith) delay.first_is)
 
 all_push : (P : Wire → Type 0) (ws : List Wire) (w : Wire) → AllByRecursion P ws → P w → AllByRecursion P (ws ++ w ∷ [])
 all_push P [] w all last = (last, tt)
@@ -107,11 +110,11 @@ as_many n before (ms ∷ tables) switches is =
 few : (ms : Members) (top : Top) → top_at ms ≡ Ok top → length top.switches ≤ 64
 unfolding top_at
 few ms top is =
-    let known = stepped _ _ top is in
-    let version = stepped _ _ top known.rest in
-    let is_first = stepped _ _ top version.rest in
-    let switches = stepped _ _ top is_first.rest in
-    let wires = stepped _ _ top switches.rest in
+    let known = stepped (known_at place.Top (key.Version ∷ key.Switch ∷ key.Wire ∷ []) ms) _ top is in
+    let version = stepped (optional_number_at place.Top key.Version 1 1 ms) _ top known.rest in
+    let is_first = stepped (unless (version.first == 0) (Range place.Top key.Version)) _ top version.rest in
+    let switches = stepped (tables_at place.Top key.Switch ms) _ top is_first.rest in
+    let wires = stepped (tables_at place.Top key.Wire ms) _ top switches.rest in
     let small = stepped (unless (nat_lt 64 (length switches.first)) (Range place.Top key.Switch)) _ top wires.rest in
     let test = passes (nat_lt 64 (length switches.first)) (Range place.Top key.Switch) small.first small.first_is in
     let same : switches.first ≡ top.switches = ap (λ (t : Top). t.switches) (ok_same small.rest) in
