@@ -1,27 +1,7 @@
 -- Worked examples of the definitions, which compute.
-use Rattle.std.proofs.Common.{◌≡◌, ◌+◌, nat_le, true, false, codes, Some, None, refl}
+use Rattle.std.proofs.Common.{◌≡◌, ◌+◌, nat_le, true, false, refl}
 use Rattle.afdx_units.specs.declared.line.Speed.TheVariants.{Hundred, Thousand}
 use Rattle.afdx_series.specs.Delay.{hop_of, joined}
-use Rattle.afdx_network.specs.Names.{is_name, end_in}
-
--- ends of wires
-written : end_in (codes "A.3") ≡ Some (codes "A", 3)
-written = refl
-
-greatest : end_in (codes "door-2_b.24") ≡ Some (codes "door-2_b", 24)
-greatest = refl
-
-past_the_last : end_in (codes "A.25") ≡ None
-past_the_last = refl
-
-with_a_zero : end_in (codes "A.03") ≡ None
-with_a_zero = refl
-
-without_a_port : end_in (codes "A") ≡ None
-without_a_port = refl
-
-of_17 : is_name (codes "AAAAAAAAAAAAAAAAA") ≡ false
-of_17 = refl
 
 -- three links of 64 bytes each millisecond into a port of 100 Mbit/s, whose bound is 20,160 ns: 13,440 ns of jitter arise there
 first_hop : hop_of Hundred 0 20160 0 ≡ record { least = 6720; most = 20160 }

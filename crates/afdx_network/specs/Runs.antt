@@ -6,8 +6,9 @@ use Rattle.afdx_table.specs.Content.{Content}
 use Rattle.afdx_session.specs.Texts.{Text}
 use Rattle.afdx_session.specs.Outcome.{Results}
 use Rattle.afdx_session.specs.Headline.{IsIsolated}
-use Rattle.afdx_network.specs.File.{Wire, End}
-use Rattle.afdx_network.specs.Net.{Network, port_at, wire_to}
+use Rattle.afdx_wiring.specs.declared.layout.End.{End}
+use Rattle.afdx_wiring.specs.declared.layout.Wire.{Wire}
+use Rattle.afdx_wiring.specs.Net.{Network, port_at, wire_to}
 use Rattle.afdx_network.specs.Way.{delayed}
 
 -- a switch's run: its table, the texts that came in, and the headline of what they led to

@@ -1,6 +1,8 @@
 pub mod ArrayLemmas
 pub mod Chains
+pub mod Enough
 pub mod Examples
-pub mod Joints
-pub mod Sources
+pub mod Fits
+pub mod JointLemmas
+pub mod FeedLemmas
 pub mod TextLemmas
