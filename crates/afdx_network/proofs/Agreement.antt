@@ -1,8 +1,7 @@
 -- The ways in a run of an accepted network are ways of the theorem, and their jitters are enough.
-use Rattle.std.proofs.Common.{◌≡◌, ℕ, ◌+◌, ◌≤◌, true, List, [], ◌∷◌, map, slice_get, Some, option_and_then, refl, ap, sym, ◌∙◌, subst}
+use Rattle.std.proofs.Common.{◌≡◌, ℕ, ◌≤◌, true, List, [], ◌∷◌, map, slice_get, Some, option_and_then, refl, ap, sym, ◌∙◌, subst}
 use Rattle.std.specs.Prelude.{All, Contains}
 use Rattle.std.proofs.lemmas.List.Elements.{All-contains}
-use Rattle.afdx_pcap.specs.Entry.{Entry}
 use Rattle.afdx_pcap.specs.Text.{capture_text}
 use Rattle.afdx_pcap.specs.ReadBack.{WrittenTextsReadBack}
 use Rattle.afdx_table.specs.declared.rows.PortRow.{PortRow}
@@ -12,6 +11,7 @@ use Rattle.afdx_table.specs.WellFormed.{IsWellFormed}
 use Rattle.afdx_table.specs.Found.{LinksAreFound}
 use Rattle.afdx_filter.specs.Exactly.{CleanExactly}
 use Rattle.afdx_load.specs.Sums.{load_of}
+use Rattle.afdx_load.specs.Bounds.{bounds_of}
 use Rattle.afdx_load.specs.Accepted.{IsAccepted}
 use Rattle.afdx_isolation.specs.Table.{bound_of}
 use Rattle.afdx_core.specs.Merge.{records_of}
@@ -20,14 +20,14 @@ use Rattle.afdx_series.specs.Delay.{hop_of, joined, at_once, IsEnough}
 use Rattle.afdx_session.specs.Texts.{Text}
 use Rattle.afdx_wiring.specs.declared.layout.End.{End}
 use Rattle.afdx_wiring.specs.declared.layout.Wire.{Wire}
-use Rattle.afdx_wiring.specs.Net.{Network, Row, Back, port_at, row_at, rows_of, rows_on, ingress, wire_to, bound_at, IsWayBack, AreDelays, source_of}
+use Rattle.afdx_wiring.specs.Net.{Network, Row, Back, port_at, row_at, rows_of, rows_on, ingress, wire_to, bound_in, IsWayBack, AreDelays, source_of}
 use Rattle.afdx_wiring.specs.Rules.{Joins, GoesOn}
 use Rattle.afdx_network.specs.Way.{Node, Stage, IsStage, Step, Follows, IsWay, AreEnough, delayed}
 use Rattle.afdx_network.specs.Runs.{SwitchRun, Given}
 use Rattle.afdx_network.specs.Ways.{node_of, IsStageAt, GoesOver, IsWayFrom, IsWayIn}
 use Rattle.afdx_network.specs.Laws.{IsAcceptedRun}
 use Rattle.afdx_network.proofs.Found.{some_same, get_map, map_contains, all_at, ports_are_found, one_port}
-use Rattle.afdx_network.proofs.Rows.{wire_goes_there, rows_have, rows_on_have, row_is}
+use Rattle.afdx_network.proofs.Rows.{wire_goes_there, rows_have, rows_on_have, row_is, same_bound}
 use Rattle.afdx_network.proofs.Lengths.{IsFound, found_row}
 use Rattle.afdx_network.proofs.Wired.{wired}
 
@@ -136,7 +136,9 @@ module _ (g : Ground) (net : Network) (given : Given) (runs : List SwitchRun) (a
     row_found = row_is g.links net r h.run.table table_is formed h.known
 
     bound_there : bound_of (load_of h.run.table.latency x.port.speed x.port.id h.run.table.links) r.link.priority ≡ Some x.bound
-    bound_there = sym (ap (option_and_then (λ (t : Content). bound_of (load_of t.latency x.port.speed x.port.id t.links) r.link.priority)) table_is) ∙ h.bound_is
+    bound_there =
+        sym (same_bound (load_of h.run.table.latency x.port.speed x.port.id h.run.table.links) r.link.priority)
+        ∙ sym (ap (option_and_then (λ (t : Content). bound_in (bounds_of (load_of t.latency x.port.speed x.port.id t.links)) r.link.priority)) table_is) ∙ h.bound_is
 
     is_stage : IsStage x
     is_stage =

@@ -1,5 +1,5 @@
 -- Each row ends a way, at each port that it leads to.
-use Rattle.std.proofs.Common.{◌≡◌, ℕ, ◌+◌, ◌-◌, ◌*◌, ◌/◌, ◌<◌, ◌≤◌, ◌&&◌, nat_lt, Bool, true, not, cond, List, [], ◌∷◌, length, filter, count_by, slice_get, Option, Some, None, option_and_then, refl, ap, sym, ◌∙◌, arith, subst}
+use Rattle.std.proofs.Common.{◌≡◌, ℕ, ◌+◌, ◌-◌, ◌*◌, ◌/◌, ◌<◌, ◌≤◌, nat_lt, Bool, true, not, cond, List, [], ◌∷◌, length, count_by, slice_get, Some, None, option_and_then, refl, ap, sym, ◌∙◌, arith, subst}
 use Rattle.std.specs.Prelude.{All, Contains}
 use Rattle.std.proofs.lemmas.Bool.{and_from, lt-ltb}
 use Rattle.std.proofs.lemmas.List.Elements.{All-contains}
@@ -11,17 +11,17 @@ use Rattle.afdx_table.specs.Link.{Link, leads_to}
 use Rattle.afdx_table.specs.Content.{Content}
 use Rattle.afdx_table.specs.WellFormed.{IsWellFormed}
 use Rattle.afdx_load.specs.Sums.{Sums, parts, is_high_priority, is_high, is_low, routed, sums_of, load_of}
-use Rattle.afdx_load.specs.Bounds.{high_bound, low_bound}
+use Rattle.afdx_load.specs.Bounds.{high_bound, low_bound, bounds_of}
 use Rattle.afdx_load.specs.Accepted.{IsAccepted}
 use Rattle.afdx_load.specs.Laws.{AcceptedKeepsBounds}
 use Rattle.afdx_isolation.specs.Table.{bound_of}
-use Rattle.afdx_wiring.specs.Net.{Network, Row, Back, rows_of, ingress, wire_to, IsWayBack}
+use Rattle.afdx_wiring.specs.Net.{Network, Row, Back, rows_of, ingress, wire_to, bound_in, IsWayBack}
 use Rattle.afdx_network.specs.Way.{Stage, Step, last_of}
 use Rattle.afdx_network.specs.Runs.{SwitchRun, Given}
 use Rattle.afdx_network.specs.Ways.{node_of, IsStageAt, GoesOver, IsWayFrom, IsWayIn}
 use Rattle.afdx_network.specs.Laws.{IsAcceptedRun, EndsAt}
 use Rattle.afdx_network.proofs.Found.{contains_filter}
-use Rattle.afdx_network.proofs.Rows.{rows_have}
+use Rattle.afdx_network.proofs.Rows.{rows_have, same_bound}
 use Rattle.afdx_network.proofs.Agreement.{Ground, stage_by, end_by, table_at, formed_at, accepted_at, RowBefore, row_before, first_stage}
 
 -- ---- a port has a bound for each link that leads to it
@@ -95,7 +95,8 @@ module _ (g : Ground) (keeps : AcceptedKeepsBounds) (net : Network) (given : Giv
           known = known;
           has = among;
           leads = leads;
-          bound_is = ap (option_and_then (λ (t : Content). bound_of (load_of t.latency p.speed p.id t.links) r.link.priority)) table ∙ h.1;
+          bound_is = ap (option_and_then (λ (t : Content). bound_in (bounds_of (load_of t.latency p.speed p.id t.links)) r.link.priority)) table
+              ∙ same_bound (load_at run.table p) r.link.priority ∙ h.1;
         };
         ends = record { node = refl; link = refl; port = refl };
       }

@@ -10,7 +10,6 @@ use Rattle.afdx_pcap.specs.Capture.{IsCapture}
 use Rattle.afdx_frame.specs.Address.{link_of}
 use Rattle.afdx_table.specs.declared.rows.PortRow.{PortRow}
 use Rattle.afdx_table.specs.Link.{Link, leads_to}
-use Rattle.afdx_table.specs.Content.{Content}
 use Rattle.afdx_filter.specs.Verdict.{verdict_of}
 use Rattle.afdx_core.specs.Rows.{says_clean}
 use Rattle.afdx_core.specs.Merge.{Arrival, Capture, records_of, arrivals_of, placed, by_stamp, merged}
@@ -21,12 +20,12 @@ use Rattle.afdx_session.specs.Headline.{own_records, records_for}
 use Rattle.afdx_session.specs.Readable.{OutputsAreReadable}
 use Rattle.afdx_wiring.specs.declared.layout.End.{End}
 use Rattle.afdx_wiring.specs.declared.layout.Wire.{Wire}
-use Rattle.afdx_wiring.specs.Net.{Network, Row, Back, rows_of, ingress, wire_to, IsWayBack}
+use Rattle.afdx_wiring.specs.Net.{Network, Row, Back, rows_of, wire_to, IsWayBack}
 use Rattle.afdx_network.specs.Way.{delayed}
 use Rattle.afdx_network.specs.Runs.{SwitchRun, Given}
 use Rattle.afdx_network.specs.Laws.{IsAcceptedRun, NoneComesLate, WaysAreShort}
 use Rattle.afdx_network.proofs.Lists.{all_weaken, all_map, all_append, all_kept, all_tested}
-use Rattle.afdx_network.proofs.Found.{same_number, equal, get_map, contains_at, map_contains, of_all}
+use Rattle.afdx_network.proofs.Found.{same_number, equal, get_map, contains_at, map_contains}
 use Rattle.afdx_network.proofs.Rows.{wire_goes_there, rows_have}
 use Rattle.afdx_network.proofs.Clean.{clean_of}
 use Rattle.afdx_network.proofs.Leaves.{half, each_left, leave_later}

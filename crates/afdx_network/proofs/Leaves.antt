@@ -1,12 +1,11 @@
 -- What leaves a switch over an accepted table: how long its frames are, and how late they are.
-use Rattle.std.proofs.Common.{◌≡◌, ℕ, ◌+◌, ◌<◌, ◌≤◌, ◌==◌, ◌&&◌, nat_lt, Bool, true, false, cond, List, [], ◌∷◌, length, map, filter, Option, Some, None, IfSome, refl, ap, sym, ◌∙◌, arith, subst}
+use Rattle.std.proofs.Common.{◌≡◌, ℕ, ◌+◌, ◌<◌, ◌≤◌, ◌==◌, ◌&&◌, nat_lt, Bool, true, false, cond, List, [], ◌∷◌, length, Option, Some, None, IfSome, refl, arith, subst}
 use Rattle.std.specs.Prelude.{All, Contains}
 use Rattle.std.specs.List.{AllByRecursion, AllZip}
 use Rattle.std.proofs.lemmas.Bool.Decides.{nat_tests}
-use Rattle.std.proofs.lemmas.List.Elements.{All-contains, recursion_from_All}
+use Rattle.std.proofs.lemmas.List.Elements.{All-contains}
 use Rattle.afdx_units.specs.declared.line.Priority.{Priority}
 use Rattle.afdx_units.specs.declared.line.Priority.TheVariants.{High, Low}
-use Rattle.afdx_units.specs.Line.{size_of}
 use Rattle.afdx_pcap.specs.Entry.{Entry}
 use Rattle.afdx_frame.specs.Address.{link_of}
 use Rattle.afdx_table.specs.declared.rows.PortRow.{PortRow}
@@ -20,9 +19,9 @@ use Rattle.afdx_load.specs.Bounds.{high_bound, low_bound}
 use Rattle.afdx_load.specs.Accepted.{Carries, IsAccepted}
 use Rattle.afdx_isolation.specs.Table.{bound_of}
 use Rattle.afdx_core.specs.Merge.{Capture, records_of}
-use Rattle.afdx_session.specs.Headline.{frame_in, own_records, passed_records, records_for, bytes_of, IsInBound, IsIsolatedAt}
+use Rattle.afdx_session.specs.Headline.{frame_in, own_records, passed_records, records_for, IsInBound, IsIsolatedAt}
 use Rattle.afdx_network.proofs.Lists.{all_weaken, all_passed}
-use Rattle.afdx_network.proofs.Found.{some_same, same_number, all_by, of_all, contains_filter}
+use Rattle.afdx_network.proofs.Found.{same_number, all_by, of_all, contains_filter}
 use Rattle.afdx_network.proofs.Clean.{IsOf, own_clean, over_bytes}
 
 -- ---- a bound is within the greatest delay of a port

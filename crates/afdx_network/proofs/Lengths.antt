@@ -1,18 +1,18 @@
 -- A way back has each switch at most once.
-use Rattle.std.proofs.Common.{◌≡◌, ℕ, zero, suc, ◌+◌, ◌<◌, ◌≤◌, ◌==◌, Bool, true, false, List, [], ◌∷◌, ◌++◌, length, map, slice_get, Option, Some, None, option_map, option_and_then, refl, ap, sym, ◌∙◌, arith, subst}
-use Rattle.std.specs.Prelude.{All, Contains, flat_map}
-use Rattle.std.specs.List.{AllByRecursion, IsDistinct, enumerate_from}
+use Rattle.std.proofs.Common.{◌≡◌, ℕ, suc, ◌+◌, ◌<◌, ◌≤◌, ◌==◌, Bool, true, false, List, [], ◌∷◌, length, map, slice_get, Option, Some, None, option_map, option_and_then, refl, ap, sym, ◌∙◌, arith, subst}
+use Rattle.std.specs.Prelude.{All, Contains}
+use Rattle.std.specs.List.{AllByRecursion, IsDistinct}
 use Rattle.std.proofs.lemmas.List.{length-map}
 use Rattle.std.proofs.lemmas.Option.{slice_get_within}
 use Rattle.std.proofs.lemmas.Map.Steps.{length-le_from_distinct_below}
 use Rattle.std.proofs.lemmas.Map.Views.{Contains-from_any}
-use Rattle.afdx_table.specs.Link.{Link, leads_to}
+use Rattle.afdx_table.specs.Link.{Link}
 use Rattle.afdx_table.specs.Content.{Content, link_row}
 use Rattle.afdx_table.specs.WellFormed.{IsWellFormed}
 use Rattle.afdx_table.specs.Found.{LinksAreFound}
 use Rattle.afdx_wiring.specs.declared.layout.Wire.{Wire}
-use Rattle.afdx_wiring.specs.Net.{Network, Row, Back, row_at, rows_of, ingress, wire_to, IsWayBack}
-use Rattle.afdx_network.proofs.Lists.{apart, all_weaken, all_map, all_append}
+use Rattle.afdx_wiring.specs.Net.{Network, Row, Back, row_at, rows_of, IsWayBack}
+use Rattle.afdx_network.proofs.Lists.{all_weaken, all_map, all_append}
 use Rattle.afdx_network.proofs.Found.{some_same, equal, all_at, all_by, of_all}
 use Rattle.afdx_network.proofs.Rows.{row_in, rows_from, row_is}
 

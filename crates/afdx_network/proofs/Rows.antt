@@ -1,16 +1,21 @@
--- Rows of a network, and the wires to them.
-use Rattle.std.proofs.Common.{◌≡◌, ℕ, zero, suc, ◌+◌, ◌<◌, ◌==◌, ◌&&◌, Bool, true, false, List, [], ◌∷◌, ◌++◌, length, map, slice_get, Some, None, option_map, option_and_then, refl, ap, sym, ◌∙◌, arith, subst}
-use Rattle.std.specs.Prelude.{All, Contains, flat_map}
-use Rattle.std.specs.List.{AllByRecursion, enumerate_from}
+-- Rows of a network, the wires to them, and their bounds.
+use Rattle.std.proofs.Common.{◌≡◌, ℕ, zero, suc, ◌+◌, ◌==◌, ◌&&◌, Bool, true, false, List, [], ◌∷◌, map, slice_get, Some, option_map, option_and_then, refl, ap, sym, ◌∙◌, arith, subst}
+use Rattle.std.specs.Prelude.{Contains, flat_map}
+use Rattle.std.specs.List.{enumerate_from}
 use Rattle.std.proofs.lemmas.List.Elements.{Contains-append_left, Contains-append_right}
+use Rattle.afdx_units.specs.declared.line.Priority.{Priority}
+use Rattle.afdx_units.specs.declared.line.Priority.TheVariants.{High, Low}
 use Rattle.afdx_table.specs.Link.{Link, leads_to}
 use Rattle.afdx_table.specs.Content.{Content, link_row}
 use Rattle.afdx_table.specs.WellFormed.{IsWellFormed}
 use Rattle.afdx_table.specs.Found.{LinksAreFound}
+use Rattle.afdx_load.specs.Sums.{Sums}
+use Rattle.afdx_load.specs.Bounds.{bounds_of}
+use Rattle.afdx_isolation.specs.Table.{bound_of}
 use Rattle.afdx_wiring.specs.declared.layout.End.{End}
 use Rattle.afdx_wiring.specs.declared.layout.Wire.{Wire}
 use Rattle.afdx_wiring.specs.File.{is_end}
-use Rattle.afdx_wiring.specs.Net.{Network, Row, row_at, rows_of, rows_on, wire_to}
+use Rattle.afdx_wiring.specs.Net.{Network, Row, row_at, rows_of, rows_on, wire_to, bound_in}
 use Rattle.afdx_network.proofs.Found.{some_same, same_number, equal, contains_filter, contains_map, found_passes}
 
 -- ---- ends
@@ -71,3 +76,9 @@ pub row_is : LinksAreFound → (net : Network) (r : Row) (t : Content) → slice
     → row_at net r.switch r.link.id ≡ Some r
 row_is links net r t is formed among =
     ap (option_and_then (λ (c : Content). option_map (row_in r.switch) (link_row c r.link.id))) is ∙ ap (option_map (row_in r.switch)) (links.found t formed r.link among)
+
+-- ---- bounds
+
+pub same_bound : (s : Sums) (priority : Priority) → bound_in (bounds_of s) priority ≡ bound_of s priority
+same_bound s High = refl
+same_bound s Low = refl

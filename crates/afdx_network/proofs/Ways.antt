@@ -49,7 +49,7 @@ pub record IsAtTheEnd (first : Link) (own : List Entry) (least : ℕ → ℕ) (m
   pub within : AllZip (Within (λ size. least size + span_least size x steps) (most + span_most x steps)) (passed_records first own) (leave (last_of x steps))
   pub none : NonePoliced steps
 
-first_stage : (x : Stage) (steps : List Step) → IsWay x steps → IsStage x
+pub first_stage : (x : Stage) (steps : List Step) → IsWay x steps → IsStage x
 first_stage x [] way = way
 first_stage x (s ∷ steps) way = way.0
 

@@ -10,14 +10,13 @@ use Rattle.afdx_pcap.specs.Capture.{IsCapture}
 use Rattle.afdx_pcap.specs.ReadBack.{WrittenTextsReadBack}
 use Rattle.afdx_table.specs.declared.rows.PortRow.{PortRow}
 use Rattle.afdx_table.specs.Link.{Link, leads_to}
-use Rattle.afdx_table.specs.Content.{Content}
 use Rattle.afdx_table.specs.WellFormed.{IsWellFormed}
 use Rattle.afdx_table.specs.Found.{LinksAreFound}
 use Rattle.afdx_filter.specs.Exactly.{CleanExactly}
 use Rattle.afdx_filter.specs.Verdict.{verdict_of}
 use Rattle.afdx_core.specs.Rows.{says_clean}
 use Rattle.afdx_load.specs.Accepted.{IsAccepted}
-use Rattle.afdx_core.specs.Merge.{Capture, records_of}
+use Rattle.afdx_core.specs.Merge.{records_of}
 use Rattle.afdx_session.specs.Headline.{records_for, IsIsolatedAt}
 use Rattle.afdx_network.specs.Way.{delayed}
 use Rattle.afdx_network.specs.Runs.{SwitchRun}

@@ -1,16 +1,18 @@
 -- What holds of each run of an accepted network.
-use Rattle.std.specs.Prelude.{◌≡◌, ℕ, ◌+◌, ◌*◌, ◌<◌, ◌≤◌, true, List, length, map, slice_get, Some, All, Contains}
+use Rattle.std.specs.Prelude.{◌≡◌, ◌+◌, ◌*◌, ◌<◌, ◌≤◌, true, List, length, map, slice_get, Some, All, Contains}
 use Rattle.afdx_units.specs.Time.{second, last_second}
 use Rattle.afdx_pcap.specs.Entry.{Entry}
 use Rattle.afdx_pcap.specs.Capture.{IsCapture}
 use Rattle.afdx_table.specs.declared.rows.PortRow.{PortRow}
 use Rattle.afdx_table.specs.Link.{leads_to}
 use Rattle.afdx_table.specs.WellFormed.{IsWellFormed}
+use Rattle.afdx_core.specs.Merge.{records_of}
 use Rattle.afdx_session.specs.Texts.{Text}
+use Rattle.afdx_session.specs.Headline.{bytes_of}
 use Rattle.afdx_series.specs.Delay.{at_once}
 use Rattle.afdx_wiring.specs.Net.{Network, Row, Back, rows_of, IsWayBack}
 use Rattle.afdx_wiring.specs.Rules.{IsAcceptedNetwork}
-use Rattle.afdx_network.specs.Way.{Stage, Step, IsNode, IsWay, last_of, AreEnough, IsDelivered}
+use Rattle.afdx_network.specs.Way.{Stage, Step, IsNode, IsWay, last_of, AreEnough, leave, IsDelivered}
 use Rattle.afdx_network.specs.Runs.{SwitchRun, Given, IsFedBy, IsNetworkRun}
 use Rattle.afdx_network.specs.Ways.{node_of, IsWayIn}
 
@@ -40,6 +42,13 @@ AgreementIsWired = (net : Network) (given : Given) (runs : List SwitchRun) → I
 abbrev pub NetworkRunsDeliver : Type 0
 NetworkRunsDeliver = (net : Network) (given : Given) (runs : List SwitchRun) → IsAcceptedRun net given runs → (x : Stage) (steps : List Step) → IsWayIn net runs x steps
     → IsDelivered x steps
+
+-- two worlds: where ways of two such networks begin with the same row of a link, at tables of one constant, and the same came in at the
+-- row's port there, the same bytes leave at their ends
+abbrev pub OthersChangeNothingInNetworks : Type 0
+OthersChangeNothingInNetworks = (net net' : Network) (given given' : Given) (runs runs' : List SwitchRun) → IsAcceptedRun net given runs → IsAcceptedRun net' given' runs'
+    → (x x' : Stage) (steps steps' : List Step) → IsWayIn net runs x steps → IsWayIn net' runs' x' steps' → x.link ≡ x'.link → x.node.table.constant ≡ x'.node.table.constant
+    → records_of x.node.read x.link.from ≡ records_of x'.node.read x'.link.from → bytes_of (leave (last_of x steps)) ≡ bytes_of (leave (last_of x' steps'))
 
 -- a way ends at a row, at a port that it leads to
 pub record EndsAt (run : SwitchRun) (r : Row) (p : PortRow) (x : Stage) : Type 0 where

@@ -1,6 +1,6 @@
 //! Laws over the definitions: functions that do nothing, whose contracts are the laws.
 
-ghost use Rattle.afdx_network.specs.Laws.{RunsAreNodes, AgreementIsWired, NetworkRunsDeliver, WaysAreThere};
+ghost use Rattle.afdx_network.specs.Laws.{RunsAreNodes, AgreementIsWired, NetworkRunsDeliver, OthersChangeNothingInNetworks, WaysAreThere};
 ghost use Rattle.afdx_network.specs.Laws.{RestIsAgreement, WaysAreShort, NoneIsLate};
 ghost use Rattle.afdx_network.specs.Way.{WaysDeliver, OthersChangeNothingOnTheWay};
 
@@ -59,6 +59,16 @@ pub fn network_runs_deliver()
 {
     agreement_is_wired();
     ways_deliver();
+}
+
+/// Two worlds, in networks: the bytes that leave at the end of a link's way are named by the first table's constant, the
+/// link's row there and what came in at its port, whatever else the networks are and whatever else came.
+pub fn others_change_nothing_in_networks()
+    ensures { OthersChangeNothingInNetworks }
+{
+    agreement_is_wired();
+    ways_deliver();
+    others_change_nothing_on_the_way();
 }
 
 /// Each row of a link ends a way, at each port that it leads to.

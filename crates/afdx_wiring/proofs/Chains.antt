@@ -106,10 +106,10 @@ all_stand n (t ∷ ts) =
     all_append (Stands n (t ∷ ts)) (map (row_in n) t.links) (rows_from (n + 1) ts)
     (all_map (Stands n (t ∷ ts)) (row_in n) t.links (here t.links (λ l among. among)))
     (all_weaken (Stands (n + 1) ts) (Stands n (t ∷ ts)) (rows_from (n + 1) ts) (later n t ts) (all_stand (n + 1) ts)) where
-  here : (ls : List Link) → ((l : Link) → Contains ls l → Contains t.links l)
-      → AllByRecursion (λ l. Stands n (t ∷ ts) (row_in n l)) ls
-  here [] among = tt
-  here (l ∷ ls) among = (
-    record { place = 0; table = t; switch = omega arith; table_is = refl; known = among l (0, omega arith, refl) },
-    here ls (λ m m_in. among m (let within = m_in.1 in (suc m_in.0, omega (arith, within), m_in.2))),
-  )
+      here : (ls : List Link) → ((l : Link) → Contains ls l → Contains t.links l)
+          → AllByRecursion (λ l. Stands n (t ∷ ts) (row_in n l)) ls
+      here [] among = tt
+      here (l ∷ ls) among = (
+        record { place = 0; table = t; switch = omega arith; table_is = refl; known = among l (0, omega arith, refl) },
+        here ls (λ m m_in. among m (let within = m_in.1 in (suc m_in.0, omega (arith, within), m_in.2))),
+      )

@@ -108,9 +108,9 @@ met_rows net n before (t ∷ ts) =
     met_append net before (map (row_in n) t.links) (rows_from (n + 1) ts)
     ∙ ap (λ (m : Result (List ℕ) NetworkFault). m >>= λ more. met_in net more (rows_from (n + 1) ts)) (met_links net n before t.links)
     ∙ by (sources_in net n before t.links) where
-  by : (m : Result (List ℕ) NetworkFault) → (m >>= λ more. met_in net more (rows_from (n + 1) ts)) ≡ (m >>= λ more. sources_from net (n + 1) more ts)
-  by (Ok more) = met_rows net (n + 1) more ts
-  by (Err e) = refl
+      by : (m : Result (List ℕ) NetworkFault) → (m >>= λ more. met_in net more (rows_from (n + 1) ts)) ≡ (m >>= λ more. sources_from net (n + 1) more ts)
+      by (Ok more) = met_rows net (n + 1) more ts
+      by (Err e) = refl
 
 -- ---- so no two
 
@@ -146,6 +146,7 @@ met : (net : Network) (before more : List ℕ) (r : Row) → source_met net befo
 met net before more r h = by (is_fed net r) refl h where
   new : Answer
   new = unless (has r.link.id before) (fault.TwiceSource r.link.id)
+
   by : (b : Bool) → is_fed net r ≡ b → cond b (new >>= λ _. Ok (before ++ r.link.id ∷ [])) (Ok before) ≡ Ok more → Met net before more r
   by false not_fed is = record {
     kept = λ id h. subst (λ ids. has id ids ≡ true) (ok_same is) h;
@@ -173,9 +174,9 @@ later_new net before after (r ∷ rs) s h among source = by (source_met net befo
         | inl here ↦ let same = alone r s here in subst (λ (q : Row). has q.link.id before ≡ false) same (said.was_new (subst (IsSource net) (sym same) source))
         | inr there ↦ not_before (has s.link.id before) refl (later_new net more after rs s rest there source)
       ] where
-    not_before : (b : Bool) → has s.link.id before ≡ b → has s.link.id more ≡ false → b ≡ false
-    not_before false is_b new = refl
-    not_before true is_b new = absurd (apart (has s.link.id more) ((met net before more r is).kept s.link.id is_b) new)
+        not_before : (b : Bool) → has s.link.id before ≡ b → has s.link.id more ≡ false → b ≡ false
+        not_before false is_b new = refl
+        not_before true is_b new = absurd (apart (has s.link.id more) ((met net before more r is).kept s.link.id is_b) new)
 
 pub once : (net : Network) (before after : List ℕ) (rs : List Row) → met_in net before rs ≡ Ok after → (r s : Row) → Contains rs r → Contains rs s
     → IsSource net r → IsSource net s → r.link.id ≡ s.link.id → r ≡ s
@@ -186,22 +187,22 @@ once net before after (x ∷ xs) h r s r_in s_in r_source s_source same = by (so
   by (Ok more) is rest =
       elim (Contains-append_cases (x ∷ []) xs r r_in) [
         | inl r_here ↦ elim (Contains-append_cases (x ∷ []) xs s s_in) [
-            | inl s_here ↦ sym (alone x r r_here) ∙ alone x s s_here
-            | inr s_there ↦ absurd (clash more is rest r s r_here s_there r_source s_source same)
-          ]
+          | inl s_here ↦ sym (alone x r r_here) ∙ alone x s s_here
+          | inr s_there ↦ absurd (clash more is rest r s r_here s_there r_source s_source same)
+        ]
         | inr r_there ↦ elim (Contains-append_cases (x ∷ []) xs s s_in) [
-            | inl s_here ↦ absurd (clash more is rest s r s_here r_there s_source r_source (sym same))
-            | inr s_there ↦ once net more after xs rest r s r_there s_there r_source s_source same
-          ]
+          | inl s_here ↦ absurd (clash more is rest s r s_here r_there s_source r_source (sym same))
+          | inr s_there ↦ once net more after xs rest r s r_there s_there r_source s_source same
+        ]
       ] where
-    clash : (more : List ℕ) → source_met net before x ≡ Ok more → met_in net more xs ≡ Ok after → (p q : Row) → Contains (x ∷ []) p → Contains xs q → IsSource net p → IsSource net q
-        → p.link.id ≡ q.link.id → ⊥
-    clash more is rest p q p_here q_there p_source q_source number =
-        let x_is : x ≡ p = alone x p p_here in
-        let x_met = (met net before more x is).is_met (subst (IsSource net) (sym x_is) p_source) in
-        let p_met : has p.link.id more ≡ true = subst (λ (y : Row). has y.link.id more ≡ true) x_is x_met in
-        let q_met : has q.link.id more ≡ true = subst (λ id. has id more ≡ true) number p_met in
-        apart (has q.link.id more) q_met (later_new net more after xs q rest q_there q_source)
+        clash : (more : List ℕ) → source_met net before x ≡ Ok more → met_in net more xs ≡ Ok after → (p q : Row) → Contains (x ∷ []) p → Contains xs q → IsSource net p → IsSource net q
+            → p.link.id ≡ q.link.id → ⊥
+        clash more is rest p q p_here q_there p_source q_source number =
+            let x_is : x ≡ p = alone x p p_here in
+            let x_met = (met net before more x is).is_met (subst (IsSource net) (sym x_is) p_source) in
+            let p_met : has p.link.id more ≡ true = subst (λ (y : Row). has y.link.id more ≡ true) x_is x_met in
+            let q_met : has q.link.id more ≡ true = subst (λ id. has id more ≡ true) number p_met in
+            apart (has q.link.id more) q_met (later_new net more after xs q rest q_there q_source)
 
 pub fed_once_says : (net : Network) → fed_once net ≡ Ok tt → (r s : Row) → Contains (rows_of net) r → Contains (rows_of net) s → IsSource net r → IsSource net s
     → r.link.id ≡ s.link.id → r ≡ s

@@ -236,9 +236,9 @@ all_go net w j n p t =
     all_filter (GoesOn net w) (λ (r : Row). leads_to w.from.port r.link) _
     (all_filter (λ (r : Row). leads_to w.from.port r.link ≡ true → GoesOn net w r) (λ (r : Row). is_end (record { switch = r.switch; port = w.from.port }) w.from) (rows_of net)
     (all_weaken (Stands 0 net.tables) _ (rows_of net) each (all_stand 0 net.tables))) where
-  each : (r : Row) → Stands 0 net.tables r → is_end (record { switch = r.switch; port = w.from.port }) w.from ≡ true → leads_to w.from.port r.link ≡ true → GoesOn net w r
-  each r s at leads =
-      let parts = both (r.switch == w.from.switch) (w.from.port == w.from.port) at in
-      let table = same_table net w j r s (equal r.switch w.from.switch parts.0) in
-      let among = subst (λ (c : Content). Contains c.links r.link) table s.known in
-      goes net w j r (behind n.0 p.0 t.0 j.there w r.link leads (each_link net shared.Number w j n r.link among) (each_link net shared.Port w j p r.link among) (each_link net shared.Terms w j t r.link among))
+      each : (r : Row) → Stands 0 net.tables r → is_end (record { switch = r.switch; port = w.from.port }) w.from ≡ true → leads_to w.from.port r.link ≡ true → GoesOn net w r
+      each r s at leads =
+          let parts = both (r.switch == w.from.switch) (w.from.port == w.from.port) at in
+          let table = same_table net w j r s (equal r.switch w.from.switch parts.0) in
+          let among = subst (λ (c : Content). Contains c.links r.link) table s.known in
+          goes net w j r (behind n.0 p.0 t.0 j.there w r.link leads (each_link net shared.Number w j n r.link among) (each_link net shared.Port w j p r.link among) (each_link net shared.Terms w j t r.link among))

@@ -1,7 +1,9 @@
 pub mod ArrayLemmas
 pub mod Chains
+pub mod Enough
 pub mod Examples
 pub mod FeedLemmas
+pub mod Fits
 pub mod JointLemmas
 pub mod LimitLemmas
 pub mod TextLemmas

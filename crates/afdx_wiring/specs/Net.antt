@@ -1,11 +1,14 @@
 -- A network: what its file says, and the tables of its switches. The wires of a link's way are found from its end.
 use Rattle.std.specs.Prelude.{◌≡◌, ℕ, true, List, [], ◌∷◌, map, filter, find, flat_map, slice_get, Option, Some, None, option_map, option_and_then}
 use Rattle.std.specs.List.{enumerate_from}
+use Rattle.afdx_units.specs.declared.line.Priority.{Priority}
+use Rattle.afdx_units.specs.declared.line.Priority.TheVariants.{High, Low}
 use Rattle.afdx_table.specs.declared.rows.PortRow.{PortRow}
 use Rattle.afdx_table.specs.Link.{Link, leads_to}
 use Rattle.afdx_table.specs.Content.{Content, port_row, link_row}
 use Rattle.afdx_load.specs.Sums.{load_of}
-use Rattle.afdx_isolation.specs.Table.{bound_of}
+use Rattle.afdx_load.specs.Bounds.{bounds_of}
+use Rattle.afdx_load.specs.declared.delays.Bounds.{Bounds}
 use Rattle.afdx_series.specs.declared.delays.Delays.{Delays}
 use Rattle.afdx_series.specs.Delay.{hop_of, joined, at_once}
 use Rattle.afdx_wiring.specs.declared.layout.End.{End}
@@ -72,9 +75,14 @@ source_of r (b ∷ more) = source_of b.row more
 
 -- ---- what a frame takes for it
 
+-- the bound of a priority
+abbrev pub bound_in : Bounds → Priority → Option ℕ
+bound_in bounds High = bounds.high
+bound_in bounds Low = bounds.low
+
 -- the bound of the row's link at a port that it leads to
 abbrev pub bound_at : Network → Row → PortRow → Option ℕ
-bound_at net r p = option_and_then (λ t. bound_of (load_of t.latency p.speed p.id t.links) r.link.priority) (slice_get net.tables r.switch)
+bound_at net r p = option_and_then (λ t. bound_in (bounds_of (load_of t.latency p.speed p.id t.links)) r.link.priority) (slice_get net.tables r.switch)
 
 -- these are the delays from the arrival at the source's switch to that at the row's switch
 abbrev pub AreDelays : Network → List Back → Delays → Type 0

@@ -3,7 +3,7 @@
 use Rattle.std.specs.Prelude.{ℕ, zero, suc, ◌+◌, ◌-◌, ◌*◌, ◌/◌, ◌==◌, ◌||◌, Bool, true, false, not, nat_le, nat_lt, if◌then◌else◌, List, [], ◌∷◌, ◌++◌, slice_get}
 use Rattle.std.specs.Prelude.{Option, Some, None, option_map, option_and_then, is_some, Result, Ok, Err}
 use Rattle.std.specs.List.{list_any}
-use Rattle.std.specs.Option.{option_or, option_map_or}
+use Rattle.std.specs.Option.{option_map_or}
 use Rattle.std.specs.Str.{bytes_eq}
 use Rattle.afdx_units.specs.declared.police.Police.{Police}
 use Rattle.afdx_units.specs.declared.police.Police.TheVariants.{Byte, Frame}
@@ -16,7 +16,7 @@ use Rattle.afdx_table.specs.Content.{Content, port_row, link_row}
 use Rattle.afdx_load.specs.Sums.{load_of}
 use Rattle.afdx_load.specs.Accepted.{first_fault}
 use Rattle.afdx_load.specs.declared.fault.LoadFault.{LoadFault}
-use Rattle.afdx_isolation.specs.Table.{bound_of}
+use Rattle.afdx_load.specs.Bounds.{bounds_of}
 use Rattle.afdx_series.specs.declared.delays.Delays.{Delays}
 use Rattle.afdx_series.specs.Delay.{hop_of, joined, at_once, need_of}
 use Rattle.afdx_wiring.specs.declared.fault.At.{At}
@@ -25,11 +25,11 @@ use Rattle.afdx_wiring.specs.declared.fault.NetworkFault.{NetworkFault}
 use Rattle.afdx_wiring.specs.declared.fault.NetworkFault.TheVariants as fault
 use Rattle.afdx_wiring.specs.declared.layout.End.{End}
 use Rattle.afdx_wiring.specs.declared.layout.Wire.{Wire}
-use Rattle.afdx_wiring.specs.declared.network.Row.{Row as RowOfCode}
+use Rattle.afdx_wiring.specs.declared.row.Row.{Row as RowOfCode}
 use Rattle.afdx_wiring.specs.declared.terms.Shared.{Shared}
 use Rattle.afdx_wiring.specs.declared.terms.Shared.TheVariants as shared
 use Rattle.afdx_wiring.specs.Refusal.{◌>>=◌, or_refuse, unless}
-use Rattle.afdx_wiring.specs.Net.{Network, Row, port_at, row_at, ingress, wire_to}
+use Rattle.afdx_wiring.specs.Net.{Network, Row, port_at, row_at, ingress, wire_to, bound_in}
 
 -- a row as the code has it
 abbrev pub row_of : RowOfCode → Row
@@ -184,10 +184,15 @@ misfit net = do
 
 -- ---- loads
 
--- the first switch whose load is not accepted, of which n come before these
-abbrev pub overload : ℕ → List Content → Option (ℕ × LoadFault)
-overload n [] = None
-overload n (t ∷ ts) = option_or (option_map (λ fault. (n, fault)) (first_fault t.latency t.links t.ports)) (overload (n + 1) ts)
+-- the load of the switch with this number before it
+abbrev pub load_fits : ℕ → Option LoadFault → Answer
+load_fits n None = Ok tt
+load_fits n (Some why) = Err (fault.Load n why)
+
+-- by switch, of which n come before these
+abbrev pub loads_fit : ℕ → List Content → Answer
+loads_fit n [] = Ok tt
+loads_fit n (t ∷ ts) = load_fits n (first_fault t.latency t.links t.ports) >>= λ _. loads_fit (n + 1) ts
 
 -- ---- jitters
 
@@ -195,26 +200,27 @@ overload n (t ∷ ts) = option_or (option_map (λ fault. (n, fault)) (first_faul
 abbrev pub within_reason : ℕ → Option ℕ
 within_reason bound = if nat_le bound 1000000000000 then Some bound else None
 
--- from a row's switch, which has this table, over a wire from this port to the next switch
-abbrev pub hop_over : Content → Row → Wire → PortRow → Option Delays
-hop_over t r w p =
-    option_map (λ bound. hop_of p.speed t.latency bound w.delay)
-    (option_and_then within_reason (bound_of (load_of t.latency p.speed p.id t.links) r.link.priority))
+-- from a row's switch, which has this table, over a cable from this port
+abbrev pub hop_over : Content → Row → (cable : ℕ) → PortRow → Option Delays
+hop_over t r cable p =
+    option_map (λ bound. hop_of p.speed t.latency bound cable)
+    (option_and_then within_reason (bound_in (bounds_of (load_of t.latency p.speed p.id t.links)) r.link.priority))
 
-abbrev pub hop_on : Network → Row → Wire → Option Delays
-hop_on net r w = option_and_then (λ t. option_and_then (hop_over t r w) (port_row t w.from.port)) (slice_get net.tables r.switch)
+abbrev pub hop_on : Network → Row → (port cable : ℕ) → Option Delays
+hop_on net r port cable = option_and_then (λ t. option_and_then (hop_over t r cable) (port_row t port)) (slice_get net.tables r.switch)
 
 -- the jitter of a row's source and the delays from there to the row, over at most n rows; these come after
 abbrev pub way_by : (Row → Delays → Option (ℕ × Delays)) → Network → Row → Delays → Option Wire → Option (ℕ × Delays)
 way_by back net r after None = Some (r.link.jitter, after)
-way_by back net r after (Some w) = option_and_then (λ b. option_and_then (λ hop. back b (joined hop after)) (hop_on net b w)) (row_before net r.link.id w)
+way_by back net r after (Some w) = option_and_then (λ b. option_and_then (λ hop. back b (joined hop after)) (hop_on net b w.from.port w.delay)) (row_before net r.link.id w)
 
 abbrev pub way_within : ℕ → Network → Row → Delays → Option (ℕ × Delays)
 way_within zero net r after = None
 way_within (suc n) net r after = way_by (way_within n net) net r after (wire_to net (ingress r))
 
+-- there is such a way where the tables fit together and are accepted
 abbrev pub has_jitter : Row → Option (ℕ × Delays) → Answer
-has_jitter r None = Ok tt
+has_jitter r None = Err (fault.NoSource r.switch r.link.id)
 has_jitter r (Some far) =
     unless (nat_lt (r.link.jitter / 1000) (need_of far.1 far.0))
     (fault.Jitter (record { switch = r.switch; link = r.link.id; need = need_of far.1 far.0; has = r.link.jitter / 1000 }))

@@ -3,13 +3,13 @@
 ghost use Rattle.std.specs.Prelude.{◌≡◌, ◌≤◌, ◌+◌, ◌*◌, IfOk, IfSome};
 ghost use Rattle.afdx_wiring.specs.Refusal.{Gives};
 ghost use Rattle.afdx_wiring.specs.Order.{row_of, by_links, has_jitter, jitter_enough, way_within, shortage};
-ghost use Rattle.afdx_wiring.specs.Rules.{FitsTogether, HasJitters};
+ghost use Rattle.afdx_wiring.specs.Rules.{HasJitters};
 
 use crate::cleared::ClearedNetwork;
 use crate::fault::{NetworkFault, Short};
 use crate::hops::Hops;
 use crate::joints::link_at;
-use crate::network::Row;
+use crate::row::Row;
 use crate::sources::MOST_ROWS;
 use afdx_series::{Delays, need};
 use afdx_table::Table;
@@ -23,11 +23,11 @@ fn has_jitter(row: Row<'_>, far: Option<(u64, Delays)>) -> Result<(), NetworkFau
     requires { IfSome far (λ f. (f.0 ≤ 10000000) × (f.1.most ≤ 1152921504606846976)) }
     ensures { result ≡ has_jitter (row_of row.entry) far }
 {
+    let link = row.link;
     let Some((jitter, delays)) = far else {
-        return Ok(());
+        return Err(NetworkFault::NoSource(row.switch, link.id));
     };
     let need = need(delays, jitter);
-    let link = row.link;
     let has = link.jitter / MICROSECOND;
     if has < need {
         return Err(NetworkFault::Jitter(Short {
@@ -48,7 +48,6 @@ impl<'a> Hops<'a> {
         row: Row<'_>,
         after: Delays,
     ) -> Option<(u64, Delays)>
-        requires jitter { row.entry.link.now.jitter ≤ 10000000 }
         requires least { after.least + rows * 2199023255552 ≤ 1152921504606846976 }
         requires most { after.most + rows * 2199023255552 ≤ 1152921504606846976 }
         ensures way { result ≡ way_within rows self.now (row_of row.entry) after }
@@ -60,7 +59,7 @@ impl<'a> Hops<'a> {
             return Some((link.jitter, after));
         };
         let before = self.network().row_before(link.id, wire)?;
-        let hop = self.hop_on(before, wire)?;
+        let hop = self.hop_on(before, wire.from.port, wire.delay)?;
         self.way_within(fewer, before, hop.join(after))
     }
 
@@ -81,12 +80,12 @@ impl<'a> Hops<'a> {
 
 impl ClearedNetwork {
     /// Whether the jitter of each row is enough for the whole way to it. Else `Jitter` of the first row, by switch and in the
-    /// order of its table, whose jitter is not; or `Memory`.
+    /// order of its table, whose jitter is not; or `Memory`. It is asked of a network that fits: of another one `NoSource`, where
+    /// a row has no way back.
     ///
     /// O(r s w) for r rows, at most s switches on a way, and w wires; O(s) memory.
-    #[tactic(auto, unfolding(crate::specs::Order::shortage))]
+    #[tactic(auto, unfolding(crate::specs::Order::shortage), using(crate::proofs::Enough::enough))]
     pub fn check(&self, alloc: Global) -> Result<(), NetworkFault>
-        requires { FitsTogether self.now }
         ensures first { Gives (λ u. u) result (shortage self.now) }
         ensures jitters { IfOk result (λ _. HasJitters self.now) }
     {

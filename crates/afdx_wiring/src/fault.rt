@@ -3,6 +3,7 @@
 ghost use Rattle.std.specs.Prelude.{◌≡◌};
 ghost use Rattle.afdx_wiring.specs.Names.{key_text};
 
+use afdx_load::LoadFault;
 use std::alloc::AllocError;
 use std::fmt;
 
@@ -57,6 +58,8 @@ pub enum NetworkFault {
     OwnPort(At),
     /// G3: a wire's end names a port that is not in its switch's table.
     NoSuchPort(At),
+    /// L1 to L4: the load of the table of the switch at this place, from 0, is not accepted, and this is its first fault.
+    Load(usize, LoadFault),
     /// G4: the tables at both ends have two constant fields.
     Constant(At),
     /// G4: the ports at both ends have two speeds.

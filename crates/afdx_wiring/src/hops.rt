@@ -1,12 +1,12 @@
 //! What a frame takes from a switch to the next one.
 
 ghost use Rattle.std.specs.Prelude.{◌≡◌, ◌≤◌, IfOk, IfSome};
-ghost use Rattle.afdx_isolation.specs.Table.{bound_of};
+ghost use Rattle.afdx_wiring.specs.Net.{bound_in};
 ghost use Rattle.afdx_wiring.specs.Order.{row_of, within_reason, hop_on};
 
-use crate::layout::Wire;
-use crate::network::{Network, Row};
-use afdx_load::{Load, Loads, bounds, loads};
+use crate::network::Network;
+use crate::row::Row;
+use afdx_load::{Bounds, Loads, bounds, loads};
 use afdx_series::{Delays, hop};
 use afdx_units::Priority;
 use std::alloc::{AllocError, Global};
@@ -35,13 +35,13 @@ impl<'a> Model for Hops<'a> {
     ghost invariant = { λ h. h.loads.items ≡ h.network.now.tables };
 }
 
-/// The bound of a priority, where the port has links of it.
-fn bound_of(load: &Load, priority: Priority) -> Option<u128>
-    ensures { result ≡ bound_of load.now priority }
+/// The bound of a priority.
+fn bound_in(bounds: Bounds, priority: Priority) -> Option<u128>
+    ensures { result ≡ bound_in bounds priority }
 {
     match priority {
-        Priority::High => bounds(load).high,
-        Priority::Low => bounds(load).low,
+        Priority::High => bounds.high,
+        Priority::Low => bounds.low,
     }
 }
 
@@ -78,16 +78,16 @@ impl<'a> Hops<'a> {
         self.network
     }
 
-    /// What a frame of a row's link takes over a wire from its switch to the next.
-    pub(crate) fn hop_on(&self, row: Row<'_>, wire: &Wire) -> Option<Delays>
-        ensures hop { result ≡ hop_on self.now (row_of row.entry) wire.now }
+    /// What a frame of a row's link takes from its arrival at the row's switch over a cable from a port.
+    pub(crate) fn hop_on(&self, row: Row<'_>, port: u8, cable: u32) -> Option<Delays>
+        ensures hop { result ≡ hop_on self.now (row_of row.entry) port cable }
         ensures limits { IfSome result (λ d. (d.least ≤ 2199023255552) × (d.most ≤ 2199023255552)) }
     {
         let table = self.network.table(row.switch)?;
-        let port = table.port(wire.from.port)?;
+        let port = table.port(port)?;
         let load = self.loads.get(row.switch)?.at(port.id)?;
         let link = row.link;
-        let bound = within_reason(bound_of(&load, link.priority)?)?;
-        Some(hop(port.speed, table.latency(), bound, u64::from(wire.delay)))
+        let bound = within_reason(bound_in(bounds(&load), link.priority)?)?;
+        Some(hop(port.speed, table.latency(), bound, u64::from(cable)))
     }
 }

@@ -2,6 +2,7 @@
 
 ghost use Rattle.std.specs.Prelude.{◌≡◌, ◌<◌, option_copied, length, slice_index_or};
 ghost use Rattle.std.specs.Str.{bytes_eq};
+ghost use Rattle.afdx_table.specs.WellFormed.{IsLink};
 ghost use Rattle.afdx_wiring.specs.Order.{by_wires, by_links, same_rate, same_constant, same_speed, joined_at, goes_on, all_go_on, shares};
 
 use crate::fault::{At, NetworkFault};
@@ -20,7 +21,7 @@ fn same_rate(one: Speed, other: Speed) -> bool
 
 /// The constant fields at both ends of a wire.
 fn same_constant(at: At, here: Option<&Table>, there: Option<&Table>) -> Result<(), NetworkFault>
-    ensures { result ≡ same_constant at (option_copied here) (option_copied there) }
+    ensures { result ≡ same_constant at (option_copied here.entry) (option_copied there.entry) }
 {
     match (here, there) {
         (Some(here), Some(there)) if there.constant() == here.constant() => Ok(()),
@@ -31,7 +32,7 @@ fn same_constant(at: At, here: Option<&Table>, there: Option<&Table>) -> Result<
 
 /// The speeds of both ends of a wire.
 fn same_speed(at: At, start: Option<&PortRow>, goal: Option<&PortRow>) -> Result<(), NetworkFault>
-    ensures { result ≡ same_speed at (option_copied start) (option_copied goal) }
+    ensures { result ≡ same_speed at (option_copied start.entry) (option_copied goal.entry) }
 {
     match (start, goal) {
         (Some(start), Some(goal)) if same_rate(goal.speed, start.speed) => Ok(()),
@@ -43,7 +44,8 @@ fn same_speed(at: At, start: Option<&PortRow>, goal: Option<&PortRow>) -> Result
 /// The link at a place in file order.
 pub(crate) fn link_at(table: &Table, index: usize) -> &LinkRow
     requires { index < length table.now.links }
-    ensures { result.now ≡ slice_index_or table.now.links index result.now }
+    ensures link { result.now ≡ slice_index_or table.now.links index result.now }
+    ensures limits { IsLink table.now.ports result.now }
 {
     table.link_at(index).unwrap()
 }

@@ -16,13 +16,17 @@ mod layout;
 mod names;
 mod network;
 mod reading;
+mod row;
 mod sources;
 mod switches;
 mod terms;
+mod ways;
 mod wires;
 
 pub use cleared::ClearedNetwork;
 pub use fault::{At, Key, NetworkFault, Short};
 pub use layout::{End, Layout, Switch, Wire};
-pub use network::{Network, Row};
+pub use network::Network;
 pub use reading::read;
+pub use row::Row;
+pub use ways::Way;

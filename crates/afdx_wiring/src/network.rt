@@ -7,8 +7,9 @@ ghost use Rattle.afdx_wiring.specs.Order.{row_of, is_port, lost_port, leading, r
 
 use crate::fault::{At, NetworkFault};
 use crate::layout::{End, Layout, Wire};
+use crate::row::Row;
 use crate::wires::is_end;
-use afdx_table::{LinkRow, PortRow, Table};
+use afdx_table::{PortRow, Table};
 use std::marker::Model;
 
 /// A network: each end of its wires is a port.
@@ -53,17 +54,6 @@ fn check_ports(tables: &[Table], wires: &[Wire]) -> Result<(), NetworkFault>
         }
     }
     Ok(())
-}
-
-/// A link's row in the table of a switch.
-///
-/// Contracts see it by `row_of` as a record of the place of the switch and of the link.
-#[derive(Clone, Copy)]
-pub struct Row<'a> {
-    /// The place of the switch in file order, from 0.
-    pub switch: usize,
-    /// The row.
-    pub link: &'a LinkRow,
 }
 
 impl<'a> Row<'a> {
@@ -119,6 +109,14 @@ impl Network {
         ensures ports { lost_port self.now.tables self.now.layout.wires ≡ Ok tt }
     {
         &self.tables
+    }
+
+    /// The layout and the tables, apart. O(1).
+    pub(crate) fn into_parts(self) -> (Layout, Vec<Table>)
+        ensures parts { (result.0 ≡ self.layout) × (result.1.items ≡ self.tables) }
+        ensures ports { lost_port self.tables self.layout.wires ≡ Ok tt }
+    {
+        (self.layout, self.tables)
     }
 
     /// The table of the switch at a place, from 0. O(1).

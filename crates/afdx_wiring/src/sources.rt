@@ -6,7 +6,8 @@ ghost use Rattle.afdx_wiring.specs.Order.{row_of, by_links, by_rows, ends_within
 
 use crate::fault::NetworkFault;
 use crate::joints::link_at;
-use crate::network::{Network, Row};
+use crate::network::Network;
+use crate::row::Row;
 use afdx_numbers::Numbers;
 use afdx_table::Table;
 use std::alloc::Global;
