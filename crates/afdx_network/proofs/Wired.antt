@@ -79,7 +79,8 @@ originals : (cable : ℕ) (rs : List Entry) → AllByRecursion (λ (r : Entry). 
 originals cable [] = tt
 originals cable (r ∷ rs) = (refl, originals cable rs)
 
-back_later : WrittenTextsReadBack → (cable : ℕ) (rs qs : List Entry) → cable ≤ 1000000 → AllByRecursion CanBeTold rs → IsCapture (capture_text (map (delayed cable) rs)) qs → qs ≡ map (delayed cable) rs
+back_later : WrittenTextsReadBack → (cable : ℕ) (rs qs : List Entry) → cable ≤ 1000000 → AllByRecursion CanBeTold rs
+    → IsCapture (capture_text (map (delayed cable) rs)) qs → qs ≡ map (delayed cable) rs
 back_later back cable rs qs small all read =
     back (map (delayed cable) rs) qs (All-from_recursion IsWithinLimit (map (delayed cable) rs) (limits cable rs all))
     (All-from_recursion (λ (r : Entry). IsInstant r.stamp) (map (delayed cable) rs) (instants cable rs small all))

@@ -78,7 +78,9 @@ wire_short at switches before ms w is =
     let delay = stepped (optional_number_at at key.Delay 1000000 0 ms) _ w to_text.rest in
     let from = stepped (found at switches from_text.first) _ w delay.rest in
     let to = stepped (found at switches to_text.first) _ w from.rest in
-    subst (λ (v : Wire). v.delay ≤ 1000000) (same_wire at before (record { from = from.first; to = to.first; delay = delay.first }) w to.rest) (optional_within at key.Delay 1000000 0 ms delay.first (omega arith) delay.first_is)
+    subst (λ (v : Wire). v.delay ≤ 1000000)
+    (same_wire at before (record { from = from.first; to = to.first; delay = delay.first }) w to.rest)
+    (optional_within at key.Delay 1000000 0 ms delay.first (omega arith) delay.first_is)
 
 all_push : (P : Wire → Type 0) (ws : List Wire) (w : Wire) → AllByRecursion P ws → P w → AllByRecursion P (ws ++ w ∷ [])
 all_push P [] w all last = (last, tt)
