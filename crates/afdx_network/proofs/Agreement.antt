@@ -2,7 +2,9 @@
 use Rattle.std.proofs.Common.{◌≡◌, ℕ, ◌≤◌, true, List, [], ◌∷◌, map, slice_get, Some, option_and_then, refl, ap, sym, ◌∙◌, subst}
 use Rattle.std.specs.Prelude.{All, Contains}
 use Rattle.std.proofs.lemmas.List.Elements.{All-contains}
+use Rattle.afdx_pcap.specs.Entry.{Entry}
 use Rattle.afdx_pcap.specs.Text.{capture_text}
+use Rattle.afdx_pcap.specs.Capture.{IsCapture}
 use Rattle.afdx_pcap.specs.ReadBack.{WrittenTextsReadBack}
 use Rattle.afdx_table.specs.declared.rows.PortRow.{PortRow}
 use Rattle.afdx_table.specs.Link.{Link, leads_to}
@@ -18,6 +20,7 @@ use Rattle.afdx_core.specs.Merge.{records_of}
 use Rattle.afdx_series.specs.declared.delays.Delays.{Delays}
 use Rattle.afdx_series.specs.Delay.{hop_of, joined, at_once, IsEnough}
 use Rattle.afdx_session.specs.Texts.{Text}
+use Rattle.afdx_session.specs.Outcome.{Results}
 use Rattle.afdx_wiring.specs.declared.layout.End.{End}
 use Rattle.afdx_wiring.specs.declared.layout.Wire.{Wire}
 use Rattle.afdx_wiring.specs.Net.{Network, Row, Back, port_at, row_at, rows_of, rows_on, ingress, wire_to, bound_in, IsWayBack, AreDelays, source_of}
@@ -26,7 +29,7 @@ use Rattle.afdx_network.specs.Way.{Node, Stage, IsStage, Step, Follows, IsWay, A
 use Rattle.afdx_network.specs.Runs.{SwitchRun, Given}
 use Rattle.afdx_network.specs.Ways.{node_of, IsStageAt, GoesOver, IsWayFrom, IsWayIn}
 use Rattle.afdx_network.specs.Laws.{IsAcceptedRun}
-use Rattle.afdx_network.proofs.Found.{some_same, get_map, map_contains, all_at, ports_are_found, one_port}
+use Rattle.afdx_network.proofs.Found.{some_same, get_map, got_map, map_contains, all_at, ports_are_found, one_port}
 use Rattle.afdx_network.proofs.Rows.{wire_goes_there, rows_have, rows_on_have, row_is, same_bound}
 use Rattle.afdx_network.proofs.Lengths.{IsFound, found_row}
 use Rattle.afdx_network.proofs.Wired.{wired}
@@ -64,25 +67,31 @@ module _ (g : Ground) (net : Network) (given : Given) (runs : List SwitchRun) (a
     pub number : port.id ≡ w.from.port
     pub comes : records_of run.isolated.read w.to.port ≡ map (delayed w.delay) (here.isolated.out port)
 
-  pub behind : (w : Wire) (run : SwitchRun) → Contains net.layout.wires w → slice_get runs w.to.switch ≡ Some run → Behind w run
-  behind w run among is =
-      let b = acc.run.fed.wires w among in
-      let h = map_contains (λ (p : PortRow). (p.id, capture_text (b.here.isolated.out p))) b.here.table.ports (w.from.port, b.bytes)
-          (subst (λ (texts : List Text). Contains texts (w.from.port, b.bytes)) b.here.isolated.captures b.written) in
+  left_by : (w : Wire) (run : SwitchRun) → Contains net.layout.wires w → slice_get runs w.to.switch ≡ Some run → (here : SwitchRun) → slice_get runs w.from.switch ≡ Some here
+      → (bytes : List ℕ) (records : List Entry) → Contains here.results.captures (w.from.port, bytes) → IsCapture bytes records
+      → Contains run.texts (w.to.port, capture_text (map (delayed w.delay) records)) → Behind w run
+  left_by w run among is here here_is bytes records written read comes =
+      let h = map_contains (λ (p : PortRow). (p.id, capture_text (here.isolated.out p))) here.table.ports (w.from.port, bytes)
+      (subst (λ (texts : List Text). Contains texts (w.from.port, bytes)) here.isolated.captures written) in
       let number : h.0.id ≡ w.from.port = ap (λ (text : Text). text.0) h.2 in
-      let there : b.there ≡ run.texts = some_same (sym b.there_is ∙ get_map (λ (r : SwitchRun). r.texts) runs w.to.switch run is) in
       let small = All-contains (λ (v : Wire). v.delay ≤ 1000000) net.layout.wires w acc.of_file.delays among in
       record {
-        here = b.here;
-        here_is = b.here_is;
+        here = here;
+        here_is = here_is;
         port = h.0;
         has = h.1;
         number = number;
-        comes = wired g.exact g.links g.back b.here run w.delay w.to.port h.0 b.bytes b.left (formed_at w.from.switch b.here b.here_is)
-            (accepted_at w.from.switch b.here b.here_is) (formed_at w.to.switch run is) small h.1
-            (subst (λ (n : ℕ). Contains b.here.results.captures (n, b.bytes)) (sym number) b.written) b.read
-            (subst (λ (texts : List Text). Contains texts (w.to.port, capture_text (map (delayed w.delay) b.left))) there b.comes);
+        comes = wired g.exact g.links g.back here run w.delay w.to.port h.0 bytes records (formed_at w.from.switch here here_is) (accepted_at w.from.switch here here_is)
+            (formed_at w.to.switch run is) small h.1 (subst (λ (n : ℕ). Contains here.results.captures (n, bytes)) (sym number) written) read comes;
       }
+
+  pub behind : (w : Wire) (run : SwitchRun) → Contains net.layout.wires w → slice_get runs w.to.switch ≡ Some run → Behind w run
+  behind w run among is =
+      let b = acc.run.fed.wires w among in
+      let h = got_map (λ (r : SwitchRun). r.results) runs w.from.switch b.here b.here_is in
+      let there : b.there ≡ run.texts = some_same (sym b.there_is ∙ get_map (λ (r : SwitchRun). r.texts) runs w.to.switch run is) in
+      left_by w run among is h.0 h.1 b.bytes b.records (subst (λ (r : Results). Contains r.captures (w.from.port, b.bytes)) (sym h.2) b.written) b.read
+      (subst (λ (texts : List Text). Contains texts (w.to.port, capture_text (map (delayed w.delay) b.records))) there b.comes)
 
   -- a row, and the one that sends its link on the wire to it
   pub record RowBefore (b : Back) (r : Row) (run : SwitchRun) : Type 0 where
@@ -143,7 +152,7 @@ module _ (g : Ground) (net : Network) (given : Given) (runs : List SwitchRun) (a
     is_stage : IsStage x
     is_stage =
         let same : x ≡ stage_by x.port x.bound (node_of h.run) r.link
-            = ap (λ (n : Node). stage_by x.port x.bound n x.link) h.node ∙ ap (λ (l : Link). stage_by x.port x.bound (node_of h.run) l) h.link in
+        = ap (λ (n : Node). stage_by x.port x.bound n x.link) h.node ∙ ap (λ (l : Link). stage_by x.port x.bound (node_of h.run) l) h.link in
         let is : IsStage (stage_by x.port x.bound (node_of h.run) r.link) = record {
           node = record { well_formed = formed; isolated = h.run.isolated.isolated };
           known = h.known;
@@ -227,7 +236,7 @@ module _ (g : Ground) (net : Network) (given : Given) (runs : List SwitchRun) (a
     goes_back : (backs : List Back) → IsWayBack net r backs → IsWayBack net next (back ∷ backs)
     goes_back backs way =
         let row : row_at net wire.from.switch next.link.id ≡ Some r
-            = ap (λ (n : ℕ). row_at net n next.link.id) from_switch ∙ ap (row_at net r.switch) over.number ∙ row_found r x h in
+        = ap (λ (n : ℕ). row_at net n next.link.id) from_switch ∙ ap (row_at net r.switch) over.number ∙ row_found r x h in
         (over.wire_is, row, leads, way)
 
     abbrev further : Delays → Delays
@@ -267,11 +276,13 @@ module _ (g : Ground) (net : Network) (given : Given) (runs : List SwitchRun) (a
       let over = way.2 in
       let k = first_stage next s.stage steps way.3 in
       let onward = on_the_way next s.stage steps (back r next x s h k over ∷ backs) (further r next x s h k over d) first way.3
-          (goes_back r next x s h k over backs behind) (delays_back r next x s h k over backs d are) same in
+      (goes_back r next x s h k over backs behind) (delays_back r next x s h k over backs d are) same in
       let sums = sym (same_delays r next x s h k over d) in (
         (is_stage r x h, follows r next x s h k over, onward.0),
-        (subst (λ (e : Delays). IsEnough e first.jitter s.stage.link.jitter) sums (enough r next x s h k over backs d first behind are same),
-        subst (λ (e : Delays). AreEnough first e s.stage steps) sums onward.1),
+        (
+          subst (λ (e : Delays). IsEnough e first.jitter s.stage.link.jitter) sums (enough r next x s h k over backs d first behind are same),
+          subst (λ (e : Delays). AreEnough first e s.stage steps) sums onward.1,
+        ),
       )
 
   pub agreement_is_wired : (x : Stage) (steps : List Step) → IsWayIn net runs x steps → IsWay x steps × AreEnough x.link at_once x steps

@@ -57,8 +57,8 @@ some_low s there part =
 a_part_is_left : AcceptedKeepsBounds → (t : Content) (p : PortRow) → IsWellFormed t → IsAccepted t → Contains t.ports p → 0 < (load_at t p).lows → (load_at t p).high_rate < parts
 a_part_is_left keeps t p formed accepted among there =
     let bounds = All-contains (λ (row : PortRow). let s = load_of t.latency row.speed row.id t.links in
-        (0 < s.highs → (s.high_burst + parts * s.low_largest) / parts + t.latency ≤ row.max_delay)
-        × (0 < s.lows → (s.high_rate < parts) × (s.burst / (parts - s.high_rate) + t.latency ≤ row.max_delay))) t.ports p (keeps t formed accepted) among in
+    (0 < s.highs → (s.high_burst + parts * s.low_largest) / parts + t.latency ≤ row.max_delay)
+    × (0 < s.lows → (s.high_rate < parts) × (s.burst / (parts - s.high_rate) + t.latency ≤ row.max_delay))) t.ports p (keeps t formed accepted) among in
     (bounds.1 there).0
 
 has_bound : AcceptedKeepsBounds → (t : Content) (p : PortRow) (l : Link) → IsWellFormed t → IsAccepted t → Contains t.ports p → Contains t.links l → leads_to p.id l ≡ true

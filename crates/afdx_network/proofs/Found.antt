@@ -29,6 +29,12 @@ below a b e = grind (arith, nat_tests)
 pub get_map : {X Y : Type 0} (f : X → Y) (xs : List X) (n : ℕ) (x : X) → slice_get xs n ≡ Some x → slice_get (map f xs) n ≡ Some (f x)
 get_map f xs n x is = slice_get-map f xs n ∙ ap (option_map f) is
 
+-- what stands in a mapped list is made of what stands there
+pub got_map : {X Y : Type 0} (f : X → Y) (xs : List X) (n : ℕ) (y : Y) → slice_get (map f xs) n ≡ Some y → (x : X) × (slice_get xs n ≡ Some x) × (f x ≡ y)
+got_map f [] n y is = absurd cc
+got_map f (x ∷ xs) zero y is = (x, refl, some_same is)
+got_map f (x ∷ xs) (suc n) y is = got_map f xs n y is
+
 at_place : {X : Type 0} (P : X → Type 0) (xs : List X) (n : ℕ) (x : X) → AllByRecursion P xs → slice_get xs n ≡ Some x → P x
 at_place P [] n x all is = absurd cc
 at_place P (y ∷ xs) zero x all is = subst P (some_same is) all.0

@@ -60,9 +60,9 @@ records_all P port (text ∷ texts) [] are each = absurd are
 records_all P port (text ∷ texts) (c ∷ read) are each =
     all_append P (cond (c.port == port) c.records []) (records_of read port) (by (c.port == port) refl)
     (records_all P port texts read are.2 (λ t records among. let within = among.1 in each t records (suc among.0, omega (arith, within), among.2))) where
-  by : (b : Bool) → (c.port == port) ≡ b → AllByRecursion P (cond b c.records [])
-  by true is = each text c.records (0, omega arith, refl) (sym are.0 ∙ equal c.port port is) are.1
-  by false other = tt
+      by : (b : Bool) → (c.port == port) ≡ b → AllByRecursion P (cond b c.records [])
+      by true is = each text c.records (0, omega arith, refl) (sym are.0 ∙ equal c.port port is) are.1
+      by false other = tt
 
 arrivals_all : (P : Entry → Type 0) (read : List Capture) → ((port : ℕ) → AllByRecursion P (records_of read port)) → AllByRecursion (λ (a : Arrival). P a.frame) (arrivals_of read)
 arrivals_all P [] each = tt
@@ -72,12 +72,12 @@ arrivals_all P (c ∷ read) each =
     all_append (λ (a : Arrival). P a.frame) (map (arrival_at c.port) c.records) (arrivals_of read)
     (all_map (λ (a : Arrival). P a.frame) (arrival_at c.port) c.records records)
     (arrivals_all P read (λ port. (all_parts P (cond (c.port == port) c.records []) (records_of read port) (each port)).1)) where
-  arrival_at : ℕ → Entry → Arrival
-  arrival_at port r = record { port = port; frame = r }
+      arrival_at : ℕ → Entry → Arrival
+      arrival_at port r = record { port = port; frame = r }
 
-  from_test : (rs : List Entry) (b : Bool) → b ≡ true → AllByRecursion P (cond b rs []) → AllByRecursion P rs
-  from_test rs true is all = all
-  from_test rs false is all = absurd cc
+      from_test : (rs : List Entry) (b : Bool) → b ≡ true → AllByRecursion P (cond b rs []) → AllByRecursion P rs
+      from_test rs true is all = all
+      from_test rs false is all = absurd cc
 
 placed_all : (P : Arrival → Type 0) (a : Arrival) (arrivals : List Arrival) → P a → AllByRecursion P arrivals → AllByRecursion P (placed a arrivals)
 placed_all P a [] here all = (here, tt)
@@ -103,8 +103,8 @@ one_reading unique (text ∷ texts) (c ∷ read) (d ∷ other) are too =
     let records : c.records ≡ d.records = unique text.1 c.records d.records are.1 too.1 in
     let first : c ≡ d = ap (λ (n : ℕ). capture_by n c.records) port ∙ ap (capture_by d.port) records in
     ap (λ (e : Capture). e ∷ read) first ∙ ap (λ (rest : List Capture). d ∷ rest) (one_reading unique texts read other are.2 too.2) where
-  capture_by : ℕ → List Entry → Capture
-  capture_by port records = record { port = port; records = records }
+      capture_by : ℕ → List Entry → Capture
+      capture_by port records = record { port = port; records = records }
 
 -- ---- how late
 
@@ -115,7 +115,6 @@ latest = 4294967231000000000
 -- after so many switches and cables
 abbrev after_hops : ℕ → ℕ
 after_hops n = latest + n * 501000000
-
 
 -- what is clean of a link again at the next switch, so much later
 came_later : (m cable id : ℕ) (out : List Entry) → AllByRecursion (λ (e : Entry). (link_of e.bytes == id) ≡ true → e.stamp ≤ m) out
@@ -147,15 +146,15 @@ module _ (g : Ground) (short : WaysAreShort) (net : Network) (given : Given) (ru
       let here = before.here in
       let out = here.isolated.out before.port in
       let left : AllByRecursion (λ (e : Entry). e.stamp ≤ m + half) (records_for b.row.link out)
-          = leave_later here.table here.isolated.read before.port out b.row.link m (formed_at g net given runs acc b.row.switch here before.here_is)
-          (accepted_at g net given runs acc b.row.switch here before.here_is) before.has (here.isolated.isolated before.port before.has) before.known before.leads own in
+      = leave_later here.table here.isolated.read before.port out b.row.link m (formed_at g net given runs acc b.row.switch here before.here_is)
+      (accepted_at g net given runs acc b.row.switch here before.here_is) before.has (here.isolated.isolated before.port before.has) before.known before.leads own in
       let came = came_later (m + half) b.wire.delay b.row.link.id out (all_tested (λ (e : Entry). e.stamp ≤ m + half) (λ (e : Entry). link_of e.bytes == b.row.link.id) out left) in
       let small = before.small in
       let formed = formed_at g net given runs acc r.switch run is in
       let passes : (q : Entry) → says_clean r.link.id (verdict_of run.table r.link.from q) ≡ true → ((link_of q.bytes == b.row.link.id) ≡ true → q.stamp ≤ m + half + b.wire.delay)
-          → q.stamp ≤ n
-          = λ q clean by. let of = clean_of g.exact g.links run.table r.link q formed known clean in
-          let soon = by (same_number (link_of q.bytes) b.row.link.id (of.address ∙ sym before.number)) in omega (arith, soon, small, enough) in
+      → q.stamp ≤ n
+      = λ q clean by. let of = clean_of g.exact g.links run.table r.link q formed known clean in
+      let soon = by (same_number (link_of q.bytes) b.row.link.id (of.address ∙ sym before.number)) in omega (arith, soon, small, enough) in
       all_kept_of (λ (q : Entry). q.stamp ≤ n) (λ (q : Entry). (link_of q.bytes == b.row.link.id) ≡ true → q.stamp ≤ m + half + b.wire.delay)
       (λ (q : Entry). says_clean r.link.id (verdict_of run.table r.link.from q)) (records_of run.isolated.read r.link.from) passes
       (subst (λ (qs : List Entry). AllByRecursion (λ (q : Entry). (link_of q.bytes == b.row.link.id) ≡ true → q.stamp ≤ m + half + b.wire.delay) qs) (sym before.comes) came)
@@ -185,7 +184,7 @@ module _ (g : Ground) (short : WaysAreShort) (net : Network) (given : Given) (ru
         let few = acc.of_file.few in
         let tables = acc.of_file.tables in
         let own = all_weaken (λ (q : Entry). q.stamp ≤ after_hops (length way.0)) (λ (q : Entry). q.stamp ≤ after_hops 63) (own_records run.table l run.isolated.read)
-            (λ q soon. omega (arith, soon, fewer, few, tables)) (own_early way.0 r run is known way.1) in
+        (λ q soon. omega (arith, soon, fewer, few, tables)) (own_early way.0 r run is known way.1) in
         leave_later run.table run.isolated.read p (run.isolated.out p) l (after_hops 63) (formed_at g net given runs acc n run is) (accepted_at g net given runs acc n run is) among
         (run.isolated.isolated p among) known leads own
 
@@ -224,12 +223,12 @@ none_is_late g f net given runs acc early run text among has =
     let read = run.outcome.read in
     let same : run.isolated.read ≡ read = one_reading f.unique run.texts run.isolated.read read run.isolated.are_read run.outcome.are_read in
     let came : AllByRecursion (λ (a : Arrival). a.frame.stamp + second ≤ last_second) (merged read)
-        = merged_all (λ (a : Arrival). a.frame.stamp + second ≤ last_second) (arrivals_of read)
-        (arrivals_all (λ (q : Entry). q.stamp + second ≤ last_second) read
-        (λ port. subst (λ (captures : List Capture). AllByRecursion (λ (q : Entry). q.stamp + second ≤ last_second) (records_of captures port)) same
-        (came_early g f.short net given runs acc early n port run is))) in
+    = merged_all (λ (a : Arrival). a.frame.stamp + second ≤ last_second) (arrivals_of read)
+    (arrivals_all (λ (q : Entry). q.stamp + second ≤ last_second) read
+    (λ port. subst (λ (captures : List Capture). AllByRecursion (λ (q : Entry). q.stamp + second ≤ last_second) (records_of captures port)) same
+    (came_early g f.short net given runs acc early n port run is))) in
     let h = map_contains (λ (p : PortRow). (p.id, output_text run.table (merged read) p)) run.table.ports text
-        (subst (λ (texts : List Text). Contains texts text) run.outcome.captures has) in
+    (subst (λ (texts : List Text). Contains texts text) run.outcome.captures has) in
     let out = output_of run.table (merged read) h.0 in
     let readable = f.readable run.table run.texts read (formed_at g net given runs acc n run is) run.outcome.are_read came h.0 h.1 in
     (out, subst (λ (bytes : List ℕ). IsCapture bytes out) (ap (λ (t : Text). t.1) h.2) (f.written out readable.0 readable.1))

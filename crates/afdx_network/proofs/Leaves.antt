@@ -52,7 +52,7 @@ pub bound_is_small : (t : Content) (p : PortRow) (priority : Priority) (bound : 
 bound_is_small t p priority bound formed accepted among is =
     let s = load_of t.latency p.speed p.id t.links in
     let carries = All-contains (λ (row : PortRow). 0 < (load_of t.latency row.speed row.id t.links).highs + (load_of t.latency row.speed row.id t.links).lows
-        → Carries row (load_of t.latency row.speed row.id t.links)) t.ports p accepted among in
+    → Carries row (load_of t.latency row.speed row.id t.links)) t.ports p accepted among in
     let most = (of_all IsPort t.ports p formed.ports among).delay_most in
     let small = by_priority s p priority bound carries is in
     omega (arith, most, small)
@@ -67,10 +67,10 @@ each_left P t read p out isolated each = all_by P out one where
       let l = All-contains (λ (q : Entry). (l : Link) × Contains t.links l × (link_of q.bytes ≡ l.id)) out r isolated.of_links among in
       let own : Contains (records_for l.0 out) r = contains_filter (λ (q : Entry). link_of q.bytes == l.0.id) out r among (same_number (link_of r.bytes) l.0.id l.2) in
       by l.0 l.1 own (leads_to p.id l.0) refl where
-    by : (l : Link) → Contains t.links l → Contains (records_for l out) r → (b : Bool) → leads_to p.id l ≡ b → P r
-    by l known own true leads = of_all P (records_for l out) r (each l known leads) own
-    by l known own false leads = let none = subst (λ (rs : List Entry). Contains rs r) (isolated.none_else l known leads) own in
-        let place = none.1 in absurd (omega (arith, place))
+        by : (l : Link) → Contains t.links l → Contains (records_for l out) r → (b : Bool) → leads_to p.id l ≡ b → P r
+        by l known own true leads = of_all P (records_for l out) r (each l known leads) own
+        by l known own false leads = let none = subst (λ (rs : List Entry). Contains rs r) (isolated.none_else l known leads) own in
+            let place = none.1 in absurd (omega (arith, place))
 
 -- ---- how late they are
 
@@ -100,6 +100,6 @@ leave_short exact links t read p out formed isolated = each_left (λ (r : Entry)
   each : (l : Link) → Contains t.links l → leads_to p.id l ≡ true → AllByRecursion (λ (r : Entry). length r.bytes ≤ 1518) (records_for l out)
   each l known leads =
       let came = all_passed (λ (r : Entry). IsOf t.constant l r.bytes) frame_in (terms_of l) [] (own_records t l read)
-          (own_clean exact links t l (records_of read l.from) formed known) in
+      (own_clean exact links t l (records_of read l.from) formed known) in
       all_weaken (λ (r : Entry). IsOf t.constant l r.bytes) (λ (r : Entry). length r.bytes ≤ 1518) (records_for l out) (λ r of. let most = of.most in omega (arith, most))
       (over_bytes (IsOf t.constant l) (passed_records l (own_records t l read)) (records_for l out) (isolated.passed l known leads) came)

@@ -129,9 +129,9 @@ module _ (links : LinksAreFound) (net : Network) where
   are_distinct r (b ∷ backs) is way =
       let h = one_behind r b way.1 in
       let others : AllByRecursion (λ (n : ℕ). (r.switch == n) ≡ false) (switches (b ∷ backs))
-          = all_map (λ (n : ℕ). (r.switch == n) ≡ false) (λ (c : Back). c.row.switch) (b ∷ backs)
-          (all_weaken (IsBehind r.link.id (length (b ∷ backs))) (λ (c : Back). (r.switch == c.row.switch) ≡ false) (b ∷ backs) (other_switch r (b ∷ backs) is way)
-          (behind r (b ∷ backs) (length (b ∷ backs)) (omega arith) way)) in
+      = all_map (λ (n : ℕ). (r.switch == n) ≡ false) (λ (c : Back). c.row.switch) (b ∷ backs)
+      (all_weaken (IsBehind r.link.id (length (b ∷ backs))) (λ (c : Back). (r.switch == c.row.switch) ≡ false) (b ∷ backs) (other_switch r (b ∷ backs) is way)
+      (behind r (b ∷ backs) (length (b ∷ backs)) (omega arith) way)) in
       (others, are_distinct b.row backs (ap (row_at net b.row.switch) h.1 ∙ h.0) way.3)
 
   there_below : (r : Row) (backs : List Back) → r.switch < length net.tables → IsWayBack net r backs → AllByRecursion (λ (n : ℕ). n < length net.tables) (r.switch ∷ switches backs)
@@ -150,6 +150,6 @@ module _ (links : LinksAreFound) (net : Network) where
       let is = row_is links net r h.table there (all_at IsWellFormed net.tables r.switch h.table formed there) h.known in
       let all = there_below r backs (slice_get_within net.tables r.switch h.table there) way in
       let count = length-le_from_distinct_below (r.switch ∷ switches backs) (length net.tables) (are_distinct r backs is way)
-          (λ q h. of_all (λ (n : ℕ). n < length net.tables) (r.switch ∷ switches backs) q all (Contains-from_any equal q (r.switch ∷ switches backs) h)) in
+      (λ q h. of_all (λ (n : ℕ). n < length net.tables) (r.switch ∷ switches backs) q all (Contains-from_any equal q (r.switch ∷ switches backs) h)) in
       let lengths = length-map backs (λ (b : Back). b.row.switch) in
       omega (arith, count, lengths)

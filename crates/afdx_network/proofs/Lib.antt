@@ -8,6 +8,7 @@ pub mod Late
 pub mod Leaves
 pub mod Lengths
 pub mod Lists
+pub mod Rest
 pub mod Rows
 pub mod Texts
 pub mod Ways

@@ -106,6 +106,6 @@ read_early [] (c ∷ read) port are = absurd are
 read_early (text ∷ texts) [] port are = absurd are
 read_early (text ∷ texts) (c ∷ read) port are =
     all_append (λ (r : Entry). r.stamp < last_second) (cond (c.port == port) c.records []) (records_of read port) (by (c.port == port)) (read_early texts read port are.2) where
-  by : (b : Bool) → AllByRecursion (λ (r : Entry). r.stamp < last_second) (cond b c.records [])
-  by true = splits_early are.1.format 0 (drop 24 text.1) c.records [] are.1.records
-  by false = tt
+      by : (b : Bool) → AllByRecursion (λ (r : Entry). r.stamp < last_second) (cond b c.records [])
+      by true = splits_early are.1.format 0 (drop 24 text.1) c.records [] are.1.records
+      by false = tt

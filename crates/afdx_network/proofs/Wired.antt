@@ -55,15 +55,15 @@ module _ (exact : CleanExactly) (links : LinksAreFound) where
   can_be_told run p formed accepted among =
       tells (run.isolated.out p) (leave_short exact links run.table run.isolated.read p (run.isolated.out p) formed isolated)
       (each_left (λ (r : Entry). r.stamp ≤ 4294967294999999999 + half) run.table run.isolated.read p (run.isolated.out p) isolated each) where
-    isolated : IsIsolatedAt run.table run.isolated.read p (run.isolated.out p)
-    isolated = run.isolated.isolated p among
+        isolated : IsIsolatedAt run.table run.isolated.read p (run.isolated.out p)
+        isolated = run.isolated.isolated p among
 
-    each : (l : Link) → Contains run.table.links l → leads_to p.id l ≡ true → AllByRecursion (λ (r : Entry). r.stamp ≤ 4294967294999999999 + half) (records_for l (run.isolated.out p))
-    each l known leads =
-        leave_later run.table run.isolated.read p (run.isolated.out p) l 4294967294999999999 formed accepted among isolated known leads
-        (all_kept (λ (r : Entry). r.stamp ≤ 4294967294999999999) (λ (r : Entry). says_clean l.id (verdict_of run.table l.from r)) (records_of run.isolated.read l.from)
-        (all_weaken (λ (r : Entry). r.stamp < last_second) (λ (r : Entry). r.stamp ≤ 4294967294999999999) (records_of run.isolated.read l.from) (λ r early. omega (arith, early))
-        (read_early run.texts run.isolated.read l.from run.isolated.are_read)))
+        each : (l : Link) → Contains run.table.links l → leads_to p.id l ≡ true → AllByRecursion (λ (r : Entry). r.stamp ≤ 4294967294999999999 + half) (records_for l (run.isolated.out p))
+        each l known leads =
+            leave_later run.table run.isolated.read p (run.isolated.out p) l 4294967294999999999 formed accepted among isolated known leads
+            (all_kept (λ (r : Entry). r.stamp ≤ 4294967294999999999) (λ (r : Entry). says_clean l.id (verdict_of run.table l.from r)) (records_of run.isolated.read l.from)
+            (all_weaken (λ (r : Entry). r.stamp < last_second) (λ (r : Entry). r.stamp ≤ 4294967294999999999) (records_of run.isolated.read l.from) (λ r early. omega (arith, early))
+            (read_early run.texts run.isolated.read l.from run.isolated.are_read)))
 
 -- ---- read again
 
@@ -96,7 +96,7 @@ again_is_now (r ∷ rs) =
 pub goes_on : WrittenTextsReadBack → (cable : ℕ) (rs left : List Entry) → AllByRecursion CanBeTold rs → IsCapture (capture_text rs) left → map (delayed cable) left ≡ map (delayed cable) rs
 goes_on back cable rs left all read =
     let texts : capture_text rs ≡ capture_text (map (delayed 0) rs)
-        = ap (λ (text : List ℕ). header_text ++ text) (sym (ap (flat_map record_text) (again_is_now rs) ∙ same_texts rs)) in
+    = ap (λ (text : List ℕ). header_text ++ text) (sym (ap (flat_map record_text) (again_is_now rs) ∙ same_texts rs)) in
     let same : left ≡ map (delayed 0) rs = back_later back 0 rs left (omega arith) all (subst (λ (text : List ℕ). IsCapture text left) texts read) in
     ap (map (delayed cable)) (same ∙ again_is_now rs) ∙ later_again cable rs
 
@@ -112,5 +112,5 @@ module _ (exact : CleanExactly) (links : LinksAreFound) (back : WrittenTextsRead
       let text : bytes ≡ capture_text out = written_at here.table here.isolated.out here.results.captures p bytes formed here.isolated.captures among written in
       let same : map (delayed cable) left ≡ map (delayed cable) out = goes_on back cable out left told (subst (λ (b : List ℕ). IsCapture b left) text read) in
       let at_end = read_at there.texts there.isolated.read to (capture_text (map (delayed cable) out)) there.isolated.are_read (numbers_rise there.table there.texts formed_there there.outcome.ports)
-          (subst (λ (rs : List Entry). Contains there.texts (to, capture_text rs)) same comes) in
+      (subst (λ (rs : List Entry). Contains there.texts (to, capture_text rs)) same comes) in
       at_end.all ∙ back_later back cable out at_end.records small told at_end.capture

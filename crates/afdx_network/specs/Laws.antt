@@ -1,5 +1,5 @@
 -- What holds of each run of an accepted network.
-use Rattle.std.specs.Prelude.{◌≡◌, ◌+◌, ◌*◌, ◌<◌, ◌≤◌, true, List, length, map, slice_get, Some, All, Contains}
+use Rattle.std.specs.Prelude.{◌≡◌, ◌+◌, ◌*◌, ◌<◌, ◌≤◌, true, List, length, slice_get, Some, All, Contains}
 use Rattle.afdx_units.specs.Time.{second, last_second}
 use Rattle.afdx_pcap.specs.Entry.{Entry}
 use Rattle.afdx_pcap.specs.Capture.{IsCapture}
@@ -8,12 +8,13 @@ use Rattle.afdx_table.specs.Link.{leads_to}
 use Rattle.afdx_table.specs.WellFormed.{IsWellFormed}
 use Rattle.afdx_core.specs.Merge.{records_of}
 use Rattle.afdx_session.specs.Texts.{Text}
+use Rattle.afdx_session.specs.Outcome.{Results}
 use Rattle.afdx_session.specs.Headline.{bytes_of}
 use Rattle.afdx_series.specs.Delay.{at_once}
 use Rattle.afdx_wiring.specs.Net.{Network, Row, Back, rows_of, IsWayBack}
 use Rattle.afdx_wiring.specs.Rules.{IsAcceptedNetwork}
 use Rattle.afdx_network.specs.Way.{Stage, Step, IsNode, IsWay, last_of, AreEnough, leave, IsDelivered}
-use Rattle.afdx_network.specs.Runs.{SwitchRun, Given, IsFedBy, IsNetworkRun}
+use Rattle.afdx_network.specs.Runs.{SwitchRun, Given, IsFedBy, IsNetworkRun, AreRuns, IsRunOf}
 use Rattle.afdx_network.specs.Ways.{node_of, IsWayIn}
 
 -- a run of a switch is a node of a way
@@ -62,10 +63,10 @@ WaysAreThere = (net : Network) (given : Given) (runs : List SwitchRun) → IsAcc
     → (r : Row) (run : SwitchRun) (p : PortRow) → slice_get runs r.switch ≡ Some run → Contains run.table.links r.link → Contains run.table.ports p
     → leads_to p.id r.link ≡ true → (x : Stage) × (steps : List Step) × IsWayIn net runs x steps × EndsAt run r p (last_of x steps)
 
--- where what comes in next is what came in, the runs are those of the network
+-- where what comes in next is what came in, it is a run of the network, however it was found: in the order of the wires, or by rounds
 abbrev pub RestIsAgreement : Type 0
-RestIsAgreement = (net : Network) (given : Given) (runs : List SwitchRun) (next : List (List Text)) → map (λ (run : SwitchRun). run.table) runs ≡ net.tables
-    → IsFedBy net given runs next → next ≡ map (λ (run : SwitchRun). run.texts) runs → IsNetworkRun net given runs
+RestIsAgreement = (net : Network) (given : Given) (came next : List (List Text)) (left : List Results) → AreRuns net.tables came left
+    → IsFedBy net given left next → next ≡ came → IsRunOf net given came left
 
 -- a way back goes over fewer wires than there are switches
 abbrev pub WaysAreShort : Type 0

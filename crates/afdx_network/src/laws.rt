@@ -81,7 +81,7 @@ pub fn ways_are_there()
     accepted_keeps_bounds();
 }
 
-/// Where what the runs lead to is what came in, they are the network's.
+/// Where what the switches' runs lead to is what came in at them, they are a run of the network.
 pub fn rest_is_agreement()
     ensures { RestIsAgreement }
 {}
