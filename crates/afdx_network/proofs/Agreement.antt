@@ -269,18 +269,18 @@ module _ (g : Ground) (net : Network) (given : Given) (runs : List SwitchRun) (a
 
   on_the_way : (r : Row) (x : Stage) (steps : List Step) (backs : List Back) (d : Delays) (first : Link) → IsWayFrom net runs r x steps → IsWayBack net r backs → AreDelays net backs d
       → (source_of r backs).link ≡ first → IsWay x steps × AreEnough first d x steps
-  on_the_way r x [] backs d first way behind are same = (is_stage r x way, tt)
-  on_the_way r x (s ∷ steps) backs d first way behind are same =
+  on_the_way r x [] backs d first way past are same = (is_stage r x way, tt)
+  on_the_way r x (s ∷ steps) backs d first way past are same =
       let h = way.0 in
       let next = way.1 in
       let over = way.2 in
       let k = first_stage next s.stage steps way.3 in
       let onward = on_the_way next s.stage steps (back r next x s h k over ∷ backs) (further r next x s h k over d) first way.3
-      (goes_back r next x s h k over backs behind) (delays_back r next x s h k over backs d are) same in
+      (goes_back r next x s h k over backs past) (delays_back r next x s h k over backs d are) same in
       let sums = sym (same_delays r next x s h k over d) in (
         (is_stage r x h, follows r next x s h k over, onward.0),
         (
-          subst (λ (e : Delays). IsEnough e first.jitter s.stage.link.jitter) sums (enough r next x s h k over backs d first behind are same),
+          subst (λ (e : Delays). IsEnough e first.jitter s.stage.link.jitter) sums (enough r next x s h k over backs d first past are same),
           subst (λ (e : Delays). AreEnough first e s.stage steps) sums onward.1,
         ),
       )
