@@ -15,6 +15,10 @@ use Rattle.afdx_wiring.specs.Order.{Answer, by_wires, by_links, by_rows}
 pub some_same : {X : Type 0} {a b : X} → Some a ≡ Some b → a ≡ b
 some_same h = cc
 
+-- a rule that is kept
+abbrev pub fine : Answer
+fine = Ok tt
+
 -- ---- steps
 
 pub first_kept : {X : Type 0} (a : Answer) (rest : Unit {0} → Result X NetworkFault) (x : X) → (a >>= rest) ≡ Ok x → a ≡ Ok tt

@@ -7,15 +7,15 @@ use Rattle.std.proofs.lemmas.List.Elements.{All-from_recursion, All-contains}
 use Rattle.afdx_table.specs.declared.rows.PortRow.{PortRow}
 use Rattle.afdx_table.specs.Link.{Link, leads_to}
 use Rattle.afdx_table.specs.Content.{Content, port_row, link_row}
-use Rattle.afdx_load.specs.Sums.{load_of}
+use Rattle.afdx_load.specs.Sums.{load_of, port_load}
 use Rattle.afdx_load.specs.Bounds.{bounds_of}
 use Rattle.afdx_series.specs.declared.delays.Delays.{Delays}
 use Rattle.afdx_series.specs.Delay.{hop_of, joined, at_once, IsEnough, need_of}
 use Rattle.afdx_wiring.specs.declared.layout.Wire.{Wire}
 use Rattle.afdx_wiring.specs.Net.{Network, Row, Back, port_at, row_at, rows_of, ingress, wire_to, bound_in, bound_at, IsWayBack, source_of, AreDelays}
 use Rattle.afdx_wiring.specs.Rules.{HasJitters}
-use Rattle.afdx_wiring.specs.Order.{row_before, within_reason, hop_over, hop_on, way_by, way_within, has_jitter, jitter_enough, most_rows, shortage}
-use Rattle.afdx_wiring.proofs.Chains.{some_same, unless_so, row_in, rows_kept}
+use Rattle.afdx_wiring.specs.Order.{row_before, within_reason, hop_over, hop_from, hop_on, way_by, way_within, has_jitter, jitter_enough, most_rows, shortage}
+use Rattle.afdx_wiring.proofs.Chains.{fine, some_same, unless_so, row_in, rows_kept}
 use Rattle.afdx_wiring.proofs.FeedLemmas.{before_is}
 
 -- ---- a hop
@@ -92,18 +92,19 @@ pub way_says : (n : ℕ) (net : Network) (r : Row) (after : Delays) (far : ℕ �
 way_says zero net r after far h backs d way are = absurd cc
 way_says (suc n) net r after far h [] d way are = at_source r d after far (sym (ap (way_by (way_within n net) net r after) way) ∙ h) are
 way_says (suc n) net r after far h (b ∷ more) d way are =
-    let found = before_is net r.link.id b.wire b.row way.1.0 way.1.1.0 in
+    let found = before_is net r.link.id b.wire b.row way.1 way.2 in
     let there : option_and_then (λ (hop : Delays). way_within n net b.row (joined hop after)) (hop_on net b.row b.wire.from.port b.wire.delay) ≡ Some far
     = sym (ap (way_by (way_within n net) net r after) way.0
     ∙ ap (option_and_then (λ (q : Row). option_and_then (λ (hop : Delays). way_within n net q (joined hop after)) (hop_on net q b.wire.from.port b.wire.delay))) found) ∙ h in
-    by (hop_on net b.row b.wire.from.port b.wire.delay) refl there where
-      by : (o : Option Delays) → hop_on net b.row b.wire.from.port b.wire.delay ≡ o → option_and_then (λ (hop : Delays). way_within n net b.row (joined hop after)) o ≡ Some far
+    by (λ hop before rest are_more. way_says n net b.row (joined hop after) far rest more before way.3 are_more)
+    (hop_on net b.row b.wire.from.port b.wire.delay) refl there where
+      by : ((hop before : Delays) → way_within n net b.row (joined hop after) ≡ Some far → AreDelays net more before → Found far (source_of b.row more) before (joined hop after))
+          → (o : Option Delays) → hop_on net b.row b.wire.from.port b.wire.delay ≡ o → option_and_then (λ (hop : Delays). way_within n net b.row (joined hop after)) o ≡ Some far
           → Found far (source_of b.row more) d after
-      by None is rest = absurd cc
-      by (Some hop) is rest =
-          let before : Delays = are.1.1.1.0 in
-          let step = hop_says net b d hop r.link.id way.1.0 is are.0 are.1.0 are.1.1.0 before are.1.1.1.1.0 are.1.1.1.1.1.0 are.1.1.1.1.1.1.0 are.1.1.1.1.1.1.1.1 in
-          one_more net b far (source_of b.row more) d before hop after step (way_says n net b.row (joined hop after) far rest more before way.1.1.1 are.1.1.1.1.1.1.1.0)
+      by further None is rest = absurd cc
+      by further (Some hop) is rest =
+          let step = hop_says net b d hop r.link.id way.1 is are.0 are.1 are.2 are.3 are.4 are.5 are.6 are.8 in
+          one_more net b far (source_of b.row more) d are.3 hop after step (further hop are.3 rest are.7)
 
 -- ---- enough
 
@@ -113,7 +114,7 @@ whole first most least later h = grind (arith, nat_tests)
 row_has : (net : Network) (r : Row) (backs : List Back) (d : Delays) → jitter_enough net r ≡ Ok tt → IsWayBack net r backs → AreDelays net backs d
     → IsEnough d (source_of r backs).link.jitter r.link.jitter
 row_has net r backs d h way are = by (way_within most_rows net r at_once) refl h where
-  by : (o : Option (ℕ × Delays)) → way_within most_rows net r at_once ≡ o → has_jitter r o ≡ Ok tt → IsEnough d (source_of r backs).link.jitter r.link.jitter
+  by : (o : Option (ℕ × Delays)) → way_within most_rows net r at_once ≡ o → has_jitter r o ≡ fine → IsEnough d (source_of r backs).link.jitter r.link.jitter
   by None is kept = absurd cc
   by (Some far) is kept =
       let found = way_says most_rows net r at_once far is backs d way are in

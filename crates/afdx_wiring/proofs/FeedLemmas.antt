@@ -14,13 +14,19 @@ use Rattle.afdx_wiring.specs.declared.layout.Wire.{Wire}
 use Rattle.afdx_wiring.specs.Refusal.{◌>>=◌, unless}
 use Rattle.afdx_wiring.specs.Net.{Network, Row, Back, row_at, ingress, wire_to, rows_of, IsSource, IsWayBack}
 use Rattle.afdx_wiring.specs.Order.{Answer, leading, row_before, ends_by, ends_within, most_rows, has_source, is_fed, source_met, sources_in, sources_from, fed_once}
-use Rattle.afdx_wiring.proofs.Chains.{some_same, first_kept, rest_kept, unless_not, unless_so, row_in, rows_from}
+use Rattle.afdx_wiring.proofs.Chains.{fine, some_same, first_kept, rest_kept, unless_not, unless_so, row_in, rows_from}
 
 apart : (b : Bool) → b ≡ true → b ≡ false → ⊥
 apart b is not = cc
 
-ok_same : {X : Type 0} {a b : X} → Ok {T = X} {E = NetworkFault} a ≡ Ok b → a ≡ b
-ok_same h = cc
+abbrev Numbers : Type 0
+Numbers = Result (List ℕ) NetworkFault
+
+abbrev these : List ℕ → Numbers
+these ids = Ok ids
+
+ok_same : (a b : List ℕ) → these a ≡ these b → a ≡ b
+ok_same a b h = cc
 
 alone : (x y : Row) → Contains (x ∷ []) y → x ≡ y
 alone x y among = by among.0 among.1 among.2 where
@@ -53,30 +59,26 @@ before_is net id w b is leads = ap (option_and_then (leading w.from.port)) is �
 
 -- ---- the way back
 
+-- a step more
+step_back : (net : Network) (r : Row) (w : Wire) → wire_to net (ingress r) ≡ Some w → (b : Row) → row_before net r.link.id w ≡ Some b
+    → ((backs : List Back) × IsWayBack net b backs) → (backs : List Back) × IsWayBack net r backs
+step_back net r w is b found more =
+    let said = before_says net r.link.id w b found in
+    (record { wire = w; row = b } ∷ more.0, (is, said.row_is, said.leads, more.1))
+
 -- where a walk back ends, there is a way back
 pub way_back : (n : ℕ) (net : Network) (r : Row) → ends_within n net r ≡ true → (backs : List Back) × IsWayBack net r backs
 way_back zero net r h = absurd cc
-way_back (suc n) net r h = by (wire_to net (ingress r)) refl h where
-  by : (o : Option Wire) → wire_to net (ingress r) ≡ o → ends_by (ends_within n net) net r o ≡ true → (backs : List Back) × IsWayBack net r backs
-  by None is ends = ([], is)
-  by (Some w) is ends = before (row_before net r.link.id w) refl ends where
-    before : (o : Option Row) → row_before net r.link.id w ≡ o → option_map_or (ends_within n net) o false ≡ true → (backs : List Back) × IsWayBack net r backs
-    before None no ends_there = absurd cc
-    before (Some b) found ends_there =
-        let said = before_says net r.link.id w b found in
-        let more = way_back n net b ends_there in
-        (record { wire = w; row = b } ∷ more.0, (is, (said.row_is, (said.leads, more.1))))
+way_back (suc n) net r h = by (way_back n net) (wire_to net (ingress r)) refl h where
+  before : ((b : Row) → ends_within n net b ≡ true → (backs : List Back) × IsWayBack net b backs) → (w : Wire) → wire_to net (ingress r) ≡ Some w
+      → (o : Option Row) → row_before net r.link.id w ≡ o → option_map_or (ends_within n net) o false ≡ true → (backs : List Back) × IsWayBack net r backs
+  before further w is None found ends = absurd cc
+  before further w is (Some b) found ends = step_back net r w is b found (further b ends)
 
--- and it has fewer wires than the walk has rows
-pub way_is_short : (n : ℕ) (net : Network) (r : Row) (backs : List Back) → ends_within n net r ≡ true → IsWayBack net r backs → length backs < n
-way_is_short zero net r backs h way = absurd cc
-way_is_short (suc n) net r [] h way = omega arith
-way_is_short (suc n) net r (b ∷ more) h way =
-    let found = before_is net r.link.id b.wire b.row way.1.0 way.1.1.0 in
-    let there : ends_by (ends_within n net) net r (Some b.wire) ≡ true = ap (ends_by (ends_within n net) net r) (sym way.0) ∙ h in
-    let ends : ends_within n net b.row ≡ true = ap (λ (o : Option Row). option_map_or (ends_within n net) o false) (sym found) ∙ there in
-    let shorter = way_is_short n net b.row more ends way.1.1.1 in
-    omega (arith, shorter)
+  by : ((b : Row) → ends_within n net b ≡ true → (backs : List Back) × IsWayBack net b backs)
+      → (o : Option Wire) → wire_to net (ingress r) ≡ o → ends_by (ends_within n net) net r o ≡ true → (backs : List Back) × IsWayBack net r backs
+  by further None is ends = ([], is)
+  by further (Some w) is ends = before further w is (row_before net r.link.id w) refl ends
 
 pub source_there : (net : Network) (r : Row) → has_source net r ≡ Ok tt → ends_within most_rows net r ≡ true
 source_there net r h = unless_not (ends_within most_rows net r) (fault.NoSource r.switch r.link.id) h
@@ -84,37 +86,40 @@ source_there net r h = unless_not (ends_within most_rows net r) (fault.NoSource 
 -- ---- numbers that are met once
 
 -- the same over a list of rows
-met_in : Network → List ℕ → List Row → Result (List ℕ) NetworkFault
+abbrev pub met_in : Network → List ℕ → List Row → Numbers
 met_in net before [] = Ok before
 met_in net before (r ∷ rs) = source_met net before r >>= λ more. met_in net more rs
 
+-- two that go on alike
+alike : (m : Numbers) (f g : List ℕ → Numbers) → ((ids : List ℕ) → f ids ≡ g ids) → (m >>= f) ≡ (m >>= g)
+alike (Ok ids) f g same = same ids
+alike (Err e) f g same = refl
+
+in_turn : (m : Numbers) (f g : List ℕ → Numbers) → (m >>= λ ids. f ids >>= g) ≡ ((m >>= f) >>= g)
+in_turn (Ok ids) f g = refl
+in_turn (Err e) f g = refl
+
 met_append : (net : Network) (before : List ℕ) (rs ss : List Row) → met_in net before (rs ++ ss) ≡ (met_in net before rs >>= λ more. met_in net more ss)
 met_append net before [] ss = refl
-met_append net before (r ∷ rs) ss = by (source_met net before r) where
-  by : (m : Result (List ℕ) NetworkFault) → (m >>= λ more. met_in net more (rs ++ ss)) ≡ ((m >>= λ more. met_in net more rs) >>= λ more. met_in net more ss)
-  by (Ok more) = met_append net more rs ss
-  by (Err e) = refl
+met_append net before (r ∷ rs) ss =
+    alike (source_met net before r) (λ more. met_in net more (rs ++ ss)) (λ more. met_in net more rs >>= λ last. met_in net last ss) (λ more. met_append net more rs ss)
+    ∙ in_turn (source_met net before r) (λ more. met_in net more rs) (λ last. met_in net last ss)
 
 met_links : (net : Network) (n : ℕ) (before : List ℕ) (ls : List Link) → met_in net before (map (row_in n) ls) ≡ sources_in net n before ls
 met_links net n before [] = refl
-met_links net n before (l ∷ ls) = by (source_met net before (row_in n l)) where
-  by : (m : Result (List ℕ) NetworkFault) → (m >>= λ more. met_in net more (map (row_in n) ls)) ≡ (m >>= λ more. sources_in net n more ls)
-  by (Ok more) = met_links net n more ls
-  by (Err e) = refl
+met_links net n before (l ∷ ls) =
+    alike (source_met net before (row_in n l)) (λ more. met_in net more (map (row_in n) ls)) (λ more. sources_in net n more ls) (λ more. met_links net n more ls)
 
 met_rows : (net : Network) (n : ℕ) (before : List ℕ) (ts : List Content) → met_in net before (rows_from n ts) ≡ sources_from net n before ts
 met_rows net n before [] = refl
 met_rows net n before (t ∷ ts) =
     met_append net before (map (row_in n) t.links) (rows_from (n + 1) ts)
-    ∙ ap (λ (m : Result (List ℕ) NetworkFault). m >>= λ more. met_in net more (rows_from (n + 1) ts)) (met_links net n before t.links)
-    ∙ by (sources_in net n before t.links) where
-      by : (m : Result (List ℕ) NetworkFault) → (m >>= λ more. met_in net more (rows_from (n + 1) ts)) ≡ (m >>= λ more. sources_from net (n + 1) more ts)
-      by (Ok more) = met_rows net (n + 1) more ts
-      by (Err e) = refl
+    ∙ ap (λ (m : Numbers). m >>= λ more. met_in net more (rows_from (n + 1) ts)) (met_links net n before t.links)
+    ∙ alike (sources_in net n before t.links) (λ more. met_in net more (rows_from (n + 1) ts)) (λ more. sources_from net (n + 1) more ts) (λ more. met_rows net (n + 1) more ts)
 
 -- ---- so no two
 
-has : ℕ → List ℕ → Bool
+abbrev has : ℕ → List ℕ → Bool
 has id ids = list_any (λ n. n == id) ids
 
 has_last : (id : ℕ) (ids : List ℕ) → has id (ids ++ id ∷ []) ≡ true
@@ -128,10 +133,10 @@ has_last id (n ∷ ids) = ap (λ b. (n == id) || b) (has_last id ids) ∙ or_tru
 
 has_more : (id further : ℕ) (ids : List ℕ) → has id ids ≡ true → has id (ids ++ further ∷ []) ≡ true
 has_more id further [] h = absurd cc
-has_more id further (n ∷ ids) h = by (n == id) h where
-  by : (b : Bool) → (b || has id ids) ≡ true → (b || has id (ids ++ further ∷ [])) ≡ true
-  by true is = refl
-  by false is = has_more id further ids is
+has_more id further (n ∷ ids) h = by (n == id) h (has_more id further ids) where
+  by : (b : Bool) → (b || has id ids) ≡ true → (has id ids ≡ true → has id (ids ++ further ∷ []) ≡ true) → (b || has id (ids ++ further ∷ [])) ≡ true
+  by true is rest = refl
+  by false is rest = rest is
 
 fed : (net : Network) (r : Row) → IsSource net r → is_fed net r ≡ true
 fed net r source = ap (λ (o : Option Wire). not (is_some o)) source
@@ -142,20 +147,20 @@ record Met (net : Network) (before more : List ℕ) (r : Row) : Type 0 where
   pub was_new : IsSource net r → has r.link.id before ≡ false
   pub is_met : IsSource net r → has r.link.id more ≡ true
 
-met : (net : Network) (before more : List ℕ) (r : Row) → source_met net before r ≡ Ok more → Met net before more r
+met : (net : Network) (before more : List ℕ) (r : Row) → source_met net before r ≡ these more → Met net before more r
 met net before more r h = by (is_fed net r) refl h where
   new : Answer
   new = unless (has r.link.id before) (fault.TwiceSource r.link.id)
 
-  by : (b : Bool) → is_fed net r ≡ b → cond b (new >>= λ _. Ok (before ++ r.link.id ∷ [])) (Ok before) ≡ Ok more → Met net before more r
+  by : (b : Bool) → is_fed net r ≡ b → cond b (new >>= λ _. these (before ++ r.link.id ∷ [])) (these before) ≡ these more → Met net before more r
   by false not_fed is = record {
-    kept = λ id h. subst (λ ids. has id ids ≡ true) (ok_same is) h;
+    kept = λ id h. subst (λ ids. has id ids ≡ true) (ok_same before more is) h;
     was_new = λ source. absurd (apart (is_fed net r) (fed net r source) not_fed);
     is_met = λ source. absurd (apart (is_fed net r) (fed net r source) not_fed);
   }
   by true is_fed_there is =
       let rest : Unit {0} → Result (List ℕ) NetworkFault = λ _. Ok (before ++ r.link.id ∷ []) in
-      let same = ok_same (rest_kept new rest more is) in
+      let same = ok_same (before ++ r.link.id ∷ []) more (rest_kept new rest more is) in
       record {
         kept = λ id h. subst (λ ids. has id ids ≡ true) same (has_more id r.link.id before h);
         was_new = λ source. unless_so (has r.link.id before) (fault.TwiceSource r.link.id) (first_kept new rest more is);
@@ -163,51 +168,65 @@ met net before more r h = by (is_fed net r) refl h where
       }
 
 -- a source further on is new
-later_new : (net : Network) (before after : List ℕ) (rs : List Row) (s : Row) → met_in net before rs ≡ Ok after → Contains rs s → IsSource net s → has s.link.id before ≡ false
-later_new net before after [] s h among source = absurd (let within = among.1 in omega (arith, within))
-later_new net before after (r ∷ rs) s h among source = by (source_met net before r) refl h where
-  by : (m : Result (List ℕ) NetworkFault) → source_met net before r ≡ m → (m >>= λ more. met_in net more rs) ≡ Ok after → has s.link.id before ≡ false
-  by (Err e) is rest = absurd cc
-  by (Ok more) is rest =
-      let said = met net before more r is in
-      elim (Contains-append_cases (r ∷ []) rs s among) [
-        | inl here ↦ let same = alone r s here in subst (λ (q : Row). has q.link.id before ≡ false) same (said.was_new (subst (IsSource net) (sym same) source))
-        | inr there ↦ not_before (has s.link.id before) refl (later_new net more after rs s rest there source)
-      ] where
-        not_before : (b : Bool) → has s.link.id before ≡ b → has s.link.id more ≡ false → b ≡ false
-        not_before false is_b new = refl
-        not_before true is_b new = absurd (apart (has s.link.id more) ((met net before more r is).kept s.link.id is_b) new)
+not_before : (net : Network) (before more : List ℕ) (r : Row) → Met net before more r → (id : ℕ) → has id more ≡ false → has id before ≡ false
+not_before net before more r said id new = by (has id before) refl where
+  by : (b : Bool) → has id before ≡ b → b ≡ false
+  by false is = refl
+  by true is = absurd (apart (has id more) (said.kept id is) new)
 
-pub once : (net : Network) (before after : List ℕ) (rs : List Row) → met_in net before rs ≡ Ok after → (r s : Row) → Contains rs r → Contains rs s
+-- a source among these is new, as all further ones are
+first_new : (net : Network) (before more : List ℕ) (r : Row) (rs : List Row) (s : Row) → Met net before more r → (Contains rs s → has s.link.id more ≡ false)
+    → Contains (r ∷ rs) s → IsSource net s → has s.link.id before ≡ false
+first_new net before more r rs s said further among source =
+    elim (Contains-append_cases (r ∷ []) rs s among) [
+      | inl here ↦
+          let same = alone r s here in
+          subst (λ (q : Row). has q.link.id before ≡ false) same (said.was_new (subst (IsSource net) (sym same) source))
+      | inr there ↦ not_before net before more r said s.link.id (further there)
+    ]
+
+later_new : (net : Network) (before after : List ℕ) (rs : List Row) (s : Row) → met_in net before rs ≡ these after → Contains rs s → IsSource net s → has s.link.id before ≡ false
+later_new net before after [] s h among source = absurd (let within = among.1 in omega (arith, within))
+later_new net before after (r ∷ rs) s h among source = by (λ more rest there. later_new net more after rs s rest there source) (source_met net before r) refl h where
+  by : ((more : List ℕ) → met_in net more rs ≡ these after → Contains rs s → has s.link.id more ≡ false)
+      → (m : Numbers) → source_met net before r ≡ m → (m >>= λ more. met_in net more rs) ≡ these after → has s.link.id before ≡ false
+  by further (Err e) is rest = absurd cc
+  by further (Ok more) is rest = first_new net before more r rs s (met net before more r is) (further more rest) among source
+
+clash : (net : Network) (before more after : List ℕ) (x : Row) (xs : List Row) → Met net before more x → met_in net more xs ≡ these after → (p q : Row) → Contains (x ∷ []) p
+    → Contains xs q → IsSource net p → IsSource net q → p.link.id ≡ q.link.id → ⊥
+clash net before more after x xs said rest p q p_here q_there p_source q_source number =
+    let x_is : x ≡ p = alone x p p_here in
+    let x_met = said.is_met (subst (IsSource net) (sym x_is) p_source) in
+    let p_met : has p.link.id more ≡ true = subst (λ (y : Row). has y.link.id more ≡ true) x_is x_met in
+    let q_met : has q.link.id more ≡ true = subst (λ (id : ℕ). has id more ≡ true) number p_met in
+    apart (has q.link.id more) q_met (later_new net more after xs q rest q_there q_source)
+
+pub once : (net : Network) (before after : List ℕ) (rs : List Row) → met_in net before rs ≡ these after → (r s : Row) → Contains rs r → Contains rs s
     → IsSource net r → IsSource net s → r.link.id ≡ s.link.id → r ≡ s
 once net before after [] h r s r_in s_in r_source s_source same = absurd (let within = r_in.1 in omega (arith, within))
-once net before after (x ∷ xs) h r s r_in s_in r_source s_source same = by (source_met net before x) refl h where
-  by : (m : Result (List ℕ) NetworkFault) → source_met net before x ≡ m → (m >>= λ more. met_in net more xs) ≡ Ok after → r ≡ s
-  by (Err e) is rest = absurd cc
-  by (Ok more) is rest =
-      elim (Contains-append_cases (x ∷ []) xs r r_in) [
-        | inl r_here ↦ elim (Contains-append_cases (x ∷ []) xs s s_in) [
-          | inl s_here ↦ sym (alone x r r_here) ∙ alone x s s_here
-          | inr s_there ↦ absurd (clash more is rest r s r_here s_there r_source s_source same)
-        ]
-        | inr r_there ↦ elim (Contains-append_cases (x ∷ []) xs s s_in) [
-          | inl s_here ↦ absurd (clash more is rest s r s_here r_there s_source r_source (sym same))
-          | inr s_there ↦ once net more after xs rest r s r_there s_there r_source s_source same
-        ]
-      ] where
-        clash : (more : List ℕ) → source_met net before x ≡ Ok more → met_in net more xs ≡ Ok after → (p q : Row) → Contains (x ∷ []) p → Contains xs q → IsSource net p → IsSource net q
-            → p.link.id ≡ q.link.id → ⊥
-        clash more is rest p q p_here q_there p_source q_source number =
-            let x_is : x ≡ p = alone x p p_here in
-            let x_met = (met net before more x is).is_met (subst (IsSource net) (sym x_is) p_source) in
-            let p_met : has p.link.id more ≡ true = subst (λ (y : Row). has y.link.id more ≡ true) x_is x_met in
-            let q_met : has q.link.id more ≡ true = subst (λ id. has id more ≡ true) number p_met in
-            apart (has q.link.id more) q_met (later_new net more after xs q rest q_there q_source)
+once net before after (x ∷ xs) h r s r_in s_in r_source s_source same =
+    by (λ more rest r_there s_there. once net more after xs rest r s r_there s_there r_source s_source same) (source_met net before x) refl h where
+      by : ((more : List ℕ) → met_in net more xs ≡ these after → Contains xs r → Contains xs s → r ≡ s)
+          → (m : Numbers) → source_met net before x ≡ m → (m >>= λ more. met_in net more xs) ≡ these after → r ≡ s
+      by further (Err e) is rest = absurd cc
+      by further (Ok more) is rest =
+          let said = met net before more x is in
+          elim (Contains-append_cases (x ∷ []) xs r r_in) [
+            | inl r_here ↦ elim (Contains-append_cases (x ∷ []) xs s s_in) [
+              | inl s_here ↦ sym (alone x r r_here) ∙ alone x s s_here
+              | inr s_there ↦ absurd (clash net before more after x xs said rest r s r_here s_there r_source s_source same)
+            ]
+            | inr r_there ↦ elim (Contains-append_cases (x ∷ []) xs s s_in) [
+              | inl s_here ↦ absurd (clash net before more after x xs said rest s r s_here r_there s_source r_source (sym same))
+              | inr s_there ↦ further more rest r_there s_there
+            ]
+          ]
 
 pub fed_once_says : (net : Network) → fed_once net ≡ Ok tt → (r s : Row) → Contains (rows_of net) r → Contains (rows_of net) s → IsSource net r → IsSource net s
     → r.link.id ≡ s.link.id → r ≡ s
 fed_once_says net h = by (sources_from net 0 [] net.tables) refl h where
-  by : (m : Result (List ℕ) NetworkFault) → sources_from net 0 [] net.tables ≡ m → (m >>= λ after. Ok tt) ≡ Ok tt → (r s : Row) → Contains (rows_of net) r → Contains (rows_of net) s
+  by : (m : Numbers) → sources_from net 0 [] net.tables ≡ m → (m >>= λ after. fine) ≡ fine → (r s : Row) → Contains (rows_of net) r → Contains (rows_of net) s
       → IsSource net r → IsSource net s → r.link.id ≡ s.link.id → r ≡ s
   by (Err e) is rest = absurd cc
   by (Ok after) is rest = once net [] after (rows_of net) (met_rows net 0 [] net.tables ∙ is)

@@ -18,7 +18,7 @@ use Rattle.afdx_wiring.proofs.FeedLemmas.{way_back, source_there, fed_once_says}
 shared_by_all : (net : Network) (what : Shared) → by_wires (shares net what) 0 net.layout.wires ≡ Ok tt → AllByRecursion (IsKept net what) net.layout.wires
 shared_by_all net what h = wires_kept (shares net what) (IsKept net what) (λ at w kept. (at, kept)) 0 net.layout.wires h
 
-AllKept : Network → Wire → Type 0
+abbrev AllKept : Network → Wire → Type 0
 AllKept net w = Joins net w × (IsKept net shared.Number w × (IsKept net shared.Port w × IsKept net shared.Terms w))
 
 goes_on : (net : Network) (w : Wire) → AllKept net w → All (GoesOn net w) (rows_on net w)

@@ -29,7 +29,7 @@ use Rattle.afdx_wiring.specs.File.{is_end}
 use Rattle.afdx_wiring.specs.Net.{Network, Row, port_at, row_at, rows_of, rows_on}
 use Rattle.afdx_wiring.specs.Rules.{Joins, GoesOn}
 use Rattle.afdx_wiring.specs.Order.{Answer, by_wires, by_links, same_constant, same_rate, same_speed, joined_at, same_police, same_terms, agrees, goes_on, all_go_on, shares}
-use Rattle.afdx_wiring.proofs.Chains.{some_same, first_kept, rest_kept, unless_not, links_kept, row_in, Stands, all_stand, all_weaken}
+use Rattle.afdx_wiring.proofs.Chains.{fine, some_same, first_kept, rest_kept, unless_not, links_kept, row_in, Stands, all_stand, all_weaken}
 
 equal : (a b : ℕ) → (a == b) ≡ true → a ≡ b
 equal a b e = grind (arith, nat_tests)
@@ -129,7 +129,7 @@ record Behind (there : Content) (w : Wire) (l : Link) : Type 0 where
 
 same_link : (at : At) (w : Wire) (l next : Link) → agrees shared.Port at w l next ≡ Ok tt → next.from ≡ w.to.port
 same_link at w l next h = by (next.from == w.to.port) refl h where
-  by : (b : Bool) → (next.from == w.to.port) ≡ b → cond b (Ok tt) (Err (fault.From at l.id)) ≡ Ok tt → next.from ≡ w.to.port
+  by : (b : Bool) → (next.from == w.to.port) ≡ b → cond b fine (Err (fault.From at l.id)) ≡ fine → next.from ≡ w.to.port
   by true is kept = equal next.from w.to.port is
   by false is kept = absurd cc
 
@@ -166,7 +166,7 @@ there_is what at w l None h = absurd cc
 asked : (what : Shared) (at : At) (there : Content) (w : Wire) (l : Link) → leads_to w.from.port l ≡ true → goes_on what at there w l ≡ Ok tt
     → (or_refuse (fault.NoRow at l.id) (link_row there l.id) >>= agrees what at w l) ≡ Ok tt
 asked what at there w l leads h =
-    sym (ap (λ b. cond b (or_refuse (fault.NoRow at l.id) (link_row there l.id) >>= agrees what at w l) (Ok tt)) leads) ∙ h
+    sym (ap (λ b. cond b (or_refuse (fault.NoRow at l.id) (link_row there l.id) >>= agrees what at w l) fine) leads) ∙ h
 
 behind : (number port term : At) (there : Content) (w : Wire) (l : Link) → leads_to w.from.port l ≡ true
     → goes_on shared.Number number there w l ≡ Ok tt → goes_on shared.Port port there w l ≡ Ok tt → goes_on shared.Terms term there w l ≡ Ok tt → Behind there w l

@@ -6,4 +6,6 @@ pub mod FeedLemmas
 pub mod Fits
 pub mod JointLemmas
 pub mod LimitLemmas
+pub mod LoadLemmas
 pub mod TextLemmas
+pub mod WalkLemmas

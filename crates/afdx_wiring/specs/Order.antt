@@ -13,7 +13,7 @@ use Rattle.afdx_units.specs.declared.line.Speed.TheVariants.{Ten, Hundred, Thous
 use Rattle.afdx_table.specs.declared.rows.PortRow.{PortRow}
 use Rattle.afdx_table.specs.Link.{Link, leads_to}
 use Rattle.afdx_table.specs.Content.{Content, port_row, link_row}
-use Rattle.afdx_load.specs.Sums.{load_of}
+use Rattle.afdx_load.specs.Sums.{Sums, port_load}
 use Rattle.afdx_load.specs.Accepted.{first_fault}
 use Rattle.afdx_load.specs.declared.fault.LoadFault.{LoadFault}
 use Rattle.afdx_load.specs.Bounds.{bounds_of}
@@ -200,14 +200,16 @@ loads_fit n (t ∷ ts) = load_fits n (first_fault t.latency t.links t.ports) >>=
 abbrev pub within_reason : ℕ → Option ℕ
 within_reason bound = if nat_le bound 1000000000000 then Some bound else None
 
--- from a row's switch, which has this table, over a cable from this port
-abbrev pub hop_over : Content → Row → (cable : ℕ) → PortRow → Option Delays
-hop_over t r cable p =
-    option_map (λ bound. hop_of p.speed t.latency bound cable)
-    (option_and_then within_reason (bound_in (bounds_of (load_of t.latency p.speed p.id t.links)) r.link.priority))
+-- from a row's switch, which has this table, over a cable from this port, which has this load
+abbrev pub hop_over : Content → Row → (cable : ℕ) → PortRow → Sums → Option Delays
+hop_over t r cable p load =
+    option_map (λ bound. hop_of p.speed t.latency bound cable) (option_and_then within_reason (bound_in (bounds_of load) r.link.priority))
+
+abbrev pub hop_from : Row → (port cable : ℕ) → Content → Option Delays
+hop_from r port cable t = option_and_then (λ p. option_and_then (hop_over t r cable p) (port_load t port)) (port_row t port)
 
 abbrev pub hop_on : Network → Row → (port cable : ℕ) → Option Delays
-hop_on net r port cable = option_and_then (λ t. option_and_then (hop_over t r cable) (port_row t port)) (slice_get net.tables r.switch)
+hop_on net r port cable = option_and_then (hop_from r port cable) (slice_get net.tables r.switch)
 
 -- the jitter of a row's source and the delays from there to the row, over at most n rows; these come after
 abbrev pub way_by : (Row → Delays → Option (ℕ × Delays)) → Network → Row → Delays → Option Wire → Option (ℕ × Delays)

@@ -42,6 +42,7 @@ fn has_jitter(row: Row<'_>, far: Option<(u64, Delays)>) -> Result<(), NetworkFau
 
 impl<'a> Hops<'a> {
     /// The jitter of a row's source and the delays from there to the row, over at most so many rows; these come after.
+    #[tactic(auto, using(crate::proofs::WalkLemmas::way_step))]
     pub(crate) fn way_within(
         &self,
         rows: usize,

@@ -1,12 +1,13 @@
 //! What a frame takes from a switch to the next one.
 
-ghost use Rattle.std.specs.Prelude.{◌≡◌, ◌≤◌, IfOk, IfSome};
+ghost use Rattle.std.specs.Prelude.{◌≡◌, ◌≤◌, slice_get, option_and_then, IfOk, IfSome};
+ghost use Rattle.afdx_load.specs.Sums.{port_load};
 ghost use Rattle.afdx_wiring.specs.Net.{bound_in};
 ghost use Rattle.afdx_wiring.specs.Order.{row_of, within_reason, hop_on};
 
 use crate::network::Network;
 use crate::row::Row;
-use afdx_load::{Bounds, Loads, bounds, loads};
+use afdx_load::{Bounds, Load, Loads, bounds, loads};
 use afdx_series::{Delays, hop};
 use afdx_units::Priority;
 use std::alloc::{AllocError, Global};
@@ -78,16 +79,23 @@ impl<'a> Hops<'a> {
         self.network
     }
 
+    /// The load of a switch's port.
+    fn load_at(&self, switch: usize, port: u8) -> Option<Load>
+        ensures { result ≡ option_and_then (λ t. port_load t port) (slice_get self.now.tables switch) }
+    {
+        self.loads.get(switch)?.at(port)
+    }
+
     /// What a frame of a row's link takes from its arrival at the row's switch over a cable from a port.
     pub(crate) fn hop_on(&self, row: Row<'_>, port: u8, cable: u32) -> Option<Delays>
         ensures hop { result ≡ hop_on self.now (row_of row.entry) port cable }
         ensures limits { IfSome result (λ d. (d.least ≤ 2199023255552) × (d.most ≤ 2199023255552)) }
     {
         let table = self.network.table(row.switch)?;
-        let port = table.port(port)?;
-        let load = self.loads.get(row.switch)?.at(port.id)?;
+        let start = table.port(port)?;
+        let load = self.load_at(row.switch, port)?;
         let link = row.link;
         let bound = within_reason(bound_in(bounds(&load), link.priority)?)?;
-        Some(hop(port.speed, table.latency(), bound, u64::from(cable)))
+        Some(hop(start.speed, table.latency(), bound, u64::from(cable)))
     }
 }

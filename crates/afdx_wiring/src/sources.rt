@@ -1,6 +1,7 @@
 //! The sources of the links: each row is fed by one end system's port at last, and no number by two.
 
-ghost use Rattle.std.specs.Prelude.{◌≡◌, ◌<◌, length};
+ghost use Rattle.std.specs.Prelude.{◌≡◌, ◌==◌};
+ghost use Rattle.std.specs.List.{list_any};
 ghost use Rattle.afdx_wiring.specs.Refusal.{Gives};
 ghost use Rattle.afdx_wiring.specs.Order.{row_of, by_links, by_rows, ends_within, has_source, is_fed, source_met, sources_in, fed_once};
 
@@ -15,8 +16,17 @@ use std::alloc::Global;
 /// A way has each switch at most once, and there are at most so many.
 pub(crate) const MOST_ROWS: usize = 64;
 
+/// Whether a number was met.
+#[tactic(auto, using(crate::proofs::WalkLemmas::is_among))]
+fn has_met(met: &Numbers<Global>, number: u16) -> bool
+    ensures { result ≡ list_any (λ n. n == number) met.now }
+{
+    met.place(number).is_some()
+}
+
 impl Network {
     /// Whether the way back from a row ends at a source, over at most so many rows.
+    #[tactic(auto, using(crate::proofs::WalkLemmas::ends_step))]
     fn ends_within(&self, rows: usize, row: Row<'_>) -> bool
         ensures { result ≡ ends_within rows self.now (row_of row.entry) }
     {
@@ -81,7 +91,7 @@ impl Network {
             return Ok(());
         }
         let link = row.link;
-        if met.place(link.id).is_some() {
+        if has_met(met, link.id) {
             return Err(NetworkFault::TwiceSource(link.id));
         }
         met.push(link.id)?;

@@ -1,7 +1,5 @@
 //! The ways of a network's links.
 
-ghost use Rattle.std.specs.Prelude.{◌≤◌, IfSome};
-
 use crate::cleared::ClearedNetwork;
 use crate::hops::Hops;
 use crate::joints::link_at;
@@ -11,6 +9,9 @@ use crate::row::Row;
 use crate::sources::MOST_ROWS;
 use afdx_series::{Delays, need};
 use std::alloc::{AllocError, Global};
+
+/// No way takes more nanoseconds; it is more than 18 years.
+const MAX_SPAN: u64 = 576_460_752_303_423_488;
 
 /// A link's way, from an end system's port to a port that leads out of the network.
 #[derive(Debug, Drop)]
@@ -109,6 +110,9 @@ impl<'a> Hops<'a> {
             let Some(hop) = self.hop_on(stage.row, stage.port, stage.cable) else {
                 return Ok(None);
             };
+            if way.delays.least > MAX_SPAN || way.delays.most > MAX_SPAN {
+                return Ok(None);
+            }
             way.jitters.push(need(way.delays, link.jitter))?;
             way.ports.push(End {
                 switch: stage.row.switch,

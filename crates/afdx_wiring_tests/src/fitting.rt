@@ -153,6 +153,6 @@ fn a_load_that_is_refused(rt: HostRuntime) -> Result<(), Fail> {
         need: 2_285_015_040,
         limit: 2_048_000_000,
     };
-    assert_eq!(rt; network.clear(alloc).err(), Some(NetworkFault::Load(1, fault)));
+    assert_eq!(rt; network.clear().err(), Some(NetworkFault::Load(1, fault)));
     Ok(())
 }

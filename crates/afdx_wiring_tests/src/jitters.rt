@@ -14,7 +14,7 @@ fn shortage(
 ) -> Result<Option<NetworkFault>, Fail> {
     let network = network(alloc, texts, wires)?.ok().ok_or("no ports")?;
     network.fit(alloc).ok().ok_or("a misfit")?;
-    let cleared = network.clear(alloc).ok().ok_or("a load")?;
+    let cleared = network.clear().ok().ok_or("a load")?;
     Ok(cleared.check(alloc).err())
 }
 
