@@ -68,8 +68,8 @@ fn first_fault_in(table: &Table, slots: &[Load; SLOTS]) -> Option<LoadFault>
     None
 }
 
-/// The fault of a table.
-fn first_fault(table: &Table) -> Option<LoadFault>
+/// The fault of a table, as [`check`] tells it; none where the table is accepted. It costs as much as that.
+pub fn first_fault(table: &Table) -> Option<LoadFault>
     ensures { result ≡ first_fault table.now.latency table.now.links table.now.ports }
 {
     first_fault_in(table, &slots(table))

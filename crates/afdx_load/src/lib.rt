@@ -19,7 +19,7 @@ mod sums;
 
 pub use bounding::{PARTS, bounds, least_buffer};
 pub use breaking::breaks;
-pub use checking::check;
+pub use checking::{check, first_fault};
 pub use cleared::Cleared;
 pub use delays::Bounds;
 pub use fault::{LoadFault, Rule};

@@ -5,3 +5,4 @@ pub mod More
 pub mod Streaming
 pub mod Taking
 pub mod Answering
+pub mod ReadBack

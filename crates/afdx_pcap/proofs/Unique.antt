@@ -87,7 +87,7 @@ fine_begins f last n bytes none =
 -- ---- records
 
 -- no record is in nothing
-not_in_nothing : (f : Format) (last : ℕ) (bytes : List ℕ) (r : Entry) → bytes ≡ [] → Begins f last bytes r → ⊥
+pub not_in_nothing : (f : Format) (last : ℕ) (bytes : List ℕ) (r : Entry) → bytes ≡ [] → Begins f last bytes r → ⊥
 not_in_nothing f last bytes r e b = let whole = b.whole in let none = ap length e in omega (arith, whole, none)
 
 -- the same records after the same first one

@@ -7,7 +7,7 @@ use Rattle.std.proofs.lemmas.List.Elements.{All-head, All-tail, All-push}
 use Rattle.std.specs.List.{All}
 use Rattle.std.proofs.lemmas.Bool.{le-ltb}
 use Rattle.byteorder.specs.Numbers.{little_number-reads_back}
-use Rattle.afdx_units.specs.Time.{second, last_second}
+use Rattle.afdx_units.specs.Time.{second, last_second, stamp_end}
 use Rattle.afdx_pcap.specs.declared.format.Endian.TheVariants.{Little}
 use Rattle.afdx_pcap.specs.declared.format.Resolution.TheVariants.{Nanos}
 use Rattle.afdx_pcap.specs.declared.format.Format.{Format}
@@ -24,7 +24,7 @@ written = record { endian = Little; resolution = Nanos }
 good : Format → Result Format PcapFault
 good f = Ok f
 
-header_is : (x : List ℕ) → header_of (header_text ++ x) ≡ Ok written
+pub header_is : (x : List ℕ) → header_of (header_text ++ x) ≡ Ok written
 unfolding header_of number
 header_is x =
     let long = le-ltb (length (header_text ++ x)) 24 (omega arith) in
@@ -46,10 +46,10 @@ head_again a b c d x la lb lc ld =
     (little_number-reads_back 4 c (word d ++ x) lc)
     (little_number-reads_back 4 d x ld)
 
-head_is : (r : Entry) (x : List ℕ) → r.stamp < last_second → length r.bytes ≤ captured_limit
+pub head_is : (r : Entry) (x : List ℕ) → r.stamp < stamp_end → length r.bytes ≤ captured_limit
     → head_of Little (record_text r ++ x) ≡ head (r.stamp / second) (r.stamp % second) (length r.bytes) (length r.bytes)
 unfolding head_text
-head_is r x early limit =
+head_is r x instant limit =
     ap (head_of Little) (append_assoc (head_text r) r.bytes x)
     ∙ head_again (r.stamp / second) (r.stamp % second) (length r.bytes) (length r.bytes) (r.bytes ++ x) (omega arith) (omega arith) (omega arith) (omega arith)
 
@@ -57,16 +57,16 @@ head_long : (r : Entry) → length (head_text r) ≡ 16
 unfolding head_text
 head_long r = refl
 
-text_long : (r : Entry) → length (record_text r) ≡ 16 + length r.bytes
+pub text_long : (r : Entry) → length (record_text r) ≡ 16 + length r.bytes
 text_long r = length-append (head_text r) r.bytes ∙ ap (λ (n : ℕ). n + length r.bytes) (head_long r)
 
-after_is : (r : Entry) (x : List ℕ) → after r (record_text r ++ x) ≡ x
+pub after_is : (r : Entry) (x : List ℕ) → after r (record_text r ++ x) ≡ x
 after_is r x = drop_at (record_text r) x (16 + length r.bytes) (text_long r)
 
-begins : (last : ℕ) (r : Entry) (x : List ℕ) → last ≤ r.stamp → r.stamp < last_second → r.original ≡ length r.bytes → length r.bytes ≤ captured_limit
+pub begins : (last : ℕ) (r : Entry) (x : List ℕ) → last ≤ r.stamp → r.stamp < last_second → r.original ≡ length r.bytes → length r.bytes ≤ captured_limit
     → Begins written last (record_text r ++ x) r
 begins last r x in_order early original limit =
-    let h = head_is r x early limit in
+    let h = head_is r x (omega (arith, early)) limit in
     let len = text_long r in
     let kept : take (length r.bytes) (drop 16 (record_text r ++ x)) ≡ r.bytes =
     ap (λ (t : List ℕ). take (length r.bytes) (drop 16 t)) (append_assoc (head_text r) r.bytes x)

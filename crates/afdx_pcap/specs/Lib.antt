@@ -5,3 +5,4 @@ pub mod Capture
 pub mod Fault
 pub mod Text
 pub mod Reading
+pub mod ReadBack

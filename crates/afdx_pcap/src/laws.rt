@@ -7,12 +7,18 @@ ghost use Rattle.afdx_pcap.specs.Entry.{Entry, IsWithinLimit};
 ghost use Rattle.afdx_pcap.specs.Capture.{Holds, IsCapture};
 ghost use Rattle.afdx_pcap.specs.Fault.{IsFault, IsEarlyFault, last_stamp};
 ghost use Rattle.afdx_pcap.specs.Reading.{Answers, HasTaken, IsNext, IsSound, Taking, taking_on};
+ghost use Rattle.afdx_pcap.specs.ReadBack.{WrittenTextsReadBack};
 ghost use Rattle.afdx_pcap.specs.Text.{record_text, capture_text, AreReadable};
 
 /// What is written is a capture of the records that were written, where these can be read.
 pub fn what_is_written_is_a_capture()
     ensures { (rs : List Entry) → AreReadable 0 rs → All IsWithinLimit rs
         → IsCapture (capture_text rs) rs }
+{}
+
+/// Where what is written is a capture, it is one of the records that were written, and of no others.
+pub fn written_texts_read_back()
+    ensures { WrittenTextsReadBack }
 {}
 
 /// The text of one more record is the text so far, and then the record's.

@@ -4,7 +4,7 @@ use Rattle.std.specs.List.{AllByRecursion}
 use Rattle.afdx_units.specs.declared.line.Priority.{Priority}
 use Rattle.afdx_port.specs.declared.Settings.{Settings}
 use Rattle.afdx_port.specs.declared.Item.{Item}
-use Rattle.afdx_port.specs.Service.{reach, came, Event, item_of, free_after, is_high, in_turn, fate, others, service}
+use Rattle.afdx_port.specs.Service.{reach, came, Event, item_of, free_after, is_high, in_turn, fate, others, service, sent_of}
 use Rattle.afdx_port.specs.Progress.{start_of}
 
 -- the instants at which the items are queued do not fall
@@ -77,3 +77,8 @@ HighUndisturbed = (s : Settings) (items later : List Item) → All (λ item. All
 abbrev pub LowDisturbsNone : Type 0
 LowDisturbsNone = (s : Settings) (p : Item → Bool) (items later : List Item) (x : Item) → is_high x.priority ≡ false → p x ≡ false → All (λ item. p item ≡ false) later
     → filter (λ e. p (item_of e)) (service s 0 (items ++ x ∷ later)) ≡ filter (λ e. p (item_of e)) (service s 0 (items ++ later))
+
+-- the line sends one item at a time: ends do not fall, and none lies before the instant from which the line is free
+pub record EndsDoNotFall : Type 0 where
+  pub in_order : (s : Settings) (free : ℕ) (items : List Item) → AllPairs (λ a b. a.end ≤ b.end) (sent_of (service s free items))
+  pub from_free : (s : Settings) (free : ℕ) (items : List Item) → All (λ x. free ≤ x.end) (sent_of (service s free items))

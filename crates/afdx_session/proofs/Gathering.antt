@@ -62,11 +62,11 @@ placed_every P a (b ∷ arrivals) here all =
       | inr behind ↦ rw behind (all.0, placed_every P a arrivals here all.1)
     ]
 
-by_stamp_every : (P : Arrival → Type 0) (arrivals : List Arrival) → AllByRecursion P arrivals → AllByRecursion P (by_stamp arrivals)
+pub by_stamp_every : (P : Arrival → Type 0) (arrivals : List Arrival) → AllByRecursion P arrivals → AllByRecursion P (by_stamp arrivals)
 by_stamp_every P [] all = tt
 by_stamp_every P (a ∷ arrivals) all = placed_every P a (by_stamp arrivals) all.0 (by_stamp_every P arrivals all.1)
 
-port_every : (P : Arrival → Type 0) (port : ℕ) (rs : List Entry) (others : List Arrival) → AllByRecursion (λ (r : Entry). P (record { port = port; frame = r })) rs → AllByRecursion P others
+pub port_every : (P : Arrival → Type 0) (port : ℕ) (rs : List Entry) (others : List Arrival) → AllByRecursion (λ (r : Entry). P (record { port = port; frame = r })) rs → AllByRecursion P others
     → AllByRecursion P (map (λ (r : Entry). record { port = port; frame = r }) rs ++ others)
 port_every P port [] others all more = more
 port_every P port (r ∷ rs) others all more = (all.0, port_every P port rs others all.1 more)

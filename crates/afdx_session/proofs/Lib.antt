@@ -43,3 +43,4 @@ pub mod Firsts
 pub mod Goings
 pub mod Readings
 pub mod Pieces
+pub mod Readable

@@ -14,3 +14,4 @@ pub mod Kept
 pub mod View
 pub mod Finish
 pub mod Pieces
+pub mod Readable

@@ -3,6 +3,7 @@
 ghost use Rattle.afdx_session.specs.Headline.{AcceptedRunsIsolate, OwnFramesAreTheLinksAlone, OthersChangeNothing};
 ghost use Rattle.afdx_session.specs.OneMerge.{MergedIsTheOnlyOne};
 ghost use Rattle.afdx_session.specs.Pieces.{CallsGoOn, NothingWasTaken, TakenStays, TakesJoin, TakenIsAFront, TakesAndRestAreTheOutput};
+ghost use Rattle.afdx_session.specs.Readable.{OutputsAreReadable};
 ghost use Rattle.afdx_session.specs.Session.{OutputGrowsWithBytes, WholeRecordsAreUnique};
 ghost use Rattle.afdx_session.specs.Settled.{MergeIsUnique, SettledStays, SettledRecordsGo, RestComesAtTheFrontier, SwitchShowsWhatLeft};
 ghost use Rattle.afdx_session.specs.Streams.{LaterArrivalsChangeNothing, OutputGrows, TextGrows, OutputOfAll, IsFrontOfTheOutput, AllStartBeforeTheLastInstant};
@@ -13,8 +14,8 @@ use afdx_core::laws::{
 use afdx_filter::laws::clean_frames_have_a_link;
 use afdx_pcap::laws::whole_records_stay;
 use afdx_port::laws::{
-    arrivals_change_nothing_earlier, ends_within_a_second, events_follow_the_line,
-    stamps_keep_their_order,
+    arrivals_change_nothing_earlier, ends_do_not_fall, ends_within_a_second,
+    events_follow_the_line, stamps_keep_their_order,
 };
 use afdx_table::laws::links_are_found;
 
@@ -132,6 +133,16 @@ pub fn takes_join_to_the_output()
 pub fn all_start_before_the_last_instant()
     ensures { AllStartBeforeTheLastInstant }
 {
+    ends_within_a_second();
+    clean_frames_have_a_link();
+    verdicts_name_links();
+}
+
+/// What leaves can be read again, where no frame came in the last two seconds that a stamp can tell.
+pub fn outputs_are_readable()
+    ensures { OutputsAreReadable }
+{
+    ends_do_not_fall();
     ends_within_a_second();
     clean_frames_have_a_link();
     verdicts_name_links();
