@@ -4,4 +4,11 @@
 //! `specs/Runs.antt` says what a run of a network is that the library `afdx_wiring` has read.
 #![tactic(auto)]
 
+mod carrying;
+mod fault;
 pub mod laws;
+mod order;
+mod running;
+
+pub use fault::NetworkRunFault;
+pub use running::{Texts, run};

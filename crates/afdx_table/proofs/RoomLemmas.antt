@@ -18,7 +18,7 @@ HasRows ms = HasItems key.Port ms ⊎ HasItems key.Link ms
 pub wants : (ms : Members) (known known_there : Unit {0}) (stated : Option ℕ) (version : ℕ) (text : Option (List ℕ)) (constant : List ℕ) (stated_latency : Option ℕ) (latency_us : ℕ)
     → known_at place.Top all_keys ms ≡ Ok known → optional_number_at place.Top key.Version ms ≡ Ok stated → version_from stated ≡ Ok version → known_at place.Top (top_keys version) ms ≡ Ok known_there
     → optional_text_at place.Top key.Constant ms ≡ Ok text → constant_from text ≡ Ok constant → optional_number_at place.Top key.Latency ms ≡ Ok stated_latency
-        → latency_from stated_latency ≡ Ok latency_us → HasRows ms → WantsRoom ms
+    → latency_from stated_latency ≡ Ok latency_us → HasRows ms → WantsRoom ms
 unfolding head_at
 wants ms known known_there stated version text constant stated_latency latency_us h1 h2 h3 h4 h5 h6 h7 h8 rows = (
   latency_us,
