@@ -9,6 +9,8 @@ mod fault;
 pub mod laws;
 mod order;
 mod running;
+mod switches;
 
 pub use fault::NetworkRunFault;
-pub use running::{Texts, run};
+pub use running::run;
+pub use switches::Texts;
