@@ -49,7 +49,8 @@ impl<'a> Rounds<'a> {
 
     /// Takes what the wires bring to a switch, and runs it, unless it has run over that.
     fn step(&mut self, alloc: Global, switch: usize) -> Result<(), NetworkRunFault> {
-        for wire in &self.network.layout().wires {
+        let network = self.network;
+        for wire in &network.layout().wires {
             if wire.to.switch == switch {
                 let text = self.brought(alloc, wire)?;
                 if let (Some(text), Some(run)) = (text, self.runs.get_mut(switch)) {
@@ -57,7 +58,7 @@ impl<'a> Rounds<'a> {
                 }
             }
         }
-        match (self.network.table(switch), self.runs.get_mut(switch)) {
+        match (network.table(switch), self.runs.get_mut(switch)) {
             (Some(table), Some(run)) => match run.run(alloc, table) {
                 Ok(()) => Ok(()),
                 Err(fault) => Err(NetworkRunFault::of_switch(switch, fault)),
@@ -76,7 +77,8 @@ impl<'a> Rounds<'a> {
 
     /// Whether what each wire brings is what came at its end.
     fn rests(&self, alloc: Global) -> Result<bool, NetworkRunFault> {
-        for wire in &self.network.layout().wires {
+        let network = self.network;
+        for wire in &network.layout().wires {
             let Some(text) = self.brought(alloc, wire)? else {
                 return Ok(false);
             };
