@@ -73,7 +73,10 @@ pub(crate) fn outcomes(
     network: &ClearedNetwork,
     given: Vec<Texts>,
 ) -> Result<Vec<Outcome<Global>>, Fail> {
-    run(alloc, network, given).ok().ok_or("no run".into())
+    match run(alloc, network, given) {
+        Ok(outcomes) => Ok(outcomes),
+        Err(_) => Err("no run".into()),
+    }
 }
 
 /// What a run is refused for.

@@ -10,7 +10,10 @@ use std::test::Fail;
 fn needs(alloc: Global, texts: &[String], wires: &[(&str, &str, u32)]) -> Result<Needs, Fail> {
     let network = network(alloc, texts, wires)?.ok().ok_or("no ports")?;
     network.fit(alloc).ok().ok_or("a misfit")?;
-    network.jitters(alloc).ok().ok_or("no jitters".into())
+    match network.jitters(alloc) {
+        Ok(needs) => Ok(needs),
+        Err(_) => Err("no jitters".into()),
+    }
 }
 
 /// The needs alone, by switch and row.
