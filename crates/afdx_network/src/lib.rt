@@ -5,4 +5,13 @@
 //! them delivers.
 #![tactic(auto)]
 
+mod carrying;
+mod fault;
 pub mod laws;
+mod order;
+mod running;
+mod switches;
+
+pub use fault::NetworkRunFault;
+pub use running::run;
+pub use switches::Texts;

@@ -1,6 +1,6 @@
 //! Numbers in the order in which they were added.
 
-ghost use Rattle.std.specs.Prelude.{◌≡◌, ◌==◌, ℕ, ◌<◌, false, [], ◌∷◌, ◌++◌, Some, nat_eq, length, position, slice_get, slice_index, IfSome, IfNone, OnOk, OnErr};
+ghost use Rattle.std.specs.Prelude.{◌≡◌, ◌==◌, ℕ, ◌<◌, false, [], ◌∷◌, ◌++◌, Some, nat_eq, length, position, slice_get, slice_index, IfOk, IfSome, IfNone, OnOk, OnErr};
 ghost use Rattle.std.specs.List.{list_any, IsDistinct};
 
 use std::alloc::{AllocError, Allocator};
@@ -60,6 +60,17 @@ impl<A: Allocator + Copy> Numbers<A> {
             list: Vec::new(alloc),
             places: Vec::new(alloc),
         }
+    }
+
+    /// The same numbers once more. O(n) time and memory in the number of entries.
+    pub fn copy(&self, alloc: A) -> Result<Self, AllocError>
+        ensures { IfOk result (λ n. n ≡ self.now) }
+    {
+        let mut list = Vec::new(alloc);
+        list.extend_from_slice(&self.list)?;
+        let mut places = Vec::new(alloc);
+        places.extend_from_slice(&self.places)?;
+        Ok(Numbers { list, places })
     }
 
     /// Adds a new number at the end. An error says that a growth was refused; the list is as before then.

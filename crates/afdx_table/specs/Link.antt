@@ -1,5 +1,5 @@
 -- A virtual link (ARINC 664 Part 7), as contracts see it.
-use Rattle.std.specs.Prelude.{ℕ, ◌==◌, Bool, List}
+use Rattle.std.specs.Prelude.{ℕ, zero, suc, ◌==◌, Bool, List, [], ◌∷◌}
 use Rattle.std.specs.List.{list_any}
 use Rattle.afdx_units.specs.declared.bag.Bag.{Bag}
 use Rattle.afdx_units.specs.declared.line.Priority.{Priority}
@@ -18,6 +18,12 @@ pub record Link : Type 0 where
   pub max_size : ℕ
   pub priority : Priority
   pub police : Police
+
+-- the links, of which the one at this place has this jitter, in nanoseconds
+abbrev pub with_jitter : (place jitter : ℕ) → List Link → List Link
+with_jitter place jitter [] = []
+with_jitter zero jitter (l ∷ links) = record l { jitter = jitter } ∷ links
+with_jitter (suc place) jitter (l ∷ links) = l ∷ with_jitter place jitter links
 
 -- whether a list of port numbers names a port
 abbrev pub names_port : ℕ → List ℕ → Bool

@@ -1,6 +1,7 @@
 //! Links in the order in which they were added, with a look-up by number.
 
-ghost use Rattle.std.specs.Prelude.{◌≡◌, ◌==◌, false, [], ◌∷◌, ◌++◌, find, length, position, slice_get, OnOk, OnErr, option_copied};
+ghost use Rattle.std.specs.Prelude.{◌≡◌, ◌<◌, ◌==◌, false, [], ◌∷◌, ◌++◌, find, length, position, slice_get, IfOk, OnOk, OnErr, option_copied};
+ghost use Rattle.afdx_table.specs.Link.{with_jitter};
 ghost use Rattle.afdx_table.specs.Links.{has_link};
 
 use crate::rows::LinkRow;
@@ -28,6 +29,17 @@ impl Model for Links {
     ghost invariant = { λ l. l.numbers ≡ map (λ r. r.id) l.rows.items };
 }
 
+/// The same rows once more.
+fn copy_rows(alloc: Global, rows: &[LinkRow]) -> Result<Vec<LinkRow>, AllocError>
+    ensures { IfOk result (λ v. v.items ≡ rows.now) }
+{
+    let mut copies = Vec::with_capacity(alloc, rows.len())?;
+    for row in rows {
+        copies.push(row.copy(alloc)?)?;
+    }
+    Ok(copies)
+}
+
 impl Links {
     pub(crate) fn new(alloc: Global) -> Links
         ensures { result ≡ [] }
@@ -36,6 +48,25 @@ impl Links {
             numbers: Numbers::new(alloc),
             rows: Vec::new(alloc),
         }
+    }
+
+    /// The same links once more. O(n + m) for n links that together name m ports.
+    pub(crate) fn copy(&self, alloc: Global) -> Result<Links, AllocError>
+        ensures { IfOk result (λ l. l ≡ self.now) }
+    {
+        Ok(Links {
+            numbers: self.numbers.copy(alloc)?,
+            rows: copy_rows(alloc, &self.rows)?,
+        })
+    }
+
+    /// Gives the link at a place, from 0, a jitter of so many nanoseconds.
+    #[tactic(auto, using(crate::proofs::JitterLemmas::ids_stay))]
+    pub(crate) fn set_jitter(&mut self, index: usize, jitter: u64)
+        requires { index < length self.old }
+        ensures { self.new ≡ with_jitter index jitter self.old }
+    {
+        self.rows[index].jitter = jitter;
     }
 
     pub(crate) fn len(&self) -> usize

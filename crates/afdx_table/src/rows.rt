@@ -1,10 +1,11 @@
 //! The rows of a table, and what its numbers and words name.
 
-ghost use Rattle.std.specs.Prelude.{◌≡◌, ◌≤◌, ◌*◌};
+ghost use Rattle.std.specs.Prelude.{◌≡◌, ◌≤◌, ◌*◌, IfOk};
 ghost use Rattle.afdx_table.specs.Names.{speed_of, bag_of, priority_of, police_of};
 
 use crate::limits::{LATENCY_VERSION, NANOS_PER_MICROSECOND};
 use afdx_units::{Bag, Police, Priority, Speed};
+use std::alloc::{AllocError, Global};
 use std::marker::Model;
 
 /// A port of the switch.
@@ -58,6 +59,26 @@ impl Model for LinkRow {
       priority = l.priority;
       police = l.police;
     } };
+}
+
+impl LinkRow {
+    /// The same row once more.
+    pub(crate) fn copy(&self, alloc: Global) -> Result<LinkRow, AllocError>
+        ensures { IfOk result (λ l. l ≡ self.now) }
+    {
+        let mut to = Vec::new(alloc);
+        to.extend_from_slice(&self.to)?;
+        Ok(LinkRow {
+            id: self.id,
+            from: self.from,
+            to,
+            bag: self.bag,
+            jitter: self.jitter,
+            max_size: self.max_size,
+            priority: self.priority,
+            police: self.police,
+        })
+    }
 }
 
 /// Nanoseconds of so many microseconds.

@@ -1,8 +1,9 @@
 //! The table, and how it is read.
 
-ghost use Rattle.std.specs.Prelude.{◌≡◌, length, slice_get, option_copied, Err, IfOk, IfSome};
+ghost use Rattle.std.specs.Prelude.{◌≡◌, ◌<◌, ◌≤◌, length, slice_get, option_copied, Err, IfOk, IfSome};
 ghost use Rattle.toml.specs.View.{table_view};
 ghost use Rattle.afdx_table.specs.Refusal.{Gives};
+ghost use Rattle.afdx_table.specs.Link.{with_jitter};
 ghost use Rattle.afdx_table.specs.Content.{port_row, link_row, link_place};
 ghost use Rattle.afdx_table.specs.Text.{content_of, tree_of, table_of};
 ghost use Rattle.afdx_table.specs.Room.{WantsRoom, SaysSomething};
@@ -15,7 +16,7 @@ use crate::links::read_links;
 use crate::ports::{port_of, read_ports};
 use crate::rows::{LinkRow, PortRow};
 use crate::top::read_top;
-use std::alloc::Global;
+use std::alloc::{AllocError, Global};
 use std::marker::Model;
 use toml::Table as Tree;
 
@@ -47,6 +48,30 @@ impl Model for Table {
 }
 
 impl Table {
+    /// The same table once more. O(p + n + m) for p ports and n links that together name m ports.
+    pub fn copy(&self, alloc: Global) -> Result<Table, AllocError>
+        ensures { IfOk result (λ t. t ≡ self.now) }
+    {
+        let mut ports = Vec::new(alloc);
+        ports.extend_from_slice(&self.ports)?;
+        Ok(Table {
+            constant: self.constant,
+            latency: self.latency,
+            ports,
+            links: self.links.copy(alloc)?,
+        })
+    }
+
+    /// Gives the link at a place in file order, from 0, a jitter of so many nanoseconds. O(1).
+    #[tactic(auto, using(crate::proofs::JitterLemmas::still_formed))]
+    pub fn set_jitter(&mut self, index: usize, jitter: u64)
+        requires place { index < length self.old.links }
+        requires limit { jitter ≤ 10000000 }
+        ensures { self.new ≡ record self.old { links = with_jitter index jitter self.old.links } }
+    {
+        self.links.set_jitter(index, jitter);
+    }
+
     /// The constant field: the first four bytes of the destination address of each link's frames (ARINC 664 Part 7).
     /// O(1).
     pub fn constant(&self) -> [u8; 4]

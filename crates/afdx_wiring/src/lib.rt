@@ -10,6 +10,7 @@ mod fault;
 mod fields;
 mod fitting;
 mod hops;
+mod jitters;
 mod joints;
 pub mod laws;
 mod layout;
@@ -25,6 +26,7 @@ mod wires;
 
 pub use cleared::ClearedNetwork;
 pub use fault::{At, Key, NetworkFault, Short};
+pub use jitters::{Needs, RowNeed};
 pub use layout::{End, Layout, Switch, Wire};
 pub use network::Network;
 pub use reading::read;

@@ -111,6 +111,14 @@ impl Network {
         &self.tables
     }
 
+    /// The layout and the tables, apart. O(1).
+    pub(crate) fn into_parts(self) -> (Layout, Vec<Table>)
+        ensures parts { (result.0 ≡ self.layout) × (result.1.items ≡ self.tables) }
+        ensures ports { lost_port self.tables self.layout.wires ≡ Ok tt }
+    {
+        (self.layout, self.tables)
+    }
+
     /// The table of the switch at a place, from 0. O(1).
     pub fn table(&self, switch: usize) -> Option<&Table>
         ensures { option_copied result ≡ slice_get self.now.tables switch }
@@ -134,7 +142,7 @@ impl Network {
     }
 
     /// The wire that goes to a port. It looks at each of the wires.
-    pub(crate) fn wire_to(&self, end: End) -> Option<&Wire>
+    pub fn wire_to(&self, end: End) -> Option<&Wire>
         ensures { option_copied result ≡ wire_to self.now end }
     {
         self.layout.wires.iter().find(|wire| is_end(wire.to, end))

@@ -10,6 +10,8 @@ mod fitting;
 #[cfg(test)]
 mod jitters;
 #[cfg(test)]
+mod needs;
+#[cfg(test)]
 mod networks;
 #[cfg(test)]
 mod refused;
