@@ -1,0 +1,11 @@
+pub mod ArrayLemmas
+pub mod Chains
+pub mod Enough
+pub mod Examples
+pub mod FeedLemmas
+pub mod Fits
+pub mod JointLemmas
+pub mod LimitLemmas
+pub mod LoadLemmas
+pub mod TextLemmas
+pub mod WalkLemmas

@@ -1,0 +1,127 @@
+//! The sources of the links: each row is fed by one end system's port at last, and no number by two.
+
+ghost use Rattle.std.specs.Prelude.{◌≡◌, ◌==◌};
+ghost use Rattle.std.specs.List.{list_any};
+ghost use Rattle.afdx_wiring.specs.Refusal.{Gives};
+ghost use Rattle.afdx_wiring.specs.Order.{row_of, by_links, by_rows, ends_within, has_source, is_fed, source_met, sources_in, fed_once};
+
+use crate::fault::NetworkFault;
+use crate::joints::link_at;
+use crate::network::Network;
+use crate::row::Row;
+use afdx_numbers::Numbers;
+use afdx_table::Table;
+use std::alloc::Global;
+
+/// A way has each switch at most once, and there are at most so many.
+pub(crate) const MOST_ROWS: usize = 64;
+
+/// Whether a number was met.
+#[tactic(auto, using(crate::proofs::WalkLemmas::is_among))]
+fn has_met(met: &Numbers<Global>, number: u16) -> bool
+    ensures { result ≡ list_any (λ n. n == number) met.now }
+{
+    met.place(number).is_some()
+}
+
+impl Network {
+    /// Whether the way back from a row ends at a source, over at most so many rows.
+    #[tactic(auto, using(crate::proofs::WalkLemmas::ends_step))]
+    fn ends_within(&self, rows: usize, row: Row<'_>) -> bool
+        ensures { result ≡ ends_within rows self.now (row_of row.entry) }
+    {
+        let Some(fewer) = rows.checked_sub(1) else {
+            return false;
+        };
+        let Some(wire) = self.wire_to(row.ingress()) else {
+            return true;
+        };
+        let link = row.link;
+        match self.row_before(link.id, wire) {
+            Some(before) => self.ends_within(fewer, before),
+            None => false,
+        }
+    }
+
+    /// A row's way back.
+    fn has_source(&self, row: Row<'_>) -> Result<(), NetworkFault>
+        ensures { result ≡ has_source self.now (row_of row.entry) }
+    {
+        let link = row.link;
+        if self.ends_within(MOST_ROWS, row) {
+            Ok(())
+        } else {
+            Err(NetworkFault::NoSource(row.switch, link.id))
+        }
+    }
+
+    /// The ways back of a switch's rows.
+    fn have_sources(&self, switch: usize, table: &Table) -> Result<(), NetworkFault>
+        ensures { result ≡ by_links (λ l. has_source self.now (record { switch = switch; link = l })) table.now.links }
+    {
+        for index in 0..table.link_count() {
+            let link = link_at(table, index);
+            self.has_source(Row { switch, link })?;
+        }
+        Ok(())
+    }
+
+    /// The ways back of all rows.
+    pub(crate) fn all_have_sources(&self) -> Result<(), NetworkFault>
+        ensures { result ≡ by_rows (has_source self.now) 0 self.now.tables }
+    {
+        for (switch, table) in self.tables().iter().enumerate() {
+            self.have_sources(switch, table)?;
+        }
+        Ok(())
+    }
+
+    /// Whether an end system's port feeds a row.
+    fn is_fed(&self, row: Row<'_>) -> bool
+        ensures { result ≡ is_fed self.now (row_of row.entry) }
+    {
+        self.wire_to(row.ingress()).is_none()
+    }
+
+    /// Keeps the number of a row that an end system's port feeds.
+    fn meet_source(&self, met: &mut Numbers<Global>, row: Row<'_>) -> Result<(), NetworkFault>
+        ensures { Gives (λ _. met.new) result (source_met self.now met.old (row_of row.entry)) }
+    {
+        if !self.is_fed(row) {
+            return Ok(());
+        }
+        let link = row.link;
+        if has_met(met, link.id) {
+            return Err(NetworkFault::TwiceSource(link.id));
+        }
+        met.push(link.id)?;
+        Ok(())
+    }
+
+    /// Keeps those of a switch.
+    fn meet_sources(
+        &self,
+        met: &mut Numbers<Global>,
+        switch: usize,
+        table: &Table,
+    ) -> Result<(), NetworkFault>
+        ensures { Gives (λ _. met.new) result (sources_in self.now switch met.old table.now.links) }
+    {
+        for index in 0..table.link_count() {
+            let link = link_at(table, index);
+            self.meet_source(met, Row { switch, link })?;
+        }
+        Ok(())
+    }
+
+    /// Refuses a second source of one number.
+    pub(crate) fn each_fed_once(&self, alloc: Global) -> Result<(), NetworkFault>
+        ensures { Gives (λ _. tt) result (fed_once self.now) }
+    {
+        let mut met = Numbers::new(alloc);
+        for (switch, table) in self.tables().iter().enumerate() {
+            self.meet_sources(&mut met, switch, table)?;
+        }
+        Ok(())
+    }
+}
