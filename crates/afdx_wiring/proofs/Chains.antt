@@ -10,8 +10,8 @@ use Rattle.afdx_wiring.specs.declared.fault.At.TheVariants as place
 use Rattle.afdx_wiring.specs.declared.fault.NetworkFault.{NetworkFault}
 use Rattle.afdx_wiring.specs.declared.layout.Wire.{Wire}
 use Rattle.afdx_wiring.specs.Refusal.{◌>>=◌, unless}
-use Rattle.afdx_wiring.specs.Net.{Network, Row, rows_of}
-use Rattle.afdx_wiring.specs.Order.{Answer, by_wires, by_links, by_rows}
+use Rattle.afdx_wiring.specs.Net.{Row, rows_in}
+use Rattle.afdx_wiring.specs.Order.{Answer, first_of, by_wires}
 
 pub some_same : {X : Type 0} {a b : X} → Some a ≡ Some b → a ≡ b
 some_same h = cc
@@ -38,7 +38,7 @@ pub unless_so : (b : Bool) (e : NetworkFault) → unless b e ≡ Ok tt → b ≡
 unless_so true e h = absurd cc
 unless_so false e h = refl
 
--- ---- by wire, and by link
+-- ---- one after another
 
 pub wires_kept : (rule : At → Wire → Answer) (P : Wire → Type 0) → ((at : At) (w : Wire) → rule at w ≡ Ok tt → P w) → (n : ℕ) (ws : List Wire)
     → by_wires rule n ws ≡ Ok tt → AllByRecursion P ws
@@ -47,11 +47,11 @@ wires_kept rule P each n (w ∷ ws) h =
     let rest : Unit {0} → Answer = λ _. by_wires rule (n + 1) ws in
     (each (place.Wire (n + 1)) w (first_kept (rule (place.Wire (n + 1)) w) rest tt h), wires_kept rule P each (n + 1) ws (rest_kept (rule (place.Wire (n + 1)) w) rest tt h))
 
-pub links_kept : (rule : Link → Answer) (ls : List Link) → by_links rule ls ≡ Ok tt → AllByRecursion (λ l. rule l ≡ Ok tt) ls
-links_kept rule [] h = tt
-links_kept rule (l ∷ ls) h =
-    let rest : Unit {0} → Answer = λ _. by_links rule ls in
-    (first_kept (rule l) rest tt h, links_kept rule ls (rest_kept (rule l) rest tt h))
+pub all_kept : {X : Type 0} (rule : X → Answer) (xs : List X) → first_of rule xs ≡ Ok tt → AllByRecursion (λ x. rule x ≡ Ok tt) xs
+all_kept rule [] h = tt
+all_kept rule (x ∷ xs) h =
+    let rest : Unit {0} → Answer = λ _. first_of rule xs in
+    (first_kept (rule x) rest tt h, all_kept rule xs (rest_kept (rule x) rest tt h))
 
 -- ---- by row
 
@@ -59,7 +59,7 @@ abbrev pub row_in : ℕ → Link → Row
 row_in n = λ l. record { switch = n; link = l }
 
 abbrev pub rows_from : ℕ → List Content → List Row
-rows_from n tables = flat_map (λ at. map (λ l. record { switch = at.0; link = l }) at.1.links) (enumerate_from n tables)
+rows_from n tables = flat_map (λ at. rows_in at.0 at.1.links) (enumerate_from n tables)
 
 pub all_weaken : {X : Type 0} (P Q : X → Type 0) (xs : List X) → ((x : X) → P x → Q x) → AllByRecursion P xs → AllByRecursion Q xs
 all_weaken P Q [] h all = tt
@@ -77,29 +77,41 @@ pub all_map : {X Y : Type 0} (P : Y → Type 0) (f : X → Y) (xs : List X) → 
 all_map P f [] all = tt
 all_map P f (x ∷ xs) all = (all.0, all_map P f xs all.1)
 
-pub rows_kept : (rule : Row → Answer) (n : ℕ) (ts : List Content) → by_rows rule n ts ≡ Ok tt → AllByRecursion (λ r. rule r ≡ Ok tt) (rows_from n ts)
-rows_kept rule n [] h = tt
-rows_kept rule n (t ∷ ts) h =
-    let here : Answer = by_links (λ l. rule (row_in n l)) t.links in
-    let rest : Unit {0} → Answer = λ _. by_rows rule (n + 1) ts in
-    all_append (λ r. rule r ≡ Ok tt) (map (row_in n) t.links) (rows_from (n + 1) ts)
-    (all_map (λ r. rule r ≡ Ok tt) (row_in n) t.links (links_kept (λ l. rule (row_in n l)) t.links (first_kept here rest tt h)))
-    (rows_kept rule (n + 1) ts (rest_kept here rest tt h))
+-- the row of the link at a place, before those of the rest
+next_row : (n : ℕ) (ls : List Link) (i : ℕ) (l : Link) → i < length ls → l ≡ get_or ls i l → rows_in n (drop i ls) ≡ row_in n l ∷ rows_in n (drop (i + 1) ls)
+next_row n ls i l within is = ap (rows_in n) (drop-cons ls i l within ∙ ap (λ (m : Link). m ∷ drop (suc i) ls) (sym is) ∙ ap (λ (k : ℕ). l ∷ drop k ls) (sym (add-one i)))
 
--- the rules on the rows of one table, before those on the rest
-rows_step : (rule : Row → Answer) (n : ℕ) (ts : List Content) (t : Content) → n < length ts → t ≡ get_or ts n t
-    → by_rows rule n (drop n ts) ≡ (by_links (λ l. rule (row_in n l)) t.links >>= λ _. by_rows rule (n + 1) (drop (n + 1) ts))
-rows_step rule n ts t within is =
-    ap (by_rows rule n) (drop-cons ts n t within ∙ ap (λ (u : Content). u ∷ drop (suc n) ts) (sym is) ∙ ap (λ (k : ℕ). t ∷ drop k ts) (sym (add-one n)))
+-- where a rule is not kept at that row
+pub row_stops : (rule : Row → Answer) (n : ℕ) (ls : List Link) (i : ℕ) (l : Link) (e : NetworkFault) → i < length ls → l ≡ get_or ls i l → rule (row_in n l) ≡ Err e
+    → first_of rule (rows_in n (drop i ls)) ≡ Err e
+row_stops rule n ls i l e within is broken =
+    ap (first_of rule) (next_row n ls i l within is) ∙ ap (λ (a : Answer). a >>= λ _. first_of rule (rows_in n (drop (i + 1) ls))) broken
 
--- where they are kept, and where one is not
-pub rows_go : (rule : Row → Answer) (n : ℕ) (ts : List Content) (t : Content) → n < length ts → t ≡ get_or ts n t → by_links (λ l. rule (row_in n l)) t.links ≡ Ok tt
-    → by_rows rule n (drop n ts) ≡ by_rows rule (n + 1) (drop (n + 1) ts)
-rows_go rule n ts t within is kept = rows_step rule n ts t within is ∙ ap (λ (a : Answer). a >>= λ _. by_rows rule (n + 1) (drop (n + 1) ts)) kept
+-- the rows of the table at a place, before those of the rest
+pub next_rows : (n : ℕ) (ts : List Content) (t : Content) → n < length ts → t ≡ get_or ts n t
+    → rows_from n (drop n ts) ≡ rows_in n t.links ++ rows_from (n + 1) (drop (n + 1) ts)
+next_rows n ts t within is = ap (rows_from n) (drop-cons ts n t within ∙ ap (λ (u : Content). u ∷ drop (suc n) ts) (sym is) ∙ ap (λ (k : ℕ). t ∷ drop k ts) (sym (add-one n)))
+
+first_append : (rule : Row → Answer) (xs ys : List Row) → first_of rule (xs ++ ys) ≡ (first_of rule xs >>= λ _. first_of rule ys)
+first_append rule [] ys = refl
+first_append rule (x ∷ xs) ys = by (rule x) (first_append rule xs ys) where
+  by : (a : Answer) → first_of rule (xs ++ ys) ≡ (first_of rule xs >>= λ _. first_of rule ys)
+      → (a >>= λ _. first_of rule (xs ++ ys)) ≡ ((a >>= λ _. first_of rule xs) >>= λ _. first_of rule ys)
+  by (Ok _) more = more
+  by (Err e) more = refl
+
+-- where a rule is kept in that table, and where it is not
+pub rows_go : (rule : Row → Answer) (n : ℕ) (ts : List Content) (t : Content) → n < length ts → t ≡ get_or ts n t → first_of rule (rows_in n t.links) ≡ Ok tt
+    → first_of rule (rows_from n (drop n ts)) ≡ first_of rule (rows_from (n + 1) (drop (n + 1) ts))
+rows_go rule n ts t within is kept =
+    let rest : List Row = rows_from (n + 1) (drop (n + 1) ts) in
+    ap (first_of rule) (next_rows n ts t within is) ∙ first_append rule (rows_in n t.links) rest ∙ ap (λ (a : Answer). a >>= λ _. first_of rule rest) kept
 
 pub rows_stop : (rule : Row → Answer) (n : ℕ) (ts : List Content) (t : Content) (e : NetworkFault) → n < length ts → t ≡ get_or ts n t
-    → by_links (λ l. rule (row_in n l)) t.links ≡ Err e → by_rows rule n (drop n ts) ≡ Err e
-rows_stop rule n ts t e within is broken = rows_step rule n ts t within is ∙ ap (λ (a : Answer). a >>= λ _. by_rows rule (n + 1) (drop (n + 1) ts)) broken
+    → first_of rule (rows_in n t.links) ≡ Err e → first_of rule (rows_from n (drop n ts)) ≡ Err e
+rows_stop rule n ts t e within is broken =
+    let rest : List Row = rows_from (n + 1) (drop (n + 1) ts) in
+    ap (first_of rule) (next_rows n ts t within is) ∙ first_append rule (rows_in n t.links) rest ∙ ap (λ (a : Answer). a >>= λ _. first_of rule rest) broken
 
 -- ---- where a row stands
 

@@ -15,7 +15,7 @@ use Rattle.afdx_wiring.specs.declared.layout.Wire.{Wire}
 use Rattle.afdx_wiring.specs.Net.{Network, Row, Back, port_at, row_at, rows_of, ingress, wire_to, bound_in, bound_at, IsWayBack, source_of, AreDelays}
 use Rattle.afdx_wiring.specs.Rules.{HasJitters}
 use Rattle.afdx_wiring.specs.Order.{row_before, within_reason, hop_over, hop_from, hop_on, way_by, way_within, has_jitter, jitter_enough, most_rows, shortage}
-use Rattle.afdx_wiring.proofs.Chains.{fine, some_same, unless_so, row_in, rows_kept}
+use Rattle.afdx_wiring.proofs.Chains.{fine, some_same, unless_so, row_in, all_kept}
 use Rattle.afdx_wiring.proofs.FeedLemmas.{before_is}
 
 -- ---- a hop
@@ -127,5 +127,5 @@ row_has net r backs d h way are = by (way_within most_rows net r at_once) refl h
 pub enough : (net : Network) → shortage net ≡ Ok tt → HasJitters net
 unfolding shortage
 enough net h =
-    let kept = All-from_recursion (λ r. jitter_enough net r ≡ Ok tt) (rows_of net) (rows_kept (jitter_enough net) 0 net.tables h) in
+    let kept = All-from_recursion (λ r. jitter_enough net r ≡ Ok tt) (rows_of net) (all_kept (jitter_enough net) (rows_of net) h) in
     record { enough = λ r backs d among way are. row_has net r backs d (All-contains (λ r. jitter_enough net r ≡ Ok tt) (rows_of net) r kept among) way are }

@@ -28,8 +28,8 @@ use Rattle.afdx_wiring.specs.Refusal.{◌>>=◌, or_refuse, unless}
 use Rattle.afdx_wiring.specs.File.{is_end}
 use Rattle.afdx_wiring.specs.Net.{Network, Row, port_at, row_at, rows_of, rows_on}
 use Rattle.afdx_wiring.specs.Rules.{Joins, GoesOn}
-use Rattle.afdx_wiring.specs.Order.{Answer, by_wires, by_links, same_constant, same_rate, same_speed, joined_at, same_police, same_terms, agrees, goes_on, all_go_on, shares}
-use Rattle.afdx_wiring.proofs.Chains.{fine, some_same, first_kept, rest_kept, unless_not, links_kept, row_in, Stands, all_stand, all_weaken}
+use Rattle.afdx_wiring.specs.Order.{Answer, by_wires, first_of, same_constant, same_rate, same_speed, joined_at, same_police, same_terms, agrees, goes_on, all_go_on, shares}
+use Rattle.afdx_wiring.proofs.Chains.{fine, some_same, first_kept, rest_kept, unless_not, all_kept, row_in, Stands, all_stand, all_weaken}
 
 equal : (a b : ℕ) → (a == b) ≡ true → a ≡ b
 equal a b e = grind (arith, nat_tests)
@@ -186,8 +186,8 @@ behind number port term there w l leads n p t =
 on_wire : (what : Shared) (at : At) (w : Wire) (h t : Option Content) (here there : Content) → h ≡ Some here → t ≡ Some there → all_go_on what at w h t ≡ Ok tt
     → AllByRecursion (λ l. goes_on what at there w l ≡ Ok tt) here.links
 on_wire what at w (Some a) (Some b) here there h_is t_is kept =
-    links_kept (goes_on what at there w) here.links
-    (ap (λ (c : Content). by_links (goes_on what at there w) c.links) (some_same (sym h_is)) ∙ ap (λ (c : Content). by_links (goes_on what at c w) a.links) (some_same (sym t_is)) ∙ kept)
+    all_kept (goes_on what at there w) here.links
+    (ap (λ (c : Content). first_of (goes_on what at there w) c.links) (some_same (sym h_is)) ∙ ap (λ (c : Content). first_of (goes_on what at c w) a.links) (some_same (sym t_is)) ∙ kept)
 on_wire what at w (Some a) None here there h_is t_is kept = absurd cc
 on_wire what at w None t here there h_is t_is kept = absurd cc
 

@@ -33,9 +33,13 @@ port_at net e = option_and_then (λ t. port_row t e.port) (slice_get net.tables 
 abbrev pub row_at : Network → ℕ → ℕ → Option Row
 row_at net switch id = option_and_then (λ t. option_map (λ l. record { switch = switch; link = l }) (link_row t id)) (slice_get net.tables switch)
 
+-- the rows of the table of the switch at this place
+abbrev pub rows_in : ℕ → List Link → List Row
+rows_in n links = map (λ l. record { switch = n; link = l }) links
+
 -- all rows: by switch, then in the order of its table
 abbrev pub rows_of : Network → List Row
-rows_of net = flat_map (λ at. map (λ l. record { switch = at.0; link = l }) at.1.links) (enumerate_from 0 net.tables)
+rows_of net = flat_map (λ at. rows_in at.0 at.1.links) (enumerate_from 0 net.tables)
 
 -- the rows of its first switch that lead to a wire
 abbrev pub rows_on : Network → Wire → List Row
@@ -47,9 +51,6 @@ ingress r = record { switch = r.switch; port = r.link.from }
 
 abbrev pub wire_to : Network → End → Option Wire
 wire_to net e = find (λ w. is_end w.to e) net.layout.wires
-
-abbrev pub wire_from : Network → End → Option Wire
-wire_from net e = find (λ w. is_end w.from e) net.layout.wires
 
 -- an end system's port feeds the row: no wire goes there
 abbrev pub IsSource : Network → Row → Type 0

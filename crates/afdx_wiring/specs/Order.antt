@@ -1,8 +1,8 @@
 -- The first rule that the tables of a network break (profile): rule by rule; within one rule by wire and by the row that leads to it,
 -- or by switch and row.
-use Rattle.std.specs.Prelude.{ℕ, zero, suc, ◌+◌, ◌-◌, ◌*◌, ◌/◌, ◌==◌, ◌||◌, Bool, true, false, not, nat_le, nat_lt, if◌then◌else◌, List, [], ◌∷◌, ◌++◌, slice_get}
+use Rattle.std.specs.Prelude.{ℕ, zero, suc, ◌+◌, ◌-◌, ◌*◌, ◌/◌, ◌==◌, ◌||◌, Bool, true, false, not, nat_le, nat_lt, if◌then◌else◌, List, [], ◌∷◌, ◌++◌, map, filter, slice_get}
 use Rattle.std.specs.Prelude.{Option, Some, None, option_map, option_and_then, is_some, Result, Ok, Err}
-use Rattle.std.specs.List.{list_any}
+use Rattle.std.specs.List.{list_any, enumerate_from}
 use Rattle.std.specs.Option.{option_map_or}
 use Rattle.std.specs.Str.{bytes_eq}
 use Rattle.afdx_units.specs.declared.police.Police.{Police}
@@ -29,7 +29,7 @@ use Rattle.afdx_wiring.specs.declared.row.Row.{Row as RowOfCode}
 use Rattle.afdx_wiring.specs.declared.terms.Shared.{Shared}
 use Rattle.afdx_wiring.specs.declared.terms.Shared.TheVariants as shared
 use Rattle.afdx_wiring.specs.Refusal.{◌>>=◌, or_refuse, unless}
-use Rattle.afdx_wiring.specs.Net.{Network, Row, port_at, row_at, ingress, wire_to, bound_in}
+use Rattle.afdx_wiring.specs.Net.{Network, Row, port_at, row_at, rows_of, ingress, wire_to, bound_in}
 
 -- a row as the code has it
 abbrev pub row_of : RowOfCode → Row
@@ -41,20 +41,14 @@ Answer = Result (Unit {0}) NetworkFault
 
 -- ---- orders
 
+-- the first refusal of a rule, one after another
+abbrev pub first_of : {X : Type 0} → (X → Answer) → List X → Answer
+first_of rule [] = Ok tt
+first_of rule (x ∷ xs) = rule x >>= λ _. first_of rule xs
+
 -- by wire, each with its place in the file, of which n come before these
 abbrev pub by_wires : (At → Wire → Answer) → ℕ → List Wire → Answer
-by_wires rule n [] = Ok tt
-by_wires rule n (w ∷ ws) = rule (place.Wire (n + 1)) w >>= λ _. by_wires rule (n + 1) ws
-
--- by link of a table
-abbrev pub by_links : (Link → Answer) → List Link → Answer
-by_links rule [] = Ok tt
-by_links rule (l ∷ ls) = rule l >>= λ _. by_links rule ls
-
--- by switch, of which n come before these, and by row
-abbrev pub by_rows : (Row → Answer) → ℕ → List Content → Answer
-by_rows rule n [] = Ok tt
-by_rows rule n (t ∷ ts) = by_links (λ l. rule (record { switch = n; link = l })) t.links >>= λ _. by_rows rule (n + 1) ts
+by_wires rule n ws = first_of (λ at. rule (place.Wire (at.0 + 1)) at.1) (enumerate_from n ws)
 
 -- ---- wires
 
@@ -111,7 +105,7 @@ goes_on what at there w l =
     else Ok tt
 
 abbrev pub all_go_on : Shared → At → Wire → Option Content → Option Content → Answer
-all_go_on what at w (Some here) (Some there) = by_links (goes_on what at there w) here.links
+all_go_on what at w (Some here) (Some there) = first_of (goes_on what at there w) here.links
 all_go_on what at w here there = Err (fault.NoSuchPort at)
 
 abbrev pub shares : Network → Shared → At → Wire → Answer
@@ -146,25 +140,14 @@ has_source net r = unless (not (ends_within most_rows net r)) (fault.NoSource r.
 abbrev pub is_fed : Network → Row → Bool
 is_fed net r = not (is_some (wire_to net (ingress r)))
 
--- the numbers of the sources, with a further row
-abbrev pub source_met : Network → List ℕ → Row → Result (List ℕ) NetworkFault
-source_met net before r =
-    if is_fed net r
-    then (unless (list_any (λ id. id == r.link.id) before) (fault.TwiceSource r.link.id) >>= λ _. Ok (before ++ r.link.id ∷ []))
-    else Ok before
+-- the numbers of those rows that an end system's port feeds
+abbrev pub fed_numbers : Network → List Row → List ℕ
+fed_numbers net rows = map (λ r. r.link.id) (filter (is_fed net) rows)
 
--- with the rows of a switch
-abbrev pub sources_in : Network → ℕ → List ℕ → List Link → Result (List ℕ) NetworkFault
-sources_in net n before [] = Ok before
-sources_in net n before (l ∷ ls) = source_met net before (record { switch = n; link = l }) >>= λ more. sources_in net n more ls
-
--- with the rows of these switches, of which n come before
-abbrev pub sources_from : Network → ℕ → List ℕ → List Content → Result (List ℕ) NetworkFault
-sources_from net n before [] = Ok before
-sources_from net n before (t ∷ ts) = sources_in net n before t.links >>= λ more. sources_from net (n + 1) more ts
-
-abbrev pub fed_once : Network → Answer
-fed_once net = sources_from net 0 [] net.tables >>= λ met. Ok tt
+-- each number once: the first that is among those before it is refused
+abbrev pub each_once : (before : List ℕ) → List ℕ → Answer
+each_once before [] = Ok tt
+each_once before (id ∷ ids) = unless (list_any (λ n. n == id) before) (fault.TwiceSource id) >>= λ _. each_once (before ++ id ∷ []) ids
 
 -- ---- in their order
 
@@ -179,8 +162,8 @@ misfit net = do
   numbers ← by_wires (shares net shared.Number) 0 net.layout.wires
   ports ← by_wires (shares net shared.Port) 0 net.layout.wires
   terms ← by_wires (shares net shared.Terms) 0 net.layout.wires
-  sources ← by_rows (has_source net) 0 net.tables
-  fed_once net
+  sources ← first_of (has_source net) (rows_of net)
+  each_once [] (fed_numbers net (rows_of net))
 
 -- ---- loads
 
@@ -232,4 +215,4 @@ jitter_enough net r = has_jitter r (way_within most_rows net r at_once)
 
 -- the first row whose jitter is not enough
 unfoldable pub shortage : Network → Answer
-shortage net = by_rows (jitter_enough net) 0 net.tables
+shortage net = first_of (jitter_enough net) (rows_of net)

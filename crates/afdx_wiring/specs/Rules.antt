@@ -9,7 +9,7 @@ use Rattle.afdx_series.specs.Delay.{IsEnough}
 use Rattle.afdx_wiring.specs.declared.layout.Wire.{Wire}
 use Rattle.afdx_wiring.specs.Net.{Network, Row, Back, port_at, row_at, rows_of, rows_on, IsSource, IsWayBack, source_of, AreDelays}
 
--- both ends of a wire are ports, of one speed, at switches of one constant field
+-- both ends of a wire are ports, of one speed (IEEE 802.3), at switches of one constant field (ARINC 664 Part 7)
 pub record Joins (net : Network) (w : Wire) : Type 0 where
   pub here : Content
   pub there : Content
@@ -31,7 +31,7 @@ pub record GoesOn (net : Network) (w : Wire) (r : Row) : Type 0 where
   pub bag : next.link.bag ≡ r.link.bag
   pub police : next.link.police ≡ r.link.police
 
--- each row is fed by one end system's port at last, and no two rows of one number by two
+-- ARINC 664 Part 7: a virtual link has one source. Each row is fed by one end system's port at last, and no two rows of one number by two
 pub record FitsTogether (net : Network) : Type 0 where
   pub wires : All (Joins net) net.layout.wires
   pub links : All (λ w. All (GoesOn net w) (rows_on net w)) net.layout.wires

@@ -2,7 +2,8 @@
 
 ghost use Rattle.std.specs.Prelude.{◌≡◌, ◌≤◌, ◌+◌, ◌*◌, IfOk, IfSome};
 ghost use Rattle.afdx_wiring.specs.Refusal.{Gives};
-ghost use Rattle.afdx_wiring.specs.Order.{row_of, by_links, has_jitter, jitter_enough, way_within, shortage};
+ghost use Rattle.afdx_wiring.specs.Net.{rows_in};
+ghost use Rattle.afdx_wiring.specs.Order.{row_of, first_of, has_jitter, jitter_enough, way_within, shortage};
 ghost use Rattle.afdx_wiring.specs.Rules.{HasJitters};
 
 use crate::cleared::ClearedNetwork;
@@ -66,7 +67,7 @@ impl<'a> Hops<'a> {
 
     /// The jitters of a switch's rows.
     fn have_jitters(&self, switch: usize, table: &Table) -> Result<(), NetworkFault>
-        ensures { result ≡ by_links (λ l. jitter_enough self.now (record { switch = switch; link = l })) table.now.links }
+        ensures { result ≡ first_of (jitter_enough self.now) (rows_in switch table.now.links) }
     {
         for index in 0..table.link_count() {
             let row = Row {

@@ -3,7 +3,7 @@
 ghost use Rattle.std.specs.Prelude.{◌≡◌, ◌<◌, option_copied, length, slice_index_or};
 ghost use Rattle.std.specs.Str.{bytes_eq};
 ghost use Rattle.afdx_table.specs.WellFormed.{IsLink};
-ghost use Rattle.afdx_wiring.specs.Order.{by_wires, by_links, same_rate, same_constant, same_speed, joined_at, goes_on, all_go_on, shares};
+ghost use Rattle.afdx_wiring.specs.Order.{by_wires, first_of, same_rate, same_constant, same_speed, joined_at, goes_on, all_go_on, shares};
 
 use crate::fault::{At, NetworkFault};
 use crate::layout::Wire;
@@ -75,7 +75,7 @@ fn links_go_on(
     here: &Table,
     there: &Table,
 ) -> Result<(), NetworkFault>
-    ensures { result ≡ by_links (goes_on what at there.now wire.now) here.now.links }
+    ensures { result ≡ first_of (goes_on what at there.now wire.now) here.now.links }
 {
     for index in 0..here.link_count() {
         goes_on(what, at, there, wire, link_at(here, index))?;

@@ -1,9 +1,10 @@
 //! The sources of the links: each row is fed by one end system's port at last, and no number by two.
 
-ghost use Rattle.std.specs.Prelude.{◌≡◌, ◌==◌};
+ghost use Rattle.std.specs.Prelude.{◌≡◌, ◌==◌, [], ◌∷◌, ◌++◌, OnOk};
 ghost use Rattle.std.specs.List.{list_any};
 ghost use Rattle.afdx_wiring.specs.Refusal.{Gives};
-ghost use Rattle.afdx_wiring.specs.Order.{row_of, by_links, by_rows, ends_within, has_source, is_fed, source_met, sources_in, fed_once};
+ghost use Rattle.afdx_wiring.specs.Net.{rows_in, rows_of};
+ghost use Rattle.afdx_wiring.specs.Order.{row_of, first_of, ends_within, has_source, is_fed, fed_numbers, each_once};
 
 use crate::fault::NetworkFault;
 use crate::joints::link_at;
@@ -56,7 +57,7 @@ impl Network {
 
     /// The ways back of a switch's rows.
     fn have_sources(&self, switch: usize, table: &Table) -> Result<(), NetworkFault>
-        ensures { result ≡ by_links (λ l. has_source self.now (record { switch = switch; link = l })) table.now.links }
+        ensures { result ≡ first_of (has_source self.now) (rows_in switch table.now.links) }
     {
         for index in 0..table.link_count() {
             let link = link_at(table, index);
@@ -67,7 +68,7 @@ impl Network {
 
     /// The ways back of all rows.
     pub(crate) fn all_have_sources(&self) -> Result<(), NetworkFault>
-        ensures { result ≡ by_rows (has_source self.now) 0 self.now.tables }
+        ensures { result ≡ first_of (has_source self.now) (rows_of self.now) }
     {
         for (switch, table) in self.tables().iter().enumerate() {
             self.have_sources(switch, table)?;
@@ -84,7 +85,8 @@ impl Network {
 
     /// Keeps the number of a row that an end system's port feeds.
     fn meet_source(&self, met: &mut Numbers<Global>, row: Row<'_>) -> Result<(), NetworkFault>
-        ensures { Gives (λ _. met.new) result (source_met self.now met.old (row_of row.entry)) }
+        ensures first { Gives (λ u. u) result (each_once met.old (fed_numbers self.now (row_of row.entry ∷ []))) }
+        ensures met { OnOk result (met.new ≡ met.old ++ fed_numbers self.now (row_of row.entry ∷ [])) }
     {
         if !self.is_fed(row) {
             return Ok(());
@@ -104,7 +106,8 @@ impl Network {
         switch: usize,
         table: &Table,
     ) -> Result<(), NetworkFault>
-        ensures { Gives (λ _. met.new) result (sources_in self.now switch met.old table.now.links) }
+        ensures first { Gives (λ u. u) result (each_once met.old (fed_numbers self.now (rows_in switch table.now.links))) }
+        ensures met { OnOk result (met.new ≡ met.old ++ fed_numbers self.now (rows_in switch table.now.links)) }
     {
         for index in 0..table.link_count() {
             let link = link_at(table, index);
@@ -115,7 +118,7 @@ impl Network {
 
     /// Refuses a second source of one number.
     pub(crate) fn each_fed_once(&self, alloc: Global) -> Result<(), NetworkFault>
-        ensures { Gives (λ _. tt) result (fed_once self.now) }
+        ensures { Gives (λ u. u) result (each_once [] (fed_numbers self.now (rows_of self.now))) }
     {
         let mut met = Numbers::new(alloc);
         for (switch, table) in self.tables().iter().enumerate() {

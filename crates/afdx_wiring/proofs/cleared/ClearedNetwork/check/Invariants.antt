@@ -1,6 +1,8 @@
 use Rattle.std.proofs.Common.{◌≡◌, drop}
-use Rattle.afdx_wiring.specs.Order.{by_rows, jitter_enough}
+use Rattle.afdx_wiring.specs.Net.{rows_of}
+use Rattle.afdx_wiring.specs.Order.{first_of, jitter_enough}
+use Rattle.afdx_wiring.proofs.Chains.{rows_from}
 use Rattle.afdx_wiring.proofs.cleared.ClearedNetwork.check.Given as goal
 
 abbrev pub invariant-loop-switch : goal.invariant-loop-switch
-invariant-loop-switch l = by_rows (jitter_enough l.self) l.switch (drop l.switch l.self.tables) ≡ by_rows (jitter_enough l.self) 0 l.self.tables
+invariant-loop-switch l = first_of (jitter_enough l.self) (rows_from l.switch (drop l.switch l.self.tables)) ≡ first_of (jitter_enough l.self) (rows_of l.self)
