@@ -64,16 +64,20 @@ impl<'a> Hops<'a> {
         self.way_within(fewer, before, hop.join(after))
     }
 
+    /// The jitter of a row, for the whole way to it.
+    fn jitter_enough(&self, row: Row<'_>) -> Result<(), NetworkFault>
+        ensures { result ≡ jitter_enough self.now (row_of row.entry) }
+    {
+        has_jitter(row, self.way_within(MOST_ROWS, row, Delays::none()))
+    }
+
     /// The jitters of a switch's rows.
     fn have_jitters(&self, switch: usize, table: &Table) -> Result<(), NetworkFault>
         ensures { result ≡ by_links (λ l. jitter_enough self.now (record { switch = switch; link = l })) table.now.links }
     {
         for index in 0..table.link_count() {
-            let row = Row {
-                switch,
-                link: link_at(table, index),
-            };
-            has_jitter(row, self.way_within(MOST_ROWS, row, Delays::none()))?;
+            let link = link_at(table, index);
+            self.jitter_enough(Row { switch, link })?;
         }
         Ok(())
     }
