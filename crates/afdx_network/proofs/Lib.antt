@@ -1,0 +1,16 @@
+pub mod Agreement
+pub mod Clean
+pub mod Crossing
+pub mod Ends
+pub mod Examples
+pub mod Found
+pub mod Late
+pub mod Leaves
+pub mod Lengths
+pub mod Lists
+pub mod Rest
+pub mod Rows
+pub mod Texts
+pub mod Ways
+pub mod Wired
+pub mod Worlds
