@@ -7,5 +7,6 @@ pub mod Fits
 pub mod JointLemmas
 pub mod LimitLemmas
 pub mod LoadLemmas
+pub mod NeedLemmas
 pub mod TextLemmas
 pub mod WalkLemmas
