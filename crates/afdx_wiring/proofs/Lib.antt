@@ -8,5 +8,6 @@ pub mod JointLemmas
 pub mod LimitLemmas
 pub mod LoadLemmas
 pub mod OnceLemmas
+pub mod NeedLemmas
 pub mod TextLemmas
 pub mod WalkLemmas
