@@ -6,6 +6,7 @@ ghost use Rattle.afdx_pcap.specs.Text.{capture_text};
 ghost use Rattle.afdx_pcap.specs.Capture.{IsCapture};
 ghost use Rattle.afdx_network.specs.Way.{delayed};
 
+use afdx_pcap::laws::one_more_record_is_appended;
 use afdx_pcap::{PcapFault, read_all, write_frame, write_header};
 use std::alloc::Global;
 
@@ -16,6 +17,7 @@ use std::alloc::Global;
 pub(crate) fn carry(alloc: Global, bytes: &[u8], delay: u32) -> Result<Vec<u8>, PcapFault>
     ensures { IfOk result (λ text. (left : List Entry) × IsCapture bytes.now left × (text.items ≡ capture_text (map (delayed delay) left))) }
 {
+    one_more_record_is_appended();
     let records = read_all(alloc, bytes)?;
     let mut text = Vec::with_capacity(alloc, bytes.len())?;
     write_header(&mut text)?;

@@ -1,5 +1,8 @@
 //! Why there is no run of a network.
 
+ghost use Rattle.std.specs.Prelude.{◌≡◌};
+ghost use Rattle.afdx_network.specs.Given.{fault_of};
+
 use afdx_pcap::PcapFault;
 use afdx_session::RunFault;
 use std::alloc::{AllocError, AllocFailed};
@@ -19,22 +22,16 @@ pub enum NetworkRunFault {
 
 impl NetworkRunFault {
     /// The fault of a switch's run.
-    pub(crate) fn of_switch(switch: usize, fault: RunFault) -> NetworkRunFault {
+    pub(crate) fn of_switch(switch: usize, fault: RunFault) -> NetworkRunFault
+        ensures { result ≡ fault_of switch fault }
+    {
         match fault {
             RunFault::Capture(port, fault) => NetworkRunFault::Capture(switch, port, fault),
             RunFault::Memory => NetworkRunFault::Memory,
-            // The texts are made for the ports of the switch's own table, and given whole.
+            // The texts are those of the table's ports, and given whole.
             RunFault::WrongPorts | RunFault::Closed | RunFault::Failed => {
                 NetworkRunFault::WrongPorts(switch)
             }
-        }
-    }
-
-    /// The fault of what comes in at a port.
-    pub(crate) fn of_port(switch: usize, port: u8, fault: PcapFault) -> NetworkRunFault {
-        match fault {
-            PcapFault::Memory => NetworkRunFault::Memory,
-            _ => NetworkRunFault::Capture(switch, port, fault),
         }
     }
 }

@@ -7,11 +7,13 @@
 
 mod carrying;
 mod fault;
+mod given;
 pub mod laws;
 mod order;
+mod rounds;
 mod running;
-mod switches;
+mod sites;
 
 pub use fault::NetworkRunFault;
 pub use running::run;
-pub use switches::Texts;
+pub use sites::Texts;

@@ -1,136 +1,60 @@
 //! A run of a network: each switch over captures that agree with the wires.
 
-use crate::carrying::carry;
+ghost use Rattle.std.specs.Prelude.{IfErr, IfOk, List};
+ghost use Rattle.afdx_session.specs.Texts.{Text};
+ghost use Rattle.afdx_network.specs.Runs.{IsRunOf};
+ghost use Rattle.afdx_network.specs.Given.{given_of, IsRefusal};
+
 use crate::fault::NetworkRunFault;
+use crate::given::{check_captures, check_ports};
+use crate::laws::rest_is_agreement;
 use crate::order::order_of;
-use crate::switches::{SwitchRun, Texts};
+use crate::rounds::{outcomes_of, rests, round, sites_of};
+use crate::sites::Texts;
 use afdx_session::Outcome;
-use afdx_wiring::{ClearedNetwork, Network, Wire};
-use std::alloc::{AllocError, Global};
+use afdx_wiring::ClearedNetwork;
+use std::alloc::Global;
 
 /// The most rounds over all switches.
 const MAX_ROUNDS: usize = 64;
 
-/// A network on its way to rest.
-#[derive(Drop)]
-struct Rounds<'a> {
-    network: &'a Network,
-    /// One for each switch, in file order.
-    runs: Vec<SwitchRun>,
-}
-
-impl<'a> Rounds<'a> {
-    /// Before the first round: no switch has run.
-    fn new(
-        alloc: Global,
-        network: &'a Network,
-        given: Vec<Texts>,
-    ) -> Result<Rounds<'a>, NetworkRunFault> {
-        let mut runs = Vec::new(alloc);
-        for (switch, given) in given.into_iter().enumerate() {
-            runs.push(SwitchRun::new(alloc, network, switch, given)?)?;
-        }
-        Ok(Rounds { network, runs })
-    }
-
-    /// What a wire brings to its end, where its switch has run.
-    fn brought(&self, alloc: Global, wire: &Wire) -> Result<Option<Vec<u8>>, NetworkRunFault> {
-        let Some(run) = self.runs.get(wire.from.switch) else {
-            return Ok(None);
-        };
-        let Some(capture) = run.left(wire.from.port) else {
-            return Ok(None);
-        };
-        match carry(alloc, capture, wire.delay) {
-            Ok(text) => Ok(Some(text)),
-            Err(fault) => Err(NetworkRunFault::of_port(wire.to.switch, wire.to.port, fault)),
-        }
-    }
-
-    /// Takes what the wires bring to a switch, and runs it, unless it has run over that.
-    fn step(&mut self, alloc: Global, switch: usize) -> Result<(), NetworkRunFault> {
-        let network = self.network;
-        for wire in &network.layout().wires {
-            if wire.to.switch == switch {
-                let text = self.brought(alloc, wire)?;
-                if let (Some(text), Some(run)) = (text, self.runs.get_mut(switch)) {
-                    run.take(wire.to.port, text);
-                }
-            }
-        }
-        match (network.table(switch), self.runs.get_mut(switch)) {
-            (Some(table), Some(run)) => match run.run(alloc, table) {
-                Ok(()) => Ok(()),
-                Err(fault) => Err(NetworkRunFault::of_switch(switch, fault)),
-            },
-            _ => Ok(()),
-        }
-    }
-
-    /// One round over all switches in this order.
-    fn round(&mut self, alloc: Global, order: &[usize]) -> Result<(), NetworkRunFault> {
-        for switch in order {
-            self.step(alloc, *switch)?;
-        }
-        Ok(())
-    }
-
-    /// Whether what each wire brings is what came at its end.
-    fn rests(&self, alloc: Global) -> Result<bool, NetworkRunFault> {
-        let network = self.network;
-        for wire in &network.layout().wires {
-            let Some(text) = self.brought(alloc, wire)? else {
-                return Ok(false);
-            };
-            let Some(run) = self.runs.get(wire.to.switch) else {
-                return Ok(false);
-            };
-            if run.came(wire.to.port) != Some(text.as_slice()) {
-                return Ok(false);
-            }
-        }
-        Ok(true)
-    }
-
-    /// What each switch has led to.
-    fn into_outcomes(self, alloc: Global) -> Result<Vec<Outcome<Global>>, AllocError> {
-        let mut outcomes = Vec::new(alloc);
-        for run in self.runs {
-            if let Some(outcome) = run.into_outcome() {
-                outcomes.push(outcome)?;
-            }
-        }
-        Ok(outcomes)
-    }
-}
-
 /// Runs each switch of a network over captures that agree with the wires, and answers what each leads to, in file order.
 ///
-/// `given` has for each switch the captures of its ports without a wire, by rising number. The switches run in the order of
-/// the wires, where there is one; in a ring the one that comes first in the file goes first. A switch runs again where a
-/// wire brings it another text than before, until all wires bring what came at their ends.
+/// `given` has for each switch the captures of its ports to which no wire goes, by rising number. The switches run in the
+/// order of the wires, where there is one; in a ring the one that comes first in the file goes first. A switch runs again
+/// where a wire brings it another text than before, until all wires bring what came in at their ends.
 ///
 /// # Errors
 ///
-/// `WrongPorts` of the first switch whose captures are not exactly those; `Capture` of what comes in at a port, in the order
-/// in which the switches run; `Unsettled` after 64 rounds; `Memory` where a growth was refused.
+/// The first that stands, in this order:
 ///
-/// O(runs) beside what the wires bring; all captures are kept.
+/// - `WrongPorts` of the first switch for which something else is given, in file order.
+/// - `Capture` of the first given text that is no capture, by switch and then by port, with its first fault; else of what
+///   comes over a wire and cannot be read, in the order in which the switches run.
+/// - `Unsettled` where the wires do not agree after 64 rounds.
+///
+/// `Memory` where a growth was refused, before anything that comes after `WrongPorts`.
+///
+/// A switch's run for each time that what comes in there changes, once in a network without a ring; O(bytes) of what the
+/// wires bring, twice for each round; all captures are kept.
 pub fn run(
     alloc: Global,
     network: &ClearedNetwork,
     given: Vec<Texts>,
-) -> Result<Vec<Outcome<Global>>, NetworkRunFault> {
-    let network = network.network();
-    if given.len() != network.tables().len() {
-        return Err(NetworkRunFault::WrongPorts(given.len()));
-    }
-    let order = order_of(alloc, network)?;
-    let mut rounds = Rounds::new(alloc, network, given)?;
+) -> Result<Vec<Outcome<Global>>, NetworkRunFault>
+    ensures ok { IfOk result (λ outcomes. (came : List (List Text)) × IsRunOf network.now (given_of given.items) came outcomes.items) }
+    ensures err { IfErr result (IsRefusal network.now (given_of given.items)) }
+{
+    rest_is_agreement();
+    let wiring = network.network();
+    check_ports(wiring, &given)?;
+    check_captures(alloc, &given)?;
+    let order = order_of(alloc, wiring)?;
+    let mut sites = sites_of(alloc, wiring, given)?;
     for _ in 0..MAX_ROUNDS {
-        rounds.round(alloc, &order)?;
-        if rounds.rests(alloc)? {
-            return Ok(rounds.into_outcomes(alloc)?);
+        round(alloc, network, &mut sites, &order)?;
+        if rests(alloc, wiring, &sites)? {
+            return Ok(outcomes_of(alloc, sites)?);
         }
     }
     Err(NetworkRunFault::Unsettled)

@@ -53,7 +53,7 @@ pub(crate) fn network(
         .ok_or("the file is refused")?;
     let network = Network::new(layout, tables).ok().ok_or("no ports")?;
     network.fit(alloc).ok().ok_or("a misfit")?;
-    let cleared = network.clear(alloc).ok().ok_or("a load")?;
+    let cleared = network.clear().ok().ok_or("a load")?;
     cleared.check(alloc).ok().ok_or("a jitter")?;
     Ok(cleared)
 }
