@@ -17,7 +17,9 @@ module _ (words : List (List ℕ)) (input : Option (List ℕ)) (old new : World)
   fails (request.Run paths) asks failure.Usage h = absurd h.0.0
   fails (request.Measure inputs) asks failure.Usage h = absurd h.0
   fails (request.Trace paths) asks failure.Usage h = absurd h.0.0
+  fails (request.Network r) asks failure.Usage h = absurd (never_usage r old new h)
   fails r asks (failure.Load e) h = (r, asks, h)
+  fails r asks (failure.Network e) h = (r, asks, h)
   fails r asks (failure.Table e) h = (r, asks, h)
   fails r asks (failure.Capture e) h = (r, asks, h)
   fails r asks (failure.PortCapture p e) h = (r, asks, h)
@@ -45,36 +47,49 @@ module _ (words : List (List ℕ)) (input : Option (List ℕ)) (old new : World)
   runs_out (failure.Table e) (request.Run paths) made asks h = inl (h.1, h.0.1)
   runs_out (failure.Table e) (request.Measure inputs) made asks h = inl (h.2, h.1)
   runs_out (failure.Table e) (request.Trace paths) made asks h = inl (h.1, h.0.1)
+  runs_out (failure.Table e) (request.Network r) made asks h = network_runs_out (failure.Table e) r made asks h
   runs_out (failure.Load e) (request.Alone link) made asks h = absurd h.0
   runs_out (failure.Load e) (request.Check path) made asks h = inl (h.4, h.3.0)
   runs_out (failure.Load e) (request.Size path) made asks h = absurd h
   runs_out (failure.Load e) (request.Run paths) made asks h = inl (h.1, h.0.1)
   runs_out (failure.Load e) (request.Measure inputs) made asks h = inl (h.2, h.1)
   runs_out (failure.Load e) (request.Trace paths) made asks h = inl (h.1, h.0.1)
+  runs_out (failure.Load e) (request.Network r) made asks h = network_runs_out (failure.Load e) r made asks h
   runs_out (failure.Capture e) (request.Alone link) made asks h = inl (h.0.1, h.1.0)
   runs_out (failure.Capture e) (request.Check path) made asks h = absurd h
   runs_out (failure.Capture e) (request.Size path) made asks h = absurd h
   runs_out (failure.Capture e) (request.Run paths) made asks h = absurd h.0.0
   runs_out (failure.Capture e) (request.Measure inputs) made asks h = absurd h.0
   runs_out (failure.Capture e) (request.Trace paths) made asks h = absurd h.0.0
+  runs_out (failure.Capture e) (request.Network r) made asks h = network_runs_out (failure.Capture e) r made asks h
   runs_out (failure.PortCapture p e) (request.Alone link) made asks h = absurd h.0
   runs_out (failure.PortCapture p e) (request.Check path) made asks h = absurd h
   runs_out (failure.PortCapture p e) (request.Size path) made asks h = absurd h
   runs_out (failure.PortCapture p e) (request.Run paths) made asks h = inl (h.1, h.0.1)
   runs_out (failure.PortCapture p e) (request.Measure inputs) made asks h = inl (h.2, h.1)
   runs_out (failure.PortCapture p e) (request.Trace paths) made asks h = inl (h.1, h.0.1)
+  runs_out (failure.PortCapture p e) (request.Network r) made asks h = network_runs_out (failure.PortCapture p e) r made asks h
   runs_out (failure.Get name) (request.Alone link) made asks h = absurd h.0
   runs_out (failure.Get name) (request.Check path) made asks h = inl (h.3, h.2)
   runs_out (failure.Get name) (request.Size path) made asks h = inl (h.3, h.2)
   runs_out (failure.Get name) (request.Run paths) made asks h = inl (h.1, h.0.1)
   runs_out (failure.Get name) (request.Measure inputs) made asks h = inl (h.2, h.1)
   runs_out (failure.Get name) (request.Trace paths) made asks h = inl (h.1, h.0.1)
+  runs_out (failure.Get name) (request.Network r) made asks h = network_runs_out (failure.Get name) r made asks h
   runs_out (failure.Put name) (request.Alone link) made asks h = absurd h.0
   runs_out (failure.Put name) (request.Check path) made asks h = absurd h
   runs_out (failure.Put name) (request.Size path) made asks h = absurd h
   runs_out (failure.Put name) (request.Measure inputs) made asks h = absurd h.0
   runs_out (failure.Put name) (request.Run paths) made asks h = inr (request.Run paths, asks, (inr (_, h.0.0), h.1))
   runs_out (failure.Put name) (request.Trace paths) made asks h = inr (request.Trace paths, asks, (inr (_, h.0.0), h.1))
+  runs_out (failure.Put name) (request.Network r) made asks h = network_runs_out (failure.Put name) r made asks h
+  runs_out (failure.Network e) (request.Alone link) made asks h = absurd h.0
+  runs_out (failure.Network e) (request.Check path) made asks h = absurd h
+  runs_out (failure.Network e) (request.Size path) made asks h = absurd h
+  runs_out (failure.Network e) (request.Run paths) made asks h = absurd h.0.0
+  runs_out (failure.Network e) (request.Measure inputs) made asks h = absurd h.0
+  runs_out (failure.Network e) (request.Trace paths) made asks h = absurd h.0.0
+  runs_out (failure.Network e) (request.Network r) made asks h = network_runs_out (failure.Network e) r made asks h
 
   -- where memory ran out for its line, memory is the failure
   pub told : (f t : Failure) → TellsOf f t → Fails f words input old new → Fails t words input old new
@@ -84,6 +99,7 @@ module _ (words : List (List ℕ)) (input : Option (List ℕ)) (old new : World)
   told failure.Write t (inr e) h = absurd e.0
   told failure.Memory t (inr e) h = absurd e.0
   told (failure.Table r) t (inr e) h = subst (λ (x : Failure). Fails x words input old new) (sym e.1) (runs_out (failure.Table r) h.0 tt h.1 h.2)
+  told (failure.Network r) t (inr e) h = subst (λ (x : Failure). Fails x words input old new) (sym e.1) (runs_out (failure.Network r) h.0 tt h.1 h.2)
   told (failure.Load r) t (inr e) h = subst (λ (x : Failure). Fails x words input old new) (sym e.1) (runs_out (failure.Load r) h.0 tt h.1 h.2)
   told (failure.Capture r) t (inr e) h = subst (λ (x : Failure). Fails x words input old new) (sym e.1) (runs_out (failure.Capture r) h.0 tt h.1 h.2)
   told (failure.PortCapture p r) t (inr e) h = subst (λ (x : Failure). Fails x words input old new) (sym e.1) (runs_out (failure.PortCapture p r) h.0 tt h.1 h.2)
