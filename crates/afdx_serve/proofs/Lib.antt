@@ -4,6 +4,7 @@ pub mod InputLemmas
 pub mod FileLemmas
 pub mod RunLemmas
 pub mod MeasureLemmas
+pub mod NetworkLemmas
 pub mod ServingLemmas
 pub mod CheckLemmas
 pub mod OwnLemmas

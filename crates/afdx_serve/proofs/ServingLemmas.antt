@@ -1,13 +1,15 @@
 -- What was served, and why words were not served.
 use Rattle.std.proofs.Common.{ℕ, List, Option, Result, Ok, Err, sym, subst, inl, inr}
 use Rattle.std.specs.Prelude.{MatchResult}
+use Rattle.afdx_words.specs.declared.request.NetworkRequest.{NetworkRequest}
 use Rattle.afdx_words.specs.declared.request.Request.{Request}
 use Rattle.afdx_words.specs.declared.request.Request.TheVariants as request
 use Rattle.afdx_words.specs.Requests.{Asks}
 use Rattle.afdx_serve.specs.declared.failure.Failure.{Failure}
 use Rattle.afdx_serve.specs.declared.failure.Failure.TheVariants as failure
 use Rattle.afdx_serve.specs.Lines.{TellsOf, IsMade}
-use Rattle.afdx_serve.specs.Serving.{World, Performs, FailsToPerform, Serves, Fails, RunsOut}
+use Rattle.afdx_serve.specs.Serving.{World, Performs, FailsToPerform, FailsToPerformNetwork, Serves, Fails, RunsOut}
+use Rattle.afdx_serve.proofs.NetworkLemmas.{never_usage, spares}
 
 module _ (words : List (List ℕ)) (input : Option (List ℕ)) (old new : World) where
   fails : (r : Request) → Asks words r → (f : Failure) → FailsToPerform f r input old new → Fails f words input old new
@@ -34,6 +36,12 @@ module _ (words : List (List ℕ)) (input : Option (List ℕ)) (old new : World)
       → MatchResult result (λ _. Performs r input old new) (λ f. FailsToPerform f r input old new) → MatchResult result (λ _. Serves words input old new) (λ f. Fails f words input old new)
   performed (Ok x) r asks h = inr (r, asks, h)
   performed (Err f) r asks h = fails r asks f h
+
+  network_runs_out : (f : Failure) (r : NetworkRequest) → IsMade f → Asks words (request.Network r) → FailsToPerformNetwork f r old new → RunsOut words input old new
+  network_runs_out f r made asks h = elim (spares f r old new made h) [
+    | inl spared ↦ inl spared
+    | inr out ↦ inr (request.Network r, asks, out)
+  ]
 
   -- a failure with a line that is made leaves what want of memory may leave
   runs_out : (f : Failure) (r : Request) → IsMade f → Asks words r → FailsToPerform f r input old new → RunsOut words input old new

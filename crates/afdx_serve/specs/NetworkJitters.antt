@@ -13,6 +13,8 @@ use Rattle.afdx_wiring.specs.Order.{Answer, load_fits, misfit}
 use Rattle.afdx_wiring.specs.Refusal.{◌>>=◌}
 use Rattle.afdx_wiring.specs.declared.fault.NetworkFault.{NetworkFault}
 use Rattle.afdx_wiring.specs.declared.fault.NetworkFault.TheVariants as fault
+use Rattle.afdx_serve.specs.declared.network_failure.NetworkFailure.{NetworkFailure}
+use Rattle.afdx_serve.specs.declared.network_failure.NetworkFailure.TheVariants as network
 use Rattle.afdx_serve.specs.declared.failure.Failure.{Failure}
 use Rattle.afdx_serve.specs.Networks.{names_of, IsRefused}
 
@@ -34,3 +36,8 @@ fit_of net = rates_fit 0 net.tables >>= λ rates. misfit net
 -- the rates or the tables of a network were not accepted
 abbrev pub FailsToFit : Failure → Network → Type 0
 FailsToFit f net = (e : NetworkFault) × (e ≢ fault.Memory → fit_of net ≡ Err e) × IsRefused (names_of net.layout.switches) e f
+
+-- a row needs a jitter past what a table can have
+abbrev pub IsPast : NetworkFailure → Type 0
+IsPast (network.Refused (fault.NoJitter short) name) = Unit {0}
+IsPast _ = ⊥

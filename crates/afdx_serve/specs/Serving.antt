@@ -18,15 +18,13 @@ use Rattle.afdx_serve.specs.Sizes.{AreSizesIn}
 use Rattle.afdx_wiring.specs.Net.{Network}
 use Rattle.afdx_wiring.specs.Rules.{IsAcceptedNetwork}
 use Rattle.afdx_wiring.specs.declared.jitters.RowNeed.{RowNeed}
-use Rattle.afdx_wiring.specs.declared.fault.NetworkFault.TheVariants as fault
 use Rattle.afdx_ways.specs.Lines.{jitter_text}
 use Rattle.afdx_words.specs.declared.request.NetworkPaths.{NetworkPaths}
 use Rattle.afdx_words.specs.declared.request.NetworkRequest.{NetworkRequest}
 use Rattle.afdx_words.specs.declared.request.NetworkRequest.TheVariants as ask
-use Rattle.afdx_serve.specs.declared.network_failure.NetworkFailure.TheVariants as network
 use Rattle.afdx_serve.specs.Networks.{names_of, HasNetwork, FailsToGetNetwork, FailsToAcceptNetwork}
 use Rattle.afdx_serve.specs.NetworkChecks.{IsNetworkCheck}
-use Rattle.afdx_serve.specs.NetworkJitters.{fit_of, FailsToFit}
+use Rattle.afdx_serve.specs.NetworkJitters.{fit_of, IsPast, FailsToFit}
 use Rattle.afdx_serve.specs.NetworkRuns.{LeadsToNetwork, FailsToPutNetwork, names_at, bytes_at, captures_of, reports_of}
 use Rattle.afdx_serve.specs.Files.{Files, DeviceLog, KeepsFiles, PutsFiles, one_more}
 use Rattle.afdx_session.specs.Outcome.{Results}
@@ -142,17 +140,21 @@ TellsJitters path old new =
     (net : Network) × (rows : List RowNeed) × HasNetwork old.files path net × (fit_of net ≡ Ok tt)
     × Appends old.written new.written (jitter_text (names_of net.layout.switches) rows) × KeepsFolder old new
 
--- why they were not, and what was written; where a row needs more than a table can have, all lines were
+-- before they were
+abbrev pub FailsBeforeJitters : Failure → List ℕ → World → World → Type 0
+FailsBeforeJitters f path old new =
+    (FailsToGetNetwork f old.files path old.failed new.failed
+    ⊎ ((net : Network) × HasNetwork old.files path net × FailsToFit f net × (new.failed ≡ old.failed)))
+    × KeepsFiles old.files new.files × WritesNothing old new
+
+-- why they were not, and what was written; where a row needs more than a table can have, all were
 abbrev pub FailsToTellJitters : Failure → List ℕ → World → World → Type 0
 FailsToTellJitters failure.Write path old new =
     (net : Network) × (rows : List RowNeed) × HasNetwork old.files path net × (fit_of net ≡ Ok tt)
     × AppendsFront old.written new.written (jitter_text (names_of net.layout.switches) rows) × KeepsFolder old new
 FailsToTellJitters failure.Memory path old new = KeepsFiles old.files new.files × (WritesNothing old new ⊎ TellsJitters path old new)
-FailsToTellJitters (failure.Network (network.Refused (fault.NoJitter short) name)) path old new = TellsJitters path old new
-FailsToTellJitters f path old new =
-    (FailsToGetNetwork f old.files path old.failed new.failed
-    ⊎ ((net : Network) × HasNetwork old.files path net × FailsToFit f net × (new.failed ≡ old.failed)))
-    × KeepsFiles old.files new.files × WritesNothing old new
+FailsToTellJitters (failure.Network e) path old new = FailsBeforeJitters (failure.Network e) path old new ⊎ (IsPast e × TellsJitters path old new)
+FailsToTellJitters f path old new = FailsBeforeJitters f path old new
 
 -- the files lead to a run of a network, of which the captures were put and the reports written
 abbrev pub PutsNetwork : NetworkPaths → World → World → Network → List Results → Type 0

@@ -131,7 +131,10 @@ fn read_tables(alloc: Global, switches: &[Switch], texts: &[Vec<u8>]) -> Result<
     for place in 0..texts.len() {
         match afdx_table::read(alloc, &texts[place]) {
             Ok(table) => tables.push(table)?,
-            Err(refusal) => return Err(refused_table(alloc, refusal, &switches[place].name)),
+            Err(refusal) => {
+                let switch = &switches[place];
+                return Err(refused_table(alloc, refusal, &switch.name));
+            }
         }
     }
     Ok(tables)

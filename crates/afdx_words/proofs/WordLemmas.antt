@@ -1,9 +1,12 @@
 -- What an option's entry says, and that the program's command is one whose matches and faults are exact.
-use Rattle.std.proofs.Common.{◌≡◌, ℕ, ap, get_or, arith, Global, List, true, Option, Some, None, Result, Ok, Err, refl, sym, subst, ◌∙◌, inl, inr}
-use Rattle.std.specs.Prelude.{IfOk, Bool, [], drop, false, MatchOption, Box, codes, option_map}
+use Rattle.std.proofs.Common.{◌≡◌, ℕ, ap, get_or, arith, Global, String, List, map, string_bytes, true, Option, Some, None, Result, Ok, Err, refl, sym, subst, ◌∙◌, inl, inr}
+use Rattle.std.specs.Prelude.{IfOk, IsErr, IsErrAnd, Bool, [], drop, false, MatchOption, Box, codes, option_map}
+use Rattle.std.specs.List.{drop-map}
+use Rattle.std.proofs.Common.{◌-◌, length, take}
+use Rattle.std.proofs.lemmas.List.{take_rest}
 use Rattle.std.specs.Box.{box_value}
 use Rattle.std.specs.Str.Parse.{ParsesUnsigned}
-use Rattle.clap.specs.Words.{AddsSubcommand, App, app_of, shape_of, with_subcommand, HasKind, IsAmong, Kinds, Row, Text, first_of, is_simple, is_simple_and_free, kind_of, one_text, rows_of, subcommand_name_of, subcommand_of, subcommand_rows, subcommand_rows_of, ReadsOne}
+use Rattle.clap.specs.Words.{AddsSubcommand, App, app_of, shape_of, with_subcommand, HasKind, IsAmong, Kinds, Row, Text, fault_of, first_of, is_simple, is_simple_and_free, kind_of, one_text, rows_of, subcommand_name_of, subcommand_of, subcommand_rows, subcommand_rows_of, ReadsOne}
 use Rattle.clap.specs.declared.builder.command.Command.{Command}
 use Rattle.clap.specs.declared.builder.command.Command.TheViews.{out-Command}
 use Rattle.clap.specs.declared.error.Error.{Error}
@@ -24,7 +27,7 @@ use Rattle.afdx_words.specs.declared.request.Request.TheVariants as request
 use Rattle.afdx_words.specs.Commands.{alone_app, check_app, size_app, run_app, measure_app, trace_app, network_app, program}
 use Rattle.afdx_words.specs.Commands.{network_check_app, network_jitter_app, network_run_app, network_program}
 use Rattle.afdx_words.specs.Requests.{HasNumber, HasLink, HasPaths, HasInputs, AsksFor, AsksOfNetwork, AsksIn, Explains, Reads}
-use Rattle.afdx_words.specs.Requests.{is_network, fault_in, faults_of, HasNoMatches}
+use Rattle.afdx_words.specs.Requests.{is_network, fault_in, faults_of, HasMatches, HasNoMatches}
 
 pub simple : is_simple program ≡ true
 unfolding program alone_app check_app size_app run_app measure_app trace_app
@@ -206,6 +209,43 @@ none_of_networks words none (request.Size path) h = h
 none_of_networks words none (request.Run paths) h = h
 none_of_networks words none (request.Measure inputs) h = h
 none_of_networks words none (request.Trace paths) h = h
+
+-- an error that a call returned
+pub reads_error : (words : List Text) (r : Result Request NoRequest) (n : NoRequest) → IsErr r × IsErrAnd r (λ x. x ≡ n) → Reads words (Err n) → Reads words r
+reads_error words (Ok x) n e h = absurd e.1
+reads_error words (Err x) n e h = subst (λ (m : NoRequest). Reads words (Err m)) (sym e.1) h
+
+-- the words of networks are those after the first
+module _ (words : List (String Global)) (c : Command) (app : app_of c ≡ network_program) (is : is_network (map string_bytes words) ≡ true) where
+  rest : List Text
+  rest = map string_bytes (take (length words - 1) (drop 1 words))
+
+  same : rest ≡ drop 1 (map string_bytes words)
+  unfolding rest
+  same = ap (map string_bytes) (take_rest words 1) ∙ sym (drop-map string_bytes 1 words)
+
+  kinds : fault_of (app_of c) rest ≡ fault_in true (map string_bytes words)
+  kinds = ap (λ (a : App). fault_of a rest) app ∙ ap (fault_of network_program) same
+
+  entry : subcommand_of (app_of c) rest ≡ subcommand_of network_program (drop 1 (map string_bytes words))
+  entry = ap (λ (a : App). subcommand_of a rest) app ∙ ap (subcommand_of network_program) same
+
+  pub network_without : (n : NoRequest) → HasNoMatches (fault_of (app_of c) (map string_bytes (take (length words - 1) (drop 1 words)))) n → Reads (map string_bytes words) (Err n)
+  unfolding rest
+  network_without n h = no_matches_by (map string_bytes words) true is n (subst (λ (k : Kinds). HasNoMatches k n) kinds h)
+
+  pub network_found : (sub : Option (Text × List Row)) (r : NetworkRequest) → HasMatches (app_of c) (map string_bytes (take (length words - 1) (drop 1 words))) sub → AsksOfNetwork sub r
+      → Reads (map string_bytes words) (Ok (request.Network r))
+  unfolding rest
+  network_found sub r found asks =
+      asks_by (map string_bytes words) true is (request.Network r) (sym kinds ∙ found.0) (subst (λ (x : Option (Text × List Row)). AsksOfNetwork x r) (found.1 ∙ entry) asks)
+
+  pub network_nothing : (sub : Option (Text × List Row)) → HasMatches (app_of c) (map string_bytes (take (length words - 1) (drop 1 words))) sub → ((r : NetworkRequest) → AsksOfNetwork sub r → ⊥)
+      → Reads (map string_bytes words) (Err Usage)
+  unfolding rest
+  network_nothing sub found nothing =
+      asks_nothing_by (map string_bytes words) true is (sym kinds ∙ found.0)
+      (none_of_networks (map string_bytes words) (λ r asks. nothing r (subst (λ (x : Option (Text × List Row)). AsksOfNetwork x r) (sym (found.1 ∙ entry)) asks)))
 
 -- ---- a command with one more subcommand
 
