@@ -61,7 +61,6 @@ impl Links {
     }
 
     /// Gives the link at a place, from 0, a jitter of so many nanoseconds.
-    #[tactic(auto, using(crate::proofs::JitterLemmas::ids_stay))]
     pub(crate) fn set_jitter(&mut self, index: usize, jitter: u64)
         requires { index < length self.old }
         ensures { self.new ≡ with_jitter index jitter self.old }

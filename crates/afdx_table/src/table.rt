@@ -63,7 +63,6 @@ impl Table {
     }
 
     /// Gives the link at a place in file order, from 0, a jitter of so many nanoseconds. O(1).
-    #[tactic(auto, using(crate::proofs::JitterLemmas::still_formed))]
     pub fn set_jitter(&mut self, index: usize, jitter: u64)
         requires place { index < length self.old.links }
         requires limit { jitter ≤ 10000000 }

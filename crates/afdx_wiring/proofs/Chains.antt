@@ -1,5 +1,6 @@
 -- Chains of rules that nothing breaks: each is kept.
-use Rattle.std.proofs.Common.{◌≡◌, ℕ, zero, suc, ◌+◌, Bool, true, false, not, List, [], ◌∷◌, ◌++◌, map, slice_get, Some, None, Ok, Err, refl, ap, sym, ◌∙◌, arith, subst}
+use Rattle.std.proofs.Common.{◌≡◌, ℕ, zero, suc, ◌+◌, ◌<◌, Bool, true, false, not, List, [], ◌∷◌, ◌++◌, length, map, drop, get_or, slice_get, Some, None, Ok, Err, refl, ap, sym, ◌∙◌, add-one, arith, subst}
+use Rattle.std.proofs.Math.Seq.{drop-cons}
 use Rattle.std.specs.Prelude.{flat_map, Contains, Result}
 use Rattle.std.specs.List.{AllByRecursion, enumerate_from}
 use Rattle.afdx_table.specs.Link.{Link}
@@ -84,6 +85,21 @@ rows_kept rule n (t ∷ ts) h =
     all_append (λ r. rule r ≡ Ok tt) (map (row_in n) t.links) (rows_from (n + 1) ts)
     (all_map (λ r. rule r ≡ Ok tt) (row_in n) t.links (links_kept (λ l. rule (row_in n l)) t.links (first_kept here rest tt h)))
     (rows_kept rule (n + 1) ts (rest_kept here rest tt h))
+
+-- the rules on the rows of one table, before those on the rest
+rows_step : (rule : Row → Answer) (n : ℕ) (ts : List Content) (t : Content) → n < length ts → t ≡ get_or ts n t
+    → by_rows rule n (drop n ts) ≡ (by_links (λ l. rule (row_in n l)) t.links >>= λ _. by_rows rule (n + 1) (drop (n + 1) ts))
+rows_step rule n ts t within is =
+    ap (by_rows rule n) (drop-cons ts n t within ∙ ap (λ (u : Content). u ∷ drop (suc n) ts) (sym is) ∙ ap (λ (k : ℕ). t ∷ drop k ts) (sym (add-one n)))
+
+-- where they are kept, and where one is not
+pub rows_go : (rule : Row → Answer) (n : ℕ) (ts : List Content) (t : Content) → n < length ts → t ≡ get_or ts n t → by_links (λ l. rule (row_in n l)) t.links ≡ Ok tt
+    → by_rows rule n (drop n ts) ≡ by_rows rule (n + 1) (drop (n + 1) ts)
+rows_go rule n ts t within is kept = rows_step rule n ts t within is ∙ ap (λ (a : Answer). a >>= λ _. by_rows rule (n + 1) (drop (n + 1) ts)) kept
+
+pub rows_stop : (rule : Row → Answer) (n : ℕ) (ts : List Content) (t : Content) (e : NetworkFault) → n < length ts → t ≡ get_or ts n t
+    → by_links (λ l. rule (row_in n l)) t.links ≡ Err e → by_rows rule n (drop n ts) ≡ Err e
+rows_stop rule n ts t e within is broken = rows_step rule n ts t within is ∙ ap (λ (a : Answer). a >>= λ _. by_rows rule (n + 1) (drop (n + 1) ts)) broken
 
 -- ---- where a row stands
 

@@ -1,6 +1,6 @@
 -- Rows whose jitter was found enough: it is, for the whole way to them.
-use Rattle.std.proofs.Common.{◌≡◌, ℕ, zero, suc, ◌+◌, ◌-◌, ◌*◌, ◌/◌, ◌≤◌, Bool, true, false, cond, nat_le, nat_lt, List, [], ◌∷◌, slice_get, Option, Some, None, option_map, option_and_then, Ok, refl, ap, sym, ◌∙◌, arith, subst}
-use Rattle.std.specs.Prelude.{Contains}
+use Rattle.std.proofs.Common.{◌≡◌, ℕ, zero, suc, ◌+◌, ◌-◌, ◌*◌, ◌/◌, ◌≤◌, Bool, true, false, cond, nat_le, nat_lt, List, [], ◌∷◌, slice_get, Option, Some, None, option_map, option_and_then, Ok, Err, refl, ap, sym, ◌∙◌, arith, subst}
+use Rattle.std.specs.Prelude.{Contains, IfOk}
 use Rattle.std.specs.List.{AllByRecursion}
 use Rattle.std.proofs.lemmas.Bool.Decides.{nat_tests}
 use Rattle.std.proofs.lemmas.List.Elements.{All-from_recursion, All-contains}
@@ -14,7 +14,8 @@ use Rattle.afdx_series.specs.Delay.{hop_of, joined, at_once, IsEnough, need_of}
 use Rattle.afdx_wiring.specs.declared.layout.Wire.{Wire}
 use Rattle.afdx_wiring.specs.Net.{Network, Row, Back, port_at, row_at, rows_of, ingress, wire_to, bound_in, bound_at, IsWayBack, source_of, AreDelays}
 use Rattle.afdx_wiring.specs.Rules.{HasJitters}
-use Rattle.afdx_wiring.specs.Order.{row_before, within_reason, hop_over, hop_from, hop_on, way_by, way_within, has_jitter, jitter_enough, most_rows, shortage}
+use Rattle.afdx_wiring.specs.Refusal.{Gives}
+use Rattle.afdx_wiring.specs.Order.{Answer, row_before, within_reason, hop_over, hop_from, hop_on, way_by, way_within, has_jitter, jitter_enough, most_rows, shortage}
 use Rattle.afdx_wiring.proofs.Chains.{fine, some_same, unless_so, row_in, rows_kept}
 use Rattle.afdx_wiring.proofs.FeedLemmas.{before_is}
 
@@ -41,6 +42,11 @@ record Hop (net : Network) (b : Back) (d before : Delays) (hop : Delays) : Type 
   pub least : d.least ≡ before.least + hop.least
   pub most : d.most ≡ before.most + hop.most
 
+-- from a port, where there is one
+abbrev from_port : Content → Row → ℕ → Option PortRow → Option Delays
+from_port t r cable o =
+    option_and_then (λ (p : PortRow). option_and_then (hop_over t r cable p) (option_map (λ (q : PortRow). load_of t.latency q.speed q.id t.links) o)) o
+
 hop_says : (net : Network) (b : Back) (d hop : Delays) (id : ℕ) → row_at net b.wire.from.switch id ≡ Some b.row → hop_on net b.row b.wire.from.port b.wire.delay ≡ Some hop
     → (t : Content) (p : PortRow) (bound : ℕ) (before : Delays) → slice_get net.tables b.row.switch ≡ Some t → port_at net b.wire.from ≡ Some p → bound_at net b.row p ≡ Some bound
     → d ≡ joined before (hop_of p.speed t.latency bound b.wire.delay) → Hop net b d before hop
@@ -51,8 +57,8 @@ hop_says net b d hop id row_is hop_is t p bound before t_is p_is bound_is d_is =
     let bounded : bound_in (bounds_of (load_of t.latency p.speed p.id t.links)) b.row.link.priority ≡ Some bound
     = sym (ap (option_and_then (λ (c : Content). bound_in (bounds_of (load_of c.latency p.speed p.id c.links)) b.row.link.priority)) t_is) ∙ bound_is in
     let found : option_map (λ (n : ℕ). hop_of p.speed t.latency n b.wire.delay) (within_reason bound) ≡ Some hop
-    = sym (ap (option_and_then (λ (c : Content). option_and_then (hop_over c b.row b.wire.delay) (port_row c b.wire.from.port))) t_is
-    ∙ ap (option_and_then (hop_over t b.row b.wire.delay)) port
+    = sym (ap (option_and_then (hop_from b.row b.wire.from.port b.wire.delay)) t_is
+    ∙ ap (from_port t b.row b.wire.delay) port
     ∙ ap (λ (o : Option ℕ). option_map (λ (n : ℕ). hop_of p.speed t.latency n b.wire.delay) (option_and_then within_reason o)) bounded) ∙ hop_is in
     by (within_reason bound) refl found where
       by : (o : Option ℕ) → within_reason bound ≡ o → option_map (λ (n : ℕ). hop_of p.speed t.latency n b.wire.delay) o ≡ Some hop → Hop net b d before hop
@@ -129,3 +135,8 @@ unfolding shortage
 enough net h =
     let kept = All-from_recursion (λ r. jitter_enough net r ≡ Ok tt) (rows_of net) (rows_kept (jitter_enough net) 0 net.tables h) in
     record { enough = λ r backs d among way are. row_has net r backs d (All-contains (λ r. jitter_enough net r ≡ Ok tt) (rows_of net) r kept among) way are }
+
+-- what the check answers
+pub if_given : (net : Network) (answer : Answer) → Gives (λ u. u) answer (shortage net) → IfOk answer (λ _. HasJitters net)
+if_given net (Ok tt) given = enough net given
+if_given net (Err e) given = tt

@@ -1,13 +1,13 @@
 -- Tables of which no rule is broken fit together.
-use Rattle.std.proofs.Common.{◌≡◌, ℕ, List, Ok}
-use Rattle.std.specs.Prelude.{All}
+use Rattle.std.proofs.Common.{◌≡◌, ℕ, List, Ok, Err}
+use Rattle.std.specs.Prelude.{All, IfOk}
 use Rattle.std.specs.List.{AllByRecursion}
 use Rattle.std.proofs.lemmas.List.Elements.{All-from_recursion}
 use Rattle.afdx_wiring.specs.declared.fault.NetworkFault.{NetworkFault}
 use Rattle.afdx_wiring.specs.declared.layout.Wire.{Wire}
 use Rattle.afdx_wiring.specs.declared.terms.Shared.{Shared}
 use Rattle.afdx_wiring.specs.declared.terms.Shared.TheVariants as shared
-use Rattle.afdx_wiring.specs.Refusal.{◌>>=◌}
+use Rattle.afdx_wiring.specs.Refusal.{◌>>=◌, Gives}
 use Rattle.afdx_wiring.specs.Net.{Network, Row, Back, rows_of, rows_on, IsWayBack}
 use Rattle.afdx_wiring.specs.Rules.{Joins, GoesOn, FitsTogether}
 use Rattle.afdx_wiring.specs.Order.{Answer, by_wires, by_rows, joined_at, shares, most_rows, has_source, fed_once, misfit}
@@ -24,7 +24,7 @@ AllKept net w = Joins net w × (IsKept net shared.Number w × (IsKept net shared
 goes_on : (net : Network) (w : Wire) → AllKept net w → All (GoesOn net w) (rows_on net w)
 goes_on net w kept = All-from_recursion (GoesOn net w) (rows_on net w) (all_go net w kept.0 kept.1.0 kept.1.1.0 kept.1.1.1)
 
-pub fits : (net : Network) → misfit net ≡ Ok tt → FitsTogether net
+fits : (net : Network) → misfit net ≡ Ok tt → FitsTogether net
 unfolding misfit
 fits net h =
     let ws : List Wire = net.layout.wires in
@@ -58,3 +58,7 @@ fits net h =
           (all_weaken (λ r. has_source net r ≡ Ok tt) (λ r. (backs : List Back) × IsWayBack net r backs) (rows_of net) (λ r is. way_back most_rows net r (source_there net r is)) fed);
       once = fed_once_says net h5;
     }
+
+pub if_given : (net : Network) (given : Answer) → Gives (λ u. u) given (misfit net) → IfOk given (λ _. FitsTogether net)
+if_given net (Ok tt) h = fits net h
+if_given net (Err e) h = tt

@@ -2,7 +2,7 @@
 
 ghost use Rattle.std.specs.Prelude.{◌≡◌, ◌≤◌, ◌+◌, ◌*◌, IfOk, IfSome};
 ghost use Rattle.afdx_wiring.specs.Refusal.{Gives};
-ghost use Rattle.afdx_wiring.specs.Order.{row_of, by_links, has_jitter, jitter_enough, way_within, shortage};
+ghost use Rattle.afdx_wiring.specs.Order.{row_of, by_links, by_rows, has_jitter, jitter_enough, way_within, shortage};
 ghost use Rattle.afdx_wiring.specs.Rules.{HasJitters};
 
 use crate::cleared::ClearedNetwork;
@@ -64,16 +64,30 @@ impl<'a> Hops<'a> {
         self.way_within(fewer, before, hop.join(after))
     }
 
+    /// The jitter of a row, for the whole way to it.
+    fn jitter_enough(&self, row: Row<'_>) -> Result<(), NetworkFault>
+        ensures { result ≡ jitter_enough self.now (row_of row.entry) }
+    {
+        has_jitter(row, self.way_within(MOST_ROWS, row, Delays::none()))
+    }
+
     /// The jitters of a switch's rows.
     fn have_jitters(&self, switch: usize, table: &Table) -> Result<(), NetworkFault>
         ensures { result ≡ by_links (λ l. jitter_enough self.now (record { switch = switch; link = l })) table.now.links }
     {
         for index in 0..table.link_count() {
-            let row = Row {
-                switch,
-                link: link_at(table, index),
-            };
-            has_jitter(row, self.way_within(MOST_ROWS, row, Delays::none()))?;
+            let link = link_at(table, index);
+            self.jitter_enough(Row { switch, link })?;
+        }
+        Ok(())
+    }
+
+    /// The jitters of all rows.
+    fn all_have_jitters(&self) -> Result<(), NetworkFault>
+        ensures { result ≡ by_rows (jitter_enough self.now) 0 self.now.tables }
+    {
+        for (switch, table) in self.network().tables().iter().enumerate() {
+            self.have_jitters(switch, table)?;
         }
         Ok(())
     }
@@ -85,15 +99,12 @@ impl ClearedNetwork {
     /// a row has no way back.
     ///
     /// O(r s w) for r rows, at most s switches on a way, and w wires; O(s) memory.
-    #[tactic(auto, unfolding(crate::specs::Order::shortage), using(crate::proofs::Enough::enough))]
+    #[tactic(auto, unfolding(crate::specs::Order::shortage))]
     pub fn check(&self, alloc: Global) -> Result<(), NetworkFault>
         ensures first { Gives (λ u. u) result (shortage self.now) }
         ensures jitters { IfOk result (λ _. HasJitters self.now) }
     {
         let hops = Hops::new(alloc, self.network())?;
-        for (switch, table) in self.network().tables().iter().enumerate() {
-            hops.have_jitters(switch, table)?;
-        }
-        Ok(())
+        hops.all_have_jitters()
     }
 }

@@ -25,7 +25,7 @@ impl Network {
     /// 6. By switch and row: `TwiceSource`.
     ///
     /// O(r s w) for r rows, at most s switches on a way, and w wires.
-    #[tactic(auto, unfolding(crate::specs::Order::misfit), using(crate::proofs::Fits::fits))]
+    #[tactic(auto, unfolding(crate::specs::Order::misfit))]
     pub fn fit(&self, alloc: Global) -> Result<(), NetworkFault>
         ensures first { Gives (λ u. u) result (misfit self.now) }
         ensures fits { IfOk result (λ _. FitsTogether self.now) }

@@ -17,7 +17,6 @@ use std::alloc::Global;
 pub(crate) const MOST_ROWS: usize = 64;
 
 /// Whether a number was met.
-#[tactic(auto, using(crate::proofs::WalkLemmas::is_among))]
 fn has_met(met: &Numbers<Global>, number: u16) -> bool
     ensures { result ≡ list_any (λ n. n == number) met.now }
 {
