@@ -1,5 +1,5 @@
-use Rattle.std.proofs.Common.{◌∙◌, ap, map, string_bytes}
-use Rattle.clap.specs.Words.{is_simple, is_simple_and_free, subcommand_rows_of}
+use Rattle.std.proofs.Common.{◌∙◌, ap, map, string_bytes, List, String, Global}
+use Rattle.clap.specs.Words.{Text, is_simple, is_simple_and_free, subcommand_rows_of}
 use Rattle.afdx_words.proofs.WordLemmas.{network_simple, network_simple_and_free, reads_error, network_without, network_found, network_nothing}
 use Rattle.afdx_words.proofs.words.parse_network.Goals as goal
 
@@ -11,8 +11,9 @@ matches_of-requires-clause-free c = ap is_simple_and_free c.in-Ok.ensures ∙ ne
 
 pub returns-in_err-matches : goal.returns-in_err-matches
 returns-in_err-matches c =
+    let words : List Text = map (λ (w : String Global). string_bytes w) c.args.words.now in
     let n = c.in_err-matches.field-0.0 in
-    reads_error _ _ n c.from_residual.ensures (network_without c.args.words.now c.in-Ok.command c.in-Ok.ensures c.requires n c.in_err-matches.ensures)
+    reads_error words _ n c.from_residual.ensures (network_without c.args.words.now c.in-Ok.command c.in-Ok.ensures c.requires n c.in_err-matches.ensures)
 
 pub returns-in-Some : goal.returns-in-Some
 returns-in-Some c =
