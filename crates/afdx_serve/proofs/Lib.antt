@@ -6,6 +6,7 @@ pub mod RunLemmas
 pub mod MeasureLemmas
 pub mod GetLemmas
 pub mod NetworkLemmas
+pub mod VerdictLemmas
 pub mod ServingLemmas
 pub mod CheckLemmas
 pub mod OwnLemmas
