@@ -13,7 +13,7 @@ use std::alloc::{AllocError, Global};
 
 /// Appends the switch of this name, where there is one.
 fn put_switch(text: &mut String, name: Option<&str>) -> Result<(), AllocError>
-    ensures { OnOk result (string_bytes text.new ≡ string_bytes text.old ++ switch_part (option_map (λ n. n.now) name)) }
+    ensures { OnOk result (string_bytes text.new ≡ string_bytes text.old ++ switch_part (option_map (λ n. n.now) name.entry)) }
 {
     if let Some(name) = name {
         text.push_str(", switch ")?;
@@ -62,7 +62,7 @@ fn at_link(alloc: Global, rule: &str, at: At, link: u16) -> Result<String, Alloc
 
 /// A refusal of a link's row in the table of a switch.
 fn at_row(alloc: Global, rule: &str, name: Option<&str>, link: u16) -> Result<String, AllocError>
-    ensures { IfOk result (λ text. string_bytes text ≡ network_rule rule.now ++ switch_part (option_map (λ n. n.now) name) ++ link_part link) }
+    ensures { IfOk result (λ text. string_bytes text ≡ network_rule rule.now ++ switch_part (option_map (λ n. n.now) name.entry) ++ link_part link) }
 {
     let mut text = rule_text(alloc, rule)?;
     put_switch(&mut text, name)?;
@@ -77,7 +77,7 @@ fn short_text(
     name: Option<&str>,
     short: Short,
 ) -> Result<String, AllocError>
-    ensures { IfOk result (λ text. string_bytes text ≡ short_text rule.now (option_map (λ n. n.now) name) short) }
+    ensures { IfOk result (λ text. string_bytes text ≡ short_text rule.now (option_map (λ n. n.now) name.entry) short) }
 {
     let mut text = at_row(alloc, rule, name, short.link)?;
     write!(text, ", need {}", short.need)?;
@@ -90,7 +90,7 @@ fn network_text(
     fault: NetworkFault,
     name: Option<&str>,
 ) -> Result<String, AllocError>
-    ensures { IfOk result (λ text. string_bytes text ≡ network_text (option_map (λ n. n.now) name) fault) }
+    ensures { IfOk result (λ text. string_bytes text ≡ network_text (option_map (λ n. n.now) name.entry) fault) }
 {
     match fault {
         NetworkFault::Memory => String::from_str(alloc, "afdx: memory"),
