@@ -1,11 +1,11 @@
 -- Outputs that are written from a place on.
-use Rattle.std.proofs.Common.{◌≡◌, ℕ, zero, suc, ◌+◌, ◌<◌, ◌≤◌, List, [], ◌∷◌, length, map, slice_get, Some, Vec, refl, sym, ap, ◌∙◌, arith}
+use Rattle.std.proofs.Common.{◌≡◌, ℕ, zero, suc, ◌<◌, ◌≤◌, List, [], ◌∷◌, length, slice_get, Some, Vec, refl, sym, ap, ◌∙◌, arith}
 use Rattle.std.proofs.lemmas.List.{length-map}
 use Rattle.afdx_table.specs.declared.rows.PortRow.{PortRow}
 use Rattle.afdx_table.specs.Content.{Content}
-use Rattle.afdx_core.specs.Merge.{Arrival}
+use Rattle.afdx_core.specs.Merge.{Arrival, merged}
 use Rattle.afdx_session.specs.Texts.{Text, texts_of, AreOfPorts}
-use Rattle.afdx_session.specs.Carried.{Rest, IsLeft}
+use Rattle.afdx_session.specs.Carried.{Rest, IsLeft, IsCarried}
 
 -- what is left from a place on is left from a later one on
 pub left_later : (t : Content) (arrivals : List Arrival) (m n : ℕ) (r : Rest) → m ≤ n → IsLeft t arrivals m r → IsLeft t arrivals n r
@@ -34,3 +34,8 @@ pub port_at : (ports : List PortRow) (place : ℕ) → place < length ports → 
 port_at [] place lt = absurd (omega (arith, lt))
 port_at (p ∷ ports) zero lt = (p, refl)
 port_at (p ∷ ports) (suc place) lt = port_at ports place (omega (arith, lt))
+
+-- all is left of a run that is over, and there is a port for each capture
+pub all_left : {Z : Type 0} {t : Content} (captures : List (ℕ × Vec ℕ Z)) (r : Rest) → IsCarried t (texts_of captures) r
+    → (u : Content) × (arrivals : List Arrival) × IsLeft u arrivals 0 r × (length captures ≡ length u.ports)
+all_left {t = t} captures r is = (t, merged is.read, is.left, captures_of_ports t captures is.ports)

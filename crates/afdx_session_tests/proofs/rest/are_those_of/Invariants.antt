@@ -5,4 +5,4 @@ use Rattle.afdx_session.specs.Carried.{IsLeft}
 use Rattle.afdx_session_tests.proofs.rest.are_those_of.Given as goal
 
 abbrev pub invariant-loop-place : goal.invariant-loop-place
-invariant-loop-place g l = (t : Content) × (arrivals : List Arrival) × IsLeft t arrivals l.place l.rest × (length l.captures ≡ length t.ports)
+invariant-loop-place l = (t : Content) × (arrivals : List Arrival) × IsLeft t arrivals l.place l.rest × (length l.captures ≡ length t.ports)
