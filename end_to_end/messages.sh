@@ -62,9 +62,10 @@ link() {
     printf '\n[[link]]\nid = %s\nfrom = 1\nto = [2]\nbag_ms = 1\njitter_us = 0\nmax_size = 1518\npriority = "%s"\n' "$@"
 }
 
-# lines_are_the_pages: the lines that were provoked, with their status, are those of the page.
+# lines_are_the_pages: the lines that were provoked, with their status, are those of the page; network.sh provokes those of
+# networks.
 lines_are_the_pages() {
-    sed -n 's/^| `\(afdx: [^`]*\)` | \([0-9]\) |.*/\2 \1/p' "$page" | sort >wanted.txt
+    sed -n '/^## Networks/,/^## Files/ d; s/^| `\(afdx: [^`]*\)` | \([0-9]\) |.*/\2 \1/p' "$page" | sort >wanted.txt
     [ -s wanted.txt ] && sort provoked.txt | diff wanted.txt -
 }
 

@@ -103,7 +103,8 @@ def capture(port):
     return text
 
 
-os.makedirs(f"{HERE}/in", exist_ok=True)
-for place in LINKS:
-    with open(f"{HERE}/in/port-{place}.pcap", "wb") as file:
-        file.write(capture(place))
+if __name__ == "__main__":
+    os.makedirs(f"{HERE}/in", exist_ok=True)
+    for place in LINKS:
+        with open(f"{HERE}/in/port-{place}.pcap", "wb") as file:
+            file.write(capture(place))

@@ -110,6 +110,7 @@ not_got (failure.Capture r) files path name t first before after same fails upto
 not_got (failure.PortCapture p r) files path name t first before after same fails upto = absurd fails
 not_got (failure.Put s) files path name t first before after same fails upto = absurd fails
 not_got (failure.Load r) files path name t first before after same fails upto = absurd fails
+not_got (failure.Network r) files path name t first before after same fails upto = absurd fails
 not_got failure.Read files path name t first before after same fails upto = absurd fails
 not_got failure.Write files path name t first before after same fails upto = absurd fails
 
@@ -125,6 +126,7 @@ not_put (failure.Capture r) name names all old new first before after same fails
 not_put (failure.PortCapture p r) name names all old new first before after same fails stops = absurd fails
 not_put (failure.Get s) name names all old new first before after same fails stops = absurd fails
 not_put (failure.Load r) name names all old new first before after same fails stops = absurd fails
+not_put (failure.Network r) name names all old new first before after same fails stops = absurd fails
 not_put failure.Read name names all old new first before after same fails stops = absurd fails
 not_put failure.Write name names all old new first before after same fails stops = absurd fails
 

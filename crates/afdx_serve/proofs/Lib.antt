@@ -4,6 +4,9 @@ pub mod InputLemmas
 pub mod FileLemmas
 pub mod RunLemmas
 pub mod MeasureLemmas
+pub mod GetLemmas
+pub mod NetworkLemmas
+pub mod VerdictLemmas
 pub mod ServingLemmas
 pub mod CheckLemmas
 pub mod OwnLemmas

@@ -46,6 +46,7 @@ module _ (paths : Paths) (names all : List (List ℕ)) (a b c : Option Files) (f
   not_all_put (failure.PortCapture p r) h = absurd h
   not_all_put (failure.Get s) h = absurd h
   not_all_put (failure.Load r) h = absurd h
+  not_all_put (failure.Network r) h = absurd h
   not_all_put failure.Read h = absurd h
   not_all_put failure.Write h = absurd h
 
@@ -67,6 +68,7 @@ module _ (paths : Paths) (results : Results) (a b c : Option Files) (first befor
   not_all (failure.PortCapture p r) w v none h = absurd h
   not_all (failure.Get s) w v none h = absurd h
   not_all (failure.Load r) w v none h = absurd h
+  not_all (failure.Network r) w v none h = absurd h
   not_all failure.Read w v none h = absurd h
   not_all failure.Write w v none h = absurd h
 
@@ -87,6 +89,7 @@ module _ (inputs : Inputs) (a b : Option Files) (t : Content) (first before afte
   not_gathered (failure.Capture r) h = absurd h
   not_gathered (failure.PortCapture p r) h = absurd h
   not_gathered (failure.Load r) h = absurd h
+  not_gathered (failure.Network r) h = absurd h
   not_gathered (failure.Put s) h = absurd h
   not_gathered failure.Read h = absurd h
   not_gathered failure.Write h = absurd h
@@ -101,6 +104,7 @@ module _ (inputs : Inputs) (a : Option Files) (plan : Plan) (captures : List Tex
   not_led (failure.Table r) h = absurd h
   not_led (failure.Capture r) h = absurd h
   not_led (failure.Load r) h = absurd h
+  not_led (failure.Network r) h = absurd h
   not_led (failure.Get s) h = absurd h
   not_led (failure.Put s) h = absurd h
   not_led failure.Read h = absurd h

@@ -1,13 +1,15 @@
 -- What was served, and why words were not served.
 use Rattle.std.proofs.Common.{ℕ, List, Option, Result, Ok, Err, sym, subst, inl, inr}
 use Rattle.std.specs.Prelude.{MatchResult}
+use Rattle.afdx_words.specs.declared.request.NetworkRequest.{NetworkRequest}
 use Rattle.afdx_words.specs.declared.request.Request.{Request}
 use Rattle.afdx_words.specs.declared.request.Request.TheVariants as request
 use Rattle.afdx_words.specs.Requests.{Asks}
 use Rattle.afdx_serve.specs.declared.failure.Failure.{Failure}
 use Rattle.afdx_serve.specs.declared.failure.Failure.TheVariants as failure
 use Rattle.afdx_serve.specs.Lines.{TellsOf, IsMade}
-use Rattle.afdx_serve.specs.Serving.{World, Performs, FailsToPerform, Serves, Fails, RunsOut}
+use Rattle.afdx_serve.specs.Serving.{World, Performs, FailsToPerform, FailsToPerformNetwork, Serves, Fails, RunsOut}
+use Rattle.afdx_serve.proofs.NetworkLemmas.{never_usage, spares}
 
 module _ (words : List (List ℕ)) (input : Option (List ℕ)) (old new : World) where
   fails : (r : Request) → Asks words r → (f : Failure) → FailsToPerform f r input old new → Fails f words input old new
@@ -17,7 +19,9 @@ module _ (words : List (List ℕ)) (input : Option (List ℕ)) (old new : World)
   fails (request.Run paths) asks failure.Usage h = absurd h.0.0
   fails (request.Measure inputs) asks failure.Usage h = absurd h.0
   fails (request.Trace paths) asks failure.Usage h = absurd h.0.0
+  fails (request.Network r) asks failure.Usage h = absurd (never_usage r old new h)
   fails r asks (failure.Load e) h = (r, asks, h)
+  fails r asks (failure.Network e) h = (r, asks, h)
   fails r asks (failure.Table e) h = (r, asks, h)
   fails r asks (failure.Capture e) h = (r, asks, h)
   fails r asks (failure.PortCapture p e) h = (r, asks, h)
@@ -33,6 +37,12 @@ module _ (words : List (List ℕ)) (input : Option (List ℕ)) (old new : World)
   performed (Ok x) r asks h = inr (r, asks, h)
   performed (Err f) r asks h = fails r asks f h
 
+  network_runs_out : (f : Failure) (r : NetworkRequest) → IsMade f → Asks words (request.Network r) → FailsToPerformNetwork f r old new → RunsOut words input old new
+  network_runs_out f r made asks h = elim (spares f r old new made h) [
+    | inl spared ↦ inl spared
+    | inr out ↦ inr (request.Network r, asks, out)
+  ]
+
   -- a failure with a line that is made leaves what want of memory may leave
   runs_out : (f : Failure) (r : Request) → IsMade f → Asks words r → FailsToPerform f r input old new → RunsOut words input old new
   runs_out failure.Usage r made asks h = absurd made
@@ -45,36 +55,49 @@ module _ (words : List (List ℕ)) (input : Option (List ℕ)) (old new : World)
   runs_out (failure.Table e) (request.Run paths) made asks h = inl (h.1, h.0.1)
   runs_out (failure.Table e) (request.Measure inputs) made asks h = inl (h.2, h.1)
   runs_out (failure.Table e) (request.Trace paths) made asks h = inl (h.1, h.0.1)
+  runs_out (failure.Table e) (request.Network r) made asks h = network_runs_out (failure.Table e) r made asks h
   runs_out (failure.Load e) (request.Alone link) made asks h = absurd h.0
   runs_out (failure.Load e) (request.Check path) made asks h = inl (h.4, h.3.0)
   runs_out (failure.Load e) (request.Size path) made asks h = absurd h
   runs_out (failure.Load e) (request.Run paths) made asks h = inl (h.1, h.0.1)
   runs_out (failure.Load e) (request.Measure inputs) made asks h = inl (h.2, h.1)
   runs_out (failure.Load e) (request.Trace paths) made asks h = inl (h.1, h.0.1)
+  runs_out (failure.Load e) (request.Network r) made asks h = network_runs_out (failure.Load e) r made asks h
   runs_out (failure.Capture e) (request.Alone link) made asks h = inl (h.0.1, h.1.0)
   runs_out (failure.Capture e) (request.Check path) made asks h = absurd h
   runs_out (failure.Capture e) (request.Size path) made asks h = absurd h
   runs_out (failure.Capture e) (request.Run paths) made asks h = absurd h.0.0
   runs_out (failure.Capture e) (request.Measure inputs) made asks h = absurd h.0
   runs_out (failure.Capture e) (request.Trace paths) made asks h = absurd h.0.0
+  runs_out (failure.Capture e) (request.Network r) made asks h = network_runs_out (failure.Capture e) r made asks h
   runs_out (failure.PortCapture p e) (request.Alone link) made asks h = absurd h.0
   runs_out (failure.PortCapture p e) (request.Check path) made asks h = absurd h
   runs_out (failure.PortCapture p e) (request.Size path) made asks h = absurd h
   runs_out (failure.PortCapture p e) (request.Run paths) made asks h = inl (h.1, h.0.1)
   runs_out (failure.PortCapture p e) (request.Measure inputs) made asks h = inl (h.2, h.1)
   runs_out (failure.PortCapture p e) (request.Trace paths) made asks h = inl (h.1, h.0.1)
+  runs_out (failure.PortCapture p e) (request.Network r) made asks h = network_runs_out (failure.PortCapture p e) r made asks h
   runs_out (failure.Get name) (request.Alone link) made asks h = absurd h.0
   runs_out (failure.Get name) (request.Check path) made asks h = inl (h.3, h.2)
   runs_out (failure.Get name) (request.Size path) made asks h = inl (h.3, h.2)
   runs_out (failure.Get name) (request.Run paths) made asks h = inl (h.1, h.0.1)
   runs_out (failure.Get name) (request.Measure inputs) made asks h = inl (h.2, h.1)
   runs_out (failure.Get name) (request.Trace paths) made asks h = inl (h.1, h.0.1)
+  runs_out (failure.Get name) (request.Network r) made asks h = network_runs_out (failure.Get name) r made asks h
   runs_out (failure.Put name) (request.Alone link) made asks h = absurd h.0
   runs_out (failure.Put name) (request.Check path) made asks h = absurd h
   runs_out (failure.Put name) (request.Size path) made asks h = absurd h
   runs_out (failure.Put name) (request.Measure inputs) made asks h = absurd h.0
   runs_out (failure.Put name) (request.Run paths) made asks h = inr (request.Run paths, asks, (inr (_, h.0.0), h.1))
   runs_out (failure.Put name) (request.Trace paths) made asks h = inr (request.Trace paths, asks, (inr (_, h.0.0), h.1))
+  runs_out (failure.Put name) (request.Network r) made asks h = network_runs_out (failure.Put name) r made asks h
+  runs_out (failure.Network e) (request.Alone link) made asks h = absurd h.0
+  runs_out (failure.Network e) (request.Check path) made asks h = absurd h
+  runs_out (failure.Network e) (request.Size path) made asks h = absurd h
+  runs_out (failure.Network e) (request.Run paths) made asks h = absurd h.0.0
+  runs_out (failure.Network e) (request.Measure inputs) made asks h = absurd h.0
+  runs_out (failure.Network e) (request.Trace paths) made asks h = absurd h.0.0
+  runs_out (failure.Network e) (request.Network r) made asks h = network_runs_out (failure.Network e) r made asks h
 
   -- where memory ran out for its line, memory is the failure
   pub told : (f t : Failure) → TellsOf f t → Fails f words input old new → Fails t words input old new
@@ -84,6 +107,7 @@ module _ (words : List (List ℕ)) (input : Option (List ℕ)) (old new : World)
   told failure.Write t (inr e) h = absurd e.0
   told failure.Memory t (inr e) h = absurd e.0
   told (failure.Table r) t (inr e) h = subst (λ (x : Failure). Fails x words input old new) (sym e.1) (runs_out (failure.Table r) h.0 tt h.1 h.2)
+  told (failure.Network r) t (inr e) h = subst (λ (x : Failure). Fails x words input old new) (sym e.1) (runs_out (failure.Network r) h.0 tt h.1 h.2)
   told (failure.Load r) t (inr e) h = subst (λ (x : Failure). Fails x words input old new) (sym e.1) (runs_out (failure.Load r) h.0 tt h.1 h.2)
   told (failure.Capture r) t (inr e) h = subst (λ (x : Failure). Fails x words input old new) (sym e.1) (runs_out (failure.Capture r) h.0 tt h.1 h.2)
   told (failure.PortCapture p r) t (inr e) h = subst (λ (x : Failure). Fails x words input old new) (sym e.1) (runs_out (failure.PortCapture p r) h.0 tt h.1 h.2)

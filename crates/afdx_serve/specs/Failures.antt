@@ -1,6 +1,9 @@
 -- The failure of a command, or of a folder, that a fault below it leads to.
+use Rattle.std.specs.Prelude.{None}
 use Rattle.afdx_table.specs.declared.fault.TableFault.{TableFault}
 use Rattle.afdx_table.specs.declared.fault.TableFault.TheVariants as table
+use Rattle.afdx_wiring.specs.declared.fault.NetworkFault.{NetworkFault}
+use Rattle.afdx_wiring.specs.declared.fault.NetworkFault.TheVariants as wiring
 use Rattle.afdx_session.specs.declared.plan.RunFault.{RunFault}
 use Rattle.afdx_session.specs.declared.plan.RunFault.TheVariants as run
 use Rattle.afdx_serve.specs.declared.policing.AloneFault.{AloneFault}
@@ -9,6 +12,7 @@ use Rattle.afdx_serve.specs.declared.input.InputFault.{InputFault}
 use Rattle.afdx_serve.specs.declared.input.InputFault.TheVariants as input
 use Rattle.afdx_serve.specs.declared.folder.FolderFault.{FolderFault}
 use Rattle.afdx_serve.specs.declared.folder.FolderFault.TheVariants as folder
+use Rattle.afdx_serve.specs.declared.network_failure.NetworkFailure.TheVariants as network
 use Rattle.afdx_serve.specs.declared.failure.Failure.{Failure}
 use Rattle.afdx_serve.specs.declared.failure.Failure.TheVariants as failure
 
@@ -27,6 +31,11 @@ alone_failure (alone.Capture fault) = failure.Capture fault
 abbrev pub table_failure : TableFault → Failure
 table_failure table.Memory = failure.Memory
 table_failure fault = failure.Table fault
+
+-- with no name of a switch
+abbrev pub wiring_failure : NetworkFault → Failure
+wiring_failure wiring.Memory = failure.Memory
+wiring_failure fault = failure.Network (network.Refused fault None)
 
 abbrev pub run_failure : RunFault → Failure
 run_failure run.Memory = failure.Memory

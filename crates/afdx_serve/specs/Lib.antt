@@ -11,6 +11,10 @@ pub mod Lines
 pub mod Runs
 pub mod Checks
 pub mod Sizes
+pub mod Networks
+pub mod NetworkChecks
+pub mod NetworkJitters
+pub mod NetworkRuns
 pub mod Serving
 pub mod Measures
 pub mod Traces

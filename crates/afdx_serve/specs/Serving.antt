@@ -1,5 +1,5 @@
 -- What serving words does: to what a reader gives, and to what a writer and a folder hold before and after.
-use Rattle.std.specs.Prelude.{string_bytes, Some, ◌≡◌, ◌⊎◌, ℕ, List, Option, IfSome}
+use Rattle.std.specs.Prelude.{string_bytes, Some, Ok, ◌≡◌, ◌⊎◌, ℕ, List, Option, IfSome}
 use Rattle.std.specs.Io.KnownBytes.{Appends, Keeps}
 use Rattle.afdx_pcap.specs.Fault.{IsFault}
 use Rattle.afdx_words.specs.declared.link.Alone.{Alone}
@@ -15,6 +15,17 @@ use Rattle.afdx_table.specs.Content.{Content}
 use Rattle.afdx_load.specs.Accepted.{IsAccepted, first_fault}
 use Rattle.afdx_serve.specs.Checks.{IsCheckOf}
 use Rattle.afdx_serve.specs.Sizes.{AreSizesIn}
+use Rattle.afdx_wiring.specs.Net.{Network}
+use Rattle.afdx_wiring.specs.Rules.{IsAcceptedNetwork}
+use Rattle.afdx_wiring.specs.declared.jitters.RowNeed.{RowNeed}
+use Rattle.afdx_ways.specs.Lines.{jitter_text}
+use Rattle.afdx_words.specs.declared.request.NetworkPaths.{NetworkPaths}
+use Rattle.afdx_words.specs.declared.request.NetworkRequest.{NetworkRequest}
+use Rattle.afdx_words.specs.declared.request.NetworkRequest.TheVariants as ask
+use Rattle.afdx_serve.specs.Networks.{names_of, HasNetwork, FailsToGetNetwork, FailsToAcceptNetwork}
+use Rattle.afdx_serve.specs.NetworkChecks.{IsNetworkCheck}
+use Rattle.afdx_serve.specs.NetworkJitters.{fit_of, IsPast, FailsToFit}
+use Rattle.afdx_serve.specs.NetworkRuns.{LeadsToNetwork, FailsToPutNetwork, names_at, bytes_at, captures_of, reports_of}
 use Rattle.afdx_serve.specs.Files.{Files, DeviceLog, KeepsFiles, PutsFiles, one_more}
 use Rattle.afdx_session.specs.Outcome.{Results}
 use Rattle.afdx_serve.specs.Output.{AppendsFront}
@@ -104,6 +115,76 @@ FailsToSize failure.Write path old new =
 FailsToSize failure.Memory path old new = KeepsFiles old.files new.files × WritesNothing old new
 FailsToSize _ path old new = ⊥
 
+-- ---- networks
+
+-- the file's network is accepted, and its lines were written
+abbrev pub ChecksNetwork : List ℕ → World → World → Type 0
+ChecksNetwork path old new =
+    (net : Network) × (text : List ℕ) × HasNetwork old.files path net × IsAcceptedNetwork net × IsNetworkCheck net text × Appends old.written new.written text
+    × KeepsFolder old new
+
+-- why they were not, and what was written
+abbrev pub FailsToCheckNetwork : Failure → List ℕ → World → World → Type 0
+FailsToCheckNetwork failure.Write path old new =
+    (net : Network) × (text : List ℕ) × HasNetwork old.files path net × IsAcceptedNetwork net × IsNetworkCheck net text × AppendsFront old.written new.written text
+    × KeepsFolder old new
+FailsToCheckNetwork failure.Memory path old new = KeepsFiles old.files new.files × WritesNothing old new
+FailsToCheckNetwork f path old new =
+    (FailsToGetNetwork f old.files path old.failed new.failed
+    ⊎ ((net : Network) × HasNetwork old.files path net × FailsToAcceptNetwork f net × (new.failed ≡ old.failed)))
+    × KeepsFiles old.files new.files × WritesNothing old new
+
+-- the jitters that its rows may need were written; the network check judges them
+abbrev pub TellsJitters : List ℕ → World → World → Type 0
+TellsJitters path old new =
+    (net : Network) × (rows : List RowNeed) × HasNetwork old.files path net × (fit_of net ≡ Ok tt)
+    × Appends old.written new.written (jitter_text (names_of net.layout.switches) rows) × KeepsFolder old new
+
+-- before they were
+abbrev pub FailsBeforeJitters : Failure → List ℕ → World → World → Type 0
+FailsBeforeJitters f path old new =
+    (FailsToGetNetwork f old.files path old.failed new.failed
+    ⊎ ((net : Network) × HasNetwork old.files path net × FailsToFit f net × (new.failed ≡ old.failed)))
+    × KeepsFiles old.files new.files × WritesNothing old new
+
+-- why they were not, and what was written; where a row needs more than a table can have, all were
+abbrev pub FailsToTellJitters : Failure → List ℕ → World → World → Type 0
+FailsToTellJitters failure.Write path old new =
+    (net : Network) × (rows : List RowNeed) × HasNetwork old.files path net × (fit_of net ≡ Ok tt)
+    × AppendsFront old.written new.written (jitter_text (names_of net.layout.switches) rows) × KeepsFolder old new
+FailsToTellJitters failure.Memory path old new = KeepsFiles old.files new.files × (WritesNothing old new ⊎ TellsJitters path old new)
+FailsToTellJitters (failure.Network e) path old new = FailsBeforeJitters (failure.Network e) path old new ⊎ (IsPast e × TellsJitters path old new)
+FailsToTellJitters f path old new = FailsBeforeJitters f path old new
+
+-- the files lead to a run of a network, of which the captures were put and the reports written
+abbrev pub PutsNetwork : NetworkPaths → World → World → Network → List Results → Type 0
+PutsNetwork paths old new net left =
+    LeadsToNetwork paths old.files net left
+    × PutsFiles old.files new.files (names_at paths.output.now (names_of net.layout.switches) (captures_of left)) (bytes_at (captures_of left))
+    × (new.failed ≡ old.failed)
+
+abbrev pub RunsNetwork : NetworkPaths → World → World → Type 0
+RunsNetwork paths old new =
+    (net : Network) × (left : List Results) × PutsNetwork paths old new net left × Appends old.written new.written (reports_of (names_of net.layout.switches) left)
+
+-- why they were not, and what was done
+abbrev pub FailsToRunNetwork : Failure → NetworkPaths → World → World → Type 0
+FailsToRunNetwork failure.Write paths old new =
+    (net : Network) × (left : List Results) × PutsNetwork paths old new net left × AppendsFront old.written new.written (reports_of (names_of net.layout.switches) left)
+FailsToRunNetwork f paths old new = FailsToPutNetwork f paths old.files new.files old.failed new.failed × WritesNothing old new
+
+-- what a request of networks asks for was done
+abbrev pub PerformsNetwork : NetworkRequest → World → World → Type 0
+PerformsNetwork (ask.Check path) old new = ChecksNetwork path.now old new
+PerformsNetwork (ask.Jitter path) old new = TellsJitters path.now old new
+PerformsNetwork (ask.Run paths) old new = RunsNetwork paths old new
+
+-- why it was not, and what was done
+abbrev pub FailsToPerformNetwork : Failure → NetworkRequest → World → World → Type 0
+FailsToPerformNetwork f (ask.Check path) old new = FailsToCheckNetwork f path.now old new
+FailsToPerformNetwork f (ask.Jitter path) old new = FailsToTellJitters f path.now old new
+FailsToPerformNetwork f (ask.Run paths) old new = FailsToRunNetwork f paths old new
+
 -- ---- runs
 
 -- the files lead to results, which were put
@@ -149,6 +230,7 @@ Performs (request.Size path) input old new = Sizes path.now old new
 Performs (request.Run paths) input old new = Runs paths old new
 Performs (request.Measure inputs) input old new = Measures inputs old new
 Performs (request.Trace paths) input old new = Traces paths old new
+Performs (request.Network r) input old new = PerformsNetwork r old new
 
 -- why it was not done, and what was done
 abbrev pub FailsToPerform : Failure → Request → Option (List ℕ) → World → World → Type 0
@@ -158,6 +240,7 @@ FailsToPerform f (request.Size path) input old new = FailsToSize f path.now old 
 FailsToPerform f (request.Run paths) input old new = FailsToRunAll f paths old new
 FailsToPerform f (request.Measure inputs) input old new = FailsToMeasure f inputs old new
 FailsToPerform f (request.Trace paths) input old new = FailsToTraceAll f paths old new
+FailsToPerform f (request.Network r) input old new = FailsToPerformNetwork f r old new
 
 -- help was asked for and some text was written, or a request, which was done
 abbrev pub Serves : List (List ℕ) → Option (List ℕ) → World → World → Type 0

@@ -1,7 +1,7 @@
-//! The line of a capture's fault.
+//! What is told of a capture's fault.
 
 ghost use Rattle.std.specs.Prelude.{◌≡◌, ◌++◌, IfOk, OnOk, string_bytes};
-ghost use Rattle.afdx_serve.specs.Lines.{fault_text, part, capture_line, record_of};
+ghost use Rattle.afdx_serve.specs.Lines.{fault_text, part, capture_text, capture_line, record_of};
 
 use afdx_pcap::PcapFault;
 use std::alloc::{AllocError, Global};
@@ -52,6 +52,22 @@ fn push_part(line: &mut String, name: &str, number: Option<usize>) -> Result<(),
     Ok(())
 }
 
+/// What is told of a fault of a capture, which is a port's or not, without its line feed.
+pub(crate) fn capture_text(
+    alloc: Global,
+    port: Option<u8>,
+    fault: PcapFault,
+) -> Result<String, AllocError>
+    ensures { IfOk result (λ text. string_bytes text ≡ capture_text port fault) }
+{
+    let name = fault_text(alloc, fault)?;
+    let mut text = String::from_str(alloc, "afdx: capture ")?;
+    text.push_str(&name)?;
+    push_part(&mut text, ", port ", port.map(usize::from))?;
+    push_part(&mut text, ", record ", record_of(fault))?;
+    Ok(text)
+}
+
 /// The line of a fault of a capture, which is a port's or not.
 pub(crate) fn capture_line(
     alloc: Global,
@@ -60,11 +76,7 @@ pub(crate) fn capture_line(
 ) -> Result<String, AllocError>
     ensures { IfOk result (λ line. string_bytes line ≡ capture_line port fault) }
 {
-    let text = fault_text(alloc, fault)?;
-    let mut line = String::from_str(alloc, "afdx: capture ")?;
-    line.push_str(&text)?;
-    push_part(&mut line, ", port ", port.map(usize::from))?;
-    push_part(&mut line, ", record ", record_of(fault))?;
+    let mut line = capture_text(alloc, port, fault)?;
     line.push_str("\n")?;
     Ok(line)
 }

@@ -3,12 +3,14 @@
 ghost use Rattle.std.specs.Prelude.{◌≡◌};
 
 use crate::input::InputFault;
+use crate::network_failure::NetworkFailure;
 use crate::output::WriteFault;
 use crate::policing::AloneFault;
 use afdx_load::LoadFault;
 use afdx_pcap::PcapFault;
 use afdx_session::RunFault;
 use afdx_table::TableFault;
+use afdx_wiring::NetworkFault;
 use std::alloc::{AllocError, AllocFailed};
 use thiserror::Error;
 
@@ -30,6 +32,9 @@ pub enum Failure {
     /// The file of this port is no capture, and this is its first fault.
     #[error("PortCapture")]
     PortCapture(u8, PcapFault),
+    /// What only commands of networks refuse.
+    #[error("Network")]
+    Network(NetworkFailure),
     /// The folder failed to get the file of this name, or it is not there.
     #[error("Get")]
     Get(String),
@@ -112,6 +117,19 @@ impl From<TableFault> for Failure {
         match e {
             TableFault::Memory => Failure::Memory,
             _ => Failure::Table(e),
+        }
+    }
+}
+
+impl From<NetworkFault> for Failure {
+    ghost use Rattle.afdx_serve.specs.Failures.{wiring_failure};
+
+    ghost from_gives = { λ fault failure. failure ≡ wiring_failure fault };
+
+    fn from(e: NetworkFault) -> Failure {
+        match e {
+            NetworkFault::Memory => Failure::Memory,
+            _ => Failure::Network(NetworkFailure::Refused(e, None)),
         }
     }
 }

@@ -13,7 +13,7 @@ use afdx_table::Table;
 use std::alloc::Global;
 
 /// The bytes of a file.
-fn get<F: Folder>(alloc: Global, folder: &mut F, name: &str) -> Result<Vec<u8>, Failure>
+pub(crate) fn get<F: Folder>(alloc: Global, folder: &mut F, name: &str) -> Result<Vec<u8>, Failure>
     ensures got { MatchResult result
         (λ bytes. Shows (F.files folder.old) name.now bytes.items × (F.failed folder.new ≡ F.failed folder.old))
         (λ f. FailsToGet f name.now (F.failed folder.old) (F.failed folder.new)) }

@@ -1,7 +1,7 @@
-//! The line of a load that is refused.
+//! What is told of a load that is refused.
 
 ghost use Rattle.std.specs.Prelude.{◌≡◌, IfOk, string_bytes};
-ghost use Rattle.afdx_serve.specs.Lines.{rule_text, load_line};
+ghost use Rattle.afdx_serve.specs.Lines.{rule_text, load_fault_text, load_line};
 
 use afdx_load::{LoadFault, Rule};
 use std::alloc::{AllocError, Global};
@@ -18,14 +18,23 @@ fn rule_text(rule: Rule) -> &'static str
     }
 }
 
+/// What is told of a rule that is broken, without its line feed.
+pub(crate) fn load_fault_text(alloc: Global, fault: LoadFault) -> Result<String, AllocError>
+    ensures { IfOk result (λ text. string_bytes text ≡ load_fault_text fault) }
+{
+    let mut text = String::from_str(alloc, "afdx: load ")?;
+    text.push_str(rule_text(fault.rule))?;
+    write!(text, ", port {}", fault.port)?;
+    write!(text, ", need {}", fault.need)?;
+    write!(text, ", limit {}", fault.limit)?;
+    Ok(text)
+}
+
 /// The line of a rule that is broken.
 pub(crate) fn load_line(alloc: Global, fault: LoadFault) -> Result<String, AllocError>
     ensures { IfOk result (λ line. string_bytes line ≡ load_line fault) }
 {
-    let mut line = String::from_str(alloc, "afdx: load ")?;
-    line.push_str(rule_text(fault.rule))?;
-    write!(line, ", port {}", fault.port)?;
-    write!(line, ", need {}", fault.need)?;
-    write!(line, ", limit {}\n", fault.limit)?;
+    let mut line = load_fault_text(alloc, fault)?;
+    line.push_str("\n")?;
     Ok(line)
 }

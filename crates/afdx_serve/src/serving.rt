@@ -12,6 +12,7 @@ use crate::failure::Failure;
 use crate::folder::Folder;
 use crate::input::read_to_end;
 use crate::measure::measure;
+use crate::network_serving::perform_network;
 use crate::output::write_bytes;
 use crate::policing::alone;
 use crate::run::run;
@@ -60,6 +61,7 @@ fn perform<R: Read, O: Write, F: Folder>(
         Request::Run(paths) => run(alloc, paths, out, folder),
         Request::Measure(inputs) => measure(alloc, inputs, out, folder),
         Request::Trace(paths) => trace(alloc, paths, folder),
+        Request::Network(request) => perform_network(alloc, request, out, folder),
     }
 }
 
@@ -95,7 +97,9 @@ fn serve_words<R: Read, O: Write, F: Folder>(
 /// from `folder` and write their lines on `out`; `afdx run TABLE IN OUT` gets TABLE, checks its load unless there is
 /// `--unchecked`, gets IN/port-1.pcap and so on, puts OUT/port-1.pcap and so on and writes the report on `out`;
 /// `afdx measure TABLE IN` does so too, but puts nothing and writes what delays and buffers were; `afdx trace TABLE IN OUT`
-/// puts OUT/arrivals.csv and OUT/departures.csv in place of the captures, and writes nothing; `--help` and `--version` write the text of `clap` on `out`. On another status than 0 one line goes to `err`, and a fault in
+/// puts OUT/arrivals.csv and OUT/departures.csv in place of the captures, and writes nothing; `afdx network check NET` and
+/// `afdx network jitter NET` get NET and the tables that it names and write their lines; `afdx network run NET IN OUT` gets
+/// IN/A/port-1.pcap and so on for each switch A, puts OUT/A/port-1.pcap and so on and writes the reports; `--help` and `--version` write the text of `clap` on `out`. On another status than 0 one line goes to `err`, and a fault in
 /// writing it changes nothing. What is met before the answer is written leaves `out` as it was; where writing fails, a front
 /// of the answer was written.
 ///

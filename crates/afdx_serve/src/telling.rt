@@ -8,6 +8,7 @@ ghost use Rattle.afdx_serve.specs.Output.{AppendsFront};
 use crate::capture_line::capture_line;
 use crate::failure::Failure;
 use crate::load_line::load_line;
+use crate::network_line::{network_failure_line, network_status};
 use crate::output::write_bytes;
 use crate::table_line::table_line;
 use std::alloc::{AllocError, Global};
@@ -63,6 +64,11 @@ pub fn report<E: Write>(alloc: Global, failure: &Failure, err: &mut E) -> u8
             tell_made(err, capture_line(alloc, Some(*port), *fault), 3)
         }
         Failure::Load(fault) => tell_made(err, load_line(alloc, *fault), 4),
+        Failure::Network(refusal) => tell_made(
+            err,
+            network_failure_line(alloc, refusal),
+            network_status(refusal),
+        ),
         Failure::Get(name) => tell_made(err, device_line(alloc, "get", name), 5),
         Failure::Put(name) => tell_made(err, device_line(alloc, "put", name), 5),
         Failure::Read => tell(err, "afdx: device read\n", 5),

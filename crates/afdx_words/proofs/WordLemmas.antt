@@ -1,9 +1,12 @@
 -- What an option's entry says, and that the program's command is one whose matches and faults are exact.
-use Rattle.std.proofs.Common.{◌≡◌, ℕ, ap, get_or, arith, Global, List, true, Option, Some, None, Result, Ok, Err, refl, sym, subst, ◌∙◌, inl, inr}
-use Rattle.std.specs.Prelude.{IfOk, false, MatchOption, Box, codes, option_map}
+use Rattle.std.proofs.Common.{◌≡◌, ℕ, ap, get_or, arith, Global, String, List, map, string_bytes, true, Option, Some, None, Result, Ok, Err, refl, sym, subst, ◌∙◌, inl, inr}
+use Rattle.std.specs.Prelude.{IfOk, IsErr, IsErrAnd, Bool, [], drop, false, MatchOption, Box, codes, option_map}
+use Rattle.std.specs.List.{drop-map}
+use Rattle.std.proofs.Common.{◌-◌, length, take}
+use Rattle.std.proofs.lemmas.List.{take_rest}
 use Rattle.std.specs.Box.{box_value}
 use Rattle.std.specs.Str.Parse.{ParsesUnsigned}
-use Rattle.clap.specs.Words.{AddsSubcommand, App, app_of, shape_of, with_subcommand, HasKind, Row, Text, fault_of, first_of, is_simple, is_simple_and_free, kind_of, one_text, rows_of, subcommand_name_of, subcommand_rows, subcommand_rows_of, ReadsOne}
+use Rattle.clap.specs.Words.{AddsSubcommand, App, app_of, shape_of, with_subcommand, HasKind, IsAmong, Kinds, Row, Text, fault_of, first_of, is_simple, is_simple_and_free, kind_of, one_text, rows_of, subcommand_name_of, subcommand_of, subcommand_rows, subcommand_rows_of, ReadsOne}
 use Rattle.clap.specs.declared.builder.command.Command.{Command}
 use Rattle.clap.specs.declared.builder.command.Command.TheViews.{out-Command}
 use Rattle.clap.specs.declared.error.Error.{Error}
@@ -18,10 +21,13 @@ use Rattle.afdx_words.specs.declared.request.NoRequest.{NoRequest}
 use Rattle.afdx_words.specs.declared.request.NoRequest.TheVariants.{Help, Usage, Memory}
 use Rattle.afdx_words.specs.declared.request.Paths.{Paths}
 use Rattle.afdx_words.specs.declared.request.Inputs.{Inputs}
+use Rattle.afdx_words.specs.declared.request.NetworkRequest.{NetworkRequest}
 use Rattle.afdx_words.specs.declared.request.Request.{Request}
 use Rattle.afdx_words.specs.declared.request.Request.TheVariants as request
-use Rattle.afdx_words.specs.Commands.{alone_app, check_app, size_app, run_app, measure_app, trace_app, program}
-use Rattle.afdx_words.specs.Requests.{HasNumber, HasLink, HasPaths, HasInputs, AsksFor, Explains, Reads}
+use Rattle.afdx_words.specs.Commands.{alone_app, check_app, size_app, run_app, measure_app, trace_app, network_app, program}
+use Rattle.afdx_words.specs.Commands.{network_check_app, network_jitter_app, network_run_app, network_program}
+use Rattle.afdx_words.specs.Requests.{HasNumber, HasLink, HasPaths, HasInputs, AsksFor, AsksOfNetwork, AsksIn, Explains, Reads}
+use Rattle.afdx_words.specs.Requests.{is_network, fault_in, faults_of, HasMatches, HasNoMatches}
 
 pub simple : is_simple program ≡ true
 unfolding program alone_app check_app size_app run_app measure_app trace_app
@@ -30,6 +36,14 @@ simple = refl
 pub simple_and_free : is_simple_and_free program ≡ true
 unfolding program alone_app check_app size_app run_app measure_app trace_app
 simple_and_free = refl
+
+pub network_simple : is_simple network_program ≡ true
+unfolding network_program network_check_app network_jitter_app network_run_app
+network_simple = refl
+
+pub network_simple_and_free : is_simple_and_free network_program ≡ true
+unfolding network_program network_check_app network_jitter_app network_run_app
+network_simple_and_free = refl
 
 -- a text is one number, or none
 one_reading : {E : Type 0} (t : Text) (e : E) (n : ℕ) → ParsesUnsigned 64 10 t (Err e) → ParsesUnsigned {E = Unit {0}} 64 10 t (Ok n) → ⊥
@@ -90,6 +104,7 @@ module _ (sub : Option (Text × List Row)) (name : Text) (rows : List Row) (is :
     go (request.Run paths) h = other (codes "alone") (codes "run") (λ bad. omega (arith, bad)) named h.0
     go (request.Measure inputs) h = other (codes "alone") (codes "measure") (λ bad. omega (arith, bad)) named h.0
     go (request.Trace paths) h = other (codes "alone") (codes "trace") (λ bad. omega (arith, bad)) named h.0
+    go (request.Network r) h = h
 
   pub no_table : name ≡ codes "check" → None ≡ first_of (codes "TABLE") rows → (r : Request) → AsksFor sub r → ⊥
   no_table named none = asks_none go where
@@ -100,6 +115,7 @@ module _ (sub : Option (Text × List Row)) (name : Text) (rows : List Row) (is :
     go (request.Run paths) h = other (codes "check") (codes "run") (λ bad. omega (arith, bad)) named h.0
     go (request.Measure inputs) h = other (codes "check") (codes "measure") (λ bad. omega (arith, bad)) named h.0
     go (request.Trace paths) h = other (codes "check") (codes "trace") (λ bad. omega (arith, bad)) named h.0
+    go (request.Network r) h = h
 
   pub no_size : name ≡ codes "size" → None ≡ first_of (codes "TABLE") rows → (r : Request) → AsksFor sub r → ⊥
   no_size named none = asks_none go where
@@ -110,6 +126,7 @@ module _ (sub : Option (Text × List Row)) (name : Text) (rows : List Row) (is :
     go (request.Run paths) h = other (codes "size") (codes "run") (λ bad. omega (arith, bad)) named h.0
     go (request.Measure inputs) h = other (codes "size") (codes "measure") (λ bad. omega (arith, bad)) named h.0
     go (request.Trace paths) h = other (codes "size") (codes "trace") (λ bad. omega (arith, bad)) named h.0
+    go (request.Network r) h = h
 
   pub no_paths : name ≡ codes "run" → ((paths : Paths) → HasPaths rows paths → ⊥) → (r : Request) → AsksFor sub r → ⊥
   no_paths named none = asks_none go where
@@ -120,6 +137,7 @@ module _ (sub : Option (Text × List Row)) (name : Text) (rows : List Row) (is :
     go (request.Run paths) h = none paths h.1
     go (request.Measure inputs) h = other (codes "run") (codes "measure") (λ bad. omega (arith, bad)) named h.0
     go (request.Trace paths) h = other (codes "run") (codes "trace") (λ bad. omega (arith, bad)) named h.0
+    go (request.Network r) h = h
 
   pub no_inputs : name ≡ codes "measure" → ((inputs : Inputs) → HasInputs rows inputs → ⊥) → (r : Request) → AsksFor sub r → ⊥
   no_inputs named none = asks_none go where
@@ -130,6 +148,7 @@ module _ (sub : Option (Text × List Row)) (name : Text) (rows : List Row) (is :
     go (request.Run paths) h = other (codes "measure") (codes "run") (λ bad. omega (arith, bad)) named h.0
     go (request.Measure inputs) h = none inputs h.1
     go (request.Trace paths) h = other (codes "measure") (codes "trace") (λ bad. omega (arith, bad)) named h.0
+    go (request.Network r) h = h
 
   pub no_traced_paths : name ≡ codes "trace" → ((paths : Paths) → HasPaths rows paths → ⊥) → (r : Request) → AsksFor sub r → ⊥
   no_traced_paths named none = asks_none go where
@@ -140,6 +159,7 @@ module _ (sub : Option (Text × List Row)) (name : Text) (rows : List Row) (is :
     go (request.Run paths) h = other (codes "trace") (codes "run") (λ bad. omega (arith, bad)) named h.0
     go (request.Measure inputs) h = other (codes "trace") (codes "measure") (λ bad. omega (arith, bad)) named h.0
     go (request.Trace paths) h = none paths h.1
+    go (request.Network r) h = h
 
   pub no_command : (name ≡ codes "alone" → ⊥) → (name ≡ codes "check" → ⊥) → (name ≡ codes "size" → ⊥) → (name ≡ codes "run" → ⊥) → (name ≡ codes "measure" → ⊥) → (name ≡ codes "trace" → ⊥)
       → (r : Request) → AsksFor sub r → ⊥
@@ -151,15 +171,81 @@ module _ (sub : Option (Text × List Row)) (name : Text) (rows : List Row) (is :
     go (request.Run paths) h = run h.0
     go (request.Measure inputs) h = measure h.0
     go (request.Trace paths) h = trace h.0
+    go (request.Network r) h = h
 
 -- an error of `clap`
-pub refused : (words : List Text) (e : Error) (n : NoRequest) → HasKind (fault_of program words) e → Explains (kind_of e) n → Reads words (Err n)
-refused words e (Help text) (inl memory) (inl is) = absurd (let bad : OutOfMemory ≡ DisplayHelp = sym memory ∙ is in cc)
-refused words e (Help text) (inl memory) (inr is) = absurd (let bad : OutOfMemory ≡ DisplayVersion = sym memory ∙ is in cc)
-refused words e (Help text) (inr among) is = (kind_of e, among, is)
-refused words e Usage (inl memory) is = absurd (is.1 memory)
-refused words e Usage (inr among) is = inl (kind_of e, among, is.0)
-refused words e Memory h is = tt
+pub refused : (kinds : Kinds) (e : Error) (n : NoRequest) → HasKind kinds e → Explains (kind_of e) n → HasNoMatches kinds n
+refused kinds e (Help text) (inl memory) (inl is) = absurd (let bad : OutOfMemory ≡ DisplayHelp = sym memory ∙ is in cc)
+refused kinds e (Help text) (inl memory) (inr is) = absurd (let bad : OutOfMemory ≡ DisplayVersion = sym memory ∙ is in cc)
+refused kinds e (Help text) (inr among) is = (kind_of e, among, is)
+refused kinds e Usage (inl memory) is = absurd (is.1 memory)
+refused kinds e Usage (inr among) is = (kind_of e, among, is.0)
+refused kinds e Memory h is = tt
+
+-- ---- what one of the two programs makes of the words is what they are read as
+
+module _ (words : List Text) (b : Bool) (is : is_network words ≡ b) where
+  faults : faults_of words ≡ fault_in b words
+  faults = ap (λ (x : Bool). fault_in x words) is
+
+  pub asks_by : (r : Request) → fault_in b words ≡ [] → AsksIn b words r → Reads words (Ok r)
+  asks_by r none asks = (faults ∙ none, subst (λ (x : Bool). AsksIn x words r) (sym is) asks)
+
+  pub asks_nothing_by : fault_in b words ≡ [] → ((r : Request) → AsksIn b words r → ⊥) → Reads words (Err Usage)
+  asks_nothing_by none nothing = inr (faults ∙ none, λ r asks. nothing r (subst (λ (x : Bool). AsksIn x words r) is asks))
+
+  pub no_matches_by : (n : NoRequest) → HasNoMatches (fault_in b words) n → Reads words (Err n)
+  no_matches_by (Help text) h = (h.0, subst (λ (k : Kinds). IsAmong h.0 k) (sym faults) h.1, h.2)
+  no_matches_by Usage h = inl (h.0, subst (λ (k : Kinds). IsAmong h.0 k) (sym faults) h.1, h.2)
+  no_matches_by Memory h = tt
+
+-- where the words of networks ask for nothing, no request is asked for
+pub none_of_networks : (words : List Text) → ((r : NetworkRequest) → AsksOfNetwork (subcommand_of network_program (drop 1 words)) r → ⊥)
+    → (r : Request) → AsksIn true words r → ⊥
+none_of_networks words none (request.Network r) h = none r h
+none_of_networks words none (request.Alone link) h = h
+none_of_networks words none (request.Check path) h = h
+none_of_networks words none (request.Size path) h = h
+none_of_networks words none (request.Run paths) h = h
+none_of_networks words none (request.Measure inputs) h = h
+none_of_networks words none (request.Trace paths) h = h
+
+-- an error that a call returned
+pub reads_error : (words : List Text) (r : Result Request NoRequest) (n : NoRequest) → IsErr r × IsErrAnd r (λ x. x ≡ n) → Reads words (Err n) → Reads words r
+reads_error words (Ok x) n e h = absurd e.1
+reads_error words (Err x) n e h = subst (λ (m : NoRequest). Reads words (Err m)) (sym e.1) h
+
+-- the words of networks are those after the first
+module _ (words : List (String Global)) (c : Command) (app : app_of c ≡ network_program) (is : is_network (map string_bytes words) ≡ true) where
+  rest : List Text
+  rest = map string_bytes (take (length words - 1) (drop 1 words))
+
+  same : rest ≡ drop 1 (map string_bytes words)
+  unfolding rest
+  same = ap (map string_bytes) (take_rest words 1) ∙ sym (drop-map string_bytes 1 words)
+
+  kinds : fault_of (app_of c) rest ≡ fault_in true (map string_bytes words)
+  kinds = ap (λ (a : App). fault_of a rest) app ∙ ap (fault_of network_program) same
+
+  entry : subcommand_of (app_of c) rest ≡ subcommand_of network_program (drop 1 (map string_bytes words))
+  entry = ap (λ (a : App). subcommand_of a rest) app ∙ ap (subcommand_of network_program) same
+
+  pub network_without : (n : NoRequest) → HasNoMatches (fault_of (app_of c) (map string_bytes (take (length words - 1) (drop 1 words)))) n → Reads (map string_bytes words) (Err n)
+  unfolding rest
+  network_without n h = no_matches_by (map string_bytes words) true is n (subst (λ (k : Kinds). HasNoMatches k n) kinds h)
+
+  pub network_found : (sub : Option (Text × List Row)) (r : NetworkRequest) → HasMatches (app_of c) (map string_bytes (take (length words - 1) (drop 1 words))) sub → AsksOfNetwork sub r
+      → Reads (map string_bytes words) (Ok (request.Network r))
+  unfolding rest
+  network_found sub r found asks =
+      asks_by (map string_bytes words) true is (request.Network r) (sym kinds ∙ found.0) (subst (λ (x : Option (Text × List Row)). AsksOfNetwork x r) (found.1 ∙ entry) asks)
+
+  pub network_nothing : (sub : Option (Text × List Row)) → HasMatches (app_of c) (map string_bytes (take (length words - 1) (drop 1 words))) sub → ((r : NetworkRequest) → AsksOfNetwork sub r → ⊥)
+      → Reads (map string_bytes words) (Err Usage)
+  unfolding rest
+  network_nothing sub found nothing =
+      asks_nothing_by (map string_bytes words) true is (sym kinds ∙ found.0)
+      (none_of_networks (map string_bytes words) (λ r asks. nothing r (subst (λ (x : Option (Text × List Row)). AsksOfNetwork x r) (sym (found.1 ∙ entry)) asks)))
 
 -- ---- a command with one more subcommand
 

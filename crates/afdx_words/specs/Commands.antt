@@ -47,6 +47,10 @@ trace_app =
     with_rule (with_rule (with_rule (with_rule (new_app (codes "trace")) (path_rule (codes "TABLE"))) (path_rule (codes "IN"))) (path_rule (codes "OUT")))
     (flag_rule (codes "unchecked"))
 
+-- afdx network, whose own words are read by the program below
+abbrev pub network_app : App
+network_app = new_app (codes "network")
+
 -- afdx, which wants a subcommand and tells its version
 abbrev pub bare_program : App
 bare_program = on_top (λ s. record s { subcommand_required = true; has_version = true }) (new_app (codes "afdx"))
@@ -54,5 +58,28 @@ bare_program = on_top (λ s. record s { subcommand_required = true; has_version 
 unfoldable pub program : App
 program =
     with_subcommand
+    (with_subcommand
     (with_subcommand (with_subcommand (with_subcommand (with_subcommand (with_subcommand bare_program alone_app.top) check_app.top) size_app.top) run_app.top) measure_app.top)
-    trace_app.top
+    trace_app.top)
+    network_app.top
+
+-- ---- networks
+
+-- network check NET
+unfoldable pub network_check_app : App
+network_check_app = with_rule (new_app (codes "check")) (path_rule (codes "NET"))
+
+-- network jitter NET
+unfoldable pub network_jitter_app : App
+network_jitter_app = with_rule (new_app (codes "jitter")) (path_rule (codes "NET"))
+
+-- network run NET IN OUT
+unfoldable pub network_run_app : App
+network_run_app = with_rule (with_rule (with_rule (new_app (codes "run")) (path_rule (codes "NET"))) (path_rule (codes "IN"))) (path_rule (codes "OUT"))
+
+-- network, which wants a subcommand
+abbrev pub bare_network : App
+bare_network = on_top (λ s. record s { subcommand_required = true }) (new_app (codes "network"))
+
+unfoldable pub network_program : App
+network_program = with_subcommand (with_subcommand (with_subcommand bare_network network_check_app.top) network_jitter_app.top) network_run_app.top

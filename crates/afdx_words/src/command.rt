@@ -3,7 +3,7 @@
 ghost use Rattle.std.specs.Prelude.{◌≡◌, false, IfOk};
 ghost use Rattle.clap.specs.Words.{app_of, new_app, rule_of};
 ghost use Rattle.clap.specs.declared.builder.command.Command.TheViews.{out-Command};
-ghost use Rattle.afdx_words.specs.Commands.{number_rule, path_rule, flag_rule, alone_app, check_app, size_app, run_app, measure_app, trace_app, bare_program, program};
+ghost use Rattle.afdx_words.specs.Commands.{number_rule, path_rule, flag_rule, alone_app, check_app, size_app, run_app, measure_app, trace_app, network_app, bare_program, program};
 
 use clap::builder::ValueParser;
 use clap::{Arg, ArgAction, Command};
@@ -23,7 +23,7 @@ fn number_option<'a>(alloc: Global, name: &'a str, value: &'a str, about: &'a st
 }
 
 /// A required word in its place.
-fn path<'a>(alloc: Global, name: &'a str, about: &'a str) -> Arg<'a>
+pub(crate) fn path<'a>(alloc: Global, name: &'a str, about: &'a str) -> Arg<'a>
     ensures rule { rule_of result ≡ path_rule name.entry.now }
     ensures local { result.global ≡ false }
 {
@@ -104,11 +104,19 @@ links ask for, 5 memory or a device.
 
 Example: mkdir told && afdx trace table.toml in told";
 
+/// What the help of `network` says at its end. Its own commands are read by a program of their own.
+const NETWORK: &str = "Its commands are check, jitter and run: see afdx network --help.";
+
 /// What the program says of its version: its own number, and the kit that it is proved with.
 const VERSION: &str = "0.1.0\nrattle-kit-13b logic dac8208d650f15bf";
 
 /// A command without its words.
-fn wordless<'a>(alloc: Global, name: &'a str, about: &'a str, more: &'a str) -> Command<'a>
+pub(crate) fn wordless<'a>(
+    alloc: Global,
+    name: &'a str,
+    about: &'a str,
+    more: &'a str,
+) -> Command<'a>
     ensures app { app_of result ≡ new_app name.entry.now }
     ensures local { (out-Command result).has_globals ≡ false }
 {
@@ -211,6 +219,15 @@ fn trace<'a>(alloc: Global) -> Result<Command<'a>, AllocError>
         .arg(flag(alloc, "unchecked", "Runs a table whatever its load"))
 }
 
+/// What the program's help tells of the commands of networks.
+fn network<'a>(alloc: Global) -> Command<'a>
+    ensures app { app_of result ≡ network_app }
+    ensures local { (out-Command result).has_globals ≡ false }
+{
+    let about = "Checks and runs a network of switches";
+    wordless(alloc, "network", about, NETWORK)
+}
+
 /// The program without its commands.
 fn bare_program<'a>(alloc: Global) -> Command<'a>
     ensures { app_of result ≡ bare_program }
@@ -238,5 +255,6 @@ pub(crate) fn program<'a>(alloc: Global) -> Result<Command<'a>, AllocError>
         .subcommand(size)?
         .subcommand(run)?
         .subcommand(measure)?
-        .subcommand(trace)
+        .subcommand(trace)?
+        .subcommand(network(alloc))
 }

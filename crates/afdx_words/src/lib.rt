@@ -3,9 +3,11 @@
 
 mod command;
 mod link;
+mod network_command;
+mod network_words;
 mod request;
 mod words;
 
 pub use link::{Alone, GREATEST_SIZE, LEAST_SIZE};
-pub use request::{Inputs, NoRequest, Paths, Request};
+pub use request::{Inputs, NetworkPaths, NetworkRequest, NoRequest, Paths, Request};
 pub use words::parse;

@@ -26,6 +26,28 @@ pub struct Inputs<'a> {
     pub unchecked: bool,
 }
 
+/// The files of a run of a network, as they were written.
+#[derive(Clone, Copy, Debug, PartialEq, Eq)]
+pub struct NetworkPaths<'a> {
+    /// The network file.
+    pub network: &'a str,
+    /// The folder that has a folder of captures for each switch.
+    pub input: &'a str,
+    /// The folder that has one for each switch, into which its captures are put.
+    pub output: &'a str,
+}
+
+/// A command of networks with what it goes by.
+#[derive(Clone, Copy, Debug, PartialEq, Eq)]
+pub enum NetworkRequest<'a> {
+    /// The check of the network in this file.
+    Check(&'a str),
+    /// The jitters that the rows of the network in this file need.
+    Jitter(&'a str),
+    /// The network over captures.
+    Run(NetworkPaths<'a>),
+}
+
 /// A command with what it goes by.
 #[derive(Clone, Copy, Debug, PartialEq, Eq)]
 pub enum Request<'a> {
@@ -41,6 +63,8 @@ pub enum Request<'a> {
     Measure(Inputs<'a>),
     /// What became of each frame and of each copy of such a run.
     Trace(Paths<'a>),
+    /// A command of networks.
+    Network(NetworkRequest<'a>),
 }
 
 /// Why the words ask for no command.

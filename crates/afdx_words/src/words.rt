@@ -1,18 +1,21 @@
 //! From the words to what they ask for.
 
-ghost use Rattle.std.specs.Prelude.{◌≡◌, ℕ, map, option_map, string_bytes, MatchOption};
-ghost use Rattle.clap.specs.Words.{first_of, found_of, kind_of, rows_of, subcommand_rows_of};
+ghost use Rattle.std.specs.Prelude.{◌≡◌, ℕ, true, false, map, option_map, string_bytes, MatchOption, MatchResult};
+ghost use Rattle.clap.specs.Words.{app_of, fault_of, first_of, found_of, is_simple, is_simple_and_free, kind_of, rows_of, subcommand_rows_of};
 ghost use Rattle.afdx_words.specs.declared.link.Alone.{Alone as Link};
 ghost use Rattle.afdx_words.specs.declared.request.Paths.{Paths as Files};
 ghost use Rattle.afdx_words.specs.declared.request.Inputs.{Inputs as Given};
 ghost use Rattle.afdx_words.specs.declared.request.Request.{Request as Asked};
 ghost use Rattle.afdx_words.specs.Requests.{HasNumber, is_set, HasLink, HasPaths, HasInputs, AsksFor, Explains, Reads};
+ghost use Rattle.afdx_words.specs.Requests.{HasMatches, HasNoMatches, is_network};
 
 use crate::command::program;
 use crate::link::Alone;
+use crate::network_command::network_program;
+use crate::network_words::network_asked;
 use crate::request::{Inputs, NoRequest, Paths, Request};
 use clap::error::ErrorKind;
-use clap::{ArgMatches, Error};
+use clap::{ArgMatches, Command, Error};
 use std::alloc::Global;
 
 /// The number of an option.
@@ -24,7 +27,7 @@ fn number(matches: &ArgMatches<'_>, name: &str) -> Option<u64>
 }
 
 /// The word in a place.
-fn word<'a>(matches: &ArgMatches<'a>, name: &str) -> Option<&'a str>
+pub(crate) fn word<'a>(matches: &ArgMatches<'a>, name: &str) -> Option<&'a str>
     ensures { option_map (λ w. w.now) result ≡ first_of name.now (rows_of (found_of matches.now)) }
 {
     matches.get_str(name)
@@ -133,6 +136,64 @@ fn refusal(alloc: Global, error: &Error) -> NoRequest
     }
 }
 
+/// What `clap` finds in words, by this command.
+fn matches_of<'a>(
+    alloc: Global,
+    command: Command<'a>,
+    words: &'a [String],
+) -> Result<ArgMatches<'a>, NoRequest>
+    requires simple { is_simple (app_of command) ≡ true }
+    requires free { is_simple_and_free (app_of command) ≡ true }
+    ensures { MatchResult result
+        (λ m. HasMatches (app_of command.entry) (map string_bytes words.entry.now) (subcommand_rows_of m))
+        (λ n. HasNoMatches (fault_of (app_of command.entry) (map string_bytes words.entry.now)) n) }
+{
+    match command.try_get_matches_from(words) {
+        Ok(matches) => Ok(matches),
+        Err(error) => Err(refusal(alloc, &error)),
+    }
+}
+
+/// Whether the first word after the program's name is `network`.
+fn is_network(words: &[String]) -> bool
+    ensures { result ≡ is_network (map string_bytes words.now) }
+{
+    match words.get(1) {
+        Some(word) => word.as_str() == "network",
+        None => false,
+    }
+}
+
+/// What the words after `afdx` ask for, of which the first is `network`.
+fn parse_network<'a>(alloc: Global, words: &'a [String]) -> Result<Request<'a>, NoRequest>
+    requires { is_network (map string_bytes words.now) ≡ true }
+    ensures { Reads (map string_bytes words.entry.now) result }
+{
+    let Ok(command) = network_program(alloc) else {
+        return Err(NoRequest::Memory);
+    };
+    let matches = matches_of(alloc, command, &words[1..])?;
+    match network_asked(&matches) {
+        Some(request) => Ok(Request::Network(request)),
+        None => Err(NoRequest::Usage),
+    }
+}
+
+/// What words ask for that are of no network.
+fn parse_other<'a>(alloc: Global, words: &'a [String]) -> Result<Request<'a>, NoRequest>
+    requires { is_network (map string_bytes words.now) ≡ false }
+    ensures { Reads (map string_bytes words.entry.now) result }
+{
+    let Ok(command) = program(alloc) else {
+        return Err(NoRequest::Memory);
+    };
+    let matches = matches_of(alloc, command, words)?;
+    match asked(&matches) {
+        Some(request) => Ok(request),
+        None => Err(NoRequest::Usage),
+    }
+}
+
 /// What the words ask for, of which the first is the program's name.
 ///
 /// # Errors
@@ -142,14 +203,9 @@ fn refusal(alloc: Global, error: &Error) -> NoRequest
 pub fn parse<'a>(alloc: Global, words: &'a [String]) -> Result<Request<'a>, NoRequest>
     ensures { Reads (map string_bytes words.entry.now) result }
 {
-    let Ok(command) = program(alloc) else {
-        return Err(NoRequest::Memory);
-    };
-    match command.try_get_matches_from(words) {
-        Ok(matches) => match asked(&matches) {
-            Some(request) => Ok(request),
-            None => Err(NoRequest::Usage),
-        },
-        Err(error) => Err(refusal(alloc, &error)),
+    if is_network(words) {
+        parse_network(alloc, words)
+    } else {
+        parse_other(alloc, words)
     }
 }

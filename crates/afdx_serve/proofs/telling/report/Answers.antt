@@ -32,3 +32,6 @@ returns-in-Put-clause-told g c = rw c.in-Put.is (made (failure.Put c.in-Put.name
 
 pub returns-in-Load-clause-told : goal.returns-in-Load-clause-told
 returns-in-Load-clause-told g c = rw c.in-Load.is (made (failure.Load c.in-Load.fault) _ _ _ _ _ tt c.load_line.ensures refl c.tell_made-in-Load.ensures)
+
+pub returns-in-Network-clause-told : goal.returns-in-Network-clause-told
+returns-in-Network-clause-told g c = rw c.in-Network.is (made (failure.Network c.in-Network.refusal) _ _ _ _ _ tt c.network_failure_line.ensures c.network_status.ensures c.tell_made-in-Network.ensures)

@@ -1,0 +1,117 @@
+-- What stands in a list, and what is found there.
+use Rattle.std.proofs.Common.{◌≡◌, ℕ, zero, suc, ◌<◌, ◌==◌, Bool, true, false, cond, List, [], ◌∷◌, length, map, filter, find, get_or, slice_get, Some, option_map, refl, ap, sym, ◌∙◌, arith, subst}
+use Rattle.std.specs.Prelude.{All, Contains}
+use Rattle.std.specs.List.{AllByRecursion}
+use Rattle.std.proofs.lemmas.Bool.Decides.{nat_tests}
+use Rattle.std.proofs.lemmas.List.Elements.{All-from_recursion, recursion_from_All, All-contains}
+use Rattle.std.proofs.lemmas.Option.{slice_get-map}
+use Rattle.afdx_table.specs.declared.rows.PortRow.{PortRow}
+use Rattle.afdx_table.specs.Content.{Content, port_row}
+use Rattle.afdx_table.specs.WellFormed.{Rises, IsWellFormed}
+
+pub some_same : {X : Type 0} {a b : X} → Some a ≡ Some b → a ≡ b
+some_same h = cc
+
+pub same_number : (a b : ℕ) → a ≡ b → (a == b) ≡ true
+same_number a b e = grind (arith, nat_tests)
+
+pub equal : (a b : ℕ) → (a == b) ≡ true → a ≡ b
+equal a b e = grind (arith, nat_tests)
+
+pub above : (a b : ℕ) → a < b → (a == b) ≡ false
+above a b e = grind (arith, nat_tests)
+
+pub below : (a b : ℕ) → b < a → (a == b) ≡ false
+below a b e = grind (arith, nat_tests)
+
+-- ---- at a place
+
+pub get_map : {X Y : Type 0} (f : X → Y) (xs : List X) (n : ℕ) (x : X) → slice_get xs n ≡ Some x → slice_get (map f xs) n ≡ Some (f x)
+get_map f xs n x is = slice_get-map f xs n ∙ ap (option_map f) is
+
+-- what stands in a mapped list is made of what stands there
+pub got_map : {X Y : Type 0} (f : X → Y) (xs : List X) (n : ℕ) (y : Y) → slice_get (map f xs) n ≡ Some y → (x : X) × (slice_get xs n ≡ Some x) × (f x ≡ y)
+got_map f [] n y is = absurd cc
+got_map f (x ∷ xs) zero y is = (x, refl, some_same is)
+got_map f (x ∷ xs) (suc n) y is = got_map f xs n y is
+
+at_place : {X : Type 0} (P : X → Type 0) (xs : List X) (n : ℕ) (x : X) → AllByRecursion P xs → slice_get xs n ≡ Some x → P x
+at_place P [] n x all is = absurd cc
+at_place P (y ∷ xs) zero x all is = subst P (some_same is) all.0
+at_place P (y ∷ xs) (suc n) x all is = at_place P xs n x all.1 is
+
+pub all_at : {X : Type 0} (P : X → Type 0) (xs : List X) (n : ℕ) (x : X) → All P xs → slice_get xs n ≡ Some x → P x
+all_at P xs n x all is = at_place P xs n x (recursion_from_All P xs all) is
+
+-- ---- elements
+
+contains_head : {X : Type 0} (xs : List X) (x y : X) → y ≡ x → Contains (y ∷ xs) x
+contains_head xs x y is = (0, omega arith, is)
+
+contains_tail : {X : Type 0} (xs : List X) (x y : X) → Contains xs x → Contains (y ∷ xs) x
+contains_tail xs x y among = let within = among.1 in (suc among.0, omega (arith, within), among.2)
+
+pub contains_at : {X : Type 0} (xs : List X) (n : ℕ) (x : X) → slice_get xs n ≡ Some x → Contains xs x
+contains_at [] n x is = absurd cc
+contains_at (y ∷ xs) zero x is = contains_head xs x y (some_same is)
+contains_at (y ∷ xs) (suc n) x is = contains_tail xs x y (contains_at xs n x is)
+
+-- what holds of each element of a list, told of each element
+pub all_by : {X : Type 0} (P : X → Type 0) (xs : List X) → ((x : X) → Contains xs x → P x) → AllByRecursion P xs
+all_by P [] each = tt
+all_by P (x ∷ xs) each = (each x (contains_head xs x x refl), all_by P xs (λ y among. each y (contains_tail xs y x among)))
+
+pub of_all : {X : Type 0} (P : X → Type 0) (xs : List X) (x : X) → AllByRecursion P xs → Contains xs x → P x
+of_all P xs x all among = All-contains P xs x (All-from_recursion P xs all) among
+
+kept_at : {X : Type 0} (p : X → Bool) (xs : List X) (x : X) (k : ℕ) → k < length xs → get_or xs k x ≡ x → p x ≡ true → Contains (filter p xs) x
+kept_at p [] x k within at is = absurd (omega (arith, within))
+kept_at p (y ∷ ys) x zero within at is =
+    subst (λ b. Contains (cond b (y ∷ filter p ys) (filter p ys)) x) (sym (ap p at ∙ is)) (contains_head (filter p ys) x y at)
+kept_at p (y ∷ ys) x (suc k) within at is = by (kept_at p ys x k (omega (arith, within)) at is) (p y) where
+  by : Contains (filter p ys) x → (b : Bool) → Contains (cond b (y ∷ filter p ys) (filter p ys)) x
+  by rest true = contains_tail (filter p ys) x y rest
+  by rest false = rest
+
+pub contains_filter : {X : Type 0} (p : X → Bool) (xs : List X) (x : X) → Contains xs x → p x ≡ true → Contains (filter p xs) x
+contains_filter p xs x among is = kept_at p xs x among.0 among.1 among.2 is
+
+mapped_at : {X Y : Type 0} (f : X → Y) (xs : List X) (x : X) (k : ℕ) → k < length xs → get_or xs k x ≡ x → Contains (map f xs) (f x)
+mapped_at f [] x k within at = absurd (omega (arith, within))
+mapped_at f (y ∷ ys) x zero within at = contains_head (map f ys) (f x) (f y) (ap f at)
+mapped_at f (y ∷ ys) x (suc k) within at = contains_tail (map f ys) (f x) (f y) (mapped_at f ys x k (omega (arith, within)) at)
+
+pub contains_map : {X Y : Type 0} (f : X → Y) (xs : List X) (x : X) → Contains xs x → Contains (map f xs) (f x)
+contains_map f xs x among = mapped_at f xs x among.0 among.1 among.2
+
+-- an element of a mapped list is made of one
+pub map_contains : {X Y : Type 0} (f : X → Y) (xs : List X) (y : Y) → Contains (map f xs) y → (x : X) × Contains xs x × (f x ≡ y)
+map_contains {X = X} f xs y among = of_all (λ z. (x : X) × Contains xs x × (f x ≡ z)) (map f xs) y (each xs (λ x has. has)) among where
+  each : (ys : List X) → ((x : X) → Contains ys x → Contains xs x) → AllByRecursion (λ z. (x : X) × Contains xs x × (f x ≡ z)) (map f ys)
+  each [] within = tt
+  each (x ∷ ys) within = ((x, within x (contains_head ys x x refl), refl), each ys (λ z has. within z (contains_tail ys z x has)))
+
+-- what is found passes the test, and is there
+pub found_passes : {X : Type 0} (p : X → Bool) (xs : List X) (x : X) → find p xs ≡ Some x → (p x ≡ true) × Contains xs x
+found_passes p [] x is = absurd cc
+found_passes p (y ∷ ys) x is = by (found_passes p ys x) (p y) refl is where
+  by : (find p ys ≡ Some x → (p x ≡ true) × Contains ys x) → (b : Bool) → p y ≡ b → cond b (Some y) (find p ys) ≡ Some x → (p x ≡ true) × Contains (y ∷ ys) x
+  by rest true passes is = (subst (λ z. p z ≡ true) (some_same is) passes, contains_head ys x y (some_same is))
+  by rest false fails is = let there = rest is in (there.0, contains_tail ys x y there.1)
+
+-- ---- ports of a table
+
+port_found : (ports : List PortRow) (p : PortRow) → Rises ports → (k : ℕ) → k < length ports → get_or ports k p ≡ p → find (λ (q : PortRow). q.id == p.id) ports ≡ Some p
+port_found [] p rises k within at = absurd (omega (arith, within))
+port_found (q ∷ ports) p rises zero within at =
+    ap (λ b. cond b (Some q) (find (λ (other : PortRow). other.id == p.id) ports)) (same_number q.id p.id (ap (λ (other : PortRow). other.id) at)) ∙ ap Some at
+port_found (q ∷ ports) p rises (suc k) within at =
+    let less : q.id < p.id = of_all (λ (other : PortRow). q.id < other.id) ports p rises.0 (k, omega (arith, within), at) in
+    ap (λ b. cond b (Some q) (find (λ (other : PortRow). other.id == p.id) ports)) (above q.id p.id less) ∙ port_found ports p rises.1 k (omega (arith, within)) at
+
+pub ports_are_found : (t : Content) (p : PortRow) → IsWellFormed t → Contains t.ports p → port_row t p.id ≡ Some p
+ports_are_found t p formed among = port_found t.ports p formed.ports_rise among.0 among.1 among.2
+
+-- ports of one number are one
+pub one_port : (t : Content) (p q : PortRow) → IsWellFormed t → Contains t.ports p → Contains t.ports q → p.id ≡ q.id → p ≡ q
+one_port t p q formed here there same = some_same (sym (ports_are_found t p formed here) ∙ ap (port_row t) same ∙ ports_are_found t q formed there)

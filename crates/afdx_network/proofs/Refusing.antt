@@ -1,0 +1,77 @@
+-- Why there is no run.
+use Rattle.std.proofs.Common.{◌≡◌, ◌⊎◌, ◌↔◌, ℕ, zero, suc, ◌<◌, Bool, List, [], ◌∷◌, length, slice_get, take, Some, ap, sym, ◌∙◌, inl, inr, subst, arith}
+use Rattle.std.specs.Prelude.{All, IsTrue}
+use Rattle.std.proofs.lemmas.Option.{slice_get_within}
+use Rattle.std.proofs.lemmas.List.Elements.{All-head, All-tail}
+use Rattle.afdx_pcap.specs.declared.fault.PcapFault.{PcapFault}
+use Rattle.afdx_pcap.specs.Fault.{IsFault}
+use Rattle.afdx_table.specs.Content.{Content}
+use Rattle.afdx_session.specs.Texts.{Text}
+use Rattle.afdx_session.specs.Reading.{IsSound, IsFirstFault}
+use Rattle.afdx_wiring.specs.Net.{Network}
+use Rattle.afdx_network.specs.declared.fault.NetworkRunFault.{NetworkRunFault}
+use Rattle.afdx_network.specs.declared.fault.NetworkRunFault.TheVariants as fault
+use Rattle.afdx_network.specs.Runs.{Given}
+use Rattle.afdx_network.specs.Given.{AreOpen, IsGivenAt, AreGiven, AreSound, IsFirstUngiven, IsFirstUnsound, IsRefusal, IsTextFault, IsGivenFault, IsWireFault}
+use Rattle.afdx_network.proofs.Found.{some_same}
+
+-- ---- what is given for a switch
+
+pub given_where_open : (net : Network) (given : Given) (switch : ℕ) (t : Content) (texts : List Text) (b : Bool) → slice_get net.tables switch ≡ Some t
+    → slice_get given switch ≡ Some texts → (IsTrue b ↔ AreOpen net switch t texts) → (IsTrue b ↔ IsGivenAt net given switch)
+given_where_open net given switch t texts b at texts_at is = (
+  λ h. record { table = t; texts = texts; table_is = at; texts_is = texts_at; of_open = is.0 h },
+  λ it. is.1 (subst (λ (c : Content). AreOpen net switch c texts) (some_same (sym it.table_is ∙ at))
+      (subst (λ (ts : List Text). AreOpen net switch it.table ts) (some_same (sym it.texts_is ∙ texts_at)) it.of_open)),
+)
+
+pub first_ungiven : (net : Network) (given : Given) (switch : ℕ) → ((n : ℕ) → n < switch → IsGivenAt net given n) → switch < length net.tables
+    → (IsGivenAt net given switch → ⊥) → IsFirstUngiven net given switch
+first_ungiven net given switch before within here = record { before = before; here = here; one = λ same. within }
+
+pub too_many : (net : Network) (given : Given) (switches : ℕ) → ((n : ℕ) → n < switches → IsGivenAt net given n) → switches ≡ length net.tables
+    → (length given ≡ switches → ⊥) → IsFirstUngiven net given switches
+too_many net given switches before all more = record {
+  before = before;
+  here = λ it. let within = slice_get_within net.tables switches it.table it.table_is in omega (arith, within, all);
+  one = λ same. absurd (more (same ∙ sym all));
+}
+
+-- ---- the first given text that is no capture
+
+pub first_fault : (texts : List Text) (k : ℕ) (text : Text) (why : PcapFault) → slice_get texts k ≡ Some text → All IsSound (take k texts) → IsFault text.1 why
+    → IsFirstFault texts text.0 why
+first_fault [] k text why at sound broken = absurd cc
+first_fault (x ∷ texts) zero text why at sound broken =
+    let same : text ≡ x = cc in
+    inl (ap (λ (y : Text). y.0) (sym same), subst (λ (y : Text). IsFault y.1 why) same broken)
+first_fault (x ∷ texts) (suc k) text why at sound broken =
+    inr (All-head IsSound x (take k texts) sound, first_fault texts k text why at (All-tail IsSound x (take k texts) sound) broken)
+
+pub given_fault : (given : Given) (switch : ℕ) (texts : List Text) (why : NetworkRunFault) → slice_get given switch ≡ Some texts → All (All IsSound) (take switch given)
+    → IsTextFault switch texts why → IsGivenFault given why
+given_fault given switch texts fault.Memory at before broken = tt
+given_fault given switch texts (fault.WrongPorts n) at before broken = absurd broken
+given_fault given switch texts (fault.Capture n port why) at before broken =
+    subst (λ m. IsFirstUnsound given m port why) (sym broken.0) (record { texts = texts; texts_is = at; before = before; first = broken.1 })
+given_fault given switch texts fault.Unsettled at before broken = absurd broken
+
+-- ---- refusals of a run
+
+pub refused_given : (net : Network) (given : Given) (why : NetworkRunFault) → AreGiven net given → IsGivenFault given why → IsRefusal net given why
+refused_given net given fault.Memory are broken = are
+refused_given net given (fault.WrongPorts switch) are broken = absurd broken
+refused_given net given (fault.Capture switch port why) are broken = (are, inl broken)
+refused_given net given fault.Unsettled are broken = absurd broken
+
+pub refused_wire : (net : Network) (given : Given) (why : NetworkRunFault) → AreGiven net given → AreSound given → IsWireFault net why → IsRefusal net given why
+refused_wire net given fault.Memory are sound broken = are
+refused_wire net given (fault.WrongPorts switch) are sound broken = absurd broken
+refused_wire net given (fault.Capture switch port why) are sound broken = (are, inr (sound, broken))
+refused_wire net given fault.Unsettled are sound broken = absurd broken
+
+pub refused_ports : (net : Network) (given : Given) (why : NetworkRunFault) (switch : ℕ) → why ≡ fault.WrongPorts switch → IsFirstUngiven net given switch → IsRefusal net given why
+refused_ports net given why switch is first = subst (IsRefusal net given) (sym is) first
+
+pub refused_memory : (net : Network) (given : Given) (why : NetworkRunFault) → why ≡ fault.Memory → AreGiven net given → IsRefusal net given why
+refused_memory net given why is are = subst (IsRefusal net given) (sym is) are

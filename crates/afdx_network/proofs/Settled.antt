@@ -1,0 +1,96 @@
+-- Where each switch has run over what came in, and each wire brings what came in at its end, that is a run of the network.
+use Rattle.std.proofs.Common.{◌≡◌, ℕ, suc, List, [], ◌∷◌, length, map, slice_get, Some, None, refl, ap, sym, ◌∙◌, subst, arith}
+use Rattle.std.specs.Prelude.{All, Contains}
+use Rattle.std.proofs.lemmas.List.Elements.{All-contains}
+use Rattle.afdx_pcap.specs.Text.{capture_text}
+use Rattle.afdx_table.specs.Content.{Content}
+use Rattle.afdx_session.specs.Texts.{Text}
+use Rattle.afdx_session.specs.Outcome.{Results, IsOutcome}
+use Rattle.afdx_session.specs.Headline.{IsIsolated}
+use Rattle.afdx_wiring.specs.declared.layout.Wire.{Wire}
+use Rattle.afdx_wiring.specs.declared.layout.End.{End}
+use Rattle.afdx_wiring.specs.Net.{Network, wire_to}
+use Rattle.afdx_network.specs.Runs.{Given, Brings, IsGiven, IsFedBy, AreRuns, IsRunOf}
+use Rattle.afdx_network.specs.Sites.{Site, LeadsTo, IsSite, AreSites, Agrees}
+use Rattle.afdx_network.proofs.Found.{some_same, get_map, got_map}
+use Rattle.afdx_network.proofs.Rest.{rest_is_agreement}
+
+abbrev pub cames : List Site → List (List Text)
+cames sites = map (λ s. s.came) sites
+
+-- the results of sites that have run
+abbrev pub HaveLed : List Site → List Results → Type 0
+HaveLed sites left = map Some left ≡ map (λ s. s.outcome) sites
+
+-- ---- each switch has run
+
+record Ran (tables : List Content) (n : ℕ) (s : Site) : Type 0 where
+  pub table : Content
+  pub table_is : slice_get tables n ≡ Some table
+  pub ran : (results : Results) → s.outcome ≡ Some results → LeadsTo table s.came results
+
+later : (t : Content) (tables : List Content) (n : ℕ) (s : Site) → Ran (t ∷ tables) (suc n) s → Ran tables n s
+later t tables n s ran = record { table = ran.table; table_is = ran.table_is; ran = ran.ran }
+
+first : (t : Content) (tables : List Content) (s : Site) (results : Results) → Ran (t ∷ tables) 0 s → s.outcome ≡ Some results → IsOutcome t s.came results × IsIsolated t s.came results
+first t tables s results ran is =
+    let led : LeadsTo t s.came results = subst (λ (c : Content). LeadsTo c s.came results) (some_same (sym ran.table_is)) (ran.ran results is) in
+    (led.outcome, led.isolated)
+
+runs : (tables : List Content) (sites : List Site) (left : List Results) → length sites ≡ length tables
+    → ((n : ℕ) (s : Site) → slice_get sites n ≡ Some s → Ran tables n s) → HaveLed sites left → AreRuns tables (cames sites) left
+runs [] [] [] all each led = tt
+runs [] [] (r ∷ left) all each led = absurd cc
+runs [] (s ∷ sites) left all each led = absurd (omega (arith, all))
+runs (t ∷ tables) [] left all each led = absurd (omega (arith, all))
+runs (t ∷ tables) (s ∷ sites) [] all each led = absurd cc
+runs (t ∷ tables) (s ∷ sites) (r ∷ left) all each led =
+    let here : s.outcome ≡ Some r = cc in
+    let others : HaveLed sites left = cc in
+    let one = first t tables s r (each 0 s refl) here in
+    (one.0, one.1, runs tables sites left (omega (arith, all)) (λ n u is. later t tables n u (each (suc n) u is)) others)
+
+-- ---- the wires agree
+
+result_there : (sites : List Site) (left : List Results) (n : ℕ) (s : Site) (r : Results) → HaveLed sites left → slice_get sites n ≡ Some s → s.outcome ≡ Some r → slice_get left n ≡ Some r
+result_there sites left n s r led at is =
+    let there = got_map Some left n (Some r) (ap (λ outcomes. slice_get outcomes n) led ∙ get_map (λ (u : Site). u.outcome) sites n s at ∙ ap Some is) in
+    there.1 ∙ there.2
+
+brings : (sites : List Site) (left : List Results) (w : Wire) → HaveLed sites left → Agrees sites w → Brings left (cames sites) w
+brings sites left w led agrees =
+    let over = agrees.brought in
+    record {
+      here = over.left.results;
+      there = agrees.there.came;
+      bytes = over.bytes;
+      records = over.records;
+      here_is = result_there sites left w.from.switch over.here over.left.results led over.here_is over.left.ran;
+      there_is = get_map (λ (u : Site). u.came) sites w.to.switch agrees.there agrees.there_is;
+      written = over.left.written;
+      read = over.read;
+      comes = subst (λ (text : List ℕ). Contains agrees.there.came (w.to.port, text)) over.text_is agrees.comes;
+    }
+
+given_there : (net : Network) (given : Given) (sites : List Site) → AreSites net given sites → (e : End) (texts : List Text) (text : Text)
+    → wire_to net e ≡ None → slice_get (cames sites) e.switch ≡ Some texts → text.0 ≡ e.port → Contains texts text → IsGiven given e.switch text
+given_there net given sites are e texts text unwired at number among =
+    let found = got_map (λ (u : Site). u.came) sites e.switch texts at in
+    let site = are.each e.switch found.0 found.1 in
+    let open_there : wire_to net (record { switch = e.switch; port = text.0 }) ≡ None = ap (λ (n : ℕ). wire_to net (record { switch = e.switch; port = n })) number ∙ unwired in
+    record {
+      texts = site.own;
+      texts_is = site.own_is;
+      has = site.comes.others text open_there (subst (λ (ts : List Text). Contains ts text) (sym found.2) among);
+    }
+
+pub settled : (net : Network) (given : Given) (sites : List Site) (left : List Results) → AreSites net given sites → All (Agrees sites) net.layout.wires → HaveLed sites left
+    → IsRunOf net given (cames sites) left
+settled net given sites left are agree led =
+    rest_is_agreement net given (cames sites) (cames sites) left
+    (runs net.tables sites left are.all (λ n s is. let site = are.each n s is in record { table = site.table; table_is = site.table_is; ran = site.ran }) led)
+    (record {
+      wires = λ w among. brings sites left w led (All-contains (Agrees sites) net.layout.wires w agree among);
+      others = given_there net given sites are;
+    })
+    refl

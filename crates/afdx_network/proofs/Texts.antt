@@ -1,0 +1,111 @@
+-- The texts of a run: what was written at a port, and what was read at one.
+use Rattle.std.proofs.Common.{◌≡◌, ℕ, zero, suc, ◌+◌, ◌<◌, ◌≤◌, ◌==◌, List, [], ◌∷◌, ◌++◌, length, map, get_or, drop, refl, ap, sym, ◌∙◌, arith, subst, cond, Bool, true, false, append-nil}
+use Rattle.std.specs.Prelude.{Contains}
+use Rattle.std.specs.List.{AllByRecursion}
+use Rattle.afdx_units.specs.Time.{last_second}
+use Rattle.afdx_pcap.specs.declared.format.Format.{Format}
+use Rattle.afdx_pcap.specs.declared.format.Head.{Head}
+use Rattle.afdx_pcap.specs.declared.format.Resolution.{Resolution}
+use Rattle.afdx_pcap.specs.declared.format.Resolution.TheVariants.{Micros, Nanos}
+use Rattle.afdx_pcap.specs.Entry.{Entry}
+use Rattle.afdx_pcap.specs.Text.{capture_text}
+use Rattle.afdx_pcap.specs.Capture.{IsCapture, Splits, after, parts, head_of, stamp_of}
+use Rattle.afdx_table.specs.declared.rows.PortRow.{PortRow}
+use Rattle.afdx_table.specs.Content.{Content}
+use Rattle.afdx_table.specs.WellFormed.{Rises, IsWellFormed}
+use Rattle.afdx_core.specs.Merge.{Capture, records_of}
+use Rattle.afdx_session.specs.Texts.{Text, AreOfPorts}
+use Rattle.afdx_session.specs.Reading.{AreCaptures}
+use Rattle.afdx_network.proofs.Lists.{all_map, all_unmap, all_append}
+use Rattle.afdx_network.proofs.Found.{above, below, same_number, of_all, map_contains, one_port}
+use Rattle.afdx_network.proofs.Crossing.{heads, tails}
+
+-- ---- what was written
+
+abbrev text_by : (PortRow → List Entry) → PortRow → Text
+text_by out p = (p.id, capture_text (out p))
+
+pub written_at : (t : Content) (out : PortRow → List Entry) (captures : List Text) (p : PortRow) (bytes : List ℕ) → IsWellFormed t
+    → captures ≡ map (λ q. (q.id, capture_text (out q))) t.ports → Contains t.ports p → Contains captures (p.id, bytes) → bytes ≡ capture_text (out p)
+written_at t out captures p bytes formed are here among =
+    let h = map_contains (text_by out) t.ports (p.id, bytes) (subst (λ (texts : List Text). Contains texts (p.id, bytes)) are among) in
+    let same : h.0 ≡ p = one_port t h.0 p formed h.1 here (ap (λ (text : Text). text.0) h.2) in
+    sym (ap (λ (text : Text). text.1) h.2) ∙ ap (λ (q : PortRow). capture_text (out q)) same
+
+-- ---- what was read
+
+-- the numbers of texts rise
+abbrev pub NumbersRise : List Text → Type 0
+NumbersRise [] = Unit {0}
+NumbersRise (text ∷ texts) = AllByRecursion (λ (later : Text). text.0 < later.0) texts × NumbersRise texts
+
+as_ports : (texts : List Text) (ports : List PortRow) → map (λ (text : Text). text.0) texts ≡ map (λ (p : PortRow). p.id) ports → Rises ports → NumbersRise texts
+as_ports [] ports same rises = tt
+as_ports (text ∷ texts) [] same rises = absurd cc
+as_ports (text ∷ texts) (p ∷ ports) same rises =
+    let first : p.id ≡ text.0 = sym (heads same) in
+    let numbers = all_map (λ (n : ℕ). p.id < n) (λ (q : PortRow). q.id) ports rises.0 in
+    let later = all_unmap (λ (n : ℕ). p.id < n) (λ (other : Text). other.0) texts (subst (AllByRecursion (λ (n : ℕ). p.id < n)) (sym (tails same)) numbers) in
+    (subst (λ (n : ℕ). AllByRecursion (λ (other : Text). n < other.0) texts) first later, as_ports texts ports (tails same) rises.1)
+
+pub numbers_rise : (t : Content) (texts : List Text) → IsWellFormed t → AreOfPorts t texts → NumbersRise texts
+numbers_rise t texts formed are = as_ports texts t.ports are formed.ports_rise
+
+none_before : (texts : List Text) (read : List Capture) (port : ℕ) → AreCaptures texts read → AllByRecursion (λ (text : Text). port < text.0) texts → records_of read port ≡ []
+none_before [] [] port are above_all = refl
+none_before [] (c ∷ read) port are above_all = absurd are
+none_before (text ∷ texts) [] port are above_all = absurd are
+none_before (text ∷ texts) (c ∷ read) port are above_all =
+    let other : (c.port == port) ≡ false = below c.port port (subst (λ (n : ℕ). port < n) (sym are.0) above_all.0) in
+    ap (λ b. cond b c.records [] ++ records_of read port) other ∙ none_before texts read port are.2 above_all.1
+
+pub record IsReadAt (read : List Capture) (port : ℕ) (bytes : List ℕ) : Type 0 where
+  pub records : List Entry
+  pub capture : IsCapture bytes records
+  pub all : records_of read port ≡ records
+
+at_place : (texts : List Text) (read : List Capture) (port : ℕ) (bytes : List ℕ) → AreCaptures texts read → NumbersRise texts
+    → (k : ℕ) → k < length texts → get_or texts k (port, bytes) ≡ (port, bytes) → IsReadAt read port bytes
+at_place [] read port bytes are rise k within at = absurd (omega (arith, within))
+at_place (text ∷ texts) [] port bytes are rise k within at = absurd are
+at_place (text ∷ texts) (c ∷ read) port bytes are rise zero within at =
+    let number : text.0 ≡ port = ap (λ (x : Text). x.0) at in
+    let later : AllByRecursion (λ (other : Text). port < other.0) texts = subst (λ (n : ℕ). AllByRecursion (λ (other : Text). n < other.0) texts) number rise.0 in
+    record {
+      records = c.records;
+      capture = subst (λ (b : List ℕ). IsCapture b c.records) (ap (λ (x : Text). x.1) at) are.1;
+      all = ap (λ b. cond b c.records [] ++ records_of read port) (same_number c.port port (are.0 ∙ number))
+          ∙ ap (λ (rest : List Entry). c.records ++ rest) (none_before texts read port are.2 later) ∙ append-nil c.records;
+    }
+at_place (text ∷ texts) (c ∷ read) port bytes are rise (suc k) within at =
+    let less : text.0 < port = of_all (λ (other : Text). text.0 < other.0) texts (port, bytes) rise.0 (k, omega (arith, within), at) in
+    let rest = at_place texts read port bytes are.2 rise.1 k (omega (arith, within)) at in
+    let other : (c.port == port) ≡ false = above c.port port (subst (λ (n : ℕ). n < port) (sym are.0) less) in
+    record { records = rest.records; capture = rest.capture; all = ap (λ b. cond b c.records [] ++ records_of read port) other ∙ rest.all }
+
+pub read_at : (texts : List Text) (read : List Capture) (port : ℕ) (bytes : List ℕ) → AreCaptures texts read → NumbersRise texts → Contains texts (port, bytes) → IsReadAt read port bytes
+read_at texts read port bytes are rise among = at_place texts read port bytes are rise among.0 among.1 among.2
+
+-- ---- records that were read are early
+
+stamp_early : (resolution : Resolution) (h : Head) → h.seconds ≤ 4294967294 → h.fraction < parts resolution → stamp_of resolution h < last_second
+stamp_early Micros h seconds fraction = omega (arith, seconds, fraction)
+stamp_early Nanos h seconds fraction = omega (arith, seconds, fraction)
+
+splits_early : (f : Format) (last : ℕ) (bytes : List ℕ) (rs : List Entry) (rest : List ℕ) → Splits f last bytes rs rest → AllByRecursion (λ (r : Entry). r.stamp < last_second) rs
+splits_early f last bytes [] rest splits = tt
+splits_early f last bytes (r ∷ rs) rest splits =
+    let b = splits.0 in (
+      subst (λ (n : ℕ). n < last_second) (sym b.stamp) (stamp_early f.resolution (head_of f.endian bytes) b.not_late b.fraction),
+      splits_early f r.stamp (after r bytes) rs rest splits.1,
+    )
+
+pub read_early : (texts : List Text) (read : List Capture) (port : ℕ) → AreCaptures texts read → AllByRecursion (λ (r : Entry). r.stamp < last_second) (records_of read port)
+read_early [] [] port are = tt
+read_early [] (c ∷ read) port are = absurd are
+read_early (text ∷ texts) [] port are = absurd are
+read_early (text ∷ texts) (c ∷ read) port are =
+    all_append (λ (r : Entry). r.stamp < last_second) (cond (c.port == port) c.records []) (records_of read port) (by (c.port == port)) (read_early texts read port are.2) where
+      by : (b : Bool) → AllByRecursion (λ (r : Entry). r.stamp < last_second) (cond b c.records [])
+      by true = splits_early are.1.format 0 (drop 24 text.1) c.records [] are.1.records
+      by false = tt

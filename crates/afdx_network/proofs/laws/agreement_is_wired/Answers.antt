@@ -1,0 +1,5 @@
+use Rattle.afdx_network.proofs.Agreement.{agreement_is_wired}
+use Rattle.afdx_network.proofs.laws.agreement_is_wired.Goals as goal
+
+pub returns : goal.returns
+returns c = agreement_is_wired (record { exact = c.clean_exactly.ensures; links = c.links_are_found.ensures; back = c.written_texts_read_back.ensures })

@@ -1,0 +1,102 @@
+-- What is given for a run of a network, and why there is no run.
+use Rattle.std.specs.Prelude.{◌≡◌, ℕ, ◌<◌, Bool, not, List, length, map, filter, take, slice_get, Vec, is_some, Some, All, ◌⊎◌}
+use Rattle.afdx_pcap.specs.declared.fault.PcapFault.{PcapFault}
+use Rattle.afdx_table.specs.Content.{Content}
+use Rattle.afdx_session.specs.declared.plan.RunFault.{RunFault}
+use Rattle.afdx_session.specs.declared.plan.RunFault.TheVariants as run
+use Rattle.afdx_session.specs.Texts.{Text, texts_of}
+use Rattle.afdx_session.specs.Reading.{IsSound, IsFirstFault}
+use Rattle.afdx_wiring.specs.declared.layout.Wire.{Wire}
+use Rattle.afdx_wiring.specs.Net.{Network, wire_to}
+use Rattle.afdx_network.specs.declared.fault.NetworkRunFault.{NetworkRunFault}
+use Rattle.afdx_network.specs.declared.fault.NetworkRunFault.TheVariants as fault
+use Rattle.afdx_network.specs.Runs.{Given}
+
+-- the texts of each switch, as they are held
+abbrev pub given_of : {Y Z : Type 0} → List (Vec (ℕ × Vec ℕ Z) Y) → Given
+given_of given = map (λ texts. texts_of texts.items) given
+
+-- ---- what has to be given
+
+-- no wire goes to the port
+abbrev pub is_open : Network → ℕ → ℕ → Bool
+is_open net switch port = not (is_some (wire_to net (record { switch = switch; port = port })))
+
+-- profile: an end system's capture for each port of the switch to which no wire goes, by rising number, and no other
+abbrev pub AreOpen : Network → ℕ → Content → List Text → Type 0
+AreOpen net switch t texts = map (λ text. text.0) texts ≡ filter (is_open net switch) (map (λ p. p.id) t.ports)
+
+pub record IsGivenAt (net : Network) (given : Given) (switch : ℕ) : Type 0 where
+  pub table : Content
+  pub texts : List Text
+  pub table_is : slice_get net.tables switch ≡ Some table
+  pub texts_is : slice_get given switch ≡ Some texts
+  pub of_open : AreOpen net switch table texts
+
+-- for each switch, and for no other
+pub record AreGiven (net : Network) (given : Given) : Type 0 where
+  pub each : (switch : ℕ) → switch < length net.tables → IsGivenAt net given switch
+  pub no_more : length given ≡ length net.tables
+
+-- each is a capture
+abbrev pub AreSound : Given → Type 0
+AreSound given = All (All IsSound) given
+
+-- ---- refusals
+
+-- the first switch for which something else is given; the one after the last, where more is given
+pub record IsFirstUngiven (net : Network) (given : Given) (switch : ℕ) : Type 0 where
+  pub before : (n : ℕ) → n < switch → IsGivenAt net given n
+  pub here : IsGivenAt net given switch → ⊥
+  pub one : length given ≡ length net.tables → switch < length net.tables
+
+-- the first given text that is no capture, by switch and then by port, and its first fault
+pub record IsFirstUnsound (given : Given) (switch port : ℕ) (why : PcapFault) : Type 0 where
+  pub texts : List Text
+  pub texts_is : slice_get given switch ≡ Some texts
+  pub before : All (All IsSound) (take switch given)
+  pub first : IsFirstFault texts port why
+
+-- a wire goes to the port
+pub record IsWired (net : Network) (switch port : ℕ) : Type 0 where
+  pub wire : Wire
+  pub wire_is : wire_to net (record { switch = switch; port = port }) ≡ Some wire
+
+-- why there is no run: what is given is not for the ports without a wire; a given text is no capture, or all are and what comes over
+-- a wire is none; the wires do not agree. A growth may be refused at any time after the first
+abbrev pub IsRefusal : Network → Given → NetworkRunFault → Type 0
+IsRefusal net given fault.Memory = AreGiven net given
+IsRefusal net given (fault.WrongPorts switch) = IsFirstUngiven net given switch
+IsRefusal net given (fault.Capture switch port why) = AreGiven net given × (IsFirstUnsound given switch port why ⊎ (AreSound given × IsWired net switch port))
+IsRefusal net given fault.Unsettled = AreGiven net given × AreSound given
+
+-- ---- refusals on the way
+
+-- what stops the reading of what is given for a switch
+abbrev pub IsTextFault : ℕ → List Text → NetworkRunFault → Type 0
+IsTextFault switch texts fault.Memory = Unit {0}
+IsTextFault switch texts (fault.WrongPorts at) = ⊥
+IsTextFault switch texts (fault.Capture at port why) = (at ≡ switch) × IsFirstFault texts port why
+IsTextFault switch texts fault.Unsettled = ⊥
+
+-- and of what is given for all
+abbrev pub IsGivenFault : Given → NetworkRunFault → Type 0
+IsGivenFault given fault.Memory = Unit {0}
+IsGivenFault given (fault.WrongPorts at) = ⊥
+IsGivenFault given (fault.Capture switch port why) = IsFirstUnsound given switch port why
+IsGivenFault given fault.Unsettled = ⊥
+
+-- what stops a round
+abbrev pub IsWireFault : Network → NetworkRunFault → Type 0
+IsWireFault net fault.Memory = Unit {0}
+IsWireFault net (fault.WrongPorts switch) = ⊥
+IsWireFault net (fault.Capture switch port why) = IsWired net switch port
+IsWireFault net fault.Unsettled = ⊥
+
+-- the fault of a switch's run
+abbrev pub fault_of : ℕ → RunFault → NetworkRunFault
+fault_of switch run.Memory = fault.Memory
+fault_of switch (run.Capture port why) = fault.Capture switch port why
+fault_of switch run.WrongPorts = fault.WrongPorts switch
+fault_of switch run.Closed = fault.WrongPorts switch
+fault_of switch run.Failed = fault.WrongPorts switch

@@ -1,0 +1,67 @@
+-- A run of a network: each switch's run over captures that agree with the wires.
+use Rattle.std.specs.Prelude.{◌≡◌, ℕ, List, [], ◌∷◌, map, slice_get, Contains, Some, None}
+use Rattle.afdx_pcap.specs.Entry.{Entry}
+use Rattle.afdx_pcap.specs.Text.{capture_text}
+use Rattle.afdx_pcap.specs.Capture.{IsCapture}
+use Rattle.afdx_table.specs.Content.{Content}
+use Rattle.afdx_session.specs.Texts.{Text}
+use Rattle.afdx_session.specs.Outcome.{Results, IsOutcome}
+use Rattle.afdx_session.specs.Headline.{IsIsolated}
+use Rattle.afdx_wiring.specs.declared.layout.Wire.{Wire}
+use Rattle.afdx_wiring.specs.declared.layout.End.{End}
+use Rattle.afdx_wiring.specs.Net.{Network, wire_to}
+use Rattle.afdx_network.specs.Way.{delayed}
+
+-- a switch's run: its table, the texts that came in, what they led to, and the headline of it
+pub record SwitchRun : Type 0 where
+  pub table : Content
+  pub texts : List Text
+  pub results : Results
+  pub outcome : IsOutcome table texts results
+  pub isolated : IsIsolated table texts results
+
+-- what left at the start of a wire, as the capture there tells it, comes in at the wire's end, so much later
+pub record Brings (left : List Results) (came : List (List Text)) (w : Wire) : Type 0 where
+  pub here : Results
+  pub there : List Text
+  pub bytes : List ℕ
+  pub records : List Entry
+  pub here_is : slice_get left w.from.switch ≡ Some here
+  pub there_is : slice_get came w.to.switch ≡ Some there
+  pub written : Contains here.captures (w.from.port, bytes)
+  pub read : IsCapture bytes records
+  pub comes : Contains there (w.to.port, capture_text (map (delayed w.delay) records))
+
+-- the captures that were given for the ports without a wire, by switch
+abbrev pub Given : Type 0
+Given = List (List Text)
+
+-- at a port without a wire there comes in what was given
+pub record IsGiven (given : Given) (switch : ℕ) (text : Text) : Type 0 where
+  pub texts : List Text
+  pub texts_is : slice_get given switch ≡ Some texts
+  pub has : Contains texts text
+
+-- these texts come in at the switches where they have left these: over wires what left, elsewhere what was given
+pub record IsFedBy (net : Network) (given : Given) (left : List Results) (came : List (List Text)) : Type 0 where
+  pub wires : (w : Wire) → Contains net.layout.wires w → Brings left came w
+  pub others : (e : End) (texts : List Text) (text : Text) → wire_to net e ≡ None → slice_get came e.switch ≡ Some texts
+      → text.0 ≡ e.port → Contains texts text → IsGiven given e.switch text
+
+-- the texts that came in at each switch are those that the runs lead to
+pub record IsNetworkRun (net : Network) (given : Given) (runs : List SwitchRun) : Type 0 where
+  pub tables : map (λ (run : SwitchRun). run.table) runs ≡ net.tables
+  pub fed : IsFedBy net given (map (λ (run : SwitchRun). run.results) runs) (map (λ (run : SwitchRun). run.texts) runs)
+
+-- each table was run over what came in at its switch, and led to this
+abbrev pub AreRuns : List Content → List (List Text) → List Results → Type 0
+AreRuns [] [] [] = Unit {0}
+AreRuns (t ∷ tables) (texts ∷ came) (results ∷ left) = IsOutcome t texts results × IsIsolated t texts results × AreRuns tables came left
+AreRuns _ _ _ = ⊥
+
+-- what came in at the switches and what left them is a run of the network
+pub record IsRunOf (net : Network) (given : Given) (came : List (List Text)) (left : List Results) : Type 0 where
+  pub runs : List SwitchRun
+  pub came_is : map (λ (run : SwitchRun). run.texts) runs ≡ came
+  pub left_is : map (λ (run : SwitchRun). run.results) runs ≡ left
+  pub run : IsNetworkRun net given runs

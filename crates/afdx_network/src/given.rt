@@ -1,0 +1,115 @@
+//! What is given for a run: the captures of the ports to which no wire goes.
+
+ghost use Rattle.std.specs.Prelude.{◌≡◌, ℕ, All, Contains, IfErr, IfOk, OnOk, IsTrue, ◌↔◌, None};
+ghost use Rattle.afdx_session.specs.Texts.{Text, texts_of};
+ghost use Rattle.afdx_session.specs.Reading.{IsSound};
+ghost use Rattle.afdx_wiring.specs.Net.{wire_to};
+ghost use Rattle.afdx_network.specs.declared.fault.NetworkRunFault.TheVariants.{WrongPorts};
+ghost use Rattle.afdx_network.specs.Given.{given_of, is_open, AreOpen, IsGivenAt, AreGiven, AreSound, IsFirstUngiven, IsGivenFault, IsTextFault};
+ghost use Rattle.afdx_network.specs.Sites.{ComesIn};
+
+use crate::fault::NetworkRunFault;
+use crate::sites::Texts;
+use afdx_pcap::{PcapFault, read_all, write_header};
+use afdx_table::Table;
+use afdx_wiring::{End, Network};
+use std::alloc::{AllocError, Global};
+
+/// Whether no wire goes to a port.
+fn is_open(network: &Network, switch: usize, port: u8) -> bool
+    ensures { result ≡ is_open network.now switch port }
+{
+    network.wire_to(End { switch, port }).is_none()
+}
+
+/// Whether these are the captures of the ports of a switch without a wire, by rising number.
+fn are_open(network: &Network, switch: usize, table: &Table, texts: &[(u8, Vec<u8>)]) -> bool
+    ensures { IsTrue result ↔ AreOpen network.now switch table.now (texts_of texts.now) }
+{
+    let mut next = 0;
+    for row in table.ports() {
+        if is_open(network, switch, row.id) {
+            if next >= texts.len() || texts[next].0 != row.id {
+                return false;
+            }
+            next += 1;
+        }
+    }
+    next == texts.len()
+}
+
+/// Whether what is given for a switch is for its ports without a wire.
+fn is_given(network: &Network, given: &[Texts], switch: usize) -> bool
+    ensures { IsTrue result ↔ IsGivenAt network.now (given_of given.now) switch }
+{
+    match (network.table(switch), given.get(switch)) {
+        (Some(table), Some(texts)) => are_open(network, switch, table, texts),
+        _ => false,
+    }
+}
+
+/// `WrongPorts` of the first switch for which something else is given. It takes no memory.
+pub(crate) fn check_ports(network: &Network, given: &[Texts]) -> Result<(), NetworkRunFault>
+    ensures ok { OnOk result (AreGiven network.now (given_of given.now)) }
+    ensures err { IfErr result (λ fault. (switch : ℕ) × (fault ≡ WrongPorts switch) × IsFirstUngiven network.now (given_of given.now) switch) }
+{
+    let switches = network.tables().len();
+    for switch in 0..switches {
+        if !is_given(network, given, switch) {
+            return Err(NetworkRunFault::WrongPorts(switch));
+        }
+    }
+    if given.len() != switches {
+        return Err(NetworkRunFault::WrongPorts(switches));
+    }
+    Ok(())
+}
+
+/// Refuses the first text of a switch that is no capture.
+fn check_texts(alloc: Global, switch: usize, texts: &[(u8, Vec<u8>)]) -> Result<(), NetworkRunFault>
+    ensures ok { OnOk result (All IsSound (texts_of texts.now)) }
+    ensures err { IfErr result (IsTextFault switch (texts_of texts.now)) }
+{
+    for (port, text) in texts {
+        match read_all(alloc, text) {
+            Ok(_) => {}
+            Err(PcapFault::Memory) => return Err(NetworkRunFault::Memory),
+            Err(fault) => return Err(NetworkRunFault::Capture(switch, *port, fault)),
+        }
+    }
+    Ok(())
+}
+
+/// Refuses the first text that is no capture, by switch and then by port. O(records).
+pub(crate) fn check_captures(alloc: Global, given: &[Texts]) -> Result<(), NetworkRunFault>
+    ensures ok { OnOk result (AreSound (given_of given.now)) }
+    ensures err { IfErr result (IsGivenFault (given_of given.now)) }
+{
+    for (switch, texts) in given.iter().enumerate() {
+        check_texts(alloc, switch, texts)?;
+    }
+    Ok(())
+}
+
+/// What comes in at a switch before another one has run: what is given, and nothing on the wires.
+pub(crate) fn first_texts(
+    alloc: Global,
+    network: &Network,
+    switch: usize,
+    table: &Table,
+    given: Texts,
+) -> Result<Texts, AllocError>
+    requires { AreOpen network.now switch table.now (texts_of given.items) }
+    ensures { IfOk result (λ came. ComesIn network.now switch table.now (texts_of given.items) (texts_of came.items)) }
+{
+    let ports = table.ports();
+    let mut texts = given;
+    for (place, row) in ports.iter().enumerate() {
+        if !is_open(network, switch, row.id) {
+            let mut silence = Vec::new(alloc);
+            write_header(&mut silence)?;
+            texts.insert(place, (row.id, silence))?;
+        }
+    }
+    Ok(texts)
+}

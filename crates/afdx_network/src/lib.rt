@@ -1,0 +1,19 @@
+//! A network of switches: delivery and delay from end to end.
+//!
+//! `specs/Way.antt` says what is delivered at the end of a link's way, over the headline of each switch on it;
+//! `specs/Runs.antt` what a run of a network is, `specs/Ways.antt` which ways it has. The module `laws` says that each of
+//! them delivers.
+#![tactic(auto)]
+
+mod carrying;
+mod fault;
+mod given;
+pub mod laws;
+mod order;
+mod rounds;
+mod running;
+mod sites;
+
+pub use fault::NetworkRunFault;
+pub use running::run;
+pub use sites::Texts;

@@ -1,0 +1,178 @@
+//! Rounds over the switches of a network.
+
+ghost use Rattle.std.specs.Prelude.{◌≡◌, ℕ, All, IfErr, IfOk, IfSome, IsTrue, Some, map, is_some, true};
+ghost use Rattle.afdx_table.specs.WellFormed.{IsWellFormed};
+ghost use Rattle.afdx_load.specs.Accepted.{IsAccepted};
+ghost use Rattle.afdx_network.specs.Runs.{Given};
+ghost use Rattle.afdx_network.specs.Given.{given_of, AreGiven, AreSound, IsWireFault};
+ghost use Rattle.afdx_network.specs.Sites.{AreSites, IsBrought, Agrees, HasRun};
+
+use crate::carrying::carry;
+use crate::fault::NetworkRunFault;
+use crate::given::first_texts;
+use crate::sites::{Site, Texts};
+use afdx_pcap::PcapFault;
+use afdx_pcap::laws::each_file_has_one_reading;
+use afdx_session::Outcome;
+use afdx_table::Table;
+use afdx_wiring::{ClearedNetwork, End, Network, Wire};
+use std::alloc::{AllocError, Global};
+
+/// The switches before the first round: none has run.
+pub(crate) fn sites_of(
+    alloc: Global,
+    network: &Network,
+    given: Vec<Texts>,
+) -> Result<Vec<Site>, AllocError>
+    requires { AreGiven network.now (given_of given.items) }
+    ensures { IfOk result (λ sites. AreSites network.now (given_of given.items) sites.items) }
+{
+    let mut sites = Vec::new(alloc);
+    for own in given {
+        let switch = sites.len();
+        let table = &network.tables()[switch];
+        let came = first_texts(alloc, network, switch, table, own)?;
+        sites.push(Site::new(came))?;
+    }
+    Ok(sites)
+}
+
+/// What a wire brings to its end, where its switch has run.
+fn brought(alloc: Global, sites: &[Site], wire: &Wire) -> Result<Option<Vec<u8>>, PcapFault>
+    ensures { IfOk result (λ found. IfSome found (λ text. IsBrought sites.now wire.now text.items)) }
+{
+    let Some(site) = sites.get(wire.from.switch) else {
+        return Ok(None);
+    };
+    let Some(capture) = site.left(wire.from.port) else {
+        return Ok(None);
+    };
+    Ok(Some(carry(alloc, capture, wire.delay)?))
+}
+
+/// Puts what the wires bring in at a switch.
+fn receive(
+    alloc: Global,
+    network: &Network,
+    sites: &mut [Site],
+    switch: usize,
+    table: &Table,
+) -> Result<(), NetworkRunFault>
+    ensures kept { (given : Given) → AreSites network.now given sites.old → AreSites network.now given sites.new }
+    ensures err { IfErr result (IsWireFault network.now) }
+    ensures well_formed { IsWellFormed table.now }
+{
+    for row in table.ports() {
+        let port = row.id;
+        let Some(wire) = network.wire_to(End { switch, port }) else {
+            continue;
+        };
+        match brought(alloc, sites, wire) {
+            Ok(Some(text)) => {
+                if let Some(site) = sites.get_mut(switch) {
+                    site.take(port, text);
+                }
+            }
+            Ok(None) => {}
+            Err(PcapFault::Memory) => return Err(NetworkRunFault::Memory),
+            Err(fault) => return Err(NetworkRunFault::Capture(switch, port, fault)),
+        }
+    }
+    Ok(())
+}
+
+/// Puts what the wires bring in at a switch, and runs it, unless it has run over that.
+fn step(
+    alloc: Global,
+    network: &ClearedNetwork,
+    sites: &mut [Site],
+    switch: usize,
+) -> Result<(), NetworkRunFault>
+    ensures kept { (given : Given) → AreSites network.now given sites.old → AreSites network.now given sites.new }
+    ensures err { (given : Given) → AreSites network.now given sites.old → AreSound given → IfErr result (IsWireFault network.now) }
+{
+    each_file_has_one_reading();
+    let network = network.network();
+    let Some(table) = network.table(switch) else {
+        return Ok(());
+    };
+    receive(alloc, network, sites, switch, table)?;
+    match sites.get_mut(switch) {
+        Some(site) => match site.run(alloc, table) {
+            Ok(()) => Ok(()),
+            Err(fault) => Err(NetworkRunFault::of_switch(switch, fault)),
+        },
+        None => Ok(()),
+    }
+}
+
+/// A round over the switches in this order.
+pub(crate) fn round(
+    alloc: Global,
+    network: &ClearedNetwork,
+    sites: &mut [Site],
+    order: &[usize],
+) -> Result<(), NetworkRunFault>
+    ensures kept { (given : Given) → AreSites network.now given sites.old → AreSites network.now given sites.new }
+    ensures err { (given : Given) → AreSites network.now given sites.old → AreSound given → IfErr result (IsWireFault network.now) }
+{
+    for switch in order {
+        step(alloc, network, sites, *switch)?;
+    }
+    Ok(())
+}
+
+/// Whether what a wire brings is what came in at its end.
+fn agrees(alloc: Global, sites: &[Site], wire: &Wire) -> Result<bool, PcapFault>
+    ensures { IfOk result (λ agrees. IsTrue agrees → Agrees sites.now wire.now) }
+{
+    let Some(text) = brought(alloc, sites, wire)? else {
+        return Ok(false);
+    };
+    let Some(site) = sites.get(wire.to.switch) else {
+        return Ok(false);
+    };
+    match site.came(wire.to.port) {
+        Some(came) => Ok(came == text.as_slice()),
+        None => Ok(false),
+    }
+}
+
+/// Whether each switch has run, and what each wire brings is what came in at its end.
+pub(crate) fn rests(
+    alloc: Global,
+    network: &Network,
+    sites: &[Site],
+) -> Result<bool, NetworkRunFault>
+    ensures ok { IfOk result (λ rests. IsTrue rests → All HasRun sites.now × All (Agrees sites.now) network.now.layout.wires) }
+    ensures err { IfErr result (IsWireFault network.now) }
+{
+    let wires = network.layout().wires.as_slice();
+    for wire in wires {
+        match agrees(alloc, sites, wire) {
+            Ok(true) => {}
+            Ok(false) => return Ok(false),
+            Err(PcapFault::Memory) => return Err(NetworkRunFault::Memory),
+            Err(fault) => return Err(NetworkRunFault::Capture(wire.to.switch, wire.to.port, fault)),
+        }
+    }
+    Ok(sites.iter().all(|site| site.has_run()))
+}
+
+/// What each switch has led to.
+pub(crate) fn outcomes_of(
+    alloc: Global,
+    sites: Vec<Site>,
+) -> Result<Vec<Outcome<Global>>, AllocError>
+    requires { All HasRun sites.items }
+    ensures { IfOk result (λ outcomes. map Some outcomes.items ≡ map (λ s. s.outcome) sites.items) }
+{
+    let mut outcomes = Vec::new(alloc);
+    for site in sites {
+        let Some(outcome) = site.into_outcome() else {
+            unreachable!()
+        };
+        outcomes.push(outcome)?;
+    }
+    Ok(outcomes)
+}

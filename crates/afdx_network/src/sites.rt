@@ -1,0 +1,118 @@
+//! A switch of a network on its way to rest: what came in there, and what that led to.
+
+ghost use Rattle.std.specs.Prelude.{◌≡◌, ◌⊎◌, None, IfErr, IfSome, OnOk, Contains, is_some};
+ghost use Rattle.afdx_table.specs.WellFormed.{IsWellFormed};
+ghost use Rattle.afdx_load.specs.Accepted.{IsAccepted};
+ghost use Rattle.afdx_session.specs.Outcome.{IsRefusal};
+ghost use Rattle.afdx_session.specs.Texts.{texts_of};
+ghost use Rattle.afdx_network.specs.Sites.{HasLeft, IsPutIn, RunsOver};
+
+use afdx_session::laws::accepted_runs_isolate;
+use afdx_session::{Outcome, Plan, RunFault};
+use afdx_table::Table;
+use std::alloc::Global;
+use std::marker::Model;
+
+/// What comes in at the ports of a switch: a capture for each, by rising number.
+pub type Texts = Vec<(u8, Vec<u8>)>;
+
+/// What came in at a switch, and what that led to, once it has run over it.
+#[derive(Drop)]
+pub(crate) struct Site {
+    came: Texts,
+    outcome: Option<Outcome<Global>>,
+}
+
+impl Model for Site {
+    ghost use Rattle.afdx_session.specs.Texts.{texts_of};
+    ghost use Rattle.afdx_network.specs.Sites.{Site as Seen};
+
+    ghost Value = { Seen };
+
+    ghost view = { λ s. record { came = texts_of s.came.items; outcome = s.outcome } };
+}
+
+/// The capture of a port.
+fn text_at(texts: &[(u8, Vec<u8>)], port: u8) -> Option<&[u8]>
+    ensures { IfSome result (λ bytes. Contains (texts_of texts.now) (port, bytes.now)) }
+{
+    for text in texts {
+        if text.0 == port {
+            return Some(text.1.as_slice());
+        }
+    }
+    None
+}
+
+impl Site {
+    /// A switch that has not run.
+    pub(crate) fn new(came: Texts) -> Site
+        ensures { result ≡ record { came = texts_of came.items; outcome = None } }
+    {
+        Site {
+            came,
+            outcome: None,
+        }
+    }
+
+    /// The capture that came in at a port.
+    pub(crate) fn came(&self, port: u8) -> Option<&[u8]>
+        ensures { IfSome result (λ bytes. Contains self.now.came (port, bytes.now)) }
+    {
+        text_at(&self.came, port)
+    }
+
+    /// Whether it has run over what came.
+    pub(crate) fn has_run(&self) -> bool
+        ensures { result ≡ is_some self.now.outcome }
+    {
+        self.outcome.is_some()
+    }
+
+    /// The capture that left a port, where it has run.
+    pub(crate) fn left(&self, port: u8) -> Option<&[u8]>
+        ensures { IfSome result (λ bytes. HasLeft port bytes.now self.now) }
+    {
+        match &self.outcome {
+            Some(outcome) => text_at(&outcome.captures, port),
+            None => None,
+        }
+    }
+
+    /// What it has led to.
+    pub(crate) fn into_outcome(self) -> Option<Outcome<Global>>
+        ensures { result ≡ self.outcome }
+    {
+        self.outcome
+    }
+
+    /// Puts another capture in at a port; where it is another one, the run is forgotten.
+    pub(crate) fn take(&mut self, port: u8, text: Vec<u8>)
+        ensures { (self.new ≡ self.old) ⊎ IsPutIn port text.items self.old self.new }
+    {
+        let Some(place) = self.came.iter().position(|came| came.0 == port) else {
+            return;
+        };
+        if self.came[place].1.as_slice() != text.as_slice() {
+            self.came[place].1 = text;
+            self.outcome = None;
+        }
+    }
+
+    /// Runs the switch, unless it has run over what came.
+    pub(crate) fn run(&mut self, alloc: Global, table: &Table) -> Result<(), RunFault>
+        requires well_formed { IsWellFormed table.now }
+        requires accepted { IsAccepted table.now }
+        ensures ok { OnOk result (RunsOver table.now self.old self.new) }
+        ensures err { IfErr result (λ fault. (self.new ≡ self.old) × IsRefusal table.now self.old.came fault) }
+    {
+        accepted_runs_isolate();
+        if self.outcome.is_some() {
+            return Ok(());
+        }
+        // The table is accepted, so that the law tells of this run what the session tells of one over a checked table.
+        let plan = Plan::Unchecked(table.copy(alloc)?);
+        self.outcome = Some(afdx_session::run(alloc, plan, &self.came)?);
+        Ok(())
+    }
+}

@@ -1,0 +1,3 @@
+pub mod Jitter
+pub mod Later
+pub mod Way

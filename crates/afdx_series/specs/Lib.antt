@@ -1,0 +1,4 @@
+pub mod Delay
+pub mod Hops
+pub mod Laws
+pub mod Series

@@ -1,0 +1,50 @@
+//! Laws over the definitions: functions that do nothing, whose contracts are the laws.
+
+ghost use Rattle.afdx_series.specs.Laws.{PassedConform, ConformingArePassed, LaterConform, PassedPassAgain, JitterAllowsMore, JitterEnough};
+ghost use Rattle.afdx_series.specs.Laws.{CrossingIsAHop, DelaysAddUp, DelaysBeginAtOnce, WaysPassAll};
+
+/// Each frame that is passed conforms to those before it.
+pub fn passed_conform()
+    ensures { PassedConform }
+{}
+
+/// Where each frame conforms to those before it, all are passed.
+pub fn conforming_are_passed<T>()
+    ensures { ConformingArePassed T }
+{}
+
+/// Frames that come again later conform to terms that allow for the difference of the least and the most.
+pub fn later_conform()
+    ensures { LaterConform }
+{}
+
+/// So what one account passed, a later one that allows for it passes.
+pub fn passed_pass_again<T>()
+    ensures { PassedPassAgain T }
+{}
+
+/// Terms of either kind, of one size and gap, allow more where the jitter grows by that much.
+pub fn jitter_allows_more()
+    ensures { JitterAllowsMore }
+{}
+
+/// A link whose jitter is enough after a part of its way is not policed there.
+pub fn jitter_enough<T>()
+    ensures { JitterEnough T }
+{}
+
+/// Frames of at least 64 bytes that cross a switch and a cable come later by the hop.
+pub fn crossing_is_a_hop()
+    ensures { CrossingIsAHop }
+{}
+
+/// Delays of one part of a way and of the next add up; before the first hop there are none.
+pub fn delays_add_up()
+    ensures sums { DelaysAddUp }
+    ensures begin { DelaysBeginAtOnce }
+{}
+
+/// No account on a link's way polices anything that the first one passed, where each allows for the whole way to it.
+pub fn ways_pass_all()
+    ensures { WaysPassAll }
+{}

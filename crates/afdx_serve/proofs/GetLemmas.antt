@@ -1,0 +1,168 @@
+-- Networks that were got: the files of tables, and why they were not.
+use Rattle.std.proofs.Common.{◌≡◌, ◌≢◌, ℕ, ◌+◌, ◌<◌, ◌≤◌, List, [], ◌∷◌, ◌++◌, map, length, take, Option, Some, None, Result, Ok, Err, Vec, refl, sym, ap, subst, ◌∙◌, arith, get_or, slice_get, String, Global, string_bytes}
+use Rattle.std.specs.Prelude.{option_map}
+use Rattle.std.specs.Path.{path_with_file_name}
+use Rattle.std.proofs.lemmas.List.{map-append, take_more, take_all, take-map, length-map}
+use Rattle.std.proofs.lemmas.Option.{slice_get-map, slice_get-get_or}
+use Rattle.afdx_table.specs.Content.{Content}
+use Rattle.afdx_table.specs.Text.{table_of}
+use Rattle.afdx_table.specs.declared.fault.TableFault.{TableFault}
+use Rattle.afdx_table.specs.declared.fault.TableFault.TheVariants as table
+use Rattle.afdx_wiring.specs.File.{Switch, Layout}
+use Rattle.afdx_serve.specs.declared.network_failure.NetworkFailure.TheVariants as network
+use Rattle.afdx_serve.specs.declared.failure.Failure.{Failure}
+use Rattle.afdx_serve.specs.declared.failure.Failure.TheVariants as failure
+use Rattle.afdx_serve.specs.Files.{Files, Shows, ShowsAll, KeepsFiles, DeviceLog, one_more}
+use Rattle.afdx_serve.specs.Runs.{FailsToGet}
+use Rattle.afdx_serve.specs.Networks.{bytes_in, table_names, names_of, HasLayout, HasTexts, AreTables, GetsTables, StopsAtTable, IsRefusedTable, FailsToLayout, FailsToGetTexts, FailsToReadTables, FailsToJoin}
+use Rattle.afdx_serve.proofs.FileLemmas.{ShowsAll-nil, ShowsAll-push, ShowsAll-before, Shows-before, KeepsFiles-trans}
+
+-- ---- the files of tables
+
+-- the name of a switch's table
+named : (path : List ℕ) (switches : List Switch) (i : ℕ) (d : Switch) → i < length switches
+    → slice_get (table_names path switches) i ≡ Some (path_with_file_name path (get_or switches i d).path)
+named path switches i d lt =
+    slice_get-map (λ (s : Switch). path_with_file_name path s.path) switches i ∙ ap (option_map (λ (s : Switch). path_with_file_name path s.path)) (slice_get-get_or switches i d lt)
+
+more_names : (path : List ℕ) (switches : List Switch) (i : ℕ) (d : Switch) → i < length switches
+    → table_names path (take (i + 1) switches) ≡ table_names path (take i switches) ++ path_with_file_name path (get_or switches i d).path ∷ []
+more_names path switches i d lt =
+    ap (table_names path) (take_more switches i d lt) ∙ map-append (λ (s : Switch). path_with_file_name path s.path) (take i switches) (get_or switches i d ∷ [])
+
+-- one more was got
+pub one_more_text : {Z : Type 0} (a b c : Option Files) (path name : List ℕ) (switches : List Switch) (i : ℕ) (d : Switch) (old new : List (Vec ℕ Z)) (bytes : Vec ℕ Z)
+    → new ≡ old ++ bytes ∷ [] → i < length switches → KeepsFiles a b → KeepsFiles b c → ShowsAll a (table_names path (take i switches)) (bytes_in old) → length old ≡ i
+    → name ≡ path_with_file_name path (get_or switches i d).path → Shows b name bytes.items
+    → ShowsAll a (table_names path (take (i + 1) switches)) (bytes_in new) × (length new ≡ i + 1) × KeepsFiles a c
+one_more_text {Z} a b c path name switches i d old new bytes grown lt first second got len is shows =
+    let view : Vec ℕ Z → List ℕ = λ text. text.items in
+    let texts : bytes_in new ≡ bytes_in old ++ bytes.items ∷ [] = ap (map view) grown ∙ map-append view old (bytes ∷ []) in
+    let one = subst (λ (n : List ℕ). Shows a n bytes.items) is (Shows-before a b name bytes.items first shows) in
+    let all = ShowsAll-push a (table_names path (take i switches)) (bytes_in old) _ bytes.items got one in (
+      subst (λ (names : List (List ℕ)). ShowsAll a names (bytes_in new)) (sym (more_names path switches i d lt))
+          (subst (λ (ts : List (List ℕ)). ShowsAll a (table_names path (take i switches) ++ path_with_file_name path (get_or switches i d).path ∷ []) ts) (sym texts) all),
+      grind (arith, grown, len),
+      KeepsFiles-trans a b c first second,
+    )
+
+-- the name of a table's file, where those of the switches before it were got
+pub gets_tables : (files : Option Files) (path name : List ℕ) (switches : List Switch) (i : ℕ) (d : Switch) (got : List (List ℕ)) → i < length switches
+    → name ≡ path_with_file_name path (get_or switches i d).path → ShowsAll files (table_names path (take i switches)) got → GetsTables name files path switches
+gets_tables files path name switches i d got lt is earlier = record {
+  place = i;
+  got = got;
+  is_there = named path switches i d lt ∙ ap (λ (n : List ℕ). Some n) (sym is);
+  earlier = subst (λ (names : List (List ℕ)). ShowsAll files names got) (sym (take-map (λ (s : Switch). path_with_file_name path s.path) i switches)) earlier;
+}
+
+-- all were got
+pub all_got : {Z : Type 0} (files : Option Files) (path : List ℕ) (switches : List Switch) (i : ℕ) (texts : List (Vec ℕ Z)) → length switches ≤ i → i ≤ length switches
+    → ShowsAll files (table_names path (take i switches)) (bytes_in texts) → length texts ≡ i → HasTexts files path switches (bytes_in texts)
+all_got {Z} files path switches i texts past within got len = (
+  subst (λ (all : List Switch). ShowsAll files (table_names path all) (bytes_in texts)) (take_all i switches past) got,
+  length-map texts (λ (text : Vec ℕ Z). text.items) ∙ omega (arith, len, past, within),
+)
+
+-- a table's file was not got
+pub not_got_text : (f : Failure) (files : Option Files) (path name : List ℕ) (switches : List Switch) (first before after : DeviceLog) → before ≡ first → FailsToGet f name before after
+    → GetsTables name files path switches → FailsToGetTexts f files path switches first after
+not_got_text (failure.Get s) files path name switches first before after same fails upto =
+    subst (λ (n : List ℕ). GetsTables n files path switches × (after ≡ one_more n first)) (sym fails.0) (upto, fails.1 ∙ ap (one_more name) same)
+not_got_text failure.Memory files path name switches first before after same fails upto = tt
+not_got_text failure.Usage files path name switches first before after same fails upto = absurd fails
+not_got_text (failure.Table r) files path name switches first before after same fails upto = absurd fails
+not_got_text (failure.Capture r) files path name switches first before after same fails upto = absurd fails
+not_got_text (failure.PortCapture p r) files path name switches first before after same fails upto = absurd fails
+not_got_text (failure.Put s) files path name switches first before after same fails upto = absurd fails
+not_got_text (failure.Load r) files path name switches first before after same fails upto = absurd fails
+not_got_text (failure.Network r) files path name switches first before after same fails upto = absurd fails
+not_got_text failure.Read files path name switches first before after same fails upto = absurd fails
+not_got_text failure.Write files path name switches first before after same fails upto = absurd fails
+
+-- ---- why the rest was not
+
+-- the network file was not got
+pub not_got_layout : (f : Failure) (files : Option Files) (path : List ℕ) (before after : DeviceLog) → FailsToGet f path before after → FailsToLayout f files path before after
+not_got_layout (failure.Get s) files path before after fails = fails
+not_got_layout failure.Memory files path before after fails = tt
+not_got_layout failure.Usage files path before after fails = absurd fails
+not_got_layout (failure.Table r) files path before after fails = absurd fails
+not_got_layout (failure.Capture r) files path before after fails = absurd fails
+not_got_layout (failure.PortCapture p r) files path before after fails = absurd fails
+not_got_layout (failure.Put s) files path before after fails = absurd fails
+not_got_layout (failure.Load r) files path before after fails = absurd fails
+not_got_layout (failure.Network r) files path before after fails = absurd fails
+not_got_layout failure.Read files path before after fails = absurd fails
+not_got_layout failure.Write files path before after fails = absurd fails
+
+-- a table's file was not got, so that the network was not
+pub not_joined : (f : Failure) (files : Option Files) (path : List ℕ) (l : Layout) (before after : DeviceLog) → FailsToGetTexts f files path l.switches before after
+    → FailsToJoin f files path l before after
+not_joined (failure.Get s) files path l before after fails = fails
+not_joined failure.Memory files path l before after fails = tt
+not_joined failure.Usage files path l before after fails = absurd fails
+not_joined (failure.Table r) files path l before after fails = absurd fails
+not_joined (failure.Capture r) files path l before after fails = absurd fails
+not_joined (failure.PortCapture p r) files path l before after fails = absurd fails
+not_joined (failure.Put s) files path l before after fails = absurd fails
+not_joined (failure.Load r) files path l before after fails = absurd fails
+not_joined (failure.Network r) files path l before after fails = absurd fails
+not_joined failure.Read files path l before after fails = absurd fails
+not_joined failure.Write files path l before after fails = absurd fails
+
+-- one of the texts is of no table
+pub not_tables : (f : Failure) (files : Option Files) (path : List ℕ) (l : Layout) (texts : List (List ℕ)) (before after : DeviceLog) → after ≡ before → HasTexts files path l.switches texts
+    → FailsToReadTables f l.switches texts → FailsToJoin f files path l before after
+not_tables (failure.Network (network.Table refusal name)) files path l texts before after same has fails = ((texts, has, fails), same)
+not_tables (failure.Network (network.Refused e name)) files path l texts before after same has fails = absurd fails
+not_tables (failure.Network (network.Capture p e name)) files path l texts before after same has fails = absurd fails
+not_tables (failure.Network network.Unsettled) files path l texts before after same has fails = absurd fails
+not_tables failure.Memory files path l texts before after same has fails = tt
+not_tables failure.Usage files path l texts before after same has fails = absurd fails
+not_tables (failure.Table r) files path l texts before after same has fails = absurd fails
+not_tables (failure.Capture r) files path l texts before after same has fails = absurd fails
+not_tables (failure.PortCapture p r) files path l texts before after same has fails = absurd fails
+not_tables (failure.Put s) files path l texts before after same has fails = absurd fails
+not_tables (failure.Get s) files path l texts before after same has fails = absurd fails
+not_tables (failure.Load r) files path l texts before after same has fails = absurd fails
+not_tables failure.Read files path l texts before after same has fails = absurd fails
+not_tables failure.Write files path l texts before after same has fails = absurd fails
+
+-- ---- tables
+
+pub one_more_table : (texts : List (List ℕ)) (i : ℕ) (old new : List Content) (t : Content) → i < length texts → AreTables (take i texts) old → new ≡ old ++ t ∷ []
+    → table_of (get_or texts i []) ≡ Ok t → AreTables (take (i + 1) texts) new
+one_more_table texts i old new t lt are grown is =
+    ap (map table_of) (take_more texts i [] lt) ∙ map-append table_of (take i texts) (get_or texts i [] ∷ []) ∙ ap (λ (l : List (Result Content TableFault)). l ++ table_of (get_or texts i []) ∷ []) are
+    ∙ ap (λ (r : Result Content TableFault). map (λ (x : Content). Ok x) old ++ r ∷ []) is ∙ sym (map-append (λ (x : Content). Ok x) old (t ∷ [])) ∙ ap (map (λ (x : Content). Ok x)) (sym grown)
+
+pub all_tables : (texts : List (List ℕ)) (i : ℕ) (tables : List Content) → length texts ≤ i → AreTables (take i texts) tables → AreTables texts tables
+all_tables texts i tables past are = subst (λ (all : List (List ℕ)). AreTables all tables) (take_all i texts past) are
+
+-- the failure of a table of the switch at a place
+pub stops_at_table : (f : Failure) (refusal : TableFault) (switches : List Switch) (texts : List (List ℕ)) (i : ℕ) (d : Switch) (tables : List Content) → i < length texts → i < length switches
+    → AreTables (take i texts) tables → (refusal ≢ table.Memory → table_of (get_or texts i []) ≡ Err refusal) → IsRefusedTable refusal (get_or switches i d).name f
+    → FailsToReadTables f switches texts
+stops_at_table (failure.Network (network.Table r n)) refusal switches texts i d tables in_texts within are is h = record {
+  place = i;
+  before = tables;
+  text = get_or texts i [];
+  earlier = are;
+  text_is = slice_get-get_or texts i [] in_texts;
+  refused = is h.1 ∙ ap (λ (x : TableFault). Err x) (sym h.0);
+  name_is = slice_get-map (λ (s : Switch). s.name) switches i ∙ ap (option_map (λ (s : Switch). s.name)) (slice_get-get_or switches i d within) ∙ ap (λ (n : List ℕ). Some n) (sym h.2);
+}
+stops_at_table (failure.Network (network.Refused e name)) refusal switches texts i d tables in_texts within are is h = absurd h
+stops_at_table (failure.Network (network.Capture p e name)) refusal switches texts i d tables in_texts within are is h = absurd h
+stops_at_table (failure.Network network.Unsettled) refusal switches texts i d tables in_texts within are is h = absurd h
+stops_at_table failure.Memory refusal switches texts i d tables in_texts within are is h = tt
+stops_at_table failure.Usage refusal switches texts i d tables in_texts within are is h = absurd h
+stops_at_table (failure.Table r) refusal switches texts i d tables in_texts within are is h = absurd h
+stops_at_table (failure.Capture r) refusal switches texts i d tables in_texts within are is h = absurd h
+stops_at_table (failure.PortCapture p r) refusal switches texts i d tables in_texts within are is h = absurd h
+stops_at_table (failure.Put s) refusal switches texts i d tables in_texts within are is h = absurd h
+stops_at_table (failure.Get s) refusal switches texts i d tables in_texts within are is h = absurd h
+stops_at_table (failure.Load r) refusal switches texts i d tables in_texts within are is h = absurd h
+stops_at_table failure.Read refusal switches texts i d tables in_texts within are is h = absurd h
+stops_at_table failure.Write refusal switches texts i d tables in_texts within are is h = absurd h

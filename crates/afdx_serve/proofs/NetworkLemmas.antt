@@ -1,0 +1,76 @@
+-- Why commands of networks were not served.
+use Rattle.std.proofs.Common.{◌≡◌, ◌≢◌, ℕ, List, Option, None, Result, Ok, Err, inl, inr}
+use Rattle.std.specs.Prelude.{◌⊎◌}
+use Rattle.afdx_wiring.specs.declared.fault.NetworkFault.{NetworkFault}
+use Rattle.afdx_wiring.specs.declared.fault.NetworkFault.TheVariants as fault
+use Rattle.afdx_words.specs.declared.request.NetworkRequest.{NetworkRequest}
+use Rattle.afdx_words.specs.declared.request.NetworkRequest.TheVariants as ask
+use Rattle.afdx_serve.specs.declared.network_failure.NetworkFailure.TheVariants as network
+use Rattle.afdx_serve.specs.declared.failure.Failure.{Failure}
+use Rattle.afdx_serve.specs.declared.failure.Failure.TheVariants as failure
+use Rattle.afdx_serve.specs.Failures.{wiring_failure}
+use Rattle.afdx_serve.specs.Files.{Files, DeviceLog, KeepsFiles}
+use Rattle.afdx_serve.specs.Lines.{IsMade}
+use Rattle.afdx_serve.specs.Networks.{FailsToGetNetwork}
+use Rattle.afdx_serve.specs.Serving.{World, WritesNothing, FailsToPerformNetwork}
+
+-- ---- of all commands of networks
+
+-- they never refuse the words
+got : (files : Option Files) (path : List ℕ) (before after : DeviceLog) → FailsToGetNetwork failure.Usage files path before after → ⊥
+got files path before after (inl h) = h
+got files path before after (inr h) = h.2
+
+pub never_usage : (r : NetworkRequest) (old new : World) → FailsToPerformNetwork failure.Usage r old new → ⊥
+never_usage (ask.Check path) old new h = elim h.0 [
+  | inl fails ↦ got old.files path.now old.failed new.failed fails
+  | inr fails ↦ fails.2.2
+]
+never_usage (ask.Jitter path) old new h = elim h.0 [
+  | inl fails ↦ got old.files path.now old.failed new.failed fails
+  | inr fails ↦ fails.2.2
+]
+never_usage (ask.Run paths) old new h = elim h.0.0 [
+  | inl fails ↦ got old.files paths.network.now old.failed new.failed fails
+  | inr fails ↦ elim fails.2 [
+    | inl refused ↦ refused.0.2
+    | inr given ↦ given.1
+  ]
+]
+
+-- a failure with a line that is made leaves what want of memory may leave
+pub spares : (f : Failure) (r : NetworkRequest) (old new : World) → IsMade f → FailsToPerformNetwork f r old new
+    → (WritesNothing old new × KeepsFiles old.files new.files) ⊎ FailsToPerformNetwork failure.Memory r old new
+spares failure.Usage r old new made h = absurd made
+spares failure.Read r old new made h = absurd made
+spares failure.Write r old new made h = absurd made
+spares failure.Memory r old new made h = absurd made
+spares (failure.Table e) (ask.Check path) old new made h = inl (h.2, h.1)
+spares (failure.Load e) (ask.Check path) old new made h = inl (h.2, h.1)
+spares (failure.Capture e) (ask.Check path) old new made h = inl (h.2, h.1)
+spares (failure.PortCapture p e) (ask.Check path) old new made h = inl (h.2, h.1)
+spares (failure.Network e) (ask.Check path) old new made h = inl (h.2, h.1)
+spares (failure.Get name) (ask.Check path) old new made h = inl (h.2, h.1)
+spares (failure.Put name) (ask.Check path) old new made h = inl (h.2, h.1)
+spares (failure.Table e) (ask.Jitter path) old new made h = inl (h.2, h.1)
+spares (failure.Load e) (ask.Jitter path) old new made h = inl (h.2, h.1)
+spares (failure.Capture e) (ask.Jitter path) old new made h = inl (h.2, h.1)
+spares (failure.PortCapture p e) (ask.Jitter path) old new made h = inl (h.2, h.1)
+spares (failure.Network e) (ask.Jitter path) old new made (inl h) = inl (h.2, h.1)
+spares (failure.Network e) (ask.Jitter path) old new made (inr h) = inr (h.1.5.0, inr h.1)
+spares (failure.Get name) (ask.Jitter path) old new made h = inl (h.2, h.1)
+spares (failure.Put name) (ask.Jitter path) old new made h = inl (h.2, h.1)
+spares (failure.Table e) (ask.Run paths) old new made h = inl (h.1, h.0.1)
+spares (failure.Load e) (ask.Run paths) old new made h = inl (h.1, h.0.1)
+spares (failure.Capture e) (ask.Run paths) old new made h = inl (h.1, h.0.1)
+spares (failure.PortCapture p e) (ask.Run paths) old new made h = inl (h.1, h.0.1)
+spares (failure.Network e) (ask.Run paths) old new made h = inl (h.1, h.0.1)
+spares (failure.Get name) (ask.Run paths) old new made h = inl (h.1, h.0.1)
+spares (failure.Put name) (ask.Run paths) old new made h = inr (inr (_, h.0.0), h.1)
+
+-- ---- the failures of refusals
+
+-- what a refusal without the name of a switch leads to
+pub of_wiring : (P : Failure → Type 0) (e : NetworkFault) → P failure.Memory → (e ≢ fault.Memory → P (failure.Network (network.Refused e None))) → P (wiring_failure e)
+of_wiring P fault.Memory out refused = out
+of_wiring P e out refused = refused (λ bad. absurd (cc))

@@ -1,0 +1,43 @@
+-- What is told of the jitters that the rows of a network need.
+use Rattle.std.specs.Prelude.{◌≡◌, ◌≢◌, ℕ, ◌+◌, List, [], ◌∷◌, Option, None, Result, Ok, Err}
+use Rattle.std.specs.Option.{option_or}
+use Rattle.afdx_table.specs.declared.rows.PortRow.{PortRow}
+use Rattle.afdx_table.specs.Link.{Link}
+use Rattle.afdx_table.specs.Content.{Content}
+use Rattle.afdx_load.specs.Sums.{parts, load_of}
+use Rattle.afdx_load.specs.Accepted.{past}
+use Rattle.afdx_load.specs.declared.fault.Rule.TheVariants.{Rate}
+use Rattle.afdx_load.specs.declared.fault.LoadFault.{LoadFault}
+use Rattle.afdx_wiring.specs.Net.{Network}
+use Rattle.afdx_wiring.specs.Order.{Answer, load_fits, misfit}
+use Rattle.afdx_wiring.specs.Refusal.{◌>>=◌}
+use Rattle.afdx_wiring.specs.declared.fault.NetworkFault.{NetworkFault}
+use Rattle.afdx_wiring.specs.declared.fault.NetworkFault.TheVariants as fault
+use Rattle.afdx_serve.specs.declared.network_failure.NetworkFailure.{NetworkFailure}
+use Rattle.afdx_serve.specs.declared.network_failure.NetworkFailure.TheVariants as network
+use Rattle.afdx_serve.specs.declared.failure.Failure.{Failure}
+use Rattle.afdx_serve.specs.Networks.{names_of, IsRefused}
+
+-- the fault of the first port whose links ask for more than its line: the one rule of loads that no jitter bears on
+abbrev pub first_rate_fault : ℕ → List Link → List PortRow → Option LoadFault
+first_rate_fault latency links [] = None
+first_rate_fault latency links (row ∷ rows) =
+    option_or (past row.id Rate parts (load_of latency row.speed row.id links).rate) (first_rate_fault latency links rows)
+
+-- by switch, of which n come before these
+abbrev pub rates_fit : ℕ → List Content → Answer
+rates_fit n [] = Ok tt
+rates_fit n (t ∷ ts) = load_fits n (first_rate_fault t.latency t.links t.ports) >>= λ _. rates_fit (n + 1) ts
+
+-- the first refusal of a network whose jitters are not judged
+unfoldable pub fit_of : Network → Answer
+fit_of net = rates_fit 0 net.tables >>= λ rates. misfit net
+
+-- the rates or the tables of a network were not accepted
+abbrev pub FailsToFit : Failure → Network → Type 0
+FailsToFit f net = (e : NetworkFault) × (e ≢ fault.Memory → fit_of net ≡ Err e) × IsRefused (names_of net.layout.switches) e f
+
+-- a row needs a jitter past what a table can have
+abbrev pub IsPast : NetworkFailure → Type 0
+IsPast (network.Refused (fault.NoJitter short) name) = Unit {0}
+IsPast _ = ⊥

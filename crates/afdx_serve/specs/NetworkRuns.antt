@@ -1,0 +1,104 @@
+-- What a run of a network does to a folder.
+use Rattle.std.specs.Prelude.{◌≡◌, ◌⊎◌, ℕ, ◌+◌, codes, List, [], ◌∷◌, ◌++◌, map, filter, flat_map, take, slice_get, Option, Some, string_bytes}
+use Rattle.afdx_pcap.specs.declared.fault.PcapFault.{PcapFault}
+use Rattle.afdx_table.specs.Content.{Content}
+use Rattle.afdx_session.specs.Texts.{Text}
+use Rattle.afdx_session.specs.Outcome.{Results}
+use Rattle.afdx_wiring.specs.Net.{Network}
+use Rattle.afdx_wiring.specs.Rules.{IsAcceptedNetwork}
+use Rattle.afdx_network.specs.Runs.{Given, IsRunOf}
+use Rattle.afdx_network.specs.Given.{is_open, IsRefusal}
+use Rattle.afdx_network.specs.Way.{Stage, Step, IsDelivered}
+use Rattle.afdx_network.specs.Ways.{IsWayIn}
+use Rattle.afdx_network.specs.declared.fault.NetworkRunFault.TheVariants as run
+use Rattle.afdx_ways.specs.Lines.{Names, name_of, report_of}
+use Rattle.afdx_words.specs.declared.request.NetworkPaths.{NetworkPaths}
+use Rattle.afdx_serve.specs.declared.network_failure.NetworkFailure.TheVariants as network
+use Rattle.afdx_serve.specs.declared.failure.Failure.{Failure}
+use Rattle.afdx_serve.specs.declared.failure.Failure.TheVariants as failure
+use Rattle.afdx_serve.specs.Files.{Files, ShowsAll, KeepsFiles, DeviceLog, one_more}
+use Rattle.afdx_serve.specs.Runs.{capture_name, names_in, bytes_of, report_in, StopsAt}
+use Rattle.afdx_serve.specs.Networks.{names_of, HasNetwork, FailsToGetNetwork, FailsToAcceptNetwork}
+
+-- ---- names
+
+-- profile: the captures of a switch stand in the folder of its name
+abbrev pub switch_folder : List ℕ → List ℕ → List ℕ
+switch_folder folder name = folder ++ codes "/" ++ name
+
+-- the names of these captures, each switch's in its own folder
+abbrev pub names_at : List ℕ → Names → List (List Text) → List (List ℕ)
+names_at path (name ∷ names) (texts ∷ more) = names_in (switch_folder path name) texts ++ names_at path names more
+names_at path _ _ = []
+
+abbrev pub bytes_at : List (List Text) → List (List ℕ)
+bytes_at all = flat_map bytes_of all
+
+abbrev pub captures_of : List Results → List (List Text)
+captures_of left = map (λ r. r.captures) left
+
+-- the report of each switch, with its name before each line
+abbrev pub reports_of : Names → List Results → List ℕ
+reports_of (name ∷ names) (r ∷ more) = report_of name (report_in r) ++ reports_of names more
+reports_of _ _ = []
+
+-- ---- what the files lead to
+
+-- these captures were given, one for each port of each switch to which no wire goes
+abbrev pub HasGiven : Option Files → List ℕ → Names → Given → Type 0
+HasGiven files path names given = ShowsAll files (names_at path names given) (bytes_at given)
+
+-- the files hold an accepted network and captures, which lead to this; each way delivers
+pub record LeadsToNetwork (paths : NetworkPaths) (files : Option Files) (net : Network) (left : List Results) : Type 0 where
+  pub given : Given
+  pub came : List (List Text)
+  pub has_network : HasNetwork files paths.network.now net
+  pub accepted : IsAcceptedNetwork net
+  pub has_given : HasGiven files paths.input.now (names_of net.layout.switches) given
+  pub is_run : IsRunOf net given came left
+  pub delivered : (x : Stage) (steps : List Step) → IsWayIn net is_run.runs x steps → IsDelivered x steps
+
+-- ---- why they lead to nothing, and the failures before and after
+
+-- the names of the captures of the ports to which no wire goes, by switch, of which n come before these
+abbrev pub open_names : List ℕ → Names → Network → ℕ → List Content → List (List ℕ)
+open_names path (name ∷ names) net n (t ∷ ts) =
+    map (capture_name (switch_folder path name)) (filter (is_open net n) (map (λ p. p.id) t.ports)) ++ open_names path names net (n + 1) ts
+open_names path _ net n _ = []
+
+-- the name is that of a given capture, and those before it were got
+pub record GetsGiven (name : List ℕ) (files : Option Files) (path : List ℕ) (net : Network) : Type 0 where
+  pub place : ℕ
+  pub got : List (List ℕ)
+  pub is_there : slice_get (open_names path (names_of net.layout.switches) net 0 net.tables) place ≡ Some name
+  pub earlier : ShowsAll files (take place (open_names path (names_of net.layout.switches) net 0 net.tables)) got
+
+-- not all was got, or it leads to nothing
+abbrev pub FailsToGetGiven : Failure → Option Files → List ℕ → Network → DeviceLog → DeviceLog → Type 0
+FailsToGetGiven (failure.Get name) files path net before after = GetsGiven (string_bytes name) files path net × (after ≡ one_more (string_bytes name) before)
+FailsToGetGiven failure.Memory files path net before after = Unit {0}
+FailsToGetGiven (failure.Network (network.Capture port why name)) files path net before after =
+    ((given : Given) × (switch : ℕ) × HasGiven files path (names_of net.layout.switches) given × IsRefusal net given (run.Capture switch port why)
+    × (string_bytes name ≡ name_of (names_of net.layout.switches) switch)) × (after ≡ before)
+FailsToGetGiven (failure.Network network.Unsettled) files path net before after =
+    ((given : Given) × HasGiven files path (names_of net.layout.switches) given × IsRefusal net given run.Unsettled) × (after ≡ before)
+FailsToGetGiven _ files path net before after = ⊥
+
+-- the files lead to no run
+abbrev pub FailsToLeadNetwork : Failure → NetworkPaths → Option Files → DeviceLog → DeviceLog → Type 0
+FailsToLeadNetwork f paths files before after =
+    FailsToGetNetwork f files paths.network.now before after
+    ⊎ ((net : Network) × HasNetwork files paths.network.now net
+    × ((FailsToAcceptNetwork f net × (after ≡ before)) ⊎ (IsAcceptedNetwork net × FailsToGetGiven f files paths.input.now net before after)))
+
+-- those before this name were put
+abbrev pub StopsNetwork : List ℕ → NetworkPaths → Option Files → Option Files → Type 0
+StopsNetwork name paths old new =
+    (net : Network) × (left : List Results) × LeadsToNetwork paths old net left
+    × StopsAt name (names_at paths.output.now (names_of net.layout.switches) (captures_of left)) (bytes_at (captures_of left)) old new
+
+-- they were not put
+abbrev pub FailsToPutNetwork : Failure → NetworkPaths → Option Files → Option Files → DeviceLog → DeviceLog → Type 0
+FailsToPutNetwork (failure.Put name) paths old new before after = StopsNetwork (string_bytes name) paths old new × (after ≡ one_more (string_bytes name) before)
+FailsToPutNetwork failure.Memory paths old new before after = KeepsFiles old new ⊎ ((name : List ℕ) × StopsNetwork name paths old new)
+FailsToPutNetwork f paths old new before after = FailsToLeadNetwork f paths old before after × KeepsFiles old new

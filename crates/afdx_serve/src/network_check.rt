@@ -1,0 +1,99 @@
+//! The command `network check`.
+
+ghost use Rattle.std.specs.Prelude.{◌≡◌, List, map, string_bytes, IfOk, MatchResult};
+ghost use Rattle.afdx_wiring.specs.Refusal.{◌>>=◌, Gives};
+ghost use Rattle.afdx_wiring.specs.Order.{misfit, shortage};
+ghost use Rattle.afdx_wiring.specs.Rules.{FitsTogether, HasJitters, IsAcceptedNetwork};
+ghost use Rattle.afdx_serve.specs.Networks.{names_of, FailsToAcceptNetwork};
+ghost use Rattle.afdx_serve.specs.NetworkChecks.{IsNetworkCheck};
+ghost use Rattle.afdx_serve.specs.Serving.{world, ChecksNetwork, FailsToCheckNetwork};
+
+use crate::failure::Failure;
+use crate::folder::Folder;
+use crate::network_get::{get_network, names_of, refused};
+use crate::output::write_bytes;
+use afdx_ways::accepted_text;
+use afdx_wiring::{ClearedNetwork, Network, NetworkFault};
+use std::alloc::{AllocError, Global};
+use std::io::Write;
+
+/// Whether the tables of a network whose loads are accepted fit together, and whether their jitters are enough.
+fn judge(alloc: Global, cleared: &ClearedNetwork) -> Result<(), NetworkFault>
+    ensures first { Gives (λ u. u) result (misfit cleared.now >>= λ fits. shortage cleared.now) }
+    ensures fits { IfOk result (λ _. FitsTogether cleared.now × HasJitters cleared.now) }
+{
+    cleared.network().fit(alloc)?;
+    cleared.check(alloc)
+}
+
+/// Accepts a network, of switches of these names.
+pub(crate) fn accept(
+    alloc: Global,
+    names: &[String],
+    network: Network,
+) -> Result<ClearedNetwork, Failure>
+    requires { map string_bytes names.now ≡ names_of network.layout.switches }
+    ensures { MatchResult result
+        (λ cleared. (cleared ≡ network) × IsAcceptedNetwork network)
+        (λ f. FailsToAcceptNetwork f network) }
+{
+    let cleared = match network.clear() {
+        Ok(cleared) => cleared,
+        Err(fault) => return Err(refused(alloc, names, fault)),
+    };
+    match judge(alloc, &cleared) {
+        Ok(()) => Ok(cleared),
+        Err(fault) => Err(refused(alloc, names, fault)),
+    }
+}
+
+/// What is written of an accepted network.
+fn ways_text(
+    alloc: Global,
+    names: &[String],
+    cleared: &ClearedNetwork,
+) -> Result<String, AllocError>
+    requires { map string_bytes names.now ≡ names_of cleared.now.layout.switches }
+    ensures { IfOk result (λ text. IsNetworkCheck cleared.now (string_bytes text)) }
+{
+    let ways = cleared.ways(alloc)?;
+    accepted_text(alloc, names, &ways)
+}
+
+/// What is written of a network, where it is accepted.
+fn network_text(alloc: Global, network: Network) -> Result<String, Failure>
+    ensures { MatchResult result
+        (λ text. IsAcceptedNetwork network × IsNetworkCheck network (string_bytes text))
+        (λ f. FailsToAcceptNetwork f network) }
+{
+    let names = names_of(alloc, &network.layout().switches)?;
+    let cleared = accept(alloc, &names, network)?;
+    let text = ways_text(alloc, &names, &cleared)?;
+    Ok(text)
+}
+
+/// Checks the network of a file, and writes a line for each switch, one for each way of a link, and that it is accepted.
+///
+/// # Errors
+///
+/// What is met first: `Get`; `Network`, in the order of the network file, its tables, the ports of its wires, the loads by
+/// switch, what the tables agree on, the jitters; `Write`; `Memory` where a growth was refused.
+///
+/// O(files), beside the checks.
+pub(crate) fn network_check<O: Write, F: Folder>(
+    alloc: Global,
+    path: &str,
+    out: &mut O,
+    folder: &mut F,
+) -> Result<(), Failure>
+    ensures { MatchResult result
+        (λ _. ChecksNetwork path.now
+        (world (O.contents out.old) (F.files folder.old) (F.failed folder.old)) (world (O.contents out.new) (F.files folder.new) (F.failed folder.new)))
+        (λ f. FailsToCheckNetwork f path.now
+        (world (O.contents out.old) (F.files folder.old) (F.failed folder.old)) (world (O.contents out.new) (F.files folder.new) (F.failed folder.new))) }
+{
+    let network = get_network(alloc, folder, path)?;
+    let text = network_text(alloc, network)?;
+    write_bytes(out, text.as_bytes())?;
+    Ok(())
+}

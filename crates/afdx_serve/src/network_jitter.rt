@@ -1,0 +1,109 @@
+//! The command `network jitter`.
+
+ghost use Rattle.std.specs.Prelude.{◌≡◌, ◌≢◌, Ok, Err, MatchResult};
+ghost use Rattle.afdx_wiring.specs.declared.fault.NetworkFault.TheVariants.{Memory};
+ghost use Rattle.afdx_wiring.specs.Rules.{FitsTogether};
+ghost use Rattle.afdx_serve.specs.NetworkJitters.{first_rate_fault, rates_fit, fit_of};
+ghost use Rattle.afdx_serve.specs.declared.failure.Failure.TheVariants.{Memory as Out};
+ghost use Rattle.afdx_serve.specs.Serving.{world, TellsJitters, FailsToTellJitters};
+
+use crate::failure::Failure;
+use crate::folder::Folder;
+use crate::network_get::{get_network, names_of, refused};
+use crate::output::write_bytes;
+use afdx_load::{LoadFault, PARTS, Rule, breaks, loads};
+use afdx_table::Table;
+use afdx_table::laws::ports_are_found;
+use afdx_ways::jitter_text;
+use afdx_wiring::{Needs, Network, NetworkFault};
+use std::alloc::Global;
+use std::io::Write;
+
+/// The fault of the first port whose links ask for more than its line.
+fn first_rate_fault(table: &Table) -> Option<LoadFault>
+    ensures { result ≡ first_rate_fault table.now.latency table.now.links table.now.ports }
+{
+    ports_are_found();
+    let loads = loads(table);
+    for row in table.ports() {
+        if let Some(load) = loads.at(row.id) {
+            if breaks(row, &load, Rule::Rate) {
+                return Some(LoadFault {
+                    port: row.id,
+                    rule: Rule::Rate,
+                    need: u128::from(load.rate()),
+                    limit: u128::from(PARTS),
+                });
+            }
+        }
+    }
+    None
+}
+
+/// Whether the links of each switch ask for no more than the lines of its ports.
+fn rates_fit(tables: &[Table]) -> Result<(), NetworkFault>
+    ensures { result ≡ rates_fit 0 tables.now }
+{
+    for (switch, table) in tables.iter().enumerate() {
+        if let Some(fault) = first_rate_fault(table) {
+            return Err(NetworkFault::Load(switch, fault));
+        }
+    }
+    Ok(())
+}
+
+/// Whether no line is asked for too much, and the tables fit together.
+fn check_fit(alloc: Global, network: &Network) -> Result<(), NetworkFault>
+    ensures { MatchResult result
+        (λ _. (fit_of network.now ≡ Ok tt) × FitsTogether network.now)
+        (λ e. e ≢ Memory → fit_of network.now ≡ Err e) }
+{
+    rates_fit(network.tables())?;
+    network.fit(alloc)
+}
+
+/// What is told of the jitters of a network whose tables fit together.
+fn needs_of(alloc: Global, network: Network) -> Result<Needs, Failure>
+    ensures { MatchResult result (λ _. Unit {0}) (λ f. f ≡ Out) }
+{
+    match network.jitters(alloc) {
+        Ok(needs) => Ok(needs),
+        Err(_) => Err(Failure::Memory),
+    }
+}
+
+/// Writes for each link of each table of the network of a file the jitter that it needs there, from the jitters of the first
+/// rows on. Nothing is promised of them: `network check` judges them.
+///
+/// # Errors
+///
+/// What is met first: `Get`; `Network`, in the order of the network file, its tables, the ports of its wires, the rates of
+/// the ports by switch, what the tables agree on; `Write`; `Network` with `NoJitter` after the lines, where a row needs more
+/// than a table can have; `Memory` where a growth was refused.
+///
+/// O(files), beside what the jitters take.
+pub(crate) fn network_jitter<O: Write, F: Folder>(
+    alloc: Global,
+    path: &str,
+    out: &mut O,
+    folder: &mut F,
+) -> Result<(), Failure>
+    ensures { MatchResult result
+        (λ _. TellsJitters path.now
+        (world (O.contents out.old) (F.files folder.old) (F.failed folder.old)) (world (O.contents out.new) (F.files folder.new) (F.failed folder.new)))
+        (λ f. FailsToTellJitters f path.now
+        (world (O.contents out.old) (F.files folder.old) (F.failed folder.old)) (world (O.contents out.new) (F.files folder.new) (F.failed folder.new))) }
+{
+    let network = get_network(alloc, folder, path)?;
+    let names = names_of(alloc, &network.layout().switches)?;
+    if let Err(fault) = check_fit(alloc, &network) {
+        return Err(refused(alloc, &names, fault));
+    }
+    let needs = needs_of(alloc, network)?;
+    let text = jitter_text(alloc, &names, &needs.rows)?;
+    write_bytes(out, text.as_bytes())?;
+    match needs.past {
+        Some(short) => Err(refused(alloc, &names, NetworkFault::NoJitter(short))),
+        None => Ok(()),
+    }
+}

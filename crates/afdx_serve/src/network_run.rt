@@ -1,0 +1,180 @@
+//! The command `network run`.
+
+use crate::failure::Failure;
+use crate::folder::Folder;
+use crate::get::get;
+use crate::names::{capture_name, names_in};
+use crate::network_check::accept;
+use crate::network_failure::NetworkFailure;
+use crate::network_get::{get_network, names_of};
+use crate::output::write_bytes;
+use crate::put::put;
+use afdx_network::{NetworkRunFault, Texts};
+use afdx_session::Outcome;
+use afdx_table::Table;
+use afdx_ways::{name_of, push_report};
+use afdx_wiring::{ClearedNetwork, End, Network};
+use afdx_words::NetworkPaths;
+use std::alloc::{AllocError, Global};
+use std::io::Write;
+
+/// The folder of a switch's captures in a folder.
+fn switch_folder(alloc: Global, folder: &str, name: &str) -> Result<String, AllocError> {
+    let mut path = String::from_str(alloc, folder)?;
+    path.push_str("/")?;
+    path.push_str(name)?;
+    Ok(path)
+}
+
+/// The captures of the ports of a switch to which no wire goes, by rising number, from this folder.
+fn get_open<F: Folder>(
+    alloc: Global,
+    folder: &mut F,
+    path: &str,
+    network: &Network,
+    switch: usize,
+    table: &Table,
+) -> Result<Texts, Failure> {
+    let mut texts = Vec::new(alloc);
+    for row in table.ports() {
+        let port = row.id;
+        if network.wire_to(End { switch, port }).is_none() {
+            let name = capture_name(alloc, path, port)?;
+            let text = get(alloc, folder, &name)?;
+            texts.push((port, text))?;
+        }
+    }
+    Ok(texts)
+}
+
+/// Those of each switch, by its name in this folder.
+fn get_given<F: Folder>(
+    alloc: Global,
+    folder: &mut F,
+    path: &str,
+    names: &[String],
+    network: &Network,
+) -> Result<Vec<Texts>, Failure> {
+    let mut given = Vec::new(alloc);
+    for (switch, table) in network.tables().iter().enumerate() {
+        let switch_path = switch_folder(alloc, path, name_of(names, switch))?;
+        given.push(get_open(alloc, folder, &switch_path, network, switch, table)?)?;
+    }
+    Ok(given)
+}
+
+/// The failure of a run, with the name of its switch among these.
+fn run_failure(alloc: Global, names: &[String], fault: NetworkRunFault) -> Failure {
+    match fault {
+        NetworkRunFault::Memory => Failure::Memory,
+        NetworkRunFault::Unsettled => Failure::Network(NetworkFailure::Unsettled),
+        // Exactly the captures of the ports without a wire are got, so that this is not met.
+        NetworkRunFault::WrongPorts(_) => Failure::Usage,
+        NetworkRunFault::Capture(switch, port, fault) => {
+            match String::from_str(alloc, name_of(names, switch)) {
+                Ok(name) => Failure::Network(NetworkFailure::Capture(port, fault, name)),
+                Err(_) => Failure::Memory,
+            }
+        }
+    }
+}
+
+/// What the captures lead to at each switch.
+fn lead(
+    alloc: Global,
+    names: &[String],
+    cleared: &ClearedNetwork,
+    given: Vec<Texts>,
+) -> Result<Vec<Outcome<Global>>, Failure> {
+    match afdx_network::run(alloc, cleared, given) {
+        Ok(outcomes) => Ok(outcomes),
+        Err(fault) => Err(run_failure(alloc, names, fault)),
+    }
+}
+
+/// The reports of the switches, each line after its switch's name.
+fn reports(
+    alloc: Global,
+    names: &[String],
+    outcomes: &[Outcome<Global>],
+) -> Result<Vec<u8>, AllocError> {
+    let mut text = Vec::new(alloc);
+    for (switch, outcome) in outcomes.iter().enumerate() {
+        let report = outcome.counts.report(alloc)?;
+        push_report(&mut text, name_of(names, switch), &report)?;
+    }
+    Ok(text)
+}
+
+/// The names of the captures of each switch, in its folder.
+fn output_names(
+    alloc: Global,
+    path: &str,
+    names: &[String],
+    outcomes: &[Outcome<Global>],
+) -> Result<Vec<Vec<String>>, AllocError> {
+    let mut all = Vec::new(alloc);
+    for (switch, outcome) in outcomes.iter().enumerate() {
+        let switch_path = switch_folder(alloc, path, name_of(names, switch))?;
+        all.push(names_in(alloc, &switch_path, &outcome.captures)?)?;
+    }
+    Ok(all)
+}
+
+/// Puts the captures of a switch under these names, in order.
+fn put_captures<F: Folder>(
+    alloc: Global,
+    folder: &mut F,
+    names: &[String],
+    captures: &[(u8, Vec<u8>)],
+) -> Result<(), Failure> {
+    for place in 0..names.len() {
+        put(alloc, folder, &names[place], &captures[place].1)?;
+    }
+    Ok(())
+}
+
+/// Puts the captures of all switches under these names, in order.
+fn put_all<F: Folder>(
+    alloc: Global,
+    folder: &mut F,
+    names: &[Vec<String>],
+    outcomes: &[Outcome<Global>],
+) -> Result<(), Failure> {
+    for place in 0..names.len() {
+        put_captures(alloc, folder, &names[place], &outcomes[place].captures)?;
+    }
+    Ok(())
+}
+
+/// Runs the network of a file over the captures of a folder, puts what leaves each switch into another, and writes the
+/// report of each switch, with its name before each line.
+///
+/// IN/A has the captures of the ports of switch A to which no wire goes; those of all its ports are put into OUT/A, which has
+/// to be there. The network is accepted before a capture is got, and all captures are got before the first switch runs. All
+/// names and reports are made before the first put. After a put that failed the files before it stand, and no later one is
+/// put.
+///
+/// # Errors
+///
+/// What is met first: as `network check`; `Get` of a capture, by switch and then by port; `Network` with the fault of a
+/// capture, or `Unsettled`; `Put`; `Write`; `Memory` where a growth was refused.
+///
+/// O(files), beside the runs of the switches.
+pub(crate) fn network_run<O: Write, F: Folder>(
+    alloc: Global,
+    paths: &NetworkPaths<'_>,
+    out: &mut O,
+    folder: &mut F,
+) -> Result<(), Failure> {
+    let network = get_network(alloc, folder, paths.network)?;
+    let names = names_of(alloc, &network.layout().switches)?;
+    let cleared = accept(alloc, &names, network)?;
+    let given = get_given(alloc, folder, paths.input, &names, cleared.network())?;
+    let outcomes = lead(alloc, &names, &cleared, given)?;
+    let files = output_names(alloc, paths.output, &names, &outcomes)?;
+    let text = reports(alloc, &names, &outcomes)?;
+    put_all(alloc, folder, &files, &outcomes)?;
+    write_bytes(out, &text)?;
+    Ok(())
+}

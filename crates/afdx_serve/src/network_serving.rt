@@ -1,0 +1,33 @@
+//! The commands of networks.
+
+ghost use Rattle.std.specs.Prelude.{MatchResult};
+ghost use Rattle.afdx_serve.specs.Serving.{world, PerformsNetwork, FailsToPerformNetwork};
+
+use crate::failure::Failure;
+use crate::folder::Folder;
+use crate::network_check::network_check;
+use crate::network_jitter::network_jitter;
+use crate::network_run::network_run;
+use afdx_words::NetworkRequest;
+use std::alloc::Global;
+use std::io::Write;
+
+/// Does what is asked for.
+pub(crate) fn perform_network<O: Write, F: Folder>(
+    alloc: Global,
+    request: &NetworkRequest<'_>,
+    out: &mut O,
+    folder: &mut F,
+) -> Result<(), Failure>
+    ensures { MatchResult result
+        (λ _. PerformsNetwork request.now
+        (world (O.contents out.old) (F.files folder.old) (F.failed folder.old)) (world (O.contents out.new) (F.files folder.new) (F.failed folder.new)))
+        (λ f. FailsToPerformNetwork f request.now
+        (world (O.contents out.old) (F.files folder.old) (F.failed folder.old)) (world (O.contents out.new) (F.files folder.new) (F.failed folder.new))) }
+{
+    match request {
+        NetworkRequest::Check(path) => network_check(alloc, path, out, folder),
+        NetworkRequest::Jitter(path) => network_jitter(alloc, path, out, folder),
+        NetworkRequest::Run(paths) => network_run(alloc, paths, out, folder),
+    }
+}

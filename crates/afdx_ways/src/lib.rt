@@ -1,0 +1,14 @@
+//! What is told of a network: the ways of its links, the jitters of its rows, the reports of its switches.
+//!
+//! A switch is told by the name that stands at its place among these names; the lines are those of `specs/Lines.antt`.
+#![tactic(auto)]
+
+mod accepted;
+mod ends;
+mod jitters;
+mod reports;
+
+pub use accepted::accepted_text;
+pub use ends::name_of;
+pub use jitters::jitter_text;
+pub use reports::push_report;

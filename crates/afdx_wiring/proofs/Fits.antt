@@ -1,0 +1,65 @@
+-- Tables of which no rule is broken fit together.
+use Rattle.std.proofs.Common.{◌≡◌, ℕ, List, [], Ok, Err}
+use Rattle.std.specs.Prelude.{All, IfOk}
+use Rattle.std.specs.List.{AllByRecursion}
+use Rattle.std.proofs.lemmas.List.Elements.{All-from_recursion}
+use Rattle.afdx_wiring.specs.declared.fault.NetworkFault.{NetworkFault}
+use Rattle.afdx_wiring.specs.declared.layout.Wire.{Wire}
+use Rattle.afdx_wiring.specs.declared.terms.Shared.{Shared}
+use Rattle.afdx_wiring.specs.declared.terms.Shared.TheVariants as shared
+use Rattle.afdx_wiring.specs.Refusal.{◌>>=◌, Gives}
+use Rattle.afdx_wiring.specs.Net.{Network, Row, Back, rows_of, rows_on, IsWayBack}
+use Rattle.afdx_wiring.specs.Rules.{Joins, GoesOn, FitsTogether}
+use Rattle.afdx_wiring.specs.Order.{Answer, first_of, by_wires, joined_at, shares, most_rows, has_source, fed_numbers, each_once, misfit}
+use Rattle.afdx_wiring.proofs.Chains.{first_kept, rest_kept, wires_kept, all_kept, all_weaken, all_both}
+use Rattle.afdx_wiring.proofs.JointLemmas.{IsKept, joins, all_go}
+use Rattle.afdx_wiring.proofs.FeedLemmas.{way_back, source_there}
+use Rattle.afdx_wiring.proofs.OnceLemmas.{once}
+
+shared_by_all : (net : Network) (what : Shared) → by_wires (shares net what) 0 net.layout.wires ≡ Ok tt → AllByRecursion (IsKept net what) net.layout.wires
+shared_by_all net what h = wires_kept (shares net what) (IsKept net what) (λ at w kept. (at, kept)) 0 net.layout.wires h
+
+abbrev AllKept : Network → Wire → Type 0
+AllKept net w = Joins net w × (IsKept net shared.Number w × (IsKept net shared.Port w × IsKept net shared.Terms w))
+
+goes_on : (net : Network) (w : Wire) → AllKept net w → All (GoesOn net w) (rows_on net w)
+goes_on net w kept = All-from_recursion (GoesOn net w) (rows_on net w) (all_go net w kept.0 kept.1.0 kept.1.1.0 kept.1.1.1)
+
+fits : (net : Network) → misfit net ≡ Ok tt → FitsTogether net
+unfolding misfit
+fits net h =
+    let ws : List Wire = net.layout.wires in
+    let joined : Answer = by_wires (joined_at net) 0 ws in
+    let numbers : Answer = by_wires (shares net shared.Number) 0 ws in
+    let ports : Answer = by_wires (shares net shared.Port) 0 ws in
+    let terms : Answer = by_wires (shares net shared.Terms) 0 ws in
+    let sources : Answer = first_of (has_source net) (rows_of net) in
+    let after_sources : Unit {0} → Answer = λ _. each_once [] (fed_numbers net (rows_of net)) in
+    let after_terms : Unit {0} → Answer = λ _. sources >>= after_sources in
+    let after_ports : Unit {0} → Answer = λ _. terms >>= after_terms in
+    let after_numbers : Unit {0} → Answer = λ _. ports >>= after_ports in
+    let after_joined : Unit {0} → Answer = λ _. numbers >>= after_numbers in
+    let h1 = rest_kept joined after_joined tt h in
+    let h2 = rest_kept numbers after_numbers tt h1 in
+    let h3 = rest_kept ports after_ports tt h2 in
+    let h4 = rest_kept terms after_terms tt h3 in
+    let h5 = rest_kept sources after_sources tt h4 in
+    let js : AllByRecursion (Joins net) ws = wires_kept (joined_at net) (Joins net) (joins net) 0 ws (first_kept joined after_joined tt h) in
+    let ns = shared_by_all net shared.Number (first_kept numbers after_numbers tt h1) in
+    let ps = shared_by_all net shared.Port (first_kept ports after_ports tt h2) in
+    let ts = shared_by_all net shared.Terms (first_kept terms after_terms tt h3) in
+    let kept = all_both (Joins net) (λ w. IsKept net shared.Number w × (IsKept net shared.Port w × IsKept net shared.Terms w)) ws js
+    (all_both (IsKept net shared.Number) (λ w. IsKept net shared.Port w × IsKept net shared.Terms w) ws ns
+    (all_both (IsKept net shared.Port) (IsKept net shared.Terms) ws ps ts)) in
+    let fed = all_kept (has_source net) (rows_of net) (first_kept sources after_sources tt h4) in
+    record {
+      wires = All-from_recursion (Joins net) ws js;
+      links = All-from_recursion (λ w. All (GoesOn net w) (rows_on net w)) ws (all_weaken (AllKept net) (λ w. All (GoesOn net w) (rows_on net w)) ws (goes_on net) kept);
+      sources = All-from_recursion (λ r. (backs : List Back) × IsWayBack net r backs) (rows_of net)
+          (all_weaken (λ r. has_source net r ≡ Ok tt) (λ r. (backs : List Back) × IsWayBack net r backs) (rows_of net) (λ r is. way_back most_rows net r (source_there net r is)) fed);
+      once = once net [] (rows_of net) h5;
+    }
+
+pub if_given : (net : Network) (given : Answer) → Gives (λ u. u) given (misfit net) → IfOk given (λ _. FitsTogether net)
+if_given net (Ok tt) h = fits net h
+if_given net (Err e) h = tt

@@ -1,0 +1,13 @@
+pub mod ArrayLemmas
+pub mod Chains
+pub mod Enough
+pub mod Examples
+pub mod FeedLemmas
+pub mod Fits
+pub mod JointLemmas
+pub mod LimitLemmas
+pub mod LoadLemmas
+pub mod NeedLemmas
+pub mod OnceLemmas
+pub mod TextLemmas
+pub mod WalkLemmas

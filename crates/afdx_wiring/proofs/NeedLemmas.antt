@@ -1,0 +1,121 @@
+-- Needs that are met: the check finds no shortage; and what jitters don't touch.
+use Rattle.std.proofs.Common.{◌≡◌, ℕ, zero, suc, ◌+◌, ◌*◌, ◌/◌, ◌≤◌, ◌==◌, ◌&&◌, ◌||◌, Bool, true, false, nat_le, nat_lt, List, [], ◌∷◌, ◌++◌, map, drop, length, get_or, slice_get, slice_set, ◌<◌, append_assoc, Option, Some, None, is_some, Ok, Err, refl, ap, sym, ◌∙◌, arith}
+use Rattle.std.specs.Prelude.{All, find}
+use Rattle.std.specs.List.{AllByRecursion, list_all}
+use Rattle.std.proofs.lemmas.Bool.Decides.{nat_tests}
+use Rattle.std.proofs.lemmas.List.Elements.{All-from_recursion}
+use Rattle.afdx_table.specs.Link.{Link, with_jitter}
+use Rattle.afdx_table.specs.Content.{Content}
+use Rattle.afdx_series.specs.declared.delays.Delays.{Delays}
+use Rattle.afdx_series.specs.Delay.{at_once, need_of}
+use Rattle.afdx_wiring.specs.declared.fault.Short.{Short}
+use Rattle.afdx_wiring.specs.declared.jitters.RowNeed.{RowNeed}
+use Rattle.afdx_wiring.specs.declared.fault.NetworkFault.{NetworkFault}
+use Rattle.afdx_wiring.specs.Refusal.{◌>>=◌, unless}
+use Rattle.afdx_wiring.specs.Net.{Network, Row, rows_of}
+use Rattle.afdx_wiring.specs.Order.{Answer, first_of, most_rows, way_within, has_jitter, jitter_enough, shortage}
+use Rattle.afdx_wiring.specs.Rules.{HasJitters}
+use Rattle.afdx_wiring.specs.Needs.{bare_link, bare, DiffersInJitters, AreNeeds, needed, need_in, past_of, is_met}
+use Rattle.afdx_wiring.proofs.Chains.{fine, row_in, rows_from, next_rows}
+use Rattle.afdx_wiring.proofs.Enough.{enough}
+
+-- ---- rules that are kept by each row
+
+abbrev Fine : (Row → Answer) → Row → Type 0
+Fine rule r = rule r ≡ Ok tt
+
+goes_on : (a : Answer) (rest : Unit {0} → Answer) → a ≡ Ok tt → rest tt ≡ Ok tt → (a >>= rest) ≡ Ok tt
+goes_on (Ok tt) rest here further = further
+goes_on (Err e) rest here further = absurd cc
+
+all_fine : (rule : Row → Answer) (rs : List Row) → AllByRecursion (Fine rule) rs → first_of rule rs ≡ Ok tt
+all_fine rule [] all = refl
+all_fine rule (r ∷ rs) all = goes_on (rule r) (λ _. first_of rule rs) all.0 (all_fine rule rs all.1)
+
+-- ---- needs that are met
+
+left : (a b : Bool) → (a && b) ≡ true → a ≡ true
+left true b h = refl
+left false b h = absurd cc
+
+right : (a b : Bool) → (a && b) ≡ true → b ≡ true
+right true b h = h
+right false b h = absurd cc
+
+same : (a b : ℕ) → (a == b) ≡ true → a ≡ b
+same a b h = grind (arith, nat_tests)
+
+no_less : (has need : ℕ) → has ≡ need * 1000 → nat_lt (has / 1000) need ≡ false
+no_less has need is = grind (arith, nat_tests, is)
+
+kept_where : (b : Bool) (e : NetworkFault) → b ≡ false → unless b e ≡ Ok tt
+kept_where true e h = absurd cc
+kept_where false e h = refl
+
+has_its_need : (r : Row) (o : Option (ℕ × Delays)) → nat_le (needed false o) 10000 ≡ true → r.link.jitter ≡ needed false o * 1000 → has_jitter r o ≡ Ok tt
+has_its_need r None few is = absurd cc
+has_its_need r (Some far) few is = kept_where (nat_lt (r.link.jitter / 1000) (need_of far.1 far.0)) _ (no_less r.link.jitter (need_of far.1 far.0) is)
+
+each_has : (net : Network) (rs : List Row) → list_all is_met (map (need_in false net) rs) ≡ true → AllByRecursion (Fine (jitter_enough net)) rs
+each_has net [] h = tt
+each_has net (r ∷ rs) h =
+    let n : RowNeed = need_in false net r in
+    let rest : Bool = list_all is_met (map (need_in false net) rs) in
+    let met = left (is_met n) rest h in
+    let few = left (nat_le n.need 10000) (n.has == n.need * 1000) met in
+    let is = same n.has (n.need * 1000) (right (nat_le n.need 10000) (n.has == n.need * 1000) met) in
+    (has_its_need r (way_within most_rows net r at_once) few is, each_has net rs (right (is_met n) rest h))
+
+each_is : (ns : List RowNeed) → list_all is_met ns ≡ true → AllByRecursion (λ n. n.has ≡ n.need * 1000) ns
+each_is [] h = tt
+each_is (n ∷ ns) h =
+    let rest : Bool = list_all is_met ns in
+    (same n.has (n.need * 1000) (right (nat_le n.need 10000) (n.has == n.need * 1000) (left (is_met n) rest h)), each_is ns (right (is_met n) rest h))
+
+none_short : (net : Network) → list_all is_met (map (need_in false net) (rows_of net)) ≡ true → shortage net ≡ Ok tt
+unfolding shortage
+none_short net h = all_fine (jitter_enough net) (rows_of net) (each_has net (rows_of net) h)
+
+-- the needs of a turn, which are met where none is past what a table can have
+pub are_needs : (net turn : Network) (needs : List RowNeed) (past : Option Short) → DiffersInJitters net turn → needs ≡ map (need_in false turn) (rows_of turn)
+    → past ≡ past_of needs → (is_some past || list_all is_met needs) ≡ true → AreNeeds net needs past
+are_needs net turn needs past alike rows past_is h = record {
+  turn = turn;
+  alike = alike;
+  rows = rows;
+  past_is = past_is;
+  met = λ none.
+      let met = all_where past none h in
+      let fine_there = none_short turn (sym (ap (list_all is_met) rows) ∙ met) in
+      (All-from_recursion (λ n. n.has ≡ n.need * 1000) needs (each_is needs met), fine_there, enough turn fine_there);
+} where
+  all_where : (o : Option Short) → o ≡ None → (is_some o || list_all is_met needs) ≡ true → list_all is_met needs ≡ true
+  all_where None none met = met
+  all_where (Some s) none met = absurd cc
+
+-- ---- what jitters don't touch
+
+bare_still : (place jitter : ℕ) (ls : List Link) → map bare_link (with_jitter place jitter ls) ≡ map bare_link ls
+bare_still place jitter [] = refl
+bare_still zero jitter (l ∷ ls) = refl
+bare_still (suc place) jitter (l ∷ ls) = ap (λ (rest : List Link). bare_link l ∷ rest) (bare_still place jitter ls)
+
+pub bare_same : (t u : Content) (place jitter : ℕ) → u ≡ record t { links = with_jitter place jitter t.links } → bare u ≡ bare t
+bare_same t u place jitter is = ap bare is ∙ ap (λ (links : List Link). record t { links = links }) (bare_still place jitter t.links)
+
+pub bare_set : (ts : List Content) (i : ℕ) (t u : Content) → t ≡ get_or ts i t → bare u ≡ bare t → map bare (slice_set ts i u) ≡ map bare ts
+bare_set [] i t u is same = refl
+bare_set (x ∷ ts) zero t u is same = ap (λ (c : Content). c ∷ map bare ts) (same ∙ ap bare is)
+bare_set (x ∷ ts) (suc i) t u is same = ap (λ (rest : List Content). bare x ∷ rest) (bare_set ts i t u is same)
+
+-- ---- switch by switch
+
+spread : (f : Row → RowNeed) (n : ℕ) (ls : List Link) (more : List Row) → map f (map (row_in n) ls ++ more) ≡ map (λ l. f (row_in n l)) ls ++ map f more
+spread f n [] more = refl
+spread f n (l ∷ ls) more = ap (λ (rest : List RowNeed). f (row_in n l) ∷ rest) (spread f n ls more)
+
+pub needs_go : (f : Row → RowNeed) (before : List RowNeed) (n : ℕ) (ts : List Content) (t : Content) → n < length ts → t ≡ get_or ts n t
+    → (before ++ map (λ l. f (row_in n l)) t.links) ++ map f (rows_from (n + 1) (drop (n + 1) ts)) ≡ before ++ map f (rows_from n (drop n ts))
+needs_go f before n ts t within is =
+    append_assoc before (map (λ l. f (row_in n l)) t.links) (map f (rows_from (n + 1) (drop (n + 1) ts)))
+    ∙ ap (λ (rest : List RowNeed). before ++ rest) (sym (ap (map f) (next_rows n ts t within is) ∙ spread f n t.links (rows_from (n + 1) (drop (n + 1) ts))))

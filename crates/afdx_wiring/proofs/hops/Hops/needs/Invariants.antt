@@ -1,0 +1,9 @@
+use Rattle.std.proofs.Common.{◌≡◌, ◌++◌, drop, map}
+use Rattle.afdx_wiring.specs.Net.{rows_of}
+use Rattle.afdx_wiring.specs.Needs.{need_in}
+use Rattle.afdx_wiring.proofs.Chains.{rows_from}
+use Rattle.afdx_wiring.proofs.hops.Hops.needs.Given as goal
+
+abbrev pub invariant-loop-switch : goal.invariant-loop-switch
+invariant-loop-switch l =
+    l.needs.items ++ map (need_in l.start l.self) (rows_from l.switch (drop l.switch l.self.tables)) ≡ map (need_in l.start l.self) (rows_of l.self)

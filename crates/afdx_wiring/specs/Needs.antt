@@ -1,0 +1,59 @@
+-- The jitters that the rows of a network need (profile).
+use Rattle.std.specs.Prelude.{◌≡◌, ℕ, ◌*◌, ◌/◌, ◌==◌, ◌&&◌, Bool, true, false, nat_le, nat_lt, List, map, find, All, Option, Some, None, option_map, Ok}
+use Rattle.afdx_table.specs.Link.{Link}
+use Rattle.afdx_table.specs.Content.{Content}
+use Rattle.afdx_series.specs.declared.delays.Delays.{Delays}
+use Rattle.afdx_series.specs.Delay.{at_once, need_of}
+use Rattle.afdx_wiring.specs.declared.fault.Short.{Short}
+use Rattle.afdx_wiring.specs.declared.jitters.RowNeed.{RowNeed}
+use Rattle.afdx_wiring.specs.Net.{Network, Row, rows_of}
+use Rattle.afdx_wiring.specs.Order.{most_rows, way_within, shortage}
+use Rattle.afdx_wiring.specs.Rules.{HasJitters}
+
+-- ---- networks that differ in their jitters alone
+
+-- a row and a table without jitters
+abbrev pub bare_link : Link → Link
+bare_link l = record l { jitter = 0 }
+
+abbrev pub bare : Content → Content
+bare t = record t { links = map bare_link t.links }
+
+abbrev pub DiffersInJitters : Network → Network → Type 0
+DiffersInJitters net other = (other.layout ≡ net.layout) × (map bare other.tables ≡ map bare net.tables)
+
+-- ---- what a row has and needs
+
+-- in whole microseconds: at the start a row needs its source's jitter, then what is enough after the whole way to it. Where no way within
+-- reason leads to it, that is more than any table has
+abbrev pub needed : (start : Bool) → Option (ℕ × Delays) → ℕ
+needed start None = 1000000000
+needed true (Some far) = far.0 / 1000
+needed false (Some far) = need_of far.1 far.0
+
+abbrev pub told : Row → (need : ℕ) → RowNeed
+told r need = record { switch = r.switch; link = r.link.id; has = r.link.jitter; need = need }
+
+abbrev pub need_in : (start : Bool) → Network → Row → RowNeed
+need_in start net r = told r (needed start (way_within most_rows net r at_once))
+
+-- a table has a jitter of at most 10,000 microseconds
+abbrev pub is_past : RowNeed → Bool
+is_past n = nat_lt 10000 n.need
+
+abbrev pub past_of : List RowNeed → Option Short
+past_of needs = option_map (λ n. record { switch = n.switch; link = n.link; need = n.need; has = 10000 }) (find is_past needs)
+
+abbrev pub is_met : RowNeed → Bool
+is_met n = nat_le n.need 10000 && (n.has == n.need * 1000)
+
+-- ---- what is promised
+
+-- these are the needs of all rows of a network that differs from this one in its jitters alone. Where none is past what a table can
+-- have, each row has what it needs, so that the check accepts that network's jitters
+pub record AreNeeds (net : Network) (needs : List RowNeed) (past : Option Short) : Type 0 where
+  pub turn : Network
+  pub alike : DiffersInJitters net turn
+  pub rows : needs ≡ map (need_in false turn) (rows_of turn)
+  pub past_is : past ≡ past_of needs
+  pub met : past ≡ None → All (λ n. n.has ≡ n.need * 1000) needs × (shortage turn ≡ Ok tt) × HasJitters turn

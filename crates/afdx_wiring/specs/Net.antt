@@ -1,0 +1,93 @@
+-- A network: what its file says, and the tables of its switches. The wires of a link's way are found from its end.
+use Rattle.std.specs.Prelude.{◌≡◌, ℕ, true, List, [], ◌∷◌, map, filter, find, flat_map, slice_get, Option, Some, None, option_map, option_and_then}
+use Rattle.std.specs.List.{enumerate_from}
+use Rattle.afdx_units.specs.declared.line.Priority.{Priority}
+use Rattle.afdx_units.specs.declared.line.Priority.TheVariants.{High, Low}
+use Rattle.afdx_table.specs.declared.rows.PortRow.{PortRow}
+use Rattle.afdx_table.specs.Link.{Link, leads_to}
+use Rattle.afdx_table.specs.Content.{Content, port_row, link_row}
+use Rattle.afdx_load.specs.Sums.{load_of}
+use Rattle.afdx_load.specs.Bounds.{bounds_of}
+use Rattle.afdx_load.specs.declared.delays.Bounds.{Bounds}
+use Rattle.afdx_series.specs.declared.delays.Delays.{Delays}
+use Rattle.afdx_series.specs.Delay.{hop_of, joined, at_once}
+use Rattle.afdx_wiring.specs.declared.layout.End.{End}
+use Rattle.afdx_wiring.specs.declared.layout.Wire.{Wire}
+use Rattle.afdx_wiring.specs.File.{Layout, is_end}
+
+pub record Network : Type 0 where
+  pub layout : Layout
+  -- one for each switch, in file order
+  pub tables : List Content
+
+-- a link's row in the table of a switch
+pub record Row : Type 0 where
+  pub switch : ℕ
+  pub link : Link
+
+-- ---- finding
+
+abbrev pub port_at : Network → End → Option PortRow
+port_at net e = option_and_then (λ t. port_row t e.port) (slice_get net.tables e.switch)
+
+abbrev pub row_at : Network → ℕ → ℕ → Option Row
+row_at net switch id = option_and_then (λ t. option_map (λ l. record { switch = switch; link = l }) (link_row t id)) (slice_get net.tables switch)
+
+-- the rows of the table of the switch at this place
+abbrev pub rows_in : ℕ → List Link → List Row
+rows_in n links = map (λ l. record { switch = n; link = l }) links
+
+-- all rows: by switch, then in the order of its table
+abbrev pub rows_of : Network → List Row
+rows_of net = flat_map (λ at. rows_in at.0 at.1.links) (enumerate_from 0 net.tables)
+
+-- the rows of its first switch that lead to a wire
+abbrev pub rows_on : Network → Wire → List Row
+rows_on net w = filter (λ r. leads_to w.from.port r.link) (filter (λ r. is_end (record { switch = r.switch; port = w.from.port }) w.from) (rows_of net))
+
+-- the port at which a row's link comes in
+abbrev pub ingress : Row → End
+ingress r = record { switch = r.switch; port = r.link.from }
+
+abbrev pub wire_to : Network → End → Option Wire
+wire_to net e = find (λ w. is_end w.to e) net.layout.wires
+
+-- an end system's port feeds the row: no wire goes there
+abbrev pub IsSource : Network → Row → Type 0
+IsSource net r = wire_to net (ingress r) ≡ None
+
+-- ---- the way back
+
+-- a wire, and the row that sends the link on it
+pub record Back : Type 0 where
+  pub wire : Wire
+  pub row : Row
+
+-- the way back from a row to its source, the nearest wire first
+abbrev pub IsWayBack : Network → Row → List Back → Type 0
+IsWayBack net r [] = IsSource net r
+IsWayBack net r (b ∷ more) =
+    (wire_to net (ingress r) ≡ Some b.wire) × (row_at net b.wire.from.switch r.link.id ≡ Some b.row)
+    × (leads_to b.wire.from.port b.row.link ≡ true) × IsWayBack net b.row more
+
+abbrev pub source_of : Row → List Back → Row
+source_of r [] = r
+source_of r (b ∷ more) = source_of b.row more
+
+-- ---- what a frame takes for it
+
+-- the bound of a priority
+abbrev pub bound_in : Bounds → Priority → Option ℕ
+bound_in bounds High = bounds.high
+bound_in bounds Low = bounds.low
+
+-- the bound of the row's link at a port that it leads to
+abbrev pub bound_at : Network → Row → PortRow → Option ℕ
+bound_at net r p = option_and_then (λ t. bound_in (bounds_of (load_of t.latency p.speed p.id t.links)) r.link.priority) (slice_get net.tables r.switch)
+
+-- these are the delays from the arrival at the source's switch to that at the row's switch
+abbrev pub AreDelays : Network → List Back → Delays → Type 0
+AreDelays net [] d = d ≡ at_once
+AreDelays net (b ∷ more) d =
+    (t : Content) × (p : PortRow) × (bound : ℕ) × (before : Delays) × (slice_get net.tables b.row.switch ≡ Some t) × (port_at net b.wire.from ≡ Some p)
+    × (bound_at net b.row p ≡ Some bound) × AreDelays net more before × (d ≡ joined before (hop_of p.speed t.latency bound b.wire.delay))

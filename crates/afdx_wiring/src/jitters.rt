@@ -1,0 +1,195 @@
+//! The jitters that the rows of a network need.
+
+ghost use Rattle.std.specs.Prelude.{◌≡◌, ◌≤◌, ◌++◌, ◌||◌, map, is_some, IfOk, IfSome};
+ghost use Rattle.std.specs.List.{list_all};
+ghost use Rattle.afdx_wiring.specs.Net.{rows_of};
+ghost use Rattle.afdx_wiring.specs.Order.{row_of};
+ghost use Rattle.afdx_wiring.specs.Needs.{bare, DiffersInJitters, AreNeeds, needed, told, need_in, past_of, is_met};
+
+use crate::fault::{NetworkFault, Short};
+use crate::hops::Hops;
+use crate::joints::link_at;
+use crate::network::Network;
+use crate::row::Row;
+use crate::sources::MOST_ROWS;
+use afdx_series::{Delays, need};
+use afdx_table::Table;
+use std::alloc::{AllocError, Global};
+
+/// Nanoseconds of a microsecond.
+const MICROSECOND: u64 = 1000;
+
+/// The greatest jitter of a table's row, in microseconds.
+const MAX_JITTER: u64 = 10_000;
+
+/// What a row needs to which no way within reason leads: a thousand seconds, in microseconds.
+const NO_WAY: u64 = 1_000_000_000;
+
+/// The jitter that a row has, and the one that it needs.
+#[derive(Clone, Copy, Debug, PartialEq, Eq)]
+pub struct RowNeed {
+    /// The place of the switch in file order, from 0.
+    pub switch: usize,
+    /// The number of the link.
+    pub link: u16,
+    /// The jitter that it has, in nanoseconds.
+    pub has: u64,
+    /// The jitter that it needs, in whole microseconds.
+    pub need: u64,
+}
+
+/// The jitters that all rows need, by switch and in the order of its table.
+#[derive(Debug, Drop)]
+pub struct Needs {
+    /// One for each row.
+    pub rows: Vec<RowNeed>,
+    /// The first row whose jitter is past what a table can have; then the needs are those of the turn in which it was.
+    pub past: Option<Short>,
+}
+
+/// A row, and what it needs.
+fn told(row: Row<'_>, need: u64) -> RowNeed
+    ensures { result ≡ told (row_of row.entry) need }
+{
+    let link = row.link;
+    RowNeed {
+        switch: row.switch,
+        link: link.id,
+        has: link.jitter,
+        need,
+    }
+}
+
+/// What a row needs after a way of these delays from a source of this jitter; at the start, for none of it.
+fn needed(start: bool, far: Option<(u64, Delays)>) -> u64
+    requires { IfSome far (λ f. (f.0 ≤ 10000000) × (f.1.most ≤ 1152921504606846976)) }
+    ensures { result ≡ needed start far }
+{
+    match far {
+        None => NO_WAY,
+        Some((jitter, _)) if start => jitter / MICROSECOND,
+        Some((jitter, delays)) => need(delays, jitter),
+    }
+}
+
+impl<'a> Hops<'a> {
+    /// What a row has, and what it needs: after the whole way to it or, at the start, for none of it.
+    fn need_in(&self, start: bool, row: Row<'_>) -> RowNeed
+        ensures { result ≡ need_in start self.now (row_of row.entry) }
+    {
+        let far = self.way_within(MOST_ROWS, row, Delays::none());
+        told(row, needed(start, far))
+    }
+
+    /// Adds what the rows of a switch need.
+    fn add_needs(
+        &self,
+        needs: &mut Vec<RowNeed>,
+        start: bool,
+        switch: usize,
+        table: &Table,
+    ) -> Result<(), AllocError>
+        ensures { IfOk result (λ _. needs.new.items ≡ needs.old.items ++ map (λ l. need_in start self.now (record { switch = switch; link = l })) table.now.links) }
+    {
+        for index in 0..table.link_count() {
+            let link = link_at(table, index);
+            needs.push(self.need_in(start, Row { switch, link }))?;
+        }
+        Ok(())
+    }
+
+    /// What all rows need.
+    fn needs(&self, alloc: Global, start: bool) -> Result<Vec<RowNeed>, AllocError>
+        ensures { IfOk result (λ v. v.items ≡ map (need_in start self.now) (rows_of self.now)) }
+    {
+        let mut needs = Vec::new(alloc);
+        for (switch, table) in self.network().tables().iter().enumerate() {
+            self.add_needs(&mut needs, start, switch, table)?;
+        }
+        Ok(needs)
+    }
+}
+
+impl Network {
+    /// What all rows need where they have the jitters that they have.
+    fn needs(&self, alloc: Global, start: bool) -> Result<Vec<RowNeed>, AllocError>
+        ensures { IfOk result (λ v. v.items ≡ map (need_in start self.now) (rows_of self.now)) }
+    {
+        let hops = Hops::new(alloc, self)?;
+        hops.needs(alloc, start)
+    }
+
+    /// The network with these jitters, as far as a table can have them.
+    fn with_jitters(self, needs: &[RowNeed]) -> Result<Network, NetworkFault>
+        ensures { IfOk result (λ net. DiffersInJitters self net) }
+    {
+        let (layout, mut tables) = self.into_parts();
+        for row in needs {
+            set_jitter(&mut tables, row);
+        }
+        Network::new(layout, tables)
+    }
+
+    /// The jitters that the rows need, from the sources' own: all rows begin with the jitter of their source, and each turn
+    /// gives them what they need then, until each row has what it needs or one needs more than a table can have. It is asked of
+    /// a network that fits, whose links ask for no more than their lines; where no way with bounds of at most a thousand seconds
+    /// leads to a row, it needs a thousand seconds. `Memory` is the one refusal.
+    ///
+    /// O(r s w) for each turn, for r rows, at most s switches on a way, and w wires.
+    pub fn jitters(self, alloc: Global) -> Result<Needs, NetworkFault>
+        ensures { IfOk result (λ needs. AreNeeds self needs.rows.items needs.past) }
+    {
+        let first = self.needs(alloc, true)?;
+        let mut network = self.with_jitters(&first)?;
+        for _ in 0..u64::MAX {
+            let rows = network.needs(alloc, false)?;
+            let past = first_past(&rows);
+            if is_last(past, &rows) {
+                return Ok(Needs { rows, past });
+            }
+            network = network.with_jitters(&rows)?;
+        }
+        Err(NetworkFault::Memory)
+    }
+}
+
+/// Gives a row the jitter that it needs, where a table can have it.
+fn set_jitter(tables: &mut Vec<Table>, row: &RowNeed)
+    ensures { map bare tables.new.items ≡ map bare tables.old.items }
+{
+    let Some(table) = tables.get_mut(row.switch) else {
+        return;
+    };
+    if let Some(place) = table.link_place(row.link) {
+        if row.need <= MAX_JITTER {
+            table.set_jitter(place, row.need * MICROSECOND);
+        }
+    }
+}
+
+/// The first row that needs more than a table can have.
+fn first_past(needs: &[RowNeed]) -> Option<Short>
+    ensures { result ≡ past_of needs.now }
+{
+    let row = needs.iter().find(|row| row.need > MAX_JITTER)?;
+    Some(Short {
+        switch: row.switch,
+        link: row.link,
+        need: row.need,
+        has: MAX_JITTER,
+    })
+}
+
+/// Whether each row has what it needs.
+fn are_met(needs: &[RowNeed]) -> bool
+    ensures { result ≡ list_all is_met needs.now }
+{
+    needs.iter().all(|row| row.need <= MAX_JITTER && row.has == row.need * MICROSECOND)
+}
+
+/// Whether no turn comes after this one.
+fn is_last(past: Option<Short>, needs: &[RowNeed]) -> bool
+    ensures { result ≡ (is_some past || list_all is_met needs.now) }
+{
+    past.is_some() || are_met(needs)
+}

@@ -1,0 +1,62 @@
+//! What a network file says.
+
+use std::marker::Model;
+
+/// A switch of the network.
+///
+/// Contracts see it as a record of these fields, each a list of bytes.
+#[derive(Debug, Drop)]
+pub struct Switch {
+    /// From 1 to 16 ASCII letters, digits, `-` or `_`.
+    pub name: String,
+    /// The name of its table's file, as it stands in the network file; it is not empty.
+    pub path: String,
+}
+
+impl Model for Switch {
+    ghost use Rattle.std.specs.Prelude.{string_bytes};
+    ghost use Rattle.afdx_wiring.specs.File.{Switch as Seen};
+
+    ghost Value = { Seen };
+
+    ghost view = { λ s. record { name = string_bytes s.name; path = string_bytes s.path } };
+}
+
+/// A port of a switch.
+#[derive(Clone, Copy, Debug, PartialEq, Eq)]
+pub struct End {
+    /// The place of the switch in file order, from 0.
+    pub switch: usize,
+    /// The number of the port, from 1 to 24.
+    pub port: u8,
+}
+
+/// A cable in one direction.
+#[derive(Clone, Copy, Debug, PartialEq, Eq)]
+pub struct Wire {
+    /// The output port that it comes from.
+    pub from: End,
+    /// The ingress port that it goes to.
+    pub to: End,
+    /// Its delay in nanoseconds, at most 1,000,000.
+    pub delay: u32,
+}
+
+/// What a network file says.
+///
+/// Contracts see it as a record of these two lists.
+#[derive(Debug, Drop)]
+pub struct Layout {
+    /// In file order, at most 64, of different names.
+    pub switches: Vec<Switch>,
+    /// In file order; no two come from one port, and no two go to one port.
+    pub wires: Vec<Wire>,
+}
+
+impl Model for Layout {
+    ghost use Rattle.afdx_wiring.specs.File.{Layout as Seen};
+
+    ghost Value = { Seen };
+
+    ghost view = { λ l. record { switches = l.switches.items; wires = l.wires.items } };
+}

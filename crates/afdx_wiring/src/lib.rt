@@ -1,0 +1,34 @@
+//! The wiring of a network: which output port of a switch leads to which ingress port of another, read from TOML.
+//!
+//! [`read`] is the one way to make a [`Layout`] of a text.
+#![tactic(auto)]
+
+mod arrays;
+mod checking;
+mod cleared;
+mod fault;
+mod fields;
+mod fitting;
+mod hops;
+mod jitters;
+mod joints;
+pub mod laws;
+mod layout;
+mod names;
+mod network;
+mod reading;
+mod row;
+mod sources;
+mod switches;
+mod terms;
+mod ways;
+mod wires;
+
+pub use cleared::ClearedNetwork;
+pub use fault::{At, Key, NetworkFault, Short};
+pub use jitters::{Needs, RowNeed};
+pub use layout::{End, Layout, Switch, Wire};
+pub use network::Network;
+pub use reading::read;
+pub use row::Row;
+pub use ways::Way;

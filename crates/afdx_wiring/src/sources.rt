@@ -1,0 +1,129 @@
+//! The sources of the links: each row is fed by one end system's port at last, and no number by two.
+
+ghost use Rattle.std.specs.Prelude.{◌≡◌, ◌==◌, [], ◌∷◌, ◌++◌, OnOk};
+ghost use Rattle.std.specs.List.{list_any};
+ghost use Rattle.afdx_wiring.specs.Refusal.{Gives};
+ghost use Rattle.afdx_wiring.specs.Net.{rows_in, rows_of};
+ghost use Rattle.afdx_wiring.specs.Order.{row_of, first_of, ends_within, has_source, is_fed, fed_numbers, each_once};
+
+use crate::fault::NetworkFault;
+use crate::joints::link_at;
+use crate::network::Network;
+use crate::row::Row;
+use afdx_numbers::Numbers;
+use afdx_table::Table;
+use std::alloc::Global;
+
+/// A way has each switch at most once, and there are at most so many.
+pub(crate) const MOST_ROWS: usize = 64;
+
+/// Whether a number was met.
+fn has_met(met: &Numbers<Global>, number: u16) -> bool
+    ensures { result ≡ list_any (λ n. n == number) met.now }
+{
+    met.place(number).is_some()
+}
+
+impl Network {
+    /// Whether the way back from a row ends at a source, over at most so many rows.
+    #[tactic(auto, using(crate::proofs::WalkLemmas::ends_step))]
+    fn ends_within(&self, rows: usize, row: Row<'_>) -> bool
+        ensures { result ≡ ends_within rows self.now (row_of row.entry) }
+    {
+        let Some(fewer) = rows.checked_sub(1) else {
+            return false;
+        };
+        let Some(wire) = self.wire_to(row.ingress()) else {
+            return true;
+        };
+        let link = row.link;
+        match self.row_before(link.id, wire) {
+            Some(before) => self.ends_within(fewer, before),
+            None => false,
+        }
+    }
+
+    /// A row's way back.
+    fn has_source(&self, row: Row<'_>) -> Result<(), NetworkFault>
+        ensures { result ≡ has_source self.now (row_of row.entry) }
+    {
+        let link = row.link;
+        if self.ends_within(MOST_ROWS, row) {
+            Ok(())
+        } else {
+            Err(NetworkFault::NoSource(row.switch, link.id))
+        }
+    }
+
+    /// The ways back of a switch's rows.
+    fn have_sources(&self, switch: usize, table: &Table) -> Result<(), NetworkFault>
+        ensures { result ≡ first_of (has_source self.now) (rows_in switch table.now.links) }
+    {
+        for index in 0..table.link_count() {
+            let link = link_at(table, index);
+            self.has_source(Row { switch, link })?;
+        }
+        Ok(())
+    }
+
+    /// The ways back of all rows.
+    pub(crate) fn all_have_sources(&self) -> Result<(), NetworkFault>
+        ensures { result ≡ first_of (has_source self.now) (rows_of self.now) }
+    {
+        for (switch, table) in self.tables().iter().enumerate() {
+            self.have_sources(switch, table)?;
+        }
+        Ok(())
+    }
+
+    /// Whether an end system's port feeds a row.
+    fn is_fed(&self, row: Row<'_>) -> bool
+        ensures { result ≡ is_fed self.now (row_of row.entry) }
+    {
+        self.wire_to(row.ingress()).is_none()
+    }
+
+    /// Keeps the number of a row that an end system's port feeds.
+    fn meet_source(&self, met: &mut Numbers<Global>, row: Row<'_>) -> Result<(), NetworkFault>
+        ensures first { Gives (λ u. u) result (each_once met.old (fed_numbers self.now (row_of row.entry ∷ []))) }
+        ensures met { OnOk result (met.new ≡ met.old ++ fed_numbers self.now (row_of row.entry ∷ [])) }
+    {
+        if !self.is_fed(row) {
+            return Ok(());
+        }
+        let link = row.link;
+        if has_met(met, link.id) {
+            return Err(NetworkFault::TwiceSource(link.id));
+        }
+        met.push(link.id)?;
+        Ok(())
+    }
+
+    /// Keeps those of a switch.
+    fn meet_sources(
+        &self,
+        met: &mut Numbers<Global>,
+        switch: usize,
+        table: &Table,
+    ) -> Result<(), NetworkFault>
+        ensures first { Gives (λ u. u) result (each_once met.old (fed_numbers self.now (rows_in switch table.now.links))) }
+        ensures met { OnOk result (met.new ≡ met.old ++ fed_numbers self.now (rows_in switch table.now.links)) }
+    {
+        for index in 0..table.link_count() {
+            let link = link_at(table, index);
+            self.meet_source(met, Row { switch, link })?;
+        }
+        Ok(())
+    }
+
+    /// Refuses a second source of one number.
+    pub(crate) fn each_fed_once(&self, alloc: Global) -> Result<(), NetworkFault>
+        ensures { Gives (λ u. u) result (each_once [] (fed_numbers self.now (rows_of self.now))) }
+    {
+        let mut met = Numbers::new(alloc);
+        for (switch, table) in self.tables().iter().enumerate() {
+            self.meet_sources(&mut met, switch, table)?;
+        }
+        Ok(())
+    }
+}

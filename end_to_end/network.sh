@@ -1,0 +1,153 @@
+#!/usr/bin/env bash
+# afdx network on the example of three switches and on networks that are drawn by chance, whose senders send whatever they like,
+# beside the model; each refusal, with its line and status.
+. "$(dirname "$0")/common.sh"
+install python3=python3
+export PYTHONDONTWRITEBYTECODE=1 LC_ALL=C
+afdx=${AFDX:-$top/crates/afdx/out/afdx}
+model=$top/end_to_end/network_model.py
+cd "$room" || exit 1
+
+# fresh: the example, as work/.
+fresh() {
+    rm -rf work && cp -r "$top/examples/aircraft" work
+}
+
+# as_modelled COMMAND: the lines for the example are the model's, with status 0.
+as_modelled() {
+    "$afdx" network "$1" work/network.toml >lines.txt 2>said.txt && python3 "$model" "$1" work/network.toml >wanted.txt &&
+        [ -s lines.txt ] && cmp wanted.txt lines.txt && [ ! -s said.txt ]
+}
+
+# runs_as_modelled: so is the report, and so are the captures of all ports.
+runs_as_modelled() {
+    rm -rf out wanted && mkdir -p out/cabin out/bay out/cockpit wanted
+    "$afdx" network run work/network.toml work/in out >lines.txt 2>said.txt &&
+        python3 "$model" run work/network.toml work/in wanted >wanted.txt &&
+        cmp wanted.txt lines.txt && [ ! -s said.txt ] && diff -r wanted out
+}
+
+# tells_jitters: the tables have the jitters that the links need; with others in their place the same ones are told.
+tells_jitters() {
+    as_modelled jitter && mv lines.txt before.txt && sed -i '/^id = 400/,/^jitter_us/ s/^jitter_us = .*/jitter_us = 10000/' work/bay.toml &&
+        "$afdx" network jitter work/network.toml | cmp before.txt -
+}
+
+# past: the lines of all rows, and then the first that needs more than a table can have.
+past() {
+    local status=0
+    sed -i 's/^max_size = .*/max_size = 1518/; s/^bag_ms = .*/bag_ms = 1/; s/^jitter_us = .*/jitter_us = 10000/' work/c*.toml work/bay.toml
+    "$afdx" network jitter work/network.toml >lines.txt 2>said.txt || status=$?
+    python3 "$model" jitter work/network.toml >wanted.txt 2>line.txt
+    cat said.txt
+    [ "$status" -eq 4 ] && cmp wanted.txt lines.txt && cmp line.txt said.txt && [ "$(cat said.txt)" = "$(sed -n 's/^4 \(.*J2.*\)/\1/p' provoked.txt)" ]
+}
+
+# refused STATUS LINE FILE EDIT..: with these edits of a file of the example, the check is refused, and the model says the same.
+refused() {
+    local wanted=$1 line=$2 file=$3
+    fresh && shift 3 && sed -i "$@" "work/$file" || return 1
+    python3 "$model" check work/network.toml >/dev/null 2>line.txt
+    cat line.txt
+    [ "$(cat line.txt)" = "$line" ] && ends "$wanted" "$line" /dev/null network check work/network.toml
+}
+
+# table_refused: a table that is none is told with the name of its switch; the model reads sound tables only.
+table_refused() {
+    fresh && sed -i '0,/^mbit/ s/^mbit/mbits/' work/bay.toml &&
+        ends 3 "afdx: table C3 UnknownKey, port 1, switch bay" /dev/null network check work/network.toml
+}
+
+# provoked STATUS LINE: a line of the page.
+provoked() {
+    echo "$1 $2" >>provoked.txt
+}
+
+# refusal STATUS LINE FILE EDIT..: counts that.
+refusal() {
+    provoked "$@"
+    check "$2" refused "$@"
+}
+
+# twin: a further link of a number that another switch is fed.
+twin() {
+    printf '\n[[link]]\nid = 300\nfrom = 1\nto = [2]\nbag_ms = 8\njitter_us = 100\nmax_size = 128\npriority = "high"\n'
+}
+
+# lines_are_the_pages: the lines that were provoked, with their status, are those of the page's section on networks; that the
+# wires come to no rest is told by the model's rows alone.
+lines_are_the_pages() {
+    sed -n '/^## Networks/,/^## Files/ s/^| `\(afdx: [^`]*\)` | \([0-9]\) |.*/\2 \1/p' "$top/docs/use/MESSAGES.md" | grep -v 'R1 Unsettled' | sort >wanted.txt
+    [ -s wanted.txt ] && sort provoked.txt | diff wanted.txt -
+}
+
+# absolute: a table's name that begins with / is no name beside the network file.
+absolute() {
+    fresh && mkdir elsewhere && mv work/bay.toml elsewhere && sed -i "s#\"bay.toml\"#\"$PWD/elsewhere/bay.toml\"#" work/network.toml &&
+        as_modelled check
+}
+
+# capture_refused: a capture that is none, with its port and its switch.
+capture_refused() {
+    fresh && : >work/in/bay/port-3.pcap && mkdir -p out/cabin out/bay out/cockpit &&
+        ends 3 "afdx: capture P2 NoHeader, port 3, switch bay" /dev/null network run work/network.toml work/in out
+}
+
+# undisturbed: with the camera's capture empty, each other link puts out the same bytes in the same order at each port of each
+# switch.
+undisturbed() {
+    fresh && runs_as_modelled && mv out babbling &&
+        head -c 24 "$top/examples/aircraft/in/cabin/port-1.pcap" >work/in/cabin/port-1.pcap &&
+        runs_as_modelled && python3 "$top/end_to_end/others.py" babbling out 401
+}
+
+: >provoked.txt
+fresh
+check "the check of the example" as_modelled check
+check "the jitters of the example" tells_jitters
+fresh
+provoked 4 "afdx: network J2 NoJitter, switch cabin, link 303, need 15247"
+check "a jitter past 10 ms" past
+fresh
+check "the run of the example" runs_as_modelled
+check "the camera disturbs no other link, two switches away" undisturbed
+check "a table elsewhere" absolute
+
+refusal 3 "afdx: network G1 Toml" network.toml '$a ='
+refusal 3 "afdx: network G2 UnknownKey, wire 1" network.toml '0,/^delay_ns/ s/^delay_ns/delay/'
+refusal 3 "afdx: network G2 MissingKey, switch 2, table" network.toml '/^table = "bay.toml"/d'
+refusal 3 "afdx: network G2 Kind, wire 1, from" network.toml '0,/^from = .*/ s/^from = .*/from = 3/'
+refusal 3 "afdx: network G2 Range, switch 2, name" network.toml 's/^name = "bay"/name = "the bay"/'
+refusal 3 "afdx: network G3 TwiceSwitch, switch 2" network.toml 's/^name = "bay"/name = "cabin"/'
+refusal 3 "afdx: network G3 NoSuchSwitch, wire 1" network.toml '0,/^to = .*/ s/^to = .*/to = "tail.1"/'
+refusal 3 "afdx: network G3 TwiceFrom, wire 3" network.toml 's/^from = "bay.4"/from = "cabin.3"/'
+refusal 3 "afdx: network G3 TwiceTo, wire 4" network.toml 's/^to = "bay.4"/to = "bay.1"/'
+refusal 3 "afdx: network G3 OwnPort, wire 1" network.toml '0,/^to = .*/ s/^to = .*/to = "cabin.3"/'
+refusal 3 "afdx: network G3 NoSuchPort, wire 1" network.toml '0,/^to = .*/ s/^to = .*/to = "bay.9"/'
+provoked 3 "afdx: table C3 UnknownKey, port 1, switch bay"
+check "afdx: table C3 UnknownKey, port 1, switch bay" table_refused
+refusal 4 "afdx: load L2 Buffer, port 1, need 101078630400000, limit 16384000000000, switch bay" bay.toml '0,/^buffer/ s/^buffer = .*/buffer = 100/'
+refusal 3 "afdx: network G4 Constant, wire 1" bay.toml '1i constant = "07000000"'
+refusal 3 "afdx: network G4 Speed, wire 1" bay.toml '0,/^mbit/ s/^mbit = .*/mbit = 10/'
+refusal 3 "afdx: network G5 NoRow, wire 1, link 403" bay.toml 's/^id = 403/id = 404/'
+refusal 3 "afdx: network G6 From, wire 3, link 100" cockpit.toml '/^id = 100/,/^from/ s/^from = .*/from = 3/'
+refusal 3 "afdx: network G7 Size, wire 1, link 403" bay.toml '/^id = 403/,/^max_size/ s/^max_size = .*/max_size = 127/'
+refusal 3 "afdx: network G7 Bag, wire 1, link 403" bay.toml '/^id = 403/,/^bag_ms/ s/^bag_ms = .*/bag_ms = 128/'
+refusal 3 "afdx: network G7 Police, wire 1, link 403" bay.toml -e '/^id = 403/ a police = "frame"' -e 's/^version = 1/version = 2/'
+refusal 3 "afdx: network G8 NoSource, switch bay, link 403" cabin.toml '/^id = 403/,/^to/ s/^to = .*/to = [2]/'
+twin >twin.toml
+refusal 3 "afdx: network G9 TwiceSource, link 300" cabin.toml '$r twin.toml'
+refusal 4 "afdx: network J1 Jitter, switch bay, link 400, need 1100, has 1099" bay.toml '/^id = 400/,/^jitter_us/ s/^jitter_us = .*/jitter_us = 1099/'
+provoked 3 "afdx: capture P2 NoHeader, port 3, switch bay"
+check "afdx: capture P2 NoHeader, port 3, switch bay" capture_refused
+check "MESSAGES has these lines of networks, and no other" lines_are_the_pages
+fresh
+check "no network file" ends 5 "afdx: device get none.toml" /dev/null network check none.toml
+check "no table" ends 5 "afdx: device get work/none.toml" /dev/null network check <(sed 's/"bay.toml"/"none.toml"/' work/network.toml)
+check "no capture" ends 5 "afdx: device get nowhere/cabin/port-1.pcap" /dev/null network run work/network.toml nowhere out
+check "help of network" helps network --help
+check "help of network check" helps network check --help
+check "no command of networks" ends 2 "afdx: usage" /dev/null network
+check "networks that are drawn by chance, with hostile senders" python3 "$top/end_to_end/networks.py" 40 "$afdx" "$room/drawn"
+grep networks "$room/said"
+finish

@@ -1,0 +1,561 @@
+#!/usr/bin/env python3
+"""A plain and slow model of a network of switches; each switch is that of model.py.
+
+usage: network_model.py check NET         the switches, the ways with their delays and jitters, then `accepted`
+       network_model.py jitter NET        the jitter that each row needs, from the sources' own
+       network_model.py run NET IN OUT    reads IN/A/port-K.pcap for each port without a wire, writes OUT/A/port-K.pcap
+                                          for each port, prints each switch's counts after its name
+
+A link's way is walked back from its end, row by row; its delays and jitters are summed from the first row on. Numbers are
+whole, nanoseconds if nothing is said. A refusal is one line on standard error, with status 3 or 4. The tables themselves
+are taken to be in order, their load is not.
+"""
+import os
+import re
+import struct
+import sys
+import tomllib
+from dataclasses import dataclass
+
+import model
+from model import Refused
+
+MICROSECOND = 1000
+LEAST_SIZE = 64
+MOST_SWITCHES = 64
+MOST_DELAY = 1_000_000
+MOST_JITTER_US = 10_000
+MOST_ROUNDS = 64
+
+
+# --- The network file ---
+
+
+@dataclass(frozen=True)
+class End:
+    switch: str
+    port: int
+
+    def __str__(self):
+        return f"{self.switch}.{self.port}"
+
+
+@dataclass
+class Wire:
+    place: str
+    start: End  # an output port
+    end: End  # an ingress port
+    delay: int
+
+
+@dataclass
+class Switch:
+    name: str
+    path: str  # of its table
+
+
+def refuse(rule, *parts):
+    """Letters G: texts that make no network; J and R: what a network cannot do."""
+    raise Refused(", ".join([f"afdx: network {rule}", *parts]), 3 if rule.startswith("G") else 4)
+
+
+def known(place, keys, members):
+    if not set(members) <= set(keys):
+        refuse("G2 UnknownKey", place)
+
+
+def value(place, key, members, kind):
+    """A required value of this kind; a truth value is no number."""
+    if key not in members:
+        refuse("G2 MissingKey", place, key)
+    if type(members[key]) is not kind:
+        refuse("G2 Kind", place, key)
+    return members[key]
+
+
+def matched(place, key, members, pattern):
+    found = re.fullmatch(pattern, value(place, key, members, str))
+    if not found:
+        refuse("G2 Range", place, key)
+    return found
+
+
+def number(place, key, members, least, most):
+    found = value(place, key, members, int)
+    if not least <= found <= most:
+        refuse("G2 Range", place, key)
+    return found
+
+
+def tables(key, top):
+    """An array of tables; none where it is missing."""
+    found = top.get(key, [])
+    if type(found) is not list or any(type(members) is not dict for members in found):
+        refuse("G2 Kind", "top", key)
+    return found
+
+
+def end_of(place, key, members):
+    found = matched(place, key, members, r"([A-Za-z0-9_-]{1,16})\.([1-9]|1[0-9]|2[0-4])")
+    return End(found[1], int(found[2]))
+
+
+def switch_of(place, members, before):
+    known(place, ["name", "table"], members)
+    name = matched(place, "name", members, r"[A-Za-z0-9_-]{1,16}")[0]
+    path = matched(place, "table", members, r"(?s).+")[0]
+    if any(switch.name == name for switch in before):
+        refuse("G3 TwiceSwitch", place)
+    return Switch(name, path)
+
+
+def wire_of(place, members, names, before):
+    known(place, ["from", "to", "delay_ns"], members)
+    start, end = end_of(place, "from", members), end_of(place, "to", members)
+    delay = number(place, "delay_ns", members, 0, MOST_DELAY) if "delay_ns" in members else 0
+    if start.switch not in names or end.switch not in names:
+        refuse("G3 NoSuchSwitch", place)
+    if any(wire.start == start for wire in before):
+        refuse("G3 TwiceFrom", place)
+    if any(wire.end == end for wire in before):
+        refuse("G3 TwiceTo", place)
+    if start == end:
+        refuse("G3 OwnPort", place)
+    return Wire(place, start, end, delay)
+
+
+def layout_of(data):
+    """The switches and the wires that a network file's bytes name."""
+    try:
+        top = tomllib.loads(data.decode("utf-8"))
+    except ValueError:
+        refuse("G1 Toml")
+    known("top", ["version", "switch", "wire"], top)
+    if "version" in top:
+        number("top", "version", top, 1, 1)
+    of_switches, of_wires = tables("switch", top), tables("wire", top)
+    if len(of_switches) > MOST_SWITCHES:
+        refuse("G2 Range", "top", "switch")
+    switches, wires = [], []
+    for place, members in enumerate(of_switches, 1):
+        switches.append(switch_of(f"switch {place}", members, switches))
+    names = [switch.name for switch in switches]
+    for place, members in enumerate(of_wires, 1):
+        wires.append(wire_of(f"wire {place}", members, names, wires))
+    return switches, wires
+
+
+# --- A network and the rows of its tables ---
+
+
+@dataclass(eq=False)
+class Row:
+    """A link's row in the table of a switch."""
+    switch: str
+    link: model.Link
+
+
+@dataclass
+class Network:
+    names: list  # of the switches, in file order
+    tables: dict  # by name
+    wires: list
+    rows: list  # of all tables, by switch and place
+
+
+def network_of(switches, wires, tables_of):
+    rows = [Row(switch.name, link) for switch in switches for link in tables_of[switch.name].links]
+    return Network([switch.name for switch in switches], tables_of, wires, rows)
+
+
+def read(path):
+    """The network of a file, and of the tables beside it."""
+    with open(path, "rb") as file:
+        switches, wires = layout_of(file.read())
+    tables_of = {}
+    for switch in switches:
+        with open(os.path.join(os.path.dirname(path), switch.path), encoding="utf-8", newline="") as file:
+            tables_of[switch.name] = model.table_of(file.read())
+    return network_of(switches, wires, tables_of)
+
+
+def port_of(net, end):
+    """The row of a port; None where the switch has none of this number."""
+    return next((port for port in net.tables[end.switch].ports if port.id == end.port), None)
+
+
+def row_of(net, switch, number):
+    return next((row for row in net.rows if row.switch == switch and row.link.id == number), None)
+
+
+def wire_to(net, end):
+    return next((wire for wire in net.wires if wire.end == end), None)
+
+
+def wire_from(net, start):
+    return next((wire for wire in net.wires if wire.start == start), None)
+
+
+def rows_on(net, wire):
+    """The rows of the first switch that lead to the wire."""
+    return [row for row in net.rows if row.switch == wire.start.switch and wire.start.port in row.link.to]
+
+
+# --- What the tables must agree on ---
+
+
+def ports_are_there(net):
+    for wire in net.wires:
+        if not port_of(net, wire.start) or not port_of(net, wire.end):
+            refuse("G3 NoSuchPort", wire.place)
+
+
+def wires_fit(net):
+    for wire in net.wires:
+        if net.tables[wire.start.switch].constant != net.tables[wire.end.switch].constant:
+            refuse("G4 Constant", wire.place)
+        if port_of(net, wire.start).tick != port_of(net, wire.end).tick:
+            refuse("G4 Speed", wire.place)
+
+
+def no_row(wire, here, there):
+    return None if there else "G5 NoRow"
+
+
+def other_port(wire, here, there):
+    return None if there.link.source == wire.end.port else "G6 From"
+
+
+def other_terms(wire, here, there):
+    if there.link.max_size != here.link.max_size:
+        return "G7 Size"
+    if there.link.bag != here.link.bag:
+        return "G7 Bag"
+    return None if there.link.police == here.link.police else "G7 Police"
+
+
+def rows_agree(net):
+    """Rule by rule: by wire, then by the row of the switch that sends."""
+    for rule in (no_row, other_port, other_terms):
+        for wire in net.wires:
+            for row in rows_on(net, wire):
+                fault = rule(wire, row, row_of(net, wire.end.switch, row.link.id))
+                if fault:
+                    refuse(fault, wire.place, f"link {row.link.id}")
+
+
+def row_before(net, row):
+    """The wire on which a row's link comes and the row that sends it there; nothing for a source, and (wire, None) where
+    the link does not come on it."""
+    wire = wire_to(net, End(row.switch, row.link.source))
+    if not wire:
+        return None
+    before = row_of(net, wire.start.switch, row.link.id)
+    return wire, before if before and wire.start.port in before.link.to else None
+
+
+def way_to(net, row):
+    """The rows from the source to this one, and the wires between them; None where it has no source."""
+    rows, wires = [row], []
+    while step := row_before(net, rows[0]):
+        wire, before = step
+        if before is None or before in rows:
+            return None
+        rows.insert(0, before)
+        wires.insert(0, wire)
+    return rows, wires
+
+
+def sources_are_there(net):
+    for row in net.rows:
+        if not way_to(net, row):
+            refuse("G8 NoSource", f"switch {row.switch}", f"link {row.link.id}")
+
+
+def sources_are_one(net):
+    fed = set()
+    for row in net.rows:
+        if row_before(net, row):
+            continue
+        if row.link.id in fed:
+            refuse("G9 TwiceSource", f"link {row.link.id}")
+        fed.add(row.link.id)
+
+
+def texts_agree(net):
+    wires_fit(net)
+    rows_agree(net)
+    sources_are_there(net)
+    sources_are_one(net)
+
+
+def loads_fit(net, rules=None):
+    """The load of each table, by all rules or by these."""
+    for name in net.names:
+        for port, load in model.loads_of(net.tables[name]):
+            for rule, need, limit in load.rules:
+                if need > limit and (rules is None or rule in rules):
+                    refuse_load(f"{rule}, port {port.id}, need {need}, limit {limit}", name)
+
+
+def refuse_load(fault, name):
+    raise Refused(f"afdx: load {fault}, switch {name}", 4)
+
+
+# --- Delays and jitters ---
+
+
+@dataclass
+class Delays:
+    """What a frame takes for a part of its way, at least (with 64 bytes) and at most."""
+    least: int = 0
+    most: int = 0
+
+    def __add__(self, other):
+        return Delays(self.least + other.least, self.most + other.most)
+
+
+def bound_of(net, row, number):
+    """The bound of the link's priority at a port of its switch."""
+    table = net.tables[row.switch]
+    load = model.load_of(table, port_of(net, End(row.switch, number)))
+    return load.high if row.link.priority == "high" else load.low
+
+
+def through(net, row, number):
+    """From a frame's arrival at a switch until it has left this port."""
+    port = port_of(net, End(row.switch, number))
+    least = port.latency + (LEAST_SIZE + model.LINE_OVERHEAD) * port.tick
+    return Delays(least, bound_of(net, row, number))
+
+
+def before(net, row):
+    """From the arrival at the first switch to that at each switch of the way to a row."""
+    rows, wires = way_to(net, row)
+    sums = [Delays()]
+    for there, wire in zip(rows, wires):
+        cable = Delays(wire.delay, wire.delay)
+        sums.append(sums[-1] + through(net, there, wire.start.port) + cable)
+    return rows, wires, sums
+
+
+def need_us(first, delays):
+    """Whole microseconds of jitter that are enough after these delays for a link with this jitter at its first switch."""
+    return max(0, -(-(first.link.jitter + delays.most - delays.least) // MICROSECOND))
+
+
+def jitters_are_enough(net):
+    for row in net.rows:
+        rows, _, sums = before(net, row)
+        need, has = need_us(rows[0], sums[-1]), row.link.jitter // MICROSECOND
+        if need > has:
+            refuse("J1 Jitter", f"switch {row.switch}", f"link {row.link.id}", f"need {need}", f"has {has}")
+
+
+# --- The commands ---
+
+
+def accept(net):
+    """Refuses what `check` refuses, in its order."""
+    ports_are_there(net)
+    loads_fit(net)
+    texts_agree(net)
+    jitters_are_enough(net)
+
+
+def ends_of(net):
+    """Each row with a port that leads out of the network: by link, then by switch and port."""
+    places = [(row.link.id, net.names.index(row.switch), port, row) for row in net.rows for port in row.link.to
+              if not wire_from(net, End(row.switch, port))]
+    return [(row, port) for _, _, port, row in sorted(places, key=lambda place: place[:3])]
+
+
+def way_line(net, row, port):
+    rows, wires, sums = before(net, row)
+    whole = sums[-1] + through(net, row, port)
+    last = End(row.switch, port)
+    ports = " ".join(str(end) for end in [wire.start for wire in wires] + [last])
+    needs = " ".join(str(need_us(rows[0], delays)) for delays in sums)
+    source = End(rows[0].switch, rows[0].link.source)
+    return f"link {row.link.id} from {source} to {last} ways {ports} least {whole.least} most {whole.most} jitter {needs}", whole.most
+
+
+def check(net):
+    """The lines of an accepted network."""
+    accept(net)
+    lines = [f"switch {name} accepted" for name in net.names]
+    ends = [(row, port, *way_line(net, row, port)) for row, port in ends_of(net)]
+    lines += [line for _, _, line, _ in ends]
+    if ends:
+        row, port, _, most = max(ends, key=lambda end: end[3])  # the first of the greatest
+        lines.append(f"greatest {most} link {row.link.id} to {End(row.switch, port)}")
+    return "".join(line + "\n" for line in lines + ["accepted"])
+
+
+def jitter_lines(net):
+    return "".join(f"switch {row.switch} link {row.link.id} jitter_us {row.link.jitter // MICROSECOND}\n" for row in net.rows)
+
+
+def turn(net):
+    """The jitters that the rows need where all have those that they have now; says whether one of them changed."""
+    needs = [(row, need_us(way_to(net, row)[0][0], before(net, row)[2][-1]) * MICROSECOND) for row in net.rows]
+    changed = any(row.link.jitter != need for row, need in needs)
+    for row, need in needs:
+        row.link.jitter = need
+    return changed
+
+
+def solve(net):
+    """Puts the least jitters into the rows, beginning with the sources' own at each; None, or the first row past the limit."""
+    firsts = [(row, way_to(net, row)[0][0].link.jitter) for row in net.rows]
+    for row, jitter in firsts:
+        row.link.jitter = jitter
+    while turn(net):
+        past = [row for row in net.rows if row.link.jitter > MOST_JITTER_US * MICROSECOND]
+        if past:
+            return past[0]
+    return None
+
+
+def jitter(net):
+    """The lines of all rows, and the refusal where one is past the limit."""
+    ports_are_there(net)
+    loads_fit(net, ["L1 Rate"])
+    texts_agree(net)
+    past = solve(net)
+    if not past:
+        return jitter_lines(net), None
+    need = past.link.jitter // MICROSECOND
+    return jitter_lines(net), Refused(f"afdx: network J2 NoJitter, switch {past.switch}, link {past.link.id}, need {need}", 4)
+
+
+# --- A run ---
+
+
+def order_of(net):
+    """The switches, each after those whose wires lead to it; None where there is no such order."""
+    order, left = [], list(net.names)
+    while left:
+        ready = [name for name in left if not any(wire.end.switch == name and wire.start.switch in left for wire in net.wires)]
+        if not ready:
+            return None
+        order.append(ready[0])
+        left.remove(ready[0])
+    return order
+
+
+def of_switch(name, call, *arguments):
+    """What the call answers; a refusal names the switch."""
+    try:
+        return call(*arguments)
+    except Refused as refused:
+        raise Refused(f"{refused.line}, switch {name}", refused.status)
+
+
+def written(text):
+    """The records of a text that a switch wrote; the last ones may be too late to be read."""
+    records, at = [], 24
+    while at < len(text):
+        seconds, nanos, captured, original = struct.unpack_from("<4I", text, at)
+        records.append(model.Record(seconds * model.SECOND + nanos, original, text[at + 16:at + 16 + captured]))
+        at += 16 + captured
+    return records
+
+
+def carried(wire, outcome):
+    """The text at the end of a wire."""
+    return model.capture_of([model.Record(record.stamp + wire.delay, record.original, record.data)
+                             for record in written(outcome.captures[wire.start.port])])
+
+
+def texts_at(net, name, given, wired):
+    """The captures of a switch's ports: those that were given, and those that came on wires."""
+    ends = [End(name, port.id) for port in net.tables[name].ports]
+    return {end.port: wired[end] if end in wired else given[end] for end in ends}
+
+
+def run_one(net, name, given, wired):
+    return of_switch(name, model.run, net.tables[name], texts_at(net, name, given, wired))
+
+
+def run_in_order(net, order, given):
+    wired, outcomes = {}, {}
+    for name in order:
+        outcomes[name] = run_one(net, name, given, wired)
+        for wire in net.wires:
+            if wire.start.switch == name:
+                wired[wire.end] = carried(wire, outcomes[name])
+    return outcomes
+
+
+def run_by_rounds(net, given, rounds):
+    """All switches over what is there, again until the wires' texts are those of the round before."""
+    wired = {wire.end: model.capture_of([]) for wire in net.wires}
+    for _ in range(rounds):
+        outcomes = {name: run_one(net, name, given, wired) for name in net.names}
+        after = {wire.end: carried(wire, outcomes[wire.start.switch]) for wire in net.wires}
+        if after == wired:
+            return outcomes
+        wired = after
+    refuse("R1 Unsettled")
+
+
+def run(net, given, rounds=MOST_ROUNDS):
+    """What comes out of each switch, where these captures come in at the ports without a wire."""
+    accept(net)
+    for end in open_ends(net):
+        of_switch(end.switch, model.records_of, given[end], end.port)
+    order = order_of(net)
+    return run_in_order(net, order, given) if order else run_by_rounds(net, given, rounds)
+
+
+def open_ends(net):
+    """The ingress ports without a wire."""
+    ends = [End(name, port.id) for name in net.names for port in net.tables[name].ports]
+    return [end for end in ends if not wire_to(net, end)]
+
+
+def report(net, outcomes):
+    return "".join(f"{name} {line}\n" for name in net.names for line in outcomes[name].report.splitlines())
+
+
+def captures_in(net, folder):
+    given = {}
+    for end in open_ends(net):
+        with open(f"{folder}/{end.switch}/port-{end.port}.pcap", "rb") as file:
+            given[end] = file.read()
+    return given
+
+
+def put(net, outcomes, folder):
+    for name in net.names:
+        os.makedirs(f"{folder}/{name}", exist_ok=True)
+        for port, capture in outcomes[name].captures.items():
+            with open(f"{folder}/{name}/port-{port}.pcap", "wb") as file:
+                file.write(capture)
+
+
+def main(command, path, *folders):
+    net = read(path)
+    if command == "check":
+        return check(net), None
+    if command == "jitter":
+        return jitter(net)
+    accept(net)  # before a capture is got
+    outcomes = run(net, captures_in(net, folders[0]))
+    put(net, outcomes, folders[1])
+    return report(net, outcomes), None
+
+
+if __name__ == "__main__":
+    if sys.argv[1:2] not in (["check"], ["jitter"], ["run"]) or len(sys.argv) != (5 if sys.argv[1] == "run" else 3):
+        sys.exit(__doc__)
+    try:
+        said, refused = main(*sys.argv[1:])
+        sys.stdout.write(said)
+        if refused:
+            raise refused
+    except Refused as fault:
+        sys.stdout.flush()
+        print(fault.line, file=sys.stderr)
+        sys.exit(fault.status)

@@ -1,0 +1,361 @@
+#!/usr/bin/env python3
+"""Checks network_model.py against numbers that were worked out by hand; prints what differs, and fails then."""
+import sys
+
+import model
+import network_model
+from network_model import End
+
+PORT = "[[port]]\nid = {}\nmbit = {}\nbuffer = 100000\nmax_delay_us = 500000\n"
+SILENCE = model.capture_of([])
+differing = []
+
+
+def same(name, got, wanted):
+    if got != wanted:
+        differing.append(f"{name}: got {got!r}, wanted {wanted!r}")
+
+
+def refuses(name, line, status, call, *arguments):
+    try:
+        call(*arguments)
+        same(name, "no refusal", line)
+    except model.Refused as refused:
+        same(name, (refused.line, refused.status), (line, status))
+
+
+# --- Networks ---
+
+
+def link(number, source, to, jitter=0, size=64, bag=1, priority="low", police=None):
+    text = (f"[[link]]\nid = {number}\nfrom = {source}\nto = {to}\nbag_ms = {bag}\njitter_us = {jitter}\n"
+            f'max_size = {size}\npriority = "{priority}"\n')
+    return text if police is None else text + f'police = "{police}"\n'
+
+
+def table(*links, ports=4, mbit=100, head=""):
+    """Ports 1, 2 and so on, of this speed or of these speeds."""
+    speeds = mbit if isinstance(mbit, list) else [mbit] * ports
+    return head + "".join(PORT.format(number, speed) for number, speed in enumerate(speeds, 1)) + "".join(links)
+
+
+def layout(names, *wires):
+    """The network file: wires are words, `A.3 B.1` or `A.3 B.1 25`."""
+    text = "version = 1\n" + "".join(f'[[switch]]\nname = "{name}"\ntable = "{name}.toml"\n' for name in names)
+    for wire in wires:
+        start, end, *delay = wire.split()
+        text += f'[[wire]]\nfrom = "{start}"\nto = "{end}"\n' + "".join(f"delay_ns = {ns}\n" for ns in delay)
+    return text
+
+
+def network(tables, *wires):
+    switches, read = network_model.layout_of(layout(tables, *wires).encode())
+    return network_model.network_of(switches, read, {name: model.table_of(text) for name, text in tables.items()})
+
+
+# --- Captures ---
+
+
+def frame(number, size=64):
+    head = bytes.fromhex("03000000") + number.to_bytes(2, "big") + bytes.fromhex("0200000000010800")
+    return head.ljust(size - 4, b"\0")[:size - 4]
+
+
+def capture(*frames):
+    """A capture of (link, stamp) or of (link, stamp, size)."""
+    return model.capture_of([model.Record(at, 0, frame(number, *size)) for number, at, *size in frames])
+
+
+def run(net, **captures):
+    """Runs the network: A1 is what comes in at port 1 of A; at the other ports nothing does."""
+    given = {end: captures.get(f"{end.switch}{end.port}", SILENCE) for end in network_model.open_ends(net)}
+    return network_model.run(net, given)
+
+
+def left(outcomes, switch, port):
+    """Link and stamp of each frame that left a port."""
+    return [(int.from_bytes(record.data[4:6], "big"), record.stamp) for record in network_model.written(outcomes[switch].captures[port])]
+
+
+def sees(name, outcomes, switch, *lines):
+    for line in lines:
+        same(name, line in outcomes[switch].report.splitlines(), True)
+
+
+def says(name, net, *lines):
+    same(name, network_model.check(net).splitlines(), list(lines))
+
+
+def needs(name, net, *lines):
+    """The lines of `jitter`; the last one may be a refusal."""
+    said, refused = network_model.jitter(net)
+    same(name, said.splitlines() + ([refused.line] if refused else []), list(lines))
+
+
+# --- Rows ---
+
+
+def two_switches(jitter):
+    first = table(link(1, 1, [4]), link(2, 2, [4]), link(3, 3, [4]))
+    second = table(*(link(number, 1, [2], jitter) for number in (1, 2, 3)), ports=2)
+    return {"A": first, "B": second}
+
+
+def jitter_enough():
+    """The port of A sends three frames of 6,720 ns, so that 13,440 ns of jitter arise there."""
+    name, net = "jitter enough", network(two_switches(14), "A.4 B.1")
+    same(name, model.check(net.tables["A"]), "port 4 rate 41287680 buffer 336 high - low 20160\naccepted\n")
+    says(name, net, "switch A accepted", "switch B accepted",
+         "link 1 from A.1 to B.2 ways A.4 B.2 least 13440 most 40602 jitter 0 14",
+         "link 2 from A.2 to B.2 ways A.4 B.2 least 13440 most 40602 jitter 0 14",
+         "link 3 from A.3 to B.2 ways A.4 B.2 least 13440 most 40602 jitter 0 14",
+         "greatest 40602 link 1 to B.2", "accepted")
+    outcomes = run(net, A1=capture((1, 0)), A2=capture((2, 0)), A3=capture((3, 0), (3, 1_000_000)))
+    same(name, left(outcomes, "A", 4), [(1, 6_720), (2, 13_440), (3, 20_160), (3, 1_006_720)])
+    same(name, left(outcomes, "B", 2), [(1, 13_440), (2, 20_160), (3, 26_880), (3, 1_013_440)])
+    sees(name, outcomes, "B", "link 3 passed 2 policed 0")
+    short = network(two_switches(13), "A.4 B.1")
+    refuses(name, "afdx: network J1 Jitter, switch B, link 1, need 14, has 13", 4, network_model.check, short)
+    policed = model.run(short.tables["B"], {1: outcomes["A"].captures[4], 2: SILENCE})
+    same(name, "link 3 passed 1 policed 1" in policed.report, True)
+    needs(name, network(two_switches(0), "A.4 B.1"), *(f"switch A link {number} jitter_us 0" for number in (1, 2, 3)),
+          *(f"switch B link {number} jitter_us 14" for number in (1, 2, 3)))
+
+
+def three_in_a_row():
+    """A link over three switches, at each of which a babbler comes in at port 2."""
+    name = "three in a row"
+    tables = {"A": table(link(1, 1, [3]), link(11, 2, [3])),
+              "B": table(link(1, 1, [3], 7), link(11, 1, [4], 7), link(12, 2, [3])),
+              "C": table(link(1, 1, [3], 14), link(12, 1, [4], 7), link(13, 2, [3]))}
+    net = network(tables, "A.3 B.1", "B.3 C.1")
+    says(name, net, "switch A accepted", "switch B accepted", "switch C accepted",
+         "link 1 from A.1 to C.3 ways A.3 B.3 C.3 least 20160 most 40461 jitter 0 7 14",
+         "link 11 from A.2 to B.4 ways A.3 B.4 least 13440 most 20207 jitter 0 7",
+         "link 12 from B.2 to C.4 ways B.3 C.4 least 13440 most 20254 jitter 0 7",
+         "link 13 from C.2 to C.3 ways C.3 least 6720 most 13534 jitter 0",
+         "greatest 40461 link 1 to C.3", "accepted")
+    outcomes = run(net, A1=capture((1, 1)), A2=capture(*[(11, 0)] * 3), B2=capture(*[(12, 13_439)] * 3),
+                   C2=capture(*[(13, 26_878)] * 3))
+    same(name, left(outcomes, "B", 3), [(12, 20_159), (1, 26_879)])
+    same(name, left(outcomes, "C", 3), [(13, 33_598), (1, 40_318)])
+    same(name, (left(outcomes, "B", 4), left(outcomes, "C", 4)), ([(11, 13_440)], [(12, 26_879)]))
+    for switch, babbler in (("A", 11), ("B", 12), ("C", 13)):
+        sees(name, outcomes, switch, "link 1 passed 1 policed 0", f"link {babbler} passed 1 policed 2")
+    given = {end: SILENCE for end in network_model.open_ends(net)} | {End("A", 1): capture((1, 1))}
+    by_rounds = network_model.run_by_rounds(net, given, 64)
+    same("the order of the wires and rounds", by_rounds, network_model.run(net, given))
+
+
+def ring_of_three(jitters):
+    """Each link comes in at port 2, goes on at port 3 of two switches and leaves at port 4 of the next."""
+    return {name: table(link(own, 2, [3]), link(passing, 1, [3], jitters[0]), link(last, 1, [4], jitters[1]))
+            for name, own, passing, last in (("A", 1, 3, 2), ("B", 2, 1, 3), ("C", 3, 2, 1))}
+
+
+def ring():
+    name, wires = "ring", ("A.3 B.1", "B.3 C.1", "C.3 A.1")
+    net = network(ring_of_three((7, 14)), *wires)
+    says(name, net, "switch A accepted", "switch B accepted", "switch C accepted",
+         "link 1 from A.2 to C.4 ways A.3 B.3 C.4 least 20160 most 33788 jitter 0 7 14",
+         "link 2 from B.2 to A.4 ways B.3 C.3 A.4 least 20160 most 33788 jitter 0 7 14",
+         "link 3 from C.2 to B.4 ways C.3 A.3 B.4 least 20160 most 33788 jitter 0 7 14",
+         "greatest 33788 link 1 to C.4", "accepted")
+    same(name, network_model.order_of(net), None)
+    given = {"A2": capture((1, 0)), "B2": capture((2, 0)), "C2": capture((3, 0))}
+    outcomes = run(net, **given)
+    same(name, left(outcomes, "A", 3), [(1, 6_720), (3, 13_440)])
+    same(name, [left(outcomes, switch, 4) for switch in "ABC"], [[(2, 20_160)], [(3, 20_160)], [(1, 20_160)]])
+    needs(name, network(ring_of_three((0, 0)), *wires),
+          *(f"switch {switch} link {number} jitter_us {us}" for switch, numbers in (("A", (1, 3, 2)), ("B", (2, 1, 3)), ("C", (3, 2, 1)))
+            for number, us in zip(numbers, (0, 7, 14))))
+    given = {end: given.get(f"{end.switch}{end.port}", SILENCE) for end in network_model.open_ends(net)}
+    refuses(name, "afdx: network R1 Unsettled", 4, network_model.run, net, given, 2)
+
+
+def multicast():
+    """One frame over two cables to three ports; cables add to both ends of the delay and ask for no jitter."""
+    name = "multicast"
+    tables = {"A": table(link(5, 1, [2, 3]), ports=3), "B": table(link(5, 1, [2]), ports=2), "C": table(link(5, 2, [1, 3]), ports=3)}
+    net = network(tables, "A.2 B.1 25", "A.3 C.2")
+    says(name, net, "switch A accepted", "switch B accepted", "switch C accepted",
+         "link 5 from A.1 to B.2 ways A.2 B.2 least 13465 most 13465 jitter 0 0",
+         "link 5 from A.1 to C.1 ways A.3 C.1 least 13440 most 13440 jitter 0 0",
+         "link 5 from A.1 to C.3 ways A.3 C.3 least 13440 most 13440 jitter 0 0",
+         "greatest 13465 link 5 to B.2", "accepted")
+    outcomes = run(net, A1=capture((5, 0), (5, 1_000_000)))
+    same(name, left(outcomes, "B", 2), [(5, 13_465), (5, 1_013_465)])
+    same(name, (left(outcomes, "C", 1), left(outcomes, "C", 3)), ([(5, 13_440), (5, 1_013_440)],) * 2)
+
+
+def both_kinds_of_policing():
+    """A port with a link of 1518 bytes by frames, 123,040 ns, and one by bytes, 159,390 ns."""
+    name = "both kinds of policing"
+    tables = {"A": table(link(1, 1, [3], 0, 1518, police="frame"), link(2, 2, [3], 0, 1518), head="version = 2\n"),
+              "B": table(link(1, 1, [2], 276, 1518, police="frame"), link(2, 1, [3], 276, 1518), head="version = 2\n")}
+    says(name, network(tables, "A.3 B.1"), "switch A accepted", "switch B accepted",
+         "link 1 from A.1 to B.2 ways A.3 B.2 least 13440 most 439429 jitter 0 276",
+         "link 2 from A.2 to B.3 ways A.3 B.3 least 13440 most 485811 jitter 0 276",
+         "greatest 485811 link 2 to B.3", "accepted")
+    same(name, [model.load_of(model.table_of(tables["B"]), port).low for port in network(tables).tables["B"].ports[1:3]], [156_999, 203_381])
+    short = tables | {"B": tables["B"].replace("jitter_us = 276", "jitter_us = 275")}
+    refuses(name, "afdx: network J1 Jitter, switch B, link 1, need 276, has 275", 4, network_model.check, network(short, "A.3 B.1"))
+
+
+def gigabit_with_latency():
+    """Latencies are in both ends of the delay, so the jitter is that of 1,344 - 672 ns."""
+    name = "gigabit with latency"
+    tables = {"A": table(link(1, 1, [3]), link(2, 2, [3]), ports=3, mbit=1000, head="version = 3\nlatency_us = 10\n"),
+              "B": table(link(1, 1, [2], 1), link(2, 1, [2], 1), ports=2, mbit=1000, head="version = 3\nlatency_us = 20\n")}
+    net = network(tables, "A.3 B.1 500")
+    says(name, net, "switch A accepted", "switch B accepted",
+         "link 1 from A.1 to B.2 ways A.3 B.2 least 31844 most 33189 jitter 0 1",
+         "link 2 from A.2 to B.2 ways A.3 B.2 least 31844 most 33189 jitter 0 1",
+         "greatest 33189 link 1 to B.2", "accepted")
+    outcomes = run(net, A1=capture((1, 0)), A2=capture((2, 0)))
+    same(name, left(outcomes, "A", 3), [(1, 10_672), (2, 11_344)])
+    same(name, left(outcomes, "B", 2), [(1, 31_844), (2, 32_516)])
+
+
+def rounded_once():
+    """Five switches: the sums are 672, 1,345, 2,019 and 2,695 ns, of which only the whole way is rounded."""
+    name, jitters = "rounded once", (0, 1, 2, 3, 3)
+    tables = {switch: table(link(1, 1, [2], jitter), link(2, 3 if switch == "A" else 1, [2], jitter), ports=3, mbit=1000, head="version = 3\n")
+              for switch, jitter in zip("ABCDE", jitters)}
+    wires = [f"{start}.2 {end}.1" for start, end in zip("ABCD", "BCDE")]
+    says(name, network(tables, *wires), *(f"switch {switch} accepted" for switch in "ABCDE"),
+         "link 1 from A.1 to E.2 ways A.2 B.2 C.2 D.2 E.2 least 3360 most 6731 jitter 0 1 2 3 3",
+         "link 2 from A.3 to E.2 ways A.2 B.2 C.2 D.2 E.2 least 3360 most 6731 jitter 0 1 2 3 3",
+         "greatest 6731 link 1 to E.2", "accepted")
+
+
+def bound_of_its_priority():
+    """A high link of 64 bytes behind a low frame of 1518, and the low link behind the high one."""
+    name = "bound of its priority"
+    tables = {"A": table(link(1, 1, [3], priority="high"), link(2, 2, [3], size=1518), ports=3),
+              "B": table(link(1, 1, [2], 124), link(2, 1, [3], 161, 1518), ports=3)}
+    says(name, network(tables, "A.3 B.1"), "switch A accepted", "switch B accepted",
+         "link 1 from A.1 to B.2 ways A.3 B.2 least 13440 most 137313 jitter 0 124",
+         "link 2 from A.2 to B.3 ways A.3 B.3 least 13440 most 352284 jitter 0 161",
+         "greatest 352284 link 2 to B.3", "accepted")
+
+
+def speed_of_the_port_before():
+    """The least delay is that of A's port, 67,200 ns, though B sends ten times as fast."""
+    name = "speed of the port before"
+    tables = {"A": table(link(1, 1, [3]), link(2, 2, [3]), mbit=[10, 10, 10, 100]),
+              "B": table(link(1, 1, [2], 68), link(2, 1, [3], 68), mbit=[10, 100, 1000])}
+    says(name, network(tables, "A.3 B.1"), "switch A accepted", "switch B accepted",
+         "link 1 from A.1 to B.2 ways A.3 B.2 least 73920 most 141576 jitter 0 68",
+         "link 2 from A.2 to B.3 ways A.3 B.3 least 67872 most 135117 jitter 0 68",
+         "greatest 141576 link 1 to B.2", "accepted")
+    tables["B"] = tables["B"].replace("jitter_us = 68", "jitter_us = 67", 1)
+    refuses(name, "afdx: network J1 Jitter, switch B, link 1, need 68, has 67", 4, network_model.check, network(tables, "A.3 B.1"))
+
+
+def turns():
+    """318,780 ns at A; at B more, as the links have jitter there: 318,780 * 1.313."""
+    tables = {switch: table(link(1, 1, [3], size=1518), link(2, 2 if switch == "A" else 1, [3], size=1518)) for switch in "ABC"}
+    needs("turns", network(tables, "A.3 B.1", "B.3 C.1"), *(f"switch {switch} link {number} jitter_us {us}"
+          for switch, us in (("A", 0), ("B", 313), ("C", 724)) for number in (1, 2)))
+
+
+# --- Refusals ---
+
+
+def reads(name, text):
+    network_model.layout_of(text if isinstance(text, bytes) else text.encode())
+
+
+def file_refusals():
+    whole = layout("AB", "A.3 B.1 25", "B.3 A.1")
+    for name, text, fault in (
+        ("no UTF-8", b"\xff", "G1 Toml"),
+        ("no TOML", "version = \n", "G1 Toml"),
+        ("a key twice", "version = 1\nversion = 1\n", "G1 Toml"),
+        ("key of the top", "links = 1\n" + whole, "G2 UnknownKey, top"),
+        ("key of a switch", whole.replace('table = "B.toml"', 'table = "B.toml"\nport = 1'), "G2 UnknownKey, switch 2"),
+        ("key of a wire", whole.replace("delay_ns", "delay_us"), "G2 UnknownKey, wire 1"),
+        ("no name", whole.replace('name = "A"\n', ""), "G2 MissingKey, switch 1, name"),
+        ("no table", whole.replace('table = "B.toml"\n', ""), "G2 MissingKey, switch 2, table"),
+        ("no end", whole.replace('to = "A.1"\n', ""), "G2 MissingKey, wire 2, to"),
+        ("version as a text", whole.replace("version = 1", 'version = "1"'), "G2 Kind, top, version"),
+        ("one switch", "switch = 3\n", "G2 Kind, top, switch"),
+        ("delay as a text", whole.replace("= 25", '= "25"'), "G2 Kind, wire 1, delay_ns"),
+        ("a later version", whole.replace("version = 1", "version = 2"), "G2 Range, top, version"),
+        ("name of two words", whole.replace('"A"', '"A B"'), "G2 Range, switch 1, name"),
+        ("name of 17", whole.replace('"A"', f'"{"A" * 17}"'), "G2 Range, switch 1, name"),
+        ("no path", whole.replace('"A.toml"', '""'), "G2 Range, switch 1, table"),
+        ("port 25", whole.replace("A.3", "A.25"), "G2 Range, wire 1, from"),
+        ("port 0", whole.replace("A.3", "A.0"), "G2 Range, wire 1, from"),
+        ("port 03", whole.replace("A.3", "A.03"), "G2 Range, wire 1, from"),
+        ("no port", whole.replace("B.1", "B"), "G2 Range, wire 1, to"),
+        ("delay past 1 ms", whole.replace("= 25", "= 1000001"), "G2 Range, wire 1, delay_ns"),
+        ("delay below 0", whole.replace("= 25", "= -1"), "G2 Range, wire 1, delay_ns"),
+        ("65 switches", layout([f"S{number}" for number in range(65)]), "G2 Range, top, switch"),
+        ("two of a name", layout("ABA"), "G3 TwiceSwitch, switch 3"),
+        ("no such switch", layout("AB", "A.3 B.1", "A.4 C.1"), "G3 NoSuchSwitch, wire 2"),
+        ("two from a port", layout("ABC", "A.3 B.1", "A.3 C.1"), "G3 TwiceFrom, wire 2"),
+        ("two to a port", layout("ABC", "A.3 C.1", "B.3 C.1"), "G3 TwiceTo, wire 2"),
+        ("own port", layout("A", "A.3 A.3"), "G3 OwnPort, wire 1"),
+        ("a switch before a wire", layout("AA", "A.25 B.1"), "G3 TwiceSwitch, switch 2"),
+        ("a wire before the next", layout("AB", "A.3 C.1", "A.25 B.1"), "G3 NoSuchSwitch, wire 1"),
+    ):
+        refuses(name, f"afdx: network {fault}", 3, reads, name, text)
+    names = ["A" * 16, "a-b_9"]
+    same("greatest values", network_model.layout_of(layout(names, f"{names[0]}.24 {names[1]}.1 1000000", f"{names[1]}.9 {names[0]}.10 0").encode())[1][0].delay, 1_000_000)
+    same("no switch", network_model.check(network({})), "accepted\n")
+
+
+def texts_refused():
+    """What the tables do not agree on, rule by rule."""
+    first, second = table(link(1, 1, [3]), link(2, 2, [3])), table(link(1, 1, [2]), link(2, 1, [2]))
+    jitters = table(link(1, 1, [2], 7), link(2, 1, [2], 7))
+    says("agree", network({"A": first, "B": jitters}, "A.3 B.1"), "switch A accepted", "switch B accepted",
+         "link 1 from A.1 to B.2 ways A.3 B.2 least 13440 most 26974 jitter 0 7",
+         "link 2 from A.2 to B.2 ways A.3 B.2 least 13440 most 26974 jitter 0 7", "greatest 26974 link 1 to B.2", "accepted")
+    heavy = table(*(link(number, 1, [2], size=1518) for number in range(1, 8)))
+    for name, tables, wires, fault, status in (
+        ("no port at the start", {"A": first, "B": second}, ["A.5 B.1"], "network G3 NoSuchPort, wire 1", 3),
+        ("no port at the end", {"A": first, "B": second}, ["A.4 B.4", "A.3 B.5"], "network G3 NoSuchPort, wire 2", 3),
+        ("a load", {"A": first, "B": heavy}, ["A.3 B.1"], "load L1 Rate, port 2, need 2285015040, limit 2048000000, switch B", 4),
+        ("constants", {"A": first, "B": 'constant = "07000000"\n' + second}, ["A.4 A.1", "A.3 B.1"], "network G4 Constant, wire 2", 3),
+        ("speeds", {"A": first, "B": second.replace("mbit = 100", "mbit = 10", 1)}, ["A.3 B.1"], "network G4 Speed, wire 1", 3),
+        ("no row", {"A": first, "B": table(link(1, 1, [2]))}, ["A.3 B.1"], "network G5 NoRow, wire 1, link 2", 3),
+        ("another port", {"A": first, "B": table(link(1, 1, [2]), link(2, 3, [2]))}, ["A.3 B.1"], "network G6 From, wire 1, link 2", 3),
+        ("another size", {"A": first, "B": second.replace("= 64", "= 65", 1)}, ["A.3 B.1"], "network G7 Size, wire 1, link 1", 3),
+        ("another gap", {"A": first, "B": second.replace("bag_ms = 1", "bag_ms = 2", 1)}, ["A.3 B.1"], "network G7 Bag, wire 1, link 1", 3),
+        ("another policing", {"A": first, "B": "version = 2\n" + second + 'police = "frame"\n'}, ["A.3 B.1"], "network G7 Police, wire 1, link 2", 3),
+        ("no such link on the wire", {"A": table(link(1, 1, [3])), "B": second}, ["A.3 B.1"], "network G8 NoSource, switch B, link 2", 3),
+        ("a loop", {"A": table(link(1, 1, [3])), "B": table(link(1, 1, [3]))}, ["A.3 B.1", "B.3 A.1"], "network G8 NoSource, switch A, link 1", 3),
+        ("two sources", {"A": first, "B": table(link(2, 1, [2]))}, [], "network G9 TwiceSource, link 2", 3),
+        ("rule by rule", {"A": table(link(1, 1, [3, 4])), "B": table(link(1, 2, [3])), "C": table()}, ["A.3 B.1", "A.4 C.1"], "network G5 NoRow, wire 2, link 1", 3),
+        ("loads before wires", {"A": 'constant = "07000000"\n' + first, "B": heavy}, ["A.3 B.1"], "load L1 Rate, port 2, need 2285015040, limit 2048000000, switch B", 4),
+        ("jitters last", {"A": first, "B": second, "C": table(link(1, 1, [2]))}, ["A.3 B.1"], "network G9 TwiceSource, link 1", 3),
+    ):
+        refuses(name, f"afdx: {fault}", status, network_model.check, network(tables, *wires))
+
+
+def past_the_limit():
+    """Nine links of 1518 bytes at 10 Mbit/s: 9 * 1,593,900 - 67,200 ns."""
+    tables = {"A": table(*(link(number, 1, [2], size=1518, bag=128) for number in range(1, 10)), ports=2, mbit=10),
+              "B": table(*(link(number, 1, [2], size=1518, bag=128) for number in range(1, 10)), ports=2, mbit=10)}
+    needs("past the limit", network(tables, "A.2 B.1"), *(f"switch A link {number} jitter_us 0" for number in range(1, 10)),
+          *(f"switch B link {number} jitter_us 14278" for number in range(1, 10)),
+          "afdx: network J2 NoJitter, switch B, link 1, need 14278")
+
+
+def captures_refused():
+    name, net = "captures of a network", network(two_switches(14), "A.4 B.1")
+    late = 4_294_967_295 * 10**9
+    refuses(name, "afdx: capture P2 NoHeader, port 2, switch A", 3, lambda: run(net, A2=b""))
+    refuses(name, "afdx: capture P9 Late, port 1, record 1, switch A", 3, lambda: run(net, A1=capture((1, late))))
+    refuses(name, "afdx: capture P9 Late, port 1, record 1, switch B", 3, lambda: run(net, A1=capture((1, late - 1))))
+    same(name, left(run(net, A1=capture((1, late - 10**9))), "B", 2), [(1, late - 10**9 + 13_440)])
+
+
+for part in (jitter_enough, three_in_a_row, ring, multicast, both_kinds_of_policing, gigabit_with_latency, rounded_once, bound_of_its_priority,
+             speed_of_the_port_before, turns, file_refusals, texts_refused, past_the_limit, captures_refused):
+    part()
+print("\n".join(differing) or "the model of networks gives every worked number")
+sys.exit(bool(differing))
