@@ -134,6 +134,6 @@ filled_at_end p ids xs k were past =
       none : drop k ids ≡ []
       none = none_left ids k past
 
-pub numbers_of_insert : {X : Type 0} (f : X → ℕ) (xs : List X) (k : ℕ) (v : X) → map f (insert xs k v) ≡ insert (map f xs) k (f v)
-numbers_of_insert f xs k v =
-    map-append f (take k xs) (v ∷ drop k xs) ∙ ap (λ (ys : List ℕ). ys ++ f v ∷ map f (drop k xs)) (sym (take-map f k xs)) ∙ ap (λ (ys : List ℕ). take k (map f xs) ++ f v ∷ ys) (sym (drop-map f k xs))
+pub map_insert : {X Y : Type 0} (f : X → Y) (xs : List X) (k : ℕ) (v : X) → map f (insert xs k v) ≡ insert (map f xs) k (f v)
+map_insert {Y = Y} f xs k v =
+    map-append f (take k xs) (v ∷ drop k xs) ∙ ap (λ (ys : List Y). ys ++ f v ∷ map f (drop k xs)) (sym (take-map f k xs)) ∙ ap (λ (ys : List Y). take k (map f xs) ++ f v ∷ ys) (sym (drop-map f k xs))
