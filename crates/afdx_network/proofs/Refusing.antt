@@ -1,42 +1,19 @@
 -- Why there is no run.
-use Rattle.std.proofs.Common.{◌≡◌, ◌⊎◌, ◌↔◌, ℕ, zero, suc, ◌+◌, ◌<◌, ◌≤◌, Bool, List, [], ◌∷◌, ◌++◌, length, get_or, slice_get, take, Some, refl, ap, sym, ◌∙◌, inl, inr, subst, arith, Vec}
-use Rattle.std.specs.Prelude.{All, IsTrue}
+use Rattle.std.proofs.Common.{◌≡◌, ℕ, zero, suc, ◌+◌, ◌<◌, ◌≤◌, List, [], ◌∷◌, ◌++◌, length, get_or, slice_get, take, Some, refl, ap, sym, ◌∙◌, inl, inr, subst, Vec}
+use Rattle.std.specs.Prelude.{All}
 use Rattle.std.proofs.lemmas.List.{take_more, take_all}
 use Rattle.std.proofs.lemmas.Option.{slice_get_within, slice_get_read, get_or_from_slice_get}
 use Rattle.std.proofs.lemmas.List.Elements.{All-head, All-tail, All-push}
 use Rattle.afdx_pcap.specs.declared.fault.PcapFault.{PcapFault}
 use Rattle.afdx_pcap.specs.Fault.{IsFault}
-use Rattle.afdx_table.specs.Content.{Content}
 use Rattle.afdx_session.specs.Texts.{Text, texts_of}
 use Rattle.afdx_session.specs.Reading.{IsSound, IsFirstFault}
 use Rattle.afdx_wiring.specs.Net.{Network}
 use Rattle.afdx_network.specs.declared.fault.NetworkRunFault.{NetworkRunFault}
 use Rattle.afdx_network.specs.declared.fault.NetworkRunFault.TheVariants as fault
 use Rattle.afdx_network.specs.Runs.{Given}
-use Rattle.afdx_network.specs.Given.{given_of, AreOpen, IsGivenAt, AreGiven, AreSound, IsFirstUngiven, IsFirstUnsound, IsRefusal, IsTextFault, IsGivenFault, IsWireFault}
-use Rattle.afdx_network.proofs.Found.{some_same, get_map}
-
--- ---- what is given for a switch
-
-pub given_where_open : (net : Network) (given : Given) (switch : ℕ) (t : Content) (texts : List Text) (b : Bool) → slice_get net.tables switch ≡ Some t
-    → slice_get given switch ≡ Some texts → (IsTrue b ↔ AreOpen net switch t texts) → (IsTrue b ↔ IsGivenAt net given switch)
-given_where_open net given switch t texts b at texts_at is = (
-  λ h. record { table = t; texts = texts; table_is = at; texts_is = texts_at; of_open = is.0 h },
-  λ it. is.1 (subst (λ (c : Content). AreOpen net switch c texts) (some_same (sym it.table_is ∙ at))
-      (subst (λ (ts : List Text). AreOpen net switch it.table ts) (some_same (sym it.texts_is ∙ texts_at)) it.of_open)),
-)
-
-pub first_ungiven : (net : Network) (given : Given) (switch : ℕ) → ((n : ℕ) → n < switch → IsGivenAt net given n) → switch < length net.tables
-    → (IsGivenAt net given switch → ⊥) → IsFirstUngiven net given switch
-first_ungiven net given switch before within here = record { before = before; here = here; one = λ same. within }
-
-pub too_many : (net : Network) (given : Given) (switches : ℕ) → ((n : ℕ) → n < switches → IsGivenAt net given n) → switches ≡ length net.tables
-    → (length given ≡ switches → ⊥) → IsFirstUngiven net given switches
-too_many net given switches before all more = record {
-  before = before;
-  here = λ it. let within = slice_get_within net.tables switches it.table it.table_is in omega (arith, within, all);
-  one = λ same. absurd (more (same ∙ sym all));
-}
+use Rattle.afdx_network.specs.Given.{given_of, AreGiven, AreSound, IsFirstUngiven, IsFirstUnsound, IsRefusal, IsTextFault, IsGivenFault, IsWireFault}
+use Rattle.afdx_network.proofs.Found.{get_map}
 
 -- ---- the first given text that is no capture
 

@@ -1,5 +1,5 @@
 -- The sites before the first round.
-use Rattle.std.proofs.Common.{◌≡◌, ◌⊎◌, ℕ, ◌+◌, ◌<◌, List, [], ◌∷◌, ◌++◌, length, get_or, slice_get, Some, None, refl, sym, ◌∙◌, inl, inr, subst, arith, Vec}
+use Rattle.std.proofs.Common.{◌≡◌, ◌⊎◌, ℕ, ◌<◌, List, [], ◌∷◌, ◌++◌, length, get_or, slice_get, Some, None, refl, sym, ◌∙◌, inl, inr, subst, Vec}
 use Rattle.std.proofs.lemmas.Option.{slice_get_within, slice_get_read}
 use Rattle.afdx_table.specs.Content.{Content}
 use Rattle.afdx_session.specs.Texts.{Text, texts_of}
@@ -17,7 +17,8 @@ pub record IsAt (net : Network) (given : Given) (switch : ℕ) (t : Content) (ow
 
 -- what is given for the next switch
 pub next_at : {Y Z : Type 0} (net : Network) (given yielded rest : List (Vec (ℕ × Vec ℕ Z) Y)) (own : Vec (ℕ × Vec ℕ Z) Y) (tables : List Content) (switch : ℕ) (t : Content)
-    → AreGiven net (given_of given) → switch ≡ length yielded → yielded ++ own ∷ rest ≡ given → tables ≡ net.tables → t ≡ get_or tables switch t → IsAt net (given_of given) switch t (texts_of own.items)
+    → AreGiven net (given_of given) → switch ≡ length yielded → yielded ++ own ∷ rest ≡ given → tables ≡ net.tables → t ≡ get_or tables switch t
+    → IsAt net (given_of given) switch t (texts_of own.items)
 next_at net given yielded rest own tables switch t are place whole same is = record { table_is = subst (λ ts. slice_get ts switch ≡ Some t) same there; own_is = own_there } where
   own_there : slice_get (given_of given) switch ≡ Some (texts_of own.items)
   own_there = subst (λ n. slice_get (given_of given) n ≡ Some (texts_of own.items)) (sym place) (got_seam (λ texts. texts_of texts.items) yielded rest given own whole)

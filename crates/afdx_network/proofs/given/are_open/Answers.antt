@@ -1,4 +1,4 @@
-use Rattle.std.proofs.Common.{◌≡◌, ◌⊎◌, ◌↔◌, ℕ, suc, ◌+◌, ◌<◌, ◌≤◌, Bool, true, nat_eq, List, ◌∷◌, length, map, filter, drop, get_or, refl, ap, sym, ◌∙◌, inl, inr, subst, arith, Vec}
+use Rattle.std.proofs.Common.{◌≡◌, ◌⊎◌, ◌↔◌, ℕ, suc, ◌+◌, ◌<◌, ◌≤◌, Bool, true, nat_eq, List, ◌∷◌, length, map, filter, drop, get_or, ap, sym, ◌∙◌, inl, inr, subst, arith, Vec}
 use Rattle.std.specs.Prelude.{IsTrue}
 use Rattle.std.proofs.lemmas.Bool.{eqb-true, eq-eqb, false≢true}
 use Rattle.std.proofs.lemmas.List.{length-map}
@@ -7,7 +7,8 @@ use Rattle.afdx_session.specs.Texts.{Text, texts_of}
 use Rattle.afdx_network.specs.Given.{is_open}
 use Rattle.afdx_network.proofs.Opening.{GoTogether, mapped_next, next_of, both_go, one_goes, stop_here, both_end}
 use Rattle.afdx_network.proofs.given.are_open.Goals as goal
-use Rattle.afdx_network.proofs.given.are_open.Goals.{then-next-texts-via-then-next-texts, then-next-texts-via-else-next-texts+then-texts-next, then-is_open+else-next-texts+else-texts-next, else-is_open}
+use Rattle.afdx_network.proofs.given.are_open.Goals.{then-next-texts-via-then-next-texts, then-next-texts-via-else-next-texts+then-texts-next}
+use Rattle.afdx_network.proofs.given.are_open.Goals.{then-is_open+else-next-texts+else-texts-next, else-is_open}
 
 abbrev ids : List PortRow → List ℕ
 ids rows = map (λ p. p.id) rows
@@ -37,41 +38,49 @@ at_end p rows ports texts k n same were past = (
   both : (n ≡ length (numbers texts)) ↔ (numbers texts ≡ filter p (ids rows))
   both = both_end p (ids rows) (numbers texts) k n were (omega (arith, past, length-map rows (λ p. p.id)))
 
-stops : {Z : Type 0} (p : ℕ → Bool) (rows ports : List PortRow) (texts : List (ℕ × Vec ℕ Z)) (k n : ℕ) (row : PortRow) → rows ≡ ports → GoTogether p (ids rows) (numbers texts) k n
-    → k < length rows → true ≡ p (get_or rows k row).id
+stops : {Z : Type 0} (p : ℕ → Bool) (rows ports : List PortRow) (texts : List (ℕ × Vec ℕ Z)) (k n : ℕ) (row : PortRow) → rows ≡ ports
+    → GoTogether p (ids rows) (numbers texts) k n → k < length rows → true ≡ p (get_or rows k row).id
     → (length texts ≤ n) ⊎ ((text : ℕ × Vec ℕ Z) × (n < length texts) × ((get_or texts n text).0 ≡ (get_or rows k row).id → ⊥)) → numbers texts ≡ filter p (ids ports) → ⊥
 stops {Z = Z} p rows ports texts k n row same were port passes why all =
-    stop_here p (ids rows) (numbers texts) k n (get_or rows k row).id were (next_of (λ p. p.id) rows k row port) (sym passes) (by why) (all ∙ ap (λ (rs : List PortRow). filter p (ids rs)) (sym same)) where
+    stop_here p (ids rows) (numbers texts) k n (get_or rows k row).id were (next_of (λ p. p.id) rows k row port) (sym passes) (by why)
+    (all ∙ ap (λ (rs : List PortRow). filter p (ids rs)) (sym same)) where
       by : (length texts ≤ n) ⊎ ((text : ℕ × Vec ℕ Z) × (n < length texts) × ((get_or texts n text).0 ≡ (get_or rows k row).id → ⊥))
           → (length (numbers texts) ≤ n) ⊎ ((x : ℕ) × (drop n (numbers texts) ≡ x ∷ drop (suc n) (numbers texts)) × (x ≡ (get_or rows k row).id → ⊥))
       by (inl past) = inl (omega (arith, past, as_many texts))
       by (inr other) = inr ((get_or texts n other.0).0, next_number texts n other.0 other.1, other.2)
 
 pub returns-then-next-texts : goal.returns-then-next-texts
-returns-then-next-texts c = (
-  λ h. absurd (false≢true h),
-  λ all. absurd (elim c.then-next-texts.branch [
-    then-next-texts-via-then-next-texts w ↦ stops (is_open c.args.network.now c.args.switch) c.ports-row-items.result.now c.args.table.now.ports c.args.texts.now c.loop-row.row-index c.loop-row.next _
-        c.loop-row.invariant.ports c.loop-row.invariant.together c.loop-row-test.true c.if-is_open.ensures (inl w.if-next-texts.true) all
-    | then-next-texts-via-else-next-texts+then-texts-next w ↦ stops (is_open c.args.network.now c.args.switch) c.ports-row-items.result.now c.args.table.now.ports c.args.texts.now c.loop-row.row-index
-        c.loop-row.next _ c.loop-row.invariant.ports c.loop-row.invariant.together c.loop-row-test.true c.if-is_open.ensures
-        (inr (w.index-texts-next.result, w.if-next-texts.false, w.if-texts-next.true)) all
-  ]),
-)
+returns-then-next-texts c =
+    let at = c.loop-row in
+    let p = is_open c.args.network.now c.args.switch in
+    let rows = c.ports-row-items.result.now in
+    let never = stops p rows c.args.table.now.ports c.args.texts.now at.row-index at.next _ at.invariant.ports at.invariant.together c.loop-row-test.true c.if-is_open.ensures in
+    (
+      λ h. absurd (false≢true h),
+      λ all. absurd (elim c.then-next-texts.branch [
+        then-next-texts-via-then-next-texts w ↦ never (inl w.if-next-texts.true) all
+        | then-next-texts-via-else-next-texts+then-texts-next w ↦ never (inr (w.index-texts-next.result, w.if-next-texts.false, w.if-texts-next.true)) all
+      ]),
+    )
 
 pub loop-row-preserved : goal.loop-row-preserved
-loop-row-preserved c = record {
-  ports = c.loop-row.invariant.ports;
-  together = elim c.if-is_open.branch [
-    then-is_open+else-next-texts+else-texts-next w ↦ subst (GoTogether (is_open c.args.network.now c.args.switch) (ids c.ports-row-items.result.now) (numbers c.args.texts.now) (c.loop-row.row-index + 1)) (sym w.next-is)
-        (goes_on (is_open c.args.network.now c.args.switch) c.ports-row-items.result.now c.args.texts.now c.loop-row.row-index c.loop-row.next _ w.index-texts-next.result c.loop-row.invariant.together
-        c.loop-row-test.true w.if-next-texts.false w.if-is_open.ensures w.if-texts-next.false)
-    | else-is_open w ↦ subst (GoTogether (is_open c.args.network.now c.args.switch) (ids c.ports-row-items.result.now) (numbers c.args.texts.now) (c.loop-row.row-index + 1)) (sym w.next-is)
-        (one_goes (is_open c.args.network.now c.args.switch) (ids c.ports-row-items.result.now) (numbers c.args.texts.now) c.loop-row.row-index c.loop-row.next _ c.loop-row.invariant.together
-        (next_of (λ p. p.id) c.ports-row-items.result.now c.loop-row.row-index _ c.loop-row-test.true) (sym w.if-is_open.ensures))
-  ];
-}
+loop-row-preserved c =
+    let at = c.loop-row in
+    let p = is_open c.args.network.now c.args.switch in
+    let rows = c.ports-row-items.result.now in
+    let texts = c.args.texts.now in
+    record {
+      ports = at.invariant.ports;
+      together = elim c.if-is_open.branch [
+        then-is_open+else-next-texts+else-texts-next w ↦ subst (GoTogether p (ids rows) (numbers texts) (at.row-index + 1)) (sym w.next-is)
+            (goes_on p rows texts at.row-index at.next _ w.index-texts-next.result at.invariant.together c.loop-row-test.true w.if-next-texts.false w.if-is_open.ensures w.if-texts-next.false)
+        | else-is_open w ↦ subst (GoTogether p (ids rows) (numbers texts) (at.row-index + 1)) (sym w.next-is)
+            (one_goes p (ids rows) (numbers texts) at.row-index at.next _ at.invariant.together (next_of (λ q. q.id) rows at.row-index _ c.loop-row-test.true) (sym w.if-is_open.ensures))
+      ];
+    }
 
 pub returns : goal.returns
-returns c = at_end (is_open c.args.network.now c.args.switch) c.ports-row-items.result.now c.args.table.now.ports c.args.texts.now c.loop-row.row-index c.loop-row.next c.loop-row.invariant.ports
-    c.loop-row.invariant.together c.loop-row-test.false
+returns c =
+    let at = c.loop-row in
+    let p = is_open c.args.network.now c.args.switch in
+    at_end p c.ports-row-items.result.now c.args.table.now.ports c.args.texts.now at.row-index at.next at.invariant.ports at.invariant.together c.loop-row-test.false

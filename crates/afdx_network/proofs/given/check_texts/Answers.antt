@@ -1,4 +1,4 @@
-use Rattle.std.proofs.Common.{rules, ◌≡◌, ℕ, ◌≤◌, List, length, refl, sym, ◌∙◌, subst, arith, Vec}
+use Rattle.std.proofs.Common.{rules, refl, subst, arith}
 use Rattle.std.proofs.lemmas.List.{length-map}
 use Rattle.afdx_pcap.specs.Fault.{IsFault}
 use Rattle.afdx_session.specs.Texts.{Text, texts_of}

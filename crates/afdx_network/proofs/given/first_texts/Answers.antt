@@ -1,4 +1,4 @@
-use Rattle.std.proofs.Common.{◌≡◌, ◌⊎◌, ℕ, suc, ◌+◌, ◌<◌, ◌≤◌, Bool, true, false, not, List, ◌∷◌, length, map, drop, get_or, Option, Some, None, refl, ap, sym, ◌∙◌, inl, inr, subst, arith, Vec}
+use Rattle.std.proofs.Common.{◌≡◌, ◌⊎◌, ℕ, ◌+◌, ◌<◌, true, false, not, List, length, map, get_or, Option, Some, None, ap, sym, ◌∙◌, inl, inr, subst, arith, Vec}
 use Rattle.std.specs.Prelude.{Contains, insert, is_some}
 use Rattle.std.proofs.lemmas.List.{length-map}
 use Rattle.afdx_table.specs.declared.rows.PortRow.{PortRow}
@@ -53,20 +53,28 @@ texts_of_insert old new place text is = ap texts_of is ∙ map_insert (λ pair. 
 
 pub loop-place-preserved : goal.loop-place-preserved
 loop-place-preserved c = record { filled = after.filled; others = after.others } where
+  net : Network
+  net = c.args.network.now
+
   rows : List PortRow
   rows = c.ports-ports.result.now
 
-  were : ComesSoFar c.args.network.now c.args.switch rows (texts_of c.args.given.items) (texts_of c.loop-place.texts.items) c.loop-place.place
+  own : List Text
+  own = texts_of c.args.given.items
+
+  were : ComesSoFar net c.args.switch rows own (texts_of c.loop-place.texts.items) c.loop-place.place
   were = record { filled = c.loop-place.invariant.filled; others = c.loop-place.invariant.others }
 
-  after : ComesSoFar c.args.network.now c.args.switch rows (texts_of c.args.given.items) (texts_of c.if-not-is_open.texts.items) (c.loop-place.place + 1)
-  after = elim c.if-not-is_open.branch [
-    then-not-is_open+in_ok-write_header+in_ok-insert w ↦
-        let put = silence_there c.args.network.now c.args.switch rows (texts_of c.args.given.items) (texts_of c.loop-place.texts.items) c.loop-place.place _ w.write_header.new.out.items
-            c.loop-place-test.true w.if-not-is_open.ensures were in
-        let texts_are = ap (λ (texts : Vec (ℕ × Vec ℕ _) _). texts_of texts.items) w.texts-is ∙ texts_of_insert c.loop-place.texts.items w.insert.new.self.items c.loop-place.place _ w.in_ok-insert.ensures.items in
-        subst (λ came. ComesSoFar c.args.network.now c.args.switch rows (texts_of c.args.given.items) came (c.loop-place.place + 1)) (sym texts_are) put
-    | else-not-is_open w ↦ let stays = given_there c.args.network.now c.args.switch rows (texts_of c.args.given.items) (texts_of c.loop-place.texts.items) c.loop-place.place _
-          c.loop-place-test.true w.if-not-is_open.ensures were in
-        subst (λ (texts : Vec (ℕ × Vec ℕ _) _). ComesSoFar c.args.network.now c.args.switch rows (texts_of c.args.given.items) (texts_of texts.items) (c.loop-place.place + 1)) (sym w.texts-is) stays
-  ]
+  after : ComesSoFar net c.args.switch rows own (texts_of c.if-not-is_open.texts.items) (c.loop-place.place + 1)
+  after =
+      let at = c.loop-place in
+      let came = texts_of at.texts.items in
+      elim c.if-not-is_open.branch [
+        then-not-is_open+in_ok-write_header+in_ok-insert w ↦
+            let put = silence_there net c.args.switch rows own came at.place _ w.write_header.new.out.items c.loop-place-test.true w.if-not-is_open.ensures were in
+            let inserted_are = texts_of_insert at.texts.items w.insert.new.self.items at.place _ w.in_ok-insert.ensures.items in
+            subst (λ texts. ComesSoFar net c.args.switch rows own texts (at.place + 1)) (sym (ap (λ (texts : Vec (ℕ × Vec ℕ _) _). texts_of texts.items) w.texts-is ∙ inserted_are)) put
+        | else-not-is_open w ↦
+            let stays = given_there net c.args.switch rows own came at.place _ c.loop-place-test.true w.if-not-is_open.ensures were in
+            subst (λ (texts : Vec (ℕ × Vec ℕ _) _). ComesSoFar net c.args.switch rows own (texts_of texts.items) (at.place + 1)) (sym w.texts-is) stays
+      ]
