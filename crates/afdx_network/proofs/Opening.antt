@@ -7,11 +7,11 @@ use Rattle.std.proofs.lemmas.List.Elements.{All-append, All-cons, All-take, All-
 
 -- ---- one element further
 
-pub read_next : {X : Type 0} (xs : List X) (k : ℕ) (x : X) → k < length xs → x ≡ get_or xs k x → drop k xs ≡ x ∷ drop (suc k) xs
-read_next {X = X} xs k x within is = drop-cons xs k x within ∙ ap (λ (y : X). y ∷ drop (suc k) xs) (sym is)
-
 pub mapped_next : {X Y : Type 0} (f : X → Y) (xs : List X) (k : ℕ) (x : X) → drop k xs ≡ x ∷ drop (suc k) xs → drop k (map f xs) ≡ f x ∷ drop (suc k) (map f xs)
 mapped_next {Y = Y} f xs k x next = drop-map f k xs ∙ ap (map f) next ∙ ap (λ (ys : List Y). f x ∷ ys) (sym (drop-map f (suc k) xs))
+
+pub next_of : {X Y : Type 0} (f : X → Y) (xs : List X) (k : ℕ) (d : X) → k < length xs → drop k (map f xs) ≡ f (get_or xs k d) ∷ drop (suc k) (map f xs)
+next_of f xs k d within = mapped_next f xs k (get_or xs k d) (drop-cons xs k d within)
 
 pub filter_takes : {X : Type 0} (p : X → Bool) (xs rest : List X) (x : X) → xs ≡ x ∷ rest → p x ≡ true → filter p xs ≡ x ∷ filter p rest
 filter_takes p xs rest x is passes = ap (filter p) is ∙ ap (λ b. cond b (x ∷ filter p rest) (filter p rest)) passes
@@ -134,6 +134,6 @@ filled_at_end p ids xs k were past =
       none : drop k ids ≡ []
       none = none_left ids k past
 
-pub numbers_of_insert : {X : Type 0} (f : X → ℕ) (xs : List X) (k : ℕ) (v : X) → map f (insert xs k v) ≡ insert (map f xs) k (f v)
-numbers_of_insert f xs k v =
-    map-append f (take k xs) (v ∷ drop k xs) ∙ ap (λ (ys : List ℕ). ys ++ f v ∷ map f (drop k xs)) (sym (take-map f k xs)) ∙ ap (λ (ys : List ℕ). take k (map f xs) ++ f v ∷ ys) (sym (drop-map f k xs))
+pub map_insert : {X Y : Type 0} (f : X → Y) (xs : List X) (k : ℕ) (v : X) → map f (insert xs k v) ≡ insert (map f xs) k (f v)
+map_insert {Y = Y} f xs k v =
+    map-append f (take k xs) (v ∷ drop k xs) ∙ ap (λ (ys : List Y). ys ++ f v ∷ map f (drop k xs)) (sym (take-map f k xs)) ∙ ap (λ (ys : List Y). take k (map f xs) ++ f v ∷ ys) (sym (drop-map f k xs))

@@ -1,19 +1,20 @@
 -- Why there is no run.
-use Rattle.std.proofs.Common.{◌≡◌, ◌⊎◌, ◌↔◌, ℕ, zero, suc, ◌<◌, Bool, List, [], ◌∷◌, length, slice_get, take, Some, ap, sym, ◌∙◌, inl, inr, subst, arith}
+use Rattle.std.proofs.Common.{◌≡◌, ◌⊎◌, ◌↔◌, ℕ, zero, suc, ◌+◌, ◌<◌, ◌≤◌, Bool, List, [], ◌∷◌, ◌++◌, length, get_or, slice_get, take, Some, refl, ap, sym, ◌∙◌, inl, inr, subst, arith, Vec}
 use Rattle.std.specs.Prelude.{All, IsTrue}
-use Rattle.std.proofs.lemmas.Option.{slice_get_within}
-use Rattle.std.proofs.lemmas.List.Elements.{All-head, All-tail}
+use Rattle.std.proofs.lemmas.List.{take_more, take_all}
+use Rattle.std.proofs.lemmas.Option.{slice_get_within, slice_get_read, get_or_from_slice_get}
+use Rattle.std.proofs.lemmas.List.Elements.{All-head, All-tail, All-push}
 use Rattle.afdx_pcap.specs.declared.fault.PcapFault.{PcapFault}
 use Rattle.afdx_pcap.specs.Fault.{IsFault}
 use Rattle.afdx_table.specs.Content.{Content}
-use Rattle.afdx_session.specs.Texts.{Text}
+use Rattle.afdx_session.specs.Texts.{Text, texts_of}
 use Rattle.afdx_session.specs.Reading.{IsSound, IsFirstFault}
 use Rattle.afdx_wiring.specs.Net.{Network}
 use Rattle.afdx_network.specs.declared.fault.NetworkRunFault.{NetworkRunFault}
 use Rattle.afdx_network.specs.declared.fault.NetworkRunFault.TheVariants as fault
 use Rattle.afdx_network.specs.Runs.{Given}
-use Rattle.afdx_network.specs.Given.{AreOpen, IsGivenAt, AreGiven, AreSound, IsFirstUngiven, IsFirstUnsound, IsRefusal, IsTextFault, IsGivenFault, IsWireFault}
-use Rattle.afdx_network.proofs.Found.{some_same}
+use Rattle.afdx_network.specs.Given.{given_of, AreOpen, IsGivenAt, AreGiven, AreSound, IsFirstUngiven, IsFirstUnsound, IsRefusal, IsTextFault, IsGivenFault, IsWireFault}
+use Rattle.afdx_network.proofs.Found.{some_same, get_map}
 
 -- ---- what is given for a switch
 
@@ -39,6 +40,18 @@ too_many net given switches before all more = record {
 
 -- ---- the first given text that is no capture
 
+-- one more element, and all
+pub all_more : {X : Type 0} (P : X → Type 0) (xs : List X) (k : ℕ) (x : X) → slice_get xs k ≡ Some x → All P (take k xs) → P x → All P (take (k + 1) xs)
+all_more {X = X} P xs k x at before here = subst (All P) (sym taken) (All-push P (take k xs) x before here) where
+  taken : take (k + 1) xs ≡ take k xs ++ x ∷ []
+  taken = take_more xs k x (slice_get_within xs k x at) ∙ ap (λ (y : X). take k xs ++ y ∷ []) (get_or_from_slice_get xs k x x at)
+
+pub all_taken : {X : Type 0} (P : X → Type 0) (xs : List X) (k : ℕ) → length xs ≤ k → All P (take k xs) → All P xs
+all_taken P xs k past taken = subst (All P) (take_all k xs past) taken
+
+pub text_there : {Z : Type 0} (texts : List (ℕ × Vec ℕ Z)) (k : ℕ) (text : ℕ × Vec ℕ Z) → k < length texts → text ≡ get_or texts k text → slice_get (texts_of texts) k ≡ Some (text.0, text.1.items)
+text_there texts k text within is = get_map (λ pair. (pair.0, pair.1.items)) texts k text (slice_get_read texts (length texts) k text refl within is)
+
 pub first_fault : (texts : List Text) (k : ℕ) (text : Text) (why : PcapFault) → slice_get texts k ≡ Some text → All IsSound (take k texts) → IsFault text.1 why
     → IsFirstFault texts text.0 why
 first_fault [] k text why at sound broken = absurd cc
@@ -47,6 +60,10 @@ first_fault (x ∷ texts) zero text why at sound broken =
     inl (ap (λ (y : Text). y.0) (sym same), subst (λ (y : Text). IsFault y.1 why) same broken)
 first_fault (x ∷ texts) (suc k) text why at sound broken =
     inr (All-head IsSound x (take k texts) sound, first_fault texts k text why at (All-tail IsSound x (take k texts) sound) broken)
+
+pub texts_there : {Y Z : Type 0} (given : List (Vec (ℕ × Vec ℕ Z) Y)) (k : ℕ) (own : Vec (ℕ × Vec ℕ Z) Y) → k < length given → own ≡ get_or given k own
+    → slice_get (given_of given) k ≡ Some (texts_of own.items)
+texts_there given k own within is = get_map (λ texts. texts_of texts.items) given k own (slice_get_read given (length given) k own refl within is)
 
 pub given_fault : (given : Given) (switch : ℕ) (texts : List Text) (why : NetworkRunFault) → slice_get given switch ≡ Some texts → All (All IsSound) (take switch given)
     → IsTextFault switch texts why → IsGivenFault given why
