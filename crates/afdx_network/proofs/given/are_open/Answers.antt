@@ -54,11 +54,10 @@ returns-then-next-texts c =
     let at = c.loop-row in
     let p = is_open c.args.network.now c.args.switch in
     let rows = c.ports-row-items.result.now in
-    let never = stops p rows c.args.table.now.ports c.args.texts.now at.row-index at.next _ at.invariant.ports at.invariant.together c.loop-row-test.true c.if-is_open.ensures in
-    (
+    let never = stops p rows c.args.table.now.ports c.args.texts.now at.row-index at.next _ at.invariant.ports at.invariant.together c.loop-row-test.true c.if-is_open.ensures in (
       λ h. absurd (false≢true h),
       λ all. absurd (elim c.then-next-texts.branch [
-        then-next-texts-via-then-next-texts w ↦ never (inl w.if-next-texts.true) all
+        | then-next-texts-via-then-next-texts w ↦ never (inl w.if-next-texts.true) all
         | then-next-texts-via-else-next-texts+then-texts-next w ↦ never (inr (w.index-texts-next.result, w.if-next-texts.false, w.if-texts-next.true)) all
       ]),
     )
@@ -72,7 +71,7 @@ loop-row-preserved c =
     record {
       ports = at.invariant.ports;
       together = elim c.if-is_open.branch [
-        then-is_open+else-next-texts+else-texts-next w ↦ subst (GoTogether p (ids rows) (numbers texts) (at.row-index + 1)) (sym w.next-is)
+        | then-is_open+else-next-texts+else-texts-next w ↦ subst (GoTogether p (ids rows) (numbers texts) (at.row-index + 1)) (sym w.next-is)
             (goes_on p rows texts at.row-index at.next _ w.index-texts-next.result at.invariant.together c.loop-row-test.true w.if-next-texts.false w.if-is_open.ensures w.if-texts-next.false)
         | else-is_open w ↦ subst (GoTogether p (ids rows) (numbers texts) (at.row-index + 1)) (sym w.next-is)
             (one_goes p (ids rows) (numbers texts) at.row-index at.next _ at.invariant.together (next_of (λ q. q.id) rows at.row-index _ c.loop-row-test.true) (sym w.if-is_open.ensures))

@@ -70,7 +70,7 @@ loop-place-preserved c = record { filled = after.filled; others = after.others }
       let at = c.loop-place in
       let came = texts_of at.texts.items in
       elim c.if-not-is_open.branch [
-        then-not-is_open+in_ok-write_header+in_ok-insert w ↦
+        | then-not-is_open+in_ok-write_header+in_ok-insert w ↦
             let put = silence_there net c.args.switch rows own came at.place _ w.write_header.new.out.items c.loop-place-test.true w.if-not-is_open.ensures were in
             let inserted_are = texts_of_insert at.texts.items w.insert.new.self.items at.place _ w.in_ok-insert.ensures.items in
             subst (λ texts. ComesSoFar net c.args.switch rows own texts (at.place + 1)) (sym (ap (λ (texts : Vec (ℕ × Vec ℕ _) _). texts_of texts.items) w.texts-is ∙ inserted_are)) put
