@@ -51,7 +51,7 @@ pub returns-then-next-texts : goal.returns-then-next-texts
 returns-then-next-texts c = (
   λ h. absurd (false≢true h),
   λ all. absurd (elim c.then-next-texts.branch [
-    then-next-texts-via-then-next-texts w ↦ stops (is_open c.args.network.now c.args.switch) c.ports-row-items.result.now c.args.table.now.ports c.args.texts.now c.loop-row.row-index c.loop-row.next _
+    | then-next-texts-via-then-next-texts w ↦ stops (is_open c.args.network.now c.args.switch) c.ports-row-items.result.now c.args.table.now.ports c.args.texts.now c.loop-row.row-index c.loop-row.next _
         c.loop-row.invariant.ports c.loop-row.invariant.together c.loop-row-test.true c.if-is_open.ensures (inl w.if-next-texts.true) all
     | then-next-texts-via-else-next-texts+then-texts-next w ↦ stops (is_open c.args.network.now c.args.switch) c.ports-row-items.result.now c.args.table.now.ports c.args.texts.now c.loop-row.row-index
         c.loop-row.next _ c.loop-row.invariant.ports c.loop-row.invariant.together c.loop-row-test.true c.if-is_open.ensures
@@ -63,7 +63,7 @@ pub loop-row-preserved : goal.loop-row-preserved
 loop-row-preserved c = record {
   ports = c.loop-row.invariant.ports;
   together = elim c.if-is_open.branch [
-    then-is_open+else-next-texts+else-texts-next w ↦ subst (GoTogether (is_open c.args.network.now c.args.switch) (ids c.ports-row-items.result.now) (numbers c.args.texts.now) (c.loop-row.row-index + 1)) (sym w.next-is)
+    | then-is_open+else-next-texts+else-texts-next w ↦ subst (GoTogether (is_open c.args.network.now c.args.switch) (ids c.ports-row-items.result.now) (numbers c.args.texts.now) (c.loop-row.row-index + 1)) (sym w.next-is)
         (goes_on (is_open c.args.network.now c.args.switch) c.ports-row-items.result.now c.args.texts.now c.loop-row.row-index c.loop-row.next _ w.index-texts-next.result c.loop-row.invariant.together
         c.loop-row-test.true w.if-next-texts.false w.if-is_open.ensures w.if-texts-next.false)
     | else-is_open w ↦ subst (GoTogether (is_open c.args.network.now c.args.switch) (ids c.ports-row-items.result.now) (numbers c.args.texts.now) (c.loop-row.row-index + 1)) (sym w.next-is)

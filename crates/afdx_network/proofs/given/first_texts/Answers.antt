@@ -61,12 +61,12 @@ loop-place-preserved c = record { filled = after.filled; others = after.others }
 
   after : ComesSoFar c.args.network.now c.args.switch rows (texts_of c.args.given.items) (texts_of c.if-not-is_open.texts.items) (c.loop-place.place + 1)
   after = elim c.if-not-is_open.branch [
-    then-not-is_open+in_ok-write_header+in_ok-insert w ↦
+    | then-not-is_open+in_ok-write_header+in_ok-insert w ↦
         let put = silence_there c.args.network.now c.args.switch rows (texts_of c.args.given.items) (texts_of c.loop-place.texts.items) c.loop-place.place _ w.write_header.new.out.items
-            c.loop-place-test.true w.if-not-is_open.ensures were in
+        c.loop-place-test.true w.if-not-is_open.ensures were in
         let texts_are = ap (λ (texts : Vec (ℕ × Vec ℕ _) _). texts_of texts.items) w.texts-is ∙ texts_of_insert c.loop-place.texts.items w.insert.new.self.items c.loop-place.place _ w.in_ok-insert.ensures.items in
         subst (λ came. ComesSoFar c.args.network.now c.args.switch rows (texts_of c.args.given.items) came (c.loop-place.place + 1)) (sym texts_are) put
     | else-not-is_open w ↦ let stays = given_there c.args.network.now c.args.switch rows (texts_of c.args.given.items) (texts_of c.loop-place.texts.items) c.loop-place.place _
-          c.loop-place-test.true w.if-not-is_open.ensures were in
+        c.loop-place-test.true w.if-not-is_open.ensures were in
         subst (λ (texts : Vec (ℕ × Vec ℕ _) _). ComesSoFar c.args.network.now c.args.switch rows (texts_of c.args.given.items) (texts_of texts.items) (c.loop-place.place + 1)) (sym w.texts-is) stays
   ]

@@ -14,7 +14,7 @@ first_texts-requires c =
     let place : switch ≡ length at.yielded = let is = c.len-switch.ensures in let count = at.invariant.count in let whole = at.sites.ok.0 in omega (arith, is, count, whole) in
     let whole = ap (λ ys. at.yielded ++ ys) (sym c.in-Some.ensures.steps.0) ∙ at.invariant.whole ∙ c.into_iter-own-iterator.ensures.into_iter_gives.0 in
     let there = next_at c.args.network.now c.args.given.items at.yielded (into_iter_items c.next.new.self) own c.tables.result.now switch c.index-tables-switch.result c.requires place whole
-        c.tables.ensures.tables c.index-tables-switch.is in
+    c.tables.ensures.tables c.index-tables-switch.is in
     open_there c.args.network.now (given_of c.args.given.items) switch c.index-tables-switch.result (texts_of own.items) c.requires there
 
 pub loop-own-preserved : goal.loop-own-preserved
@@ -29,7 +29,7 @@ loop-own-preserved c =
     let here : switch ≡ length at.sites.items = let is = c.len-switch.ensures in let whole = at.sites.ok.0 in omega (arith, is, whole) in
     let whole = ap (λ ys. at.yielded ++ ys) (sym steps) ∙ at.invariant.whole in
     let there = next_at net c.args.given.items at.yielded (into_iter_items c.next.new.self) own c.tables.result.now switch table c.requires (here ∙ at.invariant.count)
-        (whole ∙ c.into_iter-own-iterator.ensures.into_iter_gives.0) c.tables.ensures.tables c.index-tables-switch.is in
+    (whole ∙ c.into_iter-own-iterator.ensures.into_iter_gives.0) c.tables.ensures.tables c.index-tables-switch.is in
     let site = first_site net given switch table (texts_of own.items) (texts_of c.in_ok-came.came.items) c.new.result there c.in_ok-came.ensures c.new.ensures in
     record {
       whole = append_assoc at.yielded (own ∷ []) (into_iter_items c.next.new.self) ∙ whole;
