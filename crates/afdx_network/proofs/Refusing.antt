@@ -50,22 +50,9 @@ given_fault given switch texts (fault.Capture n port why) at before broken =
     subst (λ m. IsFirstUnsound given m port why) (sym broken.0) (record { texts = texts; texts_is = at; before = before; first = broken.1 })
 given_fault given switch texts fault.Unsettled at before broken = absurd broken
 
--- ---- refusals of a run
-
-pub refused_given : (net : Network) (given : Given) (why : NetworkRunFault) → AreGiven net given → IsGivenFault given why → IsRefusal net given why
-refused_given net given fault.Memory are broken = are
-refused_given net given (fault.WrongPorts switch) are broken = absurd broken
-refused_given net given (fault.Capture switch port why) are broken = (are, inl broken)
-refused_given net given fault.Unsettled are broken = absurd broken
-
+-- what stops a round refuses the run
 pub refused_wire : (net : Network) (given : Given) (why : NetworkRunFault) → AreGiven net given → AreSound given → IsWireFault net why → IsRefusal net given why
 refused_wire net given fault.Memory are sound broken = are
 refused_wire net given (fault.WrongPorts switch) are sound broken = absurd broken
 refused_wire net given (fault.Capture switch port why) are sound broken = (are, inr (sound, broken))
 refused_wire net given fault.Unsettled are sound broken = absurd broken
-
-pub refused_ports : (net : Network) (given : Given) (why : NetworkRunFault) (switch : ℕ) → why ≡ fault.WrongPorts switch → IsFirstUngiven net given switch → IsRefusal net given why
-refused_ports net given why switch is first = subst (IsRefusal net given) (sym is) first
-
-pub refused_memory : (net : Network) (given : Given) (why : NetworkRunFault) → why ≡ fault.Memory → AreGiven net given → IsRefusal net given why
-refused_memory net given why is are = subst (IsRefusal net given) (sym is) are

@@ -1,8 +1,8 @@
 -- What a step of a round does to the sites, and what all wires agreeing means.
-use Rattle.std.proofs.Common.{◌≡◌, ◌⊎◌, ℕ, zero, suc, ◌+◌, ◌<◌, ◌≤◌, ◌==◌, ◌&&◌, Bool, true, false, List, [], ◌∷◌, ◌++◌, length, slice_get, get_or, take, find, cond, Some, Option, None, is_some, rules, refl, ap, sym, ◌∙◌, arith, subst}
+use Rattle.std.proofs.Common.{◌≡◌, ◌⊎◌, ℕ, zero, suc, ◌+◌, ◌<◌, ◌≤◌, ◌==◌, ◌&&◌, Bool, true, false, List, [], ◌∷◌, ◌++◌, length, slice_get, get_or, take, drop, append-nil, find, cond, Some, Option, None, is_some, rules, refl, ap, sym, ◌∙◌, arith, subst}
 use Rattle.std.specs.Prelude.{All, IsSome, slice_set}
 use Rattle.std.specs.List.{list_all}
-use Rattle.std.proofs.lemmas.List.{take_more, take_all}
+use Rattle.std.proofs.lemmas.List.{take_more, take_all, drop_all}
 use Rattle.std.proofs.lemmas.List.Elements.{All-append, All-cons, All-nil}
 use Rattle.std.proofs.lemmas.Option.{slice_get_read}
 use Rattle.afdx_table.specs.Content.{Content}
@@ -76,3 +76,8 @@ have_run [] h = All-nil HasRun
 have_run (s ∷ sites) h =
     let each = both (is_some s.outcome) (list_all (λ (u : Site). is_some u.outcome) sites) h in
     All-cons HasRun s sites (has_one s.outcome each.0) (have_run sites each.1)
+
+-- what is written through a slice of a vector is in the vector
+pub written_back : {X : Type 0} (old new : List X) (n : ℕ) → length new ≡ length old → n ≡ length old → take n (new ++ drop (length new) old) ≡ new
+written_back old new n same long =
+    ap (λ others. take n (new ++ others)) (drop_all (length new) old (omega (arith, same))) ∙ ap (take n) (append-nil new) ∙ take_all n new (omega (arith, same, long))
