@@ -1,5 +1,5 @@
 -- Sites stay those of the network's switches, whatever comes over the wires and whatever runs.
-use Rattle.std.proofs.Common.{◌≡◌, ◌⊎◌, ℕ, ◌<◌, List, [], ◌∷◌, length, map, slice_get, Option, Some, None, Ok, Err, ◌==◌, Bool, true, is_some, get_or, set, refl, ap, sym, ◌∙◌, inl, inr, subst}
+use Rattle.std.proofs.Common.{◌≡◌, ◌⊎◌, ℕ, List, [], ◌∷◌, slice_get, Option, Some, None, Ok, Err, ◌==◌, Bool, true, is_some, get_or, set, refl, ap, sym, ◌∙◌, inl, inr, subst}
 use Rattle.std.specs.Prelude.{Contains, slice_set, All, Vec, Result, IfErr, IsErr, IsErrAnd}
 use Rattle.std.specs.List.{position}
 use Rattle.std.proofs.Math.ListN.{length-set}

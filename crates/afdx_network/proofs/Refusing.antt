@@ -12,7 +12,7 @@ use Rattle.afdx_wiring.specs.Net.{Network}
 use Rattle.afdx_network.specs.declared.fault.NetworkRunFault.{NetworkRunFault}
 use Rattle.afdx_network.specs.declared.fault.NetworkRunFault.TheVariants as fault
 use Rattle.afdx_network.specs.Runs.{Given}
-use Rattle.afdx_network.specs.Given.{given_of, AreGiven, AreSound, IsFirstUngiven, IsFirstUnsound, IsRefusal, IsTextFault, IsGivenFault, IsWireFault}
+use Rattle.afdx_network.specs.Given.{given_of, AreGiven, AreSound, IsFirstUnsound, IsRefusal, IsTextFault, IsGivenFault, IsWireFault}
 use Rattle.afdx_network.proofs.Found.{get_map}
 
 -- ---- the first given text that is no capture

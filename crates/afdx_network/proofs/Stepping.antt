@@ -10,7 +10,7 @@ use Rattle.afdx_session.specs.Outcome.{Results}
 use Rattle.afdx_wiring.specs.declared.layout.Wire.{Wire}
 use Rattle.afdx_wiring.specs.declared.layout.End.{End}
 use Rattle.afdx_wiring.specs.File.{is_end}
-use Rattle.afdx_wiring.specs.Net.{Network, wire_to}
+use Rattle.afdx_wiring.specs.Net.{Network}
 use Rattle.afdx_network.specs.Runs.{Given}
 use Rattle.afdx_network.specs.Given.{IsWired}
 use Rattle.afdx_network.specs.Sites.{Site, IsSite, AreSites, IsPutIn, RunsOver, HasRun}

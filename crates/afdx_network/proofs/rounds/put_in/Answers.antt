@@ -1,4 +1,4 @@
-use Rattle.std.proofs.Common.{rules, ◌<◌, length, slice_index_or}
+use Rattle.std.proofs.Common.{slice_index_or}
 use Rattle.std.proofs.lemmas.Option.{slice_get-get_or}
 use Rattle.afdx_network.proofs.Stepping.{puts_in}
 use Rattle.afdx_network.proofs.rounds.put_in.Goals as goal

@@ -2,7 +2,6 @@ use Rattle.std.proofs.Common.{◌∙◌, ◌<◌, sym, ap, option_copied, slice_
 use Rattle.std.proofs.lemmas.Option.{slice_get-get_or}
 use Rattle.afdx_load.specs.Accepted.{IsAccepted}
 use Rattle.afdx_wiring.specs.Net.{Network}
-use Rattle.afdx_network.specs.Given.{IsWireFault}
 use Rattle.afdx_network.proofs.Found.{all_at}
 use Rattle.afdx_network.proofs.Keeping.{wire_fault}
 use Rattle.afdx_network.proofs.Stepping.{runs_in, stays_in}
