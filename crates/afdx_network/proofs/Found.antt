@@ -45,10 +45,10 @@ all_at P xs n x all is = at_place P xs n x (recursion_from_All P xs all) is
 
 -- ---- elements
 
-contains_head : {X : Type 0} (xs : List X) (x y : X) → y ≡ x → Contains (y ∷ xs) x
+pub contains_head : {X : Type 0} (xs : List X) (x y : X) → y ≡ x → Contains (y ∷ xs) x
 contains_head xs x y is = (0, omega arith, is)
 
-contains_tail : {X : Type 0} (xs : List X) (x y : X) → Contains xs x → Contains (y ∷ xs) x
+pub contains_tail : {X : Type 0} (xs : List X) (x y : X) → Contains xs x → Contains (y ∷ xs) x
 contains_tail xs x y among = let within = among.1 in (suc among.0, omega (arith, within), among.2)
 
 pub contains_at : {X : Type 0} (xs : List X) (n : ℕ) (x : X) → slice_get xs n ≡ Some x → Contains xs x

@@ -1,28 +1,81 @@
 -- Sites stay those of the network's switches, whatever comes over the wires and whatever runs.
-use Rattle.std.proofs.Common.{◌≡◌, ◌⊎◌, ℕ, ◌<◌, List, length, map, slice_get, Option, Some, None, refl, ap, sym, ◌∙◌, inl, inr, subst}
-use Rattle.std.specs.Prelude.{Contains, slice_set, All}
+use Rattle.std.proofs.Common.{◌≡◌, ◌⊎◌, ℕ, List, [], ◌∷◌, slice_get, Option, Some, None, Ok, Err, ◌==◌, Bool, true, is_some, get_or, set, refl, ap, sym, ◌∙◌, inl, inr, subst}
+use Rattle.std.specs.Prelude.{Contains, slice_set, All, Vec, Result, IfErr, IsErr, IsErrAnd}
+use Rattle.std.specs.List.{position}
 use Rattle.std.proofs.Math.ListN.{length-set}
+use Rattle.std.proofs.lemmas.List.{map-set}
+use Rattle.std.proofs.lemmas.List.Quantifiers.{position-Some}
+use Rattle.std.proofs.lemmas.Option.{slice_get-get_or}
 use Rattle.std.proofs.lemmas.List.Elements.{All-contains}
 use Rattle.afdx_pcap.specs.declared.fault.PcapFault.{PcapFault}
 use Rattle.afdx_pcap.specs.Entry.{Entry}
 use Rattle.afdx_pcap.specs.Capture.{IsCapture}
 use Rattle.afdx_pcap.specs.Fault.{IsFault}
 use Rattle.afdx_table.specs.Content.{Content}
+use Rattle.afdx_table.specs.WellFormed.{IsWellFormed}
+use Rattle.afdx_load.specs.Accepted.{IsAccepted}
 use Rattle.afdx_session.specs.declared.plan.RunFault.{RunFault}
 use Rattle.afdx_session.specs.declared.plan.RunFault.TheVariants as run
-use Rattle.afdx_session.specs.Texts.{Text}
+use Rattle.afdx_session.specs.Texts.{Text, AreOfPorts, texts_of}
 use Rattle.afdx_session.specs.Reading.{IsSound, IsFirstFault}
-use Rattle.afdx_session.specs.Outcome.{Results, IsRefusal}
+use Rattle.afdx_session.specs.Outcome.{Results, IsOutcome, IsRefusal}
+use Rattle.afdx_session.specs.Headline.{AcceptedRunsIsolate}
 use Rattle.afdx_wiring.specs.declared.layout.Wire.{Wire}
 use Rattle.afdx_wiring.specs.Net.{Network, wire_to}
 use Rattle.afdx_network.specs.Runs.{Given}
 use Rattle.afdx_network.specs.Given.{AreSound, IsWired, IsWireFault, fault_of}
-use Rattle.afdx_network.specs.Sites.{Site, ComesIn, LeadsTo, IsSite, AreSites, IsPutIn, RunsOver}
-use Rattle.afdx_network.proofs.Found.{some_same, all_at, contains_head, contains_tail}
+use Rattle.afdx_network.specs.Sites.{Site, ComesIn, LeadsTo, IsSite, AreSites, IsPutIn, RunsOver, IsBrought, Agrees}
+use Rattle.afdx_network.proofs.Found.{some_same, equal, get_map, all_at, contains_head, contains_tail}
 use Rattle.afdx_network.proofs.Places.{members, got_set, map_stays}
 
 none_is_some : {X P : Type 0} (o : Option X) (x : X) → o ≡ None → o ≡ Some x → P
 none_is_some o x none some = absurd cc
+
+pub of_error : {T E : Type 0} (P : E → Type 0) (r : Result T E) (e : E) → IsErr r × IsErrAnd r (λ x. x ≡ e) → P e → IfErr r P
+of_error P (Ok x) e is holds = absurd is.1
+of_error P (Err x) e is holds = subst P (sym is.1) holds
+
+-- ---- what a call does to a site
+
+abbrev pub is_port : {Z : Type 0} → ℕ → ℕ × Vec ℕ Z → Bool
+is_port port text = text.0 == port
+
+there_at : {Z : Type 0} (port : ℕ) (texts : List (ℕ × Vec ℕ Z)) (place : ℕ) (text : Vec ℕ Z) → position (is_port port) texts ≡ Some place
+    → (was : List ℕ) × (slice_get (texts_of texts) place ≡ Some (port, was))
+there_at {Z = Z} port texts place text is =
+    let found = position-Some (is_port port) texts place (port, text) is in
+    let it = get_or texts place (port, text) in
+    let at = get_map (λ (pair : ℕ × Vec ℕ Z). (pair.0, pair.1.items)) texts place it (slice_get-get_or texts place (port, text) found.0) in
+    (it.1.items, at ∙ ap (λ (n : ℕ). Some (n, it.1.items)) (equal it.0 port found.1))
+
+pub is_put_in : {Z : Type 0} (port : ℕ) (texts : List (ℕ × Vec ℕ Z)) (place : ℕ) (text : Vec ℕ Z) (old new : Site) → position (is_port port) texts ≡ Some place
+    → texts_of texts ≡ old.came → new.came ≡ texts_of (set texts place (port, text)) → new.outcome ≡ None → IsPutIn port text.items old new
+is_put_in {Z = Z} port texts place text old new is before after forgotten =
+    let there = there_at port texts place text is in
+    record {
+      place = place;
+      was = there.0;
+      was_is = ap (λ (ts : List Text). slice_get ts place) (sym before) ∙ there.1;
+      came = after ∙ map-set (λ (pair : ℕ × Vec ℕ Z). (pair.0, pair.1.items)) texts place (port, text) ∙ ap (λ (ts : List Text). set ts place (port, text.items)) before;
+      forgotten = forgotten;
+    }
+
+pub runs_already : (t : Content) (s : Site) → is_some s.outcome ≡ true → RunsOver t s s
+runs_already t s ran = by s.outcome refl ran where
+  by : (o : Option Results) → s.outcome ≡ o → is_some o ≡ true → RunsOver t s s
+  by (Some r) is some = record { came = refl; results = r; outcome = is; led = inl is }
+  by None is some = absurd cc
+
+pub runs_now : AcceptedRunsIsolate → (t copied : Content) (texts : List Text) (old new : Site) (results : Results) → IsWellFormed t → IsAccepted t → copied ≡ t → texts ≡ old.came
+    → new.came ≡ old.came → new.outcome ≡ Some results → IsOutcome copied texts results → RunsOver t old new
+runs_now isolate t copied texts old new results formed accepted same before came outcome led =
+    let is : IsOutcome t old.came results = subst (λ (ts : List Text). IsOutcome t ts results) before (subst (λ (c : Content). IsOutcome c texts results) same led) in
+    record { came = came; results = results; outcome = outcome; led = inr (record { outcome = is; isolated = isolate t old.came results formed accepted is }) }
+
+pub do_agree : (sites : List Site) (w : Wire) (there : Site) (came text : List ℕ) → slice_get sites w.to.switch ≡ Some there → Contains there.came (w.to.port, came) → came ≡ text
+    → IsBrought sites w text → Agrees sites w
+do_agree sites w there came text at among same brought =
+    record { there = there; text = text; there_is = at; comes = subst (λ (bytes : List ℕ). Contains there.came (w.to.port, bytes)) same among; brought = brought }
 
 -- ---- a text is put in
 
@@ -105,10 +158,13 @@ first_is_there (x ∷ came) port why (inr later) =
 abbrev pub NotBoth : Type 0
 NotBoth = (bytes : List ℕ) (rs : List Entry) (e : PcapFault) → IsCapture bytes rs → IsFault bytes e → ⊥
 
-pub wire_fault : NotBoth → (net : Network) (given : Given) (switch : ℕ) (t : Content) (s : Site) (why : RunFault) → AreSound given → slice_get net.tables switch ≡ Some t
+of_ports : (net : Network) (given : Given) (switch : ℕ) (t : Content) (s : Site) → slice_get net.tables switch ≡ Some t → IsSite net given switch s → AreOfPorts t s.came
+of_ports net given switch t s at site = subst (λ (c : Content). AreOfPorts c s.came) (some_same (sym site.table_is ∙ at)) site.comes.ports
+
+refused_there : NotBoth → (net : Network) (given : Given) (switch : ℕ) (t : Content) (s : Site) (why : RunFault) → AreSound given → slice_get net.tables switch ≡ Some t
     → IsSite net given switch s → IsRefusal t s.came why → IsWireFault net (fault_of switch why)
-wire_fault apart net given switch t s run.Memory sound at site refused = tt
-wire_fault apart net given switch t s (run.Capture port why) sound at site refused = by (wire_to net (record { switch = switch; port = port })) refl where
+refused_there apart net given switch t s run.Memory sound at site refused = tt
+refused_there apart net given switch t s (run.Capture port why) sound at site refused = by (wire_to net (record { switch = switch; port = port })) refl where
   there : IsThere s.came port why
   there = first_is_there s.came port why refused.1
 
@@ -119,7 +175,11 @@ wire_fault apart net given switch t s (run.Capture port why) sound at site refus
       let given_there = site.comes.others there.text unwired there.among in
       let read = All-contains IsSound site.own there.text (all_at (All IsSound) given switch site.own sound site.own_is) given_there in
       absurd (apart there.text.1 read.0 why read.1 there.fault)
-wire_fault apart net given switch t s run.WrongPorts sound at site refused =
-    absurd (refused (subst (λ (c : Content). ComesIn net switch c site.own s.came) (some_same (sym site.table_is ∙ at)) site.comes).ports)
-wire_fault apart net given switch t s run.Closed sound at site refused = absurd refused
-wire_fault apart net given switch t s run.Failed sound at site refused = absurd refused
+refused_there apart net given switch t s run.WrongPorts sound at site refused =
+    absurd (refused (of_ports net given switch t s at site))
+refused_there apart net given switch t s run.Closed sound at site refused = absurd refused
+refused_there apart net given switch t s run.Failed sound at site refused = absurd refused
+
+pub wire_fault : NotBoth → (net : Network) (given : Given) (switch : ℕ) (t : Content) (s : Site) (why : RunFault) → AreSound given → slice_get net.tables switch ≡ Some t
+    → IsSite net given switch s → (AreOfPorts t s.came → IsRefusal t s.came why) → IsWireFault net (fault_of switch why)
+wire_fault apart net given switch t s why sound at site refused = refused_there apart net given switch t s why sound at site (refused (of_ports net given switch t s at site))

@@ -17,6 +17,7 @@ pub mod Rest
 pub mod Rows
 pub mod Settled
 pub mod Starting
+pub mod Stepping
 pub mod Texts
 pub mod Ways
 pub mod Wired

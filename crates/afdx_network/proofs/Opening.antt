@@ -1,5 +1,6 @@
 -- The ports of a switch to which no wire goes, and what is given for them.
-use Rattle.std.proofs.Common.{◌≡◌, ◌⊎◌, ◌↔◌, ℕ, suc, ◌+◌, ◌<◌, ◌≤◌, Bool, true, false, cond, List, [], ◌∷◌, ◌++◌, length, map, filter, take, drop, get_or, refl, ap, sym, ◌∙◌, subst, append_assoc, append-nil, inl, inr, arith}
+use Rattle.std.proofs.Common.{◌≡◌, ◌⊎◌, ◌↔◌, ℕ, suc, ◌+◌, ◌<◌, ◌≤◌, Bool, true, false, cond, refl, ap, sym, ◌∙◌, subst, inl, inr, arith}
+use Rattle.std.proofs.Common.{List, [], ◌∷◌, ◌++◌, length, map, filter, take, drop, get_or, append_assoc}
 use Rattle.std.specs.Prelude.{All, Contains, insert}
 use Rattle.std.proofs.lemmas.List.{append_cancel_right, map-append, take-map, drop-map, length-drop, length-take-le, take-append-drop}
 use Rattle.std.proofs.Math.Seq.{drop-cons, take-append_seam, drop-append_seam}
@@ -7,11 +8,11 @@ use Rattle.std.proofs.lemmas.List.Elements.{All-append, All-cons, All-take, All-
 
 -- ---- one element further
 
-pub read_next : {X : Type 0} (xs : List X) (k : ℕ) (x : X) → k < length xs → x ≡ get_or xs k x → drop k xs ≡ x ∷ drop (suc k) xs
-read_next {X = X} xs k x within is = drop-cons xs k x within ∙ ap (λ (y : X). y ∷ drop (suc k) xs) (sym is)
-
 pub mapped_next : {X Y : Type 0} (f : X → Y) (xs : List X) (k : ℕ) (x : X) → drop k xs ≡ x ∷ drop (suc k) xs → drop k (map f xs) ≡ f x ∷ drop (suc k) (map f xs)
 mapped_next {Y = Y} f xs k x next = drop-map f k xs ∙ ap (map f) next ∙ ap (λ (ys : List Y). f x ∷ ys) (sym (drop-map f (suc k) xs))
+
+pub next_of : {X Y : Type 0} (f : X → Y) (xs : List X) (k : ℕ) (d : X) → k < length xs → drop k (map f xs) ≡ f (get_or xs k d) ∷ drop (suc k) (map f xs)
+next_of f xs k d within = mapped_next f xs k (get_or xs k d) (drop-cons xs k d within)
 
 pub filter_takes : {X : Type 0} (p : X → Bool) (xs rest : List X) (x : X) → xs ≡ x ∷ rest → p x ≡ true → filter p xs ≡ x ∷ filter p rest
 filter_takes p xs rest x is passes = ap (filter p) is ∙ ap (λ b. cond b (x ∷ filter p rest) (filter p rest)) passes
@@ -33,8 +34,12 @@ both_go p ids xs k n i were port text within passes =
     record {
       within = omega (arith, within);
       same = (
-        λ all. let eq = were.same.0 all in let tails : drop (suc n) xs ≡ filter p (drop (suc k) ids) = tail (sym text ∙ eq ∙ takes) in rw (add-one-n, add-one-k) tails,
-        λ rest. were.same.1 (text ∙ ap (λ (ys : List ℕ). i ∷ ys) (subst (λ m. drop m xs ≡ filter p (drop (suc k) ids)) add-one-n (subst (λ m. drop (n + 1) xs ≡ filter p (drop m ids)) add-one-k rest)) ∙ sym takes),
+        λ all.
+            let tails : drop (suc n) xs ≡ filter p (drop (suc k) ids) = tail (sym text ∙ were.same.0 all ∙ takes) in
+            rw (add-one-n, add-one-k) tails,
+        λ rest.
+            let tails : drop (suc n) xs ≡ filter p (drop (suc k) ids) = rw (← add-one-n, ← add-one-k) rest in
+            were.same.1 (text ∙ ap (λ (ys : List ℕ). i ∷ ys) tails ∙ sym takes),
       );
     } where
       add-one-n : n + 1 ≡ suc n
@@ -120,20 +125,16 @@ pub filled_by_silence : (p : ℕ → Bool) (ids xs : List ℕ) (k i : ℕ) → A
     → AreFilled p ids (insert xs k i) (k + 1)
 filled_by_silence p ids xs k i were within port fails =
     let long = length-take-le k ids within in
-    let front : take k xs ≡ take k ids = ap (take k) were ∙ subst (λ m. take m (take k ids ++ filter p (drop k ids)) ≡ take k ids) long (take-append_seam (take k ids) (filter p (drop k ids))) in
-    let rest : drop k xs ≡ filter p (drop k ids) = ap (drop k) were ∙ subst (λ m. drop m (take k ids ++ filter p (drop k ids)) ≡ filter p (drop k ids)) long (drop-append_seam (take k ids) (filter p (drop k ids))) in
-    ap (λ (ys : List ℕ). ys ++ i ∷ drop k xs) front ∙ ap (λ (ys : List ℕ). take k ids ++ i ∷ ys) (rest ∙ filter_drops p (drop k ids) (drop (suc k) ids) i port fails)
+    let passing = filter p (drop k ids) in
+    let so_far : take k xs ≡ take k ids = ap (take k) were ∙ subst (λ m. take m (take k ids ++ passing) ≡ take k ids) long (take-append_seam (take k ids) passing) in
+    let rest : drop k xs ≡ passing = ap (drop k) were ∙ subst (λ m. drop m (take k ids ++ passing) ≡ passing) long (drop-append_seam (take k ids) passing) in
+    ap (λ (ys : List ℕ). ys ++ i ∷ drop k xs) so_far ∙ ap (λ (ys : List ℕ). take k ids ++ i ∷ ys) (rest ∙ filter_drops p (drop k ids) (drop (suc k) ids) i port fails)
     ∙ sym (append_assoc (take k ids) (i ∷ []) (filter p (drop (suc k) ids))) ∙ ap (λ (ys : List ℕ). ys ++ filter p (drop (suc k) ids)) (sym (take_next ids k i within port))
     ∙ ap (λ m. take (k + 1) ids ++ filter p (drop m ids)) next where
       next : suc k ≡ k + 1
       next = omega arith
 
-pub filled_at_end : (p : ℕ → Bool) (ids xs : List ℕ) (k : ℕ) → AreFilled p ids xs k → length ids ≤ k → xs ≡ ids
-filled_at_end p ids xs k were past =
-    were ∙ ap (λ (ys : List ℕ). take k ids ++ filter p ys) none ∙ append-nil (take k ids) ∙ sym (append-nil (take k ids)) ∙ ap (λ (ys : List ℕ). take k ids ++ ys) (sym none) ∙ take-append-drop k ids where
-      none : drop k ids ≡ []
-      none = none_left ids k past
-
-pub numbers_of_insert : {X : Type 0} (f : X → ℕ) (xs : List X) (k : ℕ) (v : X) → map f (insert xs k v) ≡ insert (map f xs) k (f v)
-numbers_of_insert f xs k v =
-    map-append f (take k xs) (v ∷ drop k xs) ∙ ap (λ (ys : List ℕ). ys ++ f v ∷ map f (drop k xs)) (sym (take-map f k xs)) ∙ ap (λ (ys : List ℕ). take k (map f xs) ++ f v ∷ ys) (sym (drop-map f k xs))
+pub map_insert : {X Y : Type 0} (f : X → Y) (xs : List X) (k : ℕ) (v : X) → map f (insert xs k v) ≡ insert (map f xs) k (f v)
+map_insert {Y = Y} f xs k v =
+    map-append f (take k xs) (v ∷ drop k xs) ∙ ap (λ (ys : List Y). ys ++ f v ∷ map f (drop k xs)) (sym (take-map f k xs))
+    ∙ ap (λ (ys : List Y). take k (map f xs) ++ f v ∷ ys) (sym (drop-map f k xs))

@@ -1,6 +1,6 @@
 -- Places in lists, one of which is written.
 use Rattle.std.proofs.Common.{◌≡◌, ◌⊎◌, ℕ, zero, suc, List, [], ◌∷◌, ◌++◌, length, map, slice_get, Some, refl, ap, inl, inr, subst}
-use Rattle.std.specs.Prelude.{All, Contains, slice_set}
+use Rattle.std.specs.Prelude.{Contains, slice_set}
 use Rattle.std.proofs.lemmas.List.Elements.{All-set, All-weaker, All-contains, All-contains_itself}
 use Rattle.afdx_network.proofs.Found.{some_same}
 

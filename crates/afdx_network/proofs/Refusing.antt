@@ -1,43 +1,33 @@
 -- Why there is no run.
-use Rattle.std.proofs.Common.{◌≡◌, ◌⊎◌, ◌↔◌, ℕ, zero, suc, ◌<◌, Bool, List, [], ◌∷◌, length, slice_get, take, Some, ap, sym, ◌∙◌, inl, inr, subst, arith}
-use Rattle.std.specs.Prelude.{All, IsTrue}
-use Rattle.std.proofs.lemmas.Option.{slice_get_within}
-use Rattle.std.proofs.lemmas.List.Elements.{All-head, All-tail}
+use Rattle.std.proofs.Common.{◌≡◌, ℕ, zero, suc, ◌+◌, ◌<◌, ◌≤◌, List, [], ◌∷◌, ◌++◌, length, get_or, slice_get, take, Some, refl, ap, sym, ◌∙◌, inl, inr, subst, Vec}
+use Rattle.std.specs.Prelude.{All}
+use Rattle.std.proofs.lemmas.List.{take_more, take_all}
+use Rattle.std.proofs.lemmas.Option.{slice_get_within, slice_get_read, get_or_from_slice_get}
+use Rattle.std.proofs.lemmas.List.Elements.{All-head, All-tail, All-push}
 use Rattle.afdx_pcap.specs.declared.fault.PcapFault.{PcapFault}
 use Rattle.afdx_pcap.specs.Fault.{IsFault}
-use Rattle.afdx_table.specs.Content.{Content}
-use Rattle.afdx_session.specs.Texts.{Text}
+use Rattle.afdx_session.specs.Texts.{Text, texts_of}
 use Rattle.afdx_session.specs.Reading.{IsSound, IsFirstFault}
 use Rattle.afdx_wiring.specs.Net.{Network}
 use Rattle.afdx_network.specs.declared.fault.NetworkRunFault.{NetworkRunFault}
 use Rattle.afdx_network.specs.declared.fault.NetworkRunFault.TheVariants as fault
 use Rattle.afdx_network.specs.Runs.{Given}
-use Rattle.afdx_network.specs.Given.{AreOpen, IsGivenAt, AreGiven, AreSound, IsFirstUngiven, IsFirstUnsound, IsRefusal, IsTextFault, IsGivenFault, IsWireFault}
-use Rattle.afdx_network.proofs.Found.{some_same}
-
--- ---- what is given for a switch
-
-pub given_where_open : (net : Network) (given : Given) (switch : ℕ) (t : Content) (texts : List Text) (b : Bool) → slice_get net.tables switch ≡ Some t
-    → slice_get given switch ≡ Some texts → (IsTrue b ↔ AreOpen net switch t texts) → (IsTrue b ↔ IsGivenAt net given switch)
-given_where_open net given switch t texts b at texts_at is = (
-  λ h. record { table = t; texts = texts; table_is = at; texts_is = texts_at; of_open = is.0 h },
-  λ it. is.1 (subst (λ (c : Content). AreOpen net switch c texts) (some_same (sym it.table_is ∙ at))
-      (subst (λ (ts : List Text). AreOpen net switch it.table ts) (some_same (sym it.texts_is ∙ texts_at)) it.of_open)),
-)
-
-pub first_ungiven : (net : Network) (given : Given) (switch : ℕ) → ((n : ℕ) → n < switch → IsGivenAt net given n) → switch < length net.tables
-    → (IsGivenAt net given switch → ⊥) → IsFirstUngiven net given switch
-first_ungiven net given switch before within here = record { before = before; here = here; one = λ same. within }
-
-pub too_many : (net : Network) (given : Given) (switches : ℕ) → ((n : ℕ) → n < switches → IsGivenAt net given n) → switches ≡ length net.tables
-    → (length given ≡ switches → ⊥) → IsFirstUngiven net given switches
-too_many net given switches before all more = record {
-  before = before;
-  here = λ it. let within = slice_get_within net.tables switches it.table it.table_is in omega (arith, within, all);
-  one = λ same. absurd (more (same ∙ sym all));
-}
+use Rattle.afdx_network.specs.Given.{given_of, AreGiven, AreSound, IsFirstUnsound, IsRefusal, IsTextFault, IsGivenFault, IsWireFault}
+use Rattle.afdx_network.proofs.Found.{get_map}
 
 -- ---- the first given text that is no capture
+
+-- one more element, and all
+pub all_more : {X : Type 0} (P : X → Type 0) (xs : List X) (k : ℕ) (x : X) → slice_get xs k ≡ Some x → All P (take k xs) → P x → All P (take (k + 1) xs)
+all_more {X = X} P xs k x at before here = subst (All P) (sym taken) (All-push P (take k xs) x before here) where
+  taken : take (k + 1) xs ≡ take k xs ++ x ∷ []
+  taken = take_more xs k x (slice_get_within xs k x at) ∙ ap (λ (y : X). take k xs ++ y ∷ []) (get_or_from_slice_get xs k x x at)
+
+pub all_taken : {X : Type 0} (P : X → Type 0) (xs : List X) (k : ℕ) → length xs ≤ k → All P (take k xs) → All P xs
+all_taken P xs k past taken = subst (All P) (take_all k xs past) taken
+
+pub text_there : {Z : Type 0} (texts : List (ℕ × Vec ℕ Z)) (k : ℕ) (text : ℕ × Vec ℕ Z) → k < length texts → text ≡ get_or texts k text → slice_get (texts_of texts) k ≡ Some (text.0, text.1.items)
+text_there texts k text within is = get_map (λ pair. (pair.0, pair.1.items)) texts k text (slice_get_read texts (length texts) k text refl within is)
 
 pub first_fault : (texts : List Text) (k : ℕ) (text : Text) (why : PcapFault) → slice_get texts k ≡ Some text → All IsSound (take k texts) → IsFault text.1 why
     → IsFirstFault texts text.0 why
@@ -48,6 +38,10 @@ first_fault (x ∷ texts) zero text why at sound broken =
 first_fault (x ∷ texts) (suc k) text why at sound broken =
     inr (All-head IsSound x (take k texts) sound, first_fault texts k text why at (All-tail IsSound x (take k texts) sound) broken)
 
+pub texts_there : {Y Z : Type 0} (given : List (Vec (ℕ × Vec ℕ Z) Y)) (k : ℕ) (own : Vec (ℕ × Vec ℕ Z) Y) → k < length given → own ≡ get_or given k own
+    → slice_get (given_of given) k ≡ Some (texts_of own.items)
+texts_there given k own within is = get_map (λ texts. texts_of texts.items) given k own (slice_get_read given (length given) k own refl within is)
+
 pub given_fault : (given : Given) (switch : ℕ) (texts : List Text) (why : NetworkRunFault) → slice_get given switch ≡ Some texts → All (All IsSound) (take switch given)
     → IsTextFault switch texts why → IsGivenFault given why
 given_fault given switch texts fault.Memory at before broken = tt
@@ -56,22 +50,9 @@ given_fault given switch texts (fault.Capture n port why) at before broken =
     subst (λ m. IsFirstUnsound given m port why) (sym broken.0) (record { texts = texts; texts_is = at; before = before; first = broken.1 })
 given_fault given switch texts fault.Unsettled at before broken = absurd broken
 
--- ---- refusals of a run
-
-pub refused_given : (net : Network) (given : Given) (why : NetworkRunFault) → AreGiven net given → IsGivenFault given why → IsRefusal net given why
-refused_given net given fault.Memory are broken = are
-refused_given net given (fault.WrongPorts switch) are broken = absurd broken
-refused_given net given (fault.Capture switch port why) are broken = (are, inl broken)
-refused_given net given fault.Unsettled are broken = absurd broken
-
+-- what stops a round refuses the run
 pub refused_wire : (net : Network) (given : Given) (why : NetworkRunFault) → AreGiven net given → AreSound given → IsWireFault net why → IsRefusal net given why
 refused_wire net given fault.Memory are sound broken = are
 refused_wire net given (fault.WrongPorts switch) are sound broken = absurd broken
 refused_wire net given (fault.Capture switch port why) are sound broken = (are, inr (sound, broken))
 refused_wire net given fault.Unsettled are sound broken = absurd broken
-
-pub refused_ports : (net : Network) (given : Given) (why : NetworkRunFault) (switch : ℕ) → why ≡ fault.WrongPorts switch → IsFirstUngiven net given switch → IsRefusal net given why
-refused_ports net given why switch is first = subst (IsRefusal net given) (sym is) first
-
-pub refused_memory : (net : Network) (given : Given) (why : NetworkRunFault) → why ≡ fault.Memory → AreGiven net given → IsRefusal net given why
-refused_memory net given why is are = subst (IsRefusal net given) (sym is) are

@@ -2,7 +2,6 @@
 use Rattle.std.proofs.Common.{◌≡◌, ℕ, suc, List, [], ◌∷◌, length, map, slice_get, Some, None, refl, ap, sym, ◌∙◌, subst, arith}
 use Rattle.std.specs.Prelude.{All, Contains}
 use Rattle.std.proofs.lemmas.List.Elements.{All-contains}
-use Rattle.afdx_pcap.specs.Text.{capture_text}
 use Rattle.afdx_table.specs.Content.{Content}
 use Rattle.afdx_session.specs.Texts.{Text}
 use Rattle.afdx_session.specs.Outcome.{Results, IsOutcome}
@@ -10,8 +9,8 @@ use Rattle.afdx_session.specs.Headline.{IsIsolated}
 use Rattle.afdx_wiring.specs.declared.layout.Wire.{Wire}
 use Rattle.afdx_wiring.specs.declared.layout.End.{End}
 use Rattle.afdx_wiring.specs.Net.{Network, wire_to}
-use Rattle.afdx_network.specs.Runs.{Given, Brings, IsGiven, IsFedBy, AreRuns, IsRunOf}
-use Rattle.afdx_network.specs.Sites.{Site, LeadsTo, IsSite, AreSites, Agrees}
+use Rattle.afdx_network.specs.Runs.{Given, Brings, IsGiven, AreRuns, IsRunOf}
+use Rattle.afdx_network.specs.Sites.{Site, LeadsTo, AreSites, Agrees}
 use Rattle.afdx_network.proofs.Found.{some_same, get_map, got_map}
 use Rattle.afdx_network.proofs.Rest.{rest_is_agreement}
 

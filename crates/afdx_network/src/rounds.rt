@@ -4,7 +4,8 @@ ghost use Rattle.std.specs.Prelude.{◌≡◌, ℕ, All, IfErr, IfOk, IfSome, Is
 ghost use Rattle.afdx_table.specs.WellFormed.{IsWellFormed};
 ghost use Rattle.afdx_load.specs.Accepted.{IsAccepted};
 ghost use Rattle.afdx_network.specs.Runs.{Given};
-ghost use Rattle.afdx_network.specs.Given.{given_of, AreGiven, AreSound, IsWireFault};
+ghost use Rattle.afdx_wiring.specs.Net.{Network as Net};
+ghost use Rattle.afdx_network.specs.Given.{given_of, AreGiven, AreSound, IsWired, IsWireFault};
 ghost use Rattle.afdx_network.specs.Sites.{AreSites, IsBrought, Agrees, HasRun};
 
 use crate::carrying::carry;
@@ -50,6 +51,18 @@ fn brought(alloc: Global, sites: &[Site], wire: &Wire) -> Result<Option<Vec<u8>>
     Ok(Some(carry(alloc, capture, wire.delay)?))
 }
 
+/// Puts what a wire brings, where it brings something, in at a port.
+fn put_in(sites: &mut [Site], switch: usize, port: u8, brought: Option<Vec<u8>>)
+    ensures { (network : Net) (given : Given) → IsWired network switch port → AreSites network given sites.old → AreSites network given sites.new }
+{
+    let Some(text) = brought else {
+        return;
+    };
+    if switch < sites.len() {
+        sites[switch].take(port, text);
+    }
+}
+
 /// Puts what the wires bring in at a switch.
 fn receive(
     alloc: Global,
@@ -68,12 +81,7 @@ fn receive(
             continue;
         };
         match brought(alloc, sites, wire) {
-            Ok(Some(text)) => {
-                if let Some(site) = sites.get_mut(switch) {
-                    site.take(port, text);
-                }
-            }
-            Ok(None) => {}
+            Ok(text) => put_in(sites, switch, port, text),
             Err(PcapFault::Memory) => return Err(NetworkRunFault::Memory),
             Err(fault) => return Err(NetworkRunFault::Capture(switch, port, fault)),
         }
@@ -97,12 +105,12 @@ fn step(
         return Ok(());
     };
     receive(alloc, network, sites, switch, table)?;
-    match sites.get_mut(switch) {
-        Some(site) => match site.run(alloc, table) {
-            Ok(()) => Ok(()),
-            Err(fault) => Err(NetworkRunFault::of_switch(switch, fault)),
-        },
-        None => Ok(()),
+    if switch >= sites.len() {
+        return Ok(());
+    }
+    match sites[switch].run(alloc, table) {
+        Ok(()) => Ok(()),
+        Err(fault) => Err(NetworkRunFault::of_switch(switch, fault)),
     }
 }
 

@@ -7,7 +7,6 @@ ghost use Rattle.afdx_network.specs.Given.{given_of, IsRefusal};
 
 use crate::fault::NetworkRunFault;
 use crate::given::{check_captures, check_ports};
-use crate::laws::rest_is_agreement;
 use crate::order::order_of;
 use crate::rounds::{outcomes_of, rests, round, sites_of};
 use crate::sites::Texts;
@@ -45,7 +44,6 @@ pub fn run(
     ensures ok { IfOk result (λ outcomes. (came : List (List Text)) × IsRunOf network.now (given_of given.items) came outcomes.items) }
     ensures err { IfErr result (IsRefusal network.now (given_of given.items)) }
 {
-    rest_is_agreement();
     let wiring = network.network();
     check_ports(wiring, &given)?;
     check_captures(alloc, &given)?;

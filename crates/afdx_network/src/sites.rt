@@ -1,10 +1,10 @@
 //! A switch of a network on its way to rest: what came in there, and what that led to.
 
-ghost use Rattle.std.specs.Prelude.{◌≡◌, ◌⊎◌, None, IfErr, IfSome, OnOk, Contains, is_some};
+ghost use Rattle.std.specs.Prelude.{◌≡◌, ◌==◌, ◌⊎◌, None, IfErr, IfSome, OnOk, Contains, is_some, position};
 ghost use Rattle.afdx_table.specs.WellFormed.{IsWellFormed};
 ghost use Rattle.afdx_load.specs.Accepted.{IsAccepted};
 ghost use Rattle.afdx_session.specs.Outcome.{IsRefusal};
-ghost use Rattle.afdx_session.specs.Texts.{texts_of};
+ghost use Rattle.afdx_session.specs.Texts.{AreOfPorts, texts_of};
 ghost use Rattle.afdx_network.specs.Sites.{HasLeft, IsPutIn, RunsOver};
 
 use afdx_session::laws::accepted_runs_isolate;
@@ -42,6 +42,13 @@ fn text_at(texts: &[(u8, Vec<u8>)], port: u8) -> Option<&[u8]>
         }
     }
     None
+}
+
+/// The place of a port's capture.
+fn place_of(texts: &[(u8, Vec<u8>)], port: u8) -> Option<usize>
+    ensures { result ≡ position (λ text. text.0 == port) texts.now }
+{
+    texts.iter().position(|text| text.0 == port)
 }
 
 impl Site {
@@ -90,13 +97,21 @@ impl Site {
     pub(crate) fn take(&mut self, port: u8, text: Vec<u8>)
         ensures { (self.new ≡ self.old) ⊎ IsPutIn port text.items self.old self.new }
     {
-        let Some(place) = self.came.iter().position(|came| came.0 == port) else {
+        let Some(place) = place_of(&self.came, port) else {
             return;
         };
         if self.came[place].1.as_slice() != text.as_slice() {
-            self.came[place].1 = text;
-            self.outcome = None;
+            self.came[place] = (port, text);
+            self.forget();
         }
+    }
+
+    /// Forgets the run.
+    fn forget(&mut self)
+        ensures came { self.new.came ≡ self.old.came }
+        ensures outcome { self.new.outcome ≡ None }
+    {
+        self.outcome = None;
     }
 
     /// Runs the switch, unless it has run over what came.
@@ -104,7 +119,7 @@ impl Site {
         requires well_formed { IsWellFormed table.now }
         requires accepted { IsAccepted table.now }
         ensures ok { OnOk result (RunsOver table.now self.old self.new) }
-        ensures err { IfErr result (λ fault. (self.new ≡ self.old) × IsRefusal table.now self.old.came fault) }
+        ensures err { IfErr result (λ fault. (self.new ≡ self.old) × (AreOfPorts table.now self.old.came → IsRefusal table.now self.old.came fault)) }
     {
         accepted_runs_isolate();
         if self.outcome.is_some() {

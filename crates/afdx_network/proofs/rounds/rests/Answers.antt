@@ -1,0 +1,40 @@
+use Rattle.std.proofs.Common.{◌∙◌, ◌≡◌, ◌<◌, ◌≤◌, sym, ap, is_some, true, length, slice_get, rules, tests}
+use Rattle.std.proofs.lemmas.Iterator.{YieldsList-from_slice}
+use Rattle.std.proofs.lemmas.Iterator.Search.{all_from_yields_List}
+use Rattle.std.proofs.lemmas.Option.{slice_get-get_or}
+use Rattle.std.specs.Prelude.{List}
+use Rattle.afdx_wiring.specs.declared.layout.Wire.{Wire}
+use Rattle.afdx_wiring.specs.File.{Layout}
+use Rattle.afdx_network.specs.Sites.{Site, Agrees}
+use Rattle.afdx_network.proofs.Stepping.{one_more_has, all_taken, ends_are_wired, have_run}
+use Rattle.afdx_network.proofs.rounds.rests.Goals as goal
+
+abbrev no_wire : Wire
+no_wire = record { from = record { switch = 0; port = 0 }; to = record { switch = 0; port = 0 }; delay = 0 }
+
+pub returns-in-Err : goal.returns-in-Err
+returns-in-Err c =
+    let net = c.args.network.now in
+    let wires = c.as_slice-wires.result.now in
+    let i = c.loop-wire.wire-index in
+    let within : i < length wires = search rules in
+    let same = c.as_slice-wires.ensures.value ∙ ap (λ (l : Layout). l.wires) (c.behind-network.view_is ∙ c.layout.ensures.layout) in
+    record { ok = tt; err = ends_are_wired net i _ (ap (λ (ws : List Wire). slice_get ws i) (sym same) ∙ slice_get-get_or wires i no_wire within) }
+
+pub loop-wire-preserved : goal.loop-wire-preserved
+loop-wire-preserved c =
+    let wires = c.as_slice-wires.result.now in
+    let i = c.loop-wire.wire-index in
+    let within : i < length wires = search rules in
+    let yes : c.in-Ok-true.field-0 ≡ true = search rules in
+    one_more_has (Agrees c.args.sites.now) wires i no_wire within c.loop-wire.invariant ((rw c.in-Ok-true.is at c.agrees.ensures) yes)
+
+pub returns-clause-ok : goal.returns-clause-ok
+returns-clause-ok c = λ yes.
+    let sites = c.args.sites.now in
+    let wires = c.as_slice-wires.result.now in
+    let i = c.loop-wire.wire-index in
+    let past : length wires ≤ i = search rules in
+    let same = c.as_slice-wires.ensures.value ∙ ap (λ (l : Layout). l.wires) (c.behind-network.view_is ∙ c.layout.ensures.layout) in
+    let each = all_from_yields_List (λ (s : Site). is_some s.outcome) _ _ c.all.result c.all.ensures.ran (YieldsList-from_slice sites cc) (λ x b q k. search (rules, tests)) in
+    (have_run sites (sym each ∙ yes), rw same at (all_taken (Agrees sites) wires i c.loop-wire.invariant past))

@@ -1,0 +1,50 @@
+use Rattle.std.proofs.Common.{◌∙◌, ◌<◌, sym, ap, option_copied, slice_get, slice_index_or, length, rules}
+use Rattle.std.proofs.lemmas.Option.{slice_get-get_or}
+use Rattle.afdx_load.specs.Accepted.{IsAccepted}
+use Rattle.afdx_wiring.specs.Net.{Network}
+use Rattle.afdx_network.proofs.Found.{all_at}
+use Rattle.afdx_network.proofs.Keeping.{wire_fault}
+use Rattle.afdx_network.proofs.Stepping.{runs_in, stays_in}
+use Rattle.afdx_network.proofs.rounds.step.Goals as goal
+
+pub returns-in_err-receive-clause-kept : goal.returns-in_err-receive-clause-kept
+returns-in_err-receive-clause-kept c = rw c.network-network.ensures.network at c.receive.ensures.kept
+
+pub run-requires-clause-accepted : goal.run-requires-clause-accepted
+run-requires-clause-accepted c =
+    let net = c.args.network.now in
+    let at = ap (λ (n : Network). slice_get n.tables c.args.switch) (sym c.network-network.ensures.network) ∙ sym c.table.ensures ∙ ap option_copied c.in-Some.is in
+    all_at IsAccepted net.tables c.args.switch c.in-Some.table.now c.network-network.ensures.accepted at
+
+pub returns-in-Ok-clause-kept : goal.returns-in-Ok-clause-kept
+returns-in-Ok-clause-kept c = λ given are.
+    let net = c.args.network.now in
+    let table = ap (λ (n : Network). slice_get n.tables c.args.switch) (sym c.network-network.ensures.network) ∙ sym c.table.ensures ∙ ap option_copied c.in-Some.is in
+    let sites = c.receive.new.sites in
+    let read = c.index-sites-switch.result in
+    let within : c.args.switch < length sites = search rules in
+    let kept = (rw c.network-network.ensures.network at c.receive.ensures.kept) given are in
+    let over = rw c.in-Ok.is at c.run.ensures.ok in
+    runs_in sites c.args.switch c.in-Some.table.now (slice_index_or sites c.args.switch read) c.run.new.self (slice_get-get_or sites c.args.switch read within) over net given table kept
+
+pub returns-in-Err-clause-kept : goal.returns-in-Err-clause-kept
+returns-in-Err-clause-kept c = λ given are.
+    let net = c.args.network.now in
+    let sites = c.receive.new.sites in
+    let read = c.index-sites-switch.result in
+    let within : c.args.switch < length sites = search rules in
+    let kept = (rw c.network-network.ensures.network at c.receive.ensures.kept) given are in
+    let why = rw c.in-Err.is at c.run.ensures.err in
+    stays_in sites c.args.switch (slice_index_or sites c.args.switch read) c.run.new.self (slice_get-get_or sites c.args.switch read within) why.0 net given kept
+
+pub returns-in-Err-clause-err : goal.returns-in-Err-clause-err
+returns-in-Err-clause-err c = λ given are sound.
+    let net = c.args.network.now in
+    let table = ap (λ (n : Network). slice_get n.tables c.args.switch) (sym c.network-network.ensures.network) ∙ sym c.table.ensures ∙ ap option_copied c.in-Some.is in
+    let sites = c.receive.new.sites in
+    let read = c.index-sites-switch.result in
+    let within : c.args.switch < length sites = search rules in
+    let kept = (rw c.network-network.ensures.network at c.receive.ensures.kept) given are in
+    let why = rw c.in-Err.is at c.run.ensures.err in
+    let site = kept.each c.args.switch (slice_index_or sites c.args.switch read) (slice_get-get_or sites c.args.switch read within) in
+    rw (sym c.of_switch.ensures) at (wire_fault c.each_file_has_one_reading.ensures.not_both net given c.args.switch c.in-Some.table.now (slice_index_or sites c.args.switch read) c.in-Err.fault sound table site why.1)
