@@ -47,4 +47,5 @@ returns-in-Err-clause-err c = λ given are sound.
     let kept = (rw c.network-network.ensures.network at c.receive.ensures.kept) given are in
     let why = rw c.in-Err.is at c.run.ensures.err in
     let site = kept.each c.args.switch (slice_index_or sites c.args.switch read) (slice_get-get_or sites c.args.switch read within) in
-    rw (sym c.of_switch.ensures) at (wire_fault c.each_file_has_one_reading.ensures.not_both net given c.args.switch c.in-Some.table.now (slice_index_or sites c.args.switch read) c.in-Err.fault sound table site why.1)
+    rw (sym c.of_switch.ensures) at (wire_fault c.each_file_has_one_reading.ensures.not_both net given c.args.switch c.in-Some.table.now
+    (slice_index_or sites c.args.switch read) c.in-Err.fault sound table site why.1)

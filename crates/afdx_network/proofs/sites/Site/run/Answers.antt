@@ -13,7 +13,8 @@ returns-then-is_some-clause-ok c =
 pub returns-in_err-copy-clause-err : goal.returns-in_err-copy-clause-err
 returns-in_err-copy-clause-err c =
     let came = c.args.self.now.came in
-    of_error (λ fault. (c.args.self.now ≡ c.args.self.now) × (AreOfPorts c.args.table.now came → IsRefusal c.args.table.now came fault)) c.from_residual.result Memory c.from_residual.ensures (refl, λ ports. ports)
+    of_error (λ fault. (c.args.self.now ≡ c.args.self.now) × (AreOfPorts c.args.table.now came → IsRefusal c.args.table.now came fault))
+    c.from_residual.result Memory c.from_residual.ensures (refl, λ ports. ports)
 
 pub returns-clause-ok : goal.returns-clause-ok
 returns-clause-ok c =
