@@ -1,21 +1,23 @@
 -- Networks that were got: the files of tables, and why they were not.
-use Rattle.std.proofs.Common.{◌≡◌, ◌≢◌, ℕ, ◌+◌, ◌<◌, ◌≤◌, List, [], ◌∷◌, ◌++◌, map, length, take, Option, Some, None, Result, Ok, Err, Vec, refl, sym, ap, subst, ◌∙◌, arith, get_or, slice_get, String, Global, string_bytes}
-use Rattle.std.specs.Prelude.{option_map}
+use Rattle.std.proofs.Common.{◌≡◌, ◌≢◌, ℕ, ◌+◌, ◌<◌, ◌≤◌, List, [], ◌∷◌, ◌++◌, map, length, take, Option, Some, None, Result, Ok, Err, Vec, inl, inr, refl, sym, ap, subst, ◌∙◌, arith, get_or, slice_get, String, Global, string_bytes}
+use Rattle.std.specs.Prelude.{◌⊎◌, option_map, MatchResult}
 use Rattle.std.specs.Path.{path_with_file_name}
-use Rattle.std.proofs.lemmas.List.{map-append, take_more, take_all, take-map, length-map}
+use Rattle.std.proofs.lemmas.List.{get_or-map, map-append, take_more, take_all, take-map, length-map}
 use Rattle.std.proofs.lemmas.Option.{slice_get-map, slice_get-get_or}
 use Rattle.afdx_table.specs.Content.{Content}
 use Rattle.afdx_table.specs.Text.{table_of}
 use Rattle.afdx_table.specs.declared.fault.TableFault.{TableFault}
 use Rattle.afdx_table.specs.declared.fault.TableFault.TheVariants as table
 use Rattle.afdx_wiring.specs.File.{Switch, Layout}
+use Rattle.afdx_wiring.specs.Net.{Network}
+use Rattle.afdx_wiring.specs.Order.{lost_port}
 use Rattle.afdx_serve.specs.declared.network_failure.NetworkFailure.TheVariants as network
 use Rattle.afdx_serve.specs.declared.failure.Failure.{Failure}
 use Rattle.afdx_serve.specs.declared.failure.Failure.TheVariants as failure
 use Rattle.afdx_serve.specs.Files.{Files, Shows, ShowsAll, KeepsFiles, DeviceLog, one_more}
 use Rattle.afdx_serve.specs.Runs.{FailsToGet}
-use Rattle.afdx_serve.specs.Networks.{bytes_in, table_names, names_of, HasLayout, HasTexts, AreTables, GetsTables, StopsAtTable, IsRefusedTable, FailsToLayout, FailsToGetTexts, FailsToReadTables, FailsToJoin}
-use Rattle.afdx_serve.proofs.FileLemmas.{ShowsAll-nil, ShowsAll-push, ShowsAll-before, Shows-before, KeepsFiles-trans}
+use Rattle.afdx_serve.specs.Networks.{bytes_in, table_names, names_of, HasLayout, HasTexts, AreTables, GetsTables, StopsAtTable, IsRefusedTable, FailsToLayout, FailsToGetTexts, FailsToReadTables, FailsToJoin, HasNetwork, FailsToGetNetwork}
+use Rattle.afdx_serve.proofs.FileLemmas.{ShowsAll-push, ShowsAll-before, Shows-before, KeepsFiles-trans}
 
 -- ---- the files of tables
 
@@ -131,6 +133,9 @@ not_tables failure.Write files path l texts before after same has fails = absurd
 
 -- ---- tables
 
+pub text_at : {Z : Type 0} (texts : List (Vec ℕ Z)) (i : ℕ) (text : Vec ℕ Z) → i < length texts → text ≡ get_or texts i text → get_or (bytes_in texts) i [] ≡ text.items
+text_at {Z} texts i text within is = get_or-map (λ (t : Vec ℕ Z). t.items) texts i text [] within ∙ ap (λ (t : Vec ℕ Z). t.items) (sym is)
+
 pub one_more_table : (texts : List (List ℕ)) (i : ℕ) (old new : List Content) (t : Content) → i < length texts → AreTables (take i texts) old → new ≡ old ++ t ∷ []
     → table_of (get_or texts i []) ≡ Ok t → AreTables (take (i + 1) texts) new
 one_more_table texts i old new t lt are grown is =
@@ -166,3 +171,48 @@ stops_at_table (failure.Get s) refusal switches texts i d tables in_texts within
 stops_at_table (failure.Load r) refusal switches texts i d tables in_texts within are is h = absurd h
 stops_at_table failure.Read refusal switches texts i d tables in_texts within are is h = absurd h
 stops_at_table failure.Write refusal switches texts i d tables in_texts within are is h = absurd h
+
+-- ---- a network
+
+has_before : (a b : Option Files) (path : List ℕ) (switches : List Switch) (texts : List (List ℕ)) → KeepsFiles a b → HasTexts b path switches texts → HasTexts a path switches texts
+has_before a b path switches texts keeps has = (ShowsAll-before a b (table_names path switches) texts keeps has.0, has.1)
+
+gets_before : (name : List ℕ) (a b : Option Files) (path : List ℕ) (switches : List Switch) → KeepsFiles a b → GetsTables name b path switches → GetsTables name a path switches
+gets_before name a b path switches keeps s = record { place = s.place; got = s.got; is_there = s.is_there; earlier = ShowsAll-before a b _ _ keeps s.earlier }
+
+-- the tables were not there, where nothing was put before
+not_joined_before : (f : Failure) (a b : Option Files) (path : List ℕ) (l : Layout) (before after : DeviceLog) → KeepsFiles a b → FailsToJoin f b path l before after → FailsToJoin f a path l before after
+not_joined_before (failure.Network (network.Table refusal name)) a b path l before after keeps h = ((h.0.0, has_before a b path l.switches h.0.0 keeps h.0.1, h.0.2), h.1)
+not_joined_before (failure.Network (network.Refused e name)) a b path l before after keeps h =
+    ((h.0.0, h.0.1, has_before a b path l.switches h.0.0 keeps h.0.2, h.0.3, h.0.4), h.1, h.2)
+not_joined_before (failure.Network (network.Capture p e name)) a b path l before after keeps h = absurd h
+not_joined_before (failure.Network network.Unsettled) a b path l before after keeps h = absurd h
+not_joined_before (failure.Get s) a b path l before after keeps h = (gets_before (string_bytes s) a b path l.switches keeps h.0, h.1)
+not_joined_before failure.Memory a b path l before after keeps h = tt
+not_joined_before failure.Usage a b path l before after keeps h = absurd h
+not_joined_before (failure.Table r) a b path l before after keeps h = absurd h
+not_joined_before (failure.Capture r) a b path l before after keeps h = absurd h
+not_joined_before (failure.PortCapture p r) a b path l before after keeps h = absurd h
+not_joined_before (failure.Put s) a b path l before after keeps h = absurd h
+not_joined_before (failure.Load r) a b path l before after keeps h = absurd h
+not_joined_before failure.Read a b path l before after keeps h = absurd h
+not_joined_before failure.Write a b path l before after keeps h = absurd h
+
+-- the network of a layout that was got, or why it was not
+pub network_of : (r : Result Network Failure) (a b : Option Files) (path : List ℕ) (l : Layout) (first before after : DeviceLog) → before ≡ first → KeepsFiles a b → HasLayout a path l
+    → MatchResult r
+    (λ net. ((net.layout ≡ l) × ((texts : List (List ℕ)) × HasTexts b path l.switches texts × AreTables texts net.tables) × (lost_port net.tables l.wires ≡ Ok tt)) × (after ≡ before))
+    (λ f. FailsToJoin f b path l before after)
+    → MatchResult r (λ net. HasNetwork a path net × (after ≡ first)) (λ f. FailsToGetNetwork f a path first after)
+network_of (Ok net) a b path l first before after same keeps has h = (
+  record {
+    texts = h.0.1.0;
+    has_layout = subst (λ (k : Layout). HasLayout a path k) (sym h.0.0) has;
+    has_texts = subst (λ (k : Layout). HasTexts a path k.switches h.0.1.0) (sym h.0.0) (has_before a b path l.switches h.0.1.0 keeps h.0.1.1);
+    are_tables = h.0.1.2;
+    ports = subst (λ (k : Layout). lost_port net.tables k.wires ≡ Ok tt) (sym h.0.0) h.0.2;
+  },
+  h.1 ∙ same,
+)
+network_of (Err f) a b path l first before after same keeps has h =
+    inr (l, has, subst (λ (log : DeviceLog). FailsToJoin f a path l log after) same (not_joined_before f a b path l before after keeps h))

@@ -2,20 +2,20 @@
 use Rattle.std.proofs.Common.{◌≡◌, Ok, Err, ap, ◌∙◌}
 use Rattle.afdx_wiring.specs.declared.fault.NetworkFault.{NetworkFault}
 use Rattle.afdx_wiring.specs.Net.{Network}
-use Rattle.afdx_wiring.specs.Order.{Answer, loads_fit, misfit, shortage}
+use Rattle.afdx_wiring.specs.Order.{Answer, loads_fit, misfit}
 use Rattle.afdx_wiring.specs.Refusal.{◌>>=◌}
-use Rattle.afdx_serve.specs.Networks.{verdict_of}
+use Rattle.afdx_serve.specs.Networks.{judged, verdict_of}
 use Rattle.afdx_serve.specs.NetworkJitters.{rates_fit, fit_of}
 
 -- it is that of its loads
 pub of_loads : (net : Network) (e : NetworkFault) → loads_fit 0 net.tables ≡ Err e → verdict_of net ≡ Err e
 unfolding verdict_of
-of_loads net e is = ap (λ (r : Answer). r >>= λ loads. (misfit net >>= λ fits. shortage net)) is
+of_loads net e is = ap (λ (r : Answer). r >>= λ loads. judged net) is
 
 -- or, where they are accepted, that of the rest
-pub of_rest : (net : Network) (e : NetworkFault) → loads_fit 0 net.tables ≡ Ok tt → (misfit net >>= λ fits. shortage net) ≡ Err e → verdict_of net ≡ Err e
+pub of_rest : (net : Network) (e : NetworkFault) → loads_fit 0 net.tables ≡ Ok tt → judged net ≡ Err e → verdict_of net ≡ Err e
 unfolding verdict_of
-of_rest net e loads is = ap (λ (r : Answer). r >>= λ loads. (misfit net >>= λ fits. shortage net)) loads ∙ is
+of_rest net e loads is = ap (λ (r : Answer). r >>= λ loads. judged net) loads ∙ is
 
 -- where the jitters are not judged
 pub of_rates : (net : Network) (e : NetworkFault) → rates_fit 0 net.tables ≡ Err e → fit_of net ≡ Err e

@@ -1,10 +1,11 @@
 -- What the check of a network writes.
 use Rattle.std.specs.Prelude.{◌≡◌, ℕ, List}
 use Rattle.afdx_wiring.specs.Net.{Network}
+use Rattle.afdx_wiring.specs.Ways.{AreWaysOf}
 use Rattle.afdx_wiring.specs.declared.ways.Way.{Way}
 use Rattle.afdx_ways.specs.Lines.{accepted_text}
 use Rattle.afdx_serve.specs.Networks.{names_of}
 
 -- the lines of its switches and of its ways
 abbrev pub IsNetworkCheck : Network → List ℕ → Type 0
-IsNetworkCheck net text = (ways : List Way) × (text ≡ accepted_text (names_of net.layout.switches) ways)
+IsNetworkCheck net text = (ways : List Way) × AreWaysOf net ways × (text ≡ accepted_text (names_of net.layout.switches) ways)

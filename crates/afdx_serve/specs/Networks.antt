@@ -76,9 +76,13 @@ IsRefusedTable refusal name (failure.Network (network.Table r n)) = (r ≡ refus
 IsRefusedTable refusal name failure.Memory = Unit {0}
 IsRefusedTable refusal name _ = ⊥
 
--- the first refusal of a network that is there, in this order: a load, what tables do not agree on, a jitter
+-- the first refusal of a network whose loads are accepted: what tables do not agree on, or else a jitter
+abbrev pub judged : Network → Answer
+judged net = misfit net >>= λ fits. shortage net
+
+-- the first refusal of a network that is there: a load, or else one of those
 unfoldable pub verdict_of : Network → Answer
-verdict_of net = loads_fit 0 net.tables >>= λ loads. misfit net >>= λ fits. shortage net
+verdict_of net = loads_fit 0 net.tables >>= λ loads. judged net
 
 -- a network was not accepted
 abbrev pub FailsToAcceptNetwork : Failure → Network → Type 0

@@ -1,10 +1,9 @@
 //! The command `network check`.
 
 ghost use Rattle.std.specs.Prelude.{◌≡◌, List, map, string_bytes, IfOk, MatchResult};
-ghost use Rattle.afdx_wiring.specs.Refusal.{◌>>=◌, Gives};
-ghost use Rattle.afdx_wiring.specs.Order.{misfit, shortage};
+ghost use Rattle.afdx_wiring.specs.Refusal.{Gives};
 ghost use Rattle.afdx_wiring.specs.Rules.{FitsTogether, HasJitters, IsAcceptedNetwork};
-ghost use Rattle.afdx_serve.specs.Networks.{names_of, FailsToAcceptNetwork};
+ghost use Rattle.afdx_serve.specs.Networks.{names_of, judged, FailsToAcceptNetwork};
 ghost use Rattle.afdx_serve.specs.NetworkChecks.{IsNetworkCheck};
 ghost use Rattle.afdx_serve.specs.Serving.{world, ChecksNetwork, FailsToCheckNetwork};
 
@@ -19,7 +18,7 @@ use std::io::Write;
 
 /// Whether the tables of a network whose loads are accepted fit together, and whether their jitters are enough.
 fn judge(alloc: Global, cleared: &ClearedNetwork) -> Result<(), NetworkFault>
-    ensures first { Gives (λ u. u) result (misfit cleared.now >>= λ fits. shortage cleared.now) }
+    ensures first { Gives (λ u. u) result (judged cleared.now) }
     ensures fits { IfOk result (λ _. FitsTogether cleared.now × HasJitters cleared.now) }
 {
     cleared.network().fit(alloc)?;
@@ -56,8 +55,11 @@ fn ways_text(
     requires { map string_bytes names.now ≡ names_of cleared.now.layout.switches }
     ensures { IfOk result (λ text. IsNetworkCheck cleared.now (string_bytes text)) }
 {
-    let ways = cleared.ways(alloc)?;
-    accepted_text(alloc, names, &ways)
+    match cleared.ways(alloc) {
+        Ok(ways) => accepted_text(alloc, names, &ways),
+        // An accepted network has all its ways, so that this is `Memory`.
+        Err(_) => Err(AllocError),
+    }
 }
 
 /// What is written of a network, where it is accepted.

@@ -1,5 +1,5 @@
 -- Chains of rules that nothing breaks: each is kept.
-use Rattle.std.proofs.Common.{◌≡◌, ℕ, zero, suc, ◌+◌, ◌<◌, Bool, true, false, not, List, [], ◌∷◌, ◌++◌, length, map, drop, get_or, slice_get, Some, None, Ok, Err, refl, ap, sym, ◌∙◌, add-one, arith, subst}
+use Rattle.std.proofs.Common.{◌≡◌, ℕ, suc, ◌+◌, ◌<◌, Bool, true, false, not, List, [], ◌∷◌, ◌++◌, length, map, drop, get_or, slice_get, Some, Ok, Err, refl, ap, sym, ◌∙◌, add-one, arith}
 use Rattle.std.proofs.Math.Seq.{drop-cons}
 use Rattle.std.specs.Prelude.{flat_map, Contains, Result}
 use Rattle.std.specs.List.{AllByRecursion, enumerate_from}
@@ -78,7 +78,7 @@ all_map P f [] all = tt
 all_map P f (x ∷ xs) all = (all.0, all_map P f xs all.1)
 
 -- the row of the link at a place, before those of the rest
-next_row : (n : ℕ) (ls : List Link) (i : ℕ) (l : Link) → i < length ls → l ≡ get_or ls i l → rows_in n (drop i ls) ≡ row_in n l ∷ rows_in n (drop (i + 1) ls)
+pub next_row : (n : ℕ) (ls : List Link) (i : ℕ) (l : Link) → i < length ls → l ≡ get_or ls i l → rows_in n (drop i ls) ≡ row_in n l ∷ rows_in n (drop (i + 1) ls)
 next_row n ls i l within is = ap (rows_in n) (drop-cons ls i l within ∙ ap (λ (m : Link). m ∷ drop (suc i) ls) (sym is) ∙ ap (λ (k : ℕ). l ∷ drop k ls) (sym (add-one i)))
 
 -- where a rule is not kept at that row

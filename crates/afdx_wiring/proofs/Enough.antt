@@ -1,28 +1,26 @@
 -- Rows whose jitter was found enough: it is, for the whole way to them.
-use Rattle.std.proofs.Common.{◌≡◌, ℕ, zero, suc, ◌+◌, ◌-◌, ◌*◌, ◌/◌, ◌≤◌, Bool, true, false, cond, nat_le, nat_lt, List, [], ◌∷◌, slice_get, Option, Some, None, option_map, option_and_then, Ok, Err, refl, ap, sym, ◌∙◌, arith, subst}
-use Rattle.std.specs.Prelude.{Contains, IfOk}
-use Rattle.std.specs.List.{AllByRecursion}
+use Rattle.std.proofs.Common.{◌≡◌, ℕ, zero, suc, ◌+◌, ◌-◌, ◌/◌, ◌≤◌, Bool, true, false, cond, nat_le, nat_lt, List, [], ◌∷◌, slice_get, Option, Some, None, option_map, option_and_then, Ok, Err, refl, ap, sym, ◌∙◌, arith}
+use Rattle.std.specs.Prelude.{IfOk}
 use Rattle.std.proofs.lemmas.Bool.Decides.{nat_tests}
 use Rattle.std.proofs.lemmas.List.Elements.{All-from_recursion, All-contains}
 use Rattle.afdx_table.specs.declared.rows.PortRow.{PortRow}
-use Rattle.afdx_table.specs.Link.{Link, leads_to}
+use Rattle.afdx_table.specs.Link.{Link}
 use Rattle.afdx_table.specs.Content.{Content, port_row, link_row}
-use Rattle.afdx_load.specs.Sums.{load_of, port_load}
+use Rattle.afdx_load.specs.Sums.{load_of}
 use Rattle.afdx_load.specs.Bounds.{bounds_of}
 use Rattle.afdx_series.specs.declared.delays.Delays.{Delays}
 use Rattle.afdx_series.specs.Delay.{hop_of, joined, at_once, IsEnough, need_of}
-use Rattle.afdx_wiring.specs.declared.layout.Wire.{Wire}
-use Rattle.afdx_wiring.specs.Net.{Network, Row, Back, port_at, row_at, rows_of, ingress, wire_to, bound_in, bound_at, IsWayBack, source_of, AreDelays}
+use Rattle.afdx_wiring.specs.Net.{Network, Row, Back, port_at, row_at, rows_of, bound_in, bound_at, IsWayBack, source_of, AreDelays}
 use Rattle.afdx_wiring.specs.Rules.{HasJitters}
 use Rattle.afdx_wiring.specs.Refusal.{Gives}
-use Rattle.afdx_wiring.specs.Order.{Answer, row_before, within_reason, hop_over, hop_from, hop_on, way_by, way_within, has_jitter, jitter_enough, most_rows, shortage}
+use Rattle.afdx_wiring.specs.Order.{Answer, within_reason, hop_over, hop_from, hop_on, way_by, way_within, has_jitter, jitter_enough, most_rows, shortage}
 use Rattle.afdx_wiring.proofs.Chains.{fine, some_same, unless_so, row_in, all_kept}
 use Rattle.afdx_wiring.proofs.FeedLemmas.{before_is}
 
 -- ---- a hop
 
 -- the row that is found at a switch is one of it
-row_switch : (net : Network) (switch id : ℕ) (r : Row) → row_at net switch id ≡ Some r → r.switch ≡ switch
+pub row_switch : (net : Network) (switch id : ℕ) (r : Row) → row_at net switch id ≡ Some r → r.switch ≡ switch
 row_switch net switch id r h = by (slice_get net.tables switch) h where
   by : (o : Option Content) → option_and_then (λ t. option_map (row_in switch) (link_row t id)) o ≡ Some r → r.switch ≡ switch
   by None is = absurd cc
@@ -31,7 +29,7 @@ row_switch net switch id r h = by (slice_get net.tables switch) h where
     of_link None found = absurd cc
     of_link (Some l) found = ap (λ (q : Row). q.switch) (sym (some_same found))
 
-reasonable : (bound other : ℕ) → within_reason bound ≡ Some other → other ≡ bound
+pub reasonable : (bound other : ℕ) → within_reason bound ≡ Some other → other ≡ bound
 reasonable bound other h = by (nat_le bound 1000000000000) h where
   by : (b : Bool) → cond b (Some bound) None ≡ Some other → other ≡ bound
   by true is = sym (some_same is)
@@ -43,7 +41,7 @@ record Hop (net : Network) (b : Back) (d before : Delays) (hop : Delays) : Type 
   pub most : d.most ≡ before.most + hop.most
 
 -- from a port, where there is one
-abbrev from_port : Content → Row → ℕ → Option PortRow → Option Delays
+abbrev pub from_port : Content → Row → ℕ → Option PortRow → Option Delays
 from_port t r cable o =
     option_and_then (λ (p : PortRow). option_and_then (hop_over t r cable p) (option_map (λ (q : PortRow). load_of t.latency q.speed q.id t.links) o)) o
 

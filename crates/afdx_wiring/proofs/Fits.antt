@@ -1,14 +1,13 @@
 -- Tables of which no rule is broken fit together.
-use Rattle.std.proofs.Common.{◌≡◌, ℕ, List, [], Ok, Err}
+use Rattle.std.proofs.Common.{◌≡◌, List, [], Ok, Err}
 use Rattle.std.specs.Prelude.{All, IfOk}
 use Rattle.std.specs.List.{AllByRecursion}
 use Rattle.std.proofs.lemmas.List.Elements.{All-from_recursion}
-use Rattle.afdx_wiring.specs.declared.fault.NetworkFault.{NetworkFault}
 use Rattle.afdx_wiring.specs.declared.layout.Wire.{Wire}
 use Rattle.afdx_wiring.specs.declared.terms.Shared.{Shared}
 use Rattle.afdx_wiring.specs.declared.terms.Shared.TheVariants as shared
 use Rattle.afdx_wiring.specs.Refusal.{◌>>=◌, Gives}
-use Rattle.afdx_wiring.specs.Net.{Network, Row, Back, rows_of, rows_on, IsWayBack}
+use Rattle.afdx_wiring.specs.Net.{Network, Back, rows_of, rows_on, IsWayBack}
 use Rattle.afdx_wiring.specs.Rules.{Joins, GoesOn, FitsTogether}
 use Rattle.afdx_wiring.specs.Order.{Answer, first_of, by_wires, joined_at, shares, most_rows, has_source, fed_numbers, each_once, misfit}
 use Rattle.afdx_wiring.proofs.Chains.{first_kept, rest_kept, wires_kept, all_kept, all_weaken, all_both}

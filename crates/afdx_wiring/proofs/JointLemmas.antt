@@ -1,6 +1,6 @@
 -- Wires whose ends agree, and the rows behind them.
-use Rattle.std.proofs.Common.{◌≡◌, ℕ, ◌==◌, ◌&&◌, Bool, true, false, List, [], ◌∷◌, map, filter, cond, slice_get, Option, Some, None, option_map, option_and_then, Ok, Err, not, refl, ap, sym, ◌∙◌, arith, subst}
-use Rattle.std.specs.Prelude.{All, Contains}
+use Rattle.std.proofs.Common.{◌≡◌, ℕ, ◌==◌, ◌&&◌, Bool, true, false, List, [], ◌∷◌, filter, cond, slice_get, Option, Some, None, option_map, option_and_then, Ok, Err, not, refl, ap, sym, ◌∙◌, arith, subst}
+use Rattle.std.specs.Prelude.{Contains}
 use Rattle.std.specs.List.{AllByRecursion}
 use Rattle.std.specs.Str.{bytes_eq}
 use Rattle.std.proofs.lemmas.Bool.Decides.{nat_tests}
@@ -18,17 +18,15 @@ use Rattle.afdx_table.specs.Link.{Link, leads_to}
 use Rattle.afdx_table.specs.Content.{Content, link_row}
 use Rattle.afdx_table.specs.Names.{bag_of}
 use Rattle.afdx_wiring.specs.declared.fault.At.{At}
-use Rattle.afdx_wiring.specs.declared.fault.NetworkFault.{NetworkFault}
 use Rattle.afdx_wiring.specs.declared.fault.NetworkFault.TheVariants as fault
-use Rattle.afdx_wiring.specs.declared.layout.End.{End}
 use Rattle.afdx_wiring.specs.declared.layout.Wire.{Wire}
 use Rattle.afdx_wiring.specs.declared.terms.Shared.{Shared}
 use Rattle.afdx_wiring.specs.declared.terms.Shared.TheVariants as shared
 use Rattle.afdx_wiring.specs.Refusal.{◌>>=◌, or_refuse, unless}
 use Rattle.afdx_wiring.specs.File.{is_end}
-use Rattle.afdx_wiring.specs.Net.{Network, Row, port_at, row_at, rows_of, rows_on}
+use Rattle.afdx_wiring.specs.Net.{Network, Row, port_at, rows_of, rows_on}
 use Rattle.afdx_wiring.specs.Rules.{Joins, GoesOn}
-use Rattle.afdx_wiring.specs.Order.{Answer, by_wires, first_of, same_constant, same_rate, same_speed, joined_at, same_police, same_terms, agrees, goes_on, all_go_on, shares}
+use Rattle.afdx_wiring.specs.Order.{Answer, first_of, same_constant, same_rate, same_speed, joined_at, same_police, same_terms, agrees, goes_on, all_go_on, shares}
 use Rattle.afdx_wiring.proofs.Chains.{fine, some_same, first_kept, rest_kept, unless_not, all_kept, row_in, Stands, all_stand, all_weaken}
 
 equal : (a b : ℕ) → (a == b) ≡ true → a ≡ b

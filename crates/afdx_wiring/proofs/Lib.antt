@@ -11,3 +11,4 @@ pub mod NeedLemmas
 pub mod OnceLemmas
 pub mod TextLemmas
 pub mod WalkLemmas
+pub mod WayLemmas

@@ -1,6 +1,5 @@
 -- Needs that are met: the check finds no shortage; and what jitters don't touch.
-use Rattle.std.proofs.Common.{◌≡◌, ℕ, zero, suc, ◌+◌, ◌*◌, ◌/◌, ◌≤◌, ◌==◌, ◌&&◌, ◌||◌, Bool, true, false, nat_le, nat_lt, List, [], ◌∷◌, ◌++◌, map, drop, length, get_or, slice_get, slice_set, ◌<◌, append_assoc, Option, Some, None, is_some, Ok, Err, refl, ap, sym, ◌∙◌, arith}
-use Rattle.std.specs.Prelude.{All, find}
+use Rattle.std.proofs.Common.{◌≡◌, ℕ, zero, suc, ◌+◌, ◌*◌, ◌/◌, ◌==◌, ◌&&◌, ◌||◌, Bool, true, false, nat_le, nat_lt, List, [], ◌∷◌, ◌++◌, map, drop, length, get_or, slice_set, ◌<◌, append_assoc, Option, Some, None, is_some, Ok, Err, refl, ap, sym, ◌∙◌, arith}
 use Rattle.std.specs.List.{AllByRecursion, list_all}
 use Rattle.std.proofs.lemmas.Bool.Decides.{nat_tests}
 use Rattle.std.proofs.lemmas.List.Elements.{All-from_recursion}
@@ -14,9 +13,8 @@ use Rattle.afdx_wiring.specs.declared.fault.NetworkFault.{NetworkFault}
 use Rattle.afdx_wiring.specs.Refusal.{◌>>=◌, unless}
 use Rattle.afdx_wiring.specs.Net.{Network, Row, rows_of}
 use Rattle.afdx_wiring.specs.Order.{Answer, first_of, most_rows, way_within, has_jitter, jitter_enough, shortage}
-use Rattle.afdx_wiring.specs.Rules.{HasJitters}
 use Rattle.afdx_wiring.specs.Needs.{bare_link, bare, DiffersInJitters, AreNeeds, needed, need_in, past_of, is_met}
-use Rattle.afdx_wiring.proofs.Chains.{fine, row_in, rows_from, next_rows}
+use Rattle.afdx_wiring.proofs.Chains.{row_in, rows_from, next_rows}
 use Rattle.afdx_wiring.proofs.Enough.{enough}
 
 -- ---- rules that are kept by each row

@@ -1,11 +1,10 @@
 -- Numbers that are met one after another, and sources of which no two have one number.
-use Rattle.std.proofs.Common.{◌≡◌, ℕ, zero, suc, ◌+◌, ◌<◌, ◌==◌, ◌||◌, Bool, true, false, not, cond, is_some, get_or, List, [], ◌∷◌, ◌++◌, length, map, filter, Option, Ok, Err, refl, ap, sym, ◌∙◌, arith, subst, inl, inr, append_assoc}
-use Rattle.std.specs.Prelude.{Contains, ◌≢◌, Result}
+use Rattle.std.proofs.Common.{◌≡◌, ℕ, zero, suc, ◌<◌, ◌==◌, ◌||◌, Bool, true, false, not, cond, is_some, get_or, List, [], ◌∷◌, ◌++◌, length, map, filter, Option, Ok, Err, refl, ap, sym, ◌∙◌, arith, subst, inl, inr, append_assoc}
+use Rattle.std.specs.Prelude.{Contains, ◌≢◌}
 use Rattle.std.specs.List.{list_any}
 use Rattle.std.proofs.lemmas.Bool.Decides.{nat_tests}
 use Rattle.std.proofs.lemmas.List.{append-nil, map-append}
 use Rattle.std.proofs.lemmas.List.Elements.{Contains-append_cases, filter-append}
-use Rattle.afdx_table.specs.Content.{Content}
 use Rattle.afdx_wiring.specs.declared.fault.NetworkFault.{NetworkFault}
 use Rattle.afdx_wiring.specs.declared.fault.NetworkFault.TheVariants as fault
 use Rattle.afdx_wiring.specs.declared.layout.Wire.{Wire}

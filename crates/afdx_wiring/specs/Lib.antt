@@ -7,3 +7,4 @@ pub mod Net
 pub mod Order
 pub mod Refusal
 pub mod Rules
+pub mod Ways

@@ -4,7 +4,7 @@ ghost use Rattle.std.specs.Prelude.{◌≡◌};
 ghost use Rattle.afdx_wiring.specs.Names.{key_text};
 
 use afdx_load::LoadFault;
-use std::alloc::AllocError;
+use std::alloc::{AllocError, AllocFailed};
 use std::fmt;
 
 /// A place in the network file: the top, or a switch or a wire by its place in its array, counted from 1.
@@ -147,6 +147,16 @@ impl From<AllocError> for NetworkFault {
     ghost from_gives = { λ _ fault. fault ≡ Memory };
 
     fn from(_error: AllocError) -> NetworkFault {
+        NetworkFault::Memory
+    }
+}
+
+impl<T: Drop> From<AllocFailed<T>> for NetworkFault {
+    ghost use Rattle.afdx_wiring.specs.declared.fault.NetworkFault.TheVariants.{Memory};
+
+    ghost from_gives = { λ _ fault. fault ≡ Memory };
+
+    fn from(_error: AllocFailed<T>) -> NetworkFault {
         NetworkFault::Memory
     }
 }

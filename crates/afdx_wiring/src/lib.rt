@@ -6,6 +6,7 @@
 mod arrays;
 mod checking;
 mod cleared;
+mod exits;
 mod fault;
 mod fields;
 mod fitting;

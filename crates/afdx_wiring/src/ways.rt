@@ -1,17 +1,20 @@
 //! The ways of a network's links.
 
+ghost use Rattle.std.specs.Prelude.{◌≡◌, ◌≤◌, ◌<◌, ◌+◌, ◌*◌, [], ◌∷◌, List, IfOk};
+ghost use Rattle.std.specs.List.{AllZip};
+ghost use Rattle.afdx_wiring.specs.Net.{Row as SeenRow, Back};
+ghost use Rattle.afdx_wiring.specs.Order.{row_of};
+ghost use Rattle.afdx_wiring.specs.Ways.{IsWayOver, IsWayAlong, IsWayOut, AreWaysOf};
+
 use crate::cleared::ClearedNetwork;
+use crate::exits::Exit;
+use crate::fault::NetworkFault;
 use crate::hops::Hops;
-use crate::joints::link_at;
-use crate::layout::End;
-use crate::network::Network;
+use crate::layout::{End, Wire};
 use crate::row::Row;
 use crate::sources::MOST_ROWS;
 use afdx_series::{Delays, need};
-use std::alloc::{AllocError, Global};
-
-/// No way takes more nanoseconds; it is more than 18 years.
-const MAX_SPAN: u64 = 576_460_752_303_423_488;
+use std::alloc::Global;
 
 /// A link's way, from an end system's port to a port that leads out of the network.
 #[derive(Debug, Drop)]
@@ -20,6 +23,8 @@ pub struct Way {
     pub link: u16,
     /// The port at which its frames come in.
     pub from: End,
+    /// The jitter in nanoseconds that the link has there.
+    pub jitter: u64,
     /// The output ports on the way.
     pub ports: Vec<End>,
     /// The jitter in whole microseconds that the link needs at each switch; its own at the first.
@@ -28,117 +33,104 @@ pub struct Way {
     pub delays: Delays,
 }
 
-/// A row on a way, the output port there, and the cable behind it.
-#[derive(Clone, Copy)]
-struct Stage<'a> {
-    row: Row<'a>,
-    port: u8,
-    cable: u32,
-}
-
-impl Network {
-    /// Whether a port leads out of the network.
-    fn leads_out(&self, end: End) -> bool {
-        !self.layout().wires.iter().any(|wire| wire.from == end)
-    }
-
-    /// The rows with a port that leads out of the network, by link, then by switch and port.
-    fn ends(&self, alloc: Global) -> Result<Vec<Stage<'_>>, AllocError> {
-        let mut ends = Vec::new(alloc);
-        for (switch, table) in self.tables().iter().enumerate() {
-            for index in 0..table.link_count() {
-                let link = link_at(table, index);
-                for port in link.to.as_slice() {
-                    if self.leads_out(End {
-                        switch,
-                        port: *port,
-                    }) {
-                        ends.push(Stage {
-                            row: Row { switch, link },
-                            port: *port,
-                            cable: 0,
-                        })?;
-                    }
-                }
-            }
-        }
-        ends.sort_unstable_by_key(|stage| {
-            let link = stage.row.link;
-            (link.id, stage.row.switch, stage.port)
-        });
-        Ok(ends)
-    }
-
-    /// The stages of a way, from this last one back to the source's.
-    fn stages<'a>(&'a self, alloc: Global, last: Stage<'a>) -> Result<Vec<Stage<'a>>, AllocError> {
-        let mut stages = Vec::new(alloc);
-        let mut stage = last;
-        for _ in 0..MOST_ROWS {
-            stages.push(stage)?;
-            let link = stage.row.link;
-            let Some(wire) = self.wire_to(stage.row.ingress()) else {
-                break;
-            };
-            let Some(row) = self.row_before(link.id, wire) else {
-                break;
-            };
-            stage = Stage {
-                row,
-                port: wire.from.port,
-                cable: wire.delay,
-            };
-        }
-        Ok(stages)
-    }
-}
-
 impl<'a> Hops<'a> {
-    /// The way of these stages, told from the last one.
-    fn way(&self, alloc: Global, stages: &[Stage<'_>]) -> Result<Option<Way>, AllocError> {
-        let Some(first) = stages.last() else {
-            return Ok(None);
-        };
-        let link = first.row.link;
-        let mut way = Way {
+    /// The way from a row that an end system's port feeds, over no line as yet.
+    fn begin(&self, alloc: Global, row: Row<'_>) -> Way
+        ensures way { IsWayOver self.now (row_of row.entry) [] result }
+        ensures limits { (result.jitter ≤ 10000000) × (result.delays.least ≡ 0) × (result.delays.most ≡ 0) }
+    {
+        let link = row.link;
+        Way {
             link: link.id,
-            from: first.row.ingress(),
+            from: row.ingress(),
+            jitter: link.jitter,
             ports: Vec::new(alloc),
             jitters: Vec::new(alloc),
             delays: Delays::none(),
-        };
-        for stage in stages.iter().rev() {
-            let Some(hop) = self.hop_on(stage.row, stage.port, stage.cable) else {
-                return Ok(None);
-            };
-            if way.delays.least > MAX_SPAN || way.delays.most > MAX_SPAN {
-                return Ok(None);
-            }
-            way.jitters.push(need(way.delays, link.jitter))?;
-            way.ports.push(End {
-                switch: stage.row.switch,
-                port: stage.port,
-            })?;
-            way.delays = way.delays.join(hop);
         }
-        Ok(Some(way))
+    }
+
+    /// A way to a row, and the line on which that sends the link; `NoSource` where the port has no bound.
+    fn lengthen(&self, way: Way, row: Row<'_>, line: &Wire) -> Result<Way, NetworkFault>
+        requires jitter { way.jitter ≤ 10000000 }
+        requires least { way.delays.least ≤ 140737488355328 }
+        requires most { way.delays.most ≤ 140737488355328 }
+        requires switch { row.switch ≡ line.now.from.switch }
+        ensures way { IfOk result (λ w. (source : SeenRow) (stages : List Back) → IsWayOver self.now source stages way
+            → IsWayOver self.now source (record { wire = line.now; row = row_of row.entry } ∷ stages) w) }
+        ensures limits { IfOk result (λ w. (w.jitter ≡ way.jitter) × (w.delays.least ≤ way.delays.least + 2199023255552)
+            × (w.delays.most ≤ way.delays.most + 2199023255552)) }
+    {
+        let link = row.link;
+        let mut longer = way;
+        let hop = self
+            .hop_on(row, line.from.port, line.delay)
+            .ok_or(NetworkFault::NoSource(row.switch, link.id))?;
+        longer.jitters.push(need(longer.delays, longer.jitter))?;
+        longer.ports.push(line.from)?;
+        longer.delays = longer.delays.join(hop);
+        Ok(longer)
+    }
+
+    /// The way of a link from its source to the end of a line, over at most so many rows; `NoSource` where there is none.
+    fn way_along(
+        &self,
+        alloc: Global,
+        rows: usize,
+        id: u16,
+        line: &Wire,
+    ) -> Result<Way, NetworkFault>
+        requires { rows ≤ 64 }
+        ensures way { IfOk result (λ w. IsWayAlong self.now id line.now w) }
+        ensures limits { IfOk result (λ w. (w.jitter ≤ 10000000) × (w.delays.least ≤ rows * 2199023255552) × (w.delays.most ≤ rows * 2199023255552)) }
+    {
+        let none = NetworkFault::NoSource(line.from.switch, id);
+        let fewer = rows.checked_sub(1).ok_or(none)?;
+        let row = self.network().row_before(id, line).ok_or(none)?;
+        let link = row.link;
+        let way = match self.network().wire_to(row.ingress()) {
+            Some(wire) => self.way_along(alloc, fewer, link.id, wire)?,
+            None => self.begin(alloc, row),
+        };
+        self.lengthen(way, row, line)
+    }
+
+    /// The way to an exit.
+    fn way_out(&self, alloc: Global, exit: Exit) -> Result<Way, NetworkFault>
+        ensures { IfOk result (λ w. IsWayOut self.now exit w) }
+    {
+        let end = exit.end();
+        let line = Wire {
+            from: end,
+            to: end,
+            delay: 0,
+        };
+        self.way_along(alloc, MOST_ROWS, exit.link, &line)
+    }
+
+    /// The ways to exits.
+    fn ways_out(&self, alloc: Global, exits: &[Exit]) -> Result<Vec<Way>, NetworkFault>
+        ensures { IfOk result (λ ways. AllZip (IsWayOut self.now) exits.now ways.items) }
+    {
+        let mut ways = Vec::new(alloc);
+        for exit in exits {
+            ways.push(self.way_out(alloc, *exit)?)?;
+        }
+        Ok(ways)
     }
 }
 
 impl ClearedNetwork {
     /// The ways of the links, one for each port that leads out of the network: by link, then by the switch and the port at
-    /// which it ends. A way that the tables do not lead back to a source, or without a bound, is left out; where the network
-    /// fits there is none.
+    /// which it ends. It is asked of a network that fits: of another one `NoSource`, where the tables do not lead a way back to
+    /// a source; or `Memory`.
     ///
     /// O(r w + e s w) for r rows, e ends, at most s switches on a way and w wires, beside their sorting.
-    pub fn ways(&self, alloc: Global) -> Result<Vec<Way>, AllocError> {
+    pub fn ways(&self, alloc: Global) -> Result<Vec<Way>, NetworkFault>
+        ensures { IfOk result (λ ways. AreWaysOf self.now ways.items) }
+    {
         let hops = Hops::new(alloc, self.network())?;
-        let mut ways = Vec::new(alloc);
-        for end in self.network().ends(alloc)? {
-            let stages = self.network().stages(alloc, end)?;
-            if let Some(way) = hops.way(alloc, &stages)? {
-                ways.push(way)?;
-            }
-        }
-        Ok(ways)
+        let exits = self.network().exits(alloc)?;
+        hops.ways_out(alloc, &exits)
     }
 }

@@ -1,6 +1,6 @@
 use Rattle.std.proofs.Common.{rules}
 use Rattle.afdx_wiring.specs.Refusal.{Gives}
-use Rattle.afdx_wiring.specs.Order.{Answer, shortage}
+use Rattle.afdx_wiring.specs.Order.{shortage}
 use Rattle.afdx_wiring.proofs.Enough.{if_given}
 use Rattle.afdx_wiring.proofs.cleared.ClearedNetwork.check.Goals as goal
 

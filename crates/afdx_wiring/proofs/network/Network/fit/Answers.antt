@@ -1,6 +1,6 @@
 use Rattle.std.proofs.Common.{rules}
 use Rattle.afdx_wiring.specs.Refusal.{Gives}
-use Rattle.afdx_wiring.specs.Order.{Answer, misfit}
+use Rattle.afdx_wiring.specs.Order.{misfit}
 use Rattle.afdx_wiring.proofs.Fits.{if_given}
 use Rattle.afdx_wiring.proofs.network.Network.fit.Goals as goal
 
