@@ -2,10 +2,11 @@
 
 ghost use Rattle.std.specs.Prelude.{◌≡◌, ◌≢◌, Ok, Err, MatchResult};
 ghost use Rattle.afdx_wiring.specs.declared.fault.NetworkFault.TheVariants.{Memory};
+ghost use Rattle.afdx_wiring.specs.Needs.{AreNeeds};
 ghost use Rattle.afdx_wiring.specs.Rules.{FitsTogether};
 ghost use Rattle.afdx_serve.specs.NetworkJitters.{first_rate_fault, rates_fit, fit_of};
 ghost use Rattle.afdx_serve.specs.declared.failure.Failure.TheVariants.{Memory as Out};
-ghost use Rattle.afdx_serve.specs.Serving.{world, TellsJitters, FailsToTellJitters};
+ghost use Rattle.afdx_serve.specs.Serving.{world, GivesJitters, FailsToGiveJitters};
 
 use crate::failure::Failure;
 use crate::folder::Folder;
@@ -62,9 +63,9 @@ fn check_fit(alloc: Global, network: &Network) -> Result<(), NetworkFault>
     network.fit(alloc)
 }
 
-/// What is told of the jitters of a network whose tables fit together.
+/// The jitters that the rows of a network need, whose tables fit together.
 fn needs_of(alloc: Global, network: Network) -> Result<Needs, Failure>
-    ensures { MatchResult result (λ _. Unit {0}) (λ f. f ≡ Out) }
+    ensures { MatchResult result (λ needs. AreNeeds network needs.rows.items needs.past) (λ f. f ≡ Out) }
 {
     match network.jitters(alloc) {
         Ok(needs) => Ok(needs),
@@ -72,8 +73,9 @@ fn needs_of(alloc: Global, network: Network) -> Result<Needs, Failure>
     }
 }
 
-/// Writes for each link of each table of the network of a file the jitter that it needs there, from the jitters of the first
-/// rows on. Nothing is promised of them: `network check` judges them.
+/// Writes for each link of each table of the network of a file the jitter that it needs there, from the jitters of the sources
+/// on. Where no row needs more than a table can have, `network check` finds these jitters enough; it judges the loads too,
+/// which grow with them.
 ///
 /// # Errors
 ///
@@ -89,9 +91,9 @@ pub(crate) fn network_jitter<O: Write, F: Folder>(
     folder: &mut F,
 ) -> Result<(), Failure>
     ensures { MatchResult result
-        (λ _. TellsJitters path.now
+        (λ _. GivesJitters path.now
         (world (O.contents out.old) (F.files folder.old) (F.failed folder.old)) (world (O.contents out.new) (F.files folder.new) (F.failed folder.new)))
-        (λ f. FailsToTellJitters f path.now
+        (λ f. FailsToGiveJitters f path.now
         (world (O.contents out.old) (F.files folder.old) (F.failed folder.old)) (world (O.contents out.new) (F.files folder.new) (F.failed folder.new))) }
 {
     let network = get_network(alloc, folder, path)?;
