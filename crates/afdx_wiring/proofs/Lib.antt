@@ -7,7 +7,7 @@ pub mod Fits
 pub mod JointLemmas
 pub mod LimitLemmas
 pub mod LoadLemmas
-pub mod OnceLemmas
 pub mod NeedLemmas
+pub mod OnceLemmas
 pub mod TextLemmas
 pub mod WalkLemmas

@@ -1,5 +1,5 @@
 -- Needs that are met: the check finds no shortage; and what jitters don't touch.
-use Rattle.std.proofs.Common.{◌≡◌, ℕ, zero, suc, ◌+◌, ◌*◌, ◌/◌, ◌≤◌, ◌==◌, ◌&&◌, ◌||◌, Bool, true, false, nat_le, nat_lt, List, [], ◌∷◌, ◌++◌, map, drop, length, get_or, slice_get, slice_set, ◌<◌, append_assoc, drop-cons, add-one, Option, Some, None, is_some, Ok, Err, refl, ap, sym, ◌∙◌, arith}
+use Rattle.std.proofs.Common.{◌≡◌, ℕ, zero, suc, ◌+◌, ◌*◌, ◌/◌, ◌≤◌, ◌==◌, ◌&&◌, ◌||◌, Bool, true, false, nat_le, nat_lt, List, [], ◌∷◌, ◌++◌, map, drop, length, get_or, slice_get, slice_set, ◌<◌, append_assoc, Option, Some, None, is_some, Ok, Err, refl, ap, sym, ◌∙◌, arith}
 use Rattle.std.specs.Prelude.{All, find}
 use Rattle.std.specs.List.{AllByRecursion, list_all}
 use Rattle.std.proofs.lemmas.Bool.Decides.{nat_tests}
@@ -13,10 +13,10 @@ use Rattle.afdx_wiring.specs.declared.jitters.RowNeed.{RowNeed}
 use Rattle.afdx_wiring.specs.declared.fault.NetworkFault.{NetworkFault}
 use Rattle.afdx_wiring.specs.Refusal.{◌>>=◌, unless}
 use Rattle.afdx_wiring.specs.Net.{Network, Row, rows_of}
-use Rattle.afdx_wiring.specs.Order.{Answer, by_links, by_rows, most_rows, way_within, has_jitter, jitter_enough, shortage}
+use Rattle.afdx_wiring.specs.Order.{Answer, first_of, most_rows, way_within, has_jitter, jitter_enough, shortage}
 use Rattle.afdx_wiring.specs.Rules.{HasJitters}
 use Rattle.afdx_wiring.specs.Needs.{bare_link, bare, DiffersInJitters, AreNeeds, needed, need_in, past_of, is_met}
-use Rattle.afdx_wiring.proofs.Chains.{fine, row_in, rows_from}
+use Rattle.afdx_wiring.proofs.Chains.{fine, row_in, rows_from, next_rows}
 use Rattle.afdx_wiring.proofs.Enough.{enough}
 
 -- ---- rules that are kept by each row
@@ -28,18 +28,9 @@ goes_on : (a : Answer) (rest : Unit {0} → Answer) → a ≡ Ok tt → rest tt 
 goes_on (Ok tt) rest here further = further
 goes_on (Err e) rest here further = absurd cc
 
-links_fine : (rule : Row → Answer) (n : ℕ) (ls : List Link) (more : List Row) → AllByRecursion (Fine rule) (map (row_in n) ls ++ more)
-    → (by_links (λ l. rule (row_in n l)) ls ≡ Ok tt) × AllByRecursion (Fine rule) more
-links_fine rule n [] more all = (refl, all)
-links_fine rule n (l ∷ ls) more all =
-    let rest = links_fine rule n ls more all.1 in
-    (goes_on (rule (row_in n l)) (λ _. by_links (λ k. rule (row_in n k)) ls) all.0 rest.0, rest.1)
-
-rows_fine : (rule : Row → Answer) (n : ℕ) (ts : List Content) → AllByRecursion (Fine rule) (rows_from n ts) → by_rows rule n ts ≡ Ok tt
-rows_fine rule n [] all = refl
-rows_fine rule n (t ∷ ts) all =
-    let here = links_fine rule n t.links (rows_from (n + 1) ts) all in
-    goes_on (by_links (λ l. rule (row_in n l)) t.links) (λ _. by_rows rule (n + 1) ts) here.0 (rows_fine rule (n + 1) ts here.1)
+all_fine : (rule : Row → Answer) (rs : List Row) → AllByRecursion (Fine rule) rs → first_of rule rs ≡ Ok tt
+all_fine rule [] all = refl
+all_fine rule (r ∷ rs) all = goes_on (rule r) (λ _. first_of rule rs) all.0 (all_fine rule rs all.1)
 
 -- ---- needs that are met
 
@@ -83,7 +74,7 @@ each_is (n ∷ ns) h =
 
 none_short : (net : Network) → list_all is_met (map (need_in false net) (rows_of net)) ≡ true → shortage net ≡ Ok tt
 unfolding shortage
-none_short net h = rows_fine (jitter_enough net) 0 net.tables (each_has net (rows_of net) h)
+none_short net h = all_fine (jitter_enough net) (rows_of net) (each_has net (rows_of net) h)
 
 -- the needs of a turn, which are met where none is past what a table can have
 pub are_needs : (net turn : Network) (needs : List RowNeed) (past : Option Short) → DiffersInJitters net turn → needs ≡ map (need_in false turn) (rows_of turn)
@@ -123,12 +114,8 @@ spread : (f : Row → RowNeed) (n : ℕ) (ls : List Link) (more : List Row) → 
 spread f n [] more = refl
 spread f n (l ∷ ls) more = ap (λ (rest : List RowNeed). f (row_in n l) ∷ rest) (spread f n ls more)
 
-rows_step : (n : ℕ) (ts : List Content) (t : Content) → n < length ts → t ≡ get_or ts n t → rows_from n (drop n ts) ≡ map (row_in n) t.links ++ rows_from (n + 1) (drop (n + 1) ts)
-rows_step n ts t within is =
-    ap (rows_from n) (drop-cons ts n t within ∙ ap (λ (u : Content). u ∷ drop (suc n) ts) (sym is) ∙ ap (λ (k : ℕ). t ∷ drop k ts) (sym (add-one n)))
-
 pub needs_go : (f : Row → RowNeed) (before : List RowNeed) (n : ℕ) (ts : List Content) (t : Content) → n < length ts → t ≡ get_or ts n t
     → (before ++ map (λ l. f (row_in n l)) t.links) ++ map f (rows_from (n + 1) (drop (n + 1) ts)) ≡ before ++ map f (rows_from n (drop n ts))
 needs_go f before n ts t within is =
     append_assoc before (map (λ l. f (row_in n l)) t.links) (map f (rows_from (n + 1) (drop (n + 1) ts)))
-    ∙ ap (λ (rest : List RowNeed). before ++ rest) (sym (ap (map f) (rows_step n ts t within is) ∙ spread f n t.links (rows_from (n + 1) (drop (n + 1) ts))))
+    ∙ ap (λ (rest : List RowNeed). before ++ rest) (sym (ap (map f) (next_rows n ts t within is) ∙ spread f n t.links (rows_from (n + 1) (drop (n + 1) ts))))
