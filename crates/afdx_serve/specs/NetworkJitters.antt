@@ -21,11 +21,14 @@ use Rattle.afdx_serve.specs.declared.failure.Failure.{Failure}
 use Rattle.afdx_serve.specs.Files.{Files}
 use Rattle.afdx_serve.specs.Networks.{names_of, HasNetwork, IsRefused}
 
--- the fault of the first port whose links ask for more than its line: the one rule of loads that no jitter bears on
+-- the fault of a port whose links ask for more than its line: the one rule of loads that no jitter bears on
+abbrev pub rate_fault : ℕ → List Link → PortRow → Option LoadFault
+rate_fault latency links row = past row.id Rate parts (load_of latency row.speed row.id links).rate
+
+-- of the first port that has one
 abbrev pub first_rate_fault : ℕ → List Link → List PortRow → Option LoadFault
 first_rate_fault latency links [] = None
-first_rate_fault latency links (row ∷ rows) =
-    option_or (past row.id Rate parts (load_of latency row.speed row.id links).rate) (first_rate_fault latency links rows)
+first_rate_fault latency links (row ∷ rows) = option_or (rate_fault latency links row) (first_rate_fault latency links rows)
 
 -- by switch, of which n come before these
 abbrev pub rates_fit : ℕ → List Content → Answer
