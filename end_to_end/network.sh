@@ -74,10 +74,9 @@ twin() {
     printf '\n[[link]]\nid = 300\nfrom = 1\nto = [2]\nbag_ms = 8\njitter_us = 100\nmax_size = 128\npriority = "high"\n'
 }
 
-# lines_are_the_pages: the lines that were provoked, with their status, are those of the page's section on networks; that the
-# wires come to no rest is told by the model's rows alone.
+# lines_are_the_pages: the lines that were provoked, with their status, are those of the page's section on networks.
 lines_are_the_pages() {
-    sed -n '/^## Networks/,/^## Files/ s/^| `\(afdx: [^`]*\)` | \([0-9]\) |.*/\2 \1/p' "$top/docs/use/MESSAGES.md" | grep -v 'R1 Unsettled' | sort >wanted.txt
+    sed -n '/^## Networks/,/^## Files/ s/^| `\(afdx: [^`]*\)` | \([0-9]\) |.*/\2 \1/p' "$top/docs/use/MESSAGES.md" | sort >wanted.txt
     [ -s wanted.txt ] && sort provoked.txt | diff wanted.txt -
 }
 
@@ -91,6 +90,24 @@ absolute() {
 capture_refused() {
     fresh && : >work/in/bay/port-3.pcap && mkdir -p out/cabin out/bay out/cockpit &&
         ends 3 "afdx: capture P2 NoHeader, port 3, switch bay" /dev/null network run work/network.toml work/in out
+}
+
+# no_table: the file of the second table is not there.
+no_table() {
+    fresh && sed -i 's/"bay.toml"/"none.toml"/' work/network.toml &&
+        ends 5 "afdx: device get work/none.toml" /dev/null network check work/network.toml
+}
+
+# unsettled: frames over a ring, each of which delays the next one at the next switch, so that a round settles one more of them.
+unsettled() {
+    mkdir -p ring/out/A ring/out/B ring/out/C && python3 "$top/end_to_end/ring.py" ring 63 &&
+        ends 4 "afdx: network R1 Unsettled" /dev/null network run ring/network.toml ring ring/out
+}
+
+# settled: one frame less, and what goes round comes to rest in the last round.
+settled() {
+    python3 "$top/end_to_end/ring.py" ring 62 && "$afdx" network run ring/network.toml ring ring/out >lines.txt &&
+        python3 "$model" run ring/network.toml ring wanted-ring >wanted.txt && cmp wanted.txt lines.txt && diff -r wanted-ring ring/out
 }
 
 # undisturbed: with the camera's capture empty, each other link puts out the same bytes in the same order at each port of each
@@ -140,11 +157,14 @@ refusal 3 "afdx: network G9 TwiceSource, link 300" cabin.toml '$r twin.toml'
 refusal 4 "afdx: network J1 Jitter, switch bay, link 400, need 1100, has 1099" bay.toml '/^id = 400/,/^jitter_us/ s/^jitter_us = .*/jitter_us = 1099/'
 provoked 3 "afdx: capture P2 NoHeader, port 3, switch bay"
 check "afdx: capture P2 NoHeader, port 3, switch bay" capture_refused
+provoked 4 "afdx: network R1 Unsettled"
+check "afdx: network R1 Unsettled" unsettled
+check "a ring that comes to rest in the last round" settled
 check "MESSAGES has these lines of networks, and no other" lines_are_the_pages
 fresh
 check "no network file" ends 5 "afdx: device get none.toml" /dev/null network check none.toml
-check "no table" ends 5 "afdx: device get work/none.toml" /dev/null network check <(sed 's/"bay.toml"/"none.toml"/' work/network.toml)
 check "no capture" ends 5 "afdx: device get nowhere/cabin/port-1.pcap" /dev/null network run work/network.toml nowhere out
+check "no table" no_table
 check "help of network" helps network --help
 check "help of network check" helps network check --help
 check "no command of networks" ends 2 "afdx: usage" /dev/null network

@@ -1,6 +1,7 @@
 pub mod Progress
 pub mod TellingLemmas
 pub mod InputLemmas
+pub mod JitterLemmas
 pub mod FileLemmas
 pub mod RunLemmas
 pub mod MeasureLemmas

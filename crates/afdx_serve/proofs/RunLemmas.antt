@@ -170,6 +170,7 @@ not_gathered_run paths a b first after keeps w v none (failure.Get s) h = ((h, k
 not_gathered_run paths a b first after keeps w v none (failure.Load r) h = ((h, keeps), none)
 not_gathered_run paths a b first after keeps w v none (failure.PortCapture p r) h = ((h, keeps), none)
 not_gathered_run paths a b first after keeps w v none failure.Usage h = absurd h
+not_gathered_run paths a b first after keeps w v none (failure.Network r) h = absurd h
 not_gathered_run paths a b first after keeps w v none (failure.Capture r) h = absurd h
 not_gathered_run paths a b first after keeps w v none (failure.Put s) h = absurd h
 not_gathered_run paths a b first after keeps w v none failure.Read h = absurd h

@@ -1,5 +1,5 @@
 -- What is told of the jitters that the rows of a network need.
-use Rattle.std.specs.Prelude.{◌≡◌, ◌≢◌, ℕ, ◌+◌, List, [], ◌∷◌, Option, None, Result, Ok, Err}
+use Rattle.std.specs.Prelude.{◌≡◌, ◌≢◌, ℕ, ◌+◌, List, [], ◌∷◌, Option, None, Ok, Err}
 use Rattle.std.specs.Option.{option_or}
 use Rattle.afdx_table.specs.declared.rows.PortRow.{PortRow}
 use Rattle.afdx_table.specs.Link.{Link}
@@ -11,18 +11,24 @@ use Rattle.afdx_load.specs.declared.fault.LoadFault.{LoadFault}
 use Rattle.afdx_wiring.specs.Net.{Network}
 use Rattle.afdx_wiring.specs.Order.{Answer, load_fits, misfit}
 use Rattle.afdx_wiring.specs.Refusal.{◌>>=◌}
+use Rattle.afdx_wiring.specs.Needs.{AreNeeds}
+use Rattle.afdx_wiring.specs.declared.fault.Short.{Short}
 use Rattle.afdx_wiring.specs.declared.fault.NetworkFault.{NetworkFault}
 use Rattle.afdx_wiring.specs.declared.fault.NetworkFault.TheVariants as fault
-use Rattle.afdx_serve.specs.declared.network_failure.NetworkFailure.{NetworkFailure}
-use Rattle.afdx_serve.specs.declared.network_failure.NetworkFailure.TheVariants as network
+use Rattle.afdx_wiring.specs.declared.jitters.RowNeed.{RowNeed}
+use Rattle.afdx_ways.specs.Lines.{jitter_text}
 use Rattle.afdx_serve.specs.declared.failure.Failure.{Failure}
-use Rattle.afdx_serve.specs.Networks.{names_of, IsRefused}
+use Rattle.afdx_serve.specs.Files.{Files}
+use Rattle.afdx_serve.specs.Networks.{names_of, HasNetwork, IsRefused}
 
--- the fault of the first port whose links ask for more than its line: the one rule of loads that no jitter bears on
+-- the fault of a port whose links ask for more than its line: the one rule of loads that no jitter bears on
+abbrev pub rate_fault : ℕ → List Link → PortRow → Option LoadFault
+rate_fault latency links row = past row.id Rate parts (load_of latency row.speed row.id links).rate
+
+-- of the first port that has one
 abbrev pub first_rate_fault : ℕ → List Link → List PortRow → Option LoadFault
 first_rate_fault latency links [] = None
-first_rate_fault latency links (row ∷ rows) =
-    option_or (past row.id Rate parts (load_of latency row.speed row.id links).rate) (first_rate_fault latency links rows)
+first_rate_fault latency links (row ∷ rows) = option_or (rate_fault latency links row) (first_rate_fault latency links rows)
 
 -- by switch, of which n come before these
 abbrev pub rates_fit : ℕ → List Content → Answer
@@ -37,7 +43,11 @@ fit_of net = rates_fit 0 net.tables >>= λ rates. misfit net
 abbrev pub FailsToFit : Failure → Network → Type 0
 FailsToFit f net = (e : NetworkFault) × (e ≢ fault.Memory → fit_of net ≡ Err e) × IsRefused (names_of net.layout.switches) e f
 
--- a row needs a jitter past what a table can have
-abbrev pub IsPast : NetworkFailure → Type 0
-IsPast (network.Refused (fault.NoJitter short) name) = Unit {0}
-IsPast _ = ⊥
+-- the file's network fits, so that jitters are asked for: these are what its rows need, and the first that is past what a table can
+-- have; this text tells them
+pub record JittersAre (files : Option Files) (path : List ℕ) (net : Network) (past : Option Short) (text : List ℕ) : Type 0 where
+  pub rows : List RowNeed
+  pub has_network : HasNetwork files path net
+  pub fits : fit_of net ≡ Ok tt
+  pub needs : AreNeeds net rows past
+  pub told : text ≡ jitter_text (names_of net.layout.switches) rows

@@ -1,5 +1,5 @@
 -- What serving words does: to what a reader gives, and to what a writer and a folder hold before and after.
-use Rattle.std.specs.Prelude.{string_bytes, Some, Ok, ◌≡◌, ◌⊎◌, ℕ, List, Option, IfSome}
+use Rattle.std.specs.Prelude.{string_bytes, Some, None, ◌≡◌, ◌⊎◌, ℕ, List, Option, IfSome}
 use Rattle.std.specs.Io.KnownBytes.{Appends, Keeps}
 use Rattle.afdx_pcap.specs.Fault.{IsFault}
 use Rattle.afdx_words.specs.declared.link.Alone.{Alone}
@@ -17,14 +17,14 @@ use Rattle.afdx_serve.specs.Checks.{IsCheckOf}
 use Rattle.afdx_serve.specs.Sizes.{AreSizesIn}
 use Rattle.afdx_wiring.specs.Net.{Network}
 use Rattle.afdx_wiring.specs.Rules.{IsAcceptedNetwork}
-use Rattle.afdx_wiring.specs.declared.jitters.RowNeed.{RowNeed}
-use Rattle.afdx_ways.specs.Lines.{jitter_text}
+use Rattle.afdx_wiring.specs.declared.fault.Short.{Short}
+use Rattle.afdx_wiring.specs.declared.fault.NetworkFault.TheVariants.{NoJitter}
 use Rattle.afdx_words.specs.declared.request.NetworkPaths.{NetworkPaths}
 use Rattle.afdx_words.specs.declared.request.NetworkRequest.{NetworkRequest}
 use Rattle.afdx_words.specs.declared.request.NetworkRequest.TheVariants as ask
-use Rattle.afdx_serve.specs.Networks.{names_of, HasNetwork, FailsToGetNetwork, FailsToAcceptNetwork}
+use Rattle.afdx_serve.specs.Networks.{names_of, HasNetwork, IsRefused, FailsToGetNetwork, FailsToAcceptNetwork}
 use Rattle.afdx_serve.specs.NetworkChecks.{IsNetworkCheck}
-use Rattle.afdx_serve.specs.NetworkJitters.{fit_of, IsPast, FailsToFit}
+use Rattle.afdx_serve.specs.NetworkJitters.{JittersAre, FailsToFit}
 use Rattle.afdx_serve.specs.NetworkRuns.{LeadsToNetwork, FailsToPutNetwork, names_at, bytes_at, captures_of, reports_of}
 use Rattle.afdx_serve.specs.Files.{Files, DeviceLog, KeepsFiles, PutsFiles, one_more}
 use Rattle.afdx_session.specs.Outcome.{Results}
@@ -134,27 +134,33 @@ FailsToCheckNetwork f path old new =
     ⊎ ((net : Network) × HasNetwork old.files path net × FailsToAcceptNetwork f net × (new.failed ≡ old.failed)))
     × KeepsFiles old.files new.files × WritesNothing old new
 
--- the jitters that its rows may need were written; the network check judges them
-abbrev pub TellsJitters : List ℕ → World → World → Type 0
-TellsJitters path old new =
-    (net : Network) × (rows : List RowNeed) × HasNetwork old.files path net × (fit_of net ≡ Ok tt)
-    × Appends old.written new.written (jitter_text (names_of net.layout.switches) rows) × KeepsFolder old new
+-- the jitters that the rows of the file's network need were written; this is the first past what a table can have
+abbrev pub TellsJitters : List ℕ → Network → Option Short → World → World → Type 0
+TellsJitters path net past old new = (text : List ℕ) × JittersAre old.files path net past text × Appends old.written new.written text × KeepsFolder old new
 
--- before they were
+-- they were, and none is past that; so the check of the network accepts these jitters
+abbrev pub GivesJitters : List ℕ → World → World → Type 0
+GivesJitters path old new = (net : Network) × TellsJitters path net None old new
+
+-- why they were not, before a line was written
 abbrev pub FailsBeforeJitters : Failure → List ℕ → World → World → Type 0
 FailsBeforeJitters f path old new =
     (FailsToGetNetwork f old.files path old.failed new.failed
     ⊎ ((net : Network) × HasNetwork old.files path net × FailsToFit f net × (new.failed ≡ old.failed)))
     × KeepsFiles old.files new.files × WritesNothing old new
 
--- why they were not, and what was written; where a row needs more than a table can have, all were
-abbrev pub FailsToTellJitters : Failure → List ℕ → World → World → Type 0
-FailsToTellJitters failure.Write path old new =
-    (net : Network) × (rows : List RowNeed) × HasNetwork old.files path net × (fit_of net ≡ Ok tt)
-    × AppendsFront old.written new.written (jitter_text (names_of net.layout.switches) rows) × KeepsFolder old new
-FailsToTellJitters failure.Memory path old new = KeepsFiles old.files new.files × (WritesNothing old new ⊎ TellsJitters path old new)
-FailsToTellJitters (failure.Network e) path old new = FailsBeforeJitters (failure.Network e) path old new ⊎ (IsPast e × TellsJitters path old new)
-FailsToTellJitters f path old new = FailsBeforeJitters f path old new
+-- all were, and a row needs more than a table can have
+abbrev pub FailsPastJitters : Failure → List ℕ → World → World → Type 0
+FailsPastJitters f path old new =
+    (net : Network) × (short : Short) × TellsJitters path net (Some short) old new × IsRefused (names_of net.layout.switches) (NoJitter short) f
+
+-- why a network has no such jitters, and what was written
+abbrev pub FailsToGiveJitters : Failure → List ℕ → World → World → Type 0
+FailsToGiveJitters failure.Write path old new =
+    (net : Network) × (past : Option Short) × (text : List ℕ) × JittersAre old.files path net past text × AppendsFront old.written new.written text × KeepsFolder old new
+FailsToGiveJitters failure.Memory path old new = (KeepsFiles old.files new.files × WritesNothing old new) ⊎ FailsPastJitters failure.Memory path old new
+FailsToGiveJitters (failure.Network e) path old new = FailsBeforeJitters (failure.Network e) path old new ⊎ FailsPastJitters (failure.Network e) path old new
+FailsToGiveJitters f path old new = FailsBeforeJitters f path old new
 
 -- the files lead to a run of a network, of which the captures were put and the reports written
 abbrev pub PutsNetwork : NetworkPaths → World → World → Network → List Results → Type 0
@@ -176,13 +182,13 @@ FailsToRunNetwork f paths old new = FailsToPutNetwork f paths old.files new.file
 -- what a request of networks asks for was done
 abbrev pub PerformsNetwork : NetworkRequest → World → World → Type 0
 PerformsNetwork (ask.Check path) old new = ChecksNetwork path.now old new
-PerformsNetwork (ask.Jitter path) old new = TellsJitters path.now old new
+PerformsNetwork (ask.Jitter path) old new = GivesJitters path.now old new
 PerformsNetwork (ask.Run paths) old new = RunsNetwork paths old new
 
 -- why it was not, and what was done
 abbrev pub FailsToPerformNetwork : Failure → NetworkRequest → World → World → Type 0
 FailsToPerformNetwork f (ask.Check path) old new = FailsToCheckNetwork f path.now old new
-FailsToPerformNetwork f (ask.Jitter path) old new = FailsToTellJitters f path.now old new
+FailsToPerformNetwork f (ask.Jitter path) old new = FailsToGiveJitters f path.now old new
 FailsToPerformNetwork f (ask.Run paths) old new = FailsToRunNetwork f paths old new
 
 -- ---- runs

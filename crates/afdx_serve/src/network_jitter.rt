@@ -1,40 +1,53 @@
 //! The command `network jitter`.
 
-ghost use Rattle.std.specs.Prelude.{◌≡◌, ◌≢◌, Ok, Err, MatchResult};
+ghost use Rattle.std.specs.Prelude.{◌≡◌, ◌≢◌, Some, Ok, Err, MatchResult};
+ghost use Rattle.afdx_table.specs.Content.{port_row};
 ghost use Rattle.afdx_wiring.specs.declared.fault.NetworkFault.TheVariants.{Memory};
+ghost use Rattle.afdx_wiring.specs.Needs.{AreNeeds};
 ghost use Rattle.afdx_wiring.specs.Rules.{FitsTogether};
-ghost use Rattle.afdx_serve.specs.NetworkJitters.{first_rate_fault, rates_fit, fit_of};
+ghost use Rattle.afdx_serve.specs.NetworkJitters.{rate_fault, first_rate_fault, rates_fit, fit_of};
 ghost use Rattle.afdx_serve.specs.declared.failure.Failure.TheVariants.{Memory as Out};
-ghost use Rattle.afdx_serve.specs.Serving.{world, TellsJitters, FailsToTellJitters};
+ghost use Rattle.afdx_serve.specs.Serving.{world, GivesJitters, FailsToGiveJitters};
 
 use crate::failure::Failure;
 use crate::folder::Folder;
 use crate::network_get::{get_network, names_of, refused};
 use crate::output::write_bytes;
-use afdx_load::{LoadFault, PARTS, Rule, breaks, loads};
-use afdx_table::Table;
+use afdx_load::{LoadFault, Loads, PARTS, Rule, breaks, loads};
 use afdx_table::laws::ports_are_found;
+use afdx_table::{PortRow, Table};
 use afdx_ways::jitter_text;
 use afdx_wiring::{Needs, Network, NetworkFault};
 use std::alloc::Global;
 use std::io::Write;
 
-/// The fault of the first port whose links ask for more than its line.
+/// The fault of a port whose links ask for more than its line.
+fn rate_fault(loads: &Loads<'_>, row: &PortRow) -> Option<LoadFault>
+    requires { port_row loads.now row.now.id ≡ Some row.now }
+    ensures { result ≡ rate_fault loads.now.latency loads.now.links row.now }
+{
+    let load = loads.at(row.id)?;
+    if !breaks(row, &load, Rule::Rate) {
+        return None;
+    }
+    Some(LoadFault {
+        port: row.id,
+        rule: Rule::Rate,
+        need: u128::from(load.rate()),
+        limit: u128::from(PARTS),
+    })
+}
+
+/// The fault of the first port that has one.
 fn first_rate_fault(table: &Table) -> Option<LoadFault>
     ensures { result ≡ first_rate_fault table.now.latency table.now.links table.now.ports }
 {
     ports_are_found();
     let loads = loads(table);
     for row in table.ports() {
-        if let Some(load) = loads.at(row.id) {
-            if breaks(row, &load, Rule::Rate) {
-                return Some(LoadFault {
-                    port: row.id,
-                    rule: Rule::Rate,
-                    need: u128::from(load.rate()),
-                    limit: u128::from(PARTS),
-                });
-            }
+        let fault = rate_fault(&loads, row);
+        if fault.is_some() {
+            return fault;
         }
     }
     None
@@ -53,6 +66,7 @@ fn rates_fit(tables: &[Table]) -> Result<(), NetworkFault>
 }
 
 /// Whether no line is asked for too much, and the tables fit together.
+#[tactic(auto, unfolding(crate::specs::NetworkJitters::fit_of))]
 fn check_fit(alloc: Global, network: &Network) -> Result<(), NetworkFault>
     ensures { MatchResult result
         (λ _. (fit_of network.now ≡ Ok tt) × FitsTogether network.now)
@@ -62,9 +76,9 @@ fn check_fit(alloc: Global, network: &Network) -> Result<(), NetworkFault>
     network.fit(alloc)
 }
 
-/// What is told of the jitters of a network whose tables fit together.
+/// The jitters that the rows of a network need, whose tables fit together.
 fn needs_of(alloc: Global, network: Network) -> Result<Needs, Failure>
-    ensures { MatchResult result (λ _. Unit {0}) (λ f. f ≡ Out) }
+    ensures { MatchResult result (λ needs. AreNeeds network needs.rows.items needs.past) (λ f. f ≡ Out) }
 {
     match network.jitters(alloc) {
         Ok(needs) => Ok(needs),
@@ -72,8 +86,9 @@ fn needs_of(alloc: Global, network: Network) -> Result<Needs, Failure>
     }
 }
 
-/// Writes for each link of each table of the network of a file the jitter that it needs there, from the jitters of the first
-/// rows on. Nothing is promised of them: `network check` judges them.
+/// Writes for each link of each table of the network of a file the jitter that it needs there, from the jitters of the sources
+/// on. Where no row needs more than a table can have, `network check` finds these jitters enough; it judges the loads too,
+/// which grow with them.
 ///
 /// # Errors
 ///
@@ -89,9 +104,9 @@ pub(crate) fn network_jitter<O: Write, F: Folder>(
     folder: &mut F,
 ) -> Result<(), Failure>
     ensures { MatchResult result
-        (λ _. TellsJitters path.now
+        (λ _. GivesJitters path.now
         (world (O.contents out.old) (F.files folder.old) (F.failed folder.old)) (world (O.contents out.new) (F.files folder.new) (F.failed folder.new)))
-        (λ f. FailsToTellJitters f path.now
+        (λ f. FailsToGiveJitters f path.now
         (world (O.contents out.old) (F.files folder.old) (F.failed folder.old)) (world (O.contents out.new) (F.files folder.new) (F.failed folder.new))) }
 {
     let network = get_network(alloc, folder, path)?;

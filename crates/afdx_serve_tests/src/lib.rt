@@ -20,6 +20,14 @@ mod memory_folder;
 #[cfg(test)]
 mod names;
 #[cfg(test)]
+mod network_checks;
+#[cfg(test)]
+mod network_refusals;
+#[cfg(test)]
+mod network_runs;
+#[cfg(test)]
+mod networks;
+#[cfg(test)]
 mod policing;
 #[cfg(test)]
 mod runs;

@@ -44,6 +44,12 @@ impl<A: Allocator + Copy> MemoryFolder<A> {
         }
     }
 
+    /// From now on the call of this number, from 1, fails so.
+    pub(crate) fn fail_at(&mut self, failing: u64, fault: FolderFault) {
+        self.failing = failing;
+        self.fault = fault;
+    }
+
     /// Puts a file, which is no call that is counted.
     pub(crate) fn add(&mut self, name: &str, bytes: &[u8]) -> Result<(), AllocError> {
         let name = String::from_str(self.alloc, name)?;

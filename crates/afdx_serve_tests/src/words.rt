@@ -19,6 +19,7 @@ Commands:
   run      Runs the switch over one capture for each port
   measure  Tells the delays of each link and how full each buffer was
   trace    Tells what became of each frame and of each copy
+  network  Checks and runs a network of switches
   help     Print this message or the help of the given subcommand(s)
 
 Options:
@@ -219,6 +220,12 @@ fn refuses_words(rt: HostRuntime) -> Result<(), Fail> {
         "afdx measure t in out",
         "afdx trace t in",
         "afdx trace t in out more",
+        "afdx network",
+        "afdx network size t",
+        "afdx network check",
+        "afdx network check n in",
+        "afdx network jitter n in",
+        "afdx network run n in",
         "afdx alone",
         "afdx alone --bag 3",
         "afdx alone --id 10 --bag 1 --jitter 0",

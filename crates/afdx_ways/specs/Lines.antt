@@ -1,5 +1,5 @@
 -- The lines that are told of a network (profile). Each ends with a line feed.
-use Rattle.std.specs.Prelude.{ℕ, ◌-◌, ◌==◌, Bool, true, codes, max, if◌then◌else◌, List, [], ◌∷◌, ◌++◌, length, map, flat_map, fold, find, slice_get, Option, unwrap_or}
+use Rattle.std.specs.Prelude.{ℕ, ◌-◌, ◌==◌, Bool, true, codes, max, if◌then◌else◌, List, [], ◌∷◌, ◌++◌, length, flat_map, fold, find, slice_get, Option, unwrap_or}
 use Rattle.std.specs.Fmt.{decimal}
 use Rattle.std.specs.Option.{option_map_or}
 use Rattle.afdx_wiring.specs.declared.layout.End.{End}

@@ -1,0 +1,74 @@
+use Rattle.std.proofs.Common.{◌≡◌, map, string_bytes, rules}
+use Rattle.std.proofs.KnownBytes.{Keeps-refl}
+use Rattle.afdx_ways.specs.Lines.{jitter_text}
+use Rattle.afdx_serve.specs.declared.failure.Failure.TheVariants.{Write}
+use Rattle.afdx_serve.specs.Networks.{names_of}
+use Rattle.afdx_serve.proofs.RunLemmas.{of_error}
+use Rattle.afdx_serve.proofs.JitterLemmas.{not_got, not_fit, past_told}
+use Rattle.afdx_serve.proofs.network_jitter.network_jitter.Goals as goal
+
+pub returns-in_err-network : goal.returns-in_err-network
+returns-in_err-network g c =
+    let fails = c.in_err-network.ensures in
+    of_error _ _ _ c.in_err-network.field-0.0 c.from_residual.ensures
+    (not_got c.args.path.now _ _ fails.same (Keeps-refl _) c.in_err-network.field-0.0 fails.got)
+
+pub returns-in-Err : goal.returns-in-Err
+returns-in-Err g c =
+    let net = c.in_ok-network.network in
+    let got = c.in_ok-network.ensures in
+    let named : map string_bytes c.in_ok-names.names.items ≡ names_of net.layout.switches = search rules in
+    let refused = rw (c.deref-in-Err.ensures.value, named) at c.refused.ensures in
+    not_fit c.args.path.now _ _ got.same (Keeps-refl _) net got.got.0 got.got.1 c.in-Err.fault c.in-Err.ensures c.refused.result refused
+
+pub returns-in_err-write_bytes : goal.returns-in_err-write_bytes
+returns-in_err-write_bytes g c =
+    let net = c.in_ok-network.network in
+    let got = c.in_ok-network.ensures in
+    let needs = c.in_ok-needs.needs in
+    let front = rw c.as_bytes.ensures.value at c.in_err-write_bytes.ensures.front in
+    let told : string_bytes c.in_ok-text.text ≡ jitter_text (names_of net.layout.switches) needs.rows.items = search rules in
+    of_error _ _ _ Write c.from_residual-in_err-write_bytes.ensures
+    (
+      net,
+      needs.past,
+      string_bytes c.in_ok-text.text,
+      record { rows = needs.rows.items; has_network = got.got.0; fits = c.in_default.ensures.0; needs = c.in_ok-needs.ensures; told = told },
+      front,
+      (got.same, got.got.1),
+    )
+
+pub returns-in-Some : goal.returns-in-Some
+returns-in-Some g c =
+    let net = c.in_ok-network.network in
+    let got = c.in_ok-network.ensures in
+    let needs = c.in_ok-needs.needs in
+    let named : map string_bytes c.in_ok-names.names.items ≡ names_of net.layout.switches = search rules in
+    let refused = rw (c.deref-in-Some.ensures.value, named) at c.refused-in-Some.ensures in
+    let all = rw c.as_bytes.ensures.value at c.in_ok-write_bytes.ensures.all in
+    let told : string_bytes c.in_ok-text.text ≡ jitter_text (names_of net.layout.switches) needs.rows.items = search rules in
+    let are = rw c.in-Some.is at c.in_ok-needs.ensures in
+    past_told c.args.path.now _ _ net c.in-Some.short
+    (
+      string_bytes c.in_ok-text.text,
+      record { rows = needs.rows.items; has_network = got.got.0; fits = c.in_default.ensures.0; needs = are; told = told },
+      all,
+      (got.same, got.got.1),
+    )
+    c.refused-in-Some.result refused
+
+pub returns : goal.returns
+returns g c =
+    let net = c.in_ok-network.network in
+    let got = c.in_ok-network.ensures in
+    let needs = c.in_ok-needs.needs in
+    let all = rw c.as_bytes.ensures.value at c.in_ok-write_bytes.ensures.all in
+    let told : string_bytes c.in_ok-text.text ≡ jitter_text (names_of net.layout.switches) needs.rows.items = search rules in
+    let are = rw c.in-None.is at c.in_ok-needs.ensures in
+    (
+      net,
+      string_bytes c.in_ok-text.text,
+      record { rows = needs.rows.items; has_network = got.got.0; fits = c.in_default.ensures.0; needs = are; told = told },
+      all,
+      (got.same, got.got.1),
+    )

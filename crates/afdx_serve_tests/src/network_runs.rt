@@ -1,0 +1,163 @@
+//! `afdx network run` over a folder in memory. Values from outside: tables, captures and printed lines.
+
+use crate::fixtures::{Said, answers};
+use crate::memory_folder::MemoryFolder;
+use crate::networks::{TwoSwitches, row};
+use afdx_samples::{HEADER, Sample, capture, port, small, table};
+use afdx_serve::FolderFault;
+use std::alloc::{AllocError, Global};
+use std::test::Fail;
+
+const RUN: &str = "afdx network run net/n.toml in out";
+
+/// Each line after its switch's name.
+const REPORTS: &str =
+    "A in 1 seen 1 cut 0 short 0 long 0 foreign 0 no-link 0 wrong-port 0 too-big 0 clean 1
+A in 2 seen 0 cut 0 short 0 long 0 foreign 0 no-link 0 wrong-port 0 too-big 0 clean 0
+A link 1 passed 1 policed 0
+A out 1 high offered 0 full 0 aged 0 sent 0
+A out 1 low offered 0 full 0 aged 0 sent 0
+A out 2 high offered 0 full 0 aged 0 sent 0
+A out 2 low offered 1 full 0 aged 0 sent 1
+B in 1 seen 1 cut 0 short 0 long 0 foreign 0 no-link 0 wrong-port 0 too-big 0 clean 1
+B in 2 seen 0 cut 0 short 0 long 0 foreign 0 no-link 0 wrong-port 0 too-big 0 clean 0
+B link 1 passed 1 policed 0
+B out 1 high offered 0 full 0 aged 0 sent 0
+B out 1 low offered 0 full 0 aged 0 sent 0
+B out 2 high offered 0 full 0 aged 0 sent 0
+B out 2 low offered 1 full 0 aged 0 sent 1
+";
+
+/// Link 1 from port 1 to port 2 of A, and over a wire of 25 ns to port 2 of B.
+fn line_of_two(alloc: Global) -> Result<TwoSwitches, AllocError> {
+    let ports = [port(1), port(2)];
+    let links = [row(1, 1, "[2]", 0)];
+    let mut network = TwoSwitches::of(
+        alloc,
+        table(alloc, &ports, &links)?,
+        table(alloc, &ports, &links)?,
+    )?;
+    network.network = network.network.replace(alloc, "A.4", "A.2")?;
+    Ok(network)
+}
+
+/// The network, and captures of the ports without a wire, of which those at A have this frame at port 1. No capture comes in
+/// at port 1 of B.
+fn given(alloc: Global, came: Sample) -> Result<MemoryFolder<Global>, AllocError> {
+    let mut folder = line_of_two(alloc)?.folder()?;
+    folder.add("in/A/port-1.pcap", &capture(alloc, &[came])?)?;
+    folder.add("in/A/port-2.pcap", &HEADER)?;
+    folder.add("in/B/port-2.pcap", &HEADER)?;
+    Ok(folder)
+}
+
+/// Whether the folder has these captures under these names.
+fn has_put(folder: &MemoryFolder<Global>, captures: &[(&str, &[u8])]) -> bool {
+    captures
+        .iter()
+        .all(|(name, bytes)| folder.bytes(name) == Some(*bytes))
+}
+
+/// The frame leaves A after 6,720 ns, and B after 25 and 6,720 ns more.
+#[test]
+fn a_frame_over_two_switches(rt: HostRuntime) -> Result<(), Fail> {
+    let alloc = rt.alloc();
+    let mut folder = given(alloc, small(1, 0))?;
+    assert!(rt; answers(alloc, RUN, &mut folder, (0, REPORTS, ""))?);
+    let first = capture(alloc, &[small(1, 6_720)])?;
+    let second = capture(alloc, &[small(1, 13_465)])?;
+    let put: [(&str, &[u8]); 4] = [
+        ("out/A/port-1.pcap", &HEADER),
+        ("out/A/port-2.pcap", &first),
+        ("out/B/port-1.pcap", &HEADER),
+        ("out/B/port-2.pcap", &second),
+    ];
+    assert!(rt; has_put(&folder, &put));
+    Ok(())
+}
+
+/// Whether the run over captures with this frame, of which this file has these bytes, answers so and puts nothing.
+fn puts_nothing(
+    alloc: Global,
+    came: Sample,
+    (name, bytes): (&str, &[u8]),
+    said: Said,
+) -> Result<bool, AllocError> {
+    let mut folder = given(alloc, came)?;
+    folder.add(name, bytes)?;
+    let is_said = answers(alloc, RUN, &mut folder, said)?;
+    Ok(is_said && folder.bytes("out/A/port-1.pcap").is_none())
+}
+
+/// Captures are refused by switch and then by port; what a wire brings is refused where it comes in.
+#[test]
+fn captures_that_are_refused(rt: HostRuntime) -> Result<(), Fail> {
+    let alloc = rt.alloc();
+    let late = Sample {
+        seconds: 4_294_967_294,
+        ..small(1, 999_999_999)
+    };
+    for (came, name, left, line) in [
+        (
+            small(1, 0),
+            "in/B/port-2.pcap",
+            23,
+            "afdx: capture P2 NoHeader, port 2, switch B\n",
+        ),
+        (
+            small(1, 0),
+            "in/A/port-2.pcap",
+            0,
+            "afdx: capture P2 NoHeader, port 2, switch A\n",
+        ),
+        (
+            late,
+            "in/B/port-2.pcap",
+            24,
+            "afdx: capture P9 Late, port 1, record 1, switch B\n",
+        ),
+    ] {
+        let bytes = &HEADER[..left];
+        assert!(rt;
+            puts_nothing(alloc, came, (name, bytes), (3, "", line))?,
+            "{line}"
+        );
+    }
+    Ok(())
+}
+
+#[test]
+fn captures_that_are_not_there(rt: HostRuntime) -> Result<(), Fail> {
+    let alloc = rt.alloc();
+    let mut folder = line_of_two(alloc)?.folder()?;
+    let first = "afdx: device get in/A/port-1.pcap\n";
+    assert!(rt; answers(alloc, RUN, &mut folder, (5, "", first))?);
+    folder.add("in/A/port-1.pcap", &HEADER)?;
+    folder.add("in/A/port-2.pcap", &HEADER)?;
+    let second = "afdx: device get in/B/port-2.pcap\n";
+    assert!(rt; answers(alloc, RUN, &mut folder, (5, "", second))?);
+    Ok(())
+}
+
+/// Six files are got, and the seventh call puts the first one.
+#[test]
+fn a_folder_that_fails(rt: HostRuntime) -> Result<(), Fail> {
+    let alloc = rt.alloc();
+    for (call, line, is_first_put) in [
+        (2, "afdx: device get net/A.toml\n", false),
+        (6, "afdx: device get in/B/port-2.pcap\n", false),
+        (7, "afdx: device put out/A/port-1.pcap\n", false),
+        (9, "afdx: device put out/B/port-1.pcap\n", true),
+    ] {
+        let mut folder = given(alloc, small(1, 0))?;
+        folder.fail_at(call, FolderFault::Device);
+        assert!(rt; answers(alloc, RUN, &mut folder, (5, "", line))?, "{line}");
+        assert_eq!(rt; folder.calls(), call, "{line}");
+        assert_eq!(rt;
+            folder.bytes("out/A/port-2.pcap").is_some(),
+            is_first_put,
+            "{line}"
+        );
+    }
+    Ok(())
+}
