@@ -7,4 +7,5 @@ pub mod MeasureLemmas
 pub mod ServingLemmas
 pub mod CheckLemmas
 pub mod OwnLemmas
+mod PartLemmas
 mod PutLemmas

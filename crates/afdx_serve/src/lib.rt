@@ -19,6 +19,7 @@ mod measure;
 mod names;
 mod output;
 mod own;
+mod parts;
 mod policing;
 mod put;
 mod run;
