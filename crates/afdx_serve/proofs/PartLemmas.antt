@@ -44,16 +44,18 @@ AppendsFront-longer a c text more h =
 
 -- ---- the answer to the whole capture begins with that to its first frames
 
-abbrev longer_list : (b : Bool) (ps qs : List Entry) (r : Entry) → qs ≡ cond b (ps ++ r ∷ []) ps → (more : List Entry) × (qs ≡ ps ++ more)
+longer_list : (b : Bool) (ps qs : List Entry) (r : Entry) → qs ≡ cond b (ps ++ r ∷ []) ps → (more : List Entry) × (qs ≡ ps ++ more)
 longer_list true ps qs r is = (r ∷ [], is)
 longer_list false ps qs r is = ([], is ∙ sym (append-nil ps))
 
 passed_more : Ground → (t : Terms) (before later : List Entry) → (more : List Entry) × (passed_of frame_of t (before ++ later) ≡ passed_of frame_of t before ++ more)
 passed_more g t before [] = ([], ap (passed_of frame_of t) (append-nil before) ∙ sym (append-nil (passed_of frame_of t before)))
 passed_more g t before (r ∷ rs) =
-    let one = longer_list (conforms t (map frame_of (passed_of frame_of t before)) (frame_of r)) (passed_of frame_of t before) (passed_of frame_of t (before ++ r ∷ [])) r (g.next frame_of t before r) in
+    let ps = passed_of frame_of t before in
+    let one = longer_list (conforms t (map frame_of ps) (frame_of r)) ps (passed_of frame_of t (before ++ r ∷ [])) r (g.next frame_of t before r) in
     let others = passed_more g t (before ++ r ∷ []) rs in
-    (one.0 ++ others.0, ap (passed_of frame_of t) (sym (append_assoc before (r ∷ []) rs)) ∙ others.1 ∙ ap (λ (ps : List Entry). ps ++ others.0) one.1 ∙ append_assoc (passed_of frame_of t before) one.0 others.0)
+    let further = ap (passed_of frame_of t) (sym (append_assoc before (r ∷ []) rs)) ∙ others.1 in
+    (one.0 ++ others.0, further ∙ ap (λ (qs : List Entry). qs ++ others.0) one.1 ∙ append_assoc ps one.0 others.0)
 
 passed_begin : Ground → (link : Alone) (seen later : List Entry) → (more : List Entry) × (passed_of_link link (seen ++ later) ≡ passed_of_link link seen ++ more)
 passed_begin g link seen later =
@@ -64,7 +66,8 @@ text_begins : Ground → (rs more : List Entry) → (rest : List ℕ) × (captur
 text_begins g rs [] = ([], ap capture_text (append-nil rs) ∙ sym (append-nil (capture_text rs)))
 text_begins g rs (r ∷ more) =
     let others = text_begins g (rs ++ r ∷ []) more in
-    (record_text r ++ others.0, ap capture_text (sym (append_assoc rs (r ∷ []) more)) ∙ others.1 ∙ ap (λ (text : List ℕ). text ++ others.0) (g.appended rs r) ∙ append_assoc (capture_text rs) (record_text r) others.0)
+    let further = ap capture_text (sym (append_assoc rs (r ∷ []) more)) ∙ others.1 in
+    (record_text r ++ others.0, further ∙ ap (λ (text : List ℕ). text ++ others.0) (g.appended rs r) ∙ append_assoc (capture_text rs) (record_text r) others.0)
 
 -- the records that were taken are the first ones of the capture
 abbrev pub TakenBegin : Type 0

@@ -12,7 +12,9 @@ pub loop-frame-init : goal.loop-frame-init
 loop-frame-init g c = record { reads = search rules; written = []; appended = Appends-nil _; policed = search rules }
 
 pub next_frame-requires-clause-whole : goal.next_frame-requires-clause-whole
-next_frame-requires-clause-whole g c = let same = c.loop-frame.invariant.reads in same ∙ ap (λ (bytes : List ℕ). whole_reading bytes c.loop-frame.frames.given) (sym (ap (λ (r : Reading). r.bytes) same))
+next_frame-requires-clause-whole g c =
+    let same = c.loop-frame.invariant.reads in
+    same ∙ ap (λ (bytes : List ℕ). whole_reading bytes c.loop-frame.frames.given) (sym (ap (λ (r : Reading). r.bytes) same))
 
 pub next_frame-requires-clause-capture : goal.next_frame-requires-clause-capture
 next_frame-requires-clause-capture g c =
