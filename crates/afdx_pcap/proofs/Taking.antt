@@ -7,7 +7,7 @@ use Rattle.afdx_pcap.specs.Entry.{Entry}
 use Rattle.afdx_pcap.specs.Capture.{header_of, Splits, Holds, IsCapture, after}
 use Rattle.afdx_pcap.specs.Fault.{last_stamp}
 use Rattle.afdx_pcap.specs.Reading.{Answers, AreFirst, HasTaken, IsNext, IsSound, Reading, Taking, taking_on, whole_reading}
-use Rattle.afdx_pcap.proofs.Unique.{one_format, one_front, one_record, next_after, same_tail}
+use Rattle.afdx_pcap.proofs.Unique.{not_in_nothing, one_format, one_front, one_record, next_after, same_tail}
 use Rattle.afdx_pcap.proofs.More.{Holds-more}
 
 none_of : (rs : List Entry) → length rs ≡ 0 → rs ≡ []
@@ -74,6 +74,26 @@ fewer_than_all bytes n rs r all next =
     let same = one_format (header_of bytes) all.format held.format all.header held.header in
     let some = subst (λ (f : Format). Splits f 0 (drop 24 bytes) (next.0 ++ r ∷ []) next.1) (sym same) held.records in
     subst (λ (k : ℕ). k < length rs) next.3 (more_than all.format 0 (drop 24 bytes) rs next.0 r next.1 all.records some)
+
+-- the records of a capture begin with the first ones of its bytes
+split_begins : (f : Format) (last : ℕ) (bytes : List ℕ) (rs all : List Entry) (rest : List ℕ) → Splits f last bytes rs rest → Splits f last bytes all [] → (later : List Entry) × (all ≡ rs ++ later)
+split_begins f last bytes [] all rest some whole = (all, refl)
+split_begins f last bytes (q ∷ qs) [] rest some whole = absurd (not_in_nothing f last bytes q whole some.0)
+split_begins f last bytes (q ∷ qs) (p ∷ ps) rest some whole =
+    let one = one_record f last last bytes q p some.0 whole.0 in
+    let found = split_begins f q.stamp (after q bytes) qs ps rest some.1 (same_tail f bytes q p ps [] one whole.1) in
+    let same = found.1 in
+    (found.0, cc)
+
+first_begin : (bytes : List ℕ) (rs all : List Entry) → AreFirst bytes rs → IsCapture bytes all → (later : List Entry) × (all ≡ rs ++ later)
+first_begin bytes [] all first whole = (all, refl)
+first_begin bytes (q ∷ qs) all first whole =
+    let held = first.1 in
+    let same = one_format (header_of bytes) held.format whole.format held.header whole.header in
+    split_begins held.format 0 (drop 24 bytes) (q ∷ qs) all first.0 held.records (subst (λ (f : Format). Splits f 0 (drop 24 bytes) all []) (sym same) whole.records)
+
+pub taken_begin : (t : Taking) (taken all : List Entry) → HasTaken t taken → IsCapture t.bytes all → (later : List Entry) × (all ≡ taken ++ later)
+taken_begin t taken all has whole = first_begin t.bytes taken all has.first whole
 
 -- ---- a reader over a whole capture
 

@@ -66,6 +66,12 @@ pub fn taken_records_are_the_first()
         → IsCapture t.bytes rs }
 {}
 
+/// The records that were taken are the first ones of the capture, where the bytes are one.
+pub fn taken_records_begin_the_capture()
+    ensures { (t : Taking) (taken all : List Entry) → HasTaken t taken → IsCapture t.bytes all
+        → (later : List Entry) × (all ≡ taken ++ later) }
+{}
+
 /// But for out of memory there is one answer after so many records, whoever gives it.
 pub fn each_answer_is_the_only_one()
     ensures { (bytes : List ℕ) (n : ℕ) (closed : Bool) (a b : Result (Option Entry) PcapFault)

@@ -1,6 +1,7 @@
 //! Captures that are written.
 
-ghost use Rattle.std.specs.Prelude.{◌≡◌, ◌++◌, ◌≤◌, min, length, IfOk, OnOk, OnErr, IsOkUnless};
+ghost use Rattle.std.specs.Prelude.{◌≡◌, ◌++◌, ◌+◌, ◌<◌, ◌≤◌, min, length, vec_len, IfOk, OnOk, OnErr, IsOkUnless};
+ghost use Rattle.std.specs.Vec.{vec_capacity};
 ghost use Rattle.afdx_pcap.specs.declared.fault.PcapFault.TheVariants.{Memory};
 ghost use Rattle.afdx_pcap.specs.Entry.{IsWithinLimit, captured_limit, whole};
 ghost use Rattle.afdx_pcap.specs.Capture.{IsCapture};
@@ -51,23 +52,27 @@ fn text_length<A: Allocator>(records: &[Record<'_, A>]) -> usize
 pub fn write_header<A: Allocator>(out: &mut Vec<u8, A>) -> Result<(), AllocError>
     ensures ok { OnOk result (out.new.items ≡ out.old.items ++ header_text) }
     ensures err { OnErr result (out.new.items ≡ out.old.items) }
+    ensures capacity { vec_capacity out.old ≤ vec_capacity out.new }
 {
     out.extend_from_slice(&HEADER)
 }
 
-/// Appends the text of a record.
+/// Appends the text of a record, which is 16 bytes and the record's own.
 ///
 /// # Errors
 ///
-/// Out of memory, with nothing appended. The record's bytes are copied once: O(bytes) amortized.
+/// Out of memory, with nothing appended; never where there is room for the text. The record's bytes are copied once:
+/// O(bytes) amortized.
 #[tactic(auto, unfolding(crate::specs::Text::head_text))]
 pub fn write_record<A: Allocator, B: Allocator>(
     out: &mut Vec<u8, A>,
     source: &Record<'_, B>,
 ) -> Result<(), AllocError>
     ensures ok { OnOk result (out.new.items ≡ out.old.items ++ record_text source.now) }
-    ensures limit { OnOk result (IsWithinLimit source.now) }
+    ensures limit { IsWithinLimit source.now }
     ensures err { OnErr result (out.new.items ≡ out.old.items) }
+    ensures full { OnErr result (vec_capacity out.old < vec_len out.old + (16 + length source.now.bytes)) }
+    ensures capacity { vec_capacity out.old ≤ vec_capacity out.new }
 {
     write_frame(out, source.stamp(), source.bytes())
 }
@@ -76,7 +81,8 @@ pub fn write_record<A: Allocator, B: Allocator>(
 ///
 /// # Errors
 ///
-/// Out of memory, with nothing appended. The bytes are copied once: O(bytes) amortized.
+/// Out of memory, with nothing appended; never where there is room for the text. The bytes are copied once: O(bytes)
+/// amortized.
 pub fn write_frame<A: Allocator>(
     out: &mut Vec<u8, A>,
     stamp: Stamp,
@@ -85,6 +91,8 @@ pub fn write_frame<A: Allocator>(
     requires { length bytes.now ≤ captured_limit }
     ensures ok { OnOk result (out.new.items ≡ out.old.items ++ record_text (whole stamp bytes.now)) }
     ensures err { OnErr result (out.new.items ≡ out.old.items) }
+    ensures full { OnErr result (vec_capacity out.old < vec_len out.old + (16 + length bytes.now)) }
+    ensures capacity { vec_capacity out.old ≤ vec_capacity out.new }
 {
     out.reserve(HEAD_LENGTH + bytes.len())?;
     out.extend_from_slice(&head_bytes(stamp, bytes))?;

@@ -11,4 +11,5 @@ pub mod VerdictLemmas
 pub mod ServingLemmas
 pub mod CheckLemmas
 pub mod OwnLemmas
+mod PartLemmas
 mod PutLemmas

@@ -26,6 +26,7 @@ mod network_run;
 mod network_serving;
 mod output;
 mod own;
+mod parts;
 mod policing;
 mod put;
 mod run;

@@ -1,20 +1,32 @@
 //! The policing of one link, from bytes to bytes.
 
-ghost use Rattle.std.specs.Prelude.{◌≡◌, ◌≤◌, false, IsTrue, IfOk, IfErr};
+ghost use Rattle.std.specs.Prelude.{◌≡◌, ◌+◌, ◌<◌, ◌≤◌, List, length, ℕ, true, false, Ok, IsTrue, IfOk, IfErr, OnOk, OnSome, MatchResult, is_some, if◌then◌else◌};
+ghost use Rattle.std.specs.Io.KnownBytes.{Appends};
 ghost use Rattle.afdx_account.specs.Account.{byte_account_since};
 ghost use Rattle.afdx_serve.specs.Own.{is_own};
 ghost use Rattle.afdx_serve.specs.Answer.{IsAnswer, frame_of};
 ghost use Rattle.afdx_serve.specs.Offer.{IsOffered};
 ghost use Rattle.afdx_serve.specs.Faults.{IsFaultOf};
 ghost use Rattle.afdx_serve.specs.Ground.{Ground};
+ghost use Rattle.afdx_serve.specs.Output.{AppendsFront};
+ghost use Rattle.afdx_pcap.specs.Entry.{Entry};
+ghost use Rattle.afdx_pcap.specs.Capture.{IsCapture};
+ghost use Rattle.afdx_pcap.specs.Reading.{Answers, whole_reading};
+ghost use Rattle.afdx_pcap.specs.Text.{header_text};
 
+use crate::output::WriteFault;
 use crate::own::{frame_size, is_own};
+use crate::parts::Part;
 use afdx_account::laws::{next_joins_where_it_conforms, passed_by_their_frames};
 use afdx_account::{ByteAccount, Meter};
-use afdx_pcap::laws::{one_more_record_is_appended, taken_records_are_the_first};
+use afdx_pcap::laws::{
+    each_file_has_one_reading, one_more_record_is_appended, taken_records_are_the_first,
+    taken_records_begin_the_capture,
+};
 use afdx_pcap::{PcapFault, Reader, Record, write_header, write_record};
 use afdx_words::Alone;
 use std::alloc::{AllocError, Allocator};
+use std::io::Write;
 use thiserror::Error;
 
 /// Why there is no answer. Each message is its variant's name.
@@ -102,4 +114,61 @@ pub fn alone<A: Allocator + Copy>(
         }
     }
     Ok(answer)
+}
+
+/// Reads all records of an input, so that its fault is met where it has one.
+///
+/// # Errors
+///
+/// `Capture` with the first fault of an input that is no capture. O(records), no memory.
+pub(crate) fn check_records<A: Allocator + Copy>(alloc: A, input: &[u8]) -> Result<(), AloneFault>
+    ensures capture { OnOk result ((rs : List Entry) × IsCapture input.now rs) }
+    ensures fault { IfErr result (IsFaultOf input.now) }
+{
+    let mut frames = Reader::over(alloc, input);
+    while let Some(_frame) = frames.next()? {}
+    Ok(())
+}
+
+/// The next frame of a capture; none after the last.
+fn next_frame<'a, A: Allocator + Copy>(frames: &mut Reader<'a, A>) -> Option<Record<'a, A>>
+    requires whole { frames.old ≡ whole_reading frames.old.bytes frames.old.given }
+    requires capture { (rs : List Entry) × IsCapture frames.old.bytes rs }
+    ensures next { frames.new ≡ whole_reading frames.old.bytes (if is_some result then frames.old.given + 1 else frames.old.given) }
+    ensures answer { Answers frames.old.bytes frames.old.given true (Ok result) }
+    ensures fewer { OnSome result (frames.old.given < length frames.old.bytes) }
+{
+    each_file_has_one_reading();
+    match frames.next() {
+        Ok(found) => found,
+        Err(_) => unreachable!(),
+    }
+}
+
+/// Writes what [`alone`] answers to a capture, a part at a time; the part in hand is its header.
+///
+/// One pass; a frame's bytes are copied once, into the part, where it passes. O(frames + bytes of the answer), no memory.
+pub(crate) fn write_passed<A: Allocator + Copy, W: Write>(
+    alloc: A,
+    link: &Alone,
+    input: &[u8],
+    mut part: Part<A>,
+    out: &mut W,
+) -> Result<(), WriteFault>
+    requires capture { (rs : List Entry) × IsCapture input.now rs }
+    requires header { part ≡ header_text }
+    ensures { MatchResult result
+        (λ _. (text : List ℕ) × IsAnswer link.now input.now text × Appends (W.contents out.old) (W.contents out.new) text)
+        (λ _. (text : List ℕ) × IsAnswer link.now input.now text × AppendsFront (W.contents out.old) (W.contents out.new) text) }
+{
+    ground::<A>();
+    taken_records_begin_the_capture();
+    let mut account = ByteAccount::new(link.max_size, link.bag, link.jitter);
+    let mut frames = Reader::over(alloc, input);
+    while let Some(frame) = next_frame(&mut frames) {
+        if passes(link, &mut account, &frame) {
+            part.append(&frame, out)?;
+        }
+    }
+    part.write(out)
 }

@@ -14,7 +14,8 @@ use crate::input::read_to_end;
 use crate::measure::measure;
 use crate::network_serving::perform_network;
 use crate::output::write_bytes;
-use crate::policing::alone;
+use crate::parts::Part;
+use crate::policing::{check_records, write_passed};
 use crate::run::run;
 use crate::size::size;
 use crate::telling::report;
@@ -24,6 +25,8 @@ use std::alloc::Global;
 use std::io::{Read, Write};
 
 /// Reads the input to its end and writes what is answered to it.
+///
+/// Its faults are found and all memory is taken before the first write; the records are then read again.
 fn answer<R: Read, O: Write>(
     alloc: Global,
     link: &Alone,
@@ -35,8 +38,9 @@ fn answer<R: Read, O: Write>(
         (λ f. FailsToAnswer f link.now (R.remaining input.old) (O.contents out.old) (O.contents out.new)) }
 {
     let bytes = read_to_end(alloc, input, 0)?;
-    let text = alone(alloc, link, &bytes)?;
-    write_bytes(out, &text)?;
+    check_records(alloc, &bytes)?;
+    let part = Part::new(alloc)?;
+    write_passed(alloc, link, &bytes, part, out)?;
     Ok(())
 }
 

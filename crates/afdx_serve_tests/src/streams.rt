@@ -4,6 +4,7 @@
 use crate::devices::{Interrupted, Sink, Source};
 use crate::fixtures::{CHECKED, LINK_10, OneFrame, RUN, answer_over, split};
 use crate::memory_folder::MemoryFolder;
+use afdx_samples::{capture, large};
 use afdx_serve::serve;
 use std::alloc::{AllocError, Global};
 use std::io::{ErrorKind, Read};
@@ -233,5 +234,41 @@ fn gives_up_where_every_read_is_interrupted(rt: HostRuntime) -> Result<(), Fail>
             &wanted
         )?
     );
+    Ok(())
+}
+
+/// Of sixty records of 1530 bytes the header and 43 are the first part, of 65,814 bytes.
+#[test]
+fn writes_a_long_answer_in_parts(rt: HostRuntime) -> Result<(), Fail> {
+    let alloc = rt.alloc();
+    let mut came = Vec::new(alloc);
+    for number in 0..60u32 {
+        came.push(large(10, number.saturating_mul(1_000_000)))?;
+    }
+    let input = capture(alloc, &came)?;
+    // The write that fails, how many there are, the status and how many bytes are written.
+    for (failing, calls, status, written) in [
+        (0, 2, 0, 91_824),
+        (1, 1, 5, 0),
+        (2, 2, 5, 65_814usize),
+    ] {
+        let mut reader = input.as_slice();
+        let mut out = Sink::new(alloc, 100_000, failing, Some(ErrorKind::BrokenPipe));
+        let mut folder = MemoryFolder::new(alloc);
+        let got = served(
+            alloc,
+            LINK_10,
+            &mut reader,
+            &mut out,
+            &mut folder,
+            SOUND_WRITER,
+        )?;
+        assert_eq!(rt; got.0, status, "write {failing}");
+        assert_eq!(rt; out.calls, calls, "write {failing}");
+        assert!(rt;
+            Some(out.bytes.as_slice()) == input.get(..written),
+            "write {failing}"
+        );
+    }
     Ok(())
 }
