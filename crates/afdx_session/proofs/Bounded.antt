@@ -137,7 +137,8 @@ texts_long given (x ∷ sent) all =
     let both = length-append (record_text r) (flat_map record_text (map (written given) sent)) in
     omega (arith, head, bytes, one, more, both)
 
-pub text_bound : {Z : Type 0} (t : Content) (lanes : List (Lane Z)) (s : State) (counts : Tally) (going : IsGoing t lanes s counts) (p : PortRow) → length (text_up_to t going.given going.since p) < 2 ^ 128
+pub text_bound : {Z : Type 0} (t : Content) (lanes : List (Lane Z)) (s : State) (counts : Tally) (going : IsGoing t lanes s counts) (p : PortRow)
+    → length (text_up_to t going.given going.since p) < 2 ^ 128
 text_bound t lanes s counts going p =
     let all : AllByRecursion SmallArrival (merged_so_far going.streams) = by_stamp_in SmallArrival (arrivals_of (captures_of going.streams)) (arrivals_small lanes going.streams going.lanes_are) in
     let given : AllByRecursion SmallArrival going.given = all_front SmallArrival going.given (merged (map waiting_of lanes)) (subst (AllByRecursion SmallArrival) going.settling.whole all) in

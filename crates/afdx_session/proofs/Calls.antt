@@ -29,7 +29,8 @@ use Rattle.afdx_session.proofs.Shown.{half_ports}
 use Rattle.afdx_session.proofs.ReadUp.{all_set, touched_read_up, settled_read_up}
 use Rattle.afdx_session.proofs.Gone.{at_index, grown_length, runs_on}
 use Rattle.afdx_session.proofs.Settles.{back_items}
-use Rattle.afdx_session.proofs.Intakes.{touched_ports, still_of_table, half_at, half_touched, fed_half, ended_half, intakes_after, fed_intake, ended_intake, marked_bytes, settled_marked, running_settled}
+use Rattle.afdx_session.proofs.Intakes.{touched_ports, still_of_table, half_at, half_touched, fed_half, ended_half, intakes_after, fed_intake, ended_intake, marked_bytes, settled_marked}
+use Rattle.afdx_session.proofs.Intakes.{running_settled}
 
 -- ---- the switch
 
@@ -44,13 +45,16 @@ pub handed_same : (adv next : State) → HandsOut adv next → IsOfSameTable adv
 handed_same adv next hands = record { table = hands.table; accepted = hands.accepted; handed = hands.handed }
 
 -- it came to the frontier
-pub machine_comes : {Z : Type 0} (mid : Machine Z) (adv : State) (limit : Option (ℕ × ℕ)) (to : ℕ) (first : Option (ℕ × ℕ)) → IsGoing mid.switch.run.table mid.lanes.items mid.switch mid.counts → limit ≡ limit_at mid.lanes.items
-    → NoneGoes (limit_at mid.lanes.items) mid.lanes.items first → to ≡ come_to (option_map (λ (p : ℕ × ℕ). p.0) limit) → adv.run ≡ after_advance to mid.switch.run → Keeps mid.switch adv → HasCome mid.switch.run.table mid.lanes.items adv mid.counts
+pub machine_comes : {Z : Type 0} (mid : Machine Z) (adv : State) (limit : Option (ℕ × ℕ)) (to : ℕ) (first : Option (ℕ × ℕ)) → IsGoing mid.switch.run.table mid.lanes.items mid.switch mid.counts → limit
+    ≡ limit_at mid.lanes.items
+    → NoneGoes (limit_at mid.lanes.items) mid.lanes.items first → to ≡ come_to (option_map (λ (p : ℕ × ℕ). p.0) limit) → adv.run ≡ after_advance to mid.switch.run → Keeps mid.switch adv
+    → HasCome mid.switch.run.table mid.lanes.items adv mid.counts
 machine_comes mid adv limit to first going is none to_is run keeps =
     comes_on mid.switch.run.table mid.lanes.items mid.switch adv mid.counts first to going none (to_is ∙ ap (λ o. come_to (option_map (λ (p : ℕ × ℕ). p.0) o)) is) run keeps
 
 -- that is no going back
-pub machine_no_back : {Z : Type 0} (mid : Machine Z) (limit : Option (ℕ × ℕ)) (to : ℕ) → IsGoing mid.switch.run.table mid.lanes.items mid.switch mid.counts → limit ≡ limit_at mid.lanes.items → to ≡ come_to (option_map (λ (p : ℕ × ℕ). p.0) limit)
+pub machine_no_back : {Z : Type 0} (mid : Machine Z) (limit : Option (ℕ × ℕ)) (to : ℕ) → IsGoing mid.switch.run.table mid.lanes.items mid.switch mid.counts → limit ≡ limit_at mid.lanes.items → to
+    ≡ come_to (option_map (λ (p : ℕ × ℕ). p.0) limit)
     → to < mid.switch.run.latest → ⊥
 machine_no_back mid limit to going is to_is lt =
     no_going_back mid.switch.run.table mid.lanes.items mid.switch mid.counts to going (to_is ∙ ap (λ o. come_to (option_map (λ (p : ℕ × ℕ). p.0) o)) is) lt
@@ -74,7 +78,8 @@ drained_back {Z = Z} v start now is grown =
     subst (λ (ls : List (Lane Z)). AreGrown v.items ls) (sym (back_items v now (grown_length v.items now here))) here
 
 -- all has gone out
-pub machine_runs : {Z : Type 0} (mid : Machine Z) (adv next : State) (start now : List (Lane Z)) (come : HasCome mid.switch.run.table mid.lanes.items adv mid.counts) → AreOfTable mid.switch.run.table mid.lanes.items → adv.run.table ≡ mid.switch.run.table → HandsOut adv next
+pub machine_runs : {Z : Type 0} (mid : Machine Z) (adv next : State) (start now : List (Lane Z)) (come : HasCome mid.switch.run.table mid.lanes.items adv mid.counts)
+    → AreOfTable mid.switch.run.table mid.lanes.items → adv.run.table ≡ mid.switch.run.table → HandsOut adv next
     → start ≡ mid.lanes.items → AreGrown start now
     → ((t : Content) (given : List Arrival) (h : ℕ) → AreOfTable t start → IsGiven t given adv → h ≤ adv.run.latest → AreOut t given h adv start Every → AreOut t given adv.run.latest next now Every)
     → IsRunning next.run.table (with_items mid.lanes now).items next mid.counts
@@ -88,15 +93,18 @@ machine_runs {Z} mid adv next start now come of table hands is grown out =
       here : AreGrown mid.lanes.items now
       here = subst (λ (ls : List (Lane Z)). AreGrown ls now) is grown
 
-      goes : (t : Content) (given : List Arrival) (h : ℕ) → AreOfTable t mid.lanes.items → IsGiven t given adv → h ≤ adv.run.latest → AreOut t given h adv mid.lanes.items Every → AreOut t given adv.run.latest next now Every
-      goes = subst (λ (ls : List (Lane Z)). (t : Content) (given : List Arrival) (h : ℕ) → AreOfTable t ls → IsGiven t given adv → h ≤ adv.run.latest → AreOut t given h adv ls Every → AreOut t given adv.run.latest next now Every) is out
+      goes : (t : Content) (given : List Arrival) (h : ℕ) → AreOfTable t mid.lanes.items → IsGiven t given adv → h ≤ adv.run.latest → AreOut t given h adv mid.lanes.items Every
+          → AreOut t given adv.run.latest next now Every
+      goes = subst (λ (ls : List (Lane Z)). (t : Content) (given : List Arrival) (h : ℕ) → AreOfTable t ls → IsGiven t given adv → h ≤ adv.run.latest → AreOut t given h adv ls Every
+          → AreOut t given adv.run.latest next now Every) is out
 
       outs : AreOut t come.going.given adv.run.latest next now Every
       outs = goes t come.going.given come.going.since of come.going.is_given come.going.come come.going.outs
 
 -- ---- the lanes of a call
 
-pub touched_table : {Z : Type 0} (old new : Machine Z) → AreTouched old.lanes.items new.lanes.items → IsOfSameTable old.switch new.switch → AreOfTable old.switch.run.table old.lanes.items → AreOfTable new.switch.run.table new.lanes.items
+pub touched_table : {Z : Type 0} (old new : Machine Z) → AreTouched old.lanes.items new.lanes.items → IsOfSameTable old.switch new.switch → AreOfTable old.switch.run.table old.lanes.items
+    → AreOfTable new.switch.run.table new.lanes.items
 touched_table {Z = Z} old new touched same of =
     subst (λ (c : Content). AreOfTable c new.lanes.items) (sym same.table)
     (still_of_table old.switch.run.table old.lanes.items new.lanes.items (touched_ports old.lanes.items new.lanes.items touched) of)
@@ -119,17 +127,20 @@ marked_at : {Z : Type 0} (begun : Bool) (lanes : List (Lane Z)) (k : ℕ) (l : L
 marked_at begun lanes k l all at = all_slice_get (IsMarked begun) lanes k l all at
 
 -- it was read on, or not
-pub half_fed : {Z : Type 0} (begun : Bool) (lanes : List (Lane Z)) (k : ℕ) (old new : Lane Z) → AllByRecursion (IsMarked begun) lanes → slice_get lanes k ≡ Some old → IsStill old new → take (length new.reader.bytes - new.undone) new.reader.bytes ≡ old.reader.bytes
+pub half_fed : {Z : Type 0} (begun : Bool) (lanes : List (Lane Z)) (k : ℕ) (old new : Lane Z) → AllByRecursion (IsMarked begun) lanes → slice_get lanes k ≡ Some old → IsStill old new
+    → take (length new.reader.bytes - new.undone) new.reader.bytes ≡ old.reader.bytes
     → AreHalfDone lanes (set lanes k new)
 half_fed begun lanes k old new all at still bytes = half_at lanes k old new at (fed_half old new still (marked_at begun lanes k old all at).undone bytes)
 
-pub half_ended : {Z : Type 0} (lanes : List (Lane Z)) (k : ℕ) (old new : Lane Z) → slice_get lanes k ≡ Some old → IsStill old new → new.undone ≡ old.undone → new.reader.bytes ≡ old.reader.bytes → AreHalfDone lanes (set lanes k new)
+pub half_ended : {Z : Type 0} (lanes : List (Lane Z)) (k : ℕ) (old new : Lane Z) → slice_get lanes k ≡ Some old → IsStill old new → new.undone ≡ old.undone → new.reader.bytes ≡ old.reader.bytes
+    → AreHalfDone lanes (set lanes k new)
 half_ended lanes k old new at still undone bytes = half_at lanes k old new at (ended_half old new still undone bytes)
 
 pub half_of_table : {Z : Type 0} (t : Content) (old new : List (Lane Z)) → AreHalfDone old new → AreOfTable t old → AreOfTable t new
 half_of_table t old new half of = still_of_table t old new (half_ports old new half) of
 
-pub lane_reads_on : {Z : Type 0} → MergedIsAMerge → MergedIsByStampAndPort → (begun : Bool) (m : Machine Z) (k : ℕ) (old new : Lane Z) (more : List Entry) → AreOfTable m.switch.run.table m.lanes.items → IsReady m begun
+pub lane_reads_on : {Z : Type 0} → MergedIsAMerge → MergedIsByStampAndPort → (begun : Bool) (m : Machine Z) (k : ℕ) (old new : Lane Z) (more : List Entry) → AreOfTable m.switch.run.table m.lanes.items
+    → IsReady m begun
     → slice_get m.lanes.items k ≡ Some old → old.closed ≡ false → IsStill old new → Adds old new more → IsGoing m.switch.run.table (set m.lanes.items k new) m.switch m.counts
 lane_reads_on merge sorted begun m k old new more of ready at still_open still adds =
     reads_on merge sorted m.switch.run.table m.lanes.items m.switch m.counts k old new more of at
@@ -141,8 +152,10 @@ pub read_after : {Z : Type 0} (lanes b : List (Lane Z)) (k : ℕ) (new : Lane Z)
 read_after lanes b k new all read touched = touched_read_up (set lanes k new) b touched (all_set HasReadAll lanes k new all read)
 
 -- a piece did not come
-pub not_fed : {Z : Type 0} (begun : Bool) (lanes b : List (Lane Z)) (k : ℕ) (old new : Lane Z) (piece : List ℕ) (fault : RunFault) → AllByRecursion (IsMarked begun) lanes → slice_get lanes k ≡ Some old → IsStill old new
-    → take (length new.reader.bytes - new.undone) new.reader.bytes ≡ old.reader.bytes → AreTouched (set lanes k new) b → IsPieceFault (old.reader.bytes ++ piece) old.port fault → IsNotFed lanes b k piece fault
+pub not_fed : {Z : Type 0} (begun : Bool) (lanes b : List (Lane Z)) (k : ℕ) (old new : Lane Z) (piece : List ℕ) (fault : RunFault) → AllByRecursion (IsMarked begun) lanes → slice_get lanes k
+    ≡ Some old → IsStill old new
+    → take (length new.reader.bytes - new.undone) new.reader.bytes ≡ old.reader.bytes → AreTouched (set lanes k new) b → IsPieceFault (old.reader.bytes ++ piece) old.port fault
+    → IsNotFed lanes b k piece fault
 not_fed begun lanes b k old new piece fault all at still bytes touched why = record {
   lane = old;
   at = at;
@@ -151,7 +164,8 @@ not_fed begun lanes b k old new piece fault all at still bytes touched why = rec
 }
 
 -- a capture did not end
-pub not_ended : {Z : Type 0} (begun : Bool) (lanes b : List (Lane Z)) (k : ℕ) (old new : Lane Z) (fault : RunFault) → AllByRecursion (IsMarked begun) lanes → slice_get lanes k ≡ Some old → IsStill old new → new.undone ≡ old.undone → new.reader.bytes ≡ old.reader.bytes
+pub not_ended : {Z : Type 0} (begun : Bool) (lanes b : List (Lane Z)) (k : ℕ) (old new : Lane Z) (fault : RunFault) → AllByRecursion (IsMarked begun) lanes → slice_get lanes k ≡ Some old
+    → IsStill old new → new.undone ≡ old.undone → new.reader.bytes ≡ old.reader.bytes
     → AreTouched (set lanes k new) b → IsFaultAt old.reader.bytes old.port fault → IsNotEnded lanes b k fault
 not_ended begun lanes b k old new fault all at still undone bytes touched why = record {
   lane = old;
@@ -161,7 +175,8 @@ not_ended begun lanes b k old new fault all at still undone bytes touched why = 
 }
 
 -- a piece came, and the call has answered Ok
-pub is_fed : {Z : Type 0} (begun : Bool) (lanes b c : List (Lane Z)) (k : ℕ) (old new : Lane Z) (piece : List ℕ) → AllByRecursion (IsMarked begun) lanes → slice_get lanes k ≡ Some old → IsMarked begun old → IsStill old new → new.reader.bytes ≡ old.reader.bytes ++ piece
+pub is_fed : {Z : Type 0} (begun : Bool) (lanes b c : List (Lane Z)) (k : ℕ) (old new : Lane Z) (piece : List ℕ) → AllByRecursion (IsMarked begun) lanes → slice_get lanes k ≡ Some old
+    → IsMarked begun old → IsStill old new → new.reader.bytes ≡ old.reader.bytes ++ piece
     → new.reader.closed ≡ old.reader.closed → IsSoundSoFar (old.reader.bytes ++ piece) → AreTouched (set lanes k new) b → AreSettledLanes b c → IsFed lanes c k piece
 is_fed begun lanes b c k old new piece all at marked still bytes closed sound touched settled = record {
   lane = old;
@@ -173,14 +188,16 @@ is_fed begun lanes b c k old new piece all at marked still bytes closed sound to
 sound_so_far : {Z : Type 0} (l : Lane Z) → HasReadAll l → l.reader.closed ≡ false → IsSoundSoFar l.reader.bytes
 sound_so_far l read still_open = subst (IsSound l.reader.bytes l.reader.given) still_open read.sound
 
-pub piece_came : {Z : Type 0} (begun : Bool) (lanes b c : List (Lane Z)) (k : ℕ) (old new : Lane Z) (piece : List ℕ) → AllByRecursion (IsMarked begun) lanes → slice_get lanes k ≡ Some old → old.closed ≡ false → IsStill old new → new.reader.bytes ≡ old.reader.bytes ++ piece
+pub piece_came : {Z : Type 0} (begun : Bool) (lanes b c : List (Lane Z)) (k : ℕ) (old new : Lane Z) (piece : List ℕ) → AllByRecursion (IsMarked begun) lanes → slice_get lanes k ≡ Some old → old.closed
+    ≡ false → IsStill old new → new.reader.bytes ≡ old.reader.bytes ++ piece
     → new.reader.closed ≡ false → HasReadAll new → AreTouched (set lanes k new) b → AreSettledLanes b c → IsFed lanes c k piece
 piece_came begun lanes b c k old new piece all at was_open still bytes still_open read touched settled =
     let marked = marked_at begun lanes k old all at in
     is_fed begun lanes b c k old new piece all at marked still bytes (still_open ∙ sym (sym marked.closed ∙ was_open)) (subst IsSoundSoFar bytes (sound_so_far new read still_open)) touched settled
 
 -- it ended, and the call has answered Ok
-pub is_ended : {Z : Type 0} (begun : Bool) (lanes b c : List (Lane Z)) (k : ℕ) (old new : Lane Z) (records : List Entry) → AllByRecursion (IsMarked begun) lanes → slice_get lanes k ≡ Some old → IsMarked begun old → IsStill old new → new.reader.bytes ≡ old.reader.bytes
+pub is_ended : {Z : Type 0} (begun : Bool) (lanes b c : List (Lane Z)) (k : ℕ) (old new : Lane Z) (records : List Entry) → AllByRecursion (IsMarked begun) lanes → slice_get lanes k ≡ Some old
+    → IsMarked begun old → IsStill old new → new.reader.bytes ≡ old.reader.bytes
     → new.reader.closed ≡ true → IsCapture old.reader.bytes records → AreTouched (set lanes k new) b → AreSettledLanes b c → IsEnded lanes c k
 is_ended begun lanes b c k old new records all at marked still bytes closed capture touched settled = record {
   lane = old;
@@ -190,14 +207,16 @@ is_ended begun lanes b c k old new records all at marked still bytes closed capt
   capture = subst (λ (xs : List ℕ). IsCapture xs records) (sym (marked_bytes begun old marked)) capture;
 }
 
-pub capture_ended : {Z : Type 0} (begun : Bool) (lanes b c : List (Lane Z)) (k : ℕ) (old new : Lane Z) → AllByRecursion (IsMarked begun) lanes → slice_get lanes k ≡ Some old → IsStill old new → new.reader.bytes ≡ old.reader.bytes → new.reader.closed ≡ true → HasReadAll new
+pub capture_ended : {Z : Type 0} (begun : Bool) (lanes b c : List (Lane Z)) (k : ℕ) (old new : Lane Z) → AllByRecursion (IsMarked begun) lanes → slice_get lanes k ≡ Some old → IsStill old new
+    → new.reader.bytes ≡ old.reader.bytes → new.reader.closed ≡ true → HasReadAll new
     → AreTouched (set lanes k new) b → AreSettledLanes b c → IsEnded lanes c k
 capture_ended begun lanes b c k old new all at still bytes closed read touched settled =
     let sound = subst (IsSound new.reader.bytes new.reader.given) closed read.sound in
     is_ended begun lanes b c k old new sound.0 all at (marked_at begun lanes k old all at) still bytes closed (subst (λ (xs : List ℕ). IsCapture xs sound.0) bytes sound.1) touched settled
 
 -- all that was read counts, so that the next call may go on
-pub is_ready : {Z : Type 0} (mid next : Machine Z) → AreSettledLanes mid.lanes.items next.lanes.items → next.switch ≡ mid.switch → next.counts ≡ mid.counts → IsRunning mid.switch.run.table mid.lanes.items mid.switch mid.counts
+pub is_ready : {Z : Type 0} (mid next : Machine Z) → AreSettledLanes mid.lanes.items next.lanes.items → next.switch ≡ mid.switch → next.counts ≡ mid.counts
+    → IsRunning mid.switch.run.table mid.lanes.items mid.switch mid.counts
     → AllByRecursion HasReadAll mid.lanes.items → IsReady next true
 is_ready {Z = Z} mid next settled switch counts running read = record {
   running = subst (λ (s : State). IsRunning s.run.table next.lanes.items s next.counts) (sym switch)

@@ -1,5 +1,6 @@
 -- Whole captures are carried to the switch: the first record goes, and the next one of its capture is read.
-use Rattle.std.proofs.Common.{◌≡◌, ℕ, zero, suc, ◌+◌, ◌-◌, ◌<◌, ◌≤◌, nat_le, Bool, true, false, cond, List, [], ◌∷◌, length, length-set, set, get_or, slice_get, Option, Some, None, inl, inr, refl, ap, sym, ◌∙◌, arith, subst}
+use Rattle.std.proofs.Common.{◌≡◌, ℕ, zero, suc, ◌+◌, ◌-◌, ◌<◌, ◌≤◌, nat_le, Bool, true, false, cond, List, [], ◌∷◌, length, length-set, set, get_or, slice_get, Option, Some, None, inl, inr, refl}
+use Rattle.std.proofs.Common.{ap, sym, ◌∙◌, arith, subst}
 use Rattle.std.specs.List.{AllByRecursion}
 use Rattle.std.proofs.lemmas.Bool.{cases_Bool, cases_lt}
 use Rattle.std.proofs.lemmas.Bool.Decides.{nat_tests}
@@ -67,7 +68,8 @@ first_of_two p q (Some m) le same = by (nat_le q.0 m.0) where
   by true = ap (λ b. cond b p q) (yes p.0 q.0 le)
   by false = same
 
-first_stays : {Z : Type 0} (p : ℕ × ℕ) (lanes : List (Lane Z)) → AllByRecursion IsOver lanes → ((j u : ℕ) → j < length lanes → head_stamp (slice_get lanes j) ≡ Some u → p.0 ≤ u) → first_place p (limit_at lanes) ≡ p
+first_stays : {Z : Type 0} (p : ℕ × ℕ) (lanes : List (Lane Z)) → AllByRecursion IsOver lanes → ((j u : ℕ) → j < length lanes → head_stamp (slice_get lanes j) ≡ Some u → p.0 ≤ u)
+    → first_place p (limit_at lanes) ≡ p
 first_stays p [] over sooner = refl
 first_stays {Z} p (l ∷ lanes) over sooner =
     let rest = first_stays p lanes over.1 (λ j u lt head. sooner (suc j) u (omega (arith, lt)) head) in
@@ -78,7 +80,8 @@ first_stays {Z} p (l ∷ lanes) over sooner =
           ∙ first_of_two p (l.last, l.port) (limit_at lanes) (sooner 0 l.last (omega arith) (head_is l over.0 still_open)) rest
     ]
 
-limit_from : {Z : Type 0} (l : Lane Z) (t : ℕ) (ls : List (Lane Z)) (j : ℕ) → AllByRecursion IsOver ls → slice_get ls j ≡ Some l → head_stamp (slice_get ls j) ≡ Some t → ((i u : ℕ) → i < length ls → head_stamp (slice_get ls i) ≡ Some u → t ≤ u)
+limit_from : {Z : Type 0} (l : Lane Z) (t : ℕ) (ls : List (Lane Z)) (j : ℕ) → AllByRecursion IsOver ls → slice_get ls j ≡ Some l → head_stamp (slice_get ls j) ≡ Some t
+    → ((i u : ℕ) → i < length ls → head_stamp (slice_get ls i) ≡ Some u → t ≤ u)
     → ((i u : ℕ) → i < j → head_stamp (slice_get ls i) ≡ Some u → t < u) → limit_at ls ≡ Some (t, l.port)
 limit_from l t [] j all is here sooner former = absurd cc
 limit_from {Z} l t (m ∷ ls) zero all is here sooner former =
@@ -98,7 +101,8 @@ limit_from {Z} l t (m ∷ ls) (suc j) all is here sooner former =
     ]
 
 -- the first record that waits lies at the limit
-pub limit_first : {Z : Type 0} (lanes : List (Lane Z)) (k t : ℕ) (l : Lane Z) → AllByRecursion IsOver lanes → IsFirstUpTo lanes (length lanes) k t → slice_get lanes k ≡ Some l → limit_at lanes ≡ Some (t, l.port)
+pub limit_first : {Z : Type 0} (lanes : List (Lane Z)) (k t : ℕ) (l : Lane Z) → AllByRecursion IsOver lanes → IsFirstUpTo lanes (length lanes) k t → slice_get lanes k ≡ Some l → limit_at lanes
+    ≡ Some (t, l.port)
 limit_first lanes k t l over first at = limit_from l t lanes k over at first.here first.sooner first.former
 
 -- so it goes whatever the limit is
@@ -109,7 +113,8 @@ no_limit lanes over place stamp lane first at = (
 )
 
 -- where none goes, all have ended
-all_ended : {Z : Type 0} (lanes : List (Lane Z)) → AllByRecursion IsOver lanes → ((j : ℕ) → j < length lanes → head_stamp (slice_get lanes j) ≡ None) → AllByRecursion (λ (l : Lane Z). l.ended ≡ true) lanes
+all_ended : {Z : Type 0} (lanes : List (Lane Z)) → AllByRecursion IsOver lanes → ((j : ℕ) → j < length lanes → head_stamp (slice_get lanes j) ≡ None)
+    → AllByRecursion (λ (l : Lane Z). l.ended ≡ true) lanes
 all_ended [] over none = tt
 all_ended {Z} (l ∷ lanes) over none = (
   elim (cases_Bool l.ended) [
@@ -126,9 +131,11 @@ lane_at [] k lt = absurd (omega (arith, lt))
 lane_at (l ∷ ls) zero lt = (l, refl)
 lane_at (l ∷ ls) (suc k) lt = lane_at ls k (omega (arith, lt))
 
-pub none_left : {Z : Type 0} (lanes : List (Lane Z)) (first : Option (ℕ × ℕ)) → AllByRecursion IsOver lanes → NoneGoes (limit_at lanes) lanes first → AllByRecursion (λ (l : Lane Z). l.ended ≡ true) lanes
+pub none_left : {Z : Type 0} (lanes : List (Lane Z)) (first : Option (ℕ × ℕ)) → AllByRecursion IsOver lanes → NoneGoes (limit_at lanes) lanes first
+    → AllByRecursion (λ (l : Lane Z). l.ended ≡ true) lanes
 none_left {Z} lanes first over none = by first none.is none.past where
-  by : (found : Option (ℕ × ℕ)) → IsFirstOf lanes found → ((place stamp : ℕ) (lane : Lane Z) → found ≡ Some (place, stamp) → slice_get lanes place ≡ Some lane → IsWithinPlace (limit_at lanes) stamp lane.port → ⊥)
+  by : (found : Option (ℕ × ℕ)) → IsFirstOf lanes found → ((place stamp : ℕ) (lane : Lane Z) → found ≡ Some (place, stamp) → slice_get lanes place ≡ Some lane
+      → IsWithinPlace (limit_at lanes) stamp lane.port → ⊥)
       → AllByRecursion (λ (l : Lane Z). l.ended ≡ true) lanes
   by None is past = all_ended lanes over is
   by (Some x) is past =
@@ -146,7 +153,8 @@ texts_touched (l ∷ old) (n ∷ new) touched =
     ∙ ap (λ r. (l.port, r.bytes) ∷ texts_over new) touched.0.reader
     ∙ ap (λ ts. (l.port, l.reader.bytes) ∷ ts) (texts_touched old new touched.1)
 
-texts_set : {Z : Type 0} (lanes : List (Lane Z)) (k : ℕ) (old new : Lane Z) → slice_get lanes k ≡ Some old → new.port ≡ old.port → new.reader.bytes ≡ old.reader.bytes → texts_over (set lanes k new) ≡ texts_over lanes
+texts_set : {Z : Type 0} (lanes : List (Lane Z)) (k : ℕ) (old new : Lane Z) → slice_get lanes k ≡ Some old → new.port ≡ old.port → new.reader.bytes ≡ old.reader.bytes → texts_over (set lanes k new)
+    ≡ texts_over lanes
 texts_set [] k old new at port bytes = absurd cc
 texts_set {Z} (l ∷ lanes) zero old new at port bytes =
     ap (λ m. (m, new.reader.bytes) ∷ texts_over lanes) port
@@ -235,8 +243,10 @@ gone_lane {Z} old new place l over gone at = subst (IsGone new place) (sym same)
   same = some_same l (with_waiting gone.rest gone.lane) (sym at ∙ ap (λ (ls : List (Lane Z)). slice_get ls place) gone.lanes ∙ set_here old place gone.lane (with_waiting gone.rest gone.lane) gone.at)
 
 -- it went, and the next one was read
-pub carries_one : {Z : Type 0} → MergedIsAMerge → MergedIsByStampAndPort → (found : Bool) (old mid next : Machine Z) (place : ℕ) (l new : Lane Z) → IsCarrying old → AreTouched old.lanes.items mid.lanes.items → IsOfSameTable old.switch mid.switch → IsRound (Some place) old mid
-    → slice_get mid.lanes.items place ≡ Some l → IsReadOn l new → HasDrawn found l new → next.lanes.items ≡ set mid.lanes.items place new → next.switch ≡ mid.switch → next.counts ≡ mid.counts → CarriesOn true old next
+pub carries_one : {Z : Type 0} → MergedIsAMerge → MergedIsByStampAndPort → (found : Bool) (old mid next : Machine Z) (place : ℕ) (l new : Lane Z) → IsCarrying old
+    → AreTouched old.lanes.items mid.lanes.items → IsOfSameTable old.switch mid.switch → IsRound (Some place) old mid
+    → slice_get mid.lanes.items place ≡ Some l → IsReadOn l new → HasDrawn found l new → next.lanes.items ≡ set mid.lanes.items place new → next.switch ≡ mid.switch → next.counts ≡ mid.counts
+    → CarriesOn true old next
 carries_one {Z} merge sorted found old mid next place l new carrying touched same round at on drawn lanes switch counts =
     let added = drawn_adds found l new drawn in
     let of_mid : AreOfTable mid.switch.run.table mid.lanes.items = touched_table old mid touched same carrying.of in
@@ -286,7 +296,8 @@ carries_none {Z} old next carrying same round = record {
   over = subst (AllByRecursion IsOver) (sym lanes) carrying.over
 
 -- why it cannot be read
-pub carries_fault : {Z : Type 0} (old mid : List (Lane Z)) (place : ℕ) (l : Lane Z) (fault : RunFault) → AreTouched old mid → IsGone mid place l → IsLaneFault l fault → IsOneFault (texts_over old) fault
+pub carries_fault : {Z : Type 0} (old mid : List (Lane Z)) (place : ℕ) (l : Lane Z) (fault : RunFault) → AreTouched old mid → IsGone mid place l → IsLaneFault l fault
+    → IsOneFault (texts_over old) fault
 carries_fault old mid place l run.Memory touched gone why = tt
 carries_fault {Z} old mid place l (run.Capture port fault) touched gone why = (
   place,
@@ -322,7 +333,8 @@ all_over_grown (l ∷ old) [] grown over = absurd grown
 all_over_grown (l ∷ old) (n ∷ new) grown over = (over_grown l n grown.0 over.0, all_over_grown old new grown.1 over.1)
 
 pub hands_on : {Z : Type 0} (m next : Machine Z) (start now : List (Lane Z)) → IsCarrying m → HandsOut m.switch next.switch → start ≡ m.lanes.items → AreGrown start now
-    → ((t : Content) (given : List Arrival) (h : ℕ) → AreOfTable t start → IsGiven t given m.switch → h ≤ m.switch.run.latest → AreOut t given h m.switch start Every → AreOut t given m.switch.run.latest next.switch now Every)
+    → ((t : Content) (given : List Arrival) (h : ℕ) → AreOfTable t start → IsGiven t given m.switch → h ≤ m.switch.run.latest → AreOut t given h m.switch start Every
+    → AreOut t given m.switch.run.latest next.switch now Every)
     → next.lanes.items ≡ (with_items m.lanes now).items → next.counts ≡ m.counts → HandsOn m next
 hands_on {Z} m next start now carrying hands is grown out lanes counts = record {
   carrying = record {
@@ -366,6 +378,7 @@ hands_none m carrying = record { carrying = carrying; same = same_table m.switch
 -- ---- a fault
 
 -- none of the captures has one
-pub no_one_fault : ((bytes : List ℕ) (rs : List Entry) (e : PcapFault) → IsCapture bytes rs → IsFault bytes e → ⊥) → (texts : List Text) (port : ℕ) (why : PcapFault) → AreSound texts → IsOneFault texts (run.Capture port why) → ⊥
+pub no_one_fault : ((bytes : List ℕ) (rs : List Entry) (e : PcapFault) → IsCapture bytes rs → IsFault bytes e → ⊥) → (texts : List Text) (port : ℕ) (why : PcapFault) → AreSound texts
+    → IsOneFault texts (run.Capture port why) → ⊥
 no_one_fault law texts port why sound one =
     let capture : IsSound (port, one.1) = all_slice_get IsSound texts one.0 (port, one.1) sound one.2 in law one.1 capture.0 why capture.1 one.3

@@ -10,7 +10,8 @@ use Rattle.afdx_session.proofs.Firsts.{get-map}
 use Rattle.afdx_session.proofs.Going.{some_same}
 
 -- the text at a place, as the code reads it
-pub text_read : {Z : Type 0} (captures : List (ℕ × Vec ℕ Z)) (n : ℕ) (pair : ℕ × Vec ℕ Z) → n < length captures → pair ≡ get_or captures n pair → slice_get (texts_of captures) n ≡ Some (pair.0, pair.1.items)
+pub text_read : {Z : Type 0} (captures : List (ℕ × Vec ℕ Z)) (n : ℕ) (pair : ℕ × Vec ℕ Z) → n < length captures → pair ≡ get_or captures n pair → slice_get (texts_of captures) n
+    ≡ Some (pair.0, pair.1.items)
 text_read {Z} captures n pair lt is = get-map (λ (p : ℕ × Vec ℕ Z). (p.0, p.1.items)) captures n pair (slice_get_read captures (length captures) n pair refl lt is)
 
 sound_suc : (n : ℕ) (texts : List Text) (text : Text) → AreSound (take n texts) → slice_get texts n ≡ Some text → IsSound text → AreSound (take (suc n) texts)

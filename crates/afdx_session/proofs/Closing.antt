@@ -36,7 +36,8 @@ marks_of : {Z : Type 0} (begun : Bool) (lanes : List (Lane Z)) → AllByRecursio
 marks_of begun [] marked = tt
 marks_of begun (l ∷ lanes) marked = (marked.0.closed, marks_of begun lanes marked.1)
 
-pub ended_as_marked : {Z : Type 0} (begun : Bool) (start : Machine Z) (now : List (Lane Z)) (n : ℕ) (l : Lane Z) → AllByRecursion (IsMarked begun) start.lanes.items → Closes start now n → slice_get now n ≡ Some l → l.closed ≡ l.reader.closed
+pub ended_as_marked : {Z : Type 0} (begun : Bool) (start : Machine Z) (now : List (Lane Z)) (n : ℕ) (l : Lane Z) → AllByRecursion (IsMarked begun) start.lanes.items → Closes start now n
+    → slice_get now n ≡ Some l → l.closed ≡ l.reader.closed
 ended_as_marked {Z = Z} begun start now n l marked closes at =
     lane_stands (λ (x : Lane Z). x.closed ≡ x.reader.closed) n start.lanes.items now l closes.ends at (marks_of begun start.lanes.items marked)
 
@@ -50,7 +51,8 @@ set_same (y ∷ xs) zero x at = ap (λ z. z ∷ xs) (sym (some_same y x at))
 set_same (y ∷ xs) (suc k) x at = ap (λ zs. y ∷ zs) (set_same xs k x at)
 
 -- a capture that had ended before
-pub closes_over : {Z : Type 0} (begun : Bool) (start : Machine Z) (now : List (Lane Z)) (n : ℕ) (l : Lane Z) → IsReady start begun → slice_get now n ≡ Some l → l.closed ≡ true → Closes start now n → Closes start (set now n l) (n + 1)
+pub closes_over : {Z : Type 0} (begun : Bool) (start : Machine Z) (now : List (Lane Z)) (n : ℕ) (l : Lane Z) → IsReady start begun → slice_get now n ≡ Some l → l.closed ≡ true → Closes start now n
+    → Closes start (set now n l) (n + 1)
 closes_over {Z = Z} begun start now n l ready at closed was = subst (λ (ls : List (Lane Z)). Closes start ls (n + 1)) (sym (set_same now n l at)) (record {
   ends = ends_over n start.lanes.items now l at (sym (ended_as_marked begun start now n l ready.marked was at) ∙ closed) (read_before begun start now n l ready was at) was.ends;
   going = was.going;
@@ -61,20 +63,25 @@ of_now start now n of was =
     still_of_table start.switch.run.table start.lanes.items now (half_ports start.lanes.items now (ends_half n start.lanes.items now was.ends)) of
 
 -- one that ends now
-pub closes_one : {Z : Type 0} → MergedIsAMerge → MergedIsByStampAndPort → (begun : Bool) (start : Machine Z) (now : List (Lane Z)) (n : ℕ) (old new : Lane Z) (more : List Entry) → AreOfTable start.switch.run.table start.lanes.items
-    → IsReady start begun → slice_get now n ≡ Some old → old.closed ≡ false → IsStill old new → new.undone ≡ old.undone → new.reader.bytes ≡ old.reader.bytes → new.reader.closed ≡ true → Adds old new more → HasReadAll new
+pub closes_one : {Z : Type 0} → MergedIsAMerge → MergedIsByStampAndPort → (begun : Bool) (start : Machine Z) (now : List (Lane Z)) (n : ℕ) (old new : Lane Z) (more : List Entry)
+    → AreOfTable start.switch.run.table start.lanes.items
+    → IsReady start begun → slice_get now n ≡ Some old → old.closed ≡ false → IsStill old new → new.undone ≡ old.undone → new.reader.bytes ≡ old.reader.bytes → new.reader.closed ≡ true
+    → Adds old new more → HasReadAll new
     → Closes start now n → Closes start (set now n new) (n + 1)
 closes_one merge sorted begun start now n old new more of ready at still_open still undone bytes closed adds all was = record {
   ends = ends_more n start.lanes.items now old new at (record { half = ended_half old new still undone bytes; bytes = bytes; closed = closed; read = all }) was.ends;
   going = reads_on merge sorted start.switch.run.table now start.switch start.counts n old new more (of_now start now n of was) at
-      ((read_before begun start now n old ready was at).ended ∙ sym (ended_as_marked begun start now n old ready.marked was at) ∙ still_open) still.port (ap (λ o. o.items) still.out) still.taken adds was.going;
+      ((read_before begun start now n old ready was at).ended ∙ sym (ended_as_marked begun start now n old ready.marked was at) ∙ still_open) still.port (ap (λ o. o.items) still.out) still.taken adds
+      was.going;
 }
 
 -- one that has a fault: nothing that contracts see is another, and the fault is the first
-pub closes_half : {Z : Type 0} (start : Machine Z) (now : List (Lane Z)) (n : ℕ) (old new : Lane Z) → slice_get now n ≡ Some old → IsStill old new → new.undone ≡ old.undone → new.reader.bytes ≡ old.reader.bytes → Closes start now n → AreHalfDone start.lanes.items (set now n new)
+pub closes_half : {Z : Type 0} (start : Machine Z) (now : List (Lane Z)) (n : ℕ) (old new : Lane Z) → slice_get now n ≡ Some old → IsStill old new → new.undone ≡ old.undone → new.reader.bytes
+    ≡ old.reader.bytes → Closes start now n → AreHalfDone start.lanes.items (set now n new)
 closes_half start now n old new at still undone bytes was = ends_half_more n start.lanes.items now old new was.ends at (ended_half old new still undone bytes)
 
-pub closes_fault : {Z : Type 0} → TakenAreTheCapture → (begun : Bool) (start : Machine Z) (now : List (Lane Z)) (n : ℕ) (old : Lane Z) (fault : RunFault) → AllByRecursion (IsMarked begun) start.lanes.items → slice_get now n ≡ Some old → IsFaultAt old.reader.bytes old.port fault → Closes start now n
+pub closes_fault : {Z : Type 0} → TakenAreTheCapture → (begun : Bool) (start : Machine Z) (now : List (Lane Z)) (n : ℕ) (old : Lane Z) (fault : RunFault)
+    → AllByRecursion (IsMarked begun) start.lanes.items → slice_get now n ≡ Some old → IsFaultAt old.reader.bytes old.port fault → Closes start now n
     → IsReadFault (texts_at start.lanes.items) fault
 closes_fault law begun start now n old fault marked at is was = end_fault law begun n start.lanes.items now was.going.streams old fault was.ends marked was.going.lanes_are at is
 

@@ -1,5 +1,6 @@
 -- What is handed out of a port, one frame after the other.
-use Rattle.std.proofs.Common.{◌≡◌, ℕ, zero, suc, ◌+◌, ◌<◌, ◌==◌, Bool, true, false, cond, nat_lt, List, [], ◌∷◌, length, drop, slice_get, slice_index, Option, Some, None, refl, ap, sym, ◌∙◌, arith, subst, get_or-set_same}
+use Rattle.std.proofs.Common.{◌≡◌, ℕ, zero, suc, ◌+◌, ◌<◌, ◌==◌, Bool, true, false, cond, nat_lt, List, [], ◌∷◌, length, drop, slice_get, slice_index, Option, Some, None, refl, ap, sym, ◌∙◌, arith}
+use Rattle.std.proofs.Common.{subst, get_or-set_same}
 use Rattle.std.specs.List.{position_or_len}
 use Rattle.std.proofs.Math.Seq.{drop-cons}
 use Rattle.std.proofs.lemmas.Bool.{ltb-true}
@@ -24,7 +25,8 @@ drop_none (y ∷ xs) zero is = absurd cc
 drop_none (y ∷ xs) (suc n) is = drop_none xs n is
 
 -- a record that is handed out has the bytes of the frame that is held
-handed_bytes : (held : Option (Option Entry)) (s : Sent) (out : Entry) → out_of held s ≡ Some out → (frame : Entry) × (held ≡ Some (Some frame)) × (out ≡ record { stamp = s.end; original = length frame.bytes; bytes = frame.bytes })
+handed_bytes : (held : Option (Option Entry)) (s : Sent) (out : Entry) → out_of held s ≡ Some out → (frame : Entry) × (held ≡ Some (Some frame))
+    × (out ≡ record { stamp = s.end; original = length frame.bytes; bytes = frame.bytes })
 handed_bytes (Some (Some frame)) s out is = (frame, refl, same is) where
   same : {e : Entry} → Some e ≡ Some out → out ≡ e
   same e = cc
@@ -58,7 +60,8 @@ place_within r port place at =
     let p = λ (row : PortRow). row.id == port in
     passed_within (nat_lt (position_or_len p r.table.ports) (length r.table.ports)) (position_or_len p r.table.ports) (length r.table.ports) place refl at
 
-pub written_out : (arrivals : List Arrival) (now new : State) (port place : ℕ) (out : Entry) (s : Sent) → length arrivals ≡ length now.run.rows → HasBytesOf arrivals now → IsHanded now new port out place s → written arrivals s ≡ out
+pub written_out : (arrivals : List Arrival) (now new : State) (port place : ℕ) (out : Entry) (s : Sent) → length arrivals ≡ length now.run.rows → HasBytesOf arrivals now
+    → IsHanded now new port out place s → written arrivals s ≡ out
 written_out arrivals now new port place out s len has handed =
     let found = handed_bytes (slice_get now.frames s.item.number) s out handed.record_is in
     let within : s.item.number < length now.run.rows =

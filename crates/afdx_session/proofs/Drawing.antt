@@ -1,5 +1,6 @@
 -- What one port hands out, where some was handed out before.
-use Rattle.std.proofs.Common.{◌≡◌, ℕ, zero, suc, ◌+◌, ◌<◌, ◌≤◌, ◌==◌, List, [], ◌∷◌, ◌++◌, map, length, drop, slice_get, slice_index, Option, Some, None, refl, ap, sym, ◌∙◌, arith, append_assoc, subst, get_or-set_same, get_or-set_other}
+use Rattle.std.proofs.Common.{◌≡◌, ℕ, zero, suc, ◌+◌, ◌<◌, ◌≤◌, ◌==◌, List, [], ◌∷◌, ◌++◌, map, length, drop, slice_get, slice_index, Option, Some, None, refl, ap, sym, ◌∙◌, arith, append_assoc}
+use Rattle.std.proofs.Common.{subst, get_or-set_same, get_or-set_other}
 use Rattle.std.specs.List.{flat_map, position}
 use Rattle.std.proofs.lemmas.List.{length-set, append-nil, map-append}
 use Rattle.std.proofs.lemmas.Grind.{flat_map-append}
@@ -35,7 +36,8 @@ long_rows : (t : Content) (given : List Arrival) (s : State) → IsGiven t given
 long_rows t given s is = ap length is.rows ∙ length-map given (λ (b : Arrival). row_of t b.port b.frame)
 
 -- one more arrival is given
-pub gives : (t : Content) (given : List Arrival) (a : Arrival) (old new : State) (step : Handling) → IsGiven t given old → IsTaken old new (row_of old.run.table a.port a.frame) a.frame step → IsGiven t (given ++ a ∷ []) new
+pub gives : (t : Content) (given : List Arrival) (a : Arrival) (old new : State) (step : Handling) → IsGiven t given old → IsTaken old new (row_of old.run.table a.port a.frame) a.frame step
+    → IsGiven t (given ++ a ∷ []) new
 gives t given a old new step is taken = record {
   table = ap (λ (r : Run). r.table) taken.run ∙ is.table;
   rows = ap (λ (r : Run). r.rows) taken.run ∙ ap (λ (rows : List Row). rows ++ row_of old.run.table a.port a.frame ∷ []) is.rows
@@ -69,8 +71,10 @@ draws_start given port place start before = record {
 same_place : (a b : ℕ) → Some a ≡ Some b → a ≡ b
 same_place a b e = cc
 
-pub draws_on : (given : List Arrival) (port place : ℕ) (start now new : State) (before text more : List ℕ) (out : Entry) (k : ℕ) (s : Sent) → place_of start.run port ≡ Some place → length start.run.handed ≡ length start.run.table.ports
-    → length given ≡ length start.run.rows → HasBytesOf given start → Draws given port place start now before text → IsHanded now new port out k s → more ≡ text ++ record_text out → Draws given port place start new before more
+pub draws_on : (given : List Arrival) (port place : ℕ) (start now new : State) (before text more : List ℕ) (out : Entry) (k : ℕ) (s : Sent) → place_of start.run port ≡ Some place
+    → length start.run.handed ≡ length start.run.table.ports
+    → length given ≡ length start.run.rows → HasBytesOf given start → Draws given port place start now before text → IsHanded now new port out k s → more ≡ text ++ record_text out
+    → Draws given port place start new before more
 draws_on given port place start now new before text more out k s at len long has draws handed is =
     let d = draws.drained in
     let place_now : place_of now.run port ≡ Some place = ap (λ (c : Content). position (λ (p : PortRow). p.id == port) c.ports) d.table ∙ at in
@@ -81,8 +85,10 @@ draws_on given port place start now new before text more out k s at len long has
     let after = drop (suc (slice_index now.run.handed place)) (sent_in now.run (slice_get now.run.table.ports place)) in
     let place_after : place_of (after_handing place now.run) port ≡ Some place = place_now in
     let left_now : left_at now.run (Some place) ≡ s ∷ after = ap (left_at now.run) (sym place_now) ∙ left_before now.run port place s place_now own.next in
-    let left_new : left_at new.run (Some place) ≡ after = ap (λ (r : Run). left_at r (Some place)) own.run ∙ ap (left_at (after_handing place now.run)) (sym place_after) ∙ left_after now.run port place place_now within in
-    let counted : slice_index new.run.handed place ≡ slice_index now.run.handed place + 1 = ap (λ (r : Run). slice_index r.handed place) own.run ∙ get_or-set_same now.run.handed place (slice_index now.run.handed place + 1) 0 within in
+    let left_new : left_at new.run (Some place) ≡ after = ap (λ (r : Run). left_at r (Some place)) own.run ∙ ap (left_at (after_handing place now.run)) (sym place_after)
+    ∙ left_after now.run port place place_now within in
+    let counted : slice_index new.run.handed place ≡ slice_index now.run.handed place + 1 = ap (λ (r : Run). slice_index r.handed place) own.run
+    ∙ get_or-set_same now.run.handed place (slice_index now.run.handed place + 1) 0 within in
     let texts : List Sent → List ℕ = λ left. flat_map record_text (map (written given) left) in
     record {
       drained = record {
@@ -153,7 +159,8 @@ goes_out {Z} parts reaches t given h k start now p place old new at le place_sta
   rest_text = flat_map record_text (map (written given) rest.0)
 
   text_is : text_up_to t given k p ≡ text_up_to t given h p ++ rest_text
-  text_is = ap (λ sent. capture_text (map (written given) sent)) rest.1 ∙ ap capture_text (map-append (written given) first rest.0) ∙ capture-append (map (written given) first) (map (written given) rest.0)
+  text_is = ap (λ sent. capture_text (map (written given) sent)) rest.1 ∙ ap capture_text (map-append (written given) first rest.0)
+      ∙ capture-append (map (written given) first) (map (written given) rest.0)
 
   row_start : slice_get start.run.table.ports place ≡ Some p
   row_start = ap (λ (c : Content). slice_get c.ports place) at.is_given.table ∙ row
@@ -188,7 +195,8 @@ goes_out {Z} parts reaches t given h k start now p place old new at le place_sta
 
 -- ---- the loop
 
-pub drained_on : (port : ℕ) (start now new : State) (out : Entry) (place : ℕ) (s : Sent) → length start.run.handed ≡ length start.run.table.ports → IsDrained port start now → IsHanded now new port out place s → IsDrained port start new
+pub drained_on : (port : ℕ) (start now new : State) (out : Entry) (place : ℕ) (s : Sent) → length start.run.handed ≡ length start.run.table.ports → IsDrained port start now
+    → IsHanded now new port out place s → IsDrained port start new
 drained_on port start now new out place s len d handed =
     let place_start : place_of start.run port ≡ Some place = ap (λ (c : Content). position (λ (p : PortRow). p.id == port) c.ports) (sym d.table) ∙ handed.at in
     record {
@@ -212,6 +220,7 @@ pub same_handed : (port : ℕ) (start now : State) → length start.run.handed �
 same_handed port start now len d = d.handed ∙ len ∙ ap (λ (c : Content). length c.ports) (sym d.table)
 
 -- nothing changed in the last step
-pub draws_same : (given : List Arrival) (port place : ℕ) (start now new : State) (before text more : List ℕ) → new ≡ now → more ≡ text → Draws given port place start now before text → Draws given port place start new before more
+pub draws_same : (given : List Arrival) (port place : ℕ) (start now new : State) (before text more : List ℕ) → new ≡ now → more ≡ text → Draws given port place start now before text
+    → Draws given port place start new before more
 draws_same given port place start now new before text more same is draws =
     subst (λ (s : State). Draws given port place start s before more) (sym same) (subst (λ (t : List ℕ). Draws given port place start now before t) (sym is) draws)

@@ -112,7 +112,8 @@ pub lane_capture : {Z : Type 0} → TakenAreTheCapture → (l : Lane Z) (s : Str
 lane_capture law l s is read closed =
     law (record { bytes = l.reader.bytes; given = l.reader.given }) s.records is.read.taken (subst (λ b. IsSound l.reader.bytes l.reader.given b) closed read.sound)
 
-first_fault : {Z : Type 0} → TakenAreTheCapture → (begun : Bool) (n : ℕ) (old new : List (Lane Z)) (streams : List Stream) (l : Lane Z) (why : PcapFault) → EndsUpTo n old new → AllByRecursion (IsMarked begun) old → AreLanesOf new streams
+first_fault : {Z : Type 0} → TakenAreTheCapture → (begun : Bool) (n : ℕ) (old new : List (Lane Z)) (streams : List Stream) (l : Lane Z) (why : PcapFault) → EndsUpTo n old new
+    → AllByRecursion (IsMarked begun) old → AreLanesOf new streams
     → slice_get new n ≡ Some l → IsFault l.reader.bytes why → IsFirstFault (texts_at old) l.port why
 first_fault law begun n [] [] streams l why ends marked are at fault = absurd cc
 first_fault law begun n [] (m ∷ new) streams l why ends marked are at fault = absurd ends
@@ -130,7 +131,8 @@ first_fault law begun (suc n) (k ∷ old) (m ∷ new) (s ∷ streams) l why ends
       first_fault law begun n old new streams l why ends.1 marked.1 are.1 at fault,
     )
 
-pub end_fault : {Z : Type 0} → TakenAreTheCapture → (begun : Bool) (n : ℕ) (old new : List (Lane Z)) (streams : List Stream) (l : Lane Z) (fault : RunFault) → EndsUpTo n old new → AllByRecursion (IsMarked begun) old → AreLanesOf new streams
+pub end_fault : {Z : Type 0} → TakenAreTheCapture → (begun : Bool) (n : ℕ) (old new : List (Lane Z)) (streams : List Stream) (l : Lane Z) (fault : RunFault) → EndsUpTo n old new
+    → AllByRecursion (IsMarked begun) old → AreLanesOf new streams
     → slice_get new n ≡ Some l → IsFaultAt l.reader.bytes l.port fault → IsReadFault (texts_at old) fault
 end_fault law begun n old new streams l run.Memory ends marked are at fault = tt
 end_fault law begun n old new streams l (run.Capture port why) ends marked are at fault =
@@ -169,7 +171,8 @@ streams_ended (l ∷ old) [] streams ends are = absurd ends
 streams_ended (l ∷ old) (n ∷ new) [] ends are = absurd are
 streams_ended (l ∷ old) (n ∷ new) (s ∷ streams) ends are = (are.0.ended ∙ ends.0.read.ended ∙ ends.0.closed, streams_ended old new streams ends.1 are.1)
 
-pub are_captures : {Z : Type 0} → TakenAreTheCapture → (begun : Bool) (old new : List (Lane Z)) (streams : List Stream) → AllByRecursion (IsMarked begun) old → AreEndedLanes old new → AreLanesOf new streams → AreCaptures (texts_at old) (captures_of streams)
+pub are_captures : {Z : Type 0} → TakenAreTheCapture → (begun : Bool) (old new : List (Lane Z)) (streams : List Stream) → AllByRecursion (IsMarked begun) old → AreEndedLanes old new
+    → AreLanesOf new streams → AreCaptures (texts_at old) (captures_of streams)
 are_captures law begun [] [] [] marked ends are = tt
 are_captures law begun [] [] (s ∷ streams) marked ends are = absurd are
 are_captures law begun [] (n ∷ new) streams marked ends are = absurd ends
@@ -183,10 +186,12 @@ are_captures law begun (l ∷ old) (n ∷ new) (s ∷ streams) marked ends are =
 
 whole_same : (streams : List Stream) → AllEnded streams → streams ≡ map whole_of (captures_of streams)
 whole_same [] all = refl
-whole_same (s ∷ streams) all = ap (λ b. record { port = s.port; records = s.records; closed = b } ∷ streams) all.0 ∙ ap (λ ss. record { port = s.port; records = s.records; closed = true } ∷ ss) (whole_same streams all.1)
+whole_same (s ∷ streams) all = ap (λ b. record { port = s.port; records = s.records; closed = b } ∷ streams) all.0
+    ∙ ap (λ ss. record { port = s.port; records = s.records; closed = true } ∷ ss) (whole_same streams all.1)
 
 -- what was put out is the output of a run over the whole captures
-pub output_is : {Z : Type 0} → EarlierEventsStayAdmitted → ReachesInOrder → AllStartBeforeTheLastInstant → (t : Content) (old new : List (Lane Z)) (s : State) (counts : Tally) (run : IsRunning t new s counts) (place : ℕ) (p : PortRow) (l : Lane Z) → AreOfTable t new
+pub output_is : {Z : Type 0} → EarlierEventsStayAdmitted → ReachesInOrder → AllStartBeforeTheLastInstant
+    → (t : Content) (old new : List (Lane Z)) (s : State) (counts : Tally) (run : IsRunning t new s counts) (place : ℕ) (p : PortRow) (l : Lane Z) → AreOfTable t new
     → AreEndedLanes old new → slice_get t.ports place ≡ Some p → slice_get new place ≡ Some l → l.out.items ≡ drop l.taken (output_text t (merged (captures_of run.going.streams)) p)
 output_is stay reaches ends t old new s counts run place p l of ended is_port is_lane =
     let streams = run.going.streams in
@@ -197,7 +202,8 @@ output_is stay reaches ends t old new s counts run place p l of ended is_port is
     ∙ ap capture_text (output_of_all t (captures_of streams) p))
 
 -- nothing waits
-given_some : {Z : Type 0} (t : Content) (old new : List (Lane Z)) (s : State) (counts : Tally) (run : IsRunning t new s counts) → AreEndedLanes old new → 0 < length new → merged (captures_of run.going.streams) ≡ run.going.given
+given_some : {Z : Type 0} (t : Content) (old new : List (Lane Z)) (s : State) (counts : Tally) (run : IsRunning t new s counts) → AreEndedLanes old new → 0 < length new
+    → merged (captures_of run.going.streams) ≡ run.going.given
 given_some {Z} t old new s counts run ended some =
     whole ∙ ap (λ xs. going.given ++ xs) none ∙ append-nil going.given where
       going : IsGoing t new s counts
@@ -213,9 +219,11 @@ given_some {Z} t old new s counts run ended some =
       front = ap come_to (no_frontier going.streams (streams_ended old new going.streams ended going.lanes_are))
 
       none : waiting ≡ []
-      none = none_late waiting (subst (λ n. AllByRecursion (λ (a : Arrival). n ≤ a.frame.stamp) waiting) (let come = going.come in let until = going.until in let since = run.out some in omega (arith, come, until, since, front)) going.later)
+      none = none_late waiting (subst (λ n. AllByRecursion (λ (a : Arrival). n ≤ a.frame.stamp) waiting)
+          (let come = going.come in let until = going.until in let since = run.out some in omega (arith, come, until, since, front)) going.later)
           (all_back Early going.given waiting (subst (AllByRecursion Early) whole (lanes_early new going.streams going.lanes_are)))
 
-pub given_all : {Z : Type 0} (t : Content) (old new : List (Lane Z)) (s : State) (counts : Tally) (run : IsRunning t new s counts) → AreEndedLanes old new → merged (captures_of run.going.streams) ≡ run.going.given
+pub given_all : {Z : Type 0} (t : Content) (old new : List (Lane Z)) (s : State) (counts : Tally) (run : IsRunning t new s counts) → AreEndedLanes old new → merged (captures_of run.going.streams)
+    ≡ run.going.given
 given_all t old [] s counts run ended = run.going.settling.whole ∙ append-nil run.going.given
 given_all t old (l ∷ new) s counts run ended = given_some t old (l ∷ new) s counts run ended (omega arith)

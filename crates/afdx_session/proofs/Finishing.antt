@@ -46,7 +46,8 @@ rest_same m n ms ns e = cc
 head_same : (m n : ℕ) (ms ns : List ℕ) → m ∷ ms ≡ n ∷ ns → m ≡ n
 head_same m n ms ns e = cc
 
-find_intake : {Z : Type 0} (ports : List PortRow) (lanes : List (Lane Z)) (k : ℕ) (l : Lane Z) → table.Rises ports → map (λ (m : Lane Z). m.port) lanes ≡ map (λ (p : PortRow). p.id) ports → slice_get lanes k ≡ Some l
+find_intake : {Z : Type 0} (ports : List PortRow) (lanes : List (Lane Z)) (k : ℕ) (l : Lane Z) → table.Rises ports → map (λ (m : Lane Z). m.port) lanes ≡ map (λ (p : PortRow). p.id) ports
+    → slice_get lanes k ≡ Some l
     → find (λ (i : Intake). i.port == l.port) (intakes_of lanes) ≡ Some (intake_of l)
 find_intake ports [] k l rises same at = absurd cc
 find_intake [] (m ∷ lanes) k l rises same at = absurd cc
@@ -63,7 +64,8 @@ find_intake {Z = Z} (p ∷ ports) (m ∷ lanes) (suc k) l rises same at =
     ∙ find_intake ports lanes k l rises.1 more at
 
 -- lists with the same at each place
-pub same_lists : {X Y W : Type 0} (f : X → W) (g : Y → W) (i : X → ℕ) (j : Y → ℕ) (xs : List X) (ys : List Y) → map i xs ≡ map j ys → ((k : ℕ) (x : X) (y : Y) → slice_get xs k ≡ Some x → slice_get ys k ≡ Some y → f x ≡ g y) → map f xs ≡ map g ys
+pub same_lists : {X Y W : Type 0} (f : X → W) (g : Y → W) (i : X → ℕ) (j : Y → ℕ) (xs : List X) (ys : List Y) → map i xs ≡ map j ys
+    → ((k : ℕ) (x : X) (y : Y) → slice_get xs k ≡ Some x → slice_get ys k ≡ Some y → f x ≡ g y) → map f xs ≡ map g ys
 same_lists f g i j [] [] same each = refl
 same_lists f g i j [] (y ∷ ys) same each = absurd cc
 same_lists f g i j (x ∷ xs) [] same each = absurd cc
@@ -87,14 +89,17 @@ half_intakes (l ∷ old) (n ∷ new) half = ap (λ i. i ∷ intakes_of new) half
 
 -- ---- the outcome
 
-pub finished : {Z : Type 0} → EarlierEventsStayAdmitted → ReachesInOrder → AllStartBeforeTheLastInstant → TakenAreTheCapture → EndCountsTheRun → AcceptedRunsIsolate → (old new : Machine Z) (begun : Bool) (results : Results) → IsKept old begun false
-    → IsOfSameTable old.switch new.switch → AreHalfDone old.lanes.items new.lanes.items → AreEndedLanes old.lanes.items new.lanes.items → IsRunning new.switch.run.table new.lanes.items new.switch new.counts
+pub finished : {Z : Type 0} → EarlierEventsStayAdmitted → ReachesInOrder → AllStartBeforeTheLastInstant → TakenAreTheCapture → EndCountsTheRun → AcceptedRunsIsolate
+    → (old new : Machine Z) (begun : Bool) (results : Results) → IsKept old begun false
+    → IsOfSameTable old.switch new.switch → AreHalfDone old.lanes.items new.lanes.items → AreEndedLanes old.lanes.items new.lanes.items
+    → IsRunning new.switch.run.table new.lanes.items new.switch new.counts
     → results.captures ≡ map (λ (l : Lane Z). (l.port, l.out.items)) new.lanes.items → results.counts ≡ ended (after_finish new.switch.run) new.counts → IsFinished (seen_of old begun false) results
 finished {Z} stay reaches ends takes law isolate old new begun results kept same half closed running captures counts = record {
   none_failed = refl;
   whole = whole;
   outcome = outcome;
-  captures = captures ∙ same_lists (λ (l : Lane Z). (l.port, l.out.items)) (λ (p : PortRow). rest_of v (p.id, output_text t (merged read) p)) (λ (l : Lane Z). l.port) (λ (p : PortRow). p.id) new.lanes.items t.ports of.ports rest
+  captures = captures ∙ same_lists (λ (l : Lane Z). (l.port, l.out.items)) (λ (p : PortRow). rest_of v (p.id, output_text t (merged read) p)) (λ (l : Lane Z). l.port) (λ (p : PortRow). p.id)
+      new.lanes.items t.ports of.ports rest
       ∙ sym (map-twice (rest_of v) (λ (p : PortRow). (p.id, output_text t (merged read) p)) t.ports);
   counts = counts ∙ ap (ended (after_finish new.switch.run)) counted ∙ law new.switch.run formed
       ∙ ap (λ (c : Content). counts_of c new.switch.run.rows) run.going.is_given.table ∙ ap (counts_of t) run.going.is_given.rows ∙ ap (λ (xs : List Arrival). counts_of t (rows_of t xs)) (sym given);
@@ -148,4 +153,5 @@ finished {Z} stay reaches ends takes law isolate old new begun results kept same
   formed = subst IsWellFormed (sym same.table) kept.of.formed
 
   counted : new.counts ≡ counts_so_far new.switch.run.table new.switch.run.rows
-  counted = run.going.counts_are ∙ ap (λ (c : Content). counts_so_far c (rows_of t run.going.given)) (sym run.going.is_given.table) ∙ ap (counts_so_far new.switch.run.table) (sym run.going.is_given.rows)
+  counted = run.going.counts_are ∙ ap (λ (c : Content). counts_so_far c (rows_of t run.going.given)) (sym run.going.is_given.table)
+      ∙ ap (counts_so_far new.switch.run.table) (sym run.going.is_given.rows)

@@ -43,7 +43,8 @@ all_heads : {Z : Type 0} (n : ℕ) (lanes : List (Lane Z)) → ((j u : ℕ) → 
 all_heads n [] all = tt
 all_heads n (l ∷ lanes) all = (head_from n l.waiting.items (λ u. all 0 u), all_heads n lanes (λ j u. all (suc j) u))
 
-comes_first : {Z : Type 0} (t k : ℕ) (lanes : List (Lane Z)) → ((j u : ℕ) → head_stamp (slice_get lanes j) ≡ Some u → t ≤ u) → ((j u : ℕ) → j < k → head_stamp (slice_get lanes j) ≡ Some u → t < u) → ComesFirst t k (map waiting_of lanes)
+comes_first : {Z : Type 0} (t k : ℕ) (lanes : List (Lane Z)) → ((j u : ℕ) → head_stamp (slice_get lanes j) ≡ Some u → t ≤ u) → ((j u : ℕ) → j < k → head_stamp (slice_get lanes j) ≡ Some u → t < u)
+    → ComesFirst t k (map waiting_of lanes)
 comes_first t k [] sooner former = tt
 comes_first t zero (l ∷ lanes) sooner former = (head_from t l.waiting.items (λ u. sooner 0 u), all_heads t lanes (λ j u. sooner (suc j) u))
 comes_first t (suc k) (l ∷ lanes) sooner former = (
@@ -85,14 +86,16 @@ get-map f (y ∷ xs) zero x is = same is where
 get-map f (y ∷ xs) (suc k) x is = get-map f xs k x is
 
 -- the record that the code takes is settled, and is the next of the merge
-pub lane_goes : {Z : Type 0} (streams : List Stream) (given : List Arrival) (old new : List (Lane Z)) (port : ℕ) (frame : Entry) → Ascend (ports_of (captures_of streams)) → AllRise (map waiting_of old) → AreLanesOf old streams
+pub lane_goes : {Z : Type 0} (streams : List Stream) (given : List Arrival) (old new : List (Lane Z)) (port : ℕ) (frame : Entry) → Ascend (ports_of (captures_of streams))
+    → AllRise (map waiting_of old) → AreLanesOf old streams
     → Goes (limit_at old) old new port frame → IsSettling streams given (map waiting_of old) → IsSettling streams (given ++ record { port = port; frame = frame } ∷ []) (map waiting_of new)
 lane_goes streams given old new port frame ascend rise are goes settling =
     let w = waiting_of goes.lane in
     let within : IsWithin (limit streams) (record { port = w.port; frame = frame }) =
     subst (λ p. IsWithin p (record { port = w.port; frame = frame })) (limit_is old streams are)
     (as_within (limit_at old) frame w.port (subst (λ n. IsWithinPlace (limit_at old) frame.stamp n) goes.port_is goes.within)) in
-    let done = settles_on streams given (map waiting_of old) goes.place w frame goes.rest.items ascend rise (get-map waiting_of old goes.place goes.lane goes.at) goes.head (first_comes old goes.place frame.stamp goes.first) within settling in
+    let done = settles_on streams given (map waiting_of old) goes.place w frame goes.rest.items ascend rise (get-map waiting_of old goes.place goes.lane goes.at) goes.head
+    (first_comes old goes.place frame.stamp goes.first) within settling in
     let queues : without (map waiting_of old) goes.place w goes.rest.items ≡ map waiting_of new =
     sym (ap (map waiting_of) goes.lanes ∙ map-set waiting_of old goes.place (with_waiting goes.rest goes.lane)) in
     subst (λ ws. IsSettling streams (given ++ record { port = port; frame = frame } ∷ []) ws) queues

@@ -1,5 +1,6 @@
 -- A session that was fed nothing.
-use Rattle.std.proofs.Common.{◌≡◌, ℕ, zero, suc, ◌<◌, ◌≤◌, Bool, true, false, List, [], ◌∷◌, ◌++◌, map, length, drop, take, slice_get, slice_index, Option, Some, None, Ok, Err, refl, ap, sym, ◌∙◌, arith, inl, inr, subst}
+use Rattle.std.proofs.Common.{◌≡◌, ℕ, zero, suc, ◌<◌, ◌≤◌, Bool, true, false, List, [], ◌∷◌, ◌++◌, map, length, drop, take, slice_get, slice_index, Option, Some, None, Ok, Err, refl, ap, sym, ◌∙◌}
+use Rattle.std.proofs.Common.{arith, inl, inr, subst}
 use Rattle.std.specs.Prelude.{Result}
 use Rattle.std.specs.List.{AllByRecursion}
 use Rattle.afdx_pcap.specs.declared.fault.PcapFault.{PcapFault}
@@ -215,7 +216,8 @@ length-zeros [] = refl
 length-zeros (p ∷ ports) = ap suc (length-zeros ports)
 
 -- what is true of each session is true of it
-pub fresh_kept : {Z : Type 0} → StartsWithNone → (accepted : Bool) (t : Content) (m : Machine Z) → IsWellFormed t → (accepted ≡ true → IsAccepted t) → m.switch ≡ fresh_state accepted t → m.counts ≡ fresh t → AreFreshLanes t.ports m.lanes.items
+pub fresh_kept : {Z : Type 0} → StartsWithNone → (accepted : Bool) (t : Content) (m : Machine Z) → IsWellFormed t → (accepted ≡ true → IsAccepted t) → m.switch ≡ fresh_state accepted t → m.counts
+    ≡ fresh t → AreFreshLanes t.ports m.lanes.items
     → IsKept m false false
 fresh_kept starts accepted t m formed is_accepted switch counts fresh = record {
   of = rw switch (record { formed = formed; ports = fresh_ports t.ports m.lanes.items fresh });
@@ -237,5 +239,6 @@ fresh_intakes (p ∷ ports) (l ∷ lanes) fresh = ap (λ i. i ∷ intakes_of lan
   own : IsFreshLane p.id l → intake_of l ≡ fresh_intake p
   own f = rw (f.port_is, f.reader, f.undone, f.closed, f.taken) refl
 
-pub fresh_seen : {Z : Type 0} (accepted : Bool) (t : Content) (m : Machine Z) → m.switch ≡ fresh_state accepted t → AreFreshLanes t.ports m.lanes.items → seen_of m false false ≡ fresh_session accepted t
+pub fresh_seen : {Z : Type 0} (accepted : Bool) (t : Content) (m : Machine Z) → m.switch ≡ fresh_state accepted t → AreFreshLanes t.ports m.lanes.items → seen_of m false false
+    ≡ fresh_session accepted t
 fresh_seen accepted t m switch fresh = rw (switch, fresh_intakes t.ports m.lanes.items fresh) refl

@@ -1,5 +1,6 @@
 -- A record is given to the switch, and the switch comes to the frontier.
-use Rattle.std.proofs.Common.{◌≡◌, ℕ, zero, suc, ◌<◌, ◌≤◌, ◌^◌, List, [], ◌∷◌, ◌++◌, map, length, slice_get, slice_index, drop, Option, Some, None, refl, ap, sym, ◌∙◌, arith, inl, inr, subst, nat_lt, false}
+use Rattle.std.proofs.Common.{◌≡◌, ℕ, zero, suc, ◌<◌, ◌≤◌, ◌^◌, List, [], ◌∷◌, ◌++◌, map, length, slice_get, slice_index, drop, Option, Some, None, refl, ap, sym, ◌∙◌, arith, inl, inr, subst}
+use Rattle.std.proofs.Common.{nat_lt, false}
 use Rattle.std.specs.Prelude.{is_none, ◌⊎◌}
 use Rattle.std.specs.List.{AllByRecursion}
 use Rattle.std.specs.Option.{option_map}
@@ -41,12 +42,14 @@ use Rattle.afdx_session.proofs.Going.{Early, lanes_early, waiting_rise, lanes_as
 
 -- ---- the output so far
 
-pub same_text : EarlierEventsStayAdmitted → ReachesInOrder → (t : Content) (given more : List Arrival) (h : ℕ) (p : PortRow) → AllFrom h more → text_up_to t (given ++ more) h p ≡ text_up_to t given h p
+pub same_text : EarlierEventsStayAdmitted → ReachesInOrder → (t : Content) (given more : List Arrival) (h : ℕ) (p : PortRow) → AllFrom h more → text_up_to t (given ++ more) h p
+    ≡ text_up_to t given h p
 same_text stay reaches t given more h p later =
     ap capture_text (ap (map (written (given ++ more))) (same_sent stay reaches t given more h p later) ∙ same_bytes t given more (Some h) p)
 
 -- it stays where more is given that comes no sooner
-out_stays : {Z : Type 0} → EarlierEventsStayAdmitted → ReachesInOrder → (t : Content) (given more : List Arrival) (h : ℕ) (s next : State) (p : PortRow) (place : ℕ) (l : Lane Z) → AllFrom h more → next.run.handed ≡ s.run.handed
+out_stays : {Z : Type 0} → EarlierEventsStayAdmitted → ReachesInOrder → (t : Content) (given more : List Arrival) (h : ℕ) (s next : State) (p : PortRow) (place : ℕ) (l : Lane Z) → AllFrom h more
+    → next.run.handed ≡ s.run.handed
     → IsOut t given h s p place l → IsOut t (given ++ more) h next p place l
 out_stays stay reaches t given more h s next p place l later handed out =
     let same = same_text stay reaches t given more h p later in
@@ -59,12 +62,14 @@ out_stays stay reaches t given more h s next p place l later handed out =
 -- ---- a record goes
 
 -- it is the next of what waits
-goes_next : {Z : Type 0} (old new : List (Lane Z)) (port : ℕ) (frame : Entry) (streams : List Stream) (given : List Arrival) (t : Content) (s : State) (counts : Tally) (going : IsGoing t old s counts) → Goes (limit_at old) old new port frame
+goes_next : {Z : Type 0} (old new : List (Lane Z)) (port : ℕ) (frame : Entry) (streams : List Stream) (given : List Arrival) (t : Content) (s : State) (counts : Tally) (going : IsGoing t old s counts)
+    → Goes (limit_at old) old new port frame
     → merged (map waiting_of old) ≡ record { port = port; frame = frame } ∷ merged (map waiting_of new)
 goes_next old new port frame streams given t s counts going goes =
     let w = waiting_of goes.lane in
     let rise = waiting_rise old going.streams going.lanes_are going.settling.queued in
-    let first = first_goes (map waiting_of old) goes.place w frame goes.rest.items (get-map waiting_of old goes.place goes.lane goes.at) goes.head (first_comes old goes.place frame.stamp goes.first) rise in
+    let first = first_goes (map waiting_of old) goes.place w frame goes.rest.items (get-map waiting_of old goes.place goes.lane goes.at) goes.head (first_comes old goes.place frame.stamp goes.first)
+    rise in
     let queues : without (map waiting_of old) goes.place w goes.rest.items ≡ map waiting_of new =
     sym (ap (map waiting_of) goes.lanes ∙ map-set waiting_of old goes.place (with_waiting goes.rest goes.lane)) in
     first
@@ -81,7 +86,8 @@ pub record Arrives {Z : Type 0} (t : Content) (old new : List (Lane Z)) (s : Sta
   pub until : frame.stamp ≤ come_to (frontier going.streams)
   pub after : AllFrom frame.stamp (merged (map waiting_of new))
 
-pub arrives : {Z : Type 0} (t : Content) (old new : List (Lane Z)) (s : State) (counts : Tally) (port : ℕ) (frame : Entry) → Goes (limit_at old) old new port frame → IsGoing t old s counts → Arrives t old new s counts port frame
+pub arrives : {Z : Type 0} (t : Content) (old new : List (Lane Z)) (s : State) (counts : Tally) (port : ℕ) (frame : Entry) → Goes (limit_at old) old new port frame → IsGoing t old s counts
+    → Arrives t old new s counts port frame
 arrives {Z} t old new s counts port frame goes going = record {
   going = going;
   goes = goes;
@@ -119,28 +125,33 @@ known {Z = Z} t lanes k l of at =
     all_slice_get (Known t.ports) (map (λ (m : Lane Z). m.port) lanes) k l.port ports (get-map (λ (m : Lane Z). m.port) lanes k l at)
 
 -- the switch takes it
-pub gives_on : {Z : Type 0} → EarlierEventsStayAdmitted → ReachesInOrder → NoteCountsOneMore → (t : Content) (old new : List (Lane Z)) (s next : State) (counts after : Tally) (port : ℕ) (frame : Entry) (step : Handling) → AreOfTable t old → step.number < 2 ^ 64
+pub gives_on : {Z : Type 0} → EarlierEventsStayAdmitted → ReachesInOrder → NoteCountsOneMore
+    → (t : Content) (old new : List (Lane Z)) (s next : State) (counts after : Tally) (port : ℕ) (frame : Entry) (step : Handling) → AreOfTable t old → step.number < 2 ^ 64
     → Arrives t old new s counts port frame → IsTaken s next (row_of s.run.table port frame) frame step → after ≡ noted step counts → IsGoing t new next after
 gives_on stay reaches law t old new s next counts after port frame step of small arrives taken counted = record {
   streams = going.streams;
   given = going.given ++ a ∷ [];
   since = going.since;
   lanes_are = subst (λ ls. AreLanesOf ls going.streams) (sym goes.lanes) (same_lanes old going.streams goes.place goes.lane goes.rest going.lanes_are goes.at);
-  settling = lane_goes going.streams going.given old new port frame (lanes_ascend t old going.streams of going.lanes_are) (waiting_rise old going.streams going.lanes_are going.settling.queued) going.lanes_are goes going.settling;
+  settling = lane_goes going.streams going.given old new port frame (lanes_ascend t old going.streams of going.lanes_are) (waiting_rise old going.streams going.lanes_are going.settling.queued)
+      going.lanes_are goes going.settling;
   is_given = gives t going.given a s next step going.is_given taken;
   come = omega (arith, since, arrives.latest, latest);
   later = subst (λ n. AllFrom n (merged (map waiting_of new))) (sym latest) arrives.after;
   until = subst (λ n. n ≤ come_to (frontier going.streams)) (sym latest) arrives.until;
   counts_are = counted ∙ ap (λ (h : Handling). noted h counts) taken.handling
-      ∙ ap (noted (handling_of s.run row)) (going.counts_are ∙ ap (λ (c : Content). counts_so_far c (rows_of t going.given)) (sym going.is_given.table) ∙ ap (counts_so_far s.run.table) (sym going.is_given.rows))
+      ∙ ap (noted (handling_of s.run row)) (going.counts_are ∙ ap (λ (c : Content). counts_so_far c (rows_of t going.given)) (sym going.is_given.table)
+      ∙ ap (counts_so_far s.run.table) (sym going.is_given.rows))
       ∙ law s.run row (subst IsWellFormed (sym going.is_given.table) of.formed)
       ∙ ap (λ (r : Run). counts_so_far r.table r.rows) (sym taken.run)
       ∙ ap (λ (c : Content). counts_so_far c next.run.rows) next_given.table
       ∙ ap (counts_so_far t) next_given.rows;
-  few = let count = ap (λ (h : Handling). h.number) taken.handling in let long = ap length going.is_given.rows ∙ length-map going.given (λ (b : Arrival). row_of t b.port b.frame) in let all = length-append going.given (a ∷ []) in omega (arith, small, count, long, all);
+  few = let count = ap (λ (h : Handling). h.number) taken.handling in let long = ap length going.is_given.rows ∙ length-map going.given (λ (b : Arrival). row_of t b.port b.frame) in
+      let all = length-append going.given (a ∷ []) in omega (arith, small, count, long, all);
   outs = λ place p l in_all is_port is_lane.
       out_stays stay reaches t going.given (a ∷ []) going.since s next p place l (omega (arith, since, arrives.latest), tt) (ap (λ (r : Run). r.handed) taken.run)
-      (outs_stay t going.given going.since s old goes.place goes.lane (with_waiting goes.rest goes.lane) goes.at refl refl going.outs place p l tt is_port (ap (λ ls. slice_get ls place) (sym goes.lanes) ∙ is_lane));
+      (outs_stay t going.given going.since s old goes.place goes.lane (with_waiting goes.rest goes.lane) goes.at refl refl going.outs place p l tt is_port
+      (ap (λ ls. slice_get ls place) (sym goes.lanes) ∙ is_lane));
 } where
   going : IsGoing t old s counts
   going = arrives.going
@@ -164,7 +175,8 @@ gives_on stay reaches law t old new s next counts after port frame step of small
   next_given = gives t going.given a s next step going.is_given taken
 
 -- it refuses it for want of memory alone
-pub none_else : {Z : Type 0} (t : Content) (old new : List (Lane Z)) (s : State) (counts : Tally) (port : ℕ) (frame : Entry) → AreOfTable t old → Arrives t old new s counts port frame → refusal_of s.run port frame.stamp ≡ None
+pub none_else : {Z : Type 0} (t : Content) (old new : List (Lane Z)) (s : State) (counts : Tally) (port : ℕ) (frame : Entry) → AreOfTable t old → Arrives t old new s counts port frame
+    → refusal_of s.run port frame.stamp ≡ None
 none_else t old new s counts port frame of arrives =
     let goes = arrives.goes in
     let is_known : is_none (port_row s.run.table port) ≡ false =
@@ -200,7 +212,8 @@ rest_waits {Z = Z} t lanes s counts first going none = by_first first none.is no
   rise : AllRise waiting
   rise = waiting_rise lanes going.streams going.lanes_are going.settling.queued
 
-  by_limit : (x : ℕ × ℕ) (l : Lane Z) (p : Option (ℕ × ℕ)) → limit_at lanes ≡ p → IsFirstUpTo lanes (length lanes) x.0 x.1 → (IsWithinPlace (limit_at lanes) x.1 l.port → ⊥) → AllFrom n (merged waiting)
+  by_limit : (x : ℕ × ℕ) (l : Lane Z) (p : Option (ℕ × ℕ)) → limit_at lanes ≡ p → IsFirstUpTo lanes (length lanes) x.0 x.1 → (IsWithinPlace (limit_at lanes) x.1 l.port → ⊥)
+      → AllFrom n (merged waiting)
   by_limit x l None same is out = absurd (out (subst (λ o. IsWithinPlace o x.1 l.port) (sym same) tt))
   by_limit x l (Some p) same is out =
       let front : frontier going.streams ≡ Some p.0 = sym (front_is lanes going.streams going.lanes_are) ∙ ap (option_map (λ (q : ℕ × ℕ). q.0)) same in
@@ -208,7 +221,8 @@ rest_waits {Z = Z} t lanes s counts first going none = by_first first none.is no
       subst (λ m. AllFrom m (merged waiting)) (sym (ap come_to front))
       (rest_from_frontier going.streams waiting x.0 x.1 p.0 rise (first_comes lanes x.0 x.1 is) past front)
 
-  by_first : (found : Option (ℕ × ℕ)) → IsFirstOf lanes found → ((place stamp : ℕ) (lane : Lane Z) → found ≡ Some (place, stamp) → slice_get lanes place ≡ Some lane → IsWithinPlace (limit_at lanes) stamp lane.port → ⊥)
+  by_first : (found : Option (ℕ × ℕ)) → IsFirstOf lanes found → ((place stamp : ℕ) (lane : Lane Z) → found ≡ Some (place, stamp) → slice_get lanes place ≡ Some lane
+      → IsWithinPlace (limit_at lanes) stamp lane.port → ⊥)
       → AllFrom n (merged waiting)
   by_first None is past = merged_from n waiting (empty_heads n waiting (none_waits lanes is)) rise
   by_first (Some x) is past =
@@ -216,7 +230,8 @@ rest_waits {Z = Z} t lanes s counts first going none = by_first first none.is no
       by_limit x at.0 (limit_at lanes) refl is (past x.0 x.1 at.0 refl at.1)
 
 -- the switch comes to the frontier
-pub comes_on : {Z : Type 0} (t : Content) (lanes : List (Lane Z)) (s next : State) (counts : Tally) (first : Option (ℕ × ℕ)) (to : ℕ) (going : IsGoing t lanes s counts) → NoneGoes (limit_at lanes) lanes first
+pub comes_on : {Z : Type 0} (t : Content) (lanes : List (Lane Z)) (s next : State) (counts : Tally) (first : Option (ℕ × ℕ)) (to : ℕ) (going : IsGoing t lanes s counts)
+    → NoneGoes (limit_at lanes) lanes first
     → to ≡ come_to (option_map (λ (p : ℕ × ℕ). p.0) (limit_at lanes)) → next.run ≡ after_advance to s.run → Keeps s next → HasCome t lanes next counts
 comes_on {Z} t lanes s next counts first to going none to_is run keeps = record {
   going = record {
@@ -241,7 +256,8 @@ comes_on {Z} t lanes s next counts first to going none to_is run keeps = record 
   at = ap (λ (r : Run). r.latest) run ∙ to_is ∙ ap come_to (front_is lanes going.streams going.lanes_are)
 
 -- that is no going back
-pub no_going_back : {Z : Type 0} (t : Content) (lanes : List (Lane Z)) (s : State) (counts : Tally) (to : ℕ) (going : IsGoing t lanes s counts) → to ≡ come_to (option_map (λ (p : ℕ × ℕ). p.0) (limit_at lanes)) → to < s.run.latest → ⊥
+pub no_going_back : {Z : Type 0} (t : Content) (lanes : List (Lane Z)) (s : State) (counts : Tally) (to : ℕ) (going : IsGoing t lanes s counts) → to
+    ≡ come_to (option_map (λ (p : ℕ × ℕ). p.0) (limit_at lanes)) → to < s.run.latest → ⊥
 no_going_back t lanes s counts to going to_is lt =
     let until = going.until in
     let at = to_is ∙ ap come_to (front_is lanes going.streams going.lanes_are) in

@@ -135,7 +135,8 @@ come_grows streams later ends on = by_old (frontier streams) refl where
 
 -- ---- a lane is read
 
-reads_lanes : {Z : Type 0} (lanes : List (Lane Z)) (streams : List Stream) (k : ℕ) (old new : Lane Z) (more : List Entry) → AreLanesOf lanes streams → slice_get lanes k ≡ Some old → new.port ≡ old.port → Adds old new more
+reads_lanes : {Z : Type 0} (lanes : List (Lane Z)) (streams : List Stream) (k : ℕ) (old new : Lane Z) (more : List Entry) → AreLanesOf lanes streams → slice_get lanes k ≡ Some old → new.port
+    ≡ old.port → Adds old new more
     → AreLanesOf (set lanes k new) (streams_with streams k new more)
 reads_lanes [] [] k old new more are at port adds = tt
 reads_lanes [] (s ∷ streams) k old new more are at port adds = absurd are
@@ -166,7 +167,8 @@ entries_from h n [] le all = tt
 entries_from h n (r ∷ rs) le all = (omega (arith, le, all.0), entries_from h n rs le all.1)
 
 -- what comes and waits comes at an instant or later where all open captures had reached it
-wait_from : (n : ℕ) (streams later : List Stream) (waiting more : List Capture) → AllWait streams later waiting more → (AllEnded streams → streams ≡ streams) → HaveReached n streams → AllFrom n (arrivals_of waiting) → AllFrom n (arrivals_of more)
+wait_from : (n : ℕ) (streams later : List Stream) (waiting more : List Capture) → AllWait streams later waiting more → (AllEnded streams → streams ≡ streams) → HaveReached n streams
+    → AllFrom n (arrivals_of waiting) → AllFrom n (arrivals_of more)
 wait_from n [] [] [] [] wait some reached all = tt
 wait_from n [] [] [] (v ∷ more) wait some reached all = absurd wait
 wait_from n [] [] (w ∷ waiting) more wait some reached all = absurd wait
@@ -214,7 +216,8 @@ get-set (y ∷ xs) (suc k) (suc j) old new x at is = elim (get-set xs k j old ne
 ]
 
 -- a lane that is another in nothing that has to do with its output
-pub outs_stay : {Z : Type 0} (t : Content) (given : List Arrival) (h : ℕ) (s : State) (lanes : List (Lane Z)) (k : ℕ) (old new : Lane Z) → slice_get lanes k ≡ Some old → new.out.items ≡ old.out.items → new.taken ≡ old.taken → AreOut t given h s lanes Every
+pub outs_stay : {Z : Type 0} (t : Content) (given : List Arrival) (h : ℕ) (s : State) (lanes : List (Lane Z)) (k : ℕ) (old new : Lane Z) → slice_get lanes k ≡ Some old → new.out.items ≡ old.out.items
+    → new.taken ≡ old.taken → AreOut t given h s lanes Every
     → AreOut t given h s (set lanes k new) Every
 outs_stay {Z = Z} t given h s lanes k old new at out taken outs place p l in_all is_port is_lane = elim (get-set lanes k place old new l at is_lane) [
   | inr other ↦ outs place p l tt is_port other
@@ -227,7 +230,8 @@ outs_stay {Z = Z} t given h s lanes k old new at out taken outs place p l in_all
       })
 ]
 
-pub reads_on : {Z : Type 0} → MergedIsAMerge → MergedIsByStampAndPort → (t : Content) (lanes : List (Lane Z)) (s : State) (counts : Tally) (k : ℕ) (old new : Lane Z) (more : List Entry) → AreOfTable t lanes → slice_get lanes k ≡ Some old → old.ended ≡ false
+pub reads_on : {Z : Type 0} → MergedIsAMerge → MergedIsByStampAndPort → (t : Content) (lanes : List (Lane Z)) (s : State) (counts : Tally) (k : ℕ) (old new : Lane Z) (more : List Entry)
+    → AreOfTable t lanes → slice_get lanes k ≡ Some old → old.ended ≡ false
     → new.port ≡ old.port → new.out.items ≡ old.out.items → new.taken ≡ old.taken → Adds old new more → IsGoing t lanes s counts → IsGoing t (set lanes k new) s counts
 reads_on merge sorted t lanes s counts k old new more of at still_open port out taken adds going = record {
   streams = next;
@@ -238,8 +242,10 @@ reads_on merge sorted t lanes s counts k old new more of at still_open port out 
   is_given = going.is_given;
   come = going.come;
   later = by_stamp_in At (arrivals_of (map waiting_of (set lanes k new)))
-      (wait_from s.run.latest going.streams next (map waiting_of lanes) (map waiting_of (set lanes k new)) wait (λ e. refl) (not_past s.run.latest going.streams going.until) (by_stamp_out At (arrivals_of (map waiting_of lanes)) going.later));
-  until = let le = going.until in let grows = come_grows going.streams next (early_ends lanes going.streams going.lanes_are) (on_of going.streams next (map waiting_of lanes) (map waiting_of (set lanes k new)) wait) in omega (arith, le, grows);
+      (wait_from s.run.latest going.streams next (map waiting_of lanes) (map waiting_of (set lanes k new)) wait (λ e. refl) (not_past s.run.latest going.streams going.until)
+      (by_stamp_out At (arrivals_of (map waiting_of lanes)) going.later));
+  until = let le = going.until in let grows = come_grows going.streams next (early_ends lanes going.streams going.lanes_are)
+      (on_of going.streams next (map waiting_of lanes) (map waiting_of (set lanes k new)) wait) in omega (arith, le, grows);
   counts_are = going.counts_are;
   few = going.few;
   outs = outs_stay t going.given going.since s lanes k old new at out taken going.outs;
@@ -255,7 +261,8 @@ reads_on merge sorted t lanes s counts k old new more of at still_open port out 
 
 -- ---- a record is given
 
-pub same_lanes : {Z : Type 0} (lanes : List (Lane Z)) (streams : List Stream) (k : ℕ) (l : Lane Z) (rest : VecDeque Entry Z) → AreLanesOf lanes streams → slice_get lanes k ≡ Some l → AreLanesOf (set lanes k (with_waiting rest l)) streams
+pub same_lanes : {Z : Type 0} (lanes : List (Lane Z)) (streams : List Stream) (k : ℕ) (l : Lane Z) (rest : VecDeque Entry Z) → AreLanesOf lanes streams → slice_get lanes k ≡ Some l
+    → AreLanesOf (set lanes k (with_waiting rest l)) streams
 same_lanes [] [] k l rest are at = tt
 same_lanes [] (s ∷ streams) k l rest are at = absurd are
 same_lanes (m ∷ lanes) [] k l rest are at = absurd are

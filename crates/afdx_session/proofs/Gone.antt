@@ -1,5 +1,6 @@
 -- What has gone out is in the lanes.
-use Rattle.std.proofs.Common.{◌≡◌, ◌≢◌, ℕ, zero, suc, ◌+◌, ◌<◌, ◌≤◌, ◌==◌, List, [], ◌∷◌, ◌++◌, map, length, set, get_or, slice_get, Option, Some, None, refl, ap, sym, ◌∙◌, arith, append_assoc, inl, inr, subst, Vec}
+use Rattle.std.proofs.Common.{◌≡◌, ◌≢◌, ℕ, zero, suc, ◌+◌, ◌<◌, ◌≤◌, ◌==◌, List, [], ◌∷◌, ◌++◌, map, length, set, get_or, slice_get, Option, Some, None, refl, ap, sym, ◌∙◌, arith, append_assoc}
+use Rattle.std.proofs.Common.{inl, inr, subst, Vec}
 use Rattle.std.specs.List.{AllByRecursion, position}
 use Rattle.std.specs.Prelude.{Contains}
 use Rattle.std.proofs.lemmas.List.{append-nil, length-map}
@@ -116,12 +117,14 @@ drained_none t given h k s lanes outs = record {
   rest = λ place p l le is_port is_lane. outs place p l tt is_port is_lane;
 }
 
-pub drained_all : {Z : Type 0} (t : Content) (given : List Arrival) (h k : ℕ) (s : State) (lanes : List (Lane Z)) (n : ℕ) → length lanes ≤ n → AreDrained t given h k s lanes n → AreOut t given k s lanes Every
+pub drained_all : {Z : Type 0} (t : Content) (given : List Arrival) (h k : ℕ) (s : State) (lanes : List (Lane Z)) (n : ℕ) → length lanes ≤ n → AreDrained t given h k s lanes n
+    → AreOut t given k s lanes Every
 drained_all t given h k s lanes n le drained place p l in_all is_port is_lane =
     let lt = slice_get_within lanes place l is_lane in
     drained.done place p l (omega (arith, le, lt)) is_port is_lane
 
-pub port_of_lane : {Z : Type 0} (ports : List PortRow) (lanes : List (Lane Z)) (k : ℕ) (l : Lane Z) → map (λ (m : Lane Z). m.port) lanes ≡ map (λ (p : PortRow). p.id) ports → slice_get lanes k ≡ Some l
+pub port_of_lane : {Z : Type 0} (ports : List PortRow) (lanes : List (Lane Z)) (k : ℕ) (l : Lane Z) → map (λ (m : Lane Z). m.port) lanes ≡ map (λ (p : PortRow). p.id) ports → slice_get lanes k
+    ≡ Some l
     → (p : PortRow) × (slice_get ports k ≡ Some p) × (p.id ≡ l.port)
 port_of_lane [] [] k l same at = absurd cc
 port_of_lane [] (m ∷ lanes) k l same at = absurd cc
@@ -136,7 +139,8 @@ port_of_lane {Z = Z} (p ∷ ports) (m ∷ lanes) (suc k) l same at = port_of_lan
 differ_places : (m n : ℕ) (o : Option ℕ) → o ≡ Some n → (m ≡ n → ⊥) → o ≢ Some m
 differ_places m n o is differ same = differ (some_same m n (sym same ∙ is))
 
-pub drained_on : {Z : Type 0} → EventsAreInParts → ReachesInOrder → (t : Content) (given : List Arrival) (h k : ℕ) (s next : State) (lanes : List (Lane Z)) (n : ℕ) (old new : Lane Z) → AreOfTable t lanes → IsAt t given k s → h ≤ k
+pub drained_on : {Z : Type 0} → EventsAreInParts → ReachesInOrder → (t : Content) (given : List Arrival) (h k : ℕ) (s next : State) (lanes : List (Lane Z)) (n : ℕ) (old new : Lane Z)
+    → AreOfTable t lanes → IsAt t given k s → h ≤ k
     → slice_get lanes n ≡ Some old → new.taken ≡ old.taken → IsDrained old.port s next
     → ((place : ℕ) → place_of s.run old.port ≡ Some place → length given ≡ length s.run.rows → HasBytesOf given s → Draws given old.port place s next old.out.items new.out.items)
     → next_by next.run (place_of next.run old.port) ≡ None → AreDrained t given h k s lanes n → AreDrained t given h k next (set lanes n new) (n + 1)
@@ -147,7 +151,8 @@ drained_on {Z} parts reaches t given h k s next lanes n old new of at le is_old 
       | inl before ↦ stays place p l k (λ same. absurd (omega (arith, same, before))) (was.done place p l before is_port other)
       | inr after ↦
           let same : place ≡ n = omega (arith, lt, after) in
-          subst (λ (x : Lane Z). IsOut t given k next p place x) (some_same new l (sym (set_here lanes n old new is_old) ∙ ap (slice_get (set lanes n new)) (sym same) ∙ is_lane)) (subst (λ m. IsOut t given k next p m new) (sym same) (here p (ap (slice_get t.ports) (sym same) ∙ is_port)))
+          subst (λ (x : Lane Z). IsOut t given k next p place x) (some_same new l (sym (set_here lanes n old new is_old) ∙ ap (slice_get (set lanes n new)) (sym same) ∙ is_lane))
+          (subst (λ m. IsOut t given k next p m new) (sym same) (here p (ap (slice_get t.ports) (sym same) ∙ is_port)))
     ]
   ];
   rest = λ place p l le_place is_port is_lane. elim (get-set lanes n place old new l is_old is_lane) [
@@ -214,7 +219,8 @@ hands_at t given k old new at hands = record {
 }
 
 -- what has left goes out
-pub drained_going : {Z : Type 0} (t : Content) (old new : List (Lane Z)) (s next : State) (counts : Tally) (going : IsGoing t old s counts) → AreGrown old new → HandsOut s next → AreOut t going.given s.run.latest next new Every → IsGoing t new next counts
+pub drained_going : {Z : Type 0} (t : Content) (old new : List (Lane Z)) (s next : State) (counts : Tally) (going : IsGoing t old s counts) → AreGrown old new → HandsOut s next
+    → AreOut t going.given s.run.latest next new Every → IsGoing t new next counts
 drained_going t old new s next counts going grown hands outs = record {
   streams = going.streams;
   given = going.given;
@@ -231,7 +237,8 @@ drained_going t old new s next counts going grown hands outs = record {
 }
 
 -- so all has gone out up to the frontier
-pub runs_on : {Z : Type 0} (t : Content) (old new : List (Lane Z)) (s next : State) (counts : Tally) (come : HasCome t old s counts) → AreGrown old new → HandsOut s next → AreOut t come.going.given s.run.latest next new Every
+pub runs_on : {Z : Type 0} (t : Content) (old new : List (Lane Z)) (s next : State) (counts : Tally) (come : HasCome t old s counts) → AreGrown old new → HandsOut s next
+    → AreOut t come.going.given s.run.latest next new Every
     → IsRunning t new next counts
 unfolding drained_going
 runs_on t old new s next counts come grown hands outs = record { going = drained_going t old new s next counts come.going grown hands outs; out = λ some. come.at }
@@ -250,7 +257,8 @@ some_lane : {X : Type 0} (xs : List X) (k : ℕ) (x : X) → slice_get xs k ≡ 
 some_lane xs k x is = let lt = slice_get_within xs k x is in omega (arith, lt)
 
 -- what has left so far of the streams is what was handed out
-pub text_is : {Z : Type 0} → EarlierEventsStayAdmitted → ReachesInOrder → AllStartBeforeTheLastInstant → (t : Content) (lanes : List (Lane Z)) (s : State) (counts : Tally) (run : IsRunning t lanes s counts) (place : ℕ) (p : PortRow) (l : Lane Z)
+pub text_is : {Z : Type 0} → EarlierEventsStayAdmitted → ReachesInOrder → AllStartBeforeTheLastInstant
+    → (t : Content) (lanes : List (Lane Z)) (s : State) (counts : Tally) (run : IsRunning t lanes s counts) (place : ℕ) (p : PortRow) (l : Lane Z)
     → AreOfTable t lanes → slice_get t.ports place ≡ Some p → slice_get lanes place ≡ Some l → text_so_far t run.going.streams p ≡ text_up_to t run.going.given run.going.since p
 text_is {Z} stay reaches ends t lanes s counts run place p l of is_port is_lane = ap capture_text (shown (frontier going.streams) refl) where
   going : IsGoing t lanes s counts
@@ -297,19 +305,26 @@ abbrev pub with_out : {Z : Type 0} → Vec ℕ Z → Lane Z → Lane Z
 with_out out l = record { port = l.port; reader = l.reader; last = l.last; ended = l.ended; waiting = l.waiting; out = out; undone = l.undone; closed = l.closed; ready = l.ready; taken = l.taken }
 
 pub grown_out : {Z : Type 0} (l : Lane Z) (out : Vec ℕ Z) (more : List ℕ) → out.items ≡ l.out.items ++ more → IsGrown l (with_out out l)
-grown_out l out more is = record { touched = record { port = refl; reader = refl; ended = refl; undone = refl; closed = refl; ready = refl; taken = refl; more = more; out = is }; last = refl; waiting = refl }
+grown_out l out more is = record {
+  touched = record { port = refl; reader = refl; ended = refl; undone = refl; closed = refl; ready = refl; taken = refl; more = more; out = is };
+  last = refl;
+  waiting = refl;
+}
 
 -- the lanes before a place were drained
 pub record DrainsUpTo {Z : Type 0} (start : State) (lanes : List (Lane Z)) (now : State) (new : List (Lane Z)) (n : ℕ) : Type 0 where
   pub hands : HandsOut start now
   pub grown : AreGrown lanes new
-  pub drained : (t : Content) (given : List Arrival) (h : ℕ) → AreOfTable t lanes → IsGiven t given start → h ≤ start.run.latest → AreOut t given h start lanes Every → AreDrained t given h start.run.latest now new n
+  pub drained : (t : Content) (given : List Arrival) (h : ℕ) → AreOfTable t lanes → IsGiven t given start → h ≤ start.run.latest → AreOut t given h start lanes Every
+      → AreDrained t given h start.run.latest now new n
 
 pub drains_none : {Z : Type 0} (start : State) (lanes : List (Lane Z)) → DrainsUpTo start lanes start lanes 0
 drains_none start lanes = record { hands = hands_none start; grown = grown_none lanes; drained = λ t given h of is le outs. drained_none t given h start.run.latest start lanes outs }
 
-pub drains_one : {Z : Type 0} → EventsAreInParts → ReachesInOrder → (start now next : State) (lanes new : List (Lane Z)) (n : ℕ) (old drained : Lane Z) → slice_get new n ≡ Some old → IsGrown old drained → IsDrained old.port now next
-    → ((given : List Arrival) (place : ℕ) → place_of now.run old.port ≡ Some place → length given ≡ length now.run.rows → HasBytesOf given now → Draws given old.port place now next old.out.items drained.out.items)
+pub drains_one : {Z : Type 0} → EventsAreInParts → ReachesInOrder → (start now next : State) (lanes new : List (Lane Z)) (n : ℕ) (old drained : Lane Z) → slice_get new n ≡ Some old
+    → IsGrown old drained → IsDrained old.port now next
+    → ((given : List Arrival) (place : ℕ) → place_of now.run old.port ≡ Some place → length given ≡ length now.run.rows → HasBytesOf given now
+    → Draws given old.port place now next old.out.items drained.out.items)
     → next_by next.run (place_of next.run old.port) ≡ None → DrainsUpTo start lanes now new n → DrainsUpTo start lanes next (set new n drained) (n + 1)
 drains_one parts reaches start now next lanes new n old drained at grown is_drained draws none was = record {
   hands = hands_on start now next old.port was.hands is_drained;
@@ -320,5 +335,6 @@ drains_one parts reaches start now next lanes new n old drained at grown is_drai
 }
 
 pub drains_all : {Z : Type 0} (start : State) (lanes : List (Lane Z)) (now : State) (new : List (Lane Z)) (n : ℕ) → length new ≤ n → DrainsUpTo start lanes now new n
-    → (t : Content) (given : List Arrival) (h : ℕ) → AreOfTable t lanes → IsGiven t given start → h ≤ start.run.latest → AreOut t given h start lanes Every → AreOut t given start.run.latest now new Every
+    → (t : Content) (given : List Arrival) (h : ℕ) → AreOfTable t lanes → IsGiven t given start → h ≤ start.run.latest → AreOut t given h start lanes Every
+    → AreOut t given start.run.latest now new Every
 drains_all start lanes now new n le was t given h of is since outs = drained_all t given h start.run.latest now new n le (was.drained t given h of is since outs)

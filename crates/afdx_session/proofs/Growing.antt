@@ -244,7 +244,8 @@ more_from h s later on reached = elim (cases_Bool s.closed) [
   | inr still_open ↦ entries_weaken h (last_of s) on.more (reached still_open) (further_of s later on)
 ]
 
-early_same : (h : ℕ) (streams later : List Stream) → HaveReached h streams → GoOn streams later → filter (is_early h) (arrivals_of (captures_of later)) ≡ filter (is_early h) (arrivals_of (captures_of streams))
+early_same : (h : ℕ) (streams later : List Stream) → HaveReached h streams → GoOn streams later → filter (is_early h) (arrivals_of (captures_of later))
+    ≡ filter (is_early h) (arrivals_of (captures_of streams))
 early_same h [] [] all on = refl
 early_same h [] (next ∷ later) all on = absurd on
 early_same h (s ∷ streams) [] all on = absurd on
@@ -404,7 +405,8 @@ output_of_all t captures p =
     ap (λ (cs : List Capture). map (written (merged cs)) (sent_up_to t (merged cs) (frontier (map whole_of captures)) p)) (captures_same captures)
     ∙ ap (λ h. map (written (merged captures)) (sent_up_to t (merged captures) h p)) (no_frontier (map whole_of captures) (ended_all captures))
 
-pub front_of_output : EarlierEventsStayAdmitted → ReachesInOrder → EventsAreInParts → (t : Content) (streams : List Stream) (captures : List Capture) (p : PortRow) → GoOn streams (map whole_of captures)
+pub front_of_output : EarlierEventsStayAdmitted → ReachesInOrder → EventsAreInParts → (t : Content) (streams : List Stream) (captures : List Capture) (p : PortRow)
+    → GoOn streams (map whole_of captures)
     → (rest : List ℕ) × (output_text t (merged captures) p ≡ text_so_far t streams p ++ rest)
 front_of_output stay reaches parts t streams captures p on =
     let more = text_grows stay reaches parts t streams (map whole_of captures) p on in

@@ -171,7 +171,8 @@ settled_marked (l ∷ a) (m ∷ b) settled = (
 )
 
 -- so each intake but that of one place is as it was
-pub intakes_after : {Z : Type 0} (begun : Bool) (lanes b c : List (Lane Z)) (k : ℕ) (new : Lane Z) → AllByRecursion (IsMarked begun) lanes → AreTouched (set lanes k new) b → AreSettledLanes b c → intakes_of c ≡ set (intakes_of lanes) k (read_intake new)
+pub intakes_after : {Z : Type 0} (begun : Bool) (lanes b c : List (Lane Z)) (k : ℕ) (new : Lane Z) → AllByRecursion (IsMarked begun) lanes → AreTouched (set lanes k new) b → AreSettledLanes b c
+    → intakes_of c ≡ set (intakes_of lanes) k (read_intake new)
 intakes_after begun lanes b c k new marked touched settled =
     marked_intakes true c (settled_marked b c settled)
     ∙ settled_read b c settled
@@ -179,11 +180,13 @@ intakes_after begun lanes b c k new marked touched settled =
     ∙ map-set read_intake lanes k new
     ∙ ap (λ is. set is k (read_intake new)) (sym (marked_intakes begun lanes marked))
 
-pub fed_intake : {Z : Type 0} (begun : Bool) (old new : Lane Z) (piece : List ℕ) → IsMarked begun old → new.port ≡ old.port → new.reader.bytes ≡ old.reader.bytes ++ piece → new.reader.closed ≡ old.closed → new.taken ≡ old.taken → read_intake new ≡ fed piece (intake_of old)
+pub fed_intake : {Z : Type 0} (begun : Bool) (old new : Lane Z) (piece : List ℕ) → IsMarked begun old → new.port ≡ old.port → new.reader.bytes ≡ old.reader.bytes ++ piece → new.reader.closed
+    ≡ old.closed → new.taken ≡ old.taken → read_intake new ≡ fed piece (intake_of old)
 unfolding read_intake
 fed_intake begun old new piece marked port bytes closed taken = rw (port, bytes, closed, taken, all_bytes old.reader.bytes old.undone marked.undone) refl
 
-pub ended_intake : {Z : Type 0} (begun : Bool) (old new : Lane Z) → IsMarked begun old → new.port ≡ old.port → new.reader.bytes ≡ old.reader.bytes → new.reader.closed ≡ true → new.taken ≡ old.taken → read_intake new ≡ ended (intake_of old)
+pub ended_intake : {Z : Type 0} (begun : Bool) (old new : Lane Z) → IsMarked begun old → new.port ≡ old.port → new.reader.bytes ≡ old.reader.bytes → new.reader.closed ≡ true → new.taken ≡ old.taken
+    → read_intake new ≡ ended (intake_of old)
 unfolding read_intake
 ended_intake begun old new marked port bytes closed taken = rw (port, bytes, closed, taken, all_bytes old.reader.bytes old.undone marked.undone) refl
 

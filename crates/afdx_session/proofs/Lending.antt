@@ -30,7 +30,8 @@ taken_none : (bytes : List ℕ) (records : List Entry) → length records ≡ 0 
 taken_none bytes [] count = record { first = tt; count = count }
 taken_none bytes (r ∷ records) count = absurd (omega (arith, count))
 
-pub adds_lent : {Z : Type 0} (old mid new : Lane Z) (text : List ℕ) (more : List Entry) → IsFreshLane old.port old → mid.reader ≡ whole_reading text 0 → mid.last ≡ old.last → mid.waiting ≡ old.waiting → Adds mid new more → Adds old new more
+pub adds_lent : {Z : Type 0} (old mid new : Lane Z) (text : List ℕ) (more : List Entry) → IsFreshLane old.port old → mid.reader ≡ whole_reading text 0 → mid.last ≡ old.last → mid.waiting ≡ old.waiting
+    → Adds mid new more → Adds old new more
 adds_lent old mid new text more fresh lent last waiting adds = record {
   queue = adds.queue ∙ ap (λ w. w.items ++ more) waiting;
   read = λ records was. adds.read records (record {
@@ -44,7 +45,8 @@ pub not_both : (b : Bool) → b ≡ true → b ≡ false → ⊥
 not_both b one other = absurd cc
 
 -- a lane whose last record has gone reads the next one
-pub draws_over : {Z : Type 0} (found : Bool) (old new : Lane Z) → old.reader.closed ≡ true → old.taken ≡ 0 → old.ended ≡ false → old.waiting.items ≡ [] → IsReadOn old new → HasDrawn found old new → IsOver new
+pub draws_over : {Z : Type 0} (found : Bool) (old new : Lane Z) → old.reader.closed ≡ true → old.taken ≡ 0 → old.ended ≡ false → old.waiting.items ≡ [] → IsReadOn old new → HasDrawn found old new
+    → IsOver new
 draws_over true old new closed taken still_open none on drawn = record {
   closed = on.ended ∙ closed;
   taken = on.taken ∙ taken;
@@ -62,7 +64,8 @@ pub drawn_adds : {Z : Type 0} (found : Bool) (old new : Lane Z) → HasDrawn fou
 drawn_adds true old new drawn = (drawn.frame ∷ [], drawn.adds)
 drawn_adds false old new drawn = ([], drawn.adds)
 
-pub lends_first : {Z : Type 0} (found : Bool) (old mid new : Lane Z) (text : List ℕ) → IsFreshLane old.port old → mid.reader ≡ whole_reading text 0 → mid.last ≡ old.last → mid.waiting ≡ old.waiting → mid.ended ≡ old.ended → mid.taken ≡ old.taken → IsReadOn mid new → HasDrawn found mid new
+pub lends_first : {Z : Type 0} (found : Bool) (old mid new : Lane Z) (text : List ℕ) → IsFreshLane old.port old → mid.reader ≡ whole_reading text 0 → mid.last ≡ old.last → mid.waiting ≡ old.waiting
+    → mid.ended ≡ old.ended → mid.taken ≡ old.taken → IsReadOn mid new → HasDrawn found mid new
     → ((more : List Entry) × Adds old new more) × IsOver new
 lends_first found old mid new text fresh lent last waiting ended taken on drawn =
     let added = drawn_adds found mid new drawn in (
@@ -92,7 +95,8 @@ first_same m n ms ns e = (head e, tail e) where
   tail : m ∷ ms ≡ n ∷ ns → ms ≡ ns
   tail e = cc
 
-lent_none : {Z : Type 0} (texts : List Text) (ports : List PortRow) (lanes : List (Lane Z)) → map (λ (text : Text). text.0) texts ≡ map (λ (p : PortRow). p.id) ports → AreFreshLanes ports lanes → LentUpTo 0 texts lanes
+lent_none : {Z : Type 0} (texts : List Text) (ports : List PortRow) (lanes : List (Lane Z)) → map (λ (text : Text). text.0) texts ≡ map (λ (p : PortRow). p.id) ports → AreFreshLanes ports lanes
+    → LentUpTo 0 texts lanes
 lent_none [] [] [] same fresh = tt
 lent_none [] [] (l ∷ lanes) same fresh = absurd fresh
 lent_none [] (p ∷ ports) lanes same fresh = absurd cc
@@ -116,7 +120,8 @@ next_lane n (text ∷ texts) [] l lent at = absurd lent
 next_lane {Z = Z} zero (text ∷ texts) (m ∷ lanes) l lent at = subst (λ (x : Lane Z). IsNextOf (text ∷ texts) 0 x) (some_same m l at) (record { text = text; at = refl; port = lent.0; fresh = lent.1 })
 next_lane (suc n) (text ∷ texts) (m ∷ lanes) l lent at = let next = next_lane n texts lanes l lent.1 at in record { text = next.text; at = next.at; port = next.port; fresh = next.fresh }
 
-lent_suc : {Z : Type 0} (n : ℕ) (texts : List Text) (lanes : List (Lane Z)) (text : Text) (new : Lane Z) → LentUpTo n texts lanes → slice_get texts n ≡ Some text → IsOn text new → LentUpTo (suc n) texts (set lanes n new)
+lent_suc : {Z : Type 0} (n : ℕ) (texts : List Text) (lanes : List (Lane Z)) (text : Text) (new : Lane Z) → LentUpTo n texts lanes → slice_get texts n ≡ Some text → IsOn text new
+    → LentUpTo (suc n) texts (set lanes n new)
 lent_suc n [] [] text new lent at is = absurd cc
 lent_suc n [] (m ∷ lanes) text new lent at is = absurd lent
 lent_suc n (other ∷ texts) [] text new lent at is = absurd lent
@@ -139,7 +144,8 @@ lent_all (suc n) (text ∷ texts) (l ∷ lanes) le lent =
 
 -- ---- the machine
 
-pub ports_stay : {Z : Type 0} (lanes : List (Lane Z)) (k : ℕ) (old new : Lane Z) → slice_get lanes k ≡ Some old → new.port ≡ old.port → map (λ (l : Lane Z). l.port) (set lanes k new) ≡ map (λ (l : Lane Z). l.port) lanes
+pub ports_stay : {Z : Type 0} (lanes : List (Lane Z)) (k : ℕ) (old new : Lane Z) → slice_get lanes k ≡ Some old → new.port ≡ old.port → map (λ (l : Lane Z). l.port) (set lanes k new)
+    ≡ map (λ (l : Lane Z). l.port) lanes
 ports_stay [] k old new at port = absurd cc
 ports_stay {Z = Z} (l ∷ lanes) zero old new at port = ap (λ n. n ∷ map (λ (x : Lane Z). x.port) lanes) (port ∙ ap (λ (x : Lane Z). x.port) (sym (some_same l old at)))
 ports_stay {Z = Z} (l ∷ lanes) (suc k) old new at port = ap (λ ns. l.port ∷ ns) (ports_stay lanes k old new at port)
@@ -149,14 +155,16 @@ pub record Lends {Z : Type 0} (start : Machine Z) (texts : List Text) (now : Lis
   pub of : AreOfTable start.switch.run.table now
   pub going : IsGoing start.switch.run.table now start.switch start.counts
 
-pub lends_none : {Z : Type 0} (start : Machine Z) (texts : List Text) → map (λ (text : Text). text.0) texts ≡ map (λ (p : PortRow). p.id) start.switch.run.table.ports → AreFreshLanes start.switch.run.table.ports start.lanes.items → AreOfTable start.switch.run.table start.lanes.items
+pub lends_none : {Z : Type 0} (start : Machine Z) (texts : List Text) → map (λ (text : Text). text.0) texts ≡ map (λ (p : PortRow). p.id) start.switch.run.table.ports
+    → AreFreshLanes start.switch.run.table.ports start.lanes.items → AreOfTable start.switch.run.table start.lanes.items
     → IsGoing start.switch.run.table start.lanes.items start.switch start.counts → Lends start texts start.lanes.items 0
 lends_none start texts ports fresh of going = record { lent = lent_none texts start.switch.run.table.ports start.lanes.items ports fresh; of = of; going = going }
 
 pub lends_next : {Z : Type 0} (start : Machine Z) (texts : List Text) (now : List (Lane Z)) (n : ℕ) (l : Lane Z) → Lends start texts now n → slice_get now n ≡ Some l → IsNextOf texts n l
 lends_next start texts now n l lends at = next_lane n texts now l lends.lent at
 
-pub lends_one : {Z : Type 0} → MergedIsAMerge → MergedIsByStampAndPort → (start : Machine Z) (texts : List Text) (now : List (Lane Z)) (n : ℕ) (old new : Lane Z) (text : Text) (more : List Entry) → Lends start texts now n → slice_get now n ≡ Some old → slice_get texts n ≡ Some text
+pub lends_one : {Z : Type 0} → MergedIsAMerge → MergedIsByStampAndPort → (start : Machine Z) (texts : List Text) (now : List (Lane Z)) (n : ℕ) (old new : Lane Z) (text : Text) (more : List Entry)
+    → Lends start texts now n → slice_get now n ≡ Some old → slice_get texts n ≡ Some text
     → IsStill old new → new.reader.bytes ≡ text.1 → Adds old new more → IsOver new → Lends start texts (set now n new) (n + 1)
 lends_one {Z = Z} merge sorted start texts now n old new text more lends at text_at still bytes adds over =
     let next = next_lane n texts now old lends.lent at in
@@ -165,15 +173,18 @@ lends_one {Z = Z} merge sorted start texts now n old new text more lends at text
     record {
       lent = subst (λ k. LentUpTo k texts (set now n new)) (plus_one n) (lent_suc n texts now text new lends.lent text_at is);
       of = still_of_table start.switch.run.table now (set now n new) (ports_stay now n old new at still.port) lends.of;
-      going = reads_on merge sorted start.switch.run.table now start.switch start.counts n old new more lends.of at next.fresh.ended still.port (ap (λ o. o.items) still.out) still.taken adds lends.going;
+      going = reads_on merge sorted start.switch.run.table now start.switch start.counts n old new more lends.of at next.fresh.ended still.port (ap (λ o. o.items) still.out) still.taken adds
+          lends.going;
     }
 
 -- the text at a place has a fault
-pub lends_fault : {Z : Type 0} (start : Machine Z) (texts : List Text) (now : List (Lane Z)) (n : ℕ) (old : Lane Z) (text : Text) (fault : RunFault) → Lends start texts now n → slice_get now n ≡ Some old → slice_get texts n ≡ Some text → IsFaultAt text.1 old.port fault → IsOneFault texts fault
+pub lends_fault : {Z : Type 0} (start : Machine Z) (texts : List Text) (now : List (Lane Z)) (n : ℕ) (old : Lane Z) (text : Text) (fault : RunFault) → Lends start texts now n → slice_get now n
+    ≡ Some old → slice_get texts n ≡ Some text → IsFaultAt text.1 old.port fault → IsOneFault texts fault
 lends_fault start texts now n old text run.Memory lends at text_at is = tt
 lends_fault start texts now n old text (run.Capture port why) lends at text_at is =
     let next = next_lane n texts now old lends.lent at in
-    let same : text.0 ≡ port = ap (λ (t : Text). t.0) (sym (some_same next.text text (sym next.at ∙ text_at))) ∙ sym next.port ∙ sym is.0 in (n, text.1, text_at ∙ ap (λ m. Some (m, text.1)) same, is.1)
+    let same : text.0 ≡ port = ap (λ (t : Text). t.0) (sym (some_same next.text text (sym next.at ∙ text_at))) ∙ sym next.port ∙ sym is.0 in
+    (n, text.1, text_at ∙ ap (λ m. Some (m, text.1)) same, is.1)
 lends_fault start texts now n old text run.WrongPorts lends at text_at is = is
 lends_fault start texts now n old text run.Closed lends at text_at is = is
 lends_fault start texts now n old text run.Failed lends at text_at is = is
@@ -190,7 +201,8 @@ as_many f lanes ports captures of are =
     omega (arith, a, b)
 
 -- the capture at the place of a lane
-pub text_at : {Z : Type 0} (start : Machine Z) (captures : List (ℕ × Vec ℕ Z)) (n : ℕ) (d : ℕ × Vec ℕ Z) → AreOfTable start.switch.run.table start.lanes.items → AreOfPorts start.switch.run.table (texts_of captures) → n < length start.lanes.items
+pub text_at : {Z : Type 0} (start : Machine Z) (captures : List (ℕ × Vec ℕ Z)) (n : ℕ) (d : ℕ × Vec ℕ Z) → AreOfTable start.switch.run.table start.lanes.items
+    → AreOfPorts start.switch.run.table (texts_of captures) → n < length start.lanes.items
     → slice_get (texts_of captures) n ≡ Some ((get_or captures n d).0, (get_or captures n d).1.items)
 text_at {Z} start captures n d of ports lt = get-map text captures n (get_or captures n d) (at_index captures n d (omega (arith, lt, many))) where
   text : ℕ × Vec ℕ Z → Text

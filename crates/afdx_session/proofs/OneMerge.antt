@@ -134,7 +134,8 @@ one_port_first port (r ∷ rs) others all rise =
     (all_append (λ (b : Arrival). port ≤ b.port) (arrived port rs) others (arrived_none_below port port rs (omega arith)) all, one_port_first port rs others all rise)
 
 -- the port numbers of their arrivals, capture by capture, do not fall
-ports_rise : (ports : List PortRow) (texts : List Text) (read : List Capture) → map (λ (text : Text). text.0) texts ≡ map (λ (p : PortRow). p.id) ports → Rises ports → AreCaptures texts read → PortsRise (arrivals_of read)
+ports_rise : (ports : List PortRow) (texts : List Text) (read : List Capture) → map (λ (text : Text). text.0) texts ≡ map (λ (p : PortRow). p.id) ports → Rises ports → AreCaptures texts read
+    → PortsRise (arrivals_of read)
 ports_rise ports [] [] same rises are = tt
 ports_rise ports [] (c ∷ read) same rises are = absurd are
 ports_rise ports (text ∷ texts) [] same rises are = absurd are

@@ -64,7 +64,8 @@ all_fed_both (i ∷ a) (n ∷ b) (m ∷ c) one two = (fed_both i n m one.0 two.0
 changed_fed : (port : ℕ) (f : Intake → Intake) (intakes : List Intake) → ((i : Intake) → find (is_of port) intakes ≡ Some i → IsFedOn i (f i)) → AreFedOn intakes (changed port f intakes)
 changed_fed port f [] on = tt
 changed_fed port f (i ∷ intakes) on = by (i.port == port) refl (λ more. changed_fed port f intakes more) where
-  by : (b : Bool) → (i.port == port) ≡ b → (((j : Intake) → find (is_of port) intakes ≡ Some j → IsFedOn j (f j)) → AreFedOn intakes (changed port f intakes)) → AreFedOn (i ∷ intakes) (changed port f (i ∷ intakes))
+  by : (b : Bool) → (i.port == port) ≡ b → (((j : Intake) → find (is_of port) intakes ≡ Some j → IsFedOn j (f j)) → AreFedOn intakes (changed port f intakes))
+      → AreFedOn (i ∷ intakes) (changed port f (i ∷ intakes))
   by true here more =
       subst (λ b. AreFedOn (i ∷ intakes) (cond b (f i ∷ intakes) (i ∷ changed port f intakes))) (sym here)
       (on i (ap (λ b. cond b (Some i) (find (is_of port) intakes)) here), all_fed_none intakes)
@@ -111,7 +112,8 @@ calls_go_on = record {
 found_fresh : (ports : List PortRow) (port : ℕ) (p : PortRow) → find (is_row_of port) ports ≡ Some p → find (is_of port) (map fresh_intake ports) ≡ Some (fresh_intake p)
 found_fresh [] port p found = absurd cc
 found_fresh (q ∷ ports) port p found = by (q.id == port) refl (found_fresh ports port p) where
-  by : (b : Bool) → (q.id == port) ≡ b → (find (is_row_of port) ports ≡ Some p → find (is_of port) (map fresh_intake ports) ≡ Some (fresh_intake p)) → find (is_of port) (map fresh_intake (q ∷ ports)) ≡ Some (fresh_intake p)
+  by : (b : Bool) → (q.id == port) ≡ b → (find (is_row_of port) ports ≡ Some p → find (is_of port) (map fresh_intake ports) ≡ Some (fresh_intake p)) → find (is_of port) (map fresh_intake (q ∷ ports))
+      ≡ Some (fresh_intake p)
   by true here more =
       ap (λ b. cond b (Some (fresh_intake q)) (find (is_of port) (map fresh_intake ports))) here
       ∙ ap (λ x. Some (fresh_intake x)) (some_same q p (sym (ap (λ b. cond b (Some q) (find (is_row_of port) ports)) here) ∙ found))
@@ -142,7 +144,8 @@ nothing_was_taken accepted t port p row = record {
 abbrev gone : Content → List Stream → PortRow → Bool → List ℕ
 gone t streams p begun = cond begun (text_so_far t streams p) []
 
-grown : EarlierEventsStayAdmitted → ReachesInOrder → EventsAreInParts → RecordsStay → RecordsAreUnique → (v later : Seen) (p : PortRow) (text next : List ℕ) → GoesOnTo v later → HasGoneOut v p text → HasGoneOut later p next
+grown : EarlierEventsStayAdmitted → ReachesInOrder → EventsAreInParts → RecordsStay → RecordsAreUnique → (v later : Seen) (p : PortRow) (text next : List ℕ) → GoesOnTo v later → HasGoneOut v p text
+    → HasGoneOut later p next
     → (rest : List ℕ) × (next ≡ text ++ rest)
 grown stay reaches parts records unique v later p text next on was is = by v.begun refl where
   by : (b : Bool) → v.begun ≡ b → (rest : List ℕ) × (next ≡ text ++ rest)
@@ -207,7 +210,8 @@ took_streams port n (i ∷ intakes) (s ∷ streams) are = by (i.port == port) re
 found_took : (port n : ℕ) (intakes : List Intake) (i : Intake) → find (is_of port) intakes ≡ Some i → find (is_of port) (changed port (took n) intakes) ≡ Some (took n i)
 found_took port n [] i found = absurd cc
 found_took port n (j ∷ intakes) i found = by (j.port == port) refl (found_took port n intakes i) where
-  by : (b : Bool) → (j.port == port) ≡ b → (find (is_of port) intakes ≡ Some i → find (is_of port) (changed port (took n) intakes) ≡ Some (took n i)) → find (is_of port) (changed port (took n) (j ∷ intakes)) ≡ Some (took n i)
+  by : (b : Bool) → (j.port == port) ≡ b → (find (is_of port) intakes ≡ Some i → find (is_of port) (changed port (took n) intakes) ≡ Some (took n i))
+      → find (is_of port) (changed port (took n) (j ∷ intakes)) ≡ Some (took n i)
   by true here more =
       ap (λ b. find (is_of port) (cond b (took n j ∷ intakes) (j ∷ changed port (took n) intakes))) here
       ∙ ap (λ b. cond b (Some (took n j)) (find (is_of port) intakes)) here
@@ -278,7 +282,11 @@ captures_are_streams : RecordsAreUnique → (texts : List Text) (read : List Cap
 captures_are_streams unique [] [] are = tt
 captures_are_streams unique [] (c ∷ read) are = absurd are
 captures_are_streams unique (text ∷ texts) [] are = absurd are
-captures_are_streams unique (text ∷ texts) (c ∷ read) are = (record { port = are.0; records = whole_capture unique text.1 c.records are.1; closed = refl }, captures_are_streams unique texts read are.2)
+captures_are_streams unique (text ∷ texts) (c ∷ read) are = (
+  record { port = are.0; records = whole_capture unique text.1 c.records are.1; closed = refl },
+  captures_are_streams unique texts read
+      are.2,
+)
 
 continued_fed : (intakes : List Intake) (texts : List Text) → AllZip IsContinued intakes texts → AreFedOn intakes (map ended_at texts)
 continued_fed [] [] on = tt
@@ -289,7 +297,8 @@ continued_fed (i ∷ intakes) (text ∷ texts) on = (
   continued_fed intakes texts on.1,
 )
 
-found_output : (f : PortRow → List ℕ) (ports : List PortRow) (port : ℕ) (p : PortRow) → find (is_row_of port) ports ≡ Some p → find (is_text_of port) (map {B = Text} (λ (q : PortRow). (q.id, f q)) ports) ≡ Some (p.id, f p)
+found_output : (f : PortRow → List ℕ) (ports : List PortRow) (port : ℕ) (p : PortRow) → find (is_row_of port) ports ≡ Some p
+    → find (is_text_of port) (map {B = Text} (λ (q : PortRow). (q.id, f q)) ports) ≡ Some (p.id, f p)
 found_output f [] port p found = absurd cc
 found_output f (q ∷ ports) port p found = by (q.id == port) refl (found_output f ports port p) where
   texts : List Text

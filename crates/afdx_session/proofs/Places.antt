@@ -1,5 +1,6 @@
 -- A port's place: that of its lane, of its intake and of its row.
-use Rattle.std.proofs.Common.{◌≡◌, ℕ, zero, suc, ◌+◌, ◌<◌, ◌≤◌, ◌==◌, nat_lt, Bool, true, false, cond, not, List, [], ◌∷◌, map, length, set, slice_get, Option, Some, None, refl, ap, sym, ◌∙◌, arith, subst}
+use Rattle.std.proofs.Common.{◌≡◌, ℕ, zero, suc, ◌+◌, ◌<◌, ◌≤◌, ◌==◌, nat_lt, Bool, true, false, cond, not, List, [], ◌∷◌, map, length, set, slice_get, Option, Some, None, refl, ap, sym, ◌∙◌}
+use Rattle.std.proofs.Common.{arith, subst}
 use Rattle.std.specs.Prelude.{find, if◌then◌else◌}
 use Rattle.std.specs.List.{position, position_or_len}
 use Rattle.std.specs.Option.{option_map}
@@ -64,7 +65,8 @@ first_same m n ms ns e = (head e, tail e) where
   tail : m ∷ ms ≡ n ∷ ns → ms ≡ ns
   tail e = cc
 
-pub place_of_port : {Z : Type 0} (ports : List PortRow) (lanes : List (Lane Z)) (port place : ℕ) → map (λ (l : Lane Z). l.port) lanes ≡ map (λ (p : PortRow). p.id) ports → position_or_len (is_lane_of port) lanes ≡ place → place < length lanes
+pub place_of_port : {Z : Type 0} (ports : List PortRow) (lanes : List (Lane Z)) (port place : ℕ) → map (λ (l : Lane Z). l.port) lanes ≡ map (λ (p : PortRow). p.id) ports
+    → position_or_len (is_lane_of port) lanes ≡ place → place < length lanes
     → IsPlaceOf ports lanes port place
 place_of_port ports [] port place same is lt = absurd (omega (arith, lt))
 place_of_port [] (l ∷ lanes) port place same is lt = absurd cc
@@ -72,7 +74,8 @@ place_of_port {Z} (p ∷ ports) (l ∷ lanes) port place same is lt = by (l.port
   both : (l.port ≡ p.id) × (map (λ (m : Lane Z). m.port) lanes ≡ map (λ (q : PortRow). q.id) ports)
   both = first_same l.port p.id (map (λ (m : Lane Z). m.port) lanes) (map (λ (q : PortRow). q.id) ports) same
 
-  by : (b : Bool) → (l.port == port) ≡ b → (position_or_len (is_lane_of port) lanes < length lanes → IsPlaceOf ports lanes port (position_or_len (is_lane_of port) lanes)) → IsPlaceOf (p ∷ ports) (l ∷ lanes) port place
+  by : (b : Bool) → (l.port == port) ≡ b → (position_or_len (is_lane_of port) lanes < length lanes → IsPlaceOf ports lanes port (position_or_len (is_lane_of port) lanes))
+      → IsPlaceOf (p ∷ ports) (l ∷ lanes) port place
   by true here further =
       let none : zero ≡ place = ap (λ b. cond (not b) (1 + position_or_len (is_lane_of port) lanes) zero) (sym here) ∙ is in
       subst (IsPlaceOf (p ∷ ports) (l ∷ lanes) port) none (record {
@@ -106,7 +109,8 @@ pub intake_found : {Z : Type 0} (lanes : List (Lane Z)) (port place : ℕ) (lane
 intake_found [] port place lane is lt at = absurd (omega (arith, lt))
 intake_found {Z} (l ∷ lanes) port place lane is lt at = by (l.port == port) refl (intake_found lanes port (position_or_len (is_lane_of port) lanes) lane refl) where
   by : (b : Bool) → (l.port == port) ≡ b
-      → (position_or_len (is_lane_of port) lanes < length lanes → slice_get lanes (position_or_len (is_lane_of port) lanes) ≡ Some lane → find (λ (i : Intake). i.port == port) (intakes_of lanes) ≡ Some (intake_of lane))
+      → (position_or_len (is_lane_of port) lanes < length lanes → slice_get lanes (position_or_len (is_lane_of port) lanes) ≡ Some lane → find (λ (i : Intake). i.port == port) (intakes_of lanes)
+      ≡ Some (intake_of lane))
       → find (λ (i : Intake). i.port == port) (intakes_of (l ∷ lanes)) ≡ Some (intake_of lane)
   by true here further =
       let none : zero ≡ place = ap (λ b. cond (not b) (1 + position_or_len (is_lane_of port) lanes) zero) (sym here) ∙ is in
@@ -122,7 +126,8 @@ intake_found {Z} (l ∷ lanes) port place lane is lt at = by (l.port == port) re
 pub no_such_intake : {Z : Type 0} (lanes : List (Lane Z)) (port : ℕ) → length lanes ≤ position_or_len (is_lane_of port) lanes → find (λ (i : Intake). i.port == port) (intakes_of lanes) ≡ None
 no_such_intake [] port le = refl
 no_such_intake {Z = Z} (l ∷ lanes) port le = by (l.port == port) refl (no_such_intake lanes port) where
-  by : (b : Bool) → (l.port == port) ≡ b → (length lanes ≤ position_or_len (is_lane_of port) lanes → find (λ (i : Intake). i.port == port) (intakes_of lanes) ≡ None) → find (λ (i : Intake). i.port == port) (intakes_of (l ∷ lanes)) ≡ None
+  by : (b : Bool) → (l.port == port) ≡ b → (length lanes ≤ position_or_len (is_lane_of port) lanes → find (λ (i : Intake). i.port == port) (intakes_of lanes) ≡ None)
+      → find (λ (i : Intake). i.port == port) (intakes_of (l ∷ lanes)) ≡ None
   by true here further =
       let none = ap (λ b. cond (not b) (1 + position_or_len (is_lane_of port) lanes) zero) here in
       absurd (omega (arith, le, none))
@@ -130,7 +135,8 @@ no_such_intake {Z = Z} (l ∷ lanes) port le = by (l.port == port) refl (no_such
       let more = ap (λ b. cond (not b) (1 + position_or_len (is_lane_of port) lanes) zero) other in
       ap (λ b. cond b (Some (intake_of l)) (find (λ (i : Intake). i.port == port) (intakes_of lanes))) other ∙ further (omega (arith, le, more))
 
-pub no_such_row : {Z : Type 0} (ports : List PortRow) (lanes : List (Lane Z)) (port : ℕ) → map (λ (l : Lane Z). l.port) lanes ≡ map (λ (p : PortRow). p.id) ports → length lanes ≤ position_or_len (is_lane_of port) lanes
+pub no_such_row : {Z : Type 0} (ports : List PortRow) (lanes : List (Lane Z)) (port : ℕ) → map (λ (l : Lane Z). l.port) lanes ≡ map (λ (p : PortRow). p.id) ports → length lanes
+    ≤ position_or_len (is_lane_of port) lanes
     → find (λ (p : PortRow). p.id == port) ports ≡ None
 no_such_row [] [] port same le = refl
 no_such_row [] (l ∷ lanes) port same le = absurd cc
@@ -139,7 +145,8 @@ no_such_row {Z} (p ∷ ports) (l ∷ lanes) port same le = by (l.port == port) r
   both : (l.port ≡ p.id) × (map (λ (m : Lane Z). m.port) lanes ≡ map (λ (q : PortRow). q.id) ports)
   both = first_same l.port p.id (map (λ (m : Lane Z). m.port) lanes) (map (λ (q : PortRow). q.id) ports) same
 
-  by : (b : Bool) → (l.port == port) ≡ b → (length lanes ≤ position_or_len (is_lane_of port) lanes → find (λ (q : PortRow). q.id == port) ports ≡ None) → find (λ (q : PortRow). q.id == port) (p ∷ ports) ≡ None
+  by : (b : Bool) → (l.port == port) ≡ b → (length lanes ≤ position_or_len (is_lane_of port) lanes → find (λ (q : PortRow). q.id == port) ports ≡ None)
+      → find (λ (q : PortRow). q.id == port) (p ∷ ports) ≡ None
   by true here further =
       let none = ap (λ b. cond (not b) (1 + position_or_len (is_lane_of port) lanes) zero) here in
       absurd (omega (arith, le, none))

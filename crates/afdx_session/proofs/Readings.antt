@@ -33,7 +33,8 @@ stays l s is = record {
   queue = sym (append-nil l.waiting.items);
 }
 
-goes : {Z : Type 0} (old new : Lane Z) (s : Stream) (more : List Entry) → IsLaneOf old s → old.ended ≡ false → new.port ≡ old.port → Adds old new more → Waits s (next_of s new more) (waiting_of old) (waiting_of new)
+goes : {Z : Type 0} (old new : Lane Z) (s : Stream) (more : List Entry) → IsLaneOf old s → old.ended ≡ false → new.port ≡ old.port → Adds old new more
+    → Waits s (next_of s new more) (waiting_of old) (waiting_of new)
 goes old new s more is still_open port adds = record {
   on = record {
     port = refl;
@@ -57,7 +58,8 @@ all_stay (l ∷ lanes) (s ∷ streams) are = (stays l s are.0, all_stay lanes st
 some_same : {X : Type 0} (a b : X) → Some a ≡ Some b → a ≡ b
 some_same a b e = cc
 
-pub one_reads : {Z : Type 0} (lanes : List (Lane Z)) (streams : List Stream) (k : ℕ) (old new : Lane Z) (more : List Entry) → AreLanesOf lanes streams → slice_get lanes k ≡ Some old → old.ended ≡ false → new.port ≡ old.port → Adds old new more
+pub one_reads : {Z : Type 0} (lanes : List (Lane Z)) (streams : List Stream) (k : ℕ) (old new : Lane Z) (more : List Entry) → AreLanesOf lanes streams → slice_get lanes k ≡ Some old → old.ended
+    ≡ false → new.port ≡ old.port → Adds old new more
     → AllWait streams (streams_with streams k new more) (map waiting_of lanes) (map waiting_of (set lanes k new))
 one_reads [] [] k old new more are at still_open port adds = absurd cc
 one_reads [] (s ∷ streams) k old new more are at still_open port adds = absurd are
@@ -71,8 +73,10 @@ one_reads {Z = Z} (l ∷ lanes) (s ∷ streams) zero old new more are at still_o
 one_reads (l ∷ lanes) (s ∷ streams) (suc k) old new more are at still_open port adds = (stays l s are.0, one_reads lanes streams k old new more are.1 at still_open port adds)
 
 -- so what is settled stays, whatever a lane read
-pub reads_settle : {Z : Type 0} → MergedIsAMerge → MergedIsByStampAndPort → (lanes : List (Lane Z)) (streams : List Stream) (given : List Arrival) (k : ℕ) (old new : Lane Z) (more : List Entry) → Ascend (ports_of (captures_of streams))
+pub reads_settle : {Z : Type 0} → MergedIsAMerge → MergedIsByStampAndPort → (lanes : List (Lane Z)) (streams : List Stream) (given : List Arrival) (k : ℕ) (old new : Lane Z) (more : List Entry)
+    → Ascend (ports_of (captures_of streams))
     → AreLanesOf lanes streams → slice_get lanes k ≡ Some old → old.ended ≡ false → new.port ≡ old.port → Adds old new more → IsSettling streams given (map waiting_of lanes)
     → IsSettling (streams_with streams k new more) given (map waiting_of (set lanes k new))
 reads_settle merge sorted lanes streams given k old new more ascend are at still_open port adds settling =
-    settled_stays merge sorted streams (streams_with streams k new more) given (map waiting_of lanes) (map waiting_of (set lanes k new)) ascend (one_reads lanes streams k old new more are at still_open port adds) settling
+    settled_stays merge sorted streams (streams_with streams k new more) given (map waiting_of lanes) (map waiting_of (set lanes k new)) ascend
+    (one_reads lanes streams k old new more are at still_open port adds) settling

@@ -52,7 +52,8 @@ same_both a b c one two = record { table = two.table ∙ one.table; accepted = t
 -- ---- one round
 
 -- where the first goes within what tells the same as the limit, it goes within the limit
-goes_as_limit : {Z : Type 0} (limit : Option (ℕ × ℕ)) (lanes new : List (Lane Z)) (port : ℕ) (frame : Entry) → IsLimit limit lanes → Goes limit lanes new port frame → Goes (limit_at lanes) lanes new port frame
+goes_as_limit : {Z : Type 0} (limit : Option (ℕ × ℕ)) (lanes new : List (Lane Z)) (port : ℕ) (frame : Entry) → IsLimit limit lanes → Goes limit lanes new port frame
+    → Goes (limit_at lanes) lanes new port frame
 goes_as_limit {Z = Z} limit lanes new port frame is goes = record {
   place = goes.place;
   lane = goes.lane;
@@ -61,7 +62,8 @@ goes_as_limit {Z = Z} limit lanes new port frame is goes = record {
   port_is = goes.port_is;
   head = goes.head;
   first = goes.first;
-  within = subst (λ n. IsWithinPlace (limit_at lanes) frame.stamp n) (sym goes.port_is) ((is goes.place frame.stamp goes.lane goes.first goes.at).0 (subst (λ n. IsWithinPlace limit frame.stamp n) goes.port_is goes.within));
+  within = subst (λ n. IsWithinPlace (limit_at lanes) frame.stamp n) (sym goes.port_is)
+      ((is goes.place frame.stamp goes.lane goes.first goes.at).0 (subst (λ n. IsWithinPlace limit frame.stamp n) goes.port_is goes.within));
   lanes = goes.lanes;
 }
 
@@ -85,9 +87,11 @@ limit_stays {Z = Z} lanes new place gone = ap (λ (ls : List (Lane Z)). limit_at
   same (m ∷ ls) (suc k) l at = ap (λ o. cond m.ended o (Some (first_place (m.last, m.port) o))) (same ls k l at)
 
 -- the record that goes is the next of the merge
-pub round_arrives : {Z : Type 0} (limit : Option (ℕ × ℕ)) (now : Machine Z) (lanes : List (Lane Z)) (port : ℕ) (frame : Entry) → IsLimit limit now.lanes.items → IsGoing now.switch.run.table now.lanes.items now.switch now.counts → Goes limit now.lanes.items lanes port frame
+pub round_arrives : {Z : Type 0} (limit : Option (ℕ × ℕ)) (now : Machine Z) (lanes : List (Lane Z)) (port : ℕ) (frame : Entry) → IsLimit limit now.lanes.items
+    → IsGoing now.switch.run.table now.lanes.items now.switch now.counts → Goes limit now.lanes.items lanes port frame
     → Arrives now.switch.run.table now.lanes.items lanes now.switch now.counts port frame
-round_arrives {Z = Z} limit now lanes port frame is going goes = arrives now.switch.run.table now.lanes.items lanes now.switch now.counts port frame (goes_as_limit limit now.lanes.items lanes port frame is goes) going
+round_arrives {Z = Z} limit now lanes port frame is going goes = arrives now.switch.run.table now.lanes.items lanes now.switch now.counts port frame
+    (goes_as_limit limit now.lanes.items lanes port frame is goes) going
 
 pub round_touched : {Z : Type 0} (limit : Option (ℕ × ℕ)) (old lanes new : List (Lane Z)) (port : ℕ) (frame : Entry) → Goes limit old lanes port frame → new ≡ lanes → AreTouched old new
 round_touched {Z = Z} limit old lanes new port frame goes same = subst (λ (ls : List (Lane Z)). AreTouched old ls) (sym same) (goes_touched limit old lanes port frame goes)
@@ -105,12 +109,14 @@ set_here [] k x y at = absurd cc
 set_here (z ∷ xs) zero x y at = refl
 set_here (z ∷ xs) (suc k) x y at = set_here xs k x y at
 
-set_there : {Z : Type 0} (limit : Option (ℕ × ℕ)) (old new : List (Lane Z)) (place : ℕ) (frame : Entry) (goes : GoesAt limit old new place frame) → slice_get new place ≡ Some (with_waiting goes.goes.rest goes.goes.lane)
+set_there : {Z : Type 0} (limit : Option (ℕ × ℕ)) (old new : List (Lane Z)) (place : ℕ) (frame : Entry) (goes : GoesAt limit old new place frame) → slice_get new place
+    ≡ Some (with_waiting goes.goes.rest goes.goes.lane)
 set_there {Z} limit old new place frame goes =
     let w = with_waiting goes.goes.rest goes.goes.lane in
     ap (λ k. slice_get new k) (sym goes.here) ∙ ap (λ (ls : List (Lane Z)). slice_get ls goes.goes.place) goes.goes.lanes ∙ set_here old goes.goes.place goes.goes.lane w goes.goes.at
 
-at_here : {Z : Type 0} (limit : Option (ℕ × ℕ)) (v : Vec (Lane Z) Z) (start new : List (Lane Z)) (place : ℕ) (frame : Entry) → start ≡ v.items → GoesAt limit start new place frame → GoesAt limit v.items (with_items v new).items place frame
+at_here : {Z : Type 0} (limit : Option (ℕ × ℕ)) (v : Vec (Lane Z) Z) (start new : List (Lane Z)) (place : ℕ) (frame : Entry) → start ≡ v.items → GoesAt limit start new place frame
+    → GoesAt limit v.items (with_items v new).items place frame
 at_here {Z = Z} limit v start new place frame is goes =
     let here = subst (λ (ls : List (Lane Z)). GoesAt limit ls new place frame) is goes in
     let long = ap (λ (ls : List (Lane Z)). length ls) here.goes.lanes ∙ length-set v.items here.goes.place (with_waiting here.goes.rest here.goes.lane) in
@@ -120,7 +126,8 @@ within_there : {Z : Type 0} (limit : Option (ℕ × ℕ)) (old new : List (Lane 
 within_there limit old new place frame goes = slice_get_within new place _ (set_there limit old new place frame goes)
 
 -- the place is one of the lanes'
-pub goes_within : {Z : Type 0} (limit : Option (ℕ × ℕ)) (v : Vec (Lane Z) Z) (start new : List (Lane Z)) (place : ℕ) (frame : Entry) → start ≡ v.items → GoesAt limit start new place frame → place < v.len
+pub goes_within : {Z : Type 0} (limit : Option (ℕ × ℕ)) (v : Vec (Lane Z) Z) (start new : List (Lane Z)) (place : ℕ) (frame : Entry) → start ≡ v.items → GoesAt limit start new place frame
+    → place < v.len
 goes_within limit v start new place frame is goes =
     let lt = slice_get_within start goes.goes.place goes.goes.lane goes.goes.at in
     let same = ap (λ (ls : List (Lane _)). length ls) is in
@@ -128,12 +135,14 @@ goes_within limit v start new place frame is goes =
     let long = v.ok.0 in
     omega (arith, lt, same, here, long)
 
-pub goes_from : {Z : Type 0} (limit : Option (ℕ × ℕ)) (v : Vec (Lane Z) Z) (start new : List (Lane Z)) (place : ℕ) (frame : Entry) (l d : Lane Z) → start ≡ v.items → GoesAt limit start new place frame → l ≡ get_or (with_items v new).items place d
+pub goes_from : {Z : Type 0} (limit : Option (ℕ × ℕ)) (v : Vec (Lane Z) Z) (start new : List (Lane Z)) (place : ℕ) (frame : Entry) (l d : Lane Z) → start ≡ v.items → GoesAt limit start new place frame
+    → l ≡ get_or (with_items v new).items place d
     → GoesFrom limit v.items (with_items v new).items place l.port frame
 goes_from {Z = Z} limit v start new place frame l d is goes read =
     let here = at_here limit v start new place frame is goes in
     let lt = within_there limit v.items (with_items v new).items place frame here in
-    let own = some_same l (with_waiting here.goes.rest here.goes.lane) (ap Some read ∙ sym (at_index (with_items v new).items place d lt) ∙ set_there limit v.items (with_items v new).items place frame here) in
+    let own = some_same l (with_waiting here.goes.rest here.goes.lane) (ap Some read ∙ sym (at_index (with_items v new).items place d lt)
+    ∙ set_there limit v.items (with_items v new).items place frame here) in
     let port : here.port ≡ l.port = here.goes.port_is ∙ ap (λ (x : Lane Z). x.port) (sym own) in
     subst (λ n. GoesFrom limit v.items (with_items v new).items place n frame) port (record { within = lt; goes = here.goes; here = here.here })
 
@@ -143,8 +152,10 @@ none_here {Z = Z} v start new is same = back_items v new (ap (λ (ls : List (Lan
 with_table : {Z : Type 0} (t u : Content) (lanes : List (Lane Z)) (s : State) (counts : Tally) → u ≡ t → IsGoing t lanes s counts → IsGoing u lanes s counts
 with_table t u lanes s counts same going = subst (λ c. IsGoing c lanes s counts) (sym same) going
 
-pub round_goes : {Z : Type 0} → EarlierEventsStayAdmitted → ReachesInOrder → NoteCountsOneMore → (limit : Option (ℕ × ℕ)) (now next : Machine Z) (lanes : List (Lane Z)) (port : ℕ) (frame : Entry) (step : Handling) (place : ℕ) → AreOfTable now.switch.run.table now.lanes.items
-    → IsLimit limit now.lanes.items → IsGoing now.switch.run.table now.lanes.items now.switch now.counts → (goes : Goes limit now.lanes.items lanes port frame) → goes.place ≡ place → next.lanes.items ≡ lanes → IsOfSameTable now.switch next.switch → step.number < 2 ^ 64
+pub round_goes : {Z : Type 0} → EarlierEventsStayAdmitted → ReachesInOrder → NoteCountsOneMore
+    → (limit : Option (ℕ × ℕ)) (now next : Machine Z) (lanes : List (Lane Z)) (port : ℕ) (frame : Entry) (step : Handling) (place : ℕ) → AreOfTable now.switch.run.table now.lanes.items
+    → IsLimit limit now.lanes.items → IsGoing now.switch.run.table now.lanes.items now.switch now.counts → (goes : Goes limit now.lanes.items lanes port frame) → goes.place ≡ place → next.lanes.items
+    ≡ lanes → IsOfSameTable now.switch next.switch → step.number < 2 ^ 64
     → IsTaken now.switch next.switch (row_of now.switch.run.table port frame) frame step → next.counts ≡ noted step now.counts → IsRound (Some place) now next
 round_goes {Z = Z} stay reaches law limit now next lanes port frame step place of is going goes here lanes_are same small taken counted =
     let arrives = round_arrives limit now lanes port frame is going goes in
@@ -154,7 +165,8 @@ round_goes {Z = Z} stay reaches law limit now next lanes port frame step place o
       going = with_table now.switch.run.table next.switch.run.table next.lanes.items next.switch next.counts same.table
           (subst (λ (ls : List (Lane Z)). IsGoing now.switch.run.table ls next.switch next.counts) (sym lanes_are)
           (gives_on stay reaches law now.switch.run.table now.lanes.items lanes now.switch next.switch now.counts next.counts port frame step of small arrives taken counted));
-      gone = λ k went. subst (HasGone now.lanes.items next.lanes.items) (here ∙ some_same place k went) (record { lane = goes.lane; frame = frame; rest = goes.rest; at = goes.at; head = goes.head; lanes = lanes_are ∙ goes.lanes });
+      gone = λ k went. subst (HasGone now.lanes.items next.lanes.items) (here ∙ some_same place k went)
+          (record { lane = goes.lane; frame = frame; rest = goes.rest; at = goes.at; head = goes.head; lanes = lanes_are ∙ goes.lanes });
       fewer = λ k went. omega (arith, first, fewer);
       stays = λ none. absurd (differ none);
       none = λ none. absurd (differ none);
@@ -162,7 +174,8 @@ round_goes {Z = Z} stay reaches law limit now next lanes port frame step place o
       differ : Some place ≡ None → ⊥
       differ e = absurd cc
 
-pub round_ends : {Z : Type 0} (limit : Option (ℕ × ℕ)) (now next : Machine Z) (first : Option (ℕ × ℕ)) → IsLimit limit now.lanes.items → IsGoing now.switch.run.table now.lanes.items now.switch now.counts → next.lanes.items ≡ now.lanes.items → next.switch ≡ now.switch
+pub round_ends : {Z : Type 0} (limit : Option (ℕ × ℕ)) (now next : Machine Z) (first : Option (ℕ × ℕ)) → IsLimit limit now.lanes.items
+    → IsGoing now.switch.run.table now.lanes.items now.switch now.counts → next.lanes.items ≡ now.lanes.items → next.switch ≡ now.switch
     → next.counts ≡ now.counts → NoneGoes limit now.lanes.items first → IsRound None now next
 round_ends {Z = Z} limit now next first is going lanes switch counts none = record {
   going = subst (λ (ls : List (Lane Z)). IsGoing next.switch.run.table ls next.switch next.counts) (sym lanes)
@@ -200,7 +213,8 @@ limit_after {Z} limit old new (Some place) round is = is ∙ sym (limit_stays ol
 limit_after {Z} limit old new None round is = is ∙ ap (λ (ls : List (Lane Z)). limit_at ls) (sym (round.stays refl))
 
 -- one more round
-pub rounds_on : {Z : Type 0} (start now next : Machine Z) (went : Option ℕ) → Gives start now → AreTouched now.lanes.items next.lanes.items → IsOfSameTable now.switch next.switch → IsRound went now next → Gives start next
+pub rounds_on : {Z : Type 0} (start now next : Machine Z) (went : Option ℕ) → Gives start now → AreTouched now.lanes.items next.lanes.items → IsOfSameTable now.switch next.switch
+    → IsRound went now next → Gives start next
 rounds_on {Z = Z} start now next went gives touched same round =
     let all = same_both start.switch now.switch next.switch gives.same same in
     record {

@@ -1,5 +1,6 @@
 -- What contracts see of a session after a call, from what its lanes are then.
-use Rattle.std.proofs.Common.{◌≡◌, ℕ, zero, suc, ◌+◌, ◌<◌, ◌≤◌, ◌^◌, ◌==◌, Bool, true, false, cond, List, [], ◌∷◌, ◌++◌, map, length, take, drop, set, slice_get, slice_index_or, Some, None, Ok, Err, refl, ap, sym, ◌∙◌, arith, inl, inr, subst}
+use Rattle.std.proofs.Common.{◌≡◌, ℕ, zero, suc, ◌+◌, ◌<◌, ◌≤◌, ◌^◌, ◌==◌, Bool, true, false, cond, List, [], ◌∷◌, ◌++◌, map, length, take, drop, set, slice_get, slice_index_or, Some, None, Ok}
+use Rattle.std.proofs.Common.{Err, refl, ap, sym, ◌∙◌, arith, inl, inr, subst}
 use Rattle.std.specs.Prelude.{find, Result, IsErr, IsErrAnd, IfErr, IfSome, IfNone}
 use Rattle.std.specs.List.{position}
 use Rattle.std.proofs.lemmas.Bool.Decides.{nat_tests}
@@ -21,7 +22,8 @@ use Rattle.afdx_session.specs.Outcome.{Results}
 use Rattle.afdx_session.specs.Headline.{AcceptedRunsIsolate}
 use Rattle.afdx_session.specs.Finish.{IsFinished, IsNotFinished}
 use Rattle.afdx_session.specs.Streams.{AllStartBeforeTheLastInstant}
-use Rattle.afdx_session.specs.Session.{Intake, Seen, bytes_in, taken_in, taken_of, refusal_at, refusal, bytes_of, changed, fed, ended, took, after_feed, after_close, after_take, after_failure, IsRefused, IsSoundSoFar, HasGoneOut}
+use Rattle.afdx_session.specs.Session.{Intake, Seen, bytes_in, taken_in, taken_of, refusal_at, refusal, bytes_of, changed, fed, ended, took, after_feed, after_close, after_take, after_failure}
+use Rattle.afdx_session.specs.Session.{IsRefused, IsSoundSoFar, HasGoneOut}
 use Rattle.afdx_session.specs.Lanes.{intake_of, IsPieceFault}
 use Rattle.afdx_session.specs.Kept.{AreOfTable, IsOfSameTable, IsRunning}
 use Rattle.afdx_session.specs.View.{intakes_of, seen_of, gone_out, IsShownAt, IsKept, IsReady, AreHalfDone, AreEndedLanes, texts_at, IsTaken, IsOpenAt, IsFed, IsEnded, IsNotFed, IsNotEnded}
@@ -44,14 +46,16 @@ number_is : (m n : ℕ) → (m == n) ≡ true → m ≡ n
 number_is m n is = grind (arith, nat_tests)
 
 -- it may be fed or closed
-pub may_go_on : {Z : Type 0} (m : Machine Z) (begun : Bool) (port place : ℕ) → AreOfTable m.switch.run.table m.lanes.items → IsOpenAt m.lanes.items port place → refusal (seen_of m begun false) port ≡ None
+pub may_go_on : {Z : Type 0} (m : Machine Z) (begun : Bool) (port place : ℕ) → AreOfTable m.switch.run.table m.lanes.items → IsOpenAt m.lanes.items port place → refusal (seen_of m begun false) port
+    ≡ None
 may_go_on m begun port place of is_open =
     let is = open_is m.switch.run.table m.lanes.items port place of is_open in
     let same : is.lane.closed ≡ false = ap (λ l. l.closed) (some_same is.lane is_open.lane (sym is.at ∙ is_open.at)) ∙ is_open.still_open in
     ap refusal_at is.intake_is ∙ ap (λ b. cond b (Some run.Closed) None) same
 
 -- the bytes of its port are those of its lane
-pub bytes_are : {Z : Type 0} (m : Machine Z) (begun failed : Bool) (port place : ℕ) (l : Lane Z) → AreOfTable m.switch.run.table m.lanes.items → IsOpenAt m.lanes.items port place → slice_get m.lanes.items place ≡ Some l
+pub bytes_are : {Z : Type 0} (m : Machine Z) (begun failed : Bool) (port place : ℕ) (l : Lane Z) → AreOfTable m.switch.run.table m.lanes.items → IsOpenAt m.lanes.items port place
+    → slice_get m.lanes.items place ≡ Some l
     → ((intake_of l).bytes ≡ bytes_of (seen_of m begun failed) port) × (l.port ≡ port)
 bytes_are {Z = Z} m begun failed port place l of is_open at =
     let is = open_is m.switch.run.table m.lanes.items port place of is_open in
@@ -66,21 +70,25 @@ seen_parts : (t u : Content) (a b : Bool) (is js : List Intake) (begun failed : 
 seen_parts t u a b is js begun failed table accepted intakes = rw (table, accepted, intakes) refl
 
 -- a piece came
-pub seen_fed : {Z : Type 0} (old new : Machine Z) (begun : Bool) (port place : ℕ) (piece : List ℕ) → AreOfTable old.switch.run.table old.lanes.items → IsOpenAt old.lanes.items port place → IsOfSameTable old.switch new.switch
+pub seen_fed : {Z : Type 0} (old new : Machine Z) (begun : Bool) (port place : ℕ) (piece : List ℕ) → AreOfTable old.switch.run.table old.lanes.items → IsOpenAt old.lanes.items port place
+    → IsOfSameTable old.switch new.switch
     → IsFed old.lanes.items new.lanes.items place piece → seen_of new true false ≡ after_feed (seen_of old begun false) port piece
 seen_fed old new begun port place piece of is_open same is =
     let at = open_is old.switch.run.table old.lanes.items port place of is_open in
     let lane : is.lane ≡ at.lane = some_same is.lane at.lane (sym is.at ∙ at.at) in
-    seen_parts old.switch.run.table new.switch.run.table old.switch.accepted new.switch.accepted (changed port (fed piece) (intakes_of old.lanes.items)) (intakes_of new.lanes.items) true false same.table same.accepted
+    seen_parts old.switch.run.table new.switch.run.table old.switch.accepted new.switch.accepted (changed port (fed piece) (intakes_of old.lanes.items)) (intakes_of new.lanes.items) true false
+    same.table same.accepted
     (is.intakes ∙ ap (λ l. set (intakes_of old.lanes.items) place (fed piece (intake_of l))) lane ∙ sym (at.changed_is (fed piece)))
 
 -- a capture ended
-pub seen_ended : {Z : Type 0} (old new : Machine Z) (begun : Bool) (port place : ℕ) → AreOfTable old.switch.run.table old.lanes.items → IsOpenAt old.lanes.items port place → IsOfSameTable old.switch new.switch
+pub seen_ended : {Z : Type 0} (old new : Machine Z) (begun : Bool) (port place : ℕ) → AreOfTable old.switch.run.table old.lanes.items → IsOpenAt old.lanes.items port place
+    → IsOfSameTable old.switch new.switch
     → IsEnded old.lanes.items new.lanes.items place → seen_of new true false ≡ after_close (seen_of old begun false) port
 seen_ended old new begun port place of is_open same is =
     let at = open_is old.switch.run.table old.lanes.items port place of is_open in
     let lane : is.lane ≡ at.lane = some_same is.lane at.lane (sym is.at ∙ at.at) in
-    seen_parts old.switch.run.table new.switch.run.table old.switch.accepted new.switch.accepted (changed port ended (intakes_of old.lanes.items)) (intakes_of new.lanes.items) true false same.table same.accepted
+    seen_parts old.switch.run.table new.switch.run.table old.switch.accepted new.switch.accepted (changed port ended (intakes_of old.lanes.items)) (intakes_of new.lanes.items) true false same.table
+    same.accepted
     (is.intakes ∙ ap (λ l. set (intakes_of old.lanes.items) place (ended (intake_of l))) lane ∙ sym (at.changed_is ended))
 
 half_intakes : {Z : Type 0} (old new : List (Lane Z)) → AreHalfDone old new → intakes_of new ≡ intakes_of old
@@ -90,12 +98,16 @@ half_intakes (l ∷ old) [] half = absurd half
 half_intakes (l ∷ old) (n ∷ new) half = ap (λ i. i ∷ intakes_of new) half.0.intake ∙ ap (λ is. intake_of l ∷ is) (half_intakes old new half.1)
 
 -- the call failed
-pub seen_failed : {Z : Type 0} (old new : Machine Z) (begun : Bool) → IsOfSameTable old.switch new.switch → AreHalfDone old.lanes.items new.lanes.items → seen_of new begun true ≡ after_failure (seen_of old begun false)
+pub seen_failed : {Z : Type 0} (old new : Machine Z) (begun : Bool) → IsOfSameTable old.switch new.switch → AreHalfDone old.lanes.items new.lanes.items → seen_of new begun true
+    ≡ after_failure (seen_of old begun false)
 seen_failed old new begun same half =
-    seen_parts old.switch.run.table new.switch.run.table old.switch.accepted new.switch.accepted (intakes_of old.lanes.items) (intakes_of new.lanes.items) begun true same.table same.accepted (half_intakes old.lanes.items new.lanes.items half)
+    seen_parts old.switch.run.table new.switch.run.table old.switch.accepted new.switch.accepted (intakes_of old.lanes.items) (intakes_of new.lanes.items) begun true same.table same.accepted
+    (half_intakes old.lanes.items new.lanes.items half)
 
-pub refused_piece : {Z : Type 0} (old new : Machine Z) (begun : Bool) (port place : ℕ) (piece : List ℕ) (fault : RunFault) → AreOfTable old.switch.run.table old.lanes.items → IsOpenAt old.lanes.items port place → IsOfSameTable old.switch new.switch
-    → IsNotFed old.lanes.items new.lanes.items place piece fault → IsRefused (seen_of old begun false) (seen_of new begun true) port fault (IsPieceFault (bytes_of (seen_of old begun false) port ++ piece) port fault)
+pub refused_piece : {Z : Type 0} (old new : Machine Z) (begun : Bool) (port place : ℕ) (piece : List ℕ) (fault : RunFault) → AreOfTable old.switch.run.table old.lanes.items
+    → IsOpenAt old.lanes.items port place → IsOfSameTable old.switch new.switch
+    → IsNotFed old.lanes.items new.lanes.items place piece fault → IsRefused (seen_of old begun false) (seen_of new begun true) port fault
+    (IsPieceFault (bytes_of (seen_of old begun false) port ++ piece) port fault)
 refused_piece old new begun port place piece fault of is_open same is =
     let own = bytes_are old begun false port place is.lane of is_open is.at in
     inr (
@@ -104,7 +116,8 @@ refused_piece old new begun port place piece fault of is_open same is =
       subst (λ n. IsPieceFault (bytes_of (seen_of old begun false) port ++ piece) n fault) own.1 (subst (λ xs. IsPieceFault (xs ++ piece) is.lane.port fault) own.0 is.why),
     )
 
-pub refused_end : {Z : Type 0} (old new : Machine Z) (begun : Bool) (port place : ℕ) (fault : RunFault) → AreOfTable old.switch.run.table old.lanes.items → IsOpenAt old.lanes.items port place → IsOfSameTable old.switch new.switch
+pub refused_end : {Z : Type 0} (old new : Machine Z) (begun : Bool) (port place : ℕ) (fault : RunFault) → AreOfTable old.switch.run.table old.lanes.items → IsOpenAt old.lanes.items port place
+    → IsOfSameTable old.switch new.switch
     → IsNotEnded old.lanes.items new.lanes.items place fault → IsRefused (seen_of old begun false) (seen_of new begun true) port fault (IsFaultAt (bytes_of (seen_of old begun false) port) port fault)
 refused_end old new begun port place fault of is_open same is =
     let own = bytes_are old begun false port place is.lane of is_open is.at in
@@ -121,7 +134,8 @@ seen_so_far : {Z : Type 0} (m : Machine Z) (begun failed : Bool) (v : Seen) → 
 seen_so_far m begun failed v is not_failed = ap (λ b. seen_of m begun b) (sym not_failed) ∙ is
 
 -- no such port, or it is closed
-pub refused_place : {Z : Type 0} (m : Machine Z) (begun failed : Bool) (v : Seen) (lanes : List (Lane Z)) (port : ℕ) (fault : RunFault) (Why : Type 0) → seen_of m begun failed ≡ v → failed ≡ false → lanes ≡ m.lanes.items
+pub refused_place : {Z : Type 0} (m : Machine Z) (begun failed : Bool) (v : Seen) (lanes : List (Lane Z)) (port : ℕ) (fault : RunFault) (Why : Type 0) → seen_of m begun failed ≡ v → failed ≡ false
+    → lanes ≡ m.lanes.items
     → refusal_at (find (λ (i : Intake). i.port == port) (intakes_of lanes)) ≡ Some fault → IsRefused v v port fault Why
 refused_place m begun failed v lanes port fault Why is not_failed same at =
     inl (
@@ -143,7 +157,8 @@ ports_of_intakes : {Z : Type 0} (lanes : List (Lane Z)) → map (λ (l : Lane Z)
 ports_of_intakes [] = refl
 ports_of_intakes (l ∷ lanes) = ap (λ ns. l.port ∷ ns) (ports_of_intakes lanes)
 
-set_ports : (intakes : List Intake) (k : ℕ) (old new : Intake) → slice_get intakes k ≡ Some old → new.port ≡ old.port → map (λ (i : Intake). i.port) (set intakes k new) ≡ map (λ (i : Intake). i.port) intakes
+set_ports : (intakes : List Intake) (k : ℕ) (old new : Intake) → slice_get intakes k ≡ Some old → new.port ≡ old.port → map (λ (i : Intake). i.port) (set intakes k new)
+    ≡ map (λ (i : Intake). i.port) intakes
 set_ports [] k old new at same = refl
 set_ports (i ∷ intakes) zero old new at same = ap (λ n. n ∷ map (λ (j : Intake). j.port) intakes) (same ∙ ap (λ (j : Intake). j.port) (sym (some_same i old at)))
 set_ports (i ∷ intakes) (suc k) old new at same = ap (λ ns. i.port ∷ ns) (set_ports intakes k old new at same)
@@ -157,23 +172,27 @@ ports_after old new k l i at same is =
     ∙ sym (ports_of_intakes old)
 
 -- a piece came, or a capture ended: what is true of each session stays
-pub kept_fed : {Z : Type 0} → EarlierEventsStayAdmitted → ReachesInOrder → AllStartBeforeTheLastInstant → (old new : Machine Z) (begun failed : Bool) (place : ℕ) (piece : List ℕ) → failed ≡ false → IsOfSameTable old.switch new.switch
+pub kept_fed : {Z : Type 0} → EarlierEventsStayAdmitted → ReachesInOrder → AllStartBeforeTheLastInstant → (old new : Machine Z) (begun failed : Bool) (place : ℕ) (piece : List ℕ) → failed ≡ false
+    → IsOfSameTable old.switch new.switch
     → IsFed old.lanes.items new.lanes.items place piece → IsReady new true → IsKept old begun failed → IsKept new true failed
 kept_fed stay reaches ends old new begun failed place piece not_failed same is ready kept =
     subst (λ b. IsKept new true b) (sym not_failed)
     (kept_ready stay reaches ends old new begun failed same (ports_after old.lanes.items new.lanes.items place is.lane (fed piece (intake_of is.lane)) is.at refl is.intakes) kept ready)
 
-pub kept_ended : {Z : Type 0} → EarlierEventsStayAdmitted → ReachesInOrder → AllStartBeforeTheLastInstant → (old new : Machine Z) (begun failed : Bool) (place : ℕ) → failed ≡ false → IsOfSameTable old.switch new.switch
+pub kept_ended : {Z : Type 0} → EarlierEventsStayAdmitted → ReachesInOrder → AllStartBeforeTheLastInstant → (old new : Machine Z) (begun failed : Bool) (place : ℕ) → failed ≡ false
+    → IsOfSameTable old.switch new.switch
     → IsEnded old.lanes.items new.lanes.items place → IsReady new true → IsKept old begun failed → IsKept new true failed
 kept_ended stay reaches ends old new begun failed place not_failed same is ready kept =
     subst (λ b. IsKept new true b) (sym not_failed)
     (kept_ready stay reaches ends old new begun failed same (ports_after old.lanes.items new.lanes.items place is.lane (ended (intake_of is.lane)) is.at refl is.intakes) kept ready)
 
 -- the call failed
-pub kept_half : {Z : Type 0} (old new : Machine Z) (begun failed : Bool) → failed ≡ false → IsOfSameTable old.switch new.switch → AreHalfDone old.lanes.items new.lanes.items → IsKept old begun failed → IsKept new begun true
+pub kept_half : {Z : Type 0} (old new : Machine Z) (begun failed : Bool) → failed ≡ false → IsOfSameTable old.switch new.switch → AreHalfDone old.lanes.items new.lanes.items → IsKept old begun failed
+    → IsKept new begun true
 kept_half old new begun failed not_failed same half kept = kept_failed old new begun same half (subst (λ b. IsKept old begun b) not_failed kept)
 
-pub answers_fed : {Z : Type 0} (old new : Machine Z) (begun failed : Bool) (v : Seen) (port place : ℕ) (piece : List ℕ) → seen_of old begun failed ≡ v → failed ≡ false → AreOfTable old.switch.run.table old.lanes.items → IsOpenAt old.lanes.items port place
+pub answers_fed : {Z : Type 0} (old new : Machine Z) (begun failed : Bool) (v : Seen) (port place : ℕ) (piece : List ℕ) → seen_of old begun failed ≡ v → failed ≡ false
+    → AreOfTable old.switch.run.table old.lanes.items → IsOpenAt old.lanes.items port place
     → IsOfSameTable old.switch new.switch → IsFed old.lanes.items new.lanes.items place piece
     → (refusal v port ≡ None) × (seen_of new true failed ≡ after_feed v port piece) × IsSoundSoFar (bytes_of v port ++ piece)
 answers_fed old new begun failed v port place piece view not_failed of is_open same is =
@@ -184,7 +203,8 @@ answers_fed old new begun failed v port place piece view not_failed of is_open s
       subst (λ xs. IsSoundSoFar (xs ++ piece)) (bytes_are old begun false port place is.lane of is_open is.at).0 is.sound,
     )
 
-pub answers_ended : {Z : Type 0} (old new : Machine Z) (begun failed : Bool) (v : Seen) (port place : ℕ) → seen_of old begun failed ≡ v → failed ≡ false → AreOfTable old.switch.run.table old.lanes.items → IsOpenAt old.lanes.items port place
+pub answers_ended : {Z : Type 0} (old new : Machine Z) (begun failed : Bool) (v : Seen) (port place : ℕ) → seen_of old begun failed ≡ v → failed ≡ false
+    → AreOfTable old.switch.run.table old.lanes.items → IsOpenAt old.lanes.items port place
     → IsOfSameTable old.switch new.switch → IsEnded old.lanes.items new.lanes.items place
     → (refusal v port ≡ None) × (seen_of new true failed ≡ after_close v port) × ((records : List Entry) × IsCapture (bytes_of v port) records)
 answers_ended old new begun failed v port place view not_failed of is_open same is =
@@ -195,14 +215,16 @@ answers_ended old new begun failed v port place view not_failed of is_open same 
       (is.records, subst (λ xs. IsCapture xs is.records) (bytes_are old begun false port place is.lane of is_open is.at).0 is.capture),
     )
 
-pub answers_not_fed : {Z : Type 0} (old new : Machine Z) (begun failed : Bool) (v : Seen) (port place : ℕ) (piece : List ℕ) (fault : RunFault) → seen_of old begun failed ≡ v → failed ≡ false → AreOfTable old.switch.run.table old.lanes.items
+pub answers_not_fed : {Z : Type 0} (old new : Machine Z) (begun failed : Bool) (v : Seen) (port place : ℕ) (piece : List ℕ) (fault : RunFault) → seen_of old begun failed ≡ v → failed ≡ false
+    → AreOfTable old.switch.run.table old.lanes.items
     → IsOpenAt old.lanes.items port place → IsOfSameTable old.switch new.switch → IsNotFed old.lanes.items new.lanes.items place piece fault
     → IsRefused v (seen_of new begun true) port fault (IsPieceFault (bytes_of v port ++ piece) port fault)
 answers_not_fed old new begun failed v port place piece fault view not_failed of is_open same is =
     subst (λ w. IsRefused w (seen_of new begun true) port fault (IsPieceFault (bytes_of w port ++ piece) port fault)) (seen_so_far old begun failed v view not_failed)
     (refused_piece old new begun port place piece fault of is_open same is)
 
-pub answers_not_ended : {Z : Type 0} (old new : Machine Z) (begun failed : Bool) (v : Seen) (port place : ℕ) (fault : RunFault) → seen_of old begun failed ≡ v → failed ≡ false → AreOfTable old.switch.run.table old.lanes.items
+pub answers_not_ended : {Z : Type 0} (old new : Machine Z) (begun failed : Bool) (v : Seen) (port place : ℕ) (fault : RunFault) → seen_of old begun failed ≡ v → failed ≡ false
+    → AreOfTable old.switch.run.table old.lanes.items
     → IsOpenAt old.lanes.items port place → IsOfSameTable old.switch new.switch → IsNotEnded old.lanes.items new.lanes.items place fault
     → IsRefused v (seen_of new begun true) port fault (IsFaultAt (bytes_of v port) port fault)
 answers_not_ended old new begun failed v port place fault view not_failed of is_open same is =
@@ -217,20 +239,32 @@ place_is t lanes port place of at =
     let both = position_at (is_lane_of port) lanes place at in
     place_of_port t.ports lanes port place of.ports both.0 both.1
 
-shown_place : {Z : Type 0} (m : Machine Z) (begun failed : Bool) (port place : ℕ) (l : Lane Z) (kept : IsKept m begun failed) (is : IsPlaceOf m.switch.run.table.ports m.lanes.items port place) → slice_get m.lanes.items place ≡ Some l
+shown_place : {Z : Type 0} (m : Machine Z) (begun failed : Bool) (port place : ℕ) (l : Lane Z) (kept : IsKept m begun failed) (is : IsPlaceOf m.switch.run.table.ports m.lanes.items port place)
+    → slice_get m.lanes.items place ≡ Some l
     → IsShownAt (gone_out m.switch.run.table begun kept.shown.streams is.row) l
 shown_place m begun failed port place l kept is at = kept.shown.each place is.row l is.row_at at
 
-pub take_fits : {Z : Type 0} (m : Machine Z) (begun failed : Bool) (port place : ℕ) (l : Lane Z) → IsKept m begun failed → position (is_lane_of port) m.lanes.items ≡ Some place → slice_get m.lanes.items place ≡ Some l → l.taken + l.ready < 2 ^ 128
+pub take_fits : {Z : Type 0} (m : Machine Z) (begun failed : Bool) (port place : ℕ) (l : Lane Z) → IsKept m begun failed → position (is_lane_of port) m.lanes.items ≡ Some place
+    → slice_get m.lanes.items place ≡ Some l → l.taken + l.ready < 2 ^ 128
 take_fits m begun failed port place l kept is at = (shown_place m begun failed port place l kept (place_is m.switch.run.table m.lanes.items port place kept.of is) at).bound
 
-pub answers_take : {Z : Type 0} (m next : Machine Z) (begun failed : Bool) (v : Seen) (port place : ℕ) (old new : Lane Z) (bytes : List ℕ) → seen_of m begun failed ≡ v → IsKept m begun failed → position (is_lane_of port) m.lanes.items ≡ Some place
+pub answers_take : {Z : Type 0} (m next : Machine Z) (begun failed : Bool) (v : Seen) (port place : ℕ) (old new : Lane Z) (bytes : List ℕ) → seen_of m begun failed ≡ v → IsKept m begun failed
+    → position (is_lane_of port) m.lanes.items ≡ Some place
     → slice_get m.lanes.items place ≡ Some old → IsTaken old new → bytes ≡ take old.ready old.out.items → next.switch ≡ m.switch → next.lanes.items ≡ set m.lanes.items place new
-    → IfSome (port_row v.table port) (λ p. (text : List ℕ) × HasGoneOut v p text × (taken_of v port ≤ length text) × (bytes ≡ drop (taken_of v port) text) × (seen_of next begun failed ≡ after_take v port (length text)))
+    → IfSome (port_row v.table port) (λ p. (text : List ℕ) × HasGoneOut v p text × (taken_of v port ≤ length text) × (bytes ≡ drop (taken_of v port) text)
+    × (seen_of next begun failed ≡ after_take v port (length text)))
 answers_take {Z} m next begun failed v port place old new bytes view kept is at taken gives switch lanes =
-    subst (λ w. IfSome (port_row w.table port) (λ p. (text : List ℕ) × HasGoneOut w p text × (taken_of w port ≤ length text) × (bytes ≡ drop (taken_of w port) text) × (seen_of next begun failed ≡ after_take w port (length text)))) view
-    (subst (λ o. IfSome o (λ p. (text : List ℕ) × HasGoneOut seen_now p text × (taken_of seen_now port ≤ length text) × (bytes ≡ drop (taken_of seen_now port) text) × (seen_of next begun failed ≡ after_take seen_now port (length text)))) (sym own.row_is)
-    (out, record { streams = kept.shown.streams; are = kept.shown.are; text_is = refl }, subst (λ n. n ≤ length out) (sym count) shown.taken, gives ∙ shown.front ∙ ap (λ n. drop n out) (sym count), after)) where
+    subst (λ w. IfSome (port_row w.table port) (λ p. (text : List ℕ) × HasGoneOut w p text × (taken_of w port ≤ length text) × (bytes ≡ drop (taken_of w port) text)
+    × (seen_of next begun failed ≡ after_take w port (length text)))) view
+    (subst (λ o. IfSome o (λ p. (text : List ℕ) × HasGoneOut seen_now p text × (taken_of seen_now port ≤ length text) × (bytes ≡ drop (taken_of seen_now port) text)
+    × (seen_of next begun failed ≡ after_take seen_now port (length text)))) (sym own.row_is) (
+      out,
+      record { streams = kept.shown.streams; are = kept.shown.are; text_is = refl },
+      subst (λ n. n ≤ length out) (sym count) shown.taken,
+      gives ∙ shown.front
+          ∙ ap (λ n. drop n out) (sym count),
+      after,
+    )) where
       seen_now : Seen
       seen_now = seen_of m begun failed
 
@@ -261,13 +295,15 @@ answers_take {Z} m next begun failed v port place old new bytes view kept is at 
       after = ap (λ s. seen s.run.table s.accepted (intakes_of next.lanes.items) begun failed) switch ∙ ap (λ is. seen m.switch.run.table m.switch.accepted is begun failed) intakes
 
 -- the port is there
-pub take_is_known : {Z : Type 0} (m : Machine Z) (begun failed : Bool) (v : Seen) (port place : ℕ) (Unknown : Type 0) → seen_of m begun failed ≡ v → AreOfTable m.switch.run.table m.lanes.items → position (is_lane_of port) m.lanes.items ≡ Some place
+pub take_is_known : {Z : Type 0} (m : Machine Z) (begun failed : Bool) (v : Seen) (port place : ℕ) (Unknown : Type 0) → seen_of m begun failed ≡ v → AreOfTable m.switch.run.table m.lanes.items
+    → position (is_lane_of port) m.lanes.items ≡ Some place
     → IfNone (port_row v.table port) Unknown
 take_is_known m begun failed v port place Unknown view of is =
     subst (λ w. IfNone (port_row w.table port) Unknown) view (subst (λ o. IfNone o Unknown) (sym (place_is m.switch.run.table m.lanes.items port place of is).row_is) tt)
 
 -- it is not
-pub take_is_unknown : {Z : Type 0} (m : Machine Z) (begun failed : Bool) (v : Seen) (port : ℕ) (Known : PortRow → Type 0) → seen_of m begun failed ≡ v → AreOfTable m.switch.run.table m.lanes.items → position (is_lane_of port) m.lanes.items ≡ None
+pub take_is_unknown : {Z : Type 0} (m : Machine Z) (begun failed : Bool) (v : Seen) (port : ℕ) (Known : PortRow → Type 0) → seen_of m begun failed ≡ v → AreOfTable m.switch.run.table m.lanes.items
+    → position (is_lane_of port) m.lanes.items ≡ None
     → IfSome (port_row v.table port) Known
 take_is_unknown m begun failed v port Known view of is =
     subst (λ w. IfSome (port_row w.table port) Known) view
@@ -285,14 +321,18 @@ lane_at lanes port place l at is = at_index lanes place l (position_at (is_lane_
 
 -- ---- the end
 
-pub answers_finished : {Z : Type 0} → EarlierEventsStayAdmitted → ReachesInOrder → AllStartBeforeTheLastInstant → TakenAreTheCapture → EndCountsTheRun → AcceptedRunsIsolate → (old new : Machine Z) (begun failed : Bool) (v : Seen) (results : Results)
-    → seen_of old begun failed ≡ v → failed ≡ false → IsKept old begun failed → IsOfSameTable old.switch new.switch → AreHalfDone old.lanes.items new.lanes.items → AreEndedLanes old.lanes.items new.lanes.items
-    → IsRunning new.switch.run.table new.lanes.items new.switch new.counts → results.captures ≡ map (λ (l : Lane Z). (l.port, l.out.items)) new.lanes.items → results.counts ≡ after_end (after_finish new.switch.run) new.counts → IsFinished v results
+pub answers_finished : {Z : Type 0} → EarlierEventsStayAdmitted → ReachesInOrder → AllStartBeforeTheLastInstant → TakenAreTheCapture → EndCountsTheRun → AcceptedRunsIsolate
+    → (old new : Machine Z) (begun failed : Bool) (v : Seen) (results : Results)
+    → seen_of old begun failed ≡ v → failed ≡ false → IsKept old begun failed → IsOfSameTable old.switch new.switch → AreHalfDone old.lanes.items new.lanes.items
+    → AreEndedLanes old.lanes.items new.lanes.items
+    → IsRunning new.switch.run.table new.lanes.items new.switch new.counts → results.captures ≡ map (λ (l : Lane Z). (l.port, l.out.items)) new.lanes.items → results.counts
+    ≡ after_end (after_finish new.switch.run) new.counts → IsFinished v results
 answers_finished stay reaches ends takes law isolate old new begun failed v results view not_failed kept same half closed running captures counts =
     subst (λ w. IsFinished w results) (seen_so_far old begun failed v view not_failed)
     (finished stay reaches ends takes law isolate old new begun results (subst (λ b. IsKept old begun b) not_failed kept) same half closed running captures counts)
 
-pub answers_not_finished : {Z : Type 0} (old new : Machine Z) (begun failed : Bool) (v : Seen) (fault : RunFault) → seen_of old begun failed ≡ v → failed ≡ false → IsOfSameTable old.switch new.switch → AreHalfDone old.lanes.items new.lanes.items
+pub answers_not_finished : {Z : Type 0} (old new : Machine Z) (begun failed : Bool) (v : Seen) (fault : RunFault) → seen_of old begun failed ≡ v → failed ≡ false → IsOfSameTable old.switch new.switch
+    → AreHalfDone old.lanes.items new.lanes.items
     → IsReadFault (texts_at old.lanes.items) fault → IsNotFinished v (fault, seen_of new begun true)
 answers_not_finished old new begun failed v fault view not_failed same half why =
     subst (λ w. IsNotFinished w (fault, seen_of new begun true)) (seen_so_far old begun failed v view not_failed)

@@ -46,14 +46,16 @@ settled_all (suc n) (l ∷ old) (m ∷ new) le was = (was.0, settled_all n old n
 
 -- ---- fresh ones
 
-fresh_suc : {Z : Type 0} (n : ℕ) (ports : List PortRow) (lanes : List (Lane Z)) (p : PortRow) (l : Lane Z) → n < length ports → slice_get ports n ≡ Some p → AreFreshLanes (take n ports) lanes → IsFreshLane p.id l → AreFreshLanes (take (suc n) ports) (lanes ++ l ∷ [])
+fresh_suc : {Z : Type 0} (n : ℕ) (ports : List PortRow) (lanes : List (Lane Z)) (p : PortRow) (l : Lane Z) → n < length ports → slice_get ports n ≡ Some p → AreFreshLanes (take n ports) lanes
+    → IsFreshLane p.id l → AreFreshLanes (take (suc n) ports) (lanes ++ l ∷ [])
 fresh_suc n [] lanes p l lt at was fresh = absurd (omega (arith, lt))
 fresh_suc {Z = Z} zero (q ∷ ports) [] p l lt at was fresh = (subst (λ (x : PortRow). IsFreshLane x.id l) (sym (some_same q p at)) fresh, tt)
 fresh_suc zero (q ∷ ports) (m ∷ lanes) p l lt at was fresh = absurd was
 fresh_suc (suc n) (q ∷ ports) [] p l lt at was fresh = absurd was
 fresh_suc (suc n) (q ∷ ports) (m ∷ lanes) p l lt at was fresh = (was.0, fresh_suc n ports lanes p l (omega (arith, lt)) at was.1 fresh)
 
-pub fresh_more : {Z : Type 0} (n : ℕ) (ports : List PortRow) (lanes : List (Lane Z)) (p : PortRow) (l : Lane Z) → n < length ports → slice_get ports n ≡ Some p → AreFreshLanes (take n ports) lanes → IsFreshLane p.id l
+pub fresh_more : {Z : Type 0} (n : ℕ) (ports : List PortRow) (lanes : List (Lane Z)) (p : PortRow) (l : Lane Z) → n < length ports → slice_get ports n ≡ Some p → AreFreshLanes (take n ports) lanes
+    → IsFreshLane p.id l
     → AreFreshLanes (take (n + 1) ports) (lanes ++ l ∷ [])
 fresh_more n ports lanes p l lt at was fresh = subst (λ k. AreFreshLanes (take k ports) (lanes ++ l ∷ [])) (plus_one n) (fresh_suc n ports lanes p l lt at was fresh)
 

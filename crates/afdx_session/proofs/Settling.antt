@@ -7,7 +7,8 @@ use Rattle.std.proofs.lemmas.List.Elements.{filter-append}
 use Rattle.std.proofs.lemmas.Bool.{cases_Bool, cases_lt}
 use Rattle.std.proofs.lemmas.Bool.Decides.{nat_tests}
 use Rattle.afdx_pcap.specs.Entry.{Entry}
-use Rattle.afdx_core.specs.Merge.{Arrival, Capture, Rises, part_at, records_of, arrivals_of, placed, by_stamp, merged, MergedIsAMerge, Precedes, AreByStampAndPort, PortsRise as NumbersRise, MergedIsByStampAndPort}
+use Rattle.afdx_core.specs.Merge.{Arrival, Capture, Rises, part_at, records_of, arrivals_of, placed, by_stamp, merged, MergedIsAMerge, Precedes, AreByStampAndPort, PortsRise as NumbersRise}
+use Rattle.afdx_core.specs.Merge.{MergedIsByStampAndPort}
 use Rattle.afdx_session.specs.Streams.{Stream, capture_of, captures_of, last_of, merged_so_far, GoesOn, GoOn}
 use Rattle.afdx_session.specs.Settled.{Ascend, ports_of, ComesBefore, IsSettled, AreQueued, IsSettling, AllWait, AllRise}
 use Rattle.afdx_session.proofs.Numbered.{all_append}
@@ -177,7 +178,8 @@ pub record IsMore (streams later : List Stream) (waiting more : List Capture) (q
   pub come : records_of (captures_of later) q ≡ records_of (captures_of streams) q ++ added
   pub queue : records_of more q ≡ records_of waiting q ++ added
 
-is_more : (streams later : List Stream) (waiting more : List Capture) (q : ℕ) → Ascend (ports_of (captures_of streams)) → AllWait streams later waiting more → AreQueued streams waiting → IsMore streams later waiting more q
+is_more : (streams later : List Stream) (waiting more : List Capture) (q : ℕ) → Ascend (ports_of (captures_of streams)) → AllWait streams later waiting more → AreQueued streams waiting
+    → IsMore streams later waiting more q
 is_more [] [] [] [] q ascend wait queued = record { added = []; come = refl; queue = refl }
 is_more [] [] [] (v ∷ more) q ascend wait queued = absurd wait
 is_more [] [] (w ∷ waiting) more q ascend wait queued = absurd wait
@@ -215,7 +217,8 @@ is_more (s ∷ streams) (n ∷ later) (w ∷ waiting) (v ∷ more) q ascend wait
 
 -- ---- what was given comes before what comes
 
-settled_precedes : (a : Arrival) (s : Stream) (rs : List Entry) → (a.frame.stamp < last_of s) ⊎ ((a.frame.stamp ≡ last_of s) × (a.port ≤ s.port)) → AllByRecursion (λ (r : Entry). last_of s ≤ r.stamp) rs
+settled_precedes : (a : Arrival) (s : Stream) (rs : List Entry) → (a.frame.stamp < last_of s) ⊎ ((a.frame.stamp ≡ last_of s) × (a.port ≤ s.port))
+    → AllByRecursion (λ (r : Entry). last_of s ≤ r.stamp) rs
     → AllByRecursion (λ (r : Entry). Precedes a (record { port = s.port; frame = r })) rs
 settled_precedes a s [] by all = tt
 settled_precedes a s (r ∷ rs) by all = (one by all.0, settled_precedes a s rs by all.1) where
@@ -289,7 +292,8 @@ part-append : (port : ℕ) (xs ys : List Arrival) → part_at port (xs ++ ys) �
 part-append port xs ys = ap (map (λ (a : Arrival). a.frame)) (filter-append (λ (a : Arrival). a.port == port) xs ys)
     ∙ map-append (λ (a : Arrival). a.frame) (filter (λ (a : Arrival). a.port == port) xs) (filter (λ (a : Arrival). a.port == port) ys)
 
-pub settled_stays : MergedIsAMerge → MergedIsByStampAndPort → (streams later : List Stream) (given : List Arrival) (waiting more : List Capture) → Ascend (ports_of (captures_of streams)) → AllWait streams later waiting more
+pub settled_stays : MergedIsAMerge → MergedIsByStampAndPort → (streams later : List Stream) (given : List Arrival) (waiting more : List Capture) → Ascend (ports_of (captures_of streams))
+    → AllWait streams later waiting more
     → IsSettling streams given waiting → IsSettling later given more
 settled_stays merge sorted streams later given waiting more ascend wait old = record {
   queued = s.more_queued;
@@ -316,7 +320,8 @@ settled_stays merge sorted streams later given waiting more ascend wait old = re
 
   cross : AllByRecursion (λ a. AllByRecursion (λ b. Precedes a b) (merged more)) given
   cross = both_all (λ a. AllByRecursion (λ b. Precedes a b) (merged waiting)) (IsSettled streams) (λ a. AllByRecursion (λ b. Precedes a b) (merged more)) given
-      (λ a all settled. by_stamp_in (λ b. Precedes a b) (arrivals_of more) (cross_more a streams later waiting more wait old.queued settled (by_stamp_out (λ b. Precedes a b) (arrivals_of waiting) all)))
+      (λ a all settled. by_stamp_in (λ b. Precedes a b) (arrivals_of more) (cross_more a streams later waiting more wait old.queued settled
+      (by_stamp_out (λ b. Precedes a b) (arrivals_of waiting) all)))
       (sorted_cross given (merged waiting) whole_sorted) old.settled
 
   parts : (q : ℕ) → part_at q (merged_so_far later) ≡ part_at q (given ++ merged more)

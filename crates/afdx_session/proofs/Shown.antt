@@ -49,7 +49,8 @@ length-drop-within zero xs le = omega arith
 length-drop-within (suc n) [] le = absurd (omega (arith, le))
 length-drop-within (suc n) (x ∷ xs) le = let more = length-drop-within n xs (omega (arith, le)) in omega (arith, more)
 
-pub shown_ready : {Z : Type 0} → EarlierEventsStayAdmitted → ReachesInOrder → AllStartBeforeTheLastInstant → (m : Machine Z) → AreOfTable m.switch.run.table m.lanes.items → IsReady m true → IsShown m.switch.run.table true m.lanes.items
+pub shown_ready : {Z : Type 0} → EarlierEventsStayAdmitted → ReachesInOrder → AllStartBeforeTheLastInstant → (m : Machine Z) → AreOfTable m.switch.run.table m.lanes.items → IsReady m true
+    → IsShown m.switch.run.table true m.lanes.items
 shown_ready stay reaches ends m of ready = record {
   streams = ready.running.going.streams;
   are = lanes_are_streams true m.lanes.items ready.running.going.streams ready.marked ready.read ready.running.going.lanes_are;
@@ -130,7 +131,8 @@ kept_failed old new begun same half kept = record {
   cc_false : true ≡ false → ⊥
   cc_false e = absurd cc
 
-pub kept_ready : {Z : Type 0} → EarlierEventsStayAdmitted → ReachesInOrder → AllStartBeforeTheLastInstant → (old new : Machine Z) (begun failed : Bool) → IsOfSameTable old.switch new.switch → map (λ (l : Lane Z). l.port) new.lanes.items ≡ map (λ (l : Lane Z). l.port) old.lanes.items
+pub kept_ready : {Z : Type 0} → EarlierEventsStayAdmitted → ReachesInOrder → AllStartBeforeTheLastInstant → (old new : Machine Z) (begun failed : Bool) → IsOfSameTable old.switch new.switch
+    → map (λ (l : Lane Z). l.port) new.lanes.items ≡ map (λ (l : Lane Z). l.port) old.lanes.items
     → IsKept old begun failed → IsReady new true → IsKept new true false
 kept_ready stay reaches ends old new begun failed same ports kept ready = record {
   of = of;

@@ -60,7 +60,8 @@ shown_taken text old new taken shown =
     }
 
 -- what it has handed out stays
-out_taken : {Z : Type 0} (begun : Bool) (t : Content) (given : List Arrival) (h : ℕ) (s : State) (p : PortRow) (place : ℕ) (old new : Lane Z) → IsTaken old new → IsMarked begun old → IsOut t given h s p place old → IsOut t given h s p place new
+out_taken : {Z : Type 0} (begun : Bool) (t : Content) (given : List Arrival) (h : ℕ) (s : State) (p : PortRow) (place : ℕ) (old new : Lane Z) → IsTaken old new → IsMarked begun old
+    → IsOut t given h s p place old → IsOut t given h s p place new
 out_taken begun t given h s p place old new taken marked out = elim (cases_Bool (old.ready == 0)) [
   | inl none ↦
       let zero_ready = zero_is old.ready none in
@@ -106,7 +107,8 @@ marked_taken begun old new taken marked = record {
 pub took_intake : {Z : Type 0} (old new : Lane Z) (n : ℕ) → IsTaken old new → new.taken ≡ n → intake_of new ≡ took n (intake_of old)
 took_intake old new n taken is = rw (taken.port, taken.reader, taken.undone, taken.closed, is) refl
 
-took_streams : {Z : Type 0} (lanes : List (Lane Z)) (k : ℕ) (old new : Lane Z) (streams : List Stream) → slice_get lanes k ≡ Some old → IsTaken old new → AreStreams (intakes_of lanes) streams → AreStreams (intakes_of (set lanes k new)) streams
+took_streams : {Z : Type 0} (lanes : List (Lane Z)) (k : ℕ) (old new : Lane Z) (streams : List Stream) → slice_get lanes k ≡ Some old → IsTaken old new → AreStreams (intakes_of lanes) streams
+    → AreStreams (intakes_of (set lanes k new)) streams
 took_streams [] k old new streams at taken are = absurd cc
 took_streams (l ∷ lanes) k old new [] at taken are = absurd are
 took_streams {Z = Z} (l ∷ lanes) zero old new (s ∷ streams) at taken are =
@@ -116,7 +118,8 @@ took_streams {Z = Z} (l ∷ lanes) zero old new (s ∷ streams) at taken are =
     )
 took_streams (l ∷ lanes) (suc k) old new (s ∷ streams) at taken are = (are.0, took_streams lanes k old new streams at taken are.1)
 
-shown_took : {Z : Type 0} (t : Content) (begun : Bool) (lanes : List (Lane Z)) (k : ℕ) (old new : Lane Z) → slice_get lanes k ≡ Some old → IsTaken old new → IsShown t begun lanes → IsShown t begun (set lanes k new)
+shown_took : {Z : Type 0} (t : Content) (begun : Bool) (lanes : List (Lane Z)) (k : ℕ) (old new : Lane Z) → slice_get lanes k ≡ Some old → IsTaken old new → IsShown t begun lanes
+    → IsShown t begun (set lanes k new)
 shown_took {Z} t begun lanes k old new at taken shown = record {
   streams = shown.streams;
   are = took_streams lanes k old new shown.streams at taken shown.are;
@@ -128,7 +131,8 @@ shown_took {Z} t begun lanes k old new at taken shown = record {
   ];
 }
 
-took_lanes : {Z : Type 0} (lanes : List (Lane Z)) (k : ℕ) (old new : Lane Z) (streams : List Stream) → slice_get lanes k ≡ Some old → IsTaken old new → AreLanesOf lanes streams → AreLanesOf (set lanes k new) streams
+took_lanes : {Z : Type 0} (lanes : List (Lane Z)) (k : ℕ) (old new : Lane Z) (streams : List Stream) → slice_get lanes k ≡ Some old → IsTaken old new → AreLanesOf lanes streams
+    → AreLanesOf (set lanes k new) streams
 took_lanes [] k old new streams at taken are = absurd cc
 took_lanes (l ∷ lanes) k old new [] at taken are = absurd are
 took_lanes {Z = Z} (l ∷ lanes) zero old new (s ∷ streams) at taken are =
@@ -154,12 +158,14 @@ took_waiting {Z = Z} (l ∷ lanes) zero old new at taken =
     ∙ ap (λ (x : Lane Z). waiting_of x ∷ map waiting_of lanes) (sym (some_same l old at))
 took_waiting (l ∷ lanes) (suc k) old new at taken = ap (λ ws. waiting_of l ∷ ws) (took_waiting lanes k old new at taken)
 
-took_ports : {Z : Type 0} (lanes : List (Lane Z)) (k : ℕ) (old new : Lane Z) → slice_get lanes k ≡ Some old → IsTaken old new → map (λ (l : Lane Z). l.port) (set lanes k new) ≡ map (λ (l : Lane Z). l.port) lanes
+took_ports : {Z : Type 0} (lanes : List (Lane Z)) (k : ℕ) (old new : Lane Z) → slice_get lanes k ≡ Some old → IsTaken old new → map (λ (l : Lane Z). l.port) (set lanes k new)
+    ≡ map (λ (l : Lane Z). l.port) lanes
 took_ports [] k old new at taken = absurd cc
 took_ports {Z = Z} (l ∷ lanes) zero old new at taken = ap (λ n. n ∷ map (λ (x : Lane Z). x.port) lanes) (taken.port ∙ ap (λ (x : Lane Z). x.port) (sym (some_same l old at)))
 took_ports (l ∷ lanes) (suc k) old new at taken = ap (λ ns. l.port ∷ ns) (took_ports lanes k old new at taken)
 
-took_marked : {Z : Type 0} (begun : Bool) (lanes : List (Lane Z)) (k : ℕ) (old new : Lane Z) → slice_get lanes k ≡ Some old → IsTaken old new → AllByRecursion (IsMarked begun) lanes → AllByRecursion (IsMarked begun) (set lanes k new)
+took_marked : {Z : Type 0} (begun : Bool) (lanes : List (Lane Z)) (k : ℕ) (old new : Lane Z) → slice_get lanes k ≡ Some old → IsTaken old new → AllByRecursion (IsMarked begun) lanes
+    → AllByRecursion (IsMarked begun) (set lanes k new)
 took_marked begun [] k old new at taken marked = absurd cc
 took_marked {Z = Z} begun (l ∷ lanes) zero old new at taken marked = (marked_taken begun old new taken (subst (λ (x : Lane Z). IsMarked begun x) (some_same l old at) marked.0), marked.1)
 took_marked begun (l ∷ lanes) (suc k) old new at taken marked = (marked.0, took_marked begun lanes k old new at taken marked.1)
@@ -169,7 +175,8 @@ length-set-lanes [] k new = refl
 length-set-lanes (l ∷ lanes) zero new = refl
 length-set-lanes (l ∷ lanes) (suc k) new = ap suc (length-set-lanes lanes k new)
 
-running_took : {Z : Type 0} (begun : Bool) (t : Content) (lanes : List (Lane Z)) (s : State) (counts : Tally) (k : ℕ) (old new : Lane Z) → slice_get lanes k ≡ Some old → IsTaken old new → AllByRecursion (IsMarked begun) lanes → IsRunning t lanes s counts
+running_took : {Z : Type 0} (begun : Bool) (t : Content) (lanes : List (Lane Z)) (s : State) (counts : Tally) (k : ℕ) (old new : Lane Z) → slice_get lanes k ≡ Some old → IsTaken old new
+    → AllByRecursion (IsMarked begun) lanes → IsRunning t lanes s counts
     → IsRunning t (set lanes k new) s counts
 running_took {Z} begun t lanes s counts k old new at taken marked run = record {
   going = record {
@@ -188,7 +195,8 @@ running_took {Z} begun t lanes s counts k old new at taken marked run = record {
       | inr other ↦ going.outs place p l tt is_port other
       | inl same ↦
           subst (λ (x : Lane Z). IsOut t going.given going.since s p place x) (sym same.1)
-          (out_taken begun t going.given going.since s p place old new taken (all_slice_get (IsMarked begun) lanes k old marked at) (going.outs place p old tt is_port (ap (slice_get lanes) same.0 ∙ at)))
+          (out_taken begun t going.given going.since s p place old new taken (all_slice_get (IsMarked begun) lanes k old marked at)
+          (going.outs place p old tt is_port (ap (slice_get lanes) same.0 ∙ at)))
     ];
   };
   out = λ some. run.out (subst (λ n. 0 < n) (length-set-lanes lanes k new) some);
@@ -197,7 +205,8 @@ running_took {Z} begun t lanes s counts k old new at taken marked run = record {
   going = run.going
 
 -- what is true of a session stays
-pub kept_taken : {Z : Type 0} (m next : Machine Z) (begun failed : Bool) (k : ℕ) (old new : Lane Z) → slice_get m.lanes.items k ≡ Some old → IsTaken old new → next.switch ≡ m.switch → next.counts ≡ m.counts → next.lanes.items ≡ set m.lanes.items k new
+pub kept_taken : {Z : Type 0} (m next : Machine Z) (begun failed : Bool) (k : ℕ) (old new : Lane Z) → slice_get m.lanes.items k ≡ Some old → IsTaken old new → next.switch ≡ m.switch → next.counts
+    ≡ m.counts → next.lanes.items ≡ set m.lanes.items k new
     → IsKept m begun failed → IsKept next begun failed
 kept_taken {Z} m next begun failed k old new at taken switch counts lanes kept = record {
   of = rw (switch, lanes) (record { formed = kept.of.formed; ports = took_ports m.lanes.items k old new at taken ∙ kept.of.ports });

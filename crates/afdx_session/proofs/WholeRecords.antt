@@ -120,7 +120,8 @@ goes_on stay unique i later s next on is are =
       none_added rs [] same = refl
       none_added rs (a ∷ added) same = let long = ap length same ∙ length-append rs (a ∷ added) in absurd (omega (arith, long))
 
-pub go_on : RecordsStay → RecordsAreUnique → (intakes later : List Intake) (streams others : List Stream) → AreFedOn intakes later → AreStreams intakes streams → AreStreams later others → GoOn streams others
+pub go_on : RecordsStay → RecordsAreUnique → (intakes later : List Intake) (streams others : List Stream) → AreFedOn intakes later → AreStreams intakes streams → AreStreams later others
+    → GoOn streams others
 go_on stay unique [] [] [] [] on are is = tt
 go_on stay unique [] [] [] (s ∷ others) on are is = absurd is
 go_on stay unique [] [] (s ∷ streams) others on are is = absurd are
@@ -133,7 +134,8 @@ go_on stay unique (i ∷ intakes) (n ∷ later) (s ∷ streams) (o ∷ others) o
 pub grows_with_bytes : EarlierEventsStayAdmitted → ReachesInOrder → EventsAreInParts → RecordsStay → RecordsAreUnique
     → (t : Content) (intakes later : List Intake) (streams others : List Stream) (p : PortRow) → AreFedOn intakes later → AreStreams intakes streams → AreStreams later others
     → (rest : List ℕ) × (text_so_far t others p ≡ text_so_far t streams p ++ rest)
-grows_with_bytes stay reaches parts records unique t intakes later streams others p on are is = text_grows stay reaches parts t streams others p (go_on records unique intakes later streams others on are is)
+grows_with_bytes stay reaches parts records unique t intakes later streams others p on are is = text_grows stay reaches parts t streams others p
+    (go_on records unique intakes later streams others on are is)
 
 pub streams_unique : RecordsStay → RecordsAreUnique → (intakes : List Intake) (streams others : List Stream) → AreStreams intakes streams → AreStreams intakes others → streams ≡ others
 streams_unique stay unique [] [] [] are is = refl

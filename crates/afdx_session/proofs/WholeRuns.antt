@@ -56,7 +56,8 @@ nothing_taken [] [] port lent = refl
 nothing_taken [] (l ∷ lanes) port lent = absurd lent
 nothing_taken (text ∷ texts) [] port lent = absurd lent
 nothing_taken (text ∷ texts) (l ∷ lanes) port lent = by (l.port == port) (nothing_taken texts lanes port lent.1) where
-  by : (here : Bool) → taken_in (find (λ (i : Intake). i.port == port) (intakes_of lanes)) ≡ 0 → taken_in (cond here (Some (intake_of l)) (find (λ (i : Intake). i.port == port) (intakes_of lanes))) ≡ 0
+  by : (here : Bool) → taken_in (find (λ (i : Intake). i.port == port) (intakes_of lanes)) ≡ 0 → taken_in (cond here (Some (intake_of l)) (find (λ (i : Intake). i.port == port) (intakes_of lanes)))
+      ≡ 0
   by true rest = lent.0.taken
   by false rest = rest
 
@@ -71,13 +72,16 @@ same_results a b captures counts = ap (λ texts. record { captures = texts; coun
 -- ---- the run
 
 -- what is true of each session is true of a machine that all captures were lent to
-pub kept_lent : {Z : Type 0} → EarlierEventsStayAdmitted → ReachesInOrder → AllStartBeforeTheLastInstant → (old new : Machine Z) (t : Content) (texts : List Text) → IsKept old false false → old.switch.run.table ≡ t → AreOfPorts t texts → IsOfSameTable old.switch new.switch → IsReady new true
+pub kept_lent : {Z : Type 0} → EarlierEventsStayAdmitted → ReachesInOrder → AllStartBeforeTheLastInstant → (old new : Machine Z) (t : Content) (texts : List Text) → IsKept old false false
+    → old.switch.run.table ≡ t → AreOfPorts t texts → IsOfSameTable old.switch new.switch → IsReady new true
     → AreLent texts new.lanes.items → IsKept new true false
 kept_lent stay reaches ends old new t texts kept table ports same ready lent =
-    kept_ready stay reaches ends old new false false same (lent_ports texts new.lanes.items lent ∙ ports ∙ ap (λ (c : Content). map (λ (p : PortRow). p.id) c.ports) (sym table) ∙ sym kept.of.ports) kept ready
+    kept_ready stay reaches ends old new false false same (lent_ports texts new.lanes.items lent ∙ ports ∙ ap (λ (c : Content). map (λ (p : PortRow). p.id) c.ports) (sym table) ∙ sym kept.of.ports)
+    kept ready
 
 -- its fault is that of the captures
-pub lent_fault : {Z : Type 0} (m : Machine Z) (texts : List Text) (fault : RunFault) → AreLent texts m.lanes.items → IsReady m true → IsReadFault (texts_at m.lanes.items) fault → IsReadFault texts fault
+pub lent_fault : {Z : Type 0} (m : Machine Z) (texts : List Text) (fault : RunFault) → AreLent texts m.lanes.items → IsReady m true → IsReadFault (texts_at m.lanes.items) fault
+    → IsReadFault texts fault
 lent_fault m texts fault lent ready is = subst (λ ts. IsReadFault ts fault) (texts_are true texts m.lanes.items lent ready.marked) is
 
 pub is_refusal : (t : Content) (texts : List Text) (fault : RunFault) → AreOfPorts t texts → IsReadFault texts fault → IsRefusal t texts fault
@@ -90,7 +94,8 @@ is_refusal t texts run.Failed ports is = is
 -- the end of such a machine gives the whole output
 pub lent_outcome : {Z : Type 0} → EarlierEventsStayAdmitted → ReachesInOrder → AllStartBeforeTheLastInstant → TakenAreTheCapture → EndCountsTheRun → AcceptedRunsIsolate
     → (accepted : Bool) (t : Content) (texts : List Text) (new : Machine Z) (results : Results) → HasCarried accepted t texts new
-    → results.captures ≡ map (λ (l : Lane Z). (l.port, l.out.items)) new.lanes.items → results.counts ≡ ended (after_finish new.switch.run) new.counts → IsOutcome t texts results × (accepted ≡ true → IsIsolated t texts results)
+    → results.captures ≡ map (λ (l : Lane Z). (l.port, l.out.items)) new.lanes.items → results.counts ≡ ended (after_finish new.switch.run) new.counts → IsOutcome t texts results
+    × (accepted ≡ true → IsIsolated t texts results)
 lent_outcome {Z} stay reaches ends takes law isolate accepted t texts new results carried captures counts =
     (seen_as (λ c ts r. IsOutcome c ts r) end.outcome, λ cleared. seen_as (λ c ts r. IsIsolated c ts r) (end.isolated (carried.accepted ∙ cleared))) where
       old : Machine Z
@@ -108,10 +113,12 @@ lent_outcome {Z} stay reaches ends takes law isolate accepted t texts new result
       seen_as : (P : Content → List Text → Results → Type 0) → P old.switch.run.table (texts_at old.lanes.items) end.whole → P t texts results
       seen_as P is =
           subst (λ (c : Content). P c texts results) carried.table
-          (subst (λ (ts : List Text). P old.switch.run.table ts results) (texts_are true texts old.lanes.items carried.captures (carried.kept.ready refl).marked) (subst (λ (r : Results). P old.switch.run.table (texts_at old.lanes.items) r) (sym all) is))
+          (subst (λ (ts : List Text). P old.switch.run.table ts results) (texts_are true texts old.lanes.items carried.captures (carried.kept.ready refl).marked)
+          (subst (λ (r : Results). P old.switch.run.table (texts_at old.lanes.items) r) (sym all) is))
 
 -- the switch of such a machine, once it is finished, took the program's merge of the records
-pub lent_done : {Z : Type 0} → TakenAreTheCapture → (accepted : Bool) (t : Content) (texts : List Text) (m : Machine Z) (s : State) → HasCarried accepted t texts m → s.run ≡ after_finish m.switch.run → s.accepted ≡ m.switch.accepted
+pub lent_done : {Z : Type 0} → TakenAreTheCapture → (accepted : Bool) (t : Content) (texts : List Text) (m : Machine Z) (s : State) → HasCarried accepted t texts m → s.run ≡ after_finish m.switch.run
+    → s.accepted ≡ m.switch.accepted
     → IsRun s.run → IsDoneOf accepted t texts s
 lent_done {Z} takes accepted t texts m s carried run same_accepted is_run = record {
   ports = carried.ports;
@@ -119,7 +126,8 @@ lent_done {Z} takes accepted t texts m s carried run same_accepted is_run = reco
   are_read = subst (λ (ts : List Text). AreCaptures ts (captures_of going.streams)) (texts_are true texts old.lanes.items carried.captures marked)
       (are_captures takes true old.lanes.items m.lanes.items going.streams marked carried.ended going.lanes_are);
   table = ap (λ (r : Run). r.table) run ∙ table;
-  rows = ap (λ (r : Run). r.rows) run ∙ going.is_given.rows ∙ ap (rows_of m.switch.run.table) (sym (given_all m.switch.run.table old.lanes.items m.lanes.items m.switch m.counts carried.running carried.ended))
+  rows = ap (λ (r : Run). r.rows) run ∙ going.is_given.rows ∙ ap (rows_of m.switch.run.table)
+      (sym (given_all m.switch.run.table old.lanes.items m.lanes.items m.switch m.counts carried.running carried.ended))
       ∙ ap (λ (c : Content). rows_of c (merged (captures_of going.streams))) table;
   is_run = is_run;
   all = ap (λ (r : Run). r.finished) run;

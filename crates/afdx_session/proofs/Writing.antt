@@ -131,7 +131,8 @@ writes t arrivals n p old new text before out left is_port is_text texts counts 
 
 -- ---- captures that were lent
 
-over_captures : {Z : Type 0} → TakenAreTheCapture → (lanes : List (Lane Z)) (streams : List Stream) → AllByRecursion IsOver lanes → AllByRecursion (λ (l : Lane Z). l.ended ≡ true) lanes → AreLanesOf lanes streams → AreCaptures (texts_over lanes) (captures_of streams)
+over_captures : {Z : Type 0} → TakenAreTheCapture → (lanes : List (Lane Z)) (streams : List Stream) → AllByRecursion IsOver lanes → AllByRecursion (λ (l : Lane Z). l.ended ≡ true) lanes
+    → AreLanesOf lanes streams → AreCaptures (texts_over lanes) (captures_of streams)
 over_captures law [] [] over ended are = tt
 over_captures law [] (s ∷ streams) over ended are = absurd are
 over_captures law (l ∷ lanes) [] over ended are = absurd are

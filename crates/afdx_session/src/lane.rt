@@ -1,9 +1,11 @@
 //! What the machine has of one port.
 
-ghost use Rattle.std.specs.Prelude.{◌≡◌, ◌<◌, ◌≤◌, ◌-◌, ◌^◌, ◌==◌, ◌++◌, [], ℕ, true, false, take, None, Some, Ok, List, length, IfOk, IfErr, OnOk, OnErr, IfSome, IfNone, Option, is_some, if◌then◌else◌, ◌+◌, IsTrue, ◌↔◌, position, find};
+ghost use Rattle.std.specs.Prelude.{◌≡◌, ◌<◌, ◌≤◌, ◌-◌, ◌^◌, ◌==◌, ◌++◌, [], ℕ, true, false, take, None, Some, Ok, List, length, IfOk, IfErr, OnOk, OnErr, IfSome, IfNone, Option, is_some};
+ghost use Rattle.std.specs.Prelude.{if◌then◌else◌, ◌+◌, IsTrue, ◌↔◌, position, find};
 ghost use Rattle.afdx_pcap.specs.Entry.{Entry};
 ghost use Rattle.afdx_pcap.specs.Reading.{Answers};
-ghost use Rattle.afdx_session.specs.Lanes.{HasReadAll, HasDrawn, IsReadOn, Adds, IsLaneFault, limit_at, best_place, IsFirstOf, IsWithinPlace, head_of, sooner_of, IsStill, IsPieceFault, GoesAt, NoneGoes};
+ghost use Rattle.afdx_session.specs.Lanes.{HasReadAll, HasDrawn, IsReadOn, Adds, IsLaneFault, limit_at, best_place, IsFirstOf, IsWithinPlace, head_of, sooner_of, IsStill, IsPieceFault, GoesAt};
+ghost use Rattle.afdx_session.specs.Lanes.{NoneGoes};
 ghost use Rattle.afdx_session.specs.Lent.{IsOver};
 ghost use Rattle.afdx_session.specs.Reading.{IsFaultAt};
 ghost use Rattle.afdx_session.specs.View.{IsFreshLane, AreFreshLanes, IsSettledLane, IsTaken, IsOpenAt, intakes_of};

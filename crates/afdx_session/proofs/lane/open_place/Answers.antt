@@ -10,7 +10,8 @@ returns-then-lanes-place-clause-err g c =
     let lanes = c.args.lanes.now in
     let lane = slice_index_or lanes c.in-Some.place c.index-lanes-place.result in
     let found = position_at (is_lane_of c.args.port) lanes c.in-Some.place (sym c.place_of.ensures ∙ c.in-Some.is) in
-    ap refusal_at (intake_found lanes c.args.port c.in-Some.place lane found.0 found.1 (at_index lanes c.in-Some.place c.index-lanes-place.result found.1)) ∙ ap (λ b. cond b (Some Closed) None) c.if-lanes-place.true
+    ap refusal_at (intake_found lanes c.args.port c.in-Some.place lane found.0 found.1 (at_index lanes c.in-Some.place c.index-lanes-place.result found.1))
+    ∙ ap (λ b. cond b (Some Closed) None) c.if-lanes-place.true
 
 pub returns-else-lanes-place-clause-ok : goal.returns-else-lanes-place-clause-ok
 returns-else-lanes-place-clause-ok g c =

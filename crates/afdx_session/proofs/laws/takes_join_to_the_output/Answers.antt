@@ -9,15 +9,18 @@ returns-clause-none c = nothing_was_taken
 
 pub returns-clause-stays : goal.returns-clause-stays
 returns-clause-stays c =
-    taken_stays c.arrivals_change_nothing_earlier.ensures.admission c.stamps_keep_their_order.ensures.instants c.events_follow_the_line.ensures.parts c.whole_records_stay.ensures.stay c.whole_records_stay.ensures.unique
+    taken_stays c.arrivals_change_nothing_earlier.ensures.admission c.stamps_keep_their_order.ensures.instants c.events_follow_the_line.ensures.parts c.whole_records_stay.ensures.stay
+    c.whole_records_stay.ensures.unique
 
 pub returns-clause-joins : goal.returns-clause-joins
 returns-clause-joins c = takes_join c.whole_records_stay.ensures.stay c.whole_records_stay.ensures.unique
 
 pub returns-clause-front : goal.returns-clause-front
 returns-clause-front c =
-    taken_is_a_front c.arrivals_change_nothing_earlier.ensures.admission c.stamps_keep_their_order.ensures.instants c.events_follow_the_line.ensures.parts c.whole_records_stay.ensures.stay c.whole_records_stay.ensures.unique
+    taken_is_a_front c.arrivals_change_nothing_earlier.ensures.admission c.stamps_keep_their_order.ensures.instants c.events_follow_the_line.ensures.parts c.whole_records_stay.ensures.stay
+    c.whole_records_stay.ensures.unique
 
 pub returns-clause-whole : goal.returns-clause-whole
 returns-clause-whole c =
-    takes_and_rest c.arrivals_change_nothing_earlier.ensures.admission c.stamps_keep_their_order.ensures.instants c.events_follow_the_line.ensures.parts c.whole_records_stay.ensures.stay c.whole_records_stay.ensures.unique
+    takes_and_rest c.arrivals_change_nothing_earlier.ensures.admission c.stamps_keep_their_order.ensures.instants c.events_follow_the_line.ensures.parts c.whole_records_stay.ensures.stay
+    c.whole_records_stay.ensures.unique

@@ -49,7 +49,8 @@ end-requires-clause-of g c =
     let made = c.in_ok-machine.ensures in
     let ports = subst (λ (u : Content). AreOfPorts u texts) c.table.ensures.table (c.are_of_ports.ensures.are.0 c.if-not-are_of_ports.false) in
     let kept = fresh_kept c.starts_with_none.ensures (is_cleared c.args.plan) t c.in_ok-machine.machine made.formed made.accepted made.fresh.0 made.fresh.1 made.fresh.2 in
-    (kept_lent c.arrivals_change_nothing_earlier.ensures.admission c.stamps_keep_their_order.ensures.instants c.all_start_before_the_last_instant.ensures c.in_ok-machine.machine c.lend.new.self t texts kept (ap (λ (s : State). s.run.table) made.fresh.0) ports
+    (kept_lent c.arrivals_change_nothing_earlier.ensures.admission c.stamps_keep_their_order.ensures.instants c.all_start_before_the_last_instant.ensures c.in_ok-machine.machine c.lend.new.self t
+    texts kept (ap (λ (s : State). s.run.table) made.fresh.0) ports
     c.lend.ensures.same c.in_ok-lend.ensures.ok.0 c.in_ok-lend.ensures.ok.1).of
 
 pub end-requires-clause-handed : goal.end-requires-clause-handed
@@ -59,7 +60,8 @@ end-requires-clause-handed g c =
     let made = c.in_ok-machine.ensures in
     let ports = subst (λ (u : Content). AreOfPorts u texts) c.table.ensures.table (c.are_of_ports.ensures.are.0 c.if-not-are_of_ports.false) in
     let kept = fresh_kept c.starts_with_none.ensures (is_cleared c.args.plan) t c.in_ok-machine.machine made.formed made.accepted made.fresh.0 made.fresh.1 made.fresh.2 in
-    (kept_lent c.arrivals_change_nothing_earlier.ensures.admission c.stamps_keep_their_order.ensures.instants c.all_start_before_the_last_instant.ensures c.in_ok-machine.machine c.lend.new.self t texts kept (ap (λ (s : State). s.run.table) made.fresh.0) ports
+    (kept_lent c.arrivals_change_nothing_earlier.ensures.admission c.stamps_keep_their_order.ensures.instants c.all_start_before_the_last_instant.ensures c.in_ok-machine.machine c.lend.new.self t
+    texts kept (ap (λ (s : State). s.run.table) made.fresh.0) ports
     c.lend.ensures.same c.in_ok-lend.ensures.ok.0 c.in_ok-lend.ensures.ok.1).handed
 
 pub end-requires-clause-ready : goal.end-requires-clause-ready
@@ -86,7 +88,8 @@ returns-clause-ok g c =
       table = c.lend.ensures.same.table ∙ ap (λ (s : State). s.run.table) made.fresh.0;
       accepted = c.lend.ensures.same.accepted ∙ ap (λ (s : State). s.accepted) made.fresh.0;
       ports = ports;
-      kept = kept_lent c.arrivals_change_nothing_earlier.ensures.admission c.stamps_keep_their_order.ensures.instants c.all_start_before_the_last_instant.ensures c.in_ok-machine.machine c.lend.new.self t texts kept
+      kept = kept_lent c.arrivals_change_nothing_earlier.ensures.admission c.stamps_keep_their_order.ensures.instants c.all_start_before_the_last_instant.ensures c.in_ok-machine.machine
+          c.lend.new.self t texts kept
           (ap (λ (s : State). s.run.table) made.fresh.0) ports c.lend.ensures.same c.in_ok-lend.ensures.ok.0 c.in_ok-lend.ensures.ok.1;
       captures = c.in_ok-lend.ensures.ok.1;
       same = c.end.ensures.same;

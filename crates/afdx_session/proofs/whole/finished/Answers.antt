@@ -6,7 +6,8 @@ use Rattle.afdx_session.proofs.whole.finished.Goals as goal
 
 pub returns-clause-ok : goal.returns-clause-ok
 returns-clause-ok g c =
-    lent_done c.taken_records_are_the_first.ensures.ends (is_cleared c.args.plan) (table_in c.args.plan) (texts_of c.args.captures.now) c.in_ok-machine.machine c.finish.result c.in_ok-machine.ensures.ok
+    lent_done c.taken_records_are_the_first.ensures.ends (is_cleared c.args.plan) (table_in c.args.plan) (texts_of c.args.captures.now) c.in_ok-machine.machine c.finish.result
+    c.in_ok-machine.ensures.ok
     c.finish.ensures.run c.finish.ensures.keeps.accepted c.finish.ensures.is_run
 
 pub returns-clause-isolated : goal.returns-clause-isolated

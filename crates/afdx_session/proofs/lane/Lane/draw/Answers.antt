@@ -8,7 +8,8 @@ returns-in_ok-push_back-in-Some-clause-ok g c =
     let on = c.next.ensures.read_on in
     record {
       frame = c.in-Some.record;
-      adds = adds_one c.taken_records_are_the_first.ensures.joins c.taken_records_are_the_first.ensures.latest c.args.self.now c.args.self.now _ [] c.in-Some.record (adds_none _) answer.2 answer.0 on.bytes answer.1 c.stamp-self.ensures
+      adds = adds_one c.taken_records_are_the_first.ensures.joins c.taken_records_are_the_first.ensures.latest c.args.self.now c.args.self.now _ [] c.in-Some.record (adds_none _) answer.2 answer.0
+          on.bytes answer.1 c.stamp-self.ensures
           (c.in_ok-push_back-in-Some.ensures.items ∙ ap (λ w. w.items ++ c.in-Some.record ∷ []) c.next.ensures.waiting);
       last = c.stamp-self.ensures;
       ended = c.next.ensures.ended;

@@ -24,14 +24,16 @@ returns-in_err-close-clause-half g c =
     let lt = subst (λ n. c.loop-lane.lane-index < n) (sym c.loop-lane.auto.lane-items) c.loop-lane-test.true in
     let long = length-set items c.loop-lane.lane-index c.close.new.self ∙ c.loop-lane.auto.lane-items ∙ ap (λ ls. length ls) c.deref_mut-lane-items.ensures.value in
     subst (λ ls. AreHalfDone v.items ls) (sym (back_items v (set items c.loop-lane.lane-index c.close.new.self) long))
-    (closes_half c.args.self.now items c.loop-lane.lane-index _ _ (at_index items c.loop-lane.lane-index c.lane-item.result lt) c.close.ensures.still c.close.ensures.undone c.close.ensures.bytes c.loop-lane.invariant)
+    (closes_half c.args.self.now items c.loop-lane.lane-index _ _ (at_index items c.loop-lane.lane-index c.lane-item.result lt) c.close.ensures.still c.close.ensures.undone c.close.ensures.bytes
+    c.loop-lane.invariant)
 
 pub returns-in_err-close-clause-err : goal.returns-in_err-close-clause-err
 returns-in_err-close-clause-err g c =
     let items = c.loop-lane.lane-items in
     let lt = subst (λ n. c.loop-lane.lane-index < n) (sym c.loop-lane.auto.lane-items) c.loop-lane-test.true in
     let why =
-    closes_fault c.taken_records_are_the_first.ensures.ends c.requires.ready.0 c.args.self.now items c.loop-lane.lane-index _ c.in_err-close.field-0.0 c.requires.ready.1.marked (at_index items c.loop-lane.lane-index c.lane-item.result lt)
+    closes_fault c.taken_records_are_the_first.ensures.ends c.requires.ready.0 c.args.self.now items c.loop-lane.lane-index _ c.in_err-close.field-0.0 c.requires.ready.1.marked
+    (at_index items c.loop-lane.lane-index c.lane-item.result lt)
     c.in_err-close.ensures.err c.loop-lane.invariant in
     search rules
 
@@ -43,7 +45,8 @@ loop-lane-preserved g c =
     elim c.if-not-lane.branch [
       | then-not-lane+in_ok-close w ↦
           subst (λ ls. Closes c.args.self.now ls (c.loop-lane.lane-index + 1)) (sym w.lane-items-is)
-          (closes_one c.merged_is_a_merge.ensures c.merged_is_by_stamp_and_port.ensures c.requires.ready.0 c.args.self.now items c.loop-lane.lane-index _ _ w.in_ok-close.ensures.ok.0 c.requires.of c.requires.ready.1 at w.if-not-lane.true
+          (closes_one c.merged_is_a_merge.ensures c.merged_is_by_stamp_and_port.ensures c.requires.ready.0 c.args.self.now items c.loop-lane.lane-index _ _ w.in_ok-close.ensures.ok.0 c.requires.of
+          c.requires.ready.1 at w.if-not-lane.true
           w.close.ensures.still w.close.ensures.undone w.close.ensures.bytes w.close.ensures.ended w.in_ok-close.ensures.ok.1 w.in_ok-close.ensures.ok.2 c.loop-lane.invariant)
       | else-not-lane w ↦
           subst (λ ls. Closes c.args.self.now ls (c.loop-lane.lane-index + 1)) (sym w.lane-items-is)
@@ -62,5 +65,6 @@ returns-clause-ok g c =
     let m = c.args.self.now in
     let items = c.loop-lane.lane-items in
     let le = subst (λ n. n ≤ c.loop-lane.lane-index) (sym c.loop-lane.auto.lane-items) c.loop-lane-test.false in
-    subst (λ ls. IsGoing m.switch.run.table ls m.switch m.counts × AreEndedLanes m.lanes.items ls) (sym (back_items m.lanes items (c.loop-lane.auto.lane-items ∙ ap (λ ls. length ls) c.deref_mut-lane-items.ensures.value)))
+    subst (λ ls. IsGoing m.switch.run.table ls m.switch m.counts × AreEndedLanes m.lanes.items ls)
+    (sym (back_items m.lanes items (c.loop-lane.auto.lane-items ∙ ap (λ ls. length ls) c.deref_mut-lane-items.ensures.value)))
     (c.loop-lane.invariant.going, closes_all m items c.loop-lane.lane-index le c.loop-lane.invariant)

@@ -8,7 +8,8 @@ use Rattle.afdx_session.proofs.machine.Machine.end.Goals as goal
 pub go_on-requires-clause-of : goal.go_on-requires-clause-of
 go_on-requires-clause-of g c =
     let m = c.args.self.now in
-    subst (λ s. AreOfTable s.run.table c.close_all.new.self.lanes.items) (sym c.close_all.ensures.switch) (half_of_table m.switch.run.table m.lanes.items c.close_all.new.self.lanes.items c.close_all.ensures.half c.requires.of)
+    subst (λ s. AreOfTable s.run.table c.close_all.new.self.lanes.items) (sym c.close_all.ensures.switch)
+    (half_of_table m.switch.run.table m.lanes.items c.close_all.new.self.lanes.items c.close_all.ensures.half c.requires.of)
 
 pub returns-in_err-go_on-clause-half : goal.returns-in_err-go_on-clause-half
 returns-in_err-go_on-clause-half g c = half_touched _ _ _ c.close_all.ensures.half c.go_on.ensures.touched
@@ -23,4 +24,10 @@ pub returns-clause-ok : goal.returns-clause-ok
 returns-clause-ok g c =
     let room = c.in_ok-with_capacity.ensures.capacity in
     let count = c.len.ensures in
-    let long = c.go_on.new.self.lanes.ok.0 in (c.in_ok-go_on.ensures.ok, all_ended_touched _ _ _ c.in_ok-close_all.ensures.ok.1 c.go_on.ensures.touched, c.in_ok-with_capacity.ensures.items, omega (arith, room, count, long))
+    let long = c.go_on.new.self.lanes.ok.0 in (
+      c.in_ok-go_on.ensures.ok,
+      all_ended_touched _ _ _ c.in_ok-close_all.ensures.ok.1 c.go_on.ensures.touched,
+      c.in_ok-with_capacity.ensures.items,
+      omega
+          (arith, room, count, long),
+    )

@@ -40,7 +40,8 @@ returns-in_ok-give-in-Some-clause-ok g c =
     let m = c.args.self.now in
     let given = c.in_ok-give-in-Some.ensures.ok in
     let from = goes_from _ m.lanes _ _ _ _ c.index.result.now _ c.deref_mut.ensures.value c.in-Some.ensures.some c.index.ensures in
-    round_goes c.arrivals_change_nothing_earlier.ensures.admission c.stamps_keep_their_order.ensures.instants c.note_counts_one_more.ensures _ m c.give.new.self (with_items m.lanes c.take_settled.new.lanes).items _ _ given.0 c.in-Some.place c.requires.of c.requires.limit
+    round_goes c.arrivals_change_nothing_earlier.ensures.admission c.stamps_keep_their_order.ensures.instants c.note_counts_one_more.ensures _ m c.give.new.self
+    (with_items m.lanes c.take_settled.new.lanes).items _ _ given.0 c.in-Some.place c.requires.of c.requires.limit
     c.requires.going from.goes from.here (ap (λ w. w.items) c.give.ensures.lanes) c.give.ensures.same given.1 given.2 given.3
 
 pub returns-in-None-clause-touched : goal.returns-in-None-clause-touched

@@ -7,7 +7,8 @@ use Rattle.afdx_session.specs.Texts.{Text, texts_of}
 use Rattle.afdx_session.proofs.machine.Machine.into_outcome.Goals as goal
 
 -- there is room for one more
-fits : {X Z : Type 0} (f : X → Text) (captures : Vec (ℕ × Vec ℕ Z) Z) (yielded left rest all : List X) (x : X) → texts_of captures.items ≡ map f yielded → yielded ++ left ≡ all → left ≡ x ∷ rest → length all ≤ vec_capacity captures
+fits : {X Z : Type 0} (f : X → Text) (captures : Vec (ℕ × Vec ℕ Z) Z) (yielded left rest all : List X) (x : X) → texts_of captures.items ≡ map f yielded → yielded ++ left ≡ all → left ≡ x ∷ rest
+    → length all ≤ vec_capacity captures
     → vec_len captures < vec_capacity captures
 fits f captures yielded left rest all x texts whole next room =
     let a = sym (length-map captures.items (λ pair. (pair.0, pair.1.items))) ∙ ap (λ (ts : List Text). length ts) texts ∙ length-map yielded f in
@@ -33,7 +34,8 @@ loop-lane-init g c =
 pub push_reserved-requires : goal.push_reserved-requires
 push_reserved-requires g c =
     let at = c.loop-lane in
-    fits (λ l. (l.port, l.out.items)) at.captures at.yielded (into_iter_items at.lane-iterator) (into_iter_items c.next.new.self) _ c.in-Some.lane at.invariant.texts at.invariant.whole c.in-Some.ensures.steps.0 at.invariant.room
+    fits (λ l. (l.port, l.out.items)) at.captures at.yielded (into_iter_items at.lane-iterator) (into_iter_items c.next.new.self) _ c.in-Some.lane at.invariant.texts at.invariant.whole
+    c.in-Some.ensures.steps.0 at.invariant.room
 
 pub loop-lane-preserved : goal.loop-lane-preserved
 loop-lane-preserved g c =
@@ -43,7 +45,8 @@ loop-lane-preserved g c =
     record {
       whole = append_assoc at.yielded (x ∷ []) _ ∙ rw (← steps) at.invariant.whole;
       count = let was = at.invariant.count in let gone = c.in-Some.ensures.steps.1 in let short = ap length steps in omega (arith, was, gone, short);
-      texts = ap texts_of c.push_reserved.ensures.items ∙ map-append (λ pair. (pair.0, pair.1.items)) at.captures.items _ ∙ ap (λ ts. ts ++ (x.port, x.out.items) ∷ []) at.invariant.texts ∙ sym (map-append (λ l. (l.port, l.out.items)) at.yielded (x ∷ []));
+      texts = ap texts_of c.push_reserved.ensures.items ∙ map-append (λ pair. (pair.0, pair.1.items)) at.captures.items _ ∙ ap (λ ts. ts ++ (x.port, x.out.items) ∷ []) at.invariant.texts
+          ∙ sym (map-append (λ l. (l.port, l.out.items)) at.yielded (x ∷ []));
       room = let was = at.invariant.room in let same = c.push_reserved.ensures.capacity in omega (arith, was, same);
     }
 

@@ -6,7 +6,12 @@ use Rattle.afdx_session.proofs.Lending.{lends_none, lends_next, text_at, lends_f
 use Rattle.afdx_session.proofs.machine.Machine.lend_all.Goals as goal
 
 pub loop-place-init : goal.loop-place-init
-loop-place-init g c = record { lends = lends_none c.args.self.now (texts_of c.args.captures.now) c.requires.ports c.requires.fresh c.requires.of c.requires.going; switch = refl; counts = refl; long = refl }
+loop-place-init g c = record {
+  lends = lends_none c.args.self.now (texts_of c.args.captures.now) c.requires.ports c.requires.fresh c.requires.of c.requires.going;
+  switch = refl;
+  counts = refl;
+  long = refl;
+}
 
 pub lend-requires : goal.lend-requires
 lend-requires g c =
@@ -25,7 +30,8 @@ returns-in_err-lend-clause-err g c =
     let at = at_index items c.loop-place.place old lt ∙ ap Some (sym c.index_mut.ensures.value) in
     let first : c.loop-place.place < length c.args.self.now.lanes.items = let long = c.loop-place.invariant.long in omega (arith, lt, long) in
     let here = text_at c.args.self.now c.args.captures.now c.loop-place.place c.index-captures-place.result c.requires.of c.requires.ports first in
-    let why = lends_fault c.args.self.now (texts_of c.args.captures.now) items c.loop-place.place old (pair.0, pair.1.items) fault c.loop-place.invariant.lends at here (subst (λ xs. IsFaultAt xs old.port fault) c.deref.ensures.value c.in_err-lend.ensures.err) in
+    let why = lends_fault c.args.self.now (texts_of c.args.captures.now) items c.loop-place.place old (pair.0, pair.1.items) fault c.loop-place.invariant.lends at here
+    (subst (λ xs. IsFaultAt xs old.port fault) c.deref.ensures.value c.in_err-lend.ensures.err) in
     search rules
 
 pub loop-place-preserved : goal.loop-place-preserved
@@ -39,7 +45,8 @@ loop-place-preserved g c =
     let here = text_at c.args.self.now c.args.captures.now c.loop-place.place c.index-captures-place.result c.requires.of c.requires.ports first in
     let read = c.in_ok-lend.ensures in
     record {
-      lends = lends_one c.merged_is_a_merge.ensures c.merged_is_by_stamp_and_port.ensures c.args.self.now (texts_of c.args.captures.now) items c.loop-place.place old c.lend.new.self (pair.0, pair.1.items) read.ok.0.0 c.loop-place.invariant.lends at here
+      lends = lends_one c.merged_is_a_merge.ensures c.merged_is_by_stamp_and_port.ensures c.args.self.now (texts_of c.args.captures.now) items c.loop-place.place old c.lend.new.self
+          (pair.0, pair.1.items) read.ok.0.0 c.loop-place.invariant.lends at here
           c.lend.ensures.still (c.lend.ensures.bytes ∙ c.deref.ensures.value) read.ok.0.1 read.ok.1;
       switch = c.loop-place.invariant.switch;
       counts = c.loop-place.invariant.counts;

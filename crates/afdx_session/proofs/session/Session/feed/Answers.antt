@@ -10,7 +10,8 @@ returns-in_err-place-clause-err g c =
     let s = c.self.inside in
     let Why = IsPieceFault (bytes_of v c.args.port ++ c.args.piece.now) c.args.port in
     of_error (λ fault. IsRefused v v c.args.port fault (Why fault)) c.from_residual.result c.in_err-place.field-0.0 c.from_residual.ensures
-    (refused_place s.machine s.begun s.failed v c.deref.result.now c.args.port c.in_err-place.field-0.0 (Why c.in_err-place.field-0.0) c.self.view_is c.if-self.false c.deref.ensures.value c.in_err-place.ensures.err)
+    (refused_place s.machine s.begun s.failed v c.deref.result.now c.args.port c.in_err-place.field-0.0 (Why c.in_err-place.field-0.0) c.self.view_is c.if-self.false c.deref.ensures.value
+    c.in_err-place.ensures.err)
 
 pub feed-requires-clause-ready : goal.feed-requires-clause-ready
 feed-requires-clause-ready g c = (c.self.inside.begun, c.self.invariant.ready c.if-self.false)
@@ -18,7 +19,8 @@ feed-requires-clause-ready g c = (c.self.inside.begun, c.self.invariant.ready c.
 pub invariant_of-self : goal.invariant_of-self
 invariant_of-self g c =
     let s = c.self.inside in
-    kept_fed c.arrivals_change_nothing_earlier.ensures.admission c.stamps_keep_their_order.ensures.instants c.all_start_before_the_last_instant.ensures s.machine c.feed.new.self s.begun s.failed c.in_ok-place.place c.args.piece.now
+    kept_fed c.arrivals_change_nothing_earlier.ensures.admission c.stamps_keep_their_order.ensures.instants c.all_start_before_the_last_instant.ensures s.machine c.feed.new.self s.begun s.failed
+    c.in_ok-place.place c.args.piece.now
     c.if-self.false c.feed.ensures.same c.in-Ok.ensures.ok.1 c.in-Ok.ensures.ok.0 c.self.invariant
 
 pub invariant_of-self-in-Err : goal.invariant_of-self-in-Err

@@ -15,21 +15,27 @@ pub take-requires : goal.take-requires
 take-requires g c =
     let s = c.self.inside in
     let at = port_at c.deref.result.now s.machine.lanes.items c.args.port c.in-Some.place c.deref.ensures.value (sym c.in-Some.ensures) in
-    record { bound = take_fits s.machine s.begun s.failed c.args.port c.in-Some.place c.index_mut.result.now c.self.invariant at (lane_at s.machine.lanes.items c.args.port c.in-Some.place c.index_mut.result.now at c.index_mut.ensures.value) }
+    record {
+      bound = take_fits s.machine s.begun s.failed c.args.port c.in-Some.place c.index_mut.result.now c.self.invariant at
+          (lane_at s.machine.lanes.items c.args.port c.in-Some.place c.index_mut.result.now at c.index_mut.ensures.value);
+    }
 
 pub invariant_of-self : goal.invariant_of-self
 invariant_of-self g c =
     let s = c.self.inside in
     let at = port_at c.deref.result.now s.machine.lanes.items c.args.port c.in-Some.place c.deref.ensures.value (sym c.in-Some.ensures) in
-    kept_taken s.machine _ s.begun s.failed c.in-Some.place c.index_mut.result.now c.take.new.self (lane_at s.machine.lanes.items c.args.port c.in-Some.place c.index_mut.result.now at c.index_mut.ensures.value)
+    kept_taken s.machine _ s.begun s.failed c.in-Some.place c.index_mut.result.now c.take.new.self
+    (lane_at s.machine.lanes.items c.args.port c.in-Some.place c.index_mut.result.now at c.index_mut.ensures.value)
     c.take.ensures.taken refl refl refl c.self.invariant
 
 pub returns-in-Some-clause-known : goal.returns-in-Some-clause-known
 returns-in-Some-clause-known g c =
     let s = c.self.inside in
     let at = port_at c.deref.result.now s.machine.lanes.items c.args.port c.in-Some.place c.deref.ensures.value (sym c.in-Some.ensures) in
-    answers_take s.machine (record { switch = s.machine.switch; counts = s.machine.counts; lanes = with_item s.machine.lanes c.in-Some.place c.take.new.self }) s.begun s.failed c.args.self.now c.args.port c.in-Some.place c.index_mut.result.now
-    c.take.new.self c.take.result.items c.self.view_is c.self.invariant at (lane_at s.machine.lanes.items c.args.port c.in-Some.place c.index_mut.result.now at c.index_mut.ensures.value) c.take.ensures.taken c.take.ensures.gives refl refl
+    answers_take s.machine (record { switch = s.machine.switch; counts = s.machine.counts; lanes = with_item s.machine.lanes c.in-Some.place c.take.new.self }) s.begun s.failed c.args.self.now
+    c.args.port c.in-Some.place c.index_mut.result.now
+    c.take.new.self c.take.result.items c.self.view_is c.self.invariant at (lane_at s.machine.lanes.items c.args.port c.in-Some.place c.index_mut.result.now at c.index_mut.ensures.value)
+    c.take.ensures.taken c.take.ensures.gives refl refl
 
 pub returns-in-Some-clause-unknown : goal.returns-in-Some-clause-unknown
 returns-in-Some-clause-unknown g c =
@@ -40,4 +46,5 @@ returns-in-Some-clause-unknown g c =
 pub returns-in-None-clause-known : goal.returns-in-None-clause-known
 returns-in-None-clause-known g c =
     let s = c.self.inside in
-    take_is_unknown s.machine s.begun s.failed c.args.self.now c.args.port _ c.self.view_is c.self.invariant.of (no_port_at c.deref.result.now s.machine.lanes.items c.args.port c.deref.ensures.value (sym c.in-None.ensures))
+    take_is_unknown s.machine s.begun s.failed c.args.self.now c.args.port _ c.self.view_is c.self.invariant.of
+    (no_port_at c.deref.result.now s.machine.lanes.items c.args.port c.deref.ensures.value (sym c.in-None.ensures))
