@@ -47,7 +47,7 @@ pub ShowsAll-nil : (a : Option Files) → ShowsAll a [] []
 ShowsAll-nil None = tt
 ShowsAll-nil (Some f) = refl
 
-ShowsAll-push : (a : Option Files) (names all : List (List ℕ)) (name bytes : List ℕ) → ShowsAll a names all → Shows a name bytes → ShowsAll a (names ++ name ∷ []) (all ++ bytes ∷ [])
+pub ShowsAll-push : (a : Option Files) (names all : List (List ℕ)) (name bytes : List ℕ) → ShowsAll a names all → Shows a name bytes → ShowsAll a (names ++ name ∷ []) (all ++ bytes ∷ [])
 ShowsAll-push None names all name bytes before one = tt
 ShowsAll-push (Some f) names all name bytes before one =
     map-append f names (name ∷ []) ∙ ap (λ (l : List (Option (List ℕ))). l ++ f name ∷ []) before ∙ ap (λ (b : Option (List ℕ)). map (λ (x : List ℕ). Some x) all ++ b ∷ []) one
