@@ -1,5 +1,15 @@
 //! The command `network run`.
 
+ghost use Rattle.std.specs.Prelude.{◌≡◌, List, length, map, string_bytes, IfOk, MatchResult};
+ghost use Rattle.afdx_session.specs.Texts.{Text, texts_of};
+ghost use Rattle.afdx_network.specs.Given.{given_of, AreGiven};
+ghost use Rattle.afdx_network.specs.Runs.{IsRunOf};
+ghost use Rattle.afdx_serve.specs.Files.{KeepsFiles, PutsFiles};
+ghost use Rattle.afdx_serve.specs.Runs.{bytes_of, FailsToPut};
+ghost use Rattle.afdx_serve.specs.Networks.{names_of};
+ghost use Rattle.afdx_serve.specs.NetworkRuns.{switch_folder, names_by, bytes_at, captures_of, held_names, AreAsMany, reports_of, HasGiven, IsRunFailure, FailsToLeadGiven, FailsToGetGiven};
+ghost use Rattle.afdx_serve.specs.Serving.{world, RunsNetwork, FailsToRunNetwork};
+
 use crate::failure::Failure;
 use crate::folder::Folder;
 use crate::get::get;
@@ -9,17 +19,22 @@ use crate::network_failure::NetworkFailure;
 use crate::network_get::{get_network, names_of};
 use crate::output::write_bytes;
 use crate::put::put;
+use afdx_network::laws::network_runs_deliver;
 use afdx_network::{NetworkRunFault, Texts};
 use afdx_session::Outcome;
 use afdx_table::Table;
+use afdx_table::laws::tables_are_well_formed;
 use afdx_ways::{name_of, push_report};
+use afdx_wiring::laws::layouts_are_within_limits;
 use afdx_wiring::{ClearedNetwork, End, Network};
 use afdx_words::NetworkPaths;
 use std::alloc::{AllocError, Global};
 use std::io::Write;
 
 /// The folder of a switch's captures in a folder.
-fn switch_folder(alloc: Global, folder: &str, name: &str) -> Result<String, AllocError> {
+fn switch_folder(alloc: Global, folder: &str, name: &str) -> Result<String, AllocError>
+    ensures { IfOk result (λ path. string_bytes path ≡ switch_folder folder.now name.now) }
+{
     let mut path = String::from_str(alloc, folder)?;
     path.push_str("/")?;
     path.push_str(name)?;
@@ -54,7 +69,14 @@ fn get_given<F: Folder>(
     path: &str,
     names: &[String],
     network: &Network,
-) -> Result<Vec<Texts>, Failure> {
+) -> Result<Vec<Texts>, Failure>
+    requires { map string_bytes names.now ≡ names_of network.now.layout.switches }
+    ensures got { MatchResult result
+        (λ given. (HasGiven (F.files folder.old) path.now (names_of network.now.layout.switches) (given_of given.items)
+        × AreGiven network.now (given_of given.items)) × (F.failed folder.new ≡ F.failed folder.old))
+        (λ f. FailsToGetGiven f (F.files folder.old) path.now network.now (F.failed folder.old) (F.failed folder.new)) }
+    ensures same { KeepsFiles (F.files folder.old) (F.files folder.new) }
+{
     let mut given = Vec::new(alloc);
     for (switch, table) in network.tables().iter().enumerate() {
         let switch_path = switch_folder(alloc, path, name_of(names, switch))?;
@@ -64,7 +86,9 @@ fn get_given<F: Folder>(
 }
 
 /// The failure of a run, with the name of its switch among these.
-fn run_failure(alloc: Global, names: &[String], fault: NetworkRunFault) -> Failure {
+fn run_failure(alloc: Global, names: &[String], fault: NetworkRunFault) -> Failure
+    ensures { IsRunFailure (map string_bytes names.now) fault result }
+{
     match fault {
         NetworkRunFault::Memory => Failure::Memory,
         NetworkRunFault::Unsettled => Failure::Network(NetworkFailure::Unsettled),
@@ -85,7 +109,13 @@ fn lead(
     names: &[String],
     cleared: &ClearedNetwork,
     given: Vec<Texts>,
-) -> Result<Vec<Outcome<Global>>, Failure> {
+) -> Result<Vec<Outcome<Global>>, Failure>
+    requires names { map string_bytes names.now ≡ names_of cleared.now.layout.switches }
+    requires given { AreGiven cleared.now (given_of given.items) }
+    ensures { MatchResult result
+        (λ outcomes. (came : List (List Text)) × IsRunOf cleared.now (given_of given.items) came outcomes.items)
+        (λ f. FailsToLeadGiven f cleared.now (given_of given.items)) }
+{
     match afdx_network::run(alloc, cleared, given) {
         Ok(outcomes) => Ok(outcomes),
         Err(fault) => Err(run_failure(alloc, names, fault)),
@@ -97,7 +127,10 @@ fn reports(
     alloc: Global,
     names: &[String],
     outcomes: &[Outcome<Global>],
-) -> Result<Vec<u8>, AllocError> {
+) -> Result<Vec<u8>, AllocError>
+    requires { length names.now ≡ length outcomes.now }
+    ensures { IfOk result (λ text. text.items ≡ reports_of (map string_bytes names.now) outcomes.now) }
+{
     let mut text = Vec::new(alloc);
     for (switch, outcome) in outcomes.iter().enumerate() {
         let report = outcome.counts.report(alloc)?;
@@ -112,7 +145,11 @@ fn output_names(
     path: &str,
     names: &[String],
     outcomes: &[Outcome<Global>],
-) -> Result<Vec<Vec<String>>, AllocError> {
+) -> Result<Vec<Vec<String>>, AllocError>
+    requires { length names.now ≡ length outcomes.now }
+    ensures { IfOk result (λ all. map (λ own. map string_bytes own.items) all.items
+        ≡ names_by path.now (map string_bytes names.now) (captures_of outcomes.now)) }
+{
     let mut all = Vec::new(alloc);
     for (switch, outcome) in outcomes.iter().enumerate() {
         let switch_path = switch_folder(alloc, path, name_of(names, switch))?;
@@ -127,7 +164,14 @@ fn put_captures<F: Folder>(
     folder: &mut F,
     names: &[String],
     captures: &[(u8, Vec<u8>)],
-) -> Result<(), Failure> {
+) -> Result<(), Failure>
+    requires { length names.now ≡ length captures.now }
+    ensures { MatchResult result
+        (λ _. PutsFiles (F.files folder.old) (F.files folder.new) (map string_bytes names.now) (bytes_of (texts_of captures.now))
+        × (F.failed folder.new ≡ F.failed folder.old))
+        (λ f. FailsToPut f (map string_bytes names.now) (bytes_of (texts_of captures.now))
+        (F.files folder.old) (F.files folder.new) (F.failed folder.old) (F.failed folder.new)) }
+{
     for place in 0..names.len() {
         put(alloc, folder, &names[place], &captures[place].1)?;
     }
@@ -140,7 +184,14 @@ fn put_all<F: Folder>(
     folder: &mut F,
     names: &[Vec<String>],
     outcomes: &[Outcome<Global>],
-) -> Result<(), Failure> {
+) -> Result<(), Failure>
+    requires { AreAsMany names.now (captures_of outcomes.now) }
+    ensures { MatchResult result
+        (λ _. PutsFiles (F.files folder.old) (F.files folder.new) (held_names names.now) (bytes_at (captures_of outcomes.now))
+        × (F.failed folder.new ≡ F.failed folder.old))
+        (λ f. FailsToPut f (held_names names.now) (bytes_at (captures_of outcomes.now))
+        (F.files folder.old) (F.files folder.new) (F.failed folder.old) (F.failed folder.new)) }
+{
     for place in 0..names.len() {
         put_captures(alloc, folder, &names[place], &outcomes[place].captures)?;
     }
@@ -166,7 +217,16 @@ pub(crate) fn network_run<O: Write, F: Folder>(
     paths: &NetworkPaths<'_>,
     out: &mut O,
     folder: &mut F,
-) -> Result<(), Failure> {
+) -> Result<(), Failure>
+    ensures { MatchResult result
+        (λ _. RunsNetwork paths.now
+        (world (O.contents out.old) (F.files folder.old) (F.failed folder.old)) (world (O.contents out.new) (F.files folder.new) (F.failed folder.new)))
+        (λ f. FailsToRunNetwork f paths.now
+        (world (O.contents out.old) (F.files folder.old) (F.failed folder.old)) (world (O.contents out.new) (F.files folder.new) (F.failed folder.new))) }
+{
+    network_runs_deliver();
+    layouts_are_within_limits();
+    tables_are_well_formed();
     let network = get_network(alloc, folder, paths.network)?;
     let names = names_of(alloc, &network.layout().switches)?;
     let cleared = accept(alloc, &names, network)?;
