@@ -10,11 +10,11 @@ use Rattle.afdx_port.specs.declared.Sent.{Sent}
 use Rattle.afdx_port.specs.Service.{Event, sending, aging, instant, item_of, reach, service, before, sent_of, aged_of}
 use Rattle.afdx_port.specs.Admission.{admitted}
 use Rattle.afdx_port.specs.Content.{Content, done}
-use Rattle.afdx_isolation.specs.Flow.{Flow, Load, Carries, load_of}
-use Rattle.afdx_isolation.specs.Account.{IsOfAFlow}
+use Rattle.afdx_isolation.specs.Inner.Flow.{Flow, Load, Carries, load_of}
+use Rattle.afdx_isolation.specs.Inner.Account.{IsOfAFlow}
 use Rattle.afdx_isolation.specs.Arrivals.{frame_of, own, passed, feed_of}
-use Rattle.afdx_isolation.specs.Claims.{Arrive, IsInBound, IsTimely, IsIsolated, IsIsolatedSoFar, OthersChangeNothing}
-use Rattle.afdx_isolation.specs.Ground.{Ground}
+use Rattle.afdx_isolation.specs.Inner.Claims.{Arrive, IsInBound, IsTimely, IsIsolated, IsIsolatedSoFar, OthersChangeNothing}
+use Rattle.afdx_isolation.specs.Inner.Ground.{Ground}
 use Rattle.afdx_isolation.proofs.Keeping.{all_in_time, ordered}
 use Rattle.afdx_isolation.proofs.Offered.{kept, none_full, exactly}
 

@@ -12,7 +12,7 @@ use Rattle.afdx_units.specs.declared.line.Priority.{Priority}
 use Rattle.afdx_units.specs.declared.line.Priority.TheVariants.{High, Low}
 use Rattle.afdx_units.specs.declared.line.Speed.{Speed}
 use Rattle.afdx_account.specs.Policing.{conforms, passed_frames}
-use Rattle.afdx_account.specs.Laws.{PassedByTheirFrames, PricesPay}
+use Rattle.afdx_account.specs.Inner.Laws.{PassedByTheirFrames, PricesPay}
 use Rattle.afdx_port.specs.declared.Item.{Item}
 use Rattle.afdx_port.specs.declared.Sent.{Sent}
 use Rattle.afdx_port.specs.Service.{sent_of, is_high}
@@ -25,10 +25,10 @@ use Rattle.afdx_table.specs.WellFormed.{IsLink, IsWellFormed}
 use Rattle.afdx_load.specs.Sums.{behind, parts, is_high_priority, is_high as is_high_link, is_low as is_low_link, routed, rate_of, burst_of, time_of, greatest, sums_of, load_of as sums_at, terms_of}
 use Rattle.afdx_load.specs.Bounds.{backlog, byte_time}
 use Rattle.afdx_load.specs.Accepted.{Carries as CarriesSums}
-use Rattle.afdx_load.specs.Laws.{AsksWhatItsAccountGives, EachLinkAsks, AcceptedKeepsBounds}
-use Rattle.afdx_isolation.specs.Flow.{Flow, IsPaidFor, Carries, AreDistinct, high_flows, low_flows, rates, bursts, longest, load_of, bound}
+use Rattle.afdx_load.specs.Inner.Laws.{AsksWhatItsAccountGives, EachLinkAsks, AcceptedKeepsBounds}
+use Rattle.afdx_isolation.specs.Inner.Flow.{Flow, IsPaidFor, Carries, AreDistinct, high_flows, low_flows, rates, bursts, longest, load_of, bound}
 use Rattle.afdx_isolation.specs.Arrivals.{frame_of, IsClean, own, is_passed, joins, feed_of}
-use Rattle.afdx_isolation.specs.Claims.{Arrive, IsInBound, IsIsolatedSoFar, IsolatesSoFar, NoneIsFull}
+use Rattle.afdx_isolation.specs.Inner.Claims.{Arrive, IsInBound, IsIsolatedSoFar, IsolatesSoFar, NoneIsFull}
 use Rattle.afdx_isolation.specs.Table.{settings_of, flow_of, frames_for, flows_at, IsCleanIn, ArriveAt, bound_of, AcceptedTablesIsolate, OthersChangeNothingInTables}
 use Rattle.afdx_isolation.proofs.Sums.{among_filter}
 use Rattle.afdx_isolation.proofs.Levels.{joined, none_joined, passed_link}

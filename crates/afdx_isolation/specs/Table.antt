@@ -19,7 +19,7 @@ use Rattle.afdx_table.specs.WellFormed.{IsWellFormed}
 use Rattle.afdx_load.specs.Sums.{Sums, routed, load_of, terms_of, weight_of}
 use Rattle.afdx_load.specs.Bounds.{high_bound, low_bound, backlog, byte_time}
 use Rattle.afdx_load.specs.Accepted.{IsAccepted}
-use Rattle.afdx_isolation.specs.Flow.{Flow}
+use Rattle.afdx_isolation.specs.Inner.Flow.{Flow}
 use Rattle.afdx_isolation.specs.Arrivals.{frame_of, StampsDoNotFall, own, joins, feed_of}
 
 -- a port of a switch of this latency

@@ -1,9 +1,9 @@
 //! The laws of one output port. Each speaks of every list of arrivals, of the port's links and of all others.
 
-ghost use Rattle.afdx_isolation.specs.Ground.{Ground};
-ghost use Rattle.afdx_isolation.specs.Kept.{IsKeptAtFirst, IsKeptOverTime, IsKeptByWhatIsPaidFor, WhatIsPaidForFits};
+ghost use Rattle.afdx_isolation.specs.Inner.Ground.{Ground};
+ghost use Rattle.afdx_isolation.specs.Inner.Kept.{IsKeptAtFirst, IsKeptOverTime, IsKeptByWhatIsPaidFor, WhatIsPaidForFits};
 ghost use Rattle.afdx_isolation.specs.Table.{OffersWhatThePolicingPasses, AcceptedTablesIsolate, BuffersHoldTheBacklog, OthersChangeNothingInTables};
-ghost use Rattle.afdx_isolation.specs.Claims.{PotentialsHold, NoneIsFull, HighKeepsBound, LowKeepsBound, Isolates, IsolatesSoFar, OthersChangeNothing};
+ghost use Rattle.afdx_isolation.specs.Inner.Claims.{PotentialsHold, NoneIsFull, HighKeepsBound, LowKeepsBound, Isolates, IsolatesSoFar, OthersChangeNothing};
 
 use afdx_account::laws::{
     headroom_is_a_level, next_frame_joins_where_it_conforms, passed_by_their_frames, prices_pay,

@@ -12,8 +12,8 @@ use Rattle.afdx_port.specs.declared.Sent.{Sent}
 use Rattle.afdx_port.specs.declared.Aged.{Aged}
 use Rattle.afdx_port.specs.Service.{came, service, sent_of, aged_of}
 use Rattle.afdx_port.specs.Admission.{occupied, AllFit}
-use Rattle.afdx_port.specs.Order.{InOrder}
-use Rattle.afdx_port.specs.Gone.{gone, OccupiedIsWhatHasNotGone, SentEndInOrder, AgedInOrder}
+use Rattle.afdx_port.specs.Inner.Order.{InOrder}
+use Rattle.afdx_port.specs.Inner.Gone.{gone, OccupiedIsWhatHasNotGone, SentEndInOrder, AgedInOrder}
 use Rattle.afdx_measure.specs.declared.filling.Level.{Level}
 use Rattle.afdx_measure.specs.Peak.{filling, fillings}
 use Rattle.afdx_measure.proofs.Fronts.{IsFront, sum_of_front, passed_more}

@@ -16,9 +16,9 @@ use Rattle.afdx_pcap.specs.Reading as reading
 use Rattle.afdx_pcap.specs.Text.{capture_text, record_text}
 use Rattle.afdx_words.specs.declared.link.Alone.{Alone}
 use Rattle.afdx_serve.specs.Own.{is_own}
-use Rattle.afdx_serve.specs.Offer.{IsOffered}
+use Rattle.afdx_serve.specs.Inner.Offer.{IsOffered}
 use Rattle.afdx_serve.specs.Answer.{IsAnswer, frame_of, terms_of, passed_of_link}
-use Rattle.afdx_serve.specs.Ground.{Ground}
+use Rattle.afdx_serve.specs.Inner.Ground.{Ground}
 use Rattle.afdx_serve.specs.Output.{AppendsFront}
 use Rattle.afdx_serve.proofs.Progress.{Polices, one_further, all_policed}
 

@@ -14,12 +14,12 @@ use Rattle.afdx_table.specs.Content.{Content}
 use Rattle.afdx_port.specs.declared.Sent.{Sent}
 use Rattle.afdx_port.specs.Service.{Event, sending, aging, instant, reach, service, before, sent_of}
 use Rattle.afdx_port.specs.Admission.{admitted, EarlierEventsStayAdmitted}
-use Rattle.afdx_port.specs.Order.{ReachesInOrder}
+use Rattle.afdx_port.specs.Inner.Order.{ReachesInOrder}
 use Rattle.afdx_port.specs.Course.{EventsAreInParts}
 use Rattle.afdx_isolation.specs.Table.{settings_of}
 use Rattle.afdx_core.specs.Rows.{feed_of}
 use Rattle.afdx_core.specs.Merge.{Arrival, Capture, Rises, arrivals_of, placed, by_stamp, merged}
-use Rattle.afdx_session.specs.Merging.{AreInOrder}
+use Rattle.afdx_session.specs.Inner.Merging.{AreInOrder}
 use Rattle.afdx_session.specs.Output.{rows_of, sent_by, written, output_of, output_text}
 use Rattle.afdx_session.specs.Streams.{Stream, captures_of, last_of, merged_so_far, least, frontier, sent_up_to, output_so_far, text_so_far, GoesOn, GoOn, whole_of}
 use Rattle.afdx_session.proofs.Joining.{le_true, le_false, AllFrom, first-placed, later-placed, frames-from, weaken, by_stamp-in_order}

@@ -12,7 +12,7 @@ use Rattle.afdx_pcap.specs.Reading.{AreFirst}
 use Rattle.afdx_table.specs.declared.rows.PortRow.{PortRow}
 use Rattle.afdx_table.specs.Content.{Content, port_row}
 use Rattle.afdx_port.specs.Admission.{EarlierEventsStayAdmitted}
-use Rattle.afdx_port.specs.Order.{ReachesInOrder}
+use Rattle.afdx_port.specs.Inner.Order.{ReachesInOrder}
 use Rattle.afdx_port.specs.Course.{EventsAreInParts}
 use Rattle.afdx_core.specs.Merge.{Capture, merged}
 use Rattle.afdx_session.specs.declared.plan.RunFault.TheVariants as run
@@ -22,7 +22,7 @@ use Rattle.afdx_session.specs.Output.{output_text}
 use Rattle.afdx_session.specs.Streams.{Stream, AreWhole, whole_of, text_so_far, GoOn}
 use Rattle.afdx_session.specs.Session.{Intake, Seen, fresh_intake, AreStreams, HasGoneOut, taken_in, intake_at, taken_of, refusal_at, refusal, changed, fed, ended, took, after_take, IsFedOn, AreFedOn}
 use Rattle.afdx_session.specs.Finish.{text_in, texts_in, rest_of}
-use Rattle.afdx_session.specs.Pieces.{GoesOnTo, CallsGoOn, WasTaken, NothingWasTaken, TakenStays, TakesJoin, IsContinued, bytes_in, capture_at, TakenIsAFront, TakesAndRestAreTheOutput}
+use Rattle.afdx_session.specs.Inner.Pieces.{GoesOnTo, CallsGoOn, WasTaken, NothingWasTaken, TakenStays, TakesJoin, IsContinued, bytes_in, capture_at, TakenIsAFront, TakesAndRestAreTheOutput}
 use Rattle.afdx_session.proofs.Growing.{front_of_output}
 use Rattle.afdx_session.proofs.WholeRecords.{RecordsStay, RecordsAreUnique, holds_front, go_on, grows_with_bytes, streams_unique}
 use Rattle.afdx_session.proofs.Going.{some_same}

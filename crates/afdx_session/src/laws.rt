@@ -1,11 +1,11 @@
 //! Laws over the definitions.
 
 ghost use Rattle.afdx_session.specs.Headline.{AcceptedRunsIsolate, OwnFramesAreTheLinksAlone, OthersChangeNothing};
-ghost use Rattle.afdx_session.specs.OneMerge.{MergedIsTheOnlyOne};
-ghost use Rattle.afdx_session.specs.Pieces.{CallsGoOn, NothingWasTaken, TakenStays, TakesJoin, TakenIsAFront, TakesAndRestAreTheOutput};
-ghost use Rattle.afdx_session.specs.Readable.{OutputsAreReadable};
+ghost use Rattle.afdx_session.specs.Inner.OneMerge.{MergedIsTheOnlyOne};
+ghost use Rattle.afdx_session.specs.Inner.Pieces.{CallsGoOn, NothingWasTaken, TakenStays, TakesJoin, TakenIsAFront, TakesAndRestAreTheOutput};
+ghost use Rattle.afdx_session.specs.Inner.Readable.{OutputsAreReadable};
 ghost use Rattle.afdx_session.specs.Session.{OutputGrowsWithBytes, WholeRecordsAreUnique};
-ghost use Rattle.afdx_session.specs.Settled.{MergeIsUnique, SettledStays, SettledRecordsGo, RestComesAtTheFrontier, SwitchShowsWhatLeft};
+ghost use Rattle.afdx_session.specs.Inner.Settled.{MergeIsUnique, SettledStays, SettledRecordsGo, RestComesAtTheFrontier, SwitchShowsWhatLeft};
 ghost use Rattle.afdx_session.specs.Streams.{LaterArrivalsChangeNothing, OutputGrows, TextGrows, OutputOfAll, IsFrontOfTheOutput, AllStartBeforeTheLastInstant};
 
 use afdx_core::laws::{

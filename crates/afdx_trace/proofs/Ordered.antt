@@ -11,7 +11,7 @@ use Rattle.afdx_port.specs.declared.Aged.{Aged}
 use Rattle.afdx_port.specs.Service.{Event, sending, aging, instant, free_after, came, fate, next, others, in_turn, serve}
 use Rattle.afdx_port.specs.Content.{done}
 use Rattle.afdx_trace.specs.Departures.{AreInOrder}
-use Rattle.afdx_trace.specs.Laws.{EventsAreInOrder}
+use Rattle.afdx_trace.specs.Inner.Laws.{EventsAreInOrder}
 
 -- none lies before an instant
 abbrev NoneBefore : ℕ → List Event → Type 0

@@ -1,10 +1,10 @@
 -- The laws of the accounts and of the port on which the laws of this crate stand.
-use Rattle.afdx_account.specs.Laws.{NextFrameJoinsWhereItConforms, PassedByTheirFrames, HeadroomIsCredited, HeadroomDecides, HeadroomIsDebited}
+use Rattle.afdx_account.specs.Inner.Laws.{NextFrameJoinsWhereItConforms, PassedByTheirFrames, HeadroomIsCredited, HeadroomDecides, HeadroomIsDebited}
 use Rattle.afdx_port.specs.declared.Item.{Item}
 use Rattle.afdx_port.specs.Admission.{EarlierEventsStay}
 use Rattle.afdx_port.specs.Course.{LineGoesOn, ArrivalJoinsTheLine, EventsAreInParts, EventsFollowTheLine, WorkIsOfTheLine, EventsAreOfItems, WaitingIsOfItems}
-use Rattle.afdx_port.specs.Order.{KeepsOrder}
-use Rattle.afdx_port.specs.Work.{WorkBoundsBytes}
+use Rattle.afdx_port.specs.Inner.Order.{KeepsOrder}
+use Rattle.afdx_port.specs.Inner.Work.{WorkBoundsBytes}
 
 pub record Ground : Type 0 where
   pub credited : HeadroomIsCredited

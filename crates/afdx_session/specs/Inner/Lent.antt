@@ -10,7 +10,7 @@ use Rattle.afdx_session.specs.declared.plan.RunFault.TheVariants as run
 use Rattle.afdx_session.specs.Texts.{Text}
 use Rattle.afdx_session.specs.Reading.{IsSound}
 use Rattle.afdx_session.specs.Lanes.{HasReadAll}
-use Rattle.afdx_session.specs.Kept.{AreOfTable, IsGoing, IsOfSameTable}
+use Rattle.afdx_session.specs.Inner.Kept.{AreOfTable, IsGoing, IsOfSameTable}
 
 -- a lane over a whole capture: the last record that was read waits, or all were read and have gone
 pub record IsOver {Z : Type 0} (l : Lane Z) : Type 0 where

@@ -6,8 +6,8 @@ use Rattle.afdx_port.specs.declared.Settings.{Settings}
 use Rattle.afdx_port.specs.declared.Item.{Item}
 use Rattle.afdx_port.specs.Service.{came, Event, sending, aging, service, before, sent_of, aged_of, is_high}
 use Rattle.afdx_port.specs.Admission.{occupied}
-use Rattle.afdx_port.specs.Progress.{left}
-use Rattle.afdx_port.specs.Order.{InOrder}
+use Rattle.afdx_port.specs.Inner.Progress.{left}
+use Rattle.afdx_port.specs.Inner.Order.{InOrder}
 
 -- the line time of an item
 abbrev pub item_cost : Settings → Item → ℕ

@@ -10,7 +10,7 @@ use Rattle.afdx_core.specs.Rows.{named, passes, account_frames, frame_of}
 use Rattle.afdx_core.specs.State.{Run}
 use Rattle.afdx_core.specs.Kept.{AccountsStand}
 use Rattle.afdx_trace.specs.declared.teller.Teller.{Teller}
-use Rattle.afdx_trace.specs.Taken.{AreTaken}
+use Rattle.afdx_trace.specs.Inner.Taken.{AreTaken}
 
 -- how many of these arrivals came in at each port
 abbrev pub AreCounted : List Row → List ℕ → Type 0

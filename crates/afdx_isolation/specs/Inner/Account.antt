@@ -1,7 +1,7 @@
 -- The accounts of a port's flows, as far as the potentials know them: levels that grow, and are debited.
 use Rattle.std.specs.Prelude.{ℕ, ◌+◌, ◌*◌, ◌≤◌, ◌≡◌, nat_eq, if◌then◌else◌, List, All, Contains}
 use Rattle.afdx_port.specs.declared.Item.{Item}
-use Rattle.afdx_isolation.specs.Flow.{Flow}
+use Rattle.afdx_isolation.specs.Inner.Flow.{Flow}
 
 -- no account holds more than its cap
 abbrev pub AreWithinCaps : List Flow → (Flow → ℕ) → Type 0

@@ -5,7 +5,7 @@ use Rattle.afdx_units.specs.declared.line.Priority.{Priority}
 use Rattle.afdx_port.specs.declared.Settings.{Settings}
 use Rattle.afdx_port.specs.declared.Item.{Item}
 use Rattle.afdx_port.specs.Service.{reach, came, Event, item_of, free_after, is_high, in_turn, fate, others, service, sent_of}
-use Rattle.afdx_port.specs.Progress.{start_of}
+use Rattle.afdx_port.specs.Inner.Progress.{start_of}
 
 -- the instants at which the items are queued do not fall
 abbrev pub InOrder : Settings → List Item → Type 0

@@ -1,6 +1,6 @@
 -- The laws of accounts and of captures on which the policing of a capture stands.
 use Rattle.std.specs.Prelude.{◌≡◌, ◌≤◌, List, [], ◌∷◌, ◌++◌, true}
-use Rattle.afdx_account.specs.Laws.{NextJoinsWhereItConforms, PassedByTheirFrames}
+use Rattle.afdx_account.specs.Inner.Laws.{NextJoinsWhereItConforms, PassedByTheirFrames}
 use Rattle.afdx_pcap.specs.Entry.{Entry}
 use Rattle.afdx_pcap.specs.Capture.{IsCapture}
 use Rattle.afdx_pcap.specs.Fault.{last_stamp}

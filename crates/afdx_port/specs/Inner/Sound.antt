@@ -4,8 +4,8 @@ use Rattle.std.specs.Vec.{vec_capacity}
 use Rattle.afdx_units.specs.Time.{last_second, stamp_end}
 use Rattle.afdx_port.specs.declared.Item.{Item}
 use Rattle.afdx_port.specs.declared.line.Line.{Line}
-use Rattle.afdx_port.specs.Progress.{LineState}
-use Rattle.afdx_port.specs.Queued.{line_of, count_of, IsQueued, HasPlace}
+use Rattle.afdx_port.specs.Inner.Progress.{LineState}
+use Rattle.afdx_port.specs.Inner.Queued.{line_of, count_of, IsQueued, HasPlace}
 
 -- an item whose sending ends within the range of stamps
 abbrev pub IsSmall : Item → Type 0

@@ -5,12 +5,12 @@ use Rattle.afdx_port.specs.declared.Item.{Item}
 use Rattle.afdx_port.specs.Service.{came, service}
 use Rattle.afdx_port.specs.Admission.{fits}
 use Rattle.afdx_port.specs.Course.{line_at}
-use Rattle.afdx_port.specs.Order.{InOrder}
-use Rattle.afdx_port.specs.Work.{HaveCome}
+use Rattle.afdx_port.specs.Inner.Order.{InOrder}
+use Rattle.afdx_port.specs.Inner.Work.{HaveCome}
 use Rattle.afdx_load.specs.Sums.{parts}
-use Rattle.afdx_isolation.specs.Flow.{Flow, IsPaidFor, IsWithinRate, HasBuffer, load_of}
-use Rattle.afdx_isolation.specs.Potential.{KeepsPotentials, EndsBy, BeginsAs}
-use Rattle.afdx_isolation.specs.Account.{AreWithinCaps, Grow, AreDebited, IsOfAFlow}
+use Rattle.afdx_isolation.specs.Inner.Flow.{Flow, IsPaidFor, IsWithinRate, HasBuffer, load_of}
+use Rattle.afdx_isolation.specs.Inner.Potential.{KeepsPotentials, EndsBy, BeginsAs}
+use Rattle.afdx_isolation.specs.Inner.Account.{AreWithinCaps, Grow, AreDebited, IsOfAFlow}
 
 -- at `now`, where these items were admitted and the accounts have these levels
 pub record IsKept (s : Settings) (flows : List Flow) (items : List Item) (now : ℕ) (level : Flow → ℕ) : Type 0 where

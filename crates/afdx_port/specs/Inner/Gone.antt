@@ -6,7 +6,7 @@ use Rattle.afdx_port.specs.declared.Sent.{Sent}
 use Rattle.afdx_port.specs.declared.Aged.{Aged}
 use Rattle.afdx_port.specs.Service.{came, service, sent_of, aged_of}
 use Rattle.afdx_port.specs.Admission.{occupied}
-use Rattle.afdx_port.specs.Order.{InOrder}
+use Rattle.afdx_port.specs.Inner.Order.{InOrder}
 
 -- the bytes of what ended by t, and of what was discarded before t
 abbrev pub gone : ℕ → List Sent → List Aged → ℕ

@@ -5,11 +5,11 @@ use Rattle.std.specs.Prelude.{ℕ, ◌+◌, ◌*◌, ◌≤◌, ◌≡◌, true,
 use Rattle.afdx_port.specs.declared.Settings.{Settings}
 use Rattle.afdx_port.specs.declared.Item.{Item}
 use Rattle.afdx_port.specs.Service.{came, Event, is_high, fate}
-use Rattle.afdx_port.specs.Progress.{LineState}
-use Rattle.afdx_port.specs.Order.{highs, lows}
-use Rattle.afdx_port.specs.Work.{item_cost}
+use Rattle.afdx_port.specs.Inner.Progress.{LineState}
+use Rattle.afdx_port.specs.Inner.Order.{highs, lows}
+use Rattle.afdx_port.specs.Inner.Work.{item_cost}
 use Rattle.afdx_load.specs.Sums.{parts}
-use Rattle.afdx_isolation.specs.Flow.{Flow, Load, high_flows, load_of}
+use Rattle.afdx_isolation.specs.Inner.Flow.{Flow, Load, high_flows, load_of}
 
 abbrev pub costs : Settings → List Item → ℕ
 costs s items = sum_by (item_cost s) items

@@ -12,7 +12,7 @@ use Rattle.afdx_count.specs.Run.{counts_so_far}
 use Rattle.afdx_session.specs.declared.lane.Lane.{Lane}
 use Rattle.afdx_session.specs.Output.{rows_of, written}
 use Rattle.afdx_session.specs.Streams.{Stream, frontier, sent_up_to, last_instant}
-use Rattle.afdx_session.specs.Settled.{IsSettling, IsGiven}
+use Rattle.afdx_session.specs.Inner.Settled.{IsSettling, IsGiven}
 use Rattle.afdx_session.specs.Lanes.{HasRead, waiting_of}
 
 -- a lane stands for the records that were read of its capture
