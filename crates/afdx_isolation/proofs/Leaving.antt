@@ -1,4 +1,4 @@
--- What leaves a port: exactly what is passed, in bound, and so far a front of it.
+-- What leaves a port: exactly what is passed, in bound, and so far a prefix of it.
 use Rattle.std.proofs.Common.{◌≡◌, ℕ, Bool, true, false, cond, List, [], ◌∷◌, ◌++◌, refl, ap, sym, ◌∙◌, subst, append-nil}
 use Rattle.std.specs.Prelude.{map, nat_eq, nat_lt, All, Contains}
 use Rattle.std.proofs.lemmas.List.{map-append}

@@ -70,8 +70,8 @@ pub record IsIsolatedAt (t : Content) (row : PortRow) (arrivals : List Item) (c 
   pub none_aged : aged_of (done c) ≡ []
   -- each that was sent ended within the port's bound
   pub in_bound : All (IsInBoundAt t row) (sent_of (done c))
-  -- of each link that leads to the port a front of what its policing passes of its own arrivals was sent, in their order
-  pub front_of_passed : (link : Link) → Contains t.links link → leads_to row.id link ≡ true → (rest : List Item)
+  -- of each link that leads to the port a prefix of what its policing passes of its own arrivals was sent, in their order
+  pub prefix_of_passed : (link : Link) → Contains t.links link → leads_to row.id link ≡ true → (rest : List Item)
       × (own link.id (map (λ (x : Sent). x.item) (sent_of (done c))) ++ rest ≡ passed_by link arrivals)
       × (c.finished ≡ true → rest ≡ [])
 

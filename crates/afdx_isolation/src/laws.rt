@@ -79,7 +79,7 @@ pub fn isolates()
     ground();
 }
 
-/// So far a front of these has left, and all of them once the port is finished.
+/// So far a prefix of these has left, and all of them once the port is finished.
 pub fn isolates_so_far()
     ensures { IsolatesSoFar }
 {
@@ -94,7 +94,7 @@ pub fn others_change_nothing()
 }
 
 /// Under an accepted table, whatever arrives, at each port no copy is Full and none is Aged, each frame that was sent
-/// ended within the port's bound, and each link's part of them is a front of what its policing passes, all of it
+/// ended within the port's bound, and each link's part of them is a prefix of what its policing passes, all of it
 /// once the port is finished.
 pub fn accepted_tables_isolate()
     ensures { AcceptedTablesIsolate }

@@ -1,4 +1,4 @@
--- What has left so far is a front of what has left later.
+-- What has left so far is a prefix of what has left later.
 use Rattle.std.proofs.Common.{◌≡◌, ℕ, ◌<◌, ◌≤◌, nat_lt, nat_le, Bool, true, false, cond, List, [], ◌∷◌, ◌++◌, map, filter, Option, Some, None, refl, ap, sym, ◌∙◌, arith, inl, inr, subst, append_assoc}
 use Rattle.std.specs.List.{AllByRecursion, flat_map}
 use Rattle.std.proofs.lemmas.List.{append-nil, map-append}
@@ -311,7 +311,7 @@ before_later t u (e ∷ es) le = by_first (nat_lt (instant e) t) refl (before_la
       let out : before t (e ∷ es) ≡ before t es = filter-out (λ (x : Event). nat_lt (instant x) t) e es is in
       ap (before u) out ∙ ih ∙ sym out
 
--- what is sent before an instant is a front of what is sent up to a later one, or in the end
+-- what is sent before an instant is a prefix of what is sent up to a later one, or in the end
 abbrev pub IsBeyond : ℕ → Option ℕ → Type 0
 IsBeyond h None = Unit {0}
 IsBeyond h (Some k) = h ≤ k

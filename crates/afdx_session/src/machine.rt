@@ -54,7 +54,7 @@ pub(crate) struct Machine<'a, A: Allocator> {
 }
 
 /// The fault that an arrival is refused for where its port is the table's and its stamp does not go back.
-fn want_of_memory(fault: CoreFault) -> AllocError
+fn out_of_memory(fault: CoreFault) -> AllocError
     requires { told fault ≡ None }
 {
     match fault {
@@ -116,7 +116,7 @@ impl<'a, A: Allocator + Copy> Machine<'a, A> {
                 self.counts.note(&step);
                 Ok(())
             }
-            Err((fault, _)) => Err(want_of_memory(fault)),
+            Err((fault, _)) => Err(out_of_memory(fault)),
         }
     }
 

@@ -69,9 +69,9 @@ pub record IsIsolated (s : Settings) (flows : List Flow) (arrivals : List Item) 
 abbrev pub Isolates : Type 0
 Isolates = (s : Settings) (flows : List Flow) (arrivals : List Item) → Arrive s flows arrivals → Carries s flows → IsIsolated s flows arrivals
 
--- of each link a front of what its policing passes of its own arrivals has left, in order, all of it once the port is finished
-abbrev pub FrontLeaves : List Flow → List Item → Content → Type 0
-FrontLeaves flows arrivals c = (flow : Flow) → Contains flows flow → (rest : List Item)
+-- of each link a prefix of what its policing passes of its own arrivals has left, in order, all of it once the port is finished
+abbrev pub PrefixLeaves : List Flow → List Item → Content → Type 0
+PrefixLeaves flows arrivals c = (flow : Flow) → Contains flows flow → (rest : List Item)
     × (own flow.id (map (λ (x : Sent). x.item) (sent_of (done c))) ++ rest ≡ passed flow arrivals)
     × (c.finished ≡ true → rest ≡ [])
 
@@ -81,7 +81,7 @@ pub record IsIsolatedSoFar (flows : List Flow) (arrivals : List Item) (c : Conte
   pub none_aged : aged_of (done c) ≡ []
   pub of_flows : All (λ (x : Sent). IsOfAFlow flows x.item) (sent_of (done c))
   pub in_bound : All (IsInBound c.settings (load_of c.settings flows)) (sent_of (done c))
-  pub front : FrontLeaves flows arrivals c
+  pub front : PrefixLeaves flows arrivals c
 
 abbrev pub IsolatesSoFar : Type 0
 IsolatesSoFar = (c : Content) (flows : List Flow) (arrivals : List Item) → Arrive c.settings flows arrivals → Carries c.settings flows

@@ -1,4 +1,4 @@
--- However captures come in pieces, and whenever output is taken: what was taken of a port is a front of its output.
+-- However captures come in pieces, and whenever output is taken: what was taken of a port is a prefix of its output.
 use Rattle.std.specs.Prelude.{ℕ, ◌≡◌, ◌==◌, Bool, true, List, [], ◌++◌, length, drop, find, Option, Some, None}
 use Rattle.std.specs.List.{AllZip}
 use Rattle.afdx_table.specs.declared.rows.PortRow.{PortRow}
@@ -26,7 +26,7 @@ pub record CallsGoOn : Type 0 where
 
 -- ---- what was taken
 
--- the bytes that were taken of a port, one take after the other: a front of what has gone out for it
+-- the bytes that were taken of a port, one take after the other: a prefix of what has gone out for it
 pub record WasTaken (v : Seen) (port : ℕ) (taken : List ℕ) : Type 0 where
   pub row : PortRow
   pub row_is : port_row v.table port ≡ Some row
@@ -69,9 +69,9 @@ bytes_in (Some text) = text.1
 abbrev pub capture_at : ℕ → List Text → List ℕ
 capture_at port texts = bytes_in (find (λ text. text.0 == port) texts)
 
--- whatever comes in the end: what was taken is a front of what a run over the whole captures puts out
-abbrev pub TakenIsAFront : Type 0
-TakenIsAFront = (v : Seen) (port : ℕ) (taken : List ℕ) (texts : List Text) (results : Results) → WasTaken v port taken → AllZip IsContinued v.intakes texts → IsOutcome v.table texts results
+-- whatever comes in the end: what was taken is a prefix of what a run over the whole captures puts out
+abbrev pub TakenIsAPrefix : Type 0
+TakenIsAPrefix = (v : Seen) (port : ℕ) (taken : List ℕ) (texts : List Text) (results : Results) → WasTaken v port taken → AllZip IsContinued v.intakes texts → IsOutcome v.table texts results
     → (rest : List ℕ) × (capture_at port results.captures ≡ taken ++ rest)
 
 -- what was taken and then what the end gives is the output of a run over the whole captures
