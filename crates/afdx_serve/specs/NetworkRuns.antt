@@ -1,5 +1,5 @@
 -- What a run of a network does to a folder.
-use Rattle.std.specs.Prelude.{◌≡◌, ◌⊎◌, ℕ, ◌+◌, codes, List, [], ◌∷◌, ◌++◌, length, map, filter, flat_map, take, slice_get, Option, Some, String, Vec, string_bytes}
+use Rattle.std.specs.Prelude.{◌≡◌, ◌⊎◌, ℕ, ◌+◌, codes, List, [], ◌∷◌, ◌++◌, map, filter, flat_map, take, slice_get, Option, Some, string_bytes}
 use Rattle.afdx_pcap.specs.declared.fault.PcapFault.{PcapFault}
 use Rattle.afdx_table.specs.Content.{Content}
 use Rattle.afdx_session.specs.Texts.{Text}
@@ -10,7 +10,6 @@ use Rattle.afdx_network.specs.Runs.{Given, IsRunOf}
 use Rattle.afdx_network.specs.Given.{is_open, AreGiven, IsRefusal}
 use Rattle.afdx_network.specs.Way.{Stage, Step, IsDelivered}
 use Rattle.afdx_network.specs.Ways.{IsWayIn}
-use Rattle.afdx_network.specs.declared.fault.NetworkRunFault.{NetworkRunFault}
 use Rattle.afdx_network.specs.declared.fault.NetworkRunFault.TheVariants as run
 use Rattle.afdx_ways.specs.Lines.{Names, name_of, report_of}
 use Rattle.afdx_words.specs.declared.request.NetworkPaths.{NetworkPaths}
@@ -31,19 +30,6 @@ switch_folder folder name = folder ++ codes "/" ++ name
 abbrev pub names_at : List ℕ → Names → List (List Text) → List (List ℕ)
 names_at path (name ∷ names) (texts ∷ more) = names_in (switch_folder path name) texts ++ names_at path names more
 names_at path _ _ = []
-
--- by switch
-abbrev pub names_by : List ℕ → Names → List (List Text) → List (List (List ℕ))
-names_by path (name ∷ names) (texts ∷ more) = names_in (switch_folder path name) texts ∷ names_by path names more
-names_by path _ _ = []
-
--- the names that are held of each switch, one after the other
-abbrev pub held_names : {Y Z : Type 0} → List (Vec (String Z) Y) → List (List ℕ)
-held_names all = flat_map (λ own. map string_bytes own.items) all
-
--- there is a name for each of these captures
-abbrev pub AreAsMany : {Y Z : Type 0} → List (Vec (String Z) Y) → List (List Text) → Type 0
-AreAsMany names all = map (λ own. length own.items) names ≡ map length all
 
 abbrev pub bytes_at : List (List Text) → List (List ℕ)
 bytes_at all = flat_map bytes_of all
@@ -87,23 +73,6 @@ pub record GetsGiven (name : List ℕ) (files : Option Files) (path : List ℕ) 
   pub got : List (List ℕ)
   pub is_there : slice_get (open_names path (names_of net.layout.switches) net 0 net.tables) place ≡ Some name
   pub earlier : ShowsAll files (take place (open_names path (names_of net.layout.switches) net 0 net.tables)) got
-
--- the failure that a refusal of a run leads to: the refusal, with the name of its switch; or memory. That something else was given
--- than is asked for has no failure of its own: it is never met
-abbrev pub IsRunFailure : Names → NetworkRunFault → Failure → Type 0
-IsRunFailure names e (failure.Network (network.Capture port why name)) = (switch : ℕ) × (e ≡ run.Capture switch port why) × (string_bytes name ≡ name_of names switch)
-IsRunFailure names e (failure.Network network.Unsettled) = e ≡ run.Unsettled
-IsRunFailure names e failure.Usage = (switch : ℕ) × (e ≡ run.WrongPorts switch)
-IsRunFailure names e failure.Memory = Unit {0}
-IsRunFailure names e _ = ⊥
-
--- what was given leads to nothing
-abbrev pub FailsToLeadGiven : Failure → Network → Given → Type 0
-FailsToLeadGiven (failure.Network (network.Capture port why name)) net given =
-    (switch : ℕ) × IsRefusal net given (run.Capture switch port why) × (string_bytes name ≡ name_of (names_of net.layout.switches) switch)
-FailsToLeadGiven (failure.Network network.Unsettled) net given = IsRefusal net given run.Unsettled
-FailsToLeadGiven failure.Memory net given = Unit {0}
-FailsToLeadGiven _ net given = ⊥
 
 -- not all was got, or it leads to nothing
 abbrev pub FailsToGetGiven : Failure → Option Files → List ℕ → Network → DeviceLog → DeviceLog → Type 0

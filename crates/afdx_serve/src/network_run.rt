@@ -7,7 +7,8 @@ ghost use Rattle.afdx_network.specs.Runs.{IsRunOf};
 ghost use Rattle.afdx_serve.specs.Files.{KeepsFiles, PutsFiles};
 ghost use Rattle.afdx_serve.specs.Runs.{bytes_of, FailsToPut};
 ghost use Rattle.afdx_serve.specs.Networks.{names_of};
-ghost use Rattle.afdx_serve.specs.NetworkRuns.{switch_folder, names_by, bytes_at, captures_of, held_names, AreAsMany, reports_of, HasGiven, IsRunFailure, FailsToLeadGiven, FailsToGetGiven};
+ghost use Rattle.afdx_serve.specs.NetworkRuns.{switch_folder, bytes_at, captures_of, reports_of, HasGiven, FailsToGetGiven};
+ghost use Rattle.afdx_serve.specs.Inner.NetworkRunning.{names_by, held_names, AreAsMany, IsRunFailure, FailsToLeadGiven};
 ghost use Rattle.afdx_serve.specs.Serving.{world, RunsNetwork, FailsToRunNetwork};
 
 use crate::failure::Failure;
@@ -70,7 +71,8 @@ fn get_given<F: Folder>(
     names: &[String],
     network: &Network,
 ) -> Result<Vec<Texts>, Failure>
-    requires { map string_bytes names.now ≡ names_of network.now.layout.switches }
+    requires names { map string_bytes names.now ≡ names_of network.now.layout.switches }
+    requires tables { length network.now.tables ≡ length network.now.layout.switches }
     ensures got { MatchResult result
         (λ given. (HasGiven (F.files folder.old) path.now (names_of network.now.layout.switches) (given_of given.items)
         × AreGiven network.now (given_of given.items)) × (F.failed folder.new ≡ F.failed folder.old))
