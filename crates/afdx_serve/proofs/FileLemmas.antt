@@ -16,7 +16,7 @@ use Rattle.afdx_serve.specs.Runs.{capture_name, names_in, bytes_of, GetsUpTo, po
 -- ---- files that stay
 
 -- two folders with the same files
-same_files : (f g : Files) → ((q : List ℕ) → g q ≡ f q) → g ≡ f
+pub same_files : (f g : Files) → ((q : List ℕ) → g q ≡ f q) → g ≡ f
 same_files f g p = λ j q. p q j
 
 -- what holds of the files that are told holds of them while they stay

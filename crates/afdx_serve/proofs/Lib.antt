@@ -13,3 +13,4 @@ pub mod CheckLemmas
 pub mod OwnLemmas
 mod PartLemmas
 mod PutLemmas
+mod NetworkRunLemmas
