@@ -17,7 +17,7 @@ use Rattle.afdx_session.specs.Texts.{Text, texts_of}
 use Rattle.afdx_session.specs.Outcome.{Results}
 use Rattle.afdx_wiring.specs.File.{Switch}
 use Rattle.afdx_wiring.specs.Net.{Network}
-use Rattle.afdx_wiring.specs.Limits.{LayoutsAreWithinLimits}
+use Rattle.afdx_wiring.specs.Inner.Limits.{LayoutsAreWithinLimits}
 use Rattle.afdx_wiring.specs.Rules.{IsAcceptedNetwork}
 use Rattle.afdx_network.specs.Runs.{SwitchRun, Given, IsRunOf}
 use Rattle.afdx_network.specs.Given.{AreGiven, IsRefusal}
@@ -39,11 +39,11 @@ use Rattle.afdx_serve.proofs.FileLemmas.{same_files, ShowsAll-before, PutsFiles-
 
 -- ---- names and reports of one switch more
 
-no_names : (path : List ℕ) (names : Names) → names_by path names [] ≡ []
+pub no_names : (path : List ℕ) (names : Names) → names_by path names [] ≡ []
 no_names path [] = refl
 no_names path (name ∷ names) = refl
 
-no_reports : (names : Names) → reports_of names [] ≡ []
+pub no_reports : (names : Names) → reports_of names [] ≡ []
 no_reports [] = refl
 no_reports (name ∷ names) = refl
 
@@ -261,30 +261,6 @@ module _ {Y Z : Type 0} (held : List (Vec (String Z) Y)) (left : List Results) (
   switch_not_put (failure.Get s) h = absurd h
   switch_not_put failure.Read h = absurd h
   switch_not_put failure.Write h = absurd h
-
--- ---- what was given leads to nothing
-
--- exactly what is asked for is given
-never_wrong : (net : Network) (given : Given) (switch : ℕ) → AreGiven net given → IsRefusal net given (run.WrongPorts switch) → ⊥
-never_wrong net given switch are first = first.here (are.each switch (first.one are.no_more))
-
-pub not_led_given : (f : Failure) (e : NetworkRunFault) (names : Names) (net : Network) (given : Given) → names ≡ names_of net.layout.switches → AreGiven net given → IsRefusal net given e
-    → IsRunFailure names e f → FailsToLeadGiven f net given
-not_led_given (failure.Network (network.Capture port why name)) e names net given named are refusal h =
-    (h.0, subst (IsRefusal net given) h.1 refusal, h.2 ∙ ap (λ (all : Names). name_of all h.0) named)
-not_led_given (failure.Network network.Unsettled) e names net given named are refusal h = subst (IsRefusal net given) h refusal
-not_led_given (failure.Network (network.Refused r name)) e names net given named are refusal h = absurd h
-not_led_given (failure.Network (network.Table r name)) e names net given named are refusal h = absurd h
-not_led_given failure.Memory e names net given named are refusal h = tt
-not_led_given failure.Usage e names net given named are refusal h = absurd (never_wrong net given h.0 are (subst (IsRefusal net given) h.1 refusal))
-not_led_given (failure.Table r) e names net given named are refusal h = absurd h
-not_led_given (failure.Load r) e names net given named are refusal h = absurd h
-not_led_given (failure.Capture r) e names net given named are refusal h = absurd h
-not_led_given (failure.PortCapture p r) e names net given named are refusal h = absurd h
-not_led_given (failure.Get s) e names net given named are refusal h = absurd h
-not_led_given (failure.Put s) e names net given named are refusal h = absurd h
-not_led_given failure.Read e names net given named are refusal h = absurd h
-not_led_given failure.Write e names net given named are refusal h = absurd h
 
 -- ---- a network of a file
 

@@ -195,7 +195,8 @@ fn put_all<F: Folder>(
         (F.files folder.old) (F.files folder.new) (F.failed folder.old) (F.failed folder.new)) }
 {
     for place in 0..names.len() {
-        put_captures(alloc, folder, &names[place], &outcomes[place].captures)?;
+        let outcome = &outcomes[place];
+        put_captures(alloc, folder, &names[place], &outcome.captures)?;
     }
     Ok(())
 }
