@@ -20,10 +20,8 @@ use Rattle.afdx_wiring.specs.Net.{Network}
 use Rattle.afdx_wiring.specs.Inner.Limits.{LayoutsAreWithinLimits}
 use Rattle.afdx_wiring.specs.Rules.{IsAcceptedNetwork}
 use Rattle.afdx_network.specs.Runs.{SwitchRun, Given, IsRunOf}
-use Rattle.afdx_network.specs.Given.{AreGiven, IsRefusal}
+use Rattle.afdx_network.specs.Given.{AreGiven}
 use Rattle.afdx_network.specs.Inner.Laws.{IsOfFile, NetworkRunsDeliver}
-use Rattle.afdx_network.specs.declared.fault.NetworkRunFault.{NetworkRunFault}
-use Rattle.afdx_network.specs.declared.fault.NetworkRunFault.TheVariants as run
 use Rattle.afdx_ways.specs.Lines.{Names, name_of, report_of}
 use Rattle.afdx_words.specs.declared.request.NetworkPaths.{NetworkPaths}
 use Rattle.afdx_serve.specs.declared.network_failure.NetworkFailure.TheVariants as network
@@ -34,8 +32,8 @@ use Rattle.afdx_serve.specs.Runs.{capture_name, names_in, bytes_of, report_in, S
 use Rattle.afdx_serve.specs.Networks.{names_of, HasNetwork, FailsToAcceptNetwork}
 use Rattle.afdx_serve.specs.NetworkRuns.{switch_folder, names_at, bytes_at, captures_of, reports_of, HasGiven, LeadsToNetwork, GetsGiven, FailsToGetGiven, FailsToLeadNetwork, StopsNetwork}
 use Rattle.afdx_serve.specs.Serving.{world, PutsNetwork, FailsToRunNetwork}
-use Rattle.afdx_serve.specs.Inner.NetworkRunning.{names_by, held_names, AreAsMany, IsRunFailure, FailsToLeadGiven}
-use Rattle.afdx_serve.proofs.FileLemmas.{same_files, ShowsAll-before, PutsFiles-before, StopsAt-before}
+use Rattle.afdx_serve.specs.Inner.NetworkRunning.{names_by, held_names, AreAsMany, FailsToLeadGiven}
+use Rattle.afdx_serve.proofs.FileLemmas.{same_files, KeepsFiles-trans, ShowsAll-before, PutsFiles-before, StopsAt-before}
 
 -- ---- names and reports of one switch more
 
@@ -112,7 +110,7 @@ name_counts path (name ∷ names) (texts ∷ all) same =
     ∙ ap (λ (more : List ℕ). length texts ∷ more) (name_counts path names all (omega (arith, same)))
 
 -- names that are held are those names
-pub held_at : {Y Z : Type 0} (path : List ℕ) (names : Names) (all : List (List Text)) (held : List (Vec (String Z) Y))
+held_at : {Y Z : Type 0} (path : List ℕ) (names : Names) (all : List (List Text)) (held : List (Vec (String Z) Y))
     → map (λ (v : Vec (String Z) Y). map (λ (s : String Z). string_bytes s) v.items) held ≡ names_by path names all → held_names held ≡ names_at path names all
 held_at {Y} {Z} path names all held named =
     sym (flat_map-map (λ (x : List (List ℕ)). x) (λ (v : Vec (String Z) Y). map (λ (s : String Z). string_bytes s) v.items) held)
@@ -122,7 +120,7 @@ held_counts : {Y Z : Type 0} (held : List (Vec (String Z) Y)) → map (λ (v : V
 held_counts {Y} {Z} held = λ j. map (λ (v : Vec (String Z) Y). length-map v.items (λ (s : String Z). string_bytes s) j) held
 
 -- and as many as the captures
-pub as_many : {Y Z : Type 0} (path : List ℕ) (names : Names) (all : List (List Text)) (held : List (Vec (String Z) Y)) → length names ≡ length all
+as_many : {Y Z : Type 0} (path : List ℕ) (names : Names) (all : List (List Text)) (held : List (Vec (String Z) Y)) → length names ≡ length all
     → map (λ (v : Vec (String Z) Y). map (λ (s : String Z). string_bytes s) v.items) held ≡ names_by path names all → AreAsMany held all
 as_many {Y} {Z} path names all held same named =
     sym (held_counts held) ∙ sym (map-map (λ (l : List (List ℕ)). length l) (λ (v : Vec (String Z) Y). map (λ (s : String Z). string_bytes s) v.items) held)
@@ -265,7 +263,7 @@ module _ {Y Z : Type 0} (held : List (Vec (String Z) Y)) (left : List Results) (
 -- ---- a network of a file
 
 -- its tables are well formed, one for each switch, and the limits of the file are kept
-pub of_file : TablesAreWellFormed → LayoutsAreWithinLimits → (files : Option Files) (path : List ℕ) (net : Network) → HasNetwork files path net → IsOfFile net
+of_file : TablesAreWellFormed → LayoutsAreWithinLimits → (files : Option Files) (path : List ℕ) (net : Network) → HasNetwork files path net → IsOfFile net
 of_file formed limits files path net has = record {
   well_formed = λ k d lt. formed (get_or has.texts k []) (get_or net.tables k d) (is k d lt);
   tables = many ∙ has.has_texts.1;
@@ -281,15 +279,16 @@ of_file formed limits files path net has = record {
       ∙ get_or-map (λ (t : Content). Ok t) net.tables k d (Ok d) lt
 
 -- as many switches have run as there are names
-pub run_count : {Z : Type 0} (net : Network) (given : Given) (came : List (List Text)) (left : List Results) (names : List (String Z)) → IsOfFile net → IsRunOf net given came left
-    → map (λ (s : String Z). string_bytes s) names ≡ names_of net.layout.switches → length names ≡ length left
-run_count {Z} net given came left names of is named =
-    sym (length-map names (λ (s : String Z). string_bytes s)) ∙ ap (λ (l : Names). length l) named ∙ length-map net.layout.switches (λ (s : Switch). s.name)
-    ∙ sym of.tables ∙ ap (λ (l : List Content). length l) (sym is.run.tables) ∙ length-map is.runs (λ (r : SwitchRun). r.table)
-    ∙ sym (length-map is.runs (λ (r : SwitchRun). r.results)) ∙ ap (λ (l : List Results). length l) is.left_is
+run_count : (net : Network) (given : Given) (came : List (List Text)) (left : List Results) → IsOfFile net → IsRunOf net given came left → length (names_of net.layout.switches) ≡ length left
+run_count net given came left of is =
+    length-map net.layout.switches (λ (s : Switch). s.name) ∙ sym of.tables ∙ ap (λ (l : List Content). length l) (sym is.run.tables)
+    ∙ length-map is.runs (λ (r : SwitchRun). r.table) ∙ sym (length-map is.runs (λ (r : SwitchRun). r.results)) ∙ ap (λ (l : List Results). length l) is.left_is
+
+has_given_before : (a b : Option Files) (path : List ℕ) (names : Names) (given : Given) → KeepsFiles a b → HasGiven b path names given → HasGiven a path names given
+has_given_before a b path names given keeps = ShowsAll-before a b (names_at path names given) (bytes_at given) keeps
 
 -- the files lead to it
-pub leads_network : NetworkRunsDeliver → (paths : NetworkPaths) (files : Option Files) (net : Network) (given : Given) (came : List (List Text)) (left : List Results) → IsOfFile net
+leads_network : NetworkRunsDeliver → (paths : NetworkPaths) (files : Option Files) (net : Network) (given : Given) (came : List (List Text)) (left : List Results) → IsOfFile net
     → HasNetwork files paths.network.now net → IsAcceptedNetwork net → HasGiven files paths.input.now (names_of net.layout.switches) given → AreGiven net given → IsRunOf net given came left
     → LeadsToNetwork paths files net left
 leads_network deliver paths files net given came left of has accepted has_given are is = record {
@@ -303,16 +302,49 @@ leads_network deliver paths files net given came left of has accepted has_given 
   delivered = deliver net given is.runs (record { of_file = of; accepted = accepted; run = is.run });
 }
 
+-- a run of the network of a file, and the names of its switches
+pub record IsLed (paths : NetworkPaths) (files : Option Files) (net : Network) (names : Names) (left : List Results) : Type 0 where
+  pub leads : LeadsToNetwork paths files net left
+  pub named : names ≡ names_of net.layout.switches
+  pub count : length names ≡ length left
+
+pub is_led : TablesAreWellFormed → LayoutsAreWithinLimits → NetworkRunsDeliver → (paths : NetworkPaths) (a b : Option Files) (net cleared seen : Network) (given : Given) (left : List Results) (names : Names)
+    → HasNetwork a paths.network.now net → cleared ≡ net → seen ≡ cleared → IsAcceptedNetwork net → KeepsFiles a b
+    → HasGiven b paths.input.now (names_of seen.layout.switches) given → AreGiven seen given → (came : List (List Text)) × IsRunOf cleared given came left → names ≡ names_of net.layout.switches
+    → IsLed paths a net names left
+is_led formed limits deliver paths a b net cleared seen given left names has same met accepted keeps got are ran named = record {
+  leads = leads_network deliver paths a net given ran.0 left of has accepted (has_given_before a b paths.input.now (names_of net.layout.switches) given keeps here) there is;
+  named = named;
+  count = ap (λ (l : Names). length l) named ∙ run_count net given ran.0 left of is;
+} where
+  of : IsOfFile net
+  of = of_file formed limits a paths.network.now net has
+
+  is : IsRunOf net given ran.0 left
+  is = subst (λ (n : Network). IsRunOf n given ran.0 left) same ran.1
+
+  here : HasGiven b paths.input.now (names_of net.layout.switches) given
+  here = subst (λ (n : Network). HasGiven b paths.input.now (names_of n.layout.switches) given) (met ∙ same) got
+
+  there : AreGiven net given
+  there = subst (λ (n : Network). AreGiven n given) (met ∙ same) are
+
+-- there are names for its captures
+pub files_named : {Y Z : Type 0} (path : List ℕ) (names : Names) (left : List Results) (held : List (Vec (String Z) Y)) → length names ≡ length left
+    → map (λ (v : Vec (String Z) Y). map (λ (s : String Z). string_bytes s) v.items) held ≡ names_by path names (captures_of left)
+    → (held_names held ≡ names_at path names (captures_of left)) × AreAsMany held (captures_of left)
+files_named path names left held count named = (
+  held_at path names (captures_of left) held named,
+  as_many path names (captures_of left) held (count ∙ sym (length-map left (λ (r : Results). r.captures))) named,
+)
+
 -- ---- why there is no run of a network
 
 gets_given_before : (name : List ℕ) (a b : Option Files) (path : List ℕ) (net : Network) → KeepsFiles a b → GetsGiven name b path net → GetsGiven name a path net
 gets_given_before name a b path net keeps s = record { place = s.place; got = s.got; is_there = s.is_there; earlier = ShowsAll-before a b _ _ keeps s.earlier }
 
-pub has_given_before : (a b : Option Files) (path : List ℕ) (names : Names) (given : Given) → KeepsFiles a b → HasGiven b path names given → HasGiven a path names given
-has_given_before a b path names given keeps = ShowsAll-before a b (names_at path names given) (bytes_at given) keeps
-
 -- nothing was put before
-pub not_given_before : (f : Failure) (a b : Option Files) (path : List ℕ) (net : Network) (before after : DeviceLog) → KeepsFiles a b → FailsToGetGiven f b path net before after
+not_given_before : (f : Failure) (a b : Option Files) (path : List ℕ) (net : Network) (before after : DeviceLog) → KeepsFiles a b → FailsToGetGiven f b path net before after
     → FailsToGetGiven f a path net before after
 not_given_before (failure.Get name) a b path net before after keeps h = (gets_given_before (string_bytes name) a b path net keeps h.0, h.1)
 not_given_before failure.Memory a b path net before after keeps h = tt
@@ -332,7 +364,7 @@ not_given_before failure.Read a b path net before after keeps h = absurd h
 not_given_before failure.Write a b path net before after keeps h = absurd h
 
 -- what was got leads to nothing
-pub led_to_none : (f : Failure) (files : Option Files) (path : List ℕ) (net : Network) (given : Given) (before after : DeviceLog) → HasGiven files path (names_of net.layout.switches) given → after ≡ before
+led_to_none : (f : Failure) (files : Option Files) (path : List ℕ) (net : Network) (given : Given) (before after : DeviceLog) → HasGiven files path (names_of net.layout.switches) given → after ≡ before
     → FailsToLeadGiven f net given → FailsToGetGiven f files path net before after
 led_to_none (failure.Network (network.Capture port why name)) files path net given before after has same h = ((given, h.0, has, h.1, h.2), same)
 led_to_none (failure.Network network.Unsettled) files path net given before after has same h = ((given, has, h), same)
@@ -385,12 +417,31 @@ no_run (failure.Network r) paths a b first after keeps w v none h = ((h, keeps),
 no_run (failure.Get s) paths a b first after keeps w v none h = ((h, keeps), none)
 no_run failure.Read paths a b first after keeps w v none h = ((h, keeps), none)
 
+-- not all was got
+pub not_given : (f : Failure) (paths : NetworkPaths) (a b c : Option Files) (net cleared seen : Network) (first before after : DeviceLog) → HasNetwork a paths.network.now net → cleared ≡ net → seen ≡ cleared
+    → IsAcceptedNetwork net → KeepsFiles a b → KeepsFiles b c → before ≡ first → (w v : Option (List ℕ)) → Keeps w v → FailsToGetGiven f b paths.input.now seen before after
+    → FailsToRunNetwork f paths (world w a first) (world v c after)
+not_given f paths a b c net cleared seen first before after has same met accepted keeps further log w v none h =
+    let here = subst (λ (n : Network). FailsToGetGiven f b paths.input.now n before after) (met ∙ same) h in
+    let fails = subst (λ (l : DeviceLog). FailsToGetGiven f b paths.input.now net l after) log here in
+    no_run f paths a c first after (KeepsFiles-trans a b c keeps further) w v none (inr (net, has, inr (accepted, not_given_before f a b paths.input.now net first after keeps fails)))
+
+-- it leads to no run
+pub not_led : (f : Failure) (paths : NetworkPaths) (a b c : Option Files) (net cleared seen : Network) (given : Given) (first before after : DeviceLog) → HasNetwork a paths.network.now net → cleared ≡ net
+    → seen ≡ cleared → IsAcceptedNetwork net → KeepsFiles a b → KeepsFiles b c → before ≡ first → after ≡ before → (w v : Option (List ℕ)) → Keeps w v
+    → HasGiven b paths.input.now (names_of seen.layout.switches) given → FailsToLeadGiven f cleared given → FailsToRunNetwork f paths (world w a first) (world v c after)
+not_led f paths a b c net cleared seen given first before after has same met accepted keeps further log last w v none got h =
+    let here = subst (λ (n : Network). HasGiven b paths.input.now (names_of n.layout.switches) given) (met ∙ same) got in
+    let fails = subst (λ (n : Network). FailsToLeadGiven f n given) same h in
+    no_run f paths a c first after (KeepsFiles-trans a b c keeps further) w v none
+    (inr (net, has, inr (accepted, led_to_none f a paths.input.now net given first after (has_given_before a b paths.input.now (names_of net.layout.switches) given keeps here) (last ∙ log) fails)))
+
 -- ---- what is put of a run
 
 module _ (paths : NetworkPaths) (net : Network) (left : List Results) (names all : List (List ℕ)) (a b c : Option Files) (first before after : DeviceLog) (leads : LeadsToNetwork paths a net left)
     (named : names ≡ names_at paths.output.now (names_of net.layout.switches) (captures_of left)) (told : all ≡ bytes_at (captures_of left)) (keeps : KeepsFiles a b) (same : before ≡ first) where
   stops_network : (name : List ℕ) → StopsAt name names all b c → StopsNetwork name paths a c
-  stops_network name s = (net, left, leads, rw (named, told) at StopsAt-before name names all a b c keeps s)
+  stops_network name s = (net, left, leads, rw (named, told) at (StopsAt-before name names all a b c keeps s))
 
   -- not all captures were put
   pub not_put_network : (f : Failure) (w v : Option (List ℕ)) → Keeps w v → FailsToPut f names all b c before after → FailsToRunNetwork f paths (world w a first) (world v c after)
@@ -408,4 +459,4 @@ module _ (paths : NetworkPaths) (net : Network) (left : List Results) (names all
 
   -- all were
   pub puts_network : PutsFiles b c names all → after ≡ before → (w v : Option (List ℕ)) → PutsNetwork paths (world w a first) (world v c after) net left
-  puts_network put last w v = (leads, rw (named, told) at PutsFiles-before a b c names all keeps put, last ∙ same)
+  puts_network put last w v = (leads, rw (named, told) at (PutsFiles-before a b c names all keeps put), last ∙ same)

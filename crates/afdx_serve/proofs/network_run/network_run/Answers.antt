@@ -1,0 +1,160 @@
+use Rattle.std.proofs.Common.{rules, ◌≡◌, ◌∙◌, List, None, String, Global, length, map, string_bytes, inl, inr, refl, sym, ap}
+use Rattle.std.proofs.KnownBytes.{Keeps-refl}
+use Rattle.std.proofs.lemmas.List.{length-map}
+use Rattle.afdx_session.specs.Outcome.{Results}
+use Rattle.afdx_network.specs.Given.{given_of}
+use Rattle.afdx_ways.specs.Lines.{Names}
+use Rattle.afdx_serve.specs.declared.failure.Failure.TheVariants.{Memory, Write}
+use Rattle.afdx_serve.specs.Networks.{names_of}
+use Rattle.afdx_serve.specs.NetworkRuns.{names_at, captures_of, reports_of}
+use Rattle.afdx_serve.proofs.FileLemmas.{KeepsFiles-trans}
+use Rattle.afdx_serve.proofs.RunLemmas.{of_error}
+use Rattle.afdx_serve.proofs.NetworkRunLemmas.{is_led, files_named, no_run, not_given, not_led, not_put_network, puts_network}
+use Rattle.afdx_serve.proofs.network_run.network_run.Goals as goal
+
+pub returns-in_err-network : goal.returns-in_err-network
+returns-in_err-network g c =
+    let fails = c.in_err-network.ensures in
+    of_error _ _ _ c.in_err-network.field-0.0 c.from_residual.ensures
+    (no_run c.in_err-network.field-0.0 c.args.paths.now _ _ _ _ fails.same _ _ (Keeps-refl _) (inl fails.got))
+
+pub returns-in_err-cleared : goal.returns-in_err-cleared
+returns-in_err-cleared g c =
+    let got = c.in_ok-network.ensures in
+    of_error _ _ _ c.in_err-cleared.field-0.0 c.from_residual-in_err-cleared.ensures
+    (no_run c.in_err-cleared.field-0.0 c.args.paths.now _ _ _ _ got.same _ _ (Keeps-refl _) (inr (c.in_ok-network.network, got.got.0, inl (c.in_err-cleared.ensures, got.got.1))))
+
+pub returns-in_err-given : goal.returns-in_err-given
+returns-in_err-given g c =
+    let got = c.in_ok-network.ensures in
+    let accepted = c.in_ok-cleared.ensures in
+    let fails = c.in_err-given.ensures in
+    of_error _ _ _ c.in_err-given.field-0.0 c.from_residual-in_err-given.ensures
+    (not_given c.in_err-given.field-0.0 c.args.paths.now _ _ _ c.in_ok-network.network _ _ _ _ _ got.got.0 accepted.0 c.network-2.ensures.network accepted.1 got.same fails.same got.got.1 _ _ (Keeps-refl _)
+    fails.got)
+
+pub returns-in_err-outcomes : goal.returns-in_err-outcomes
+returns-in_err-outcomes g c =
+    let got = c.in_ok-network.ensures in
+    let accepted = c.in_ok-cleared.ensures in
+    let given = c.in_ok-given.ensures in
+    of_error _ _ _ c.in_err-outcomes.field-0.0 c.from_residual-in_err-outcomes.ensures
+    (not_led c.in_err-outcomes.field-0.0 c.args.paths.now _ _ _ c.in_ok-network.network _ _ (given_of c.in_ok-given.given.items) _ _ _ got.got.0 accepted.0 c.network-2.ensures.network accepted.1 got.same
+    given.same got.got.1 given.got.1 _ _ (Keeps-refl _) given.got.0.0 c.in_err-outcomes.ensures)
+
+pub output_names-requires : goal.output_names-requires
+output_names-requires g c =
+    let paths = c.args.paths.now in
+    let net = c.in_ok-network.network in
+    let got = c.in_ok-network.ensures in
+    let accepted = c.in_ok-cleared.ensures in
+    let given = c.in_ok-given.ensures in
+    let named : map string_bytes c.in_ok-names.names.items ≡ names_of net.layout.switches = search rules in
+    let led = is_led c.tables_are_well_formed.ensures c.layouts_are_within_limits.ensures c.network_runs_deliver.ensures paths _ _ net _ _ (given_of c.in_ok-given.given.items) c.in_ok-outcomes.outcomes.items _
+    got.got.0 accepted.0 c.network-2.ensures.network accepted.1 got.same given.got.0.0 given.got.0.1 c.in_ok-outcomes.ensures named in
+    ap (λ (l : List (String Global)). length l) c.deref-5.ensures.value ∙ sym (length-map c.in_ok-names.names.items (λ (s : String Global). string_bytes s)) ∙ led.count
+    ∙ sym (ap (λ (l : List Results). length l) c.deref-6.ensures.value)
+
+pub returns-in_err-files : goal.returns-in_err-files
+returns-in_err-files g c =
+    let got = c.in_ok-network.ensures in
+    of_error _ _ _ Memory c.from_residual-in_err-files.ensures (inl (KeepsFiles-trans _ _ _ got.same c.in_ok-given.ensures.same), Keeps-refl _)
+
+pub reports-requires : goal.reports-requires
+reports-requires g c =
+    let paths = c.args.paths.now in
+    let net = c.in_ok-network.network in
+    let got = c.in_ok-network.ensures in
+    let accepted = c.in_ok-cleared.ensures in
+    let given = c.in_ok-given.ensures in
+    let named : map string_bytes c.in_ok-names.names.items ≡ names_of net.layout.switches = search rules in
+    let led = is_led c.tables_are_well_formed.ensures c.layouts_are_within_limits.ensures c.network_runs_deliver.ensures paths _ _ net _ _ (given_of c.in_ok-given.given.items) c.in_ok-outcomes.outcomes.items _
+    got.got.0 accepted.0 c.network-2.ensures.network accepted.1 got.same given.got.0.0 given.got.0.1 c.in_ok-outcomes.ensures named in
+    ap (λ (l : List (String Global)). length l) c.deref-7.ensures.value ∙ sym (length-map c.in_ok-names.names.items (λ (s : String Global). string_bytes s)) ∙ led.count
+    ∙ sym (ap (λ (l : List Results). length l) c.deref-8.ensures.value)
+
+pub returns-in_err-text : goal.returns-in_err-text
+returns-in_err-text g c =
+    let got = c.in_ok-network.ensures in
+    of_error _ _ _ Memory c.from_residual-in_err-text.ensures (inl (KeepsFiles-trans _ _ _ got.same c.in_ok-given.ensures.same), Keeps-refl _)
+
+pub put_all-requires : goal.put_all-requires
+put_all-requires g c =
+    let paths = c.args.paths.now in
+    let net = c.in_ok-network.network in
+    let got = c.in_ok-network.ensures in
+    let accepted = c.in_ok-cleared.ensures in
+    let given = c.in_ok-given.ensures in
+    let named : map string_bytes c.in_ok-names.names.items ≡ names_of net.layout.switches = search rules in
+    let led = is_led c.tables_are_well_formed.ensures c.layouts_are_within_limits.ensures c.network_runs_deliver.ensures paths _ _ net _ _ (given_of c.in_ok-given.given.items) c.in_ok-outcomes.outcomes.items _
+    got.got.0 accepted.0 c.network-2.ensures.network accepted.1 got.same given.got.0.0 given.got.0.1 c.in_ok-outcomes.ensures named in
+    let out = paths.output.now in
+    let told = map string_bytes c.in_ok-names.names.items in
+    let left = c.in_ok-outcomes.outcomes.items in
+    let by = rw (c.deref-5.ensures.value, c.deref-6.ensures.value) at c.in_ok-files.ensures in
+    let files = files_named out told left c.in_ok-files.files.items led.count by in
+    rw (c.deref-9.ensures.value, c.deref-10.ensures.value) files.1
+
+pub returns-in_err-put_all : goal.returns-in_err-put_all
+returns-in_err-put_all g c =
+    let paths = c.args.paths.now in
+    let net = c.in_ok-network.network in
+    let got = c.in_ok-network.ensures in
+    let accepted = c.in_ok-cleared.ensures in
+    let given = c.in_ok-given.ensures in
+    let named : map string_bytes c.in_ok-names.names.items ≡ names_of net.layout.switches = search rules in
+    let led = is_led c.tables_are_well_formed.ensures c.layouts_are_within_limits.ensures c.network_runs_deliver.ensures paths _ _ net _ _ (given_of c.in_ok-given.given.items) c.in_ok-outcomes.outcomes.items _
+    got.got.0 accepted.0 c.network-2.ensures.network accepted.1 got.same given.got.0.0 given.got.0.1 c.in_ok-outcomes.ensures named in
+    let out = paths.output.now in
+    let told = map string_bytes c.in_ok-names.names.items in
+    let left = c.in_ok-outcomes.outcomes.items in
+    let by = rw (c.deref-5.ensures.value, c.deref-6.ensures.value) at c.in_ok-files.ensures in
+    let files = files_named out told left c.in_ok-files.files.items led.count by in
+    let names = files.0 ∙ ap (λ (all : Names). names_at out all (captures_of left)) led.named in
+    let fails = rw (c.deref-9.ensures.value, c.deref-10.ensures.value) at c.in_err-put_all.ensures in
+    of_error _ _ _ c.in_err-put_all.field-0.0 c.from_residual-in_err-put_all.ensures
+    (not_put_network paths net left _ _ _ _ _ _ _ _ led.leads names refl (KeepsFiles-trans _ _ _ got.same given.same) (given.got.1 ∙ got.got.1) c.in_err-put_all.field-0.0 _ _ (Keeps-refl _) fails)
+
+pub returns-in_err-write_bytes : goal.returns-in_err-write_bytes
+returns-in_err-write_bytes g c =
+    let paths = c.args.paths.now in
+    let net = c.in_ok-network.network in
+    let got = c.in_ok-network.ensures in
+    let accepted = c.in_ok-cleared.ensures in
+    let given = c.in_ok-given.ensures in
+    let named : map string_bytes c.in_ok-names.names.items ≡ names_of net.layout.switches = search rules in
+    let led = is_led c.tables_are_well_formed.ensures c.layouts_are_within_limits.ensures c.network_runs_deliver.ensures paths _ _ net _ _ (given_of c.in_ok-given.given.items) c.in_ok-outcomes.outcomes.items _
+    got.got.0 accepted.0 c.network-2.ensures.network accepted.1 got.same given.got.0.0 given.got.0.1 c.in_ok-outcomes.ensures named in
+    let out = paths.output.now in
+    let told = map string_bytes c.in_ok-names.names.items in
+    let left = c.in_ok-outcomes.outcomes.items in
+    let by = rw (c.deref-5.ensures.value, c.deref-6.ensures.value) at c.in_ok-files.ensures in
+    let files = files_named out told left c.in_ok-files.files.items led.count by in
+    let names = files.0 ∙ ap (λ (all : Names). names_at out all (captures_of left)) led.named in
+    let done = rw (c.deref-9.ensures.value, c.deref-10.ensures.value) at c.in_ok-put_all.ensures in
+    let puts = puts_network paths net left _ _ _ _ _ _ _ _ led.leads names refl (KeepsFiles-trans _ _ _ got.same given.same) (given.got.1 ∙ got.got.1) done.0 done.1 None None in
+    let report = rw (c.deref-7.ensures.value, c.deref-8.ensures.value) at c.in_ok-text.ensures in
+    let text = c.deref-11.ensures.value ∙ report ∙ ap (λ (all : Names). reports_of all left) led.named in
+    of_error _ _ _ Write c.from_residual-in_err-write_bytes.ensures (net, left, puts, rw text at c.in_err-write_bytes.ensures.prefix)
+
+pub returns : goal.returns
+returns g c =
+    let paths = c.args.paths.now in
+    let net = c.in_ok-network.network in
+    let got = c.in_ok-network.ensures in
+    let accepted = c.in_ok-cleared.ensures in
+    let given = c.in_ok-given.ensures in
+    let named : map string_bytes c.in_ok-names.names.items ≡ names_of net.layout.switches = search rules in
+    let led = is_led c.tables_are_well_formed.ensures c.layouts_are_within_limits.ensures c.network_runs_deliver.ensures paths _ _ net _ _ (given_of c.in_ok-given.given.items) c.in_ok-outcomes.outcomes.items _
+    got.got.0 accepted.0 c.network-2.ensures.network accepted.1 got.same given.got.0.0 given.got.0.1 c.in_ok-outcomes.ensures named in
+    let out = paths.output.now in
+    let told = map string_bytes c.in_ok-names.names.items in
+    let left = c.in_ok-outcomes.outcomes.items in
+    let by = rw (c.deref-5.ensures.value, c.deref-6.ensures.value) at c.in_ok-files.ensures in
+    let files = files_named out told left c.in_ok-files.files.items led.count by in
+    let names = files.0 ∙ ap (λ (all : Names). names_at out all (captures_of left)) led.named in
+    let done = rw (c.deref-9.ensures.value, c.deref-10.ensures.value) at c.in_ok-put_all.ensures in
+    let puts = puts_network paths net left _ _ _ _ _ _ _ _ led.leads names refl (KeepsFiles-trans _ _ _ got.same given.same) (given.got.1 ∙ got.got.1) done.0 done.1 None None in
+    let report = rw (c.deref-7.ensures.value, c.deref-8.ensures.value) at c.in_ok-text.ensures in
+    let text = c.deref-11.ensures.value ∙ report ∙ ap (λ (all : Names). reports_of all left) led.named in
+    (net, left, puts, rw text at c.in_ok-write_bytes.ensures.all)
