@@ -97,7 +97,7 @@ fn more<A: Allocator + Copy>(
     reader.next()
 }
 
-/// Whether each call of a reader is out of memory for good.
+/// Whether each call of a reader wants memory for good.
 fn wants_for_good<A: Allocator + Copy>(reader: &mut Reader<'static, A>) -> bool {
     let want = Some(PcapFault::Memory);
     let fed = more(reader, 0).err();
@@ -106,7 +106,7 @@ fn wants_for_good<A: Allocator + Copy>(reader: &mut Reader<'static, A>) -> bool 
     fed == want && asked == want && fed_again == want
 }
 
-/// Whether the record of one frame comes with its last byte and no other one before the end; none where memory ran out.
+/// Whether the record of one frame comes with its last byte and no other one before the end; none where memory runs out.
 fn gives_one<A: Allocator + Copy>(reader: &mut Reader<'static, A>, text: &[u8]) -> Option<bool> {
     let mut fed = 0usize;
     for byte in text {

@@ -1,4 +1,4 @@
-//! Counters and their report. Each call that is out of memory is made once more.
+//! Counters and their report. Each call that wants memory is made once more.
 
 use crate::growths::{Calls, Memory, count, growths, made_again};
 use crate::tables::table_of;
@@ -50,7 +50,7 @@ fn fresh<'a>(memory: &'a Memory, table: &Table, wants: &mut u64) -> Option<Count
     }
 }
 
-/// Whether the report is this text; none where memory ran out.
+/// Whether the report is this text; none where memory runs out.
 fn tell<A: Allocator + Copy>(counts: &Counts<A>, memory: &Memory, text: &str) -> Option<bool> {
     match counts.report(memory) {
         Ok(report) => Some(report.as_str() == text),

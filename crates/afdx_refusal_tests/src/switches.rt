@@ -1,4 +1,4 @@
-//! A switch by its calls. Each call that is out of memory is made once more.
+//! A switch by its calls. Each call that wants memory is made once more.
 
 ghost use Rattle.std.specs.Prelude.{◌<◌};
 ghost use Rattle.afdx_units.specs.Time.{last_second};
@@ -22,7 +22,7 @@ struct Switching<'a> {
     checked: bool,
 }
 
-/// A switch over a table, checked first or not; none where memory ran out.
+/// A switch over a table, checked first or not; none where memory runs out.
 fn made<'a>(
     calls: &Switching,
     memory: &'a Memory,
