@@ -6,7 +6,8 @@ use Rattle.std.proofs.Common.{◌-◌, length, take}
 use Rattle.std.proofs.lemmas.List.{take_rest}
 use Rattle.std.specs.Box.{box_value}
 use Rattle.std.specs.Str.Parse.{ParsesUnsigned}
-use Rattle.clap.specs.Words.{AddsSubcommand, App, app_of, shape_of, with_subcommand, HasKind, IsAmong, Kinds, Row, Text, fault_of, first_of, is_simple, is_simple_and_free, kind_of, one_text, rows_of, subcommand_name_of, subcommand_of, subcommand_rows, subcommand_rows_of, ReadsOne}
+use Rattle.clap.specs.Words.{AddsSubcommand, App, app_of, shape_of, with_subcommand, HasKind, IsAmong, Kinds, Row, Text, fault_of, is_simple, is_simple_and_free, kind_of, one_text, rows_of}
+use Rattle.clap.specs.Words.{subcommand_name_of, subcommand_of, subcommand_rows, subcommand_rows_of, ReadsOne}
 use Rattle.clap.specs.declared.builder.command.Command.{Command}
 use Rattle.clap.specs.declared.builder.command.Command.TheViews.{out-Command}
 use Rattle.clap.specs.declared.error.Error.{Error}
@@ -19,14 +20,12 @@ use Rattle.clap.proofs.WalkLemmas.{one_text-rows}
 use Rattle.afdx_words.specs.declared.link.Alone.{Alone}
 use Rattle.afdx_words.specs.declared.request.NoRequest.{NoRequest}
 use Rattle.afdx_words.specs.declared.request.NoRequest.TheVariants.{Help, Usage, Memory}
-use Rattle.afdx_words.specs.declared.request.Paths.{Paths}
-use Rattle.afdx_words.specs.declared.request.Inputs.{Inputs}
 use Rattle.afdx_words.specs.declared.request.NetworkRequest.{NetworkRequest}
 use Rattle.afdx_words.specs.declared.request.Request.{Request}
 use Rattle.afdx_words.specs.declared.request.Request.TheVariants as request
-use Rattle.afdx_words.specs.Commands.{alone_app, check_app, size_app, paths_app, measure_app, network_app, program}
+use Rattle.afdx_words.specs.Commands.{alone_app, check_app, size_app, paths_app, measure_app, program}
 use Rattle.afdx_words.specs.Commands.{network_check_app, network_jitter_app, network_run_app, network_program}
-use Rattle.afdx_words.specs.Requests.{HasNumber, HasLink, HasPaths, HasInputs, AsksFor, AsksOfNetwork, AsksIn, Explains, Reads}
+use Rattle.afdx_words.specs.Requests.{HasNumber, HasLink, AsksFor, AsksOfNetwork, AsksIn, Explains, Reads}
 use Rattle.afdx_words.specs.Requests.{is_network, fault_in, faults_of, HasMatches, HasNoMatches}
 
 pub simple : is_simple program ≡ true
@@ -85,9 +84,6 @@ begins : (name a b : Text) → name ≡ a → name ≡ b → get_or a 0 0 ≡ ge
 begins name a b is_a is_b = ap (λ (t : Text). get_or t 0 0) (sym is_a ∙ is_b)
 
 module _ (sub : Option (Text × List Row)) (name : Text) (rows : List Row) (is : sub ≡ Some (name, rows)) where
-  pub asks : (r : Request) → AsksFor (Some (name, rows)) r → AsksFor sub r
-  asks r h = subst (λ (s : Option (Text × List Row)). AsksFor s r) (sym is) h
-
   asks_none : ((r : Request) → AsksFor (Some (name, rows)) r → ⊥) → (r : Request) → AsksFor sub r → ⊥
   asks_none none r h = none r (subst (λ (s : Option (Text × List Row)). AsksFor s r) is h)
 
