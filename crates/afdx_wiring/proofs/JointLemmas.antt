@@ -241,4 +241,4 @@ all_go net w j n p t =
           let table = same_table net w j r s (equal r.switch w.from.switch parts.0) in
           let among = subst (λ (c : Content). Contains c.links r.link) table s.known in
           goes net w j r (behind n.0 p.0 t.0 j.there w r.link leads (each_link net shared.Number w j n r.link among) (each_link net shared.Port w j p r.link among)
-              (each_link net shared.Terms w j t r.link among))
+          (each_link net shared.Terms w j t r.link among))
