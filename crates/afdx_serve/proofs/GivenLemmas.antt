@@ -21,7 +21,8 @@ use Rattle.afdx_serve.specs.declared.failure.Failure.TheVariants as failure
 use Rattle.afdx_serve.specs.Files.{Files, Shows, ShowsAll, KeepsFiles, DeviceLog, one_more}
 use Rattle.afdx_serve.specs.Runs.{capture_name, names_in, bytes_of, FailsToGet}
 use Rattle.afdx_serve.specs.Networks.{names_of, HasNetwork}
-use Rattle.afdx_serve.specs.NetworkRuns.{switch_folder, names_at, bytes_at, HasGiven, HasOpen, open_names, GetsNamed, FailsToGetNamed, GetsGiven, FailsToGetGiven}
+use Rattle.afdx_serve.specs.NetworkRuns.{switch_folder, names_at, bytes_at, HasGiven, open_names, GetsGiven, FailsToGetGiven}
+use Rattle.afdx_serve.specs.Inner.OpenPorts.{HasOpen, GetsNamed, FailsToGetNamed}
 use Rattle.afdx_serve.proofs.FileLemmas.{ShowsAll-before, KeepsFiles-trans, one_more_got}
 
 -- a network that was got has a table for each switch

@@ -7,7 +7,7 @@ use Rattle.afdx_session.specs.Outcome.{Results}
 use Rattle.afdx_wiring.specs.Net.{Network}
 use Rattle.afdx_wiring.specs.Rules.{IsAcceptedNetwork}
 use Rattle.afdx_network.specs.Runs.{Given, IsRunOf}
-use Rattle.afdx_network.specs.Given.{is_open, AreOpen, IsRefusal}
+use Rattle.afdx_network.specs.Given.{is_open, IsRefusal}
 use Rattle.afdx_network.specs.Way.{Stage, Step, IsDelivered}
 use Rattle.afdx_network.specs.Ways.{IsWayIn}
 use Rattle.afdx_network.specs.declared.fault.NetworkRunFault.TheVariants as run
@@ -48,10 +48,6 @@ reports_of _ _ = []
 abbrev pub HasGiven : Option Files → List ℕ → Names → Given → Type 0
 HasGiven files path names given = ShowsAll files (names_at path names given) (bytes_at given)
 
--- these are the captures in a switch's folder, one for each of its ports to which no wire goes
-abbrev pub HasOpen : Option Files → List ℕ → Network → ℕ → Content → List Text → Type 0
-HasOpen files folder net n t texts = ShowsAll files (names_in folder texts) (bytes_of texts) × AreOpen net n t texts
-
 -- the files hold an accepted network and captures, which lead to this; each way delivers
 pub record LeadsToNetwork (paths : NetworkPaths) (files : Option Files) (net : Network) (left : List Results) : Type 0 where
   pub given : Given
@@ -76,19 +72,6 @@ pub record GetsGiven (name : List ℕ) (files : Option Files) (path : List ℕ) 
   pub got : List (List ℕ)
   pub is_there : slice_get (open_names path (names_of net.layout.switches) net 0 net.tables) place ≡ Some name
   pub earlier : ShowsAll files (take place (open_names path (names_of net.layout.switches) net 0 net.tables)) got
-
--- the name is one of these, and those before it were got
-pub record GetsNamed (name : List ℕ) (files : Option Files) (names : List (List ℕ)) : Type 0 where
-  pub place : ℕ
-  pub got : List (List ℕ)
-  pub is_there : slice_get names place ≡ Some name
-  pub earlier : ShowsAll files (take place names) got
-
--- not all of these names were got
-abbrev pub FailsToGetNamed : Failure → Option Files → List (List ℕ) → DeviceLog → DeviceLog → Type 0
-FailsToGetNamed (failure.Get name) files names before after = GetsNamed (string_bytes name) files names × (after ≡ one_more (string_bytes name) before)
-FailsToGetNamed failure.Memory files names before after = Unit {0}
-FailsToGetNamed _ files names before after = ⊥
 
 -- not all was got, or it leads to nothing
 abbrev pub FailsToGetGiven : Failure → Option Files → List ℕ → Network → DeviceLog → DeviceLog → Type 0

@@ -6,7 +6,8 @@ ghost use Rattle.afdx_network.specs.Given.{given_of, is_open, AreGiven};
 ghost use Rattle.afdx_serve.specs.Files.{KeepsFiles};
 ghost use Rattle.afdx_serve.specs.Runs.{capture_name};
 ghost use Rattle.afdx_serve.specs.Networks.{names_of};
-ghost use Rattle.afdx_serve.specs.NetworkRuns.{switch_folder, HasGiven, HasOpen, FailsToGetNamed, FailsToGetGiven};
+ghost use Rattle.afdx_serve.specs.NetworkRuns.{switch_folder, HasGiven, FailsToGetGiven};
+ghost use Rattle.afdx_serve.specs.Inner.OpenPorts.{HasOpen, FailsToGetNamed};
 
 use crate::failure::Failure;
 use crate::folder::Folder;
