@@ -12,9 +12,10 @@ use Rattle.afdx_table.specs.declared.rows.PortRow.{PortRow}
 use Rattle.afdx_table.specs.Content.{Content}
 use Rattle.afdx_table.specs.Text.{table_of}
 use Rattle.afdx_session.specs.Texts.{Text, texts_of}
+use Rattle.afdx_wiring.specs.File.{Switch}
 use Rattle.afdx_wiring.specs.Net.{Network}
 use Rattle.afdx_network.specs.Runs.{Given}
-use Rattle.afdx_network.specs.Given.{is_open, AreOpen, IsGivenAt, AreGiven}
+use Rattle.afdx_network.specs.Given.{given_of, is_open, AreOpen, IsGivenAt, AreGiven}
 use Rattle.afdx_ways.specs.Lines.{Names, name_of}
 use Rattle.afdx_serve.specs.declared.failure.Failure.{Failure}
 use Rattle.afdx_serve.specs.declared.failure.Failure.TheVariants as failure
@@ -23,7 +24,7 @@ use Rattle.afdx_serve.specs.Runs.{capture_name, names_in, bytes_of, FailsToGet}
 use Rattle.afdx_serve.specs.Networks.{names_of, HasNetwork}
 use Rattle.afdx_serve.specs.NetworkRuns.{switch_folder, names_at, bytes_at, HasGiven, open_names, GetsGiven, FailsToGetGiven}
 use Rattle.afdx_serve.specs.Inner.OpenPorts.{HasOpen, GetsNamed, FailsToGetNamed}
-use Rattle.afdx_serve.proofs.FileLemmas.{ShowsAll-before, KeepsFiles-trans, one_more_got}
+use Rattle.afdx_serve.proofs.FileLemmas.{ShowsAll-before, ShowsAll-nil, KeepsFiles-trans, one_more_got}
 
 -- a network that was got has a table for each switch
 pub one_table_each : (files : Option Files) (path : List ℕ) (net : Network) → HasNetwork files path net → length net.tables ≡ length net.layout.switches
@@ -48,8 +49,10 @@ slice_get_left (x ∷ xs) ys zero within = refl
 slice_get_left (x ∷ xs) ys (suc i) within = slice_get_left xs ys i (omega (arith, within))
 
 slice_get_right : {X : Type 0} (xs ys : List X) (i : ℕ) → slice_get (xs ++ ys) (length xs + i) ≡ slice_get ys i
-slice_get_right [] ys i = refl
-slice_get_right (x ∷ xs) ys i = slice_get_right xs ys i
+slice_get_right [] ys i = ap (slice_get ys) (omega arith)
+slice_get_right (x ∷ xs) ys i = ap (slice_get (x ∷ (xs ++ ys))) next ∙ slice_get_right xs ys i where
+  next : suc (length xs) + i ≡ suc (length xs + i)
+  next = omega arith
 
 -- the name after those that were got
 stands_next : (files : Option Files) (name : List ℕ) (before rest all got : List (List ℕ)) → all ≡ before ++ name ∷ rest → ShowsAll files before got → GetsNamed name files all
@@ -113,45 +116,56 @@ all_ports p ports i d within =
     ∙ ap (filter p) (map-append (λ (r : PortRow). r.id) (take i ports) (get_or ports i d ∷ drop (suc i) ports))
     ∙ filter-append p (ids_of (take i ports)) ((get_or ports i d).id ∷ ids_of (drop (suc i) ports))
 
+-- the captures of these ports to which no wire goes were got, and nothing else was done
+pub record GotOpen (a b : Option Files) (first now : DeviceLog) (folder : List ℕ) (p : ℕ → Bool) (ports : List PortRow) (texts : List Text) : Type 0 where
+  pub got : ShowsAll a (names_in folder texts) (bytes_of texts)
+  pub ids : map (λ text. text.0) texts ≡ filter p (map (λ r. r.id) ports)
+  pub same : KeepsFiles a b
+  pub failed : now ≡ first
+
 -- the name of a port's capture, where those of the ports before it were got
-pub gets_open : (files : Option Files) (folder name : List ℕ) (p : ℕ → Bool) (ports all : List PortRow) (i : ℕ) (d : PortRow) (texts : List Text) → ports ≡ all → i < length ports
-    → true ≡ p (get_or ports i d).id → name ≡ capture_name folder (get_or ports i d).id → ShowsAll files (names_in folder texts) (bytes_of texts)
-    → map (λ (text : Text). text.0) texts ≡ filter p (map (λ (r : PortRow). r.id) (take i ports))
-    → GetsNamed name files (map (capture_name folder) (filter p (map (λ (r : PortRow). r.id) all)))
-gets_open files folder name p ports all i d texts same within passes is got ids =
+pub gets_open : (a b : Option Files) (first now : DeviceLog) (folder name : List ℕ) (p : ℕ → Bool) (ports all : List PortRow) (i : ℕ) (d : PortRow) (texts : List Text) → ports ≡ all
+    → i < length ports → true ≡ p (get_or ports i d).id → name ≡ capture_name folder (get_or ports i d).id → GotOpen a b first now folder p (take i ports) texts
+    → GetsNamed name a (map (capture_name folder) (filter p (map (λ (r : PortRow). r.id) all)))
+gets_open a b first now folder name p ports all i d texts same within passes is so_far =
     let port = (get_or ports i d).id in
     let rest = ids_of (drop (suc i) ports) in
     let split : filter p (ids_of all) ≡ numbers_in texts ++ port ∷ filter p rest =
         ap (λ (ps : List PortRow). filter p (ids_of ps)) (sym same) ∙ all_ports p ports i d within
-        ∙ ap (λ (ns : List ℕ). filter p (ids_of (take i ports)) ++ ns) (one_taken p port rest passes) ∙ ap (λ (ns : List ℕ). ns ++ port ∷ filter p rest) (sym ids) in
-    stands_next files name (names_in folder texts) (named folder (filter p rest)) (named folder (filter p (ids_of all))) (bytes_of texts)
+        ∙ ap (λ (ns : List ℕ). filter p (ids_of (take i ports)) ++ ns) (one_taken p port rest passes) ∙ ap (λ (ns : List ℕ). ns ++ port ∷ filter p rest) (sym so_far.ids) in
+    stands_next a name (names_in folder texts) (named folder (filter p rest)) (named folder (filter p (ids_of all))) (bytes_of texts)
     (ap (named folder) split ∙ map-append (capture_name folder) (numbers_in texts) (port ∷ filter p rest)
     ∙ ap (λ (ns : List (List ℕ)). ns ++ capture_name folder port ∷ named folder (filter p rest)) (sym (named_are folder texts))
-    ∙ ap (λ (n : List ℕ). names_in folder texts ++ n ∷ named folder (filter p rest)) (sym is)) got
+    ∙ ap (λ (n : List ℕ). names_in folder texts ++ n ∷ named folder (filter p rest)) (sym is)) so_far.got
 
 -- one more port's capture was got
-pub one_more_open : {Z : Type 0} (a b c : Option Files) (folder name : List ℕ) (p : ℕ → Bool) (ports : List PortRow) (i : ℕ) (d : PortRow) (old new : List (ℕ × Vec ℕ Z)) (bytes : Vec ℕ Z)
-    → new ≡ old ++ ((get_or ports i d).id, bytes) ∷ [] → i < length ports → true ≡ p (get_or ports i d).id → KeepsFiles a b → KeepsFiles b c
-    → ShowsAll a (names_in folder (texts_of old)) (bytes_of (texts_of old)) → map (λ (text : Text). text.0) (texts_of old) ≡ filter p (map (λ (r : PortRow). r.id) (take i ports))
-    → name ≡ capture_name folder (get_or ports i d).id → Shows b name bytes.items
-    → ShowsAll a (names_in folder (texts_of new)) (bytes_of (texts_of new))
-    × (map (λ (text : Text). text.0) (texts_of new) ≡ filter p (map (λ (r : PortRow). r.id) (take (i + 1) ports))) × KeepsFiles a c
-one_more_open {Z} a b c folder name p ports i d old new bytes grown within passes first second got ids is shows =
+pub one_more_open : {Z : Type 0} (a b c : Option Files) (first before now : DeviceLog) (folder name : List ℕ) (p : ℕ → Bool) (ports : List PortRow) (i : ℕ) (d : PortRow)
+    (old new : List (ℕ × Vec ℕ Z)) (bytes : Vec ℕ Z) → new ≡ old ++ ((get_or ports i d).id, bytes) ∷ [] → i < length ports → true ≡ p (get_or ports i d).id
+    → name ≡ capture_name folder (get_or ports i d).id → Shows b name bytes.items × (now ≡ before) → KeepsFiles b c → GotOpen a b first before folder p (take i ports) (texts_of old)
+    → GotOpen a c first now folder p (take (i + 1) ports) (texts_of new)
+one_more_open {Z} a b c first before now folder name p ports i d old new bytes grown within passes is shows keeps so_far =
     let view : ℕ × Vec ℕ Z → Text = λ pair. (pair.0, pair.1.items) in
     let one : Text = ((get_or ports i d).id, bytes.items) in
-    let texts : texts_of new ≡ texts_of old ++ one ∷ [] = ap (map view) grown ∙ map-append view old (_ ∷ []) in (
-      subst (λ (ts : List Text). ShowsAll a (names_in folder ts) (bytes_of ts)) (sym texts) (one_more_got a b folder (texts_of old) one first got (subst (λ (n : List ℕ). Shows b n bytes.items) is shows)),
-      ap numbers_in texts ∙ map-append (λ (text : Text). text.0) (texts_of old) (one ∷ []) ∙ ap (λ (ns : List ℕ). ns ++ one.0 ∷ []) ids
-          ∙ ap (λ (ns : List ℕ). filter p (ids_of (take i ports)) ++ ns) (sym (one_taken p one.0 [] passes)) ∙ sym (more_ports p ports i d within),
-      KeepsFiles-trans a b c first second,
-    )
+    let texts : texts_of new ≡ texts_of old ++ one ∷ [] = ap (map view) grown ∙ map-append view old (_ ∷ []) in
+    record {
+      got = subst (λ (ts : List Text). ShowsAll a (names_in folder ts) (bytes_of ts)) (sym texts)
+          (one_more_got a b folder (texts_of old) one so_far.same so_far.got (subst (λ (n : List ℕ). Shows b n bytes.items) is shows.0));
+      ids = ap numbers_in texts ∙ map-append (λ (text : Text). text.0) (texts_of old) (one ∷ []) ∙ ap (λ (ns : List ℕ). ns ++ one.0 ∷ []) so_far.ids
+          ∙ ap (λ (ns : List ℕ). filter p (ids_of (take i ports)) ++ ns) (sym (one_taken p one.0 [] passes)) ∙ sym (more_ports p ports i d within);
+      same = KeepsFiles-trans a b c so_far.same keeps;
+      failed = shows.1 ∙ so_far.failed;
+    }
 
 -- a wire goes to the next port
-pub one_more_wired : (p : ℕ → Bool) (ports : List PortRow) (i : ℕ) (d : PortRow) (ids : List ℕ) → i < length ports → false ≡ p (get_or ports i d).id
-    → ids ≡ filter p (map (λ (r : PortRow). r.id) (take i ports)) → ids ≡ filter p (map (λ (r : PortRow). r.id) (take (i + 1) ports))
-one_more_wired p ports i d ids within fails so_far =
-    so_far ∙ sym (append-nil (filter p (ids_of (take i ports)))) ∙ ap (λ (ns : List ℕ). filter p (ids_of (take i ports)) ++ ns) (sym (one_left p (get_or ports i d).id [] fails))
-    ∙ sym (more_ports p ports i d within)
+pub one_more_wired : (a b : Option Files) (first now : DeviceLog) (folder : List ℕ) (p : ℕ → Bool) (ports : List PortRow) (i : ℕ) (d : PortRow) (texts : List Text) → i < length ports
+    → false ≡ p (get_or ports i d).id → GotOpen a b first now folder p (take i ports) texts → GotOpen a b first now folder p (take (i + 1) ports) texts
+one_more_wired a b first now folder p ports i d texts within fails so_far = record {
+  got = so_far.got;
+  ids = so_far.ids ∙ sym (append-nil (filter p (ids_of (take i ports)))) ∙ ap (λ (ns : List ℕ). filter p (ids_of (take i ports)) ++ ns) (sym (one_left p (get_or ports i d).id [] fails))
+      ∙ sym (more_ports p ports i d within);
+  same = so_far.same;
+  failed = so_far.failed;
+}
 
 -- a capture was not got
 pub not_got_named : (f : Failure) (files : Option Files) (name : List ℕ) (names : List (List ℕ)) (first before after : DeviceLog) → before ≡ first → FailsToGet f name before after
@@ -172,16 +186,16 @@ not_got_named failure.Write files name names first before after same fails upto 
 -- ---- all switches
 
 -- the numbers of the ports to which no wire goes, by switch, of which n come before these
-pub open_ids : Network → ℕ → List Content → List (List ℕ)
+abbrev open_ids : Network → ℕ → List Content → List (List ℕ)
 open_ids net n [] = []
 open_ids net n (t ∷ ts) = filter (is_open net n) (ids_of t.ports) ∷ open_ids net (n + 1) ts
 
 -- those of the given captures
-abbrev pub given_ids : Given → List (List ℕ)
+abbrev given_ids : Given → List (List ℕ)
 given_ids given = map (λ texts. map (λ text. text.0) texts) given
 
 -- the names of the captures of these ports, each switch's in its own folder
-all_named : List ℕ → Names → List (List ℕ) → List (List ℕ)
+abbrev all_named : List ℕ → Names → List (List ℕ) → List (List ℕ)
 all_named path names [] = []
 all_named path [] (ids ∷ more) = []
 all_named path (name ∷ names) (ids ∷ more) = named (switch_folder path name) ids ++ all_named path names more
@@ -222,70 +236,105 @@ open_ids-append net n m (t ∷ ts) us e =
     ap (λ (ids : List (List ℕ)). filter (is_open net n) (ids_of t.ports) ∷ ids) (open_ids-append net (n + 1) m ts us (omega (arith, e)))
 
 -- the captures of the first i switches were got
-pub record GotFirst (files : Option Files) (path : List ℕ) (names : Names) (net : Network) (i : ℕ) (given : Given) : Type 0 where
-  pub has : HasGiven files path names given
-  pub ids : given_ids given ≡ open_ids net 0 (take i net.tables)
+pub record GotFirst (files : Option Files) (path : List ℕ) (net : Network) (i : ℕ) (given : Given) : Type 0 where
+  pub has : HasGiven files path (names_of net.layout.switches) given
+  pub ids : map (λ texts. map (λ text. text.0) texts) given ≡ open_ids net 0 (take i net.tables)
 
--- what is known of the next switch
-module _ (files : Option Files) (path : List ℕ) (names : Names) (net : Network) (i : ℕ) (d : Content) (given : Given) (within : i < length net.tables) (enough : length net.tables ≡ length names)
-    (so_far : GotFirst files path names net i given) where
+pub none_got : (files : Option Files) (path : List ℕ) (net : Network) (given : Given) → given ≡ [] → GotFirst files path net 0 given
+none_got files path net given none = subst (GotFirst files path net 0) (sym none) (record {
+  has = subst (λ (ns : List (List ℕ)). ShowsAll files ns []) (sym (given_named path (names_of net.layout.switches) [])) (ShowsAll-nil files);
+  ids = refl;
+})
+
+pub one_more_given : {Y Z : Type 0} (old new : List (Vec (ℕ × Vec ℕ Z) Y)) (texts : Vec (ℕ × Vec ℕ Z) Y) → new ≡ old ++ texts ∷ [] → given_of new ≡ given_of old ++ texts_of texts.items ∷ []
+one_more_given old new texts grown = ap given_of grown ∙ map-append (λ ts. texts_of ts.items) old (texts ∷ [])
+
+-- what is known of the next switch, and of what was got of it: `b` are the files after those of the switches before it
+module _ (files b : Option Files) (path : List ℕ) (net : Network) (i : ℕ) (d t : Content) (own : List ℕ) (given : Given) (within : i < length net.tables)
+    (enough : length net.tables ≡ length net.layout.switches) (table_is : t ≡ get_or net.tables i d) (own_is : own ≡ switch_folder path (name_of (names_of net.layout.switches) i))
+    (keeps : KeepsFiles files b) (so_far : GotFirst files path net i given) where
+  abbrev names : Names
+  names = names_of net.layout.switches
+
   abbrev ids : List ℕ
-  ids = filter (is_open net i) (ids_of (get_or net.tables i d).ports)
-
-  abbrev folder : List ℕ
-  folder = switch_folder path (name_of names i)
+  ids = filter (is_open net i) (ids_of t.ports)
 
   first : 0 + length (take i net.tables) ≡ i
-  first = length-take-le i net.tables (omega (arith, within))
+  first = let long = length-take-le i net.tables (omega (arith, within)) in omega (arith, long)
 
   count : length (given_ids given) ≡ i
   count = ap (λ (all : List (List ℕ)). length all) so_far.ids ∙ length-open_ids net 0 (take i net.tables) ∙ length-take-le i net.tables (omega (arith, within))
 
   there : length (given_ids given) < length names
-  there = let c = count in omega (arith, within, enough, c)
+  there = let many = length-map net.layout.switches (λ (s : Switch). s.name) in let c = count in omega (arith, within, enough, many, c)
 
   -- the names of a switch's captures after those of the switches before it
-  after : (own : List ℕ) (more : List (List ℕ)) → (rest : List (List ℕ)) × (all_named path names (given_ids given ++ own ∷ more) ≡ names_at path names given ++ (named folder own ++ rest))
-  after own more =
-      let rest = all_named path (drop (suc (length (given_ids given))) names) more in (
-        rest,
-        all_named-append path names (given_ids given) own more there ∙ ap (λ (ns : List (List ℕ)). ns ++ (named (switch_folder path (name_of names (length (given_ids given)))) own ++ rest))
-            (sym (given_named path names given))
-            ∙ ap (λ (k : ℕ). names_at path names given ++ (named (switch_folder path (name_of names k)) own ++ rest)) count,
-      )
+  abbrev further : List (List ℕ) → List (List ℕ)
+  further more = all_named path (drop (suc (length (given_ids given))) names) more
 
-  -- so a name among those of its captures is one among all
-  pub gets_given : (name : List ℕ) → GetsNamed name files (named folder ids) → GetsNamed name files (open_names path names net 0 net.tables)
-  gets_given name s = stands_further files name (names_at path names given) (named folder ids) split.0 (open_names path names net 0 net.tables) (bytes_at given) split.1 so_far.has s where
+  after : (numbers : List ℕ) (more : List (List ℕ)) → all_named path names (given_ids given ++ numbers ∷ more) ≡ names_at path names given ++ (named own numbers ++ further more)
+  after numbers more =
+      all_named-append path names (given_ids given) numbers more there
+      ∙ ap (λ (ns : List (List ℕ)). ns ++ (named (switch_folder path (name_of names (length (given_ids given)))) numbers ++ further more)) (sym (given_named path names given))
+      ∙ ap (λ (k : ℕ). names_at path names given ++ (named (switch_folder path (name_of names k)) numbers ++ further more)) count
+      ∙ ap (λ (folder : List ℕ). names_at path names given ++ (named folder numbers ++ further more)) (sym own_is)
+
+  tables_are : net.tables ≡ take i net.tables ++ t ∷ drop (suc i) net.tables
+  tables_are = sym (take-append-drop i net.tables) ∙ ap (λ (ts : List Content). take i net.tables ++ ts) (drop-cons net.tables i d within)
+      ∙ ap (λ (u : Content). take i net.tables ++ u ∷ drop (suc i) net.tables) (sym table_is)
+
+  -- a name among those of its captures is one among all
+  gets_given : (name : List ℕ) → GetsNamed name b (named own ids) → GetsGiven name files path net
+  gets_given name s = record { place = among.place; got = among.got; is_there = among.is_there; earlier = among.earlier } where
     rest : List (List ℕ)
     rest = open_ids net (i + 1) (drop (suc i) net.tables)
 
     whole : open_ids net 0 net.tables ≡ given_ids given ++ ids ∷ rest
-    whole =
-        ap (open_ids net 0) (sym (take-append-drop i net.tables) ∙ ap (λ (ts : List Content). take i net.tables ++ ts) (drop-cons net.tables i d within))
-        ∙ open_ids-append net 0 i (take i net.tables) (get_or net.tables i d ∷ drop (suc i) net.tables) first ∙ ap (λ (all : List (List ℕ)). all ++ ids ∷ rest) (sym so_far.ids)
+    whole = ap (open_ids net 0) tables_are ∙ open_ids-append net 0 i (take i net.tables) (t ∷ drop (suc i) net.tables) first ∙ ap (λ (all : List (List ℕ)). all ++ ids ∷ rest) (sym so_far.ids)
 
-    split : (more : List (List ℕ)) × (open_names path names net 0 net.tables ≡ names_at path names given ++ (named folder ids ++ more))
-    split = ((after ids rest).0, open_named path names net 0 net.tables ∙ ap (all_named path names) whole ∙ (after ids rest).1)
+    split : open_names path names net 0 net.tables ≡ names_at path names given ++ (named own ids ++ further rest)
+    split = open_named path names net 0 net.tables ∙ ap (all_named path names) whole ∙ after ids rest
 
-  -- and where its captures were got, so were those of one switch more
-  pub got_one_more : (texts : List Text) → HasOpen files folder net i (get_or net.tables i d) texts → GotFirst files path names net (i + 1) (given ++ texts ∷ [])
+    among : GetsNamed name files (open_names path names net 0 net.tables)
+    among = stands_further files name (names_at path names given) (named own ids) (further rest) (open_names path names net 0 net.tables) (bytes_at given) split so_far.has
+        (GetsNamed-before name files b (named own ids) keeps s)
+
+  pub not_got_given : (f : Failure) (first before now : DeviceLog) → before ≡ first → FailsToGetNamed f b (map (capture_name own) (filter (is_open net i) (map (λ (r : PortRow). r.id) t.ports))) before now
+      → FailsToGetGiven f files path net first now
+  not_got_given (failure.Get s) first before now same fails = (gets_given (string_bytes s) fails.0, fails.1 ∙ ap (one_more (string_bytes s)) same)
+  not_got_given failure.Memory first before now same fails = tt
+  not_got_given failure.Usage first before now same fails = absurd fails
+  not_got_given (failure.Table r) first before now same fails = absurd fails
+  not_got_given (failure.Capture r) first before now same fails = absurd fails
+  not_got_given (failure.PortCapture p r) first before now same fails = absurd fails
+  not_got_given (failure.Put s) first before now same fails = absurd fails
+  not_got_given (failure.Load r) first before now same fails = absurd fails
+  not_got_given (failure.Network r) first before now same fails = absurd fails
+  not_got_given failure.Read first before now same fails = absurd fails
+  not_got_given failure.Write first before now same fails = absurd fails
+
+  -- where its captures were got, so were those of one switch more
+  pub got_one_more : (texts : List Text) → HasOpen b own net i t texts → GotFirst files path net (i + 1) (given ++ texts ∷ [])
   got_one_more texts has = record {
     has = subst (λ (ns : List (List ℕ)). ShowsAll files ns (bytes_at (given ++ texts ∷ []))) (sym names_are)
-        (subst (ShowsAll files (names_at path names given ++ names_in folder texts)) (sym bytes_are) (ShowsAll-append files (names_at path names given) (names_in folder texts) (bytes_at given) (bytes_of texts) so_far.has has.0));
-    ids = grown ∙ ap (λ (own : List ℕ). given_ids given ++ own ∷ []) has.1 ∙ ap (λ (all : List (List ℕ)). all ++ ids ∷ []) so_far.ids
-        ∙ sym (open_ids-append net 0 i (take i net.tables) (get_or net.tables i d ∷ []) first) ∙ ap (open_ids net 0) (sym (take_more net.tables i d within));
+        (subst (ShowsAll files (names_at path names given ++ names_in own texts)) (sym bytes_are)
+        (ShowsAll-append files (names_at path names given) (names_in own texts) (bytes_at given) (bytes_of texts) so_far.has (ShowsAll-before files b _ _ keeps has.0)));
+    ids = grown ∙ ap (λ (numbers : List ℕ). given_ids given ++ numbers ∷ []) has.1 ∙ ap (λ (all : List (List ℕ)). all ++ ids ∷ []) so_far.ids
+        ∙ sym (open_ids-append net 0 i (take i net.tables) (t ∷ []) first) ∙ ap (open_ids net 0) (sym taken);
   } where
     grown : given_ids (given ++ texts ∷ []) ≡ given_ids given ++ numbers_in texts ∷ []
     grown = map-append numbers_in given (texts ∷ [])
 
+    taken : take (i + 1) net.tables ≡ take i net.tables ++ t ∷ []
+    taken = take_more net.tables i d within ∙ ap (λ (u : Content). take i net.tables ++ u ∷ []) (sym table_is)
+
     bytes_are : bytes_at (given ++ texts ∷ []) ≡ bytes_at given ++ bytes_of texts
     bytes_are = flat_map-append bytes_of given (texts ∷ []) ∙ ap (λ (bs : List (List ℕ)). bytes_at given ++ bs) (append-nil (bytes_of texts))
 
-    names_are : names_at path names (given ++ texts ∷ []) ≡ names_at path names given ++ names_in folder texts
+    names_are : names_at path names (given ++ texts ∷ []) ≡ names_at path names given ++ names_in own texts
     names_are =
-        given_named path names (given ++ texts ∷ []) ∙ ap (all_named path names) grown ∙ (after (numbers_in texts) []).1
-        ∙ ap (λ (ns : List (List ℕ)). names_at path names given ++ ns) (append-nil (named folder (numbers_in texts)) ∙ sym (named_are folder texts))
+        given_named path names (given ++ texts ∷ []) ∙ ap (all_named path names) grown ∙ after (numbers_in texts) []
+        ∙ ap (λ (ns : List (List ℕ)). names_at path names given ++ ns) (append-nil (named own (numbers_in texts)) ∙ sym (named_are own texts))
 
 -- each switch's captures are given, where those of all were got
 given_each : (net : Network) (n m : ℕ) (ts : List Content) (given : Given) (i : ℕ) → n + i ≡ m → given_ids given ≡ open_ids net n ts → i < length ts
@@ -299,30 +348,18 @@ given_each net n m (t ∷ ts) (texts ∷ given) (suc i) e same within =
     let rest : given_ids given ≡ open_ids net (n + 1) ts = cc in
     given_each net (n + 1) m ts given i (omega (arith, e)) rest (omega (arith, within))
 
-pub all_given : (files : Option Files) (path : List ℕ) (names : Names) (net : Network) (i : ℕ) (given : Given) → length net.tables ≤ i → GotFirst files path names net i given → AreGiven net given
-all_given files path names net i given past got = record {
-  each = λ switch within.
-      let s = given_each net 0 switch net.tables given switch refl ids within in
-      record { table = s.0; texts = s.1; table_is = s.2; texts_is = s.3; of_open = s.4 };
-  no_more = sym (length-map given numbers_in) ∙ ap (λ (all : List (List ℕ)). length all) ids ∙ length-open_ids net 0 net.tables;
-} where
+pub all_given : (files : Option Files) (path : List ℕ) (net : Network) (i : ℕ) (given : Given) → length net.tables ≤ i → GotFirst files path net i given
+    → HasGiven files path (names_of net.layout.switches) given × AreGiven net given
+all_given files path net i given past so_far = (
+  so_far.has,
+  record {
+    each = λ switch within. at switch (given_each net 0 switch net.tables given switch (omega arith) ids within);
+    no_more = sym (length-map given numbers_in) ∙ ap (λ (all : List (List ℕ)). length all) ids ∙ length-open_ids net 0 net.tables;
+  },
+) where
   ids : given_ids given ≡ open_ids net 0 net.tables
-  ids = got.ids ∙ ap (open_ids net 0) (take_all i net.tables past)
+  ids = so_far.ids ∙ ap (open_ids net 0) (take_all i net.tables past)
 
--- those of a switch were not got, after those of the switches before it
-pub not_got_given : (f : Failure) (a b : Option Files) (path : List ℕ) (net : Network) (names : List (List ℕ)) (first before after : DeviceLog) → before ≡ first → KeepsFiles a b
-    → ((name : List ℕ) → GetsNamed name a names → GetsNamed name a (open_names path (names_of net.layout.switches) net 0 net.tables))
-    → FailsToGetNamed f b names before after → FailsToGetGiven f a path net first after
-not_got_given (failure.Get s) a b path net names first before after same keeps further fails =
-    let upto = further (string_bytes s) (GetsNamed-before (string_bytes s) a b names keeps fails.0) in
-    (record { place = upto.place; got = upto.got; is_there = upto.is_there; earlier = upto.earlier }, fails.1 ∙ ap (one_more (string_bytes s)) same)
-not_got_given failure.Memory a b path net names first before after same keeps further fails = tt
-not_got_given failure.Usage a b path net names first before after same keeps further fails = absurd fails
-not_got_given (failure.Table r) a b path net names first before after same keeps further fails = absurd fails
-not_got_given (failure.Capture r) a b path net names first before after same keeps further fails = absurd fails
-not_got_given (failure.PortCapture p r) a b path net names first before after same keeps further fails = absurd fails
-not_got_given (failure.Put s) a b path net names first before after same keeps further fails = absurd fails
-not_got_given (failure.Load r) a b path net names first before after same keeps further fails = absurd fails
-not_got_given (failure.Network r) a b path net names first before after same keeps further fails = absurd fails
-not_got_given failure.Read a b path net names first before after same keeps further fails = absurd fails
-not_got_given failure.Write a b path net names first before after same keeps further fails = absurd fails
+  at : (switch : ℕ) → (t : Content) × (texts : List Text) × (slice_get net.tables switch ≡ Some t) × (slice_get given switch ≡ Some texts) × AreOpen net switch t texts
+      → IsGivenAt net given switch
+  at switch found = record { table = found.0; texts = found.1; table_is = found.2; texts_is = found.3; of_open = found.4 }
