@@ -1,6 +1,6 @@
 -- The captures of the ports to which no wire goes, by switch: what was got, and why the rest was not.
-use Rattle.std.proofs.Common.{◌≡◌, ℕ, zero, suc, ◌+◌, ◌<◌, ◌≤◌, Bool, true, false, cond, List, [], ◌∷◌, ◌++◌, map, filter, flat_map, length, take, drop, get_or, slice_get, append_assoc}
-use Rattle.std.proofs.Common.{Option, Some, None, Result, Ok, Err, Vec, String, string_bytes, refl, sym, ap, subst, ◌∙◌, arith}
+use Rattle.std.proofs.Common.{◌≡◌, ℕ, zero, suc, ◌+◌, ◌<◌, ◌≤◌, Bool, true, false, cond, List, [], ◌∷◌, ◌++◌, map, filter, length, take, drop, get_or, slice_get, append_assoc}
+use Rattle.std.proofs.Common.{Option, Some, None, Result, Ok, Vec, string_bytes, refl, sym, ap, subst, ◌∙◌, arith}
 use Rattle.std.proofs.lemmas.List.{map-append, take_more, take_all, length-map, length-take-le, take-append-le, take-append-drop, append-nil}
 use Rattle.std.proofs.lemmas.List.Elements.{filter-append}
 use Rattle.std.proofs.lemmas.Grind.{flat_map-append}
@@ -69,8 +69,8 @@ stands_further : (files : Option Files) (name : List ℕ) (before names rest all
 stands_further files name before names rest all got split earlier s =
     let within : s.place < length names = slice_get_within names s.place name s.is_there in
     let taken : take (length before + s.place) all ≡ before ++ take s.place names =
-        ap (take (length before + s.place)) split ∙ take-append-add before (names ++ rest) s.place
-        ∙ ap (λ (ns : List (List ℕ)). before ++ ns) (take-append-le s.place names rest (omega (arith, within))) in
+    ap (take (length before + s.place)) split ∙ take-append-add before (names ++ rest) s.place
+    ∙ ap (λ (ns : List (List ℕ)). before ++ ns) (take-append-le s.place names rest (omega (arith, within))) in
     record {
       place = length before + s.place;
       got = got ++ s.got;
@@ -131,8 +131,8 @@ gets_open a b first now folder name p ports all i d texts same within passes is 
     let port = (get_or ports i d).id in
     let rest = ids_of (drop (suc i) ports) in
     let split : filter p (ids_of all) ≡ numbers_in texts ++ port ∷ filter p rest =
-        ap (λ (ps : List PortRow). filter p (ids_of ps)) (sym same) ∙ all_ports p ports i d within
-        ∙ ap (λ (ns : List ℕ). filter p (ids_of (take i ports)) ++ ns) (one_taken p port rest passes) ∙ ap (λ (ns : List ℕ). ns ++ port ∷ filter p rest) (sym so_far.ids) in
+    ap (λ (ps : List PortRow). filter p (ids_of ps)) (sym same) ∙ all_ports p ports i d within
+    ∙ ap (λ (ns : List ℕ). filter p (ids_of (take i ports)) ++ ns) (one_taken p port rest passes) ∙ ap (λ (ns : List ℕ). ns ++ port ∷ filter p rest) (sym so_far.ids) in
     stands_next a name (names_in folder texts) (named folder (filter p rest)) (named folder (filter p (ids_of all))) (bytes_of texts)
     (ap (named folder) split ∙ map-append (capture_name folder) (numbers_in texts) (port ∷ filter p rest)
     ∙ ap (λ (ns : List (List ℕ)). ns ++ capture_name folder port ∷ named folder (filter p rest)) (sym (named_are folder texts))
@@ -224,7 +224,7 @@ all_named-append path (name ∷ names) [] ids more within = refl
 all_named-append path (name ∷ names) (own ∷ before) ids more within =
     ap (λ (ns : List (List ℕ)). named (switch_folder path name) own ++ ns) (all_named-append path names before ids more (omega (arith, within)))
     ∙ sym (append_assoc (named (switch_folder path name) own) (all_named path names before)
-        (named (switch_folder path (name_of names (length before))) ids ++ all_named path (drop (suc (length before)) names) more))
+    (named (switch_folder path (name_of names (length before))) ids ++ all_named path (drop (suc (length before)) names) more))
 
 length-open_ids : (net : Network) (n : ℕ) (ts : List Content) → length (open_ids net n ts) ≡ length ts
 length-open_ids net n [] = refl
@@ -259,8 +259,8 @@ module _ (files b : Option Files) (path : List ℕ) (net : Network) (i : ℕ) (d
   abbrev ids : List ℕ
   ids = filter (is_open net i) (ids_of t.ports)
 
-  first : 0 + length (take i net.tables) ≡ i
-  first = let long = length-take-le i net.tables (omega (arith, within)) in omega (arith, long)
+  place_is : 0 + length (take i net.tables) ≡ i
+  place_is = let long = length-take-le i net.tables (omega (arith, within)) in omega (arith, long)
 
   count : length (given_ids given) ≡ i
   count = ap (λ (all : List (List ℕ)). length all) so_far.ids ∙ length-open_ids net 0 (take i net.tables) ∙ length-take-le i net.tables (omega (arith, within))
@@ -290,7 +290,7 @@ module _ (files b : Option Files) (path : List ℕ) (net : Network) (i : ℕ) (d
     rest = open_ids net (i + 1) (drop (suc i) net.tables)
 
     whole : open_ids net 0 net.tables ≡ given_ids given ++ ids ∷ rest
-    whole = ap (open_ids net 0) tables_are ∙ open_ids-append net 0 i (take i net.tables) (t ∷ drop (suc i) net.tables) first ∙ ap (λ (all : List (List ℕ)). all ++ ids ∷ rest) (sym so_far.ids)
+    whole = ap (open_ids net 0) tables_are ∙ open_ids-append net 0 i (take i net.tables) (t ∷ drop (suc i) net.tables) place_is ∙ ap (λ (all : List (List ℕ)). all ++ ids ∷ rest) (sym so_far.ids)
 
     split : open_names path names net 0 net.tables ≡ names_at path names given ++ (named own ids ++ further rest)
     split = open_named path names net 0 net.tables ∙ ap (all_named path names) whole ∙ after ids rest
@@ -299,7 +299,8 @@ module _ (files b : Option Files) (path : List ℕ) (net : Network) (i : ℕ) (d
     among = stands_further files name (names_at path names given) (named own ids) (further rest) (open_names path names net 0 net.tables) (bytes_at given) split so_far.has
         (GetsNamed-before name files b (named own ids) keeps s)
 
-  pub not_got_given : (f : Failure) (first before now : DeviceLog) → before ≡ first → FailsToGetNamed f b (map (capture_name own) (filter (is_open net i) (map (λ (r : PortRow). r.id) t.ports))) before now
+  pub not_got_given : (f : Failure) (first before now : DeviceLog) → before ≡ first
+      → FailsToGetNamed f b (map (capture_name own) (filter (is_open net i) (map (λ (r : PortRow). r.id) t.ports))) before now
       → FailsToGetGiven f files path net first now
   not_got_given (failure.Get s) first before now same fails = (gets_given (string_bytes s) fails.0, fails.1 ∙ ap (one_more (string_bytes s)) same)
   not_got_given failure.Memory first before now same fails = tt
@@ -320,7 +321,7 @@ module _ (files b : Option Files) (path : List ℕ) (net : Network) (i : ℕ) (d
         (subst (ShowsAll files (names_at path names given ++ names_in own texts)) (sym bytes_are)
         (ShowsAll-append files (names_at path names given) (names_in own texts) (bytes_at given) (bytes_of texts) so_far.has (ShowsAll-before files b _ _ keeps has.0)));
     ids = grown ∙ ap (λ (numbers : List ℕ). given_ids given ++ numbers ∷ []) has.1 ∙ ap (λ (all : List (List ℕ)). all ++ ids ∷ []) so_far.ids
-        ∙ sym (open_ids-append net 0 i (take i net.tables) (t ∷ []) first) ∙ ap (open_ids net 0) (sym taken);
+        ∙ sym (open_ids-append net 0 i (take i net.tables) (t ∷ []) place_is) ∙ ap (open_ids net 0) (sym taken);
   } where
     grown : given_ids (given ++ texts ∷ []) ≡ given_ids given ++ numbers_in texts ∷ []
     grown = map-append numbers_in given (texts ∷ [])

@@ -56,7 +56,7 @@ fn get_open<F: Folder>(
     ensures got { MatchResult result
         (λ texts. HasOpen (F.files folder.old) path.now network.now switch table.now (texts_of texts.items) × (F.failed folder.new ≡ F.failed folder.old))
         (λ f. FailsToGetNamed f (F.files folder.old) (map (capture_name path.now) (filter (is_open network.now switch) (map (λ p. p.id) table.now.ports)))
-            (F.failed folder.old) (F.failed folder.new)) }
+        (F.failed folder.old) (F.failed folder.new)) }
     ensures same { KeepsFiles (F.files folder.old) (F.files folder.new) }
 {
     let mut texts = Vec::new(alloc);
@@ -82,7 +82,7 @@ fn get_given<F: Folder>(
     requires tables { length network.now.tables ≡ length network.now.layout.switches }
     ensures got { MatchResult result
         (λ given. (HasGiven (F.files folder.old) path.now (names_of network.now.layout.switches) (given_of given.items)
-            × AreGiven network.now (given_of given.items)) × (F.failed folder.new ≡ F.failed folder.old))
+        × AreGiven network.now (given_of given.items)) × (F.failed folder.new ≡ F.failed folder.old))
         (λ f. FailsToGetGiven f (F.files folder.old) path.now network.now (F.failed folder.old) (F.failed folder.new)) }
     ensures same { KeepsFiles (F.files folder.old) (F.files folder.new) }
 {

@@ -1,4 +1,4 @@
-use Rattle.std.proofs.Common.{◌≡◌, ◌<◌, ◌≤◌, ◌∙◌, List, length, get_or, refl, sym, ap, subst}
+use Rattle.std.proofs.Common.{◌<◌, ◌≤◌, ◌∙◌, List, length, get_or, refl, sym, ap, subst}
 use Rattle.afdx_table.specs.Content.{Content}
 use Rattle.afdx_session.specs.Texts.{texts_of}
 use Rattle.afdx_network.specs.Given.{given_of}
@@ -40,7 +40,7 @@ loop-switch-preserved g c =
     let table_is = c.table-item.is ∙ ap (λ (ts : List Content). get_or ts at.switch c.table-item.result) tables_are in
     let own_is = c.deref.ensures ∙ c.in_ok-switch_path.ensures ∙ ap (switch_folder c.args.path.now) (c.name_of.ensures ∙ ap (λ (ns : Names). name_of ns at.switch) c.requires.names) in
     let more = got_one_more a b c.args.path.now net at.switch c.table-item.result c.table-item.result c.deref.result.now (given_of at.given.items) within c.requires.tables table_is own_is
-        at.invariant.same at.invariant.got (texts_of texts.items) c.in_ok-get_open.ensures.got.0 in
+    at.invariant.same at.invariant.got (texts_of texts.items) c.in_ok-get_open.ensures.got.0 in
     record {
       got = subst (GotFirst a c.args.path.now net _) (sym (one_more_given at.given.items c.push.new.self.items texts c.in_ok-push.ensures.items)) more;
       same = KeepsFiles-trans a b _ at.invariant.same c.in_ok-get_open.ensures.same;
