@@ -6,6 +6,7 @@ pub mod FileLemmas
 pub mod RunLemmas
 pub mod MeasureLemmas
 pub mod GetLemmas
+pub mod GivenLemmas
 pub mod NetworkLemmas
 pub mod VerdictLemmas
 pub mod ServingLemmas
