@@ -1,16 +1,14 @@
 -- The captures of the ports to which no wire goes, by switch: what was got, and why the rest was not.
 use Rattle.std.proofs.Common.{◌≡◌, ℕ, zero, suc, ◌+◌, ◌<◌, ◌≤◌, Bool, true, false, cond, List, [], ◌∷◌, ◌++◌, map, filter, length, take, drop, get_or, slice_get, append_assoc}
-use Rattle.std.proofs.Common.{Option, Some, None, Result, Ok, Vec, string_bytes, refl, sym, ap, subst, ◌∙◌, arith}
+use Rattle.std.proofs.Common.{Option, Some, None, Vec, string_bytes, refl, sym, ap, subst, ◌∙◌, arith}
 use Rattle.std.proofs.lemmas.List.{map-append, take_more, take_all, length-map, length-take-le, take-append-le, take-append-drop, append-nil}
 use Rattle.std.proofs.lemmas.List.Elements.{filter-append}
 use Rattle.std.proofs.lemmas.Grind.{flat_map-append}
 use Rattle.std.proofs.lemmas.Option.{slice_get_within}
 use Rattle.std.proofs.lemmas.Simd.{map-map}
 use Rattle.std.proofs.Math.Seq.{drop-cons, take-append_seam, take-append-add}
-use Rattle.afdx_table.specs.declared.fault.TableFault.{TableFault}
 use Rattle.afdx_table.specs.declared.rows.PortRow.{PortRow}
 use Rattle.afdx_table.specs.Content.{Content}
-use Rattle.afdx_table.specs.Text.{table_of}
 use Rattle.afdx_session.specs.Texts.{Text, texts_of}
 use Rattle.afdx_wiring.specs.File.{Switch}
 use Rattle.afdx_wiring.specs.Net.{Network}
@@ -21,15 +19,10 @@ use Rattle.afdx_serve.specs.declared.failure.Failure.{Failure}
 use Rattle.afdx_serve.specs.declared.failure.Failure.TheVariants as failure
 use Rattle.afdx_serve.specs.Files.{Files, Shows, ShowsAll, KeepsFiles, DeviceLog, one_more}
 use Rattle.afdx_serve.specs.Runs.{capture_name, names_in, bytes_of, FailsToGet}
-use Rattle.afdx_serve.specs.Networks.{names_of, HasNetwork}
+use Rattle.afdx_serve.specs.Networks.{names_of}
 use Rattle.afdx_serve.specs.NetworkRuns.{switch_folder, names_at, bytes_at, HasGiven, open_names, GetsGiven, FailsToGetGiven}
 use Rattle.afdx_serve.specs.Inner.OpenPorts.{HasOpen, GetsNamed, FailsToGetNamed}
 use Rattle.afdx_serve.proofs.FileLemmas.{ShowsAll-before, ShowsAll-nil, KeepsFiles-trans, one_more_got}
-
--- a network that was got has a table for each switch
-pub one_table_each : (files : Option Files) (path : List ℕ) (net : Network) → HasNetwork files path net → length net.tables ≡ length net.layout.switches
-one_table_each files path net has =
-    sym (length-map net.tables (λ (t : Content). Ok t)) ∙ ap (λ (rs : List (Result Content TableFault)). length rs) (sym has.are_tables) ∙ length-map has.texts table_of ∙ has.has_texts.1
 
 -- ---- files that were got
 
