@@ -27,6 +27,11 @@ runs_as_modelled() {
         cmp wanted.txt lines.txt && [ ! -s said.txt ] && diff -r wanted out
 }
 
+# readme_shows COUNT: so many of README's lines are among these.
+readme_shows() {
+    [ "$(grep -cxFf lines.txt "$top/README.md")" -eq "$1" ]
+}
+
 # tells_jitters: the tables have the jitters that the links need; with others in their place the same ones are told.
 tells_jitters() {
     as_modelled jitter && mv lines.txt before.txt && sed -i '/^id = 400/,/^jitter_us/ s/^jitter_us = .*/jitter_us = 10000/' work/bay.toml &&
@@ -121,12 +126,14 @@ undisturbed() {
 : >provoked.txt
 fresh
 check "the check of the example" as_modelled check
+check "README shows lines of it" readme_shows 4
 check "the jitters of the example" tells_jitters
 fresh
 provoked 4 "afdx: network J2 NoJitter, switch cabin, link 303, need 15247"
 check "a jitter past 10 ms" past
 fresh
 check "the run of the example" runs_as_modelled
+check "README shows lines of it" readme_shows 3
 check "the camera disturbs no other link, two switches away" undisturbed
 check "a table elsewhere" absolute
 
