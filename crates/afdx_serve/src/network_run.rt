@@ -1,5 +1,8 @@
 //! The command `network run`.
 
+ghost use Rattle.std.specs.Prelude.{MatchResult};
+ghost use Rattle.afdx_serve.specs.Serving.{world, RunsNetwork, FailsToRunNetwork};
+
 use crate::failure::Failure;
 use crate::folder::Folder;
 use crate::get::get;
@@ -166,7 +169,13 @@ pub(crate) fn network_run<O: Write, F: Folder>(
     paths: &NetworkPaths<'_>,
     out: &mut O,
     folder: &mut F,
-) -> Result<(), Failure> {
+) -> Result<(), Failure>
+    ensures { MatchResult result
+        (λ _. RunsNetwork paths.now
+        (world (O.contents out.old) (F.files folder.old) (F.failed folder.old)) (world (O.contents out.new) (F.files folder.new) (F.failed folder.new)))
+        (λ f. FailsToRunNetwork f paths.now
+        (world (O.contents out.old) (F.files folder.old) (F.failed folder.old)) (world (O.contents out.new) (F.files folder.new) (F.failed folder.new))) }
+{
     let network = get_network(alloc, folder, paths.network)?;
     let names = names_of(alloc, &network.layout().switches)?;
     let cleared = accept(alloc, &names, network)?;
