@@ -68,8 +68,8 @@ pub record IsIsolated (r : Run) : Type 0 where
   pub none_aged : (p : PortRow) → Contains r.table.ports p → aged_in r (Some p) ≡ []
   -- each that was sent ended within the port's bound for its priority
   pub in_bound : (p : PortRow) → Contains r.table.ports p → All (IsInBoundAt r.table p) (sent_in r (Some p))
-  -- at each port of a link, what was sent of the link is a front of its passed frames, in their order
-  pub front_of_passed : (p : PortRow) → Contains r.table.ports p → (l : Link) → Contains r.table.links l → leads_to p.id l ≡ true
+  -- at each port of a link, what was sent of the link is a prefix of its passed frames, in their order
+  pub prefix_of_passed : (p : PortRow) → Contains r.table.ports p → (l : Link) → Contains r.table.links l → leads_to p.id l ≡ true
       → (rest : List Item) × (sent_copies r p l ++ rest ≡ passed_copies r.table l r.rows)
   -- and all of them once the switch is finished
   pub all_passed_once_finished : r.finished ≡ true → (p : PortRow) → Contains r.table.ports p → (l : Link) → Contains r.table.links l → leads_to p.id l ≡ true

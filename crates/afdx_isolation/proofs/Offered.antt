@@ -12,12 +12,12 @@ use Rattle.afdx_port.specs.declared.Settings.{Settings}
 use Rattle.afdx_port.specs.declared.Item.{Item}
 use Rattle.afdx_port.specs.Service.{reach, came}
 use Rattle.afdx_port.specs.Admission.{admit_all, admitted}
-use Rattle.afdx_isolation.specs.Flow.{Flow, IsPaidFor, IsWithinRate, HasBuffer, AreDistinct}
-use Rattle.afdx_isolation.specs.Account.{Grow, IsOfAFlow}
-use Rattle.afdx_isolation.specs.Kept.{IsKept}
+use Rattle.afdx_isolation.specs.Inner.Flow.{Flow, IsPaidFor, IsWithinRate, HasBuffer, AreDistinct}
+use Rattle.afdx_isolation.specs.Inner.Account.{Grow, IsOfAFlow}
+use Rattle.afdx_isolation.specs.Inner.Kept.{IsKept}
 use Rattle.afdx_isolation.specs.Arrivals.{frame_of, IsClean, own, passed, is_passed, joins, feed_after, feed_of, level_after}
-use Rattle.afdx_isolation.specs.Claims.{Arrive}
-use Rattle.afdx_isolation.specs.Ground.{Ground}
+use Rattle.afdx_isolation.specs.Inner.Claims.{Arrive}
+use Rattle.afdx_isolation.specs.Inner.Ground.{Ground}
 use Rattle.afdx_isolation.proofs.Clock.{reach-le, reach-gap}
 use Rattle.afdx_isolation.proofs.Keeping.{kept_none, kept_wait, kept_pass, has_room}
 use Rattle.afdx_isolation.proofs.Levels.{Early, early_later, early_push, frames, passed_step, grow_by, joined, none_joined, passed_link, own_passes, debits_joined, grow_kept}

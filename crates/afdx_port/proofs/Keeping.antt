@@ -11,12 +11,12 @@ use Rattle.afdx_port.specs.declared.line.Line.{Line}
 use Rattle.afdx_port.specs.declared.port.Port.TheInside.{Inside}
 use Rattle.afdx_port.specs.Service.{reach, came, service, before, sent_of, aged_of}
 use Rattle.afdx_port.specs.Admission.{fits}
-use Rattle.afdx_port.specs.Progress.{LineState, left, on_line}
-use Rattle.afdx_port.specs.Order.{in_line, line_up}
-use Rattle.afdx_port.specs.Work.{HaveCome}
+use Rattle.afdx_port.specs.Inner.Progress.{LineState, left, on_line}
+use Rattle.afdx_port.specs.Inner.Order.{in_line, line_up}
+use Rattle.afdx_port.specs.Inner.Work.{HaveCome}
 use Rattle.afdx_port.specs.Course.{rest_in_line, reached, first_start, line_at}
-use Rattle.afdx_port.specs.Queued.{queued}
-use Rattle.afdx_port.specs.Sound.{IsSound, HasRoom, queue_of, state_of}
+use Rattle.afdx_port.specs.Inner.Queued.{queued}
+use Rattle.afdx_port.specs.Inner.Sound.{IsSound, HasRoom, queue_of, state_of}
 use Rattle.afdx_port.specs.Content.{Content, done, due}
 use Rattle.afdx_port.specs.Kept.{IsKept, content_of}
 use Rattle.afdx_port.proofs.Earlier.{earlier_events}

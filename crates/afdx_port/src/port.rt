@@ -4,7 +4,7 @@ ghost use Rattle.std.specs.Prelude.{◌≡◌, ℕ, ◌+◌, ◌<◌, ◌≤◌,
 ghost use Rattle.afdx_units.specs.Time.{last_second};
 ghost use Rattle.afdx_port.specs.Service.{sent_of, aged_of};
 ghost use Rattle.afdx_port.specs.Admission.{fits};
-ghost use Rattle.afdx_port.specs.Sound.{IsSmall};
+ghost use Rattle.afdx_port.specs.Inner.Sound.{IsSmall};
 ghost use Rattle.afdx_port.specs.Content.{Content, PortValue, done, due, fresh, answer, offered, advanced, closed};
 ghost use Rattle.afdx_port.specs.Lagging.{has_due};
 

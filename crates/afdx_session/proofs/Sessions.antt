@@ -9,10 +9,10 @@ use Rattle.afdx_pcap.specs.Capture.{IsCapture}
 use Rattle.afdx_table.specs.declared.rows.PortRow.{PortRow}
 use Rattle.afdx_table.specs.Content.{Content, port_row}
 use Rattle.afdx_port.specs.Admission.{EarlierEventsStayAdmitted}
-use Rattle.afdx_port.specs.Order.{ReachesInOrder}
+use Rattle.afdx_port.specs.Inner.Order.{ReachesInOrder}
 use Rattle.afdx_core.specs.State.{after_finish}
 use Rattle.afdx_count.specs.Tally.{ended as after_end}
-use Rattle.afdx_count.specs.Laws.{EndCountsTheRun}
+use Rattle.afdx_count.specs.Inner.Laws.{EndCountsTheRun}
 use Rattle.afdx_session.specs.declared.lane.Lane.{Lane}
 use Rattle.afdx_session.specs.declared.machine.Machine.{Machine}
 use Rattle.afdx_session.specs.declared.plan.RunFault.{RunFault}
@@ -25,8 +25,8 @@ use Rattle.afdx_session.specs.Streams.{AllStartBeforeTheLastInstant}
 use Rattle.afdx_session.specs.Session.{Intake, Seen, bytes_in, taken_in, taken_of, refusal_at, refusal, bytes_of, changed, fed, ended, took, after_feed, after_close, after_take, after_failure}
 use Rattle.afdx_session.specs.Session.{IsRefused, IsSoundSoFar, HasGoneOut}
 use Rattle.afdx_session.specs.Lanes.{intake_of, IsPieceFault}
-use Rattle.afdx_session.specs.Kept.{AreOfTable, IsOfSameTable, IsRunning}
-use Rattle.afdx_session.specs.View.{intakes_of, seen_of, gone_out, IsShownAt, IsKept, IsReady, AreHalfDone, AreEndedLanes, texts_at, IsTaken, IsOpenAt, IsFed, IsEnded, IsNotFed, IsNotEnded}
+use Rattle.afdx_session.specs.Inner.Kept.{AreOfTable, IsOfSameTable, IsRunning}
+use Rattle.afdx_session.specs.Inner.View.{intakes_of, seen_of, gone_out, IsShownAt, IsKept, IsReady, AreHalfDone, AreEndedLanes, texts_at, IsTaken, IsOpenAt, IsFed, IsEnded, IsNotFed, IsNotEnded}
 use Rattle.afdx_session.proofs.Going.{some_same}
 use Rattle.afdx_session.proofs.Gone.{at_index}
 use Rattle.afdx_session.proofs.Firsts.{map-set, get-map}

@@ -5,14 +5,14 @@ use Rattle.std.proofs.lemmas.List.{length-append}
 use Rattle.afdx_pcap.specs.Reading.{NoNext}
 use Rattle.afdx_table.specs.Content.{Content}
 use Rattle.afdx_port.specs.Admission.{EarlierEventsStayAdmitted}
-use Rattle.afdx_port.specs.Order.{ReachesInOrder}
+use Rattle.afdx_port.specs.Inner.Order.{ReachesInOrder}
 use Rattle.afdx_session.specs.declared.lane.Lane.{Lane}
 use Rattle.afdx_session.specs.declared.machine.Machine.{Machine}
 use Rattle.afdx_session.specs.Streams.{Stream, AreWhole, AllStartBeforeTheLastInstant}
 use Rattle.afdx_session.specs.Session.{Intake, IsStream, AreStreams}
 use Rattle.afdx_session.specs.Lanes.{HasReadAll}
-use Rattle.afdx_session.specs.Kept.{AreLanesOf, AreOfTable, text_up_to, IsMarked, IsOfSameTable}
-use Rattle.afdx_session.specs.View.{intakes_of, gone_out, IsShownAt, IsShown, IsReady, IsKept, IsHalfDone, AreHalfDone}
+use Rattle.afdx_session.specs.Inner.Kept.{AreLanesOf, AreOfTable, text_up_to, IsMarked, IsOfSameTable}
+use Rattle.afdx_session.specs.Inner.View.{intakes_of, gone_out, IsShownAt, IsShown, IsReady, IsKept, IsHalfDone, AreHalfDone}
 use Rattle.afdx_session.proofs.Going.{some_same}
 use Rattle.afdx_session.proofs.Numbered.{all_slice_get}
 use Rattle.afdx_session.proofs.Gone.{text_is}

@@ -13,11 +13,11 @@ use Rattle.afdx_count.specs.Tally.{Tally}
 use Rattle.afdx_session.specs.declared.lane.Lane.{Lane}
 use Rattle.afdx_session.specs.declared.machine.Machine.{Machine}
 use Rattle.afdx_session.specs.Streams.{Stream}
-use Rattle.afdx_session.specs.Settled.{IsSettling}
+use Rattle.afdx_session.specs.Inner.Settled.{IsSettling}
 use Rattle.afdx_session.specs.Session.{IsStream, AreStreams, took}
 use Rattle.afdx_session.specs.Lanes.{intake_of, waiting_of, HasReadAll}
-use Rattle.afdx_session.specs.Kept.{IsLaneOf, AreLanesOf, text_up_to, IsOut, IsGoing, IsRunning, IsMarked}
-use Rattle.afdx_session.specs.View.{intakes_of, gone_out, IsShownAt, IsShown, IsKept, IsTaken}
+use Rattle.afdx_session.specs.Inner.Kept.{IsLaneOf, AreLanesOf, text_up_to, IsOut, IsGoing, IsRunning, IsMarked}
+use Rattle.afdx_session.specs.Inner.View.{intakes_of, gone_out, IsShownAt, IsShown, IsKept, IsTaken}
 use Rattle.afdx_session.proofs.Going.{some_same, get-set}
 use Rattle.afdx_session.proofs.Numbered.{all_slice_get}
 use Rattle.afdx_session.proofs.ReadUp.{read_same, all_set}

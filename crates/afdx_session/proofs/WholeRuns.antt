@@ -5,12 +5,12 @@ use Rattle.std.specs.List.{AllByRecursion}
 use Rattle.afdx_table.specs.declared.rows.PortRow.{PortRow}
 use Rattle.afdx_table.specs.Content.{Content}
 use Rattle.afdx_port.specs.Admission.{EarlierEventsStayAdmitted}
-use Rattle.afdx_port.specs.Order.{ReachesInOrder}
+use Rattle.afdx_port.specs.Inner.Order.{ReachesInOrder}
 use Rattle.afdx_core.specs.State.{Run, State, after_finish}
 use Rattle.afdx_core.specs.Isolation.{IsRun}
 use Rattle.afdx_core.specs.Merge.{merged}
 use Rattle.afdx_count.specs.Tally.{ended}
-use Rattle.afdx_count.specs.Laws.{EndCountsTheRun}
+use Rattle.afdx_count.specs.Inner.Laws.{EndCountsTheRun}
 use Rattle.afdx_session.specs.declared.lane.Lane.{Lane}
 use Rattle.afdx_session.specs.declared.machine.Machine.{Machine}
 use Rattle.afdx_session.specs.declared.plan.RunFault.{RunFault}
@@ -24,8 +24,8 @@ use Rattle.afdx_session.specs.Streams.{captures_of, AllStartBeforeTheLastInstant
 use Rattle.afdx_session.specs.Session.{Intake, Seen, taken_in, taken_of}
 use Rattle.afdx_session.specs.Finish.{rest_of, IsFinished}
 use Rattle.afdx_session.specs.Lanes.{intake_of}
-use Rattle.afdx_session.specs.Kept.{IsMarked, IsOfSameTable, IsGoing}
-use Rattle.afdx_session.specs.View.{texts_at, seen_of, intakes_of, IsReady, IsKept, AreLent, HasCarried}
+use Rattle.afdx_session.specs.Inner.Kept.{IsMarked, IsOfSameTable, IsGoing}
+use Rattle.afdx_session.specs.Inner.View.{texts_at, seen_of, intakes_of, IsReady, IsKept, AreLent, HasCarried}
 use Rattle.afdx_session.proofs.Intakes.{marked_bytes}
 use Rattle.afdx_session.proofs.Shown.{kept_ready}
 use Rattle.afdx_session.proofs.Ending.{TakenAreTheCapture, are_captures, given_all}
