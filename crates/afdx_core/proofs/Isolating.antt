@@ -29,7 +29,7 @@ use Rattle.afdx_core.specs.declared.kinds.Row.{Row}
 use Rattle.afdx_core.specs.Rows.{frame_of, account_frames, says_clean, passes, named, item_of, copies_by, copies, each_after, feed_of}
 use Rattle.afdx_core.specs.State.{Run, port_in}
 use Rattle.afdx_core.specs.Agreement.{frame_in}
-use Rattle.afdx_core.specs.Isolation.{IsOfAnArrival, IsRun, copy_by, clean_copies, sent_copies, PassedCopiesArePassedFrames, IsIsolated, AcceptedTablesIsolate, with_bytes, OthersChangeNothing}
+use Rattle.afdx_core.specs.Isolation.{IsOfAnArrival, IsRun, copy_by, clean_copies, sent_copies, PassedCopiesArePassedFrames, IsIsolatedRun, AcceptedTablesIsolate, with_bytes, OthersChangeNothing}
 use Rattle.afdx_core.proofs.Lists.{each-push}
 
 equal : (a b : ℕ) → (a == b) ≡ true → a ≡ b
@@ -213,7 +213,7 @@ module _ (links : LinksAreFound) (have_link : CleanFramesHaveALink) (offers : Of
       subst (λ (feed : List Item). AllFitIn bytes (settings_of r.table.latency p) [] (admitted (settings_of r.table.latency p) feed)) (sym (offered_is links r.table well offers p r.rows))
       (hold r.table arrivals arrive p among bytes holds)
 
-  pub isolated : IsIsolated r
+  pub isolated : IsIsolatedRun r
   isolated = record {
     none_full = λ p among. (at_port p among).none_full ∙ sym (offered_is links r.table well offers p r.rows);
     none_aged = λ p among. (at_port p among).none_aged;

@@ -67,7 +67,8 @@ module _ {Z : Type 0} where
   abbrev pub HaveLatency : ℕ → List (OutputPort Z) → Type 0
   HaveLatency latency os = All (λ (o : OutputPort Z). o.port.content.settings.latency ≡ latency) os
 
-  pub is_due_first : (latency at place : ℕ) (d : OutputPort Z) (dues : List (Option ℕ)) (os : List (OutputPort Z)) → HaveLatency latency os → dues ≡ dues_of os → IsFirstBefore (at + latency) dues place
+  pub is_due_first : (latency at place : ℕ) (d : OutputPort Z) (dues : List (Option ℕ)) (os : List (OutputPort Z)) → HaveLatency latency os → dues ≡ dues_of os
+      → IsFirstBefore (at + latency) dues place
       → has_due at (get_or os place d).port.content ≡ true
   is_due_first latency at place d dues os same are first =
       let within = within_dues (at + latency) place dues os are first in
@@ -126,7 +127,8 @@ module _ {Z : Type 0} where
   latency_still latency at place d o os lt same is =
       All-set (λ (x : OutputPort Z). x.port.content.settings.latency ≡ latency) os place o (ap (λ (r : Out). r.content.settings.latency) is ∙ same place d lt) same
 
-  pub can_still : AdvanceAdds → (at place : ℕ) (d o : OutputPort Z) (os : List (OutputPort Z)) → place < length os → All (λ (x : OutputPort Z). CanCarry at x) os → seen o ≡ carried at (seen (get_or os place d))
+  pub can_still : AdvanceAdds → (at place : ℕ) (d o : OutputPort Z) (os : List (OutputPort Z)) → place < length os → All (λ (x : OutputPort Z). CanCarry at x) os → seen o
+      ≡ carried at (seen (get_or os place d))
       → All (λ (x : OutputPort Z). CanCarry at x) (set os place o)
   can_still adds at place d o os lt can is =
       let was = can place d lt in

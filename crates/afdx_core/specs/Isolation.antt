@@ -61,7 +61,7 @@ sent_copies r p l = own l.id (map (λ (s : Sent). s.item) (sent_in r (Some p)))
 
 -- ---- the theorem
 
-pub record IsIsolated (r : Run) : Type 0 where
+pub record IsIsolatedRun (r : Run) : Type 0 where
   -- no copy was refused by a full buffer: each port admitted all that it was offered
   pub none_full : (p : PortRow) → Contains r.table.ports p → (port_in r p).admitted ≡ feed_of r.table p.id r.rows
   -- none was discarded for its age
@@ -76,7 +76,7 @@ pub record IsIsolated (r : Run) : Type 0 where
       → sent_copies r p l ≡ passed_copies r.table l r.rows
 
 abbrev pub AcceptedTablesIsolate : Type 0
-AcceptedTablesIsolate = (r : Run) → IsRun r → IsWellFormed r.table → IsAccepted r.table → IsIsolated r
+AcceptedTablesIsolate = (r : Run) → IsRun r → IsWellFormed r.table → IsAccepted r.table → IsIsolatedRun r
 
 -- whatever number of bytes holds all that a port's links may ask for at once, its buffer never held more
 abbrev pub BuffersHoldTheBacklog : Type 0

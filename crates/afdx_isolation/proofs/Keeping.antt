@@ -23,7 +23,7 @@ use Rattle.afdx_load.specs.Sums.{parts}
 use Rattle.afdx_isolation.specs.Inner.Flow.{Flow, Load, IsPaidFor, IsWithinRate, HasBuffer, IsWithinDelay, Carries, AreDistinct, high_flows, low_flows, load_of, bound}
 use Rattle.afdx_isolation.specs.Inner.Potential.{costs, IsWithinPotentials, KeepsPotentials, EndsBy, BeginsAs, held}
 use Rattle.afdx_isolation.specs.Inner.Account.{AreWithinCaps, Grow, AreDebited, IsOfAFlow, charge}
-use Rattle.afdx_isolation.specs.Inner.Kept.{IsKept}
+use Rattle.afdx_isolation.specs.Inner.Kept.{IsKeptLevel}
 use Rattle.afdx_isolation.specs.Arrivals.{own}
 use Rattle.afdx_isolation.specs.Inner.Claims.{IsTimely}
 use Rattle.afdx_isolation.specs.Inner.Ground.{Ground}
@@ -37,7 +37,7 @@ unfolding line_at
 line_none s now = refl
 
 -- a new port
-pub kept_none : (s : Settings) (flows : List Flow) (now : ℕ) (level : Flow → ℕ) → AreWithinCaps flows level → IsKept s flows [] now level
+pub kept_none : (s : Settings) (flows : List Flow) (now : ℕ) (level : Flow → ℕ) → AreWithinCaps flows level → IsKeptLevel s flows [] now level
 kept_none s flows now level caps = record {
   come = All-nil (λ (item : Item). came s item ≤ now);
   of_flows = All-nil (IsOfAFlow flows);
@@ -67,7 +67,7 @@ module _ (g : Ground) (s : Settings) (flows : List Flow) (paid : All (IsPaidFor 
   cost_most_low x r low = within_longest s (low_flows flows) r.flow x.size (among_filter (λ flow. not (is_high flow.priority)) flows r.flow r.among (ap not (ap is_high r.priority ∙ low))) r.largest
 
   abbrev Keeps : List Item → ℕ → (Flow → ℕ) → Type 0
-  Keeps items now level = IsKept s flows items now level
+  Keeps items now level = IsKeptLevel s flows items now level
 
   -- what waits is of the items
   waiting_all : (P : Item → Type 0) (now : ℕ) (items : List Item) → All P items → All P (line_at s now items).waiting

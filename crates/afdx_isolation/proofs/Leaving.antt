@@ -13,12 +13,12 @@ use Rattle.afdx_port.specs.Content.{Content, done}
 use Rattle.afdx_isolation.specs.Inner.Flow.{Flow, Load, Carries, load_of}
 use Rattle.afdx_isolation.specs.Inner.Account.{IsOfAFlow}
 use Rattle.afdx_isolation.specs.Arrivals.{frame_of, own, passed, feed_of}
-use Rattle.afdx_isolation.specs.Inner.Claims.{Arrive, IsInBound, IsTimely, IsIsolated, IsIsolatedSoFar, OthersChangeNothing}
+use Rattle.afdx_isolation.specs.Inner.Claims.{Arrive, IsInBound, IsTimely, IsIsolatedPort, IsIsolatedSoFar, OthersChangeNothing}
 use Rattle.afdx_isolation.specs.Inner.Ground.{Ground}
 use Rattle.afdx_isolation.proofs.Keeping.{all_in_time, ordered}
 use Rattle.afdx_isolation.proofs.Offered.{kept, none_full, exactly}
 
-pub isolated : (g : Ground) (s : Settings) (flows : List Flow) (arrivals : List Item) → Arrive s flows arrivals → Carries s flows → IsIsolated s flows arrivals
+pub isolated : (g : Ground) (s : Settings) (flows : List Flow) (arrivals : List Item) → Arrive s flows arrivals → Carries s flows → IsIsolatedPort s flows arrivals
 isolated g s flows arrivals arrive carries =
     let feed = feed_of flows arrivals in
     let all = kept g s flows arrivals arrive carries.rate in

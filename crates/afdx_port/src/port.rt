@@ -38,11 +38,11 @@ impl<A: Allocator> Model for Port<A> {
 
     ghost Value = { PortValue };
 
-    ghost use Rattle.afdx_port.specs.Kept.{value_of, IsKept};
+    ghost use Rattle.afdx_port.specs.Kept.{value_of, IsKeptPort};
 
     ghost view = { value_of };
 
-    ghost invariant = { IsKept };
+    ghost invariant = { IsKeptPort };
 }
 
 impl<A: Allocator + Copy> Port<A> {

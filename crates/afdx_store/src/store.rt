@@ -33,11 +33,11 @@ impl<'a, A: Allocator> Model for Store<'a, A> {
 
     ghost Value = { StoreValue };
 
-    ghost use Rattle.afdx_store.specs.Kept.{value_of, IsKept};
+    ghost use Rattle.afdx_store.specs.Kept.{value_of, IsKeptStore};
 
     ghost view = { value_of };
 
-    ghost invariant = { IsKept };
+    ghost invariant = { IsKeptStore };
 }
 
 /// Empties the slot at a key.

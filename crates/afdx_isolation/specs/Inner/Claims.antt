@@ -60,14 +60,14 @@ LowKeepsBound = KeepsBound Low
 
 -- all that the port makes of these arrivals in the end: no copy is Full, none is Aged, each is sent within its bound,
 -- and what leaves for a link is exactly what the link's policing passes of its own arrivals, in their order
-pub record IsIsolated (s : Settings) (flows : List Flow) (arrivals : List Item) : Type 0 where
+pub record IsIsolatedPort (s : Settings) (flows : List Flow) (arrivals : List Item) : Type 0 where
   pub none_full : admitted s (feed_of flows arrivals) ≡ feed_of flows arrivals
   pub timely : All (IsTimely s (load_of s flows)) (service s 0 (admitted s (feed_of flows arrivals)))
   pub exactly_passed : (flow : Flow) → Contains flows flow
       → own flow.id (map item_of (service s 0 (admitted s (feed_of flows arrivals)))) ≡ passed flow arrivals
 
 abbrev pub Isolates : Type 0
-Isolates = (s : Settings) (flows : List Flow) (arrivals : List Item) → Arrive s flows arrivals → Carries s flows → IsIsolated s flows arrivals
+Isolates = (s : Settings) (flows : List Flow) (arrivals : List Item) → Arrive s flows arrivals → Carries s flows → IsIsolatedPort s flows arrivals
 
 -- of each link a prefix of what its policing passes of its own arrivals has left, in order, all of it once the port is finished
 abbrev pub PrefixLeaves : List Flow → List Item → Content → Type 0

@@ -13,7 +13,7 @@ use Rattle.afdx_isolation.specs.Inner.Potential.{KeepsPotentials, EndsBy, Begins
 use Rattle.afdx_isolation.specs.Inner.Account.{AreWithinCaps, Grow, AreDebited, IsOfAFlow}
 
 -- at `now`, where these items were admitted and the accounts have these levels
-pub record IsKept (s : Settings) (flows : List Flow) (items : List Item) (now : ℕ) (level : Flow → ℕ) : Type 0 where
+pub record IsKeptLevel (s : Settings) (flows : List Flow) (items : List Item) (now : ℕ) (level : Flow → ℕ) : Type 0 where
   pub come : HaveCome s now items
   pub of_flows : All (IsOfAFlow flows) items
   pub in_order : InOrder s items
@@ -22,19 +22,19 @@ pub record IsKept (s : Settings) (flows : List Flow) (items : List Item) (now : 
 
 -- it is so of a new port
 abbrev pub IsKeptAtFirst : Type 0
-IsKeptAtFirst = (s : Settings) (flows : List Flow) (now : ℕ) (level : Flow → ℕ) → AreWithinCaps flows level → IsKept s flows [] now level
+IsKeptAtFirst = (s : Settings) (flows : List Flow) (now : ℕ) (level : Flow → ℕ) → AreWithinCaps flows level → IsKeptLevel s flows [] now level
 
 -- while time passes
 abbrev pub IsKeptOverTime : Type 0
 IsKeptOverTime = (s : Settings) (flows : List Flow) (items : List Item) (now d : ℕ) (level after : Flow → ℕ) → All (IsPaidFor s) flows → IsWithinRate s flows
-    → Grow flows d level after → IsKept s flows items now level → IsKept s flows items (now + d) after
+    → Grow flows d level after → IsKeptLevel s flows items now level → IsKeptLevel s flows items (now + d) after
 
 -- and with an item that its account has paid for
 abbrev pub IsKeptByWhatIsPaidFor : Type 0
 IsKeptByWhatIsPaidFor = (s : Settings) (flows : List Flow) (items : List Item) (x : Item) (level after : Flow → ℕ) → All (IsPaidFor s) flows → IsWithinRate s flows
-    → IsOfAFlow flows x → AreDebited flows x level after → IsKept s flows items (came s x) level → IsKept s flows (items ++ x ∷ []) (came s x) after
+    → IsOfAFlow flows x → AreDebited flows x level after → IsKeptLevel s flows items (came s x) level → IsKeptLevel s flows (items ++ x ∷ []) (came s x) after
 
 -- which has room in a buffer for the bursts
 abbrev pub WhatIsPaidForFits : Type 0
 WhatIsPaidForFits = (s : Settings) (flows : List Flow) (items : List Item) (x : Item) (level after : Flow → ℕ) → All (IsPaidFor s) flows → IsWithinRate s flows → HasBuffer s flows
-    → IsOfAFlow flows x → AreDebited flows x level after → IsKept s flows items (came s x) level → fits s items x ≡ true
+    → IsOfAFlow flows x → AreDebited flows x level after → IsKeptLevel s flows items (came s x) level → fits s items x ≡ true

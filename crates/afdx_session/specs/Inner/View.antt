@@ -49,7 +49,7 @@ pub record IsReady {Z : Type 0} (m : Machine Z) (begun : Bool) : Type 0 where
   pub marked : AllByRecursion (IsMarked begun) m.lanes.items
 
 -- what is true of each session
-pub record IsKept {Z : Type 0} (m : Machine Z) (begun failed : Bool) : Type 0 where
+pub record IsKeptMachine {Z : Type 0} (m : Machine Z) (begun failed : Bool) : Type 0 where
   pub of : AreOfTable m.switch.run.table m.lanes.items
   pub handed : length m.switch.run.handed ≡ length m.switch.run.table.ports
   pub accepted : m.switch.accepted ≡ true → IsAccepted m.switch.run.table
@@ -214,7 +214,7 @@ pub record HasCarried {Z : Type 0} (cleared : Bool) (t : Content) (texts : List 
   pub table : lent.switch.run.table ≡ t
   pub accepted : lent.switch.accepted ≡ cleared
   pub ports : AreOfPorts t texts
-  pub kept : IsKept lent true false
+  pub kept : IsKeptMachine lent true false
   pub captures : AreLent texts lent.lanes.items
   pub same : IsOfSameTable lent.switch m.switch
   pub half : AreHalfDone lent.lanes.items m.lanes.items

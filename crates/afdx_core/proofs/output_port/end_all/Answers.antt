@@ -11,9 +11,11 @@ loop-output_port-init g c = record { became = became_start ended c.args.output_p
 
 pub end-requires : goal.end-requires
 end-requires g c = record {
-  counted = all_at ended (λ (o : OutputPort _). IsCounted o) c.args.output_ports.now c.loop-output_port.output_ports c.loop-output_port.output_port-index c.output_port-item.result (omega (arith, c.loop-output_port-test.true))
+  counted = all_at ended (λ (o : OutputPort _). IsCounted o) c.args.output_ports.now c.loop-output_port.output_ports c.loop-output_port.output_port-index c.output_port-item.result
+      (omega (arith, c.loop-output_port-test.true))
       c.loop-output_port.invariant.became c.requires.can;
-  holds = λ i. one_of c.loop-output_port.store.held c.loop-output_port.output_ports c.loop-output_port.output_port-index c.output_port-item.result i (omega (arith, c.loop-output_port-test.true)) c.loop-output_port.invariant.holds;
+  holds = λ i. one_of c.loop-output_port.store.held c.loop-output_port.output_ports c.loop-output_port.output_port-index c.output_port-item.result i (omega (arith, c.loop-output_port-test.true))
+      c.loop-output_port.invariant.holds;
 }
 
 pub loop-output_port-preserved : goal.loop-output_port-preserved
@@ -35,7 +37,8 @@ loop-output_port-preserved g c =
 
 pub returns : goal.returns
 returns g c = record {
-  output_ports = became_whole ended c.args.output_ports.now c.loop-output_port.output_ports c.loop-output_port.output_port-index (omega (arith, c.loop-output_port-test.false)) c.loop-output_port.invariant.became;
+  output_ports = became_whole ended c.args.output_ports.now c.loop-output_port.output_ports c.loop-output_port.output_port-index (omega (arith, c.loop-output_port-test.false))
+      c.loop-output_port.invariant.became;
   holds = c.loop-output_port.invariant.holds;
   thinned = c.loop-output_port.invariant.thinned;
 }

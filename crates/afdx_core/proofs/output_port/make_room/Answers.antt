@@ -22,7 +22,8 @@ returns-in_err-make_room_at-clause-seen g c =
 pub loop-port-preserved : goal.loop-port-preserved
 loop-port-preserved g c = record {
   became = became_then (λ (o : Out). o) (λ (o : Out). o) c.args.output_ports.now c.loop-port.output_ports c.make_room_at.new.output_ports c.loop-port.invariant.became c.make_room_at.ensures.seen;
-  room = room_next c.args.to.now c.loop-port.port-index c.loop-port.output_ports c.make_room_at.new.output_ports (omega (arith, c.loop-port-test.true)) c.loop-port.invariant.room c.make_room_at.ensures.seen
+  room = room_next c.args.to.now c.loop-port.port-index c.loop-port.output_ports c.make_room_at.new.output_ports (omega (arith, c.loop-port-test.true)) c.loop-port.invariant.room
+      c.make_room_at.ensures.seen
       c.make_room_at.ensures.more c.in_ok-make_room_at.ensures.room;
 }
 

@@ -20,11 +20,13 @@ loop-port-init g c = record {
 
 pub offer_to-answer-requires-clause-can : goal.offer_to-answer-requires-clause-can
 offer_to-answer-requires-clause-can g c =
-    can_next c.args.item.now c.args.to.now c.loop-port.port-index c.args.output_ports.now c.loop-port.output_ports (omega (arith, c.loop-port-test.true)) c.requires.distinct c.loop-port.invariant.became
+    can_next c.args.item.now c.args.to.now c.loop-port.port-index c.args.output_ports.now c.loop-port.output_ports (omega (arith, c.loop-port-test.true)) c.requires.distinct
+        c.loop-port.invariant.became
     c.loop-port.invariant.later c.requires.can
 
 pub offer_to-answer-requires-clause-once : goal.offer_to-answer-requires-clause-once
-offer_to-answer-requires-clause-once g c = once_still c.args.item.now (take c.loop-port.port-index c.args.to.now) c.args.output_ports.now c.loop-port.output_ports c.loop-port.invariant.became c.requires.once
+offer_to-answer-requires-clause-once g c = once_still c.args.item.now (take c.loop-port.port-index c.args.to.now) c.args.output_ports.now c.loop-port.output_ports c.loop-port.invariant.became
+    c.requires.once
 
 pub offer_to-answer-requires-clause-dues : goal.offer_to-answer-requires-clause-dues
 offer_to-answer-requires-clause-dues g c = c.loop-port.invariant.dues

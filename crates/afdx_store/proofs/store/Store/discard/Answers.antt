@@ -1,7 +1,7 @@
 use Rattle.std.proofs.Common.{zero, refl, ◌+◌, ◌≡◌, ◌≢◌, ◌<◌, ◌-◌, suc, ℕ, true, false, get_or, set, slice_index_or, is_some, None, Some, List, Option, length, ap, sym, ◌∙◌, arith, subst}
 use Rattle.slab.specs.Slab.{Slab, get, slab_len, with_value, Updates}
 use Rattle.afdx_store.specs.Seen.{StoreValue, Held, one_less}
-use Rattle.afdx_store.specs.Kept.{seen_from, IsKept, value_of}
+use Rattle.afdx_store.specs.Kept.{seen_from, IsKeptStore, value_of}
 use Rattle.afdx_store.specs.declared.store.Store.TheInside.{Inside}
 use Rattle.std.proofs.lemmas.List.{get_or-set_same, get_or-set_other}
 use Rattle.afdx_store.specs.declared.store.Slot.{Slot}
@@ -31,7 +31,7 @@ same_slot : {Z : Type 0} (o : Option (Slot Z)) (a b : Slot Z) → o ≡ Some a �
 same_slot o a b x y = (cc)
 
 -- the slot that was read is that of the arrival
-pub read : {Z : Type 0} (p : Inside Z) (number key : ℕ) (slot : Slot Z) → IsKept p → is_some (get_or (value_of p).held number None) ≡ true → key ≡ get_or p.keys.items number key → get p.slots key
+pub read : {Z : Type 0} (p : Inside Z) (number key : ℕ) (slot : Slot Z) → IsKeptStore p → is_some (get_or (value_of p).held number None) ≡ true → key ≡ get_or p.keys.items number key → get p.slots key
     ≡ Some slot
     → Found p.keys.items p.slots.slots number key slot
 read p number key slot kept held at there =
@@ -47,15 +47,15 @@ more_than_one zero ne = absurd (ne refl)
 more_than_one (suc zero) ne = absurd (ne refl)
 more_than_one (suc (suc m)) ne = (m, refl)
 
-kept_more_left : {Z : Type 0} (p : Inside Z) (number key : ℕ) (slot : Slot Z) → IsKept p → Found p.keys.items p.slots.slots number key slot → slot.copies - 1 ≢ 0
-    → IsKept (record { slots = with_value p.slots key (less slot); keys = p.keys; room = p.room })
+kept_more_left : {Z : Type 0} (p : Inside Z) (number key : ℕ) (slot : Slot Z) → IsKeptStore p → Found p.keys.items p.slots.slots number key slot → slot.copies - 1 ≢ 0
+    → IsKeptStore (record { slots = with_value p.slots key (less slot); keys = p.keys; room = p.room })
 kept_more_left p number key slot kept f ne =
     let m = more_than_one slot.copies ne in
     let e : suc m.0 ≡ slot.copies - 1 = omega (arith, m.1) in
-    subst (λ n. IsKept (record { slots = with_value p.slots key (record { number = slot.number; copies = n; frame = slot.frame }); keys = p.keys; room = p.room })) e
+    subst (λ n. IsKeptStore (record { slots = with_value p.slots key (record { number = slot.number; copies = n; frame = slot.frame }); keys = p.keys; room = p.room })) e
     (kept_fewer p kept number key slot f m.0 m.1)
 
-held_more_left : {Z : Type 0} (p : Inside Z) (number key : ℕ) (slot : Slot Z) → IsKept p → Found p.keys.items p.slots.slots number key slot → slot.copies - 1 ≢ 0
+held_more_left : {Z : Type 0} (p : Inside Z) (number key : ℕ) (slot : Slot Z) → IsKeptStore p → Found p.keys.items p.slots.slots number key slot → slot.copies - 1 ≢ 0
     → seen_from 0 p.keys.items (with_value p.slots key (less slot)).slots ≡ set (value_of p).held number (one_less (get_or (value_of p).held number None))
 held_more_left p number key slot kept f ne =
     let m = more_than_one slot.copies ne in
@@ -65,21 +65,21 @@ held_more_left p number key slot kept f ne =
     (held_fewer p kept number key slot f m.0 m.1)
 
 -- the last copy was given up: its slot was written, and then emptied
-emptied : {Z : Type 0} (p : Inside Z) (number key : ℕ) (slot : Slot Z) (slots : Slab (Slot Z)) (kept : IsKept p) (f : Found p.keys.items p.slots.slots number key slot)
+emptied : {Z : Type 0} (p : Inside Z) (number key : ℕ) (slot : Slot Z) (slots : Slab (Slot Z)) (kept : IsKeptStore p) (f : Found p.keys.items p.slots.slots number key slot)
     → Updates (with_value p.slots key (less slot)) slots key None → Gone p kept number key slot f slots
 emptied p number key slot slots kept f updates = record {
   none = updates.changed;
   others = λ other ne. updates.others other ne ∙ get_or-set_other p.slots.slots key other (Some (less slot)) None ne;
 }
 
-kept_none_left : {Z : Type 0} (p : Inside Z) (number key : ℕ) (slot : Slot Z) (slots : Slab (Slot Z)) → IsKept p → Found p.keys.items p.slots.slots number key slot → slot.copies - 1 ≡ 0
+kept_none_left : {Z : Type 0} (p : Inside Z) (number key : ℕ) (slot : Slot Z) (slots : Slab (Slot Z)) → IsKeptStore p → Found p.keys.items p.slots.slots number key slot → slot.copies - 1 ≡ 0
     → Updates (with_value p.slots key (less slot)) slots key None → slab_len slots + 1 ≡ slab_len (with_value p.slots key (less slot)) → slots.capacity ≡ p.slots.capacity
-    → IsKept (record { slots = slots; keys = p.keys; room = p.room })
+    → IsKeptStore (record { slots = slots; keys = p.keys; room = p.room })
 kept_none_left p number key slot slots kept f last updates len cap =
     let same = count_same p.slots.slots key slot (less slot) f.there in
     kept_last p kept number key slot f slots (omega (arith, last, f.left)) (emptied p number key slot slots kept f updates) (omega (arith, len, same)) cap
 
-held_none_left : {Z : Type 0} (p : Inside Z) (number key : ℕ) (slot : Slot Z) (slots : Slab (Slot Z)) → IsKept p → Found p.keys.items p.slots.slots number key slot → slot.copies - 1 ≡ 0
+held_none_left : {Z : Type 0} (p : Inside Z) (number key : ℕ) (slot : Slot Z) (slots : Slab (Slot Z)) → IsKeptStore p → Found p.keys.items p.slots.slots number key slot → slot.copies - 1 ≡ 0
     → Updates (with_value p.slots key (less slot)) slots key None → seen_from 0 p.keys.items slots.slots ≡ set (value_of p).held number (one_less (get_or (value_of p).held number None))
 held_none_left p number key slot slots kept f last updates =
     held_last p kept number key slot f slots (omega (arith, last, f.left)) (emptied p number key slot slots kept f updates)
