@@ -95,7 +95,8 @@ fn serve_words<R: Read, O: Write, F: Folder>(
 }
 
 /// Serves what the words ask for, of which the first is the program's name, and gives the status: 0 done,
-/// 2 refused words, 3 a refused table or capture, 4 a refused load, 5 memory or a device.
+/// 2 refused words, 3 a refused table, network or capture, 4 a refused load or jitter or a network that does not come to rest,
+/// 5 memory or a device.
 ///
 /// `afdx alone` reads `input` to its end and writes its answer on `out`; `afdx check TABLE` and `afdx size TABLE` get TABLE
 /// from `folder` and write their lines on `out`; `afdx run TABLE IN OUT` gets TABLE, checks its load unless there is
