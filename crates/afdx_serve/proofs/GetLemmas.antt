@@ -1,6 +1,6 @@
 -- Networks that were got: the files of tables, and why they were not.
 use Rattle.std.proofs.Common.{◌≡◌, ◌≢◌, ℕ, ◌+◌, ◌<◌, ◌≤◌, List, [], ◌∷◌, ◌++◌, map, length, take, Option, Some, None, Result, Ok, Err, Vec, inl, inr, refl, sym, ap, subst, ◌∙◌, arith, get_or}
-use Rattle.std.proofs.Common.{slice_get, String, Global, string_bytes}
+use Rattle.std.proofs.Common.{slice_get, length-append, String, Global, string_bytes}
 use Rattle.std.specs.Prelude.{◌⊎◌, option_map, MatchResult}
 use Rattle.std.specs.Path.{path_with_file_name}
 use Rattle.std.proofs.lemmas.List.{get_or-map, map-append, take_more, take_all, take-map, length-map}
@@ -46,7 +46,7 @@ one_more_text {Z} a b c path name switches i d old new bytes grown lt first seco
     let all = ShowsAll-push a (table_names path (take i switches)) (bytes_in old) _ bytes.items got one in (
       subst (λ (names : List (List ℕ)). ShowsAll a names (bytes_in new)) (sym (more_names path switches i d lt))
           (subst (λ (ts : List (List ℕ)). ShowsAll a (table_names path (take i switches) ++ path_with_file_name path (get_or switches i d).path ∷ []) ts) (sym texts) all),
-      grind (arith, grown, len),
+      (let n = ap length grown ∙ length-append old (bytes ∷ []) in omega (arith, n, len)),
       KeepsFiles-trans a b c first second,
     )
 
