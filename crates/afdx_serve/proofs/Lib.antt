@@ -2,6 +2,7 @@ pub mod Progress
 pub mod TellingLemmas
 pub mod InputLemmas
 pub mod JitterLemmas
+pub mod NetworkCheckLemmas
 pub mod FileLemmas
 pub mod RunLemmas
 pub mod MeasureLemmas

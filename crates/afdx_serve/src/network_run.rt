@@ -8,6 +8,7 @@ ghost use Rattle.afdx_serve.specs.Runs.{capture_name};
 ghost use Rattle.afdx_serve.specs.Networks.{names_of};
 ghost use Rattle.afdx_serve.specs.NetworkRuns.{switch_folder, HasGiven, FailsToGetGiven};
 ghost use Rattle.afdx_serve.specs.Inner.OpenPorts.{HasOpen, FailsToGetNamed};
+ghost use Rattle.afdx_serve.specs.Serving.{world, RunsNetwork, FailsToRunNetwork};
 
 use crate::failure::Failure;
 use crate::folder::Folder;
@@ -197,7 +198,13 @@ pub(crate) fn network_run<O: Write, F: Folder>(
     paths: &NetworkPaths<'_>,
     out: &mut O,
     folder: &mut F,
-) -> Result<(), Failure> {
+) -> Result<(), Failure>
+    ensures { MatchResult result
+        (λ _. RunsNetwork paths.now
+        (world (O.contents out.old) (F.files folder.old) (F.failed folder.old)) (world (O.contents out.new) (F.files folder.new) (F.failed folder.new)))
+        (λ f. FailsToRunNetwork f paths.now
+        (world (O.contents out.old) (F.files folder.old) (F.failed folder.old)) (world (O.contents out.new) (F.files folder.new) (F.failed folder.new))) }
+{
     let network = get_network(alloc, folder, paths.network)?;
     let names = names_of(alloc, &network.layout().switches)?;
     let cleared = accept(alloc, &names, network)?;
