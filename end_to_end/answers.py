@@ -17,7 +17,7 @@ DEPARTURES = "port,record,frame,link,priority,size,came,start,left,delay,outcome
 
 
 @dataclass
-class Outlet:
+class OutputPort:
     """What became of the copies of an output port."""
     port: model.Port
     admitted: list
@@ -25,42 +25,42 @@ class Outlet:
     events: list  # in the order of service
 
 
-def outlets_of(table, arrivals):
-    outlets = []
+def output_ports_of(table, arrivals):
+    output_ports = []
     for port in table.ports:
         offered = [frame for frame in arrivals if frame.passed and port.id in frame.link.to]
         admitted = model.admission(port, offered)
         refused = [frame for frame in offered if frame not in admitted]
-        outlets.append(Outlet(port, admitted, refused, model.service(port, admitted)))
-    return outlets
+        output_ports.append(OutputPort(port, admitted, refused, model.service(port, admitted)))
+    return output_ports
 
 
 # --- measure ---
 
 
-def peak(outlet):
+def peak(output_port):
     """The most bytes that the buffer held when a frame had been admitted, and the stamp of the first frame that did it."""
     most, at = 0, "-"
-    for place, frame in enumerate(outlet.admitted):
-        held = model.occupied(outlet.port, outlet.admitted[:place], frame.stamp + outlet.port.latency) + frame.size
+    for place, frame in enumerate(output_port.admitted):
+        held = model.occupied(output_port.port, output_port.admitted[:place], frame.stamp + output_port.port.latency) + frame.size
         if held > most:
             most, at = held, frame.stamp
     return most, at
 
 
 def measure(table, captures, unchecked):
-    outlets = {outlet.port.id: outlet for outlet in outlets_of(table, model.arrivals_of(table, captures))}
+    output_ports = {output_port.port.id: output_port for output_port in output_ports_of(table, model.arrivals_of(table, captures))}
     lines = []
     for link in table.links:
         for port in link.to:
-            delays = [event.end - event.frame.stamp for event in outlets[port].events if event.sent and event.frame.link is link]
+            delays = [event.end - event.frame.stamp for event in output_ports[port].events if event.sent and event.frame.link is link]
             least, greatest = (min(delays), max(delays)) if delays else ("-", "-")
-            load = model.load_of(table, outlets[port].port)
+            load = model.load_of(table, output_ports[port].port)
             bound = "-" if unchecked else getattr(load, link.priority)
             lines.append(f"link {link.id} out {port} sent {len(delays)} least {least} greatest {greatest} bound {bound}")
-    for port, outlet in outlets.items():
-        most, at = peak(outlet)
-        lines.append(f"out {port} occupied {most} of {outlet.port.buffer} at {at}")
+    for port, output_port in output_ports.items():
+        most, at = peak(output_port)
+        lines.append(f"out {port} occupied {most} of {output_port.port.buffer} at {at}")
     return "".join(line + "\n" for line in lines)
 
 
@@ -87,7 +87,7 @@ def claimed(table, frame):
     return ""
 
 
-def arrivals_text(table, arrivals, outlets):
+def arrivals_text(table, arrivals, output_ports):
     lines, records, passed = [ARRIVALS], {port.id: 0 for port in table.ports}, {link.id: [] for link in table.links}
     for number, frame in enumerate(arrivals):
         records[frame.port] += 1
@@ -95,7 +95,7 @@ def arrivals_text(table, arrivals, outlets):
         if frame.passed:
             fate = "passed"
             passed[frame.link.id].append(frame)
-            refusing = [outlet.port.id for outlet in outlets if frame in outlet.refused]
+            refusing = [output_port.port.id for output_port in output_ports if frame in output_port.refused]
             full = [port for port in frame.link.to if port in refusing]
         elif frame.link:
             fate, soon = "policed", early(passed[frame.link.id], frame)
@@ -104,25 +104,25 @@ def arrivals_text(table, arrivals, outlets):
     return "".join(line + "\n" for line in lines)
 
 
-def departures_text(arrivals, outlets):
+def departures_text(arrivals, output_ports):
     lines, numbers = [DEPARTURES], {id(frame): number for number, frame in enumerate(arrivals)}
-    for outlet in outlets:
+    for output_port in output_ports:
         record = 0
-        for event in outlet.events:
+        for event in output_port.events:
             frame, place, left, delay = event.frame, "", "", ""
             if event.sent:
                 record += 1
                 place, left, delay = record, event.end, event.end - frame.stamp
-            lines.append(f"{outlet.port.id},{place},{numbers[id(frame)]},{frame.link.id},{frame.link.priority},{frame.size},"
-                         f"{frame.stamp + outlet.port.latency},{event.begin},{left},{delay},{'sent' if event.sent else 'aged'}")
+            lines.append(f"{output_port.port.id},{place},{numbers[id(frame)]},{frame.link.id},{frame.link.priority},{frame.size},"
+                         f"{frame.stamp + output_port.port.latency},{event.begin},{left},{delay},{'sent' if event.sent else 'aged'}")
     return "".join(line + "\n" for line in lines)
 
 
 def trace(table, captures):
     """The texts of arrivals.csv and departures.csv."""
     arrivals = model.arrivals_of(table, captures)
-    outlets = outlets_of(table, arrivals)
-    return arrivals_text(table, arrivals, outlets), departures_text(arrivals, outlets)
+    output_ports = output_ports_of(table, arrivals)
+    return arrivals_text(table, arrivals, output_ports), departures_text(arrivals, output_ports)
 
 
 def main(words):

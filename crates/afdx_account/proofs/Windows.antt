@@ -7,7 +7,7 @@ use Rattle.std.proofs.lemmas.Bool.{cases_Bool, cond_both, leb-true, and_parts}
 use Rattle.std.proofs.lemmas.Bool.Decides.{nat_tests}
 use Rattle.afdx_account.specs.declared.frame.Frame.{Frame}
 use Rattle.afdx_account.specs.Policing.{Terms, paid, allowance, conforms, passed_after, passed_frames}
-use Rattle.afdx_account.specs.MeterLaws.{fills}
+use Rattle.afdx_account.specs.Inner.MeterLaws.{fills}
 use Rattle.afdx_account.specs.Level.{headroom, Stands, PassesWhatConforms, credited_level, stepped, InOrder}
 
 -- each window from one of these frames up to an instant keeps to its allowance

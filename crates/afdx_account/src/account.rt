@@ -39,7 +39,7 @@ impl Account {
 
 impl Meter for Account {
     ghost use Rattle.afdx_account.specs.Account.{account_terms, account_since, account_level, account_weight, account_greatest};
-    ghost use Rattle.afdx_account.specs.MeterLaws.{account_capped, account_credited, account_pays};
+    ghost use Rattle.afdx_account.specs.Inner.MeterLaws.{account_capped, account_credited, account_pays};
 
     ghost terms = { account_terms };
 

@@ -48,7 +48,7 @@ impl ByteAccount {
 
 impl Meter for ByteAccount {
     ghost use Rattle.afdx_account.specs.Account.{byte_account_terms, byte_account_since, byte_account_level, byte_account_weight, byte_account_greatest};
-    ghost use Rattle.afdx_account.specs.MeterLaws.{capped_by, fills, pays_for};
+    ghost use Rattle.afdx_account.specs.Inner.MeterLaws.{capped_by, fills, pays_for};
 
     ghost terms = { byte_account_terms };
 

@@ -47,7 +47,7 @@ impl FrameAccount {
 
 impl Meter for FrameAccount {
     ghost use Rattle.afdx_account.specs.Account.{frame_account_terms, frame_account_since, frame_account_level, frame_account_weight, frame_account_greatest};
-    ghost use Rattle.afdx_account.specs.MeterLaws.{capped_by, fills, frame_pays_for};
+    ghost use Rattle.afdx_account.specs.Inner.MeterLaws.{capped_by, fills, frame_pays_for};
 
     ghost terms = { frame_account_terms };
 

@@ -1,9 +1,9 @@
 //! Laws over the definitions: functions that do nothing, whose contracts are the laws.
 
-ghost use Rattle.afdx_account.specs.Laws.{StepsPassWhatConforms, ConformingIsTested, NextJoinsWhereItConforms, NextFrameJoinsWhereItConforms, PassedByTheirFrames, HeadroomIsCredited};
-ghost use Rattle.afdx_account.specs.Laws.{HeadroomDecides, HeadroomIsDebited};
+ghost use Rattle.afdx_account.specs.Inner.Laws.{StepsPassWhatConforms, ConformingIsTested, NextJoinsWhereItConforms, NextFrameJoinsWhereItConforms, PassedByTheirFrames, HeadroomIsCredited};
+ghost use Rattle.afdx_account.specs.Inner.Laws.{HeadroomDecides, HeadroomIsDebited};
 ghost use Rattle.afdx_account.specs.Early.{EarlyIsLeast, EarlyByTheLevel};
-ghost use Rattle.afdx_account.specs.Laws.{BytePricesPay, FramePricesPay, PricesPay};
+ghost use Rattle.afdx_account.specs.Inner.Laws.{BytePricesPay, FramePricesPay, PricesPay};
 
 /// A full account that goes step by step, over frames whose stamps don't fall, passes exactly the frames
 /// that keep to their allowances in all windows.

@@ -9,7 +9,7 @@ use Rattle.afdx_filter.specs.declared.outcome.Verdict.{Verdict}
 use Rattle.afdx_filter.specs.declared.outcome.Verdict.TheVariants.{Cut, Short, Long, Foreign, NoLink, WrongPort, TooBig, Clean}
 use Rattle.afdx_account.specs.declared.frame.Frame.{Frame}
 use Rattle.afdx_account.specs.Policing.{conforms, passed_frames}
-use Rattle.afdx_account.specs.Laws.{NextFrameJoinsWhereItConforms}
+use Rattle.afdx_account.specs.Inner.Laws.{NextFrameJoinsWhereItConforms}
 use Rattle.afdx_port.specs.declared.Item.{Item}
 use Rattle.afdx_load.specs.Sums.{terms_of}
 use Rattle.afdx_core.specs.declared.kinds.Row.{Row}

@@ -9,16 +9,16 @@ use Rattle.afdx_table.specs.declared.rows.PortRow.{PortRow}
 use Rattle.afdx_table.specs.Link.{Link, leads_to}
 use Rattle.afdx_table.specs.Content.{Content, link_row}
 use Rattle.afdx_table.specs.WellFormed.{IsWellFormed}
-use Rattle.afdx_table.specs.Found.{LinksAreFound}
+use Rattle.afdx_table.specs.Inner.Found.{LinksAreFound}
 use Rattle.afdx_load.specs.Bounds.{backlog, byte_time}
 use Rattle.afdx_load.specs.Accepted.{IsAccepted}
 use Rattle.afdx_filter.specs.declared.outcome.Verdict.{Verdict}
 use Rattle.afdx_filter.specs.declared.outcome.Verdict.TheVariants.{Cut, Short, Long, Foreign, NoLink, WrongPort, TooBig, Clean}
-use Rattle.afdx_filter.specs.Clean.{CleanFramesHaveALink}
+use Rattle.afdx_filter.specs.Inner.Clean.{CleanFramesHaveALink}
 use Rattle.afdx_account.specs.declared.frame.Frame.{Frame}
 use Rattle.afdx_account.specs.Policing.{Terms, conforms, passed_of, passed_frames}
 use Rattle.afdx_account.specs.Level.{InOrder}
-use Rattle.afdx_account.specs.Laws.{NextJoinsWhereItConforms, PassedByTheirFrames}
+use Rattle.afdx_account.specs.Inner.Laws.{NextJoinsWhereItConforms, PassedByTheirFrames}
 use Rattle.afdx_port.specs.declared.Item.{Item}
 use Rattle.afdx_port.specs.Admission.{admitted, AllFitIn}
 use Rattle.afdx_isolation.specs.Arrivals.{own, joins, feed_after, feed_of as offered_of}
@@ -29,7 +29,7 @@ use Rattle.afdx_core.specs.declared.kinds.Row.{Row}
 use Rattle.afdx_core.specs.Rows.{frame_of, account_frames, says_clean, passes, named, item_of, copies_by, copies, each_after, feed_of}
 use Rattle.afdx_core.specs.State.{Run, port_in}
 use Rattle.afdx_core.specs.Agreement.{frame_in}
-use Rattle.afdx_core.specs.Isolation.{IsOfAnArrival, IsRun, copy_by, clean_copies, sent_copies, PassedCopiesArePassedFrames, IsIsolated, AcceptedTablesIsolate, with_bytes, OthersChangeNothing}
+use Rattle.afdx_core.specs.Isolation.{IsOfAnArrival, IsRun, copy_by, clean_copies, sent_copies, PassedCopiesArePassedFrames, IsIsolatedRun, AcceptedTablesIsolate, with_bytes, OthersChangeNothing}
 use Rattle.afdx_core.proofs.Lists.{each-push}
 
 equal : (a b : ℕ) → (a == b) ≡ true → a ≡ b
@@ -213,14 +213,14 @@ module _ (links : LinksAreFound) (have_link : CleanFramesHaveALink) (offers : Of
       subst (λ (feed : List Item). AllFitIn bytes (settings_of r.table.latency p) [] (admitted (settings_of r.table.latency p) feed)) (sym (offered_is links r.table well offers p r.rows))
       (hold r.table arrivals arrive p among bytes holds)
 
-  pub isolated : IsIsolated r
+  pub isolated : IsIsolatedRun r
   isolated = record {
     none_full = λ p among. (at_port p among).none_full ∙ sym (offered_is links r.table well offers p r.rows);
     none_aged = λ p among. (at_port p among).none_aged;
     in_bound = λ p among. (at_port p among).in_bound;
-    front_of_passed = λ p among l in_table leads. let front = (at_port p among).front_of_passed l in_table leads in (front.0, front.1);
+    prefix_of_passed = λ p among l in_table leads. let front = (at_port p among).prefix_of_passed l in_table leads in (front.0, front.1);
     all_passed_once_finished = λ ends p among l in_table leads.
-        let front = (at_port p among).front_of_passed l in_table leads in
+        let front = (at_port p among).prefix_of_passed l in_table leads in
         sym (append-nil (sent_copies r p l)) ∙ ap (λ rest. sent_copies r p l ++ rest) (sym (front.2 ends)) ∙ front.1;
   }
 

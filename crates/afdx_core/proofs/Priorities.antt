@@ -6,7 +6,7 @@ use Rattle.afdx_table.specs.declared.rows.PortRow.{PortRow}
 use Rattle.afdx_table.specs.Link.{Link, leads_to}
 use Rattle.afdx_table.specs.Content.{Content, link_row}
 use Rattle.afdx_table.specs.WellFormed.{IsWellFormed}
-use Rattle.afdx_table.specs.Found.{LinksAreFound}
+use Rattle.afdx_table.specs.Inner.Found.{LinksAreFound}
 use Rattle.afdx_port.specs.declared.Settings.{Settings}
 use Rattle.afdx_port.specs.declared.Item.{Item}
 use Rattle.afdx_port.specs.declared.Sent.{Sent}

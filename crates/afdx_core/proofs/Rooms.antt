@@ -7,15 +7,15 @@ use Rattle.std.proofs.lemmas.List.{length-set, get_or-set_same, get_or-set_other
 use Rattle.std.proofs.lemmas.List.Quantifiers.{position-Some}
 use Rattle.afdx_table.specs.Link.{names_port}
 use Rattle.afdx_table.specs.declared.rows.PortRow.{PortRow}
-use Rattle.afdx_core.specs.declared.outlet.Outlet.{Outlet}
-use Rattle.afdx_core.specs.Outlets.{Out, seen, Became, PlacesAre}
+use Rattle.afdx_core.specs.declared.output_port.OutputPort.{OutputPort}
+use Rattle.afdx_core.specs.OutputPorts.{Out, seen, Became, PlacesAre}
 use Rattle.afdx_core.proofs.Outs.{became_map, became_then}
 use Rattle.afdx_table.specs.WellFormed.{IsPort}
 use Rattle.afdx_core.proofs.Calls.{position_within, some_of}
 use Rattle.afdx_core.proofs.Offers.{is_port, ids, other_port, names_next, flip, equal}
 
 module _ {Z : Type 0} where
-  pub became_set : (os : List (Outlet Z)) (place : ℕ) (o d : Outlet Z) → place < length os → seen o ≡ seen (get_or os place d) → Became (λ (x : Out). x) os (set os place o)
+  pub became_set : (os : List (OutputPort Z)) (place : ℕ) (o d : OutputPort Z) → place < length os → seen o ≡ seen (get_or os place d) → Became (λ (x : Out). x) os (set os place o)
   became_set os place o d lt is = record {
     len = length-set os place o;
     at = λ k e klt. ⊎_elim
@@ -25,25 +25,25 @@ module _ {Z : Type 0} where
         (cases_eq k place);
   }
 
-  pub room_set : (os : List (Outlet Z)) (place port : ℕ) (o : Outlet Z) → IsDistinct nat_eq (ids os) → position (is_port port) os ≡ Some place → 0 < o.port.room
-      → All (λ (x : Outlet Z). is_port port x ≡ true → 0 < x.port.room) (set os place o)
+  pub room_set : (os : List (OutputPort Z)) (place port : ℕ) (o : OutputPort Z) → IsDistinct nat_eq (ids os) → position (is_port port) os ≡ Some place → 0 < o.port.room
+      → All (λ (x : OutputPort Z). is_port port x ≡ true → 0 < x.port.room) (set os place o)
   room_set os place port o distinct at room k d lt is =
       let klt : k < length os = let n = length-set os place o in omega (arith, lt, n) in
       let f = position-Some (is_port port) os place d at in ⊎_elim
-      (λ here. subst (λ j. 0 < (get_or (set os place o) j d).port.room) (sym here) (subst (λ (x : Outlet Z). 0 < x.port.room) (sym (get_or-set_same os place o d f.0)) room))
+      (λ here. subst (λ j. 0 < (get_or (set os place o) j d).port.room) (sym here) (subst (λ (x : OutputPort Z). 0 < x.port.room) (sym (get_or-set_same os place o d f.0)) room))
       (λ ne. let off = other_port os place k port d distinct f.0 klt ne f.1 in let same = get_or-set_other os place k o d ne in
       let yes = ap (is_port port) (sym same) ∙ is in absurd (cc))
       (cases_eq k place)
 
   -- those that these ports name have room
-  abbrev pub HaveRoomFor : List ℕ → List (Outlet Z) → Type 0
-  HaveRoomFor front os = All (λ (o : Outlet Z). names_port o.row.id front ≡ true → 0 < o.port.room) os
+  abbrev pub HaveRoomFor : List ℕ → List (OutputPort Z) → Type 0
+  HaveRoomFor front os = All (λ (o : OutputPort Z). names_port o.row.id front ≡ true → 0 < o.port.room) os
 
-  pub room_none : (os : List (Outlet Z)) → HaveRoomFor [] os
+  pub room_none : (os : List (OutputPort Z)) → HaveRoomFor [] os
   room_none os k d lt names = absurd (cc)
 
-  pub room_next : (to : List ℕ) (i : ℕ) (mid new : List (Outlet Z)) → i < length to → HaveRoomFor (take i to) mid → Became (λ (x : Out). x) mid new
-      → ((k : ℕ) (d : Outlet Z) → (get_or mid k d).port.room ≤ (get_or new k d).port.room) → All (λ (x : Outlet Z). is_port (get_or to i 0) x ≡ true → 0 < x.port.room) new
+  pub room_next : (to : List ℕ) (i : ℕ) (mid new : List (OutputPort Z)) → i < length to → HaveRoomFor (take i to) mid → Became (λ (x : Out). x) mid new
+      → ((k : ℕ) (d : OutputPort Z) → (get_or mid k d).port.room ≤ (get_or new k d).port.room) → All (λ (x : OutputPort Z). is_port (get_or to i 0) x ≡ true → 0 < x.port.room) new
       → HaveRoomFor (take (i + 1) to) new
   room_next to i mid new lt before became more here k d klt names =
       let kmid : k < length mid = omega (arith, klt, became.len) in
@@ -55,11 +55,11 @@ module _ {Z : Type 0} where
         either true b e first second = first refl
         either false b e first second = second e
 
-  pub places_same : (places : List (Option ℕ)) (old new : List (Outlet Z)) → Became (λ (x : Out). x) old new → PlacesAre places (map (λ (o : Outlet Z). o.row) old)
-      → PlacesAre places (map (λ (o : Outlet Z). o.row) new)
+  pub places_same : (places : List (Option ℕ)) (old new : List (OutputPort Z)) → Became (λ (x : Out). x) old new → PlacesAre places (map (λ (o : OutputPort Z). o.row) old)
+      → PlacesAre places (map (λ (o : OutputPort Z). o.row) new)
   places_same places old new became are = subst (PlacesAre places) (sym (became_map (λ (o : Out). o) (λ (o : Out). o.row) old new (λ o. refl) became)) are
 
-  pub once_same : (old new : List (Outlet Z)) → Became (λ (x : Out). x) old new → IsDistinct nat_eq (ids old) → IsDistinct nat_eq (ids new)
+  pub once_same : (old new : List (OutputPort Z)) → Became (λ (x : Out). x) old new → IsDistinct nat_eq (ids old) → IsDistinct nat_eq (ids new)
   once_same old new became once = subst (λ (ns : List ℕ). IsDistinct nat_eq ns) (sym (became_map (λ (o : Out). o) (λ (o : Out). o.row.id) old new (λ o. refl) became)) once
 
 -- ---- the table of places

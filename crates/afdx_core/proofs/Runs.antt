@@ -10,7 +10,7 @@ use Rattle.afdx_table.specs.declared.rows.PortRow.{PortRow}
 use Rattle.afdx_table.specs.Link.{Link, names_port, leads_to}
 use Rattle.afdx_table.specs.Content.{Content, port_row}
 use Rattle.afdx_table.specs.Ports.{has_port}
-use Rattle.afdx_table.specs.Found.{LinksAreFound}
+use Rattle.afdx_table.specs.Inner.Found.{LinksAreFound}
 use Rattle.afdx_table.specs.WellFormed.{IsLink, IsWellFormed}
 use Rattle.afdx_load.specs.Accepted.{IsAccepted}
 use Rattle.afdx_account.specs.Level.{InOrder}

@@ -61,22 +61,22 @@ sent_copies r p l = own l.id (map (λ (s : Sent). s.item) (sent_in r (Some p)))
 
 -- ---- the theorem
 
-pub record IsIsolated (r : Run) : Type 0 where
+pub record IsIsolatedRun (r : Run) : Type 0 where
   -- no copy was refused by a full buffer: each port admitted all that it was offered
   pub none_full : (p : PortRow) → Contains r.table.ports p → (port_in r p).admitted ≡ feed_of r.table p.id r.rows
   -- none was discarded for its age
   pub none_aged : (p : PortRow) → Contains r.table.ports p → aged_in r (Some p) ≡ []
   -- each that was sent ended within the port's bound for its priority
   pub in_bound : (p : PortRow) → Contains r.table.ports p → All (IsInBoundAt r.table p) (sent_in r (Some p))
-  -- at each port of a link, what was sent of the link is a front of its passed frames, in their order
-  pub front_of_passed : (p : PortRow) → Contains r.table.ports p → (l : Link) → Contains r.table.links l → leads_to p.id l ≡ true
+  -- at each port of a link, what was sent of the link is a prefix of its passed frames, in their order
+  pub prefix_of_passed : (p : PortRow) → Contains r.table.ports p → (l : Link) → Contains r.table.links l → leads_to p.id l ≡ true
       → (rest : List Item) × (sent_copies r p l ++ rest ≡ passed_copies r.table l r.rows)
   -- and all of them once the switch is finished
   pub all_passed_once_finished : r.finished ≡ true → (p : PortRow) → Contains r.table.ports p → (l : Link) → Contains r.table.links l → leads_to p.id l ≡ true
       → sent_copies r p l ≡ passed_copies r.table l r.rows
 
 abbrev pub AcceptedTablesIsolate : Type 0
-AcceptedTablesIsolate = (r : Run) → IsRun r → IsWellFormed r.table → IsAccepted r.table → IsIsolated r
+AcceptedTablesIsolate = (r : Run) → IsRun r → IsWellFormed r.table → IsAccepted r.table → IsIsolatedRun r
 
 -- whatever number of bytes holds all that a port's links may ask for at once, its buffer never held more
 abbrev pub BuffersHoldTheBacklog : Type 0

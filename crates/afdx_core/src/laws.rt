@@ -62,7 +62,7 @@ pub fn passed_copies_are_passed_frames()
 }
 
 /// The headline: a switch over an accepted table loses no copy to a full buffer or to age, sends each within its
-/// port's bound, and of each link, at each of its ports, a front of its passed frames, all of them once it is
+/// port's bound, and of each link, at each of its ports, a prefix of its passed frames, all of them once it is
 /// finished, whatever the other links send.
 pub fn accepted_tables_isolate()
     ensures { AcceptedTablesIsolate }

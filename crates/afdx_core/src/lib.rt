@@ -17,7 +17,7 @@ mod engine;
 mod kinds;
 pub mod laws;
 mod log;
-mod outlet;
+mod output_port;
 mod switch;
 
 pub use accounts::{accounts_of, police};

@@ -31,7 +31,7 @@ use Rattle.afdx_count.specs.declared.link_tallies.LinkTally.{LinkTally}
 use Rattle.afdx_count.specs.Counting.{capped, with_fate, is_of, answers_of, with_answers, with_ended}
 use Rattle.afdx_count.specs.Tally.{new_port, new_link, with_arrival, with_class, with_copies, class_of, noted_link, noted_port, ended_port, ended}
 use Rattle.afdx_count.specs.Run.{of_priority, turned_away, arrivals_at, input_counts, output_counts, port_counts, link_tally, counts_so_far, events_of, run_after, handlings_of, noted_all}
-use Rattle.afdx_count.specs.Laws.{StartsWithNone, NoteCountsOneMore, EndCountsTheRun, NotesCountTheRun}
+use Rattle.afdx_count.specs.Inner.Laws.{StartsWithNone, NoteCountsOneMore, EndCountsTheRun, NotesCountTheRun}
 use Rattle.afdx_count.proofs.Placed.{equal, itself}
 use Rattle.afdx_count.proofs.Notes.{map_same, map_twice}
 use Rattle.afdx_count.proofs.Runs.{each-push, input-push, link-push, answer_after, one_offered, other_offered}

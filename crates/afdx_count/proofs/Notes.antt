@@ -16,7 +16,7 @@ use Rattle.afdx_count.specs.declared.port_tallies.PortTally.{PortTally}
 use Rattle.afdx_count.specs.declared.link_tallies.LinkTally.{LinkTally}
 use Rattle.afdx_count.specs.Counting.{capped, is_full, answers_of, with_answers}
 use Rattle.afdx_count.specs.Tally.{Tally, with_arrival, with_copies, with_class, class_of, noted_link, noted_port, noted, ended_port}
-use Rattle.afdx_count.specs.Places.{changed_at}
+use Rattle.afdx_count.specs.Inner.Places.{changed_at}
 use Rattle.afdx_count.proofs.Placed.{turned}
 
 pub map_same : {X Y : Type 0} (f g : X → Y) (xs : List X) → ((x : X) → f x ≡ g x) → map f xs ≡ map g xs

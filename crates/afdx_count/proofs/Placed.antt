@@ -10,7 +10,7 @@ use Rattle.std.proofs.lemmas.Map.Keys.{IsDistinct-IsPermutation}
 use Rattle.std.proofs.lemmas.List.Quantifiers.{position-Some}
 use Rattle.std.proofs.lemmas.Bool.{cases_Bool}
 use Rattle.std.proofs.lemmas.Bool.Decides.{nat_tests}
-use Rattle.afdx_count.specs.Places.{IsPlaceOf, changed_at}
+use Rattle.afdx_count.specs.Inner.Places.{IsPlaceOf, changed_at}
 
 pub equal : (a b : ℕ) → nat_eq a b ≡ true → a ≡ b
 equal a b e = grind (arith, nat_tests)

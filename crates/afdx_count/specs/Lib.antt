@@ -1,6 +1,5 @@
 pub mod Counting
-pub mod Tally
-pub mod Places
+pub mod Inner
 pub mod Report
 pub mod Run
-pub mod Laws
+pub mod Tally

@@ -1,6 +1,6 @@
 //! Laws over the definitions.
 
-ghost use Rattle.afdx_count.specs.Laws.{StartsWithNone, NoteCountsOneMore, EndCountsTheRun, NotesCountTheRun, SeenIsTheSum, PassedAndPolicedAreClean, OfferedIsTheSum};
+ghost use Rattle.afdx_count.specs.Inner.Laws.{StartsWithNone, NoteCountsOneMore, EndCountsTheRun, NotesCountTheRun, SeenIsTheSum, PassedAndPolicedAreClean, OfferedIsTheSum};
 
 use afdx_port::laws::each_has_one_event;
 

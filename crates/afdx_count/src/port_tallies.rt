@@ -5,7 +5,7 @@ ghost use Rattle.std.specs.List.{list_any, IsDistinct};
 ghost use Rattle.afdx_count.specs.Counting.{with_fate};
 ghost use Rattle.afdx_core.specs.State.{State};
 ghost use Rattle.afdx_count.specs.Tally.{new_port, with_arrival, with_copies, with_class, ended_port, port_in};
-ghost use Rattle.afdx_count.specs.Places.{IsPlaceOf};
+ghost use Rattle.afdx_count.specs.Inner.Places.{IsPlaceOf};
 
 use crate::counters::{InCount, OutCount};
 use afdx_core::{Done, Fate};

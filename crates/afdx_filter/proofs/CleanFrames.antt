@@ -12,8 +12,8 @@ use Rattle.afdx_table.specs.Content.{Content, link_row}
 use Rattle.afdx_filter.specs.declared.outcome.Verdict.{Verdict}
 use Rattle.afdx_filter.specs.declared.outcome.Verdict.TheVariants.{Cut, Short, Long, Foreign, WrongPort, TooBig, Clean}
 use Rattle.afdx_filter.specs.Verdict.{link_verdict, verdict_of}
-use Rattle.afdx_filter.specs.Clean.{CleanFramesHaveALink}
-use Rattle.afdx_filter.specs.Exactly.{IsFrameOf, CleanExactly}
+use Rattle.afdx_filter.specs.Inner.Clean.{CleanFramesHaveALink}
+use Rattle.afdx_filter.specs.Inner.Exactly.{IsFrameOf, CleanExactly}
 
 found-passes : {A : Type 0} (test : A → Bool) (xs : List A) (x : A) → find test xs ≡ Some x → test x ≡ true
 found-passes test [] x h = absurd cc

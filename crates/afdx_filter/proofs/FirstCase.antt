@@ -12,7 +12,7 @@ use Rattle.afdx_table.specs.Content.{Content, link_row}
 use Rattle.afdx_filter.specs.declared.outcome.Verdict.{Verdict}
 use Rattle.afdx_filter.specs.declared.outcome.Verdict.TheVariants.{Cut, Short, Long, Foreign, NoLink, WrongPort, TooBig, Clean}
 use Rattle.afdx_filter.specs.Verdict.{link_verdict, verdict_of}
-use Rattle.afdx_filter.specs.Cases.{HasCase, place_of, IsFirstCase, VerdictIsTheFirstCase}
+use Rattle.afdx_filter.specs.Inner.Cases.{HasCase, place_of, IsFirstCase, VerdictIsTheFirstCase}
 
 -- ---- places
 

@@ -13,12 +13,12 @@ use Rattle.afdx_units.specs.Line.{cost_of}
 use Rattle.afdx_port.specs.declared.Settings.{Settings}
 use Rattle.afdx_port.specs.declared.Item.{Item}
 use Rattle.afdx_port.specs.Service.{came, Event, sending, aging, item_of, free_after, fate, is_high}
-use Rattle.afdx_port.specs.Order.{in_line, highs, lows, line_up}
-use Rattle.afdx_port.specs.Work.{item_cost}
+use Rattle.afdx_port.specs.Inner.Order.{in_line, highs, lows, line_up}
+use Rattle.afdx_port.specs.Inner.Work.{item_cost}
 use Rattle.afdx_load.specs.Sums.{parts}
-use Rattle.afdx_isolation.specs.Flow.{Load, queue_bound, bound}
-use Rattle.afdx_isolation.specs.Potential.{costs, Ahead, HighEnds, LowEnds, EndsBy, IsWithinPotentials, BeginsAs}
-use Rattle.afdx_isolation.specs.Claims.{IsTimely}
+use Rattle.afdx_isolation.specs.Inner.Flow.{Load, queue_bound, bound}
+use Rattle.afdx_isolation.specs.Inner.Potential.{costs, Ahead, HighEnds, LowEnds, EndsBy, IsWithinPotentials, BeginsAs}
+use Rattle.afdx_isolation.specs.Inner.Claims.{IsTimely}
 use Rattle.afdx_isolation.proofs.Numbers.{ahead_weaker, ahead_with, ahead_append, high_sooner, low_sooner}
 use Rattle.afdx_isolation.proofs.Clock.{came-is}
 use Rattle.afdx_isolation.proofs.Waiting.{LinedUp, line_is, fate_free}

@@ -16,17 +16,17 @@ use Rattle.afdx_port.specs.declared.Settings.{Settings}
 use Rattle.afdx_port.specs.declared.Item.{Item}
 use Rattle.afdx_port.specs.Service.{came, instant, item_of, is_high, service, before}
 use Rattle.afdx_port.specs.Admission.{occupied, fits}
-use Rattle.afdx_port.specs.Order.{highs, lows, line_up, in_line}
+use Rattle.afdx_port.specs.Inner.Order.{highs, lows, line_up, in_line}
 use Rattle.afdx_port.specs.Course.{line_at}
-use Rattle.afdx_port.specs.Work.{item_cost, work, HaveCome}
+use Rattle.afdx_port.specs.Inner.Work.{item_cost, work, HaveCome}
 use Rattle.afdx_load.specs.Sums.{parts}
-use Rattle.afdx_isolation.specs.Flow.{Flow, Load, IsPaidFor, IsWithinRate, HasBuffer, IsWithinDelay, Carries, AreDistinct, high_flows, low_flows, load_of, bound}
-use Rattle.afdx_isolation.specs.Potential.{costs, IsWithinPotentials, KeepsPotentials, EndsBy, BeginsAs, held}
-use Rattle.afdx_isolation.specs.Account.{AreWithinCaps, Grow, AreDebited, IsOfAFlow, charge}
-use Rattle.afdx_isolation.specs.Kept.{IsKept}
+use Rattle.afdx_isolation.specs.Inner.Flow.{Flow, Load, IsPaidFor, IsWithinRate, HasBuffer, IsWithinDelay, Carries, AreDistinct, high_flows, low_flows, load_of, bound}
+use Rattle.afdx_isolation.specs.Inner.Potential.{costs, IsWithinPotentials, KeepsPotentials, EndsBy, BeginsAs, held}
+use Rattle.afdx_isolation.specs.Inner.Account.{AreWithinCaps, Grow, AreDebited, IsOfAFlow, charge}
+use Rattle.afdx_isolation.specs.Inner.Kept.{IsKeptLevel}
 use Rattle.afdx_isolation.specs.Arrivals.{own}
-use Rattle.afdx_isolation.specs.Claims.{IsTimely}
-use Rattle.afdx_isolation.specs.Ground.{Ground}
+use Rattle.afdx_isolation.specs.Inner.Claims.{IsTimely}
+use Rattle.afdx_isolation.specs.Inner.Ground.{Ground}
 use Rattle.afdx_isolation.proofs.Numbers.{stand_growth, stand_high, stand_low}
 use Rattle.afdx_isolation.proofs.Sums.{grown, capped, pays, falls, among_filter, high_part, low_leaves, within_longest}
 use Rattle.afdx_isolation.proofs.Waiting.{IsShort, lined_at, start_at, highs-line_up, lows-line_up, stand_starts}
@@ -37,7 +37,7 @@ unfolding line_at
 line_none s now = refl
 
 -- a new port
-pub kept_none : (s : Settings) (flows : List Flow) (now : ℕ) (level : Flow → ℕ) → AreWithinCaps flows level → IsKept s flows [] now level
+pub kept_none : (s : Settings) (flows : List Flow) (now : ℕ) (level : Flow → ℕ) → AreWithinCaps flows level → IsKeptLevel s flows [] now level
 kept_none s flows now level caps = record {
   come = All-nil (λ (item : Item). came s item ≤ now);
   of_flows = All-nil (IsOfAFlow flows);
@@ -67,7 +67,7 @@ module _ (g : Ground) (s : Settings) (flows : List Flow) (paid : All (IsPaidFor 
   cost_most_low x r low = within_longest s (low_flows flows) r.flow x.size (among_filter (λ flow. not (is_high flow.priority)) flows r.flow r.among (ap not (ap is_high r.priority ∙ low))) r.largest
 
   abbrev Keeps : List Item → ℕ → (Flow → ℕ) → Type 0
-  Keeps items now level = IsKept s flows items now level
+  Keeps items now level = IsKeptLevel s flows items now level
 
   -- what waits is of the items
   waiting_all : (P : Item → Type 0) (now : ℕ) (items : List Item) → All P items → All P (line_at s now items).waiting

@@ -1,4 +1,4 @@
--- What leaves a port: exactly what is passed, in bound, and so far a front of it.
+-- What leaves a port: exactly what is passed, in bound, and so far a prefix of it.
 use Rattle.std.proofs.Common.{◌≡◌, ℕ, Bool, true, false, cond, List, [], ◌∷◌, ◌++◌, refl, ap, sym, ◌∙◌, subst, append-nil}
 use Rattle.std.specs.Prelude.{map, nat_eq, nat_lt, All, Contains}
 use Rattle.std.proofs.lemmas.List.{map-append}
@@ -10,15 +10,15 @@ use Rattle.afdx_port.specs.declared.Sent.{Sent}
 use Rattle.afdx_port.specs.Service.{Event, sending, aging, instant, item_of, reach, service, before, sent_of, aged_of}
 use Rattle.afdx_port.specs.Admission.{admitted}
 use Rattle.afdx_port.specs.Content.{Content, done}
-use Rattle.afdx_isolation.specs.Flow.{Flow, Load, Carries, load_of}
-use Rattle.afdx_isolation.specs.Account.{IsOfAFlow}
+use Rattle.afdx_isolation.specs.Inner.Flow.{Flow, Load, Carries, load_of}
+use Rattle.afdx_isolation.specs.Inner.Account.{IsOfAFlow}
 use Rattle.afdx_isolation.specs.Arrivals.{frame_of, own, passed, feed_of}
-use Rattle.afdx_isolation.specs.Claims.{Arrive, IsInBound, IsTimely, IsIsolated, IsIsolatedSoFar, OthersChangeNothing}
-use Rattle.afdx_isolation.specs.Ground.{Ground}
+use Rattle.afdx_isolation.specs.Inner.Claims.{Arrive, IsInBound, IsTimely, IsIsolatedPort, IsIsolatedSoFar, OthersChangeNothing}
+use Rattle.afdx_isolation.specs.Inner.Ground.{Ground}
 use Rattle.afdx_isolation.proofs.Keeping.{all_in_time, ordered}
 use Rattle.afdx_isolation.proofs.Offered.{kept, none_full, exactly}
 
-pub isolated : (g : Ground) (s : Settings) (flows : List Flow) (arrivals : List Item) → Arrive s flows arrivals → Carries s flows → IsIsolated s flows arrivals
+pub isolated : (g : Ground) (s : Settings) (flows : List Flow) (arrivals : List Item) → Arrive s flows arrivals → Carries s flows → IsIsolatedPort s flows arrivals
 isolated g s flows arrivals arrive carries =
     let feed = feed_of flows arrivals in
     let all = kept g s flows arrivals arrive carries.rate in

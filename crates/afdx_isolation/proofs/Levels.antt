@@ -10,10 +10,10 @@ use Rattle.afdx_account.specs.declared.frame.Frame.{Frame}
 use Rattle.afdx_account.specs.Policing.{conforms, passed_frames}
 use Rattle.afdx_account.specs.Level.{headroom}
 use Rattle.afdx_port.specs.declared.Item.{Item}
-use Rattle.afdx_isolation.specs.Flow.{Flow, AreDistinct}
-use Rattle.afdx_isolation.specs.Account.{Grow, AreDebited, charge}
+use Rattle.afdx_isolation.specs.Inner.Flow.{Flow, AreDistinct}
+use Rattle.afdx_isolation.specs.Inner.Account.{Grow, AreDebited, charge}
 use Rattle.afdx_isolation.specs.Arrivals.{frame_of, own, is_passed, joins, level_after}
-use Rattle.afdx_isolation.specs.Ground.{Ground}
+use Rattle.afdx_isolation.specs.Inner.Ground.{Ground}
 
 -- the frames of one link
 abbrev pub frames : ℕ → List Item → List Frame

@@ -8,9 +8,9 @@ use Rattle.std.proofs.Math.Nat.{mul-le-mul_left, mul-le-mul_right}
 use Rattle.afdx_port.specs.declared.Settings.{Settings}
 use Rattle.afdx_port.specs.declared.Item.{Item}
 use Rattle.afdx_port.specs.Service.{came}
-use Rattle.afdx_port.specs.Work.{item_cost}
-use Rattle.afdx_isolation.specs.Flow.{Load}
-use Rattle.afdx_isolation.specs.Potential.{costs, Ahead, HighEnds, LowEnds, IsWithinPotentials}
+use Rattle.afdx_port.specs.Inner.Work.{item_cost}
+use Rattle.afdx_isolation.specs.Inner.Flow.{Load}
+use Rattle.afdx_isolation.specs.Inner.Potential.{costs, Ahead, HighEnds, LowEnds, IsWithinPotentials}
 
 -- one queue ahead, at later ends by z at most and with a weaker claim
 pub ahead_weaker : (s : Settings) (Q Q' : ℕ → Item → Type 0) (z k k' : ℕ) (items : List Item) → k' ≤ k + z → ((e e' : ℕ) (y : Item) → e' ≤ e + z → Q e y → Q' e' y) → Ahead s Q k items

@@ -12,12 +12,12 @@ use Rattle.afdx_port.specs.declared.Settings.{Settings}
 use Rattle.afdx_port.specs.declared.Item.{Item}
 use Rattle.afdx_port.specs.Service.{reach, came}
 use Rattle.afdx_port.specs.Admission.{admit_all, admitted}
-use Rattle.afdx_isolation.specs.Flow.{Flow, IsPaidFor, IsWithinRate, HasBuffer, AreDistinct}
-use Rattle.afdx_isolation.specs.Account.{Grow, IsOfAFlow}
-use Rattle.afdx_isolation.specs.Kept.{IsKept}
+use Rattle.afdx_isolation.specs.Inner.Flow.{Flow, IsPaidFor, IsWithinRate, HasBuffer, AreDistinct}
+use Rattle.afdx_isolation.specs.Inner.Account.{Grow, IsOfAFlow}
+use Rattle.afdx_isolation.specs.Inner.Kept.{IsKeptLevel}
 use Rattle.afdx_isolation.specs.Arrivals.{frame_of, IsClean, own, passed, is_passed, joins, feed_after, feed_of, level_after}
-use Rattle.afdx_isolation.specs.Claims.{Arrive}
-use Rattle.afdx_isolation.specs.Ground.{Ground}
+use Rattle.afdx_isolation.specs.Inner.Claims.{Arrive}
+use Rattle.afdx_isolation.specs.Inner.Ground.{Ground}
 use Rattle.afdx_isolation.proofs.Clock.{reach-le, reach-gap}
 use Rattle.afdx_isolation.proofs.Keeping.{kept_none, kept_wait, kept_pass, has_room}
 use Rattle.afdx_isolation.proofs.Levels.{Early, early_later, early_push, frames, passed_step, grow_by, joined, none_joined, passed_link, own_passes, debits_joined, grow_kept}
@@ -30,7 +30,7 @@ of_a_flow flows before x clean h =
 
 module _ (g : Ground) (s : Settings) (flows : List Flow) (paid : All (IsPaidFor s) flows) (slow : IsWithinRate s flows) (apart : AreDistinct flows) where
   abbrev Keeps : List Item → ℕ → (Flow → ℕ) → Type 0
-  Keeps items now level = IsKept s flows items now level
+  Keeps items now level = IsKeptLevel s flows items now level
 
   -- time passes until a stamp
   until : (before items : List Item) (now later : ℕ) → now ≤ later → Early before now → Keeps items (reach s now) (level_after before now) → Keeps items (reach s later) (level_after before later)
@@ -101,13 +101,13 @@ by_latest [] to le = tt
 by_latest (x ∷ arrivals) to le = (omega (arith, le), by_latest arrivals to (omega (arith, le)))
 
 module _ (g : Ground) (s : Settings) (flows : List Flow) (arrivals : List Item) (arrive : Arrive s flows arrivals) (slow : IsWithinRate s flows) where
-  first : IsKept s flows [] (reach s 0) (level_after [] 0)
+  first : IsKeptLevel s flows [] (reach s 0) (level_after [] 0)
   first = kept_none s flows (reach s 0) (level_after [] 0) (λ k d lt. omega arith)
 
-  pub kept_to : (to : ℕ) → AllByRecursion (λ (x : Item). x.stamp ≤ to) arrivals → IsKept s flows (feed_of flows arrivals) (reach s to) (level_after arrivals to)
+  pub kept_to : (to : ℕ) → AllByRecursion (λ (x : Item). x.stamp ≤ to) arrivals → IsKeptLevel s flows (feed_of flows arrivals) (reach s to) (level_after arrivals to)
   kept_to to late = kept_all g s flows arrive.paid slow arrive.distinct [] arrivals [] 0 to (λ id. tt) (omega arith) arrive.stamps late arrive.clean first
 
-  pub kept : IsKept s flows (feed_of flows arrivals) (reach s (latest arrivals)) (level_after arrivals (latest arrivals))
+  pub kept : IsKeptLevel s flows (feed_of flows arrivals) (reach s (latest arrivals)) (level_after arrivals (latest arrivals))
   kept = kept_to (latest arrivals) (by_latest arrivals (latest arrivals) (omega arith))
 
   pub none_full : HasBuffer s flows → admitted s (feed_of flows arrivals) ≡ feed_of flows arrivals

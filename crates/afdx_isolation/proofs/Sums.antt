@@ -1,6 +1,6 @@
 -- Sums over the flows of a port: what their accounts hold, gain and give.
 use Rattle.std.specs.Prelude.{not, filter}
-use Rattle.afdx_isolation.specs.Potential.{held}
+use Rattle.afdx_isolation.specs.Inner.Potential.{held}
 use Rattle.std.proofs.Common.{◌≡◌, ℕ, Bool, subst, sym, ◌+◌, ◌*◌, ◌<◌, ◌≤◌, true, false, cond, List, [], ◌∷◌, refl, ap, arith}
 use Rattle.std.specs.Prelude.{nat_eq, sum_by, All, Contains}
 use Rattle.std.proofs.lemmas.Bool.Decides.{nat_tests}
@@ -12,8 +12,8 @@ use Rattle.afdx_units.specs.Line.{cost_of, tick_of}
 use Rattle.afdx_port.specs.declared.Settings.{Settings}
 use Rattle.afdx_port.specs.declared.Item.{Item}
 use Rattle.afdx_port.specs.Service.{is_high}
-use Rattle.afdx_isolation.specs.Flow.{Flow, high_flows, low_flows, rates, bursts, longest}
-use Rattle.afdx_isolation.specs.Account.{Grow, AreDebited, AreWithinCaps, charge}
+use Rattle.afdx_isolation.specs.Inner.Flow.{Flow, high_flows, low_flows, rates, bursts, longest}
+use Rattle.afdx_isolation.specs.Inner.Account.{Grow, AreDebited, AreWithinCaps, charge}
 
 pub grown : (flows : List Flow) (d : ℕ) (level after : Flow → ℕ) → Grow flows d level after → held after flows ≤ held level flows + rates flows * d
 grown [] d level after h = omega arith

@@ -12,7 +12,7 @@ use Rattle.afdx_units.specs.declared.line.Priority.{Priority}
 use Rattle.afdx_units.specs.declared.line.Priority.TheVariants.{High, Low}
 use Rattle.afdx_units.specs.declared.line.Speed.{Speed}
 use Rattle.afdx_account.specs.Policing.{conforms, passed_frames}
-use Rattle.afdx_account.specs.Laws.{PassedByTheirFrames, PricesPay}
+use Rattle.afdx_account.specs.Inner.Laws.{PassedByTheirFrames, PricesPay}
 use Rattle.afdx_port.specs.declared.Item.{Item}
 use Rattle.afdx_port.specs.declared.Sent.{Sent}
 use Rattle.afdx_port.specs.Service.{sent_of, is_high}
@@ -25,10 +25,10 @@ use Rattle.afdx_table.specs.WellFormed.{IsLink, IsWellFormed}
 use Rattle.afdx_load.specs.Sums.{behind, parts, is_high_priority, is_high as is_high_link, is_low as is_low_link, routed, rate_of, burst_of, time_of, greatest, sums_of, load_of as sums_at, terms_of}
 use Rattle.afdx_load.specs.Bounds.{backlog, byte_time}
 use Rattle.afdx_load.specs.Accepted.{Carries as CarriesSums}
-use Rattle.afdx_load.specs.Laws.{AsksWhatItsAccountGives, EachLinkAsks, AcceptedKeepsBounds}
-use Rattle.afdx_isolation.specs.Flow.{Flow, IsPaidFor, Carries, AreDistinct, high_flows, low_flows, rates, bursts, longest, load_of, bound}
+use Rattle.afdx_load.specs.Inner.Laws.{AsksWhatItsAccountGives, EachLinkAsks, AcceptedKeepsBounds}
+use Rattle.afdx_isolation.specs.Inner.Flow.{Flow, IsPaidFor, Carries, AreDistinct, high_flows, low_flows, rates, bursts, longest, load_of, bound}
 use Rattle.afdx_isolation.specs.Arrivals.{frame_of, IsClean, own, is_passed, joins, feed_of}
-use Rattle.afdx_isolation.specs.Claims.{Arrive, IsInBound, IsIsolatedSoFar, IsolatesSoFar, NoneIsFull}
+use Rattle.afdx_isolation.specs.Inner.Claims.{Arrive, IsInBound, IsIsolatedSoFar, IsolatesSoFar, NoneIsFull}
 use Rattle.afdx_isolation.specs.Table.{settings_of, flow_of, frames_for, flows_at, IsCleanIn, ArriveAt, bound_of, AcceptedTablesIsolate, OthersChangeNothingInTables}
 use Rattle.afdx_isolation.proofs.Sums.{among_filter}
 use Rattle.afdx_isolation.proofs.Levels.{joined, none_joined, passed_link}
@@ -333,7 +333,7 @@ isolated_at pays asks some keeps isolates t arrivals h row among c settings is =
             least = within.least;
             most = within.most;
           };
-      front_of_passed = λ link in_table leads. all.front (flow_of row.speed link) (of_map (flow_of row.speed) links link (among_filter (leads_to row.id) t.links link in_table leads));
+      prefix_of_passed = λ link in_table leads. all.front (flow_of row.speed link) (of_map (flow_of row.speed) links link (among_filter (leads_to row.id) t.links link in_table leads));
     }
 
 -- a row with a buffer of so many bytes admits all that its port is offered, where they hold the backlog
@@ -379,7 +379,7 @@ others_in_tables by_frames isolate t t' arrivals arrivals' h h' row row' among a
           → (c : PortContent) → c.settings ≡ settings_of t.latency row → c.admitted ≡ admitted (settings_of t.latency row) (feed_of (flows_at t row) arrivals) → c.finished ≡ true
           → frames_for link.id c ≡ passed_frames (terms_of link) (map frame_of (own link.id arrivals))
       all t arrivals h row among link in_table leads c settings admits ends =
-          let front = (isolate t arrivals h row among c settings admits).front_of_passed link in_table leads in
+          let front = (isolate t arrivals h row among c settings admits).prefix_of_passed link in_table leads in
           let sent' = own link.id (map (λ (x : Sent). x.item) (sent_of (done c))) in
           ap (map frame_of) (sym (append-nil sent') ∙ ap (λ ys. sent' ++ ys) (sym (front.2 ends)) ∙ front.1)
           ∙ by_frames frame_of (terms_of link) (own link.id arrivals)

@@ -9,12 +9,12 @@ use Rattle.afdx_units.specs.Line.{cost_of}
 use Rattle.afdx_port.specs.declared.Settings.{Settings}
 use Rattle.afdx_port.specs.declared.Item.{Item}
 use Rattle.afdx_port.specs.Service.{sending, aging, free_after, fate, is_high}
-use Rattle.afdx_port.specs.Progress.{LineState, left}
-use Rattle.afdx_port.specs.Order.{highs, lows, line_up}
+use Rattle.afdx_port.specs.Inner.Progress.{LineState, left}
+use Rattle.afdx_port.specs.Inner.Order.{highs, lows, line_up}
 use Rattle.afdx_port.specs.Course.{rest_in_line, line_at}
-use Rattle.afdx_port.specs.Work.{item_cost}
-use Rattle.afdx_isolation.specs.Flow.{Load}
-use Rattle.afdx_isolation.specs.Potential.{IsWithinPotentials}
+use Rattle.afdx_port.specs.Inner.Work.{item_cost}
+use Rattle.afdx_isolation.specs.Inner.Flow.{Load}
+use Rattle.afdx_isolation.specs.Inner.Potential.{IsWithinPotentials}
 use Rattle.afdx_isolation.proofs.Numbers.{stand_high_start, stand_low_start, stand_rest}
 
 -- no high item waits behind a low one

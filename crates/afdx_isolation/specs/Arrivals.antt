@@ -4,7 +4,7 @@ use Rattle.afdx_account.specs.declared.frame.Frame.{Frame}
 use Rattle.afdx_account.specs.Policing.{conforms, passed_of, passed_frames}
 use Rattle.afdx_account.specs.Level.{InOrder, headroom}
 use Rattle.afdx_port.specs.declared.Item.{Item}
-use Rattle.afdx_isolation.specs.Flow.{Flow}
+use Rattle.afdx_isolation.specs.Inner.Flow.{Flow}
 
 -- an arrival as its account sees it
 abbrev pub frame_of : Item → Frame

@@ -1,8 +1,3 @@
-pub mod Flow
-pub mod Potential
-pub mod Account
-pub mod Kept
 pub mod Arrivals
-pub mod Claims
-pub mod Ground
+pub mod Inner
 pub mod Table

@@ -19,7 +19,7 @@ use Rattle.afdx_table.specs.WellFormed.{IsWellFormed}
 use Rattle.afdx_load.specs.Sums.{Sums, routed, load_of, terms_of, weight_of}
 use Rattle.afdx_load.specs.Bounds.{high_bound, low_bound, backlog, byte_time}
 use Rattle.afdx_load.specs.Accepted.{IsAccepted}
-use Rattle.afdx_isolation.specs.Flow.{Flow}
+use Rattle.afdx_isolation.specs.Inner.Flow.{Flow}
 use Rattle.afdx_isolation.specs.Arrivals.{frame_of, StampsDoNotFall, own, joins, feed_of}
 
 -- a port of a switch of this latency
@@ -70,8 +70,8 @@ pub record IsIsolatedAt (t : Content) (row : PortRow) (arrivals : List Item) (c 
   pub none_aged : aged_of (done c) ≡ []
   -- each that was sent ended within the port's bound
   pub in_bound : All (IsInBoundAt t row) (sent_of (done c))
-  -- of each link that leads to the port a front of what its policing passes of its own arrivals was sent, in their order
-  pub front_of_passed : (link : Link) → Contains t.links link → leads_to row.id link ≡ true → (rest : List Item)
+  -- of each link that leads to the port a prefix of what its policing passes of its own arrivals was sent, in their order
+  pub prefix_of_passed : (link : Link) → Contains t.links link → leads_to row.id link ≡ true → (rest : List Item)
       × (own link.id (map (λ (x : Sent). x.item) (sent_of (done c))) ++ rest ≡ passed_by link arrivals)
       × (c.finished ≡ true → rest ≡ [])
 

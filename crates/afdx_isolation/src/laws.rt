@@ -1,9 +1,9 @@
 //! The laws of one output port. Each speaks of every list of arrivals, of the port's links and of all others.
 
-ghost use Rattle.afdx_isolation.specs.Ground.{Ground};
-ghost use Rattle.afdx_isolation.specs.Kept.{IsKeptAtFirst, IsKeptOverTime, IsKeptByWhatIsPaidFor, WhatIsPaidForFits};
+ghost use Rattle.afdx_isolation.specs.Inner.Ground.{Ground};
+ghost use Rattle.afdx_isolation.specs.Inner.Kept.{IsKeptAtFirst, IsKeptOverTime, IsKeptByWhatIsPaidFor, WhatIsPaidForFits};
 ghost use Rattle.afdx_isolation.specs.Table.{OffersWhatThePolicingPasses, AcceptedTablesIsolate, BuffersHoldTheBacklog, OthersChangeNothingInTables};
-ghost use Rattle.afdx_isolation.specs.Claims.{PotentialsHold, NoneIsFull, HighKeepsBound, LowKeepsBound, Isolates, IsolatesSoFar, OthersChangeNothing};
+ghost use Rattle.afdx_isolation.specs.Inner.Claims.{PotentialsHold, NoneIsFull, HighKeepsBound, LowKeepsBound, Isolates, IsolatesSoFar, OthersChangeNothing};
 
 use afdx_account::laws::{
     headroom_is_a_level, next_frame_joins_where_it_conforms, passed_by_their_frames, prices_pay,
@@ -79,7 +79,7 @@ pub fn isolates()
     ground();
 }
 
-/// So far a front of these has left, and all of them once the port is finished.
+/// So far a prefix of these has left, and all of them once the port is finished.
 pub fn isolates_so_far()
     ensures { IsolatesSoFar }
 {
@@ -94,7 +94,7 @@ pub fn others_change_nothing()
 }
 
 /// Under an accepted table, whatever arrives, at each port no copy is Full and none is Aged, each frame that was sent
-/// ended within the port's bound, and each link's part of them is a front of what its policing passes, all of it
+/// ended within the port's bound, and each link's part of them is a prefix of what its policing passes, all of it
 /// once the port is finished.
 pub fn accepted_tables_isolate()
     ensures { AcceptedTablesIsolate }

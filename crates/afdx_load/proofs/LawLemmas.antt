@@ -11,7 +11,7 @@ use Rattle.afdx_table.specs.Link.{Link, leads_to}
 use Rattle.afdx_load.specs.Sums.{parts, is_high, is_low, routed, rate_of, burst_of, time_of, Sums, sums_of, load_of}
 use Rattle.afdx_load.specs.Bounds.{high_bound, low_bound}
 use Rattle.afdx_load.specs.Accepted.{Carries}
-use Rattle.afdx_load.specs.Laws.{FactorCoversOverhead, AsksWhatItsAccountGives, SumsTakeEachLinkOnce, LongestShowsLinks, HighLinksLeaveAPart, AcceptedMeansNoFault, AcceptedKeepsBounds}
+use Rattle.afdx_load.specs.Inner.Laws.{FactorCoversOverhead, AsksWhatItsAccountGives, SumsTakeEachLinkOnce, LongestShowsLinks, HighLinksLeaveAPart, AcceptedMeansNoFault, AcceptedKeepsBounds}
 use Rattle.afdx_load.proofs.RowLemmas.{IsLong, all_long}
 use Rattle.afdx_load.proofs.ShareLemmas.{rate_is, burst_is, rate_above}
 use Rattle.afdx_load.proofs.SumLemmas.{all_counted}

@@ -11,7 +11,7 @@ use Rattle.afdx_units.specs.declared.line.Priority.{Priority}
 use Rattle.afdx_units.specs.declared.line.Priority.TheVariants.{High, Low}
 use Rattle.afdx_table.specs.Link.{Link, leads_to}
 use Rattle.afdx_load.specs.Sums.{is_high_priority, is_high, is_low, routed, rate_of, burst_of, time_of, greatest, Sums, sums_of, asked_of}
-use Rattle.afdx_load.specs.Adding.{counted, with_link}
+use Rattle.afdx_load.specs.Inner.Adding.{counted, with_link}
 
 count-push : (p : Link → Bool) (links : List Link) (link : Link) (b : Bool) → p link ≡ b → count_by p (links ++ link ∷ []) ≡ count_by p links + cond b 1 0
 count-push p links link b h = sum_by_push (λ (l : Link). cond (p l) 1 0) links link ∙ ap (λ (v : Bool). count_by p links + cond v 1 0) h

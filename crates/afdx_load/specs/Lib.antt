@@ -1,9 +1,8 @@
-pub mod Sums
-pub mod Adding
-pub mod Bounds
 pub mod Accepted
-pub mod Small
-pub mod Slots
+pub mod Bounds
 pub mod First
 pub mod Fits
-pub mod Laws
+pub mod Inner
+pub mod Slots
+pub mod Small
+pub mod Sums

@@ -6,7 +6,7 @@ use Rattle.afdx_units.specs.declared.line.Speed.TheVariants.{Ten}
 use Rattle.afdx_table.specs.Link.{Link, leads_to}
 use Rattle.afdx_table.specs.declared.rows.PortRow.{PortRow}
 use Rattle.afdx_load.specs.Sums.{Sums, asked_of}
-use Rattle.afdx_load.specs.Adding.{with_link}
+use Rattle.afdx_load.specs.Inner.Adding.{with_link}
 
 -- each is a place, and stands once
 abbrev pub are_slots : List ℕ → Bool

@@ -1,7 +1,7 @@
 //! Laws over the definitions: functions that do nothing, whose contracts are the laws.
 
-ghost use Rattle.afdx_load.specs.Laws.{FactorCoversOverhead, AsksWhatItsAccountGives, EachLinkAsks, SumsTakeEachLinkOnce, LongestShowsLinks, HighLinksLeaveAPart};
-ghost use Rattle.afdx_load.specs.Laws.{AcceptedMeansNoFault, AcceptedKeepsBounds};
+ghost use Rattle.afdx_load.specs.Inner.Laws.{FactorCoversOverhead, AsksWhatItsAccountGives, EachLinkAsks, SumsTakeEachLinkOnce, LongestShowsLinks, HighLinksLeaveAPart};
+ghost use Rattle.afdx_load.specs.Inner.Laws.{AcceptedMeansNoFault, AcceptedKeepsBounds};
 ghost use Rattle.afdx_load.specs.First.{FaultIsTheFirst};
 ghost use Rattle.afdx_load.specs.Fits.{AcceptedWhereEachPortFits};
 

@@ -2,7 +2,7 @@
 
 ghost use Rattle.std.specs.Prelude.{◌≡◌, ◌+◌, ◌<◌, ◌≤◌, ◌^◌, []};
 ghost use Rattle.afdx_load.specs.Sums.{sums_of, behind};
-ghost use Rattle.afdx_load.specs.Adding.{with_link};
+ghost use Rattle.afdx_load.specs.Inner.Adding.{with_link};
 ghost use Rattle.afdx_units.specs.declared.line.Speed.{Speed};
 
 use crate::share::share_of;

@@ -1,4 +1,4 @@
--- Where those that pass a test are a front of a list, they are what passes from a place on, and those before it.
+-- Where those that pass a test are a prefix of a list, they are what passes from a place on, and those before it.
 use Rattle.std.proofs.Common.{◌≡◌, ℕ, zero, suc, ◌+◌, ◌<◌, ◌≤◌, Bool, true, false, cond, List, [], ◌∷◌, length, take, drop, get_or, refl, ap, sym, ◌∙◌, arith}
 use Rattle.std.specs.Prelude.{filter, sum_by}
 use Rattle.std.specs.List.{prefix_len, take_while}

@@ -12,8 +12,8 @@ use Rattle.afdx_port.specs.declared.Sent.{Sent}
 use Rattle.afdx_port.specs.declared.Aged.{Aged}
 use Rattle.afdx_port.specs.Service.{came, service, sent_of, aged_of}
 use Rattle.afdx_port.specs.Admission.{occupied, AllFit}
-use Rattle.afdx_port.specs.Order.{InOrder}
-use Rattle.afdx_port.specs.Gone.{gone, OccupiedIsWhatHasNotGone, SentEndInOrder, AgedInOrder}
+use Rattle.afdx_port.specs.Inner.Order.{InOrder}
+use Rattle.afdx_port.specs.Inner.Gone.{gone, OccupiedIsWhatHasNotGone, SentEndInOrder, AgedInOrder}
 use Rattle.afdx_measure.specs.declared.filling.Level.{Level}
 use Rattle.afdx_measure.specs.Peak.{filling, fillings}
 use Rattle.afdx_measure.proofs.Fronts.{IsFront, sum_of_front, passed_more}
@@ -21,8 +21,8 @@ use Rattle.afdx_measure.proofs.Fronts.{IsFront, sum_of_front, passed_more}
 abbrev pub ended : ℕ → Sent → Bool
 ended t x = nat_le x.end t
 
-abbrev pub given_up : ℕ → Aged → Bool
-given_up t x = nat_lt x.at t
+abbrev pub discarded : ℕ → Aged → Bool
+discarded t x = nat_lt x.at t
 
 abbrev pub sent_size : Sent → ℕ
 sent_size x = x.item.size
@@ -36,7 +36,7 @@ pub record IsLevel (s : Settings) (admitted : List Item) (sent : List Sent) (age
   pub aged_in : l.aged ≤ length aged
   pub bytes : l.held + sum_by sent_size (take l.sent sent) + sum_by aged_size (take l.aged aged) ≡ sum_by (λ (item : Item). item.size) (take count admitted)
   pub sent_gone : (m k : ℕ) (x : Item) (d : Sent) → count ≤ m → m < length admitted → k < l.sent → ended (came s (get_or admitted m x)) (get_or sent k d) ≡ true
-  pub aged_gone : (m k : ℕ) (x : Item) (d : Aged) → count ≤ m → m < length admitted → k < l.aged → given_up (came s (get_or admitted m x)) (get_or aged k d) ≡ true
+  pub aged_gone : (m k : ℕ) (x : Item) (d : Aged) → count ≤ m → m < length admitted → k < l.aged → discarded (came s (get_or admitted m x)) (get_or aged k d) ≡ true
 
 pub empty : (s : Settings) (admitted : List Item) (sent : List Sent) (aged : List Aged) → IsLevel s admitted sent aged 0 (record { held = 0; sent = 0; aged = 0 })
 empty s admitted sent aged = record {
@@ -50,13 +50,13 @@ empty s admitted sent aged = record {
 later_sent : (t u : ℕ) (x : Sent) → t ≤ u → ended t x ≡ true → ended u x ≡ true
 later_sent t u x le h = grind (arith, nat_tests)
 
-later_aged : (t u : ℕ) (x : Aged) → t ≤ u → given_up t x ≡ true → given_up u x ≡ true
+later_aged : (t u : ℕ) (x : Aged) → t ≤ u → discarded t x ≡ true → discarded u x ≡ true
 later_aged t u x le h = grind (arith, nat_tests)
 
 sent_front : (t : ℕ) (sent : List Sent) → AllPairs (λ (a : Sent) (b : Sent). a.end ≤ b.end) sent → IsFront (ended t) sent
 sent_front t sent order i j d lt within h = let le = order i j d lt within in grind (arith, nat_tests)
 
-aged_front : (t : ℕ) (aged : List Aged) → AllPairs (λ (a : Aged) (b : Aged). a.at ≤ b.at) aged → IsFront (given_up t) aged
+aged_front : (t : ℕ) (aged : List Aged) → AllPairs (λ (a : Aged) (b : Aged). a.at ≤ b.at) aged → IsFront (discarded t) aged
 aged_front t aged order i j d lt within h = let le = order i j d lt within in grind (arith, nat_tests)
 
 module _ (s : Settings) (admitted : List Item) (sent : List Sent) (aged : List Aged) (law : OccupiedIsWhatHasNotGone) (sent_order : SentEndInOrder) (aged_order : AgedInOrder)
@@ -67,7 +67,7 @@ module _ (s : Settings) (admitted : List Item) (sent : List Sent) (aged : List A
   is_sent_front : (t : ℕ) → IsFront (ended t) sent
   is_sent_front t = sent_front t sent (subst (AllPairs (λ (a : Sent) (b : Sent). a.end ≤ b.end)) (sym sent_is) (sent_order s admitted))
 
-  is_aged_front : (t : ℕ) → IsFront (given_up t) aged
+  is_aged_front : (t : ℕ) → IsFront (discarded t) aged
   is_aged_front t = aged_front t aged (subst (AllPairs (λ (a : Aged) (b : Aged). a.at ≤ b.at)) (sym aged_is) (aged_order s admitted))
 
   -- what is occupied for the next admission, by the lists of the end
@@ -88,20 +88,20 @@ module _ (s : Settings) (admitted : List Item) (sent : List Sent) (aged : List A
 
   -- those of its time have gone
   pub let_go : (k : ℕ) (x : Item) (old new : Level) → k < length admitted → x ≡ get_or admitted k x → IsLevel s admitted sent aged k old
-      → new.held ≡ (old.held - sum_by sent_size (take_while (ended (came s x)) (drop old.sent sent))) - sum_by aged_size (take_while (given_up (came s x)) (drop old.aged aged))
-      → new.sent ≡ old.sent + prefix_len (ended (came s x)) (drop old.sent sent) → new.aged ≡ old.aged + prefix_len (given_up (came s x)) (drop old.aged aged)
+      → new.held ≡ (old.held - sum_by sent_size (take_while (ended (came s x)) (drop old.sent sent))) - sum_by aged_size (take_while (discarded (came s x)) (drop old.aged aged))
+      → new.sent ≡ old.sent + prefix_len (ended (came s x)) (drop old.sent sent) → new.aged ≡ old.aged + prefix_len (discarded (came s x)) (drop old.aged aged)
       → (new.held ≡ occupied s (came s x) (take k admitted)) × IsLevel s admitted sent aged (k + 1) (record { held = new.held + x.size; sent = new.sent; aged = new.aged })
   let_go k x old new lt is h held sent_new aged_new =
       let t = came s x in
       let at : came s (get_or admitted k x) ≡ t = ap (came s) (sym is) in
       let sent_passed : (n : ℕ) (d : Sent) → n < old.sent → ended t (get_or sent n d) ≡ true = λ n d less. ap (λ (u : ℕ). ended u (get_or sent n d)) (sym at) ∙ h.sent_gone k n x d
       (omega arith) lt less in
-      let aged_passed : (n : ℕ) (d : Aged) → n < old.aged → given_up t (get_or aged n d) ≡ true = λ n d less. ap (λ (u : ℕ). given_up u (get_or aged n d)) (sym at) ∙ h.aged_gone k n x
+      let aged_passed : (n : ℕ) (d : Aged) → n < old.aged → discarded t (get_or aged n d) ≡ true = λ n d less. ap (λ (u : ℕ). discarded u (get_or aged n d)) (sym at) ∙ h.aged_gone k n x
       d (omega arith) lt less in
       let of_sent = sum_of_front (ended t) sent_size sent old.sent (is_sent_front t) h.sent_in sent_passed in
-      let of_aged = sum_of_front (given_up t) aged_size aged old.aged (is_aged_front t) h.aged_in aged_passed in
+      let of_aged = sum_of_front (discarded t) aged_size aged old.aged (is_aged_front t) h.aged_in aged_passed in
       let more_sent = passed_more (ended t) sent old.sent h.sent_in sent_passed in
-      let more_aged = passed_more (given_up t) aged old.aged h.aged_in aged_passed in
+      let more_aged = passed_more (discarded t) aged old.aged h.aged_in aged_passed in
       let occupied_is = occupied_next k x lt is in
       let now : new.held ≡ occupied s t (take k admitted) = omega (arith, held, h.bytes, occupied_is, of_sent.0, of_aged.0) in
       let taken_sent = ap (λ (n : ℕ). sum_by sent_size (take n sent)) sent_new ∙ of_sent.1 in
@@ -128,12 +128,12 @@ module _ (s : Settings) (admitted : List Item) (sent : List Sent) (aged : List A
   -- the same, in two steps
   pub step : (k t size : ℕ) (x : Item) (old mid new : Level) → k < length admitted → x ≡ get_or admitted k x → t ≡ came s x → size ≡ x.size → IsLevel s admitted sent aged k old
       → mid.held ≡ old.held - sum_by sent_size (take_while (ended t) (drop old.sent sent)) → mid.sent ≡ old.sent + prefix_len (ended t) (drop old.sent sent) → mid.aged ≡ old.aged
-      → new.held ≡ mid.held - sum_by aged_size (take_while (given_up t) (drop mid.aged aged)) → new.sent ≡ mid.sent → new.aged ≡ mid.aged + prefix_len (given_up t) (drop mid.aged aged)
+      → new.held ≡ mid.held - sum_by aged_size (take_while (discarded t) (drop mid.aged aged)) → new.sent ≡ mid.sent → new.aged ≡ mid.aged + prefix_len (discarded t) (drop mid.aged aged)
       → (new.held ≡ occupied s (came s x) (take k admitted)) × IsLevel s admitted sent aged (k + 1) (record { held = new.held + size; sent = new.sent; aged = new.aged })
   step k t size x old mid new lt is t_is size_is h held1 sent1 aged1 held2 sent2 aged2 =
       let same = ap (λ (u : ℕ). sum_by sent_size (take_while (ended u) (drop old.sent sent))) t_is in
-      let same_aged = ap (λ (n : ℕ). sum_by aged_size (take_while (given_up t) (drop n aged))) aged1 ∙ ap (λ (u : ℕ). sum_by aged_size (take_while (given_up u) (drop old.aged aged))) t_is in
-      let count_aged = ap (λ (n : ℕ). prefix_len (given_up t) (drop n aged)) aged1 ∙ ap (λ (u : ℕ). prefix_len (given_up u) (drop old.aged aged)) t_is in
+      let same_aged = ap (λ (n : ℕ). sum_by aged_size (take_while (discarded t) (drop n aged))) aged1 ∙ ap (λ (u : ℕ). sum_by aged_size (take_while (discarded u) (drop old.aged aged))) t_is in
+      let count_aged = ap (λ (n : ℕ). prefix_len (discarded t) (drop n aged)) aged1 ∙ ap (λ (u : ℕ). prefix_len (discarded u) (drop old.aged aged)) t_is in
       let count_sent = ap (λ (u : ℕ). prefix_len (ended u) (drop old.sent sent)) t_is in
       let both = let_go k x old new lt is h (omega (arith, held2, held1, same, same_aged)) (omega (arith, sent2, sent1, count_sent)) (omega (arith, aged2, aged1, count_aged)) in
       (both.0, subst (λ (n : ℕ). IsLevel s admitted sent aged (k + 1) (record { held = new.held + n; sent = new.sent; aged = new.aged })) (sym size_is) both.1)

@@ -5,13 +5,13 @@ use Rattle.std.proofs.lemmas.List.Elements.{All-contains}
 use Rattle.afdx_pcap.specs.Entry.{Entry}
 use Rattle.afdx_pcap.specs.Text.{capture_text}
 use Rattle.afdx_pcap.specs.Capture.{IsCapture}
-use Rattle.afdx_pcap.specs.ReadBack.{WrittenTextsReadBack}
+use Rattle.afdx_pcap.specs.Inner.ReadBack.{WrittenTextsReadBack}
 use Rattle.afdx_table.specs.declared.rows.PortRow.{PortRow}
 use Rattle.afdx_table.specs.Link.{Link, leads_to}
 use Rattle.afdx_table.specs.Content.{Content, port_row}
 use Rattle.afdx_table.specs.WellFormed.{IsWellFormed}
-use Rattle.afdx_table.specs.Found.{LinksAreFound}
-use Rattle.afdx_filter.specs.Exactly.{CleanExactly}
+use Rattle.afdx_table.specs.Inner.Found.{LinksAreFound}
+use Rattle.afdx_filter.specs.Inner.Exactly.{CleanExactly}
 use Rattle.afdx_load.specs.Sums.{load_of}
 use Rattle.afdx_load.specs.Bounds.{bounds_of}
 use Rattle.afdx_load.specs.Accepted.{IsAccepted}
@@ -28,7 +28,7 @@ use Rattle.afdx_wiring.specs.Rules.{Joins, GoesOn}
 use Rattle.afdx_network.specs.Way.{Node, Stage, IsStage, Step, Follows, IsWay, AreEnough, delayed}
 use Rattle.afdx_network.specs.Runs.{SwitchRun, Given}
 use Rattle.afdx_network.specs.Ways.{node_of, IsStageAt, GoesOver, IsWayFrom, IsWayIn}
-use Rattle.afdx_network.specs.Laws.{IsAcceptedRun}
+use Rattle.afdx_network.specs.Inner.Laws.{IsAcceptedRun}
 use Rattle.afdx_network.proofs.Found.{some_same, get_map, got_map, map_contains, all_at, ports_are_found, one_port}
 use Rattle.afdx_network.proofs.Rows.{wire_goes_there, rows_have, rows_on_have, row_is, same_bound}
 use Rattle.afdx_network.proofs.Lengths.{IsFound, found_row}

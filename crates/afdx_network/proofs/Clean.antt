@@ -9,11 +9,11 @@ use Rattle.afdx_frame.specs.Address.{constant_of, link_of}
 use Rattle.afdx_table.specs.Link.{Link}
 use Rattle.afdx_table.specs.Content.{Content, link_row}
 use Rattle.afdx_table.specs.WellFormed.{IsWellFormed}
-use Rattle.afdx_table.specs.Found.{LinksAreFound}
+use Rattle.afdx_table.specs.Inner.Found.{LinksAreFound}
 use Rattle.afdx_filter.specs.declared.outcome.Verdict.{Verdict}
 use Rattle.afdx_filter.specs.declared.outcome.Verdict.TheVariants.{Cut, Short, Long, Foreign, NoLink, WrongPort, TooBig, Clean}
 use Rattle.afdx_filter.specs.Verdict.{verdict_of}
-use Rattle.afdx_filter.specs.Exactly.{CleanExactly}
+use Rattle.afdx_filter.specs.Inner.Exactly.{CleanExactly}
 use Rattle.afdx_load.specs.Sums.{terms_of}
 use Rattle.afdx_core.specs.Rows.{says_clean}
 use Rattle.afdx_core.specs.Merge.{records_of}

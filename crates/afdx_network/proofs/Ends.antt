@@ -14,13 +14,13 @@ use Rattle.afdx_table.specs.WellFormed.{IsWellFormed}
 use Rattle.afdx_load.specs.Sums.{Sums, parts, is_high_priority, is_high, is_low, routed, sums_of, load_of}
 use Rattle.afdx_load.specs.Bounds.{high_bound, low_bound, bounds_of}
 use Rattle.afdx_load.specs.Accepted.{IsAccepted}
-use Rattle.afdx_load.specs.Laws.{AcceptedKeepsBounds}
+use Rattle.afdx_load.specs.Inner.Laws.{AcceptedKeepsBounds}
 use Rattle.afdx_isolation.specs.Table.{bound_of}
 use Rattle.afdx_wiring.specs.Net.{Network, Row, Back, rows_of, ingress, wire_to, bound_in, IsWayBack}
 use Rattle.afdx_network.specs.Way.{Stage, Step, last_of}
 use Rattle.afdx_network.specs.Runs.{SwitchRun, Given}
 use Rattle.afdx_network.specs.Ways.{node_of, IsStageAt, GoesOver, IsWayFrom, IsWayIn}
-use Rattle.afdx_network.specs.Laws.{IsAcceptedRun, EndsAt}
+use Rattle.afdx_network.specs.Inner.Laws.{IsAcceptedRun, EndsAt}
 use Rattle.afdx_network.proofs.Found.{contains_filter}
 use Rattle.afdx_network.proofs.Rows.{rows_have, same_bound}
 use Rattle.afdx_network.proofs.Agreement.{Ground, stage_by, end_by, table_at, formed_at, accepted_at, RowBefore, row_before, first_stage}

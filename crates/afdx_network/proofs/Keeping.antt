@@ -24,7 +24,7 @@ use Rattle.afdx_wiring.specs.declared.layout.Wire.{Wire}
 use Rattle.afdx_wiring.specs.Net.{Network, wire_to}
 use Rattle.afdx_network.specs.Runs.{Given}
 use Rattle.afdx_network.specs.Given.{AreSound, IsWired, IsWireFault, fault_of}
-use Rattle.afdx_network.specs.Sites.{Site, ComesIn, LeadsTo, IsSite, AreSites, IsPutIn, RunsOver, IsBrought, Agrees}
+use Rattle.afdx_network.specs.Inner.Sites.{Site, ComesIn, LeadsTo, IsSite, AreSites, IsPutIn, RunsOver, IsBrought, Agrees}
 use Rattle.afdx_network.proofs.Found.{some_same, equal, get_map, all_at, contains_head, contains_tail}
 use Rattle.afdx_network.proofs.Places.{members, got_set, map_stays}
 

@@ -18,13 +18,13 @@ use Rattle.afdx_session.specs.Texts.{Text}
 use Rattle.afdx_session.specs.Reading.{AreCaptures}
 use Rattle.afdx_session.specs.Output.{output_of, output_text}
 use Rattle.afdx_session.specs.Headline.{own_records, records_for}
-use Rattle.afdx_session.specs.Readable.{OutputsAreReadable}
+use Rattle.afdx_session.specs.Inner.Readable.{OutputsAreReadable}
 use Rattle.afdx_wiring.specs.declared.layout.End.{End}
 use Rattle.afdx_wiring.specs.declared.layout.Wire.{Wire}
 use Rattle.afdx_wiring.specs.Net.{Network, Row, Back, rows_of, wire_to, IsWayBack}
 use Rattle.afdx_network.specs.Way.{delayed}
 use Rattle.afdx_network.specs.Runs.{SwitchRun, Given}
-use Rattle.afdx_network.specs.Laws.{IsAcceptedRun, NoneComesLate, WaysAreShort}
+use Rattle.afdx_network.specs.Inner.Laws.{IsAcceptedRun, NoneComesLate, WaysAreShort}
 use Rattle.afdx_network.proofs.Lists.{all_weaken, all_map, all_append, all_kept, all_tested}
 use Rattle.afdx_network.proofs.Found.{same_number, equal, get_map, contains_at, map_contains}
 use Rattle.afdx_network.proofs.Rows.{wire_goes_there, rows_have}

@@ -12,8 +12,8 @@ use Rattle.afdx_table.specs.declared.rows.PortRow.{PortRow}
 use Rattle.afdx_table.specs.Link.{Link, leads_to}
 use Rattle.afdx_table.specs.Content.{Content}
 use Rattle.afdx_table.specs.WellFormed.{IsPort, IsWellFormed}
-use Rattle.afdx_table.specs.Found.{LinksAreFound}
-use Rattle.afdx_filter.specs.Exactly.{CleanExactly}
+use Rattle.afdx_table.specs.Inner.Found.{LinksAreFound}
+use Rattle.afdx_filter.specs.Inner.Exactly.{CleanExactly}
 use Rattle.afdx_load.specs.Sums.{Sums, load_of, terms_of, parts}
 use Rattle.afdx_load.specs.Bounds.{high_bound, low_bound}
 use Rattle.afdx_load.specs.Accepted.{Carries, IsAccepted}

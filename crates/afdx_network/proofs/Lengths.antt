@@ -10,7 +10,7 @@ use Rattle.std.proofs.lemmas.Map.Views.{Contains-from_any}
 use Rattle.afdx_table.specs.Link.{Link}
 use Rattle.afdx_table.specs.Content.{Content, link_row}
 use Rattle.afdx_table.specs.WellFormed.{IsWellFormed}
-use Rattle.afdx_table.specs.Found.{LinksAreFound}
+use Rattle.afdx_table.specs.Inner.Found.{LinksAreFound}
 use Rattle.afdx_wiring.specs.declared.layout.Wire.{Wire}
 use Rattle.afdx_wiring.specs.Net.{Network, Row, Back, row_at, rows_of, IsWayBack}
 use Rattle.afdx_network.proofs.Lists.{all_weaken, all_map, all_append}

@@ -8,7 +8,7 @@ use Rattle.afdx_units.specs.declared.line.Priority.TheVariants.{High, Low}
 use Rattle.afdx_table.specs.Link.{Link, leads_to}
 use Rattle.afdx_table.specs.Content.{Content, link_row}
 use Rattle.afdx_table.specs.WellFormed.{IsWellFormed}
-use Rattle.afdx_table.specs.Found.{LinksAreFound}
+use Rattle.afdx_table.specs.Inner.Found.{LinksAreFound}
 use Rattle.afdx_load.specs.Sums.{Sums}
 use Rattle.afdx_load.specs.Bounds.{bounds_of}
 use Rattle.afdx_isolation.specs.Table.{bound_of}

@@ -10,7 +10,7 @@ use Rattle.afdx_wiring.specs.declared.layout.Wire.{Wire}
 use Rattle.afdx_wiring.specs.declared.layout.End.{End}
 use Rattle.afdx_wiring.specs.Net.{Network, wire_to}
 use Rattle.afdx_network.specs.Runs.{Given, Brings, IsGiven, AreRuns, IsRunOf}
-use Rattle.afdx_network.specs.Sites.{Site, LeadsTo, AreSites, Agrees}
+use Rattle.afdx_network.specs.Inner.Sites.{Site, LeadsTo, AreSites, Agrees}
 use Rattle.afdx_network.proofs.Found.{some_same, get_map, got_map}
 use Rattle.afdx_network.proofs.Rest.{rest_is_agreement}
 

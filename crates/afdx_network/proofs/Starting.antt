@@ -6,7 +6,7 @@ use Rattle.afdx_session.specs.Texts.{Text, texts_of}
 use Rattle.afdx_wiring.specs.Net.{Network}
 use Rattle.afdx_network.specs.Runs.{Given}
 use Rattle.afdx_network.specs.Given.{given_of, AreOpen, AreGiven}
-use Rattle.afdx_network.specs.Sites.{Site, ComesIn, IsSite}
+use Rattle.afdx_network.specs.Inner.Sites.{Site, ComesIn, IsSite}
 use Rattle.afdx_network.proofs.Found.{some_same}
 use Rattle.afdx_network.proofs.Places.{got_push, got_seam}
 

@@ -14,7 +14,7 @@ use Rattle.afdx_wiring.specs.File.{is_end}
 use Rattle.afdx_wiring.specs.Net.{Network}
 use Rattle.afdx_network.specs.Runs.{Given}
 use Rattle.afdx_network.specs.Given.{IsWired}
-use Rattle.afdx_network.specs.Sites.{Site, IsSite, AreSites, IsPutIn, RunsOver, HasRun}
+use Rattle.afdx_network.specs.Inner.Sites.{Site, IsSite, AreSites, IsPutIn, RunsOver, HasRun}
 use Rattle.afdx_network.proofs.Found.{same_number, some_same}
 use Rattle.afdx_network.proofs.Keeping.{taken_stays, run_stays, sites_stay}
 

@@ -4,11 +4,11 @@ use Rattle.std.specs.List.{AllByRecursion, AllZip}
 use Rattle.afdx_units.specs.Line.{size_of, cost_of}
 use Rattle.afdx_pcap.specs.Entry.{Entry}
 use Rattle.afdx_table.specs.Link.{Link}
-use Rattle.afdx_table.specs.Found.{LinksAreFound}
-use Rattle.afdx_filter.specs.Exactly.{CleanExactly}
+use Rattle.afdx_table.specs.Inner.Found.{LinksAreFound}
+use Rattle.afdx_filter.specs.Inner.Exactly.{CleanExactly}
 use Rattle.afdx_account.specs.declared.frame.Frame.{Frame}
 use Rattle.afdx_account.specs.Policing.{Terms, terms_by, passed_of}
-use Rattle.afdx_account.specs.Laws.{PassedByTheirFrames}
+use Rattle.afdx_account.specs.Inner.Laws.{PassedByTheirFrames}
 use Rattle.afdx_load.specs.Sums.{terms_of}
 use Rattle.afdx_series.specs.declared.delays.Delays.{Delays}
 use Rattle.afdx_series.specs.Delay.{hop_of, joined, at_once, IsEnough}

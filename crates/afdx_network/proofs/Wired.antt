@@ -7,12 +7,12 @@ use Rattle.afdx_units.specs.Time.{last_second, IsInstant}
 use Rattle.afdx_pcap.specs.Entry.{Entry, IsWithinLimit, whole}
 use Rattle.afdx_pcap.specs.Text.{head_text, record_text, capture_text, header_text}
 use Rattle.afdx_pcap.specs.Capture.{IsCapture}
-use Rattle.afdx_pcap.specs.ReadBack.{WrittenTextsReadBack}
+use Rattle.afdx_pcap.specs.Inner.ReadBack.{WrittenTextsReadBack}
 use Rattle.afdx_table.specs.declared.rows.PortRow.{PortRow}
 use Rattle.afdx_table.specs.Link.{Link, leads_to}
 use Rattle.afdx_table.specs.WellFormed.{IsWellFormed}
-use Rattle.afdx_table.specs.Found.{LinksAreFound}
-use Rattle.afdx_filter.specs.Exactly.{CleanExactly}
+use Rattle.afdx_table.specs.Inner.Found.{LinksAreFound}
+use Rattle.afdx_filter.specs.Inner.Exactly.{CleanExactly}
 use Rattle.afdx_filter.specs.Verdict.{verdict_of}
 use Rattle.afdx_core.specs.Rows.{says_clean}
 use Rattle.afdx_load.specs.Accepted.{IsAccepted}

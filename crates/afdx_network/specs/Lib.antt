@@ -1,6 +1,5 @@
 pub mod Given
-pub mod Laws
+pub mod Inner
 pub mod Runs
-pub mod Sites
 pub mod Way
 pub mod Ways

@@ -6,7 +6,7 @@ ghost use Rattle.afdx_session.specs.Reading.{IsSound};
 ghost use Rattle.afdx_wiring.specs.Net.{wire_to};
 ghost use Rattle.afdx_network.specs.declared.fault.NetworkRunFault.TheVariants.{WrongPorts};
 ghost use Rattle.afdx_network.specs.Given.{given_of, is_open, AreOpen, IsGivenAt, AreGiven, AreSound, IsFirstUngiven, IsGivenFault, IsTextFault};
-ghost use Rattle.afdx_network.specs.Sites.{ComesIn};
+ghost use Rattle.afdx_network.specs.Inner.Sites.{ComesIn};
 
 use crate::fault::NetworkRunFault;
 use crate::sites::Texts;

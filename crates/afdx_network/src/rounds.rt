@@ -6,7 +6,7 @@ ghost use Rattle.afdx_load.specs.Accepted.{IsAccepted};
 ghost use Rattle.afdx_network.specs.Runs.{Given};
 ghost use Rattle.afdx_wiring.specs.Net.{Network as Net};
 ghost use Rattle.afdx_network.specs.Given.{given_of, AreGiven, AreSound, IsWired, IsWireFault};
-ghost use Rattle.afdx_network.specs.Sites.{AreSites, IsBrought, Agrees, HasRun};
+ghost use Rattle.afdx_network.specs.Inner.Sites.{AreSites, IsBrought, Agrees, HasRun};
 
 use crate::carrying::carry;
 use crate::fault::NetworkRunFault;

@@ -5,7 +5,7 @@ ghost use Rattle.afdx_table.specs.WellFormed.{IsWellFormed};
 ghost use Rattle.afdx_load.specs.Accepted.{IsAccepted};
 ghost use Rattle.afdx_session.specs.Outcome.{IsRefusal};
 ghost use Rattle.afdx_session.specs.Texts.{AreOfPorts, texts_of};
-ghost use Rattle.afdx_network.specs.Sites.{HasLeft, IsPutIn, RunsOver};
+ghost use Rattle.afdx_network.specs.Inner.Sites.{HasLeft, IsPutIn, RunsOver};
 
 use afdx_session::laws::accepted_runs_isolate;
 use afdx_session::{Outcome, Plan, RunFault};
@@ -25,7 +25,7 @@ pub(crate) struct Site {
 
 impl Model for Site {
     ghost use Rattle.afdx_session.specs.Texts.{texts_of};
-    ghost use Rattle.afdx_network.specs.Sites.{Site as Seen};
+    ghost use Rattle.afdx_network.specs.Inner.Sites.{Site as Seen};
 
     ghost Value = { Seen };
 

@@ -1,8 +1,8 @@
 pub mod Bytes
-pub mod Entry
-pub mod Number
 pub mod Capture
+pub mod Entry
 pub mod Fault
-pub mod Text
+pub mod Inner
+pub mod Number
 pub mod Reading
-pub mod ReadBack
+pub mod Text

@@ -7,7 +7,7 @@ ghost use Rattle.afdx_pcap.specs.Entry.{Entry, IsWithinLimit};
 ghost use Rattle.afdx_pcap.specs.Capture.{Holds, IsCapture};
 ghost use Rattle.afdx_pcap.specs.Fault.{IsFault, IsEarlyFault, last_stamp};
 ghost use Rattle.afdx_pcap.specs.Reading.{Answers, HasTaken, IsNext, IsSound, Taking, taking_on};
-ghost use Rattle.afdx_pcap.specs.ReadBack.{WrittenTextsReadBack};
+ghost use Rattle.afdx_pcap.specs.Inner.ReadBack.{WrittenTextsReadBack};
 ghost use Rattle.afdx_pcap.specs.Text.{record_text, capture_text, AreReadable};
 
 /// What is written is a capture of the records that were written, where these can be read.

@@ -15,8 +15,8 @@ use Rattle.afdx_port.specs.declared.Item.{Item}
 use Rattle.afdx_port.specs.declared.Sent.{Sent}
 use Rattle.afdx_port.specs.Service.{came, Event, sending, aging, instant, item_of, free_after, next, others, turn, is_high, is_urgent, service, before, sent_of, aged_of}
 use Rattle.afdx_port.specs.Admission.{occupied}
-use Rattle.afdx_port.specs.Progress.{left, is_due, on_line}
-use Rattle.afdx_port.specs.Work.{item_cost, work, NoneAged, HaveCome, high_work, high_cost}
+use Rattle.afdx_port.specs.Inner.Progress.{left, is_due, on_line}
+use Rattle.afdx_port.specs.Inner.Work.{item_cost, work, NoneAged, HaveCome, high_work, high_cost}
 use Rattle.afdx_port.proofs.Turns.{free_after-next, item_of-next, length-others, service-step, turn-lt, position-cons}
 use Rattle.afdx_port.proofs.Earlier.{before-step}
 use Rattle.afdx_port.proofs.Parts.{left-step, left-stop, left_again, left-append}

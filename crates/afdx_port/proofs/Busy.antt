@@ -9,9 +9,9 @@ use Rattle.std.proofs.lemmas.List.Elements.{All-push}
 use Rattle.afdx_port.specs.declared.Settings.{Settings}
 use Rattle.afdx_port.specs.declared.Item.{Item}
 use Rattle.afdx_port.specs.Service.{came, service, before, aged_of}
-use Rattle.afdx_port.specs.Progress.{left}
-use Rattle.afdx_port.specs.Order.{InOrder}
-use Rattle.afdx_port.specs.Work.{item_cost, work, NoneAged, HaveCome, WithinCurve}
+use Rattle.afdx_port.specs.Inner.Progress.{left}
+use Rattle.afdx_port.specs.Inner.Order.{InOrder}
+use Rattle.afdx_port.specs.Inner.Work.{item_cost, work, NoneAged, HaveCome, WithinCurve}
 use Rattle.afdx_port.proofs.Earlier.{earlier_events}
 use Rattle.afdx_port.proofs.Parts.{parts}
 use Rattle.afdx_port.proofs.Steps.{aged_of-append}

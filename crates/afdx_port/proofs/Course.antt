@@ -9,8 +9,8 @@ use Rattle.afdx_units.specs.Line.{cost_of}
 use Rattle.afdx_port.specs.declared.Settings.{Settings}
 use Rattle.afdx_port.specs.declared.Item.{Item}
 use Rattle.afdx_port.specs.Service.{free_after, fate, before}
-use Rattle.afdx_port.specs.Progress.{LineState}
-use Rattle.afdx_port.specs.Order.{in_line}
+use Rattle.afdx_port.specs.Inner.Progress.{LineState}
+use Rattle.afdx_port.specs.Inner.Order.{in_line}
 use Rattle.afdx_port.specs.Course.{next_in_line, after_next, rest_in_line, first_start, starts_before}
 use Rattle.afdx_port.proofs.Choices.{below, above}
 use Rattle.afdx_port.proofs.Turns.{instant-fate, free_after-fate}

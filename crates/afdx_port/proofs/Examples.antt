@@ -21,8 +21,8 @@ item number stamp size priority = record { number = number; link = 1; stamp = st
 ends : Settings → List Item → List (ℕ × ℕ)
 ends s feed = map (λ (x : Sent). (x.item.number, x.end)) (sent_of (service s 0 (admitted s feed)))
 
-given_up : Settings → List Item → List (ℕ × ℕ)
-given_up s feed = map (λ (x : Aged). (x.item.number, x.at)) (aged_of (service s 0 (admitted s feed)))
+discarded : Settings → List Item → List (ℕ × ℕ)
+discarded s feed = map (λ (x : Aged). (x.item.number, x.at)) (aged_of (service s 0 (admitted s feed)))
 
 -- a high frame overtakes a low one that came with it, but not the one that is being sent
 high_overtakes : ends (settings 100000 500000000) (item 1 0 1518 Low ∷ item 2 1 64 Low ∷ item 3 1 64 High ∷ []) ≡ (1, 123040) ∷ (3, 129760) ∷ (2, 136480) ∷ []
@@ -47,8 +47,8 @@ buffer_beside_an_aged_item : ends (settings 1581 100000) (item 1 0 1517 Low ∷ 
 unfolding ends settings item reach next others
 buffer_beside_an_aged_item = refl
 
-aged_item_there : given_up (settings 1581 100000) (item 1 0 1517 Low ∷ item 2 0 64 Low ∷ item 3 122960 1518 Low ∷ []) ≡ (2, 122960) ∷ []
-unfolding given_up settings item reach next others
+aged_item_there : discarded (settings 1581 100000) (item 1 0 1517 Low ∷ item 2 0 64 Low ∷ item 3 122960 1518 Low ∷ []) ≡ (2, 122960) ∷ []
+unfolding discarded settings item reach next others
 aged_item_there = refl
 
 buffer_after_an_aged_item : ends (settings 1581 100000) (item 1 0 1517 Low ∷ item 2 0 64 Low ∷ item 3 122961 1518 Low ∷ []) ≡ (1, 122960) ∷ (3, 246001) ∷ []
@@ -60,8 +60,8 @@ age_at_the_edge : ends (settings 100000 100000) (item 1 0 1518 Low ∷ item 2 0 
 unfolding ends settings item reach next others
 age_at_the_edge = refl
 
-age_past_the_edge : given_up (settings 100000 100000) (item 1 0 1518 Low ∷ item 2 0 64 Low ∷ item 3 23040 64 Low ∷ []) ≡ (2, 123040) ∷ []
-unfolding given_up settings item reach next others
+age_past_the_edge : discarded (settings 100000 100000) (item 1 0 1518 Low ∷ item 2 0 64 Low ∷ item 3 23040 64 Low ∷ []) ≡ (2, 123040) ∷ []
+unfolding discarded settings item reach next others
 age_past_the_edge = refl
 
 -- a buffer of 64 holds one frame of 64

@@ -12,9 +12,9 @@ use Rattle.afdx_port.specs.declared.Sent.{Sent}
 use Rattle.afdx_port.specs.declared.Aged.{Aged}
 use Rattle.afdx_port.specs.Service.{came, Event, sending, aging, item_of, free_after, next, others, service, before, sent_of, aged_of}
 use Rattle.afdx_port.specs.Admission.{is_gone, occupied}
-use Rattle.afdx_port.specs.Order.{InOrder}
-use Rattle.afdx_port.specs.Progress.{left}
-use Rattle.afdx_port.specs.Gone.{gone}
+use Rattle.afdx_port.specs.Inner.Order.{InOrder}
+use Rattle.afdx_port.specs.Inner.Progress.{left}
+use Rattle.afdx_port.specs.Inner.Gone.{gone}
 use Rattle.afdx_port.proofs.Turns.{free_after-next, service-step, by_events}
 use Rattle.afdx_port.proofs.Earlier.{earlier_events}
 use Rattle.afdx_port.proofs.Parts.{split}

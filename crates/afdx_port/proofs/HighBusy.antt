@@ -8,9 +8,9 @@ use Rattle.std.proofs.Math.Nat.{mul-le-mul_left, mul-le-mul_right}
 use Rattle.afdx_port.specs.declared.Settings.{Settings}
 use Rattle.afdx_port.specs.declared.Item.{Item}
 use Rattle.afdx_port.specs.Service.{came, aged_of, is_high}
-use Rattle.afdx_port.specs.Progress.{LineState, left}
-use Rattle.afdx_port.specs.Order.{InOrder}
-use Rattle.afdx_port.specs.Work.{item_cost, high_cost, high_work, NoneAged, HaveCome, HighWithinCurve}
+use Rattle.afdx_port.specs.Inner.Progress.{LineState, left}
+use Rattle.afdx_port.specs.Inner.Order.{InOrder}
+use Rattle.afdx_port.specs.Inner.Work.{item_cost, high_cost, high_work, NoneAged, HaveCome, HighWithinCurve}
 use Rattle.afdx_port.proofs.Earlier.{earlier_events}
 use Rattle.afdx_port.proofs.Parts.{left-append}
 use Rattle.afdx_port.proofs.Bounds.{high_sum, high_work_falls}

@@ -10,8 +10,8 @@ use Rattle.std.proofs.lemmas.List.Quantifiers.{position-Some}
 use Rattle.afdx_port.specs.declared.Settings.{Settings}
 use Rattle.afdx_port.specs.declared.Item.{Item}
 use Rattle.afdx_port.specs.Service.{came, free_after, fate, next, others, turn, is_high, is_urgent, service, in_turn}
-use Rattle.afdx_port.specs.Progress.{start_of}
-use Rattle.afdx_port.specs.Order.{in_line, highs, lows, line_up, HighTurn, LowTurn}
+use Rattle.afdx_port.specs.Inner.Progress.{start_of}
+use Rattle.afdx_port.specs.Inner.Order.{in_line, highs, lows, line_up, HighTurn, LowTurn}
 use Rattle.afdx_port.proofs.Turns.{length-others, service-step, position_none, free_after-next}
 use Rattle.afdx_port.proofs.Working.{others_all}
 use Rattle.afdx_port.proofs.Bounds.{found}

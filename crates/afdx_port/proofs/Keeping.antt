@@ -11,14 +11,14 @@ use Rattle.afdx_port.specs.declared.line.Line.{Line}
 use Rattle.afdx_port.specs.declared.port.Port.TheInside.{Inside}
 use Rattle.afdx_port.specs.Service.{reach, came, service, before, sent_of, aged_of}
 use Rattle.afdx_port.specs.Admission.{fits}
-use Rattle.afdx_port.specs.Progress.{LineState, left, on_line}
-use Rattle.afdx_port.specs.Order.{in_line, line_up}
-use Rattle.afdx_port.specs.Work.{HaveCome}
+use Rattle.afdx_port.specs.Inner.Progress.{LineState, left, on_line}
+use Rattle.afdx_port.specs.Inner.Order.{in_line, line_up}
+use Rattle.afdx_port.specs.Inner.Work.{HaveCome}
 use Rattle.afdx_port.specs.Course.{rest_in_line, reached, first_start, line_at}
-use Rattle.afdx_port.specs.Queued.{queued}
-use Rattle.afdx_port.specs.Sound.{IsSound, HasRoom, queue_of, state_of}
+use Rattle.afdx_port.specs.Inner.Queued.{queued}
+use Rattle.afdx_port.specs.Inner.Sound.{IsSound, HasRoom, queue_of, state_of}
 use Rattle.afdx_port.specs.Content.{Content, done, due}
-use Rattle.afdx_port.specs.Kept.{IsKept, content_of}
+use Rattle.afdx_port.specs.Kept.{IsKeptPort, content_of}
 use Rattle.afdx_port.proofs.Earlier.{earlier_events}
 use Rattle.afdx_port.proofs.Room.{occupied_is}
 use Rattle.afdx_port.proofs.Steps.{sent_of-append, aged_of-append}
@@ -30,7 +30,7 @@ use Rattle.afdx_port.proofs.AtLine.{line_is, fresh_line, line_goes_on, line_join
 pub kept_fresh : {Z : Type 0} (s : Settings) (line : Line Z) (admitted : Vec Item Z) → line.settings ≡ s
     → IsSound line → HasRoom 0 line → vec_len admitted + 0 ≤ vec_capacity admitted → line.sent.items ≡ [] → line.aged.items ≡ [] → state_of line ≡ record { free = reach s 0; waiting = [] }
     → admitted.items ≡ []
-    → IsKept (record { line = line; admitted = admitted; horizon = 0; finished = false; room = 0 })
+    → IsKeptPort (record { line = line; admitted = admitted; horizon = 0; finished = false; room = 0 })
 kept_fresh s line admitted settings sound has fits sent aged state none = record {
   sound = sound;
   room = has;
@@ -43,7 +43,7 @@ kept_fresh s line admitted settings sound has fits sent aged state none = record
 }
 
 -- all events are those carried out, and then those of the line
-parted : {Z : Type 0} (p : Inside Z) → IsKept p → p.finished ≡ false → let s = p.line.settings in service s 0 p.admitted.items ≡ before (reach s p.horizon) (service s 0 p.admitted.items)
+parted : {Z : Type 0} (p : Inside Z) → IsKeptPort p → p.finished ≡ false → let s = p.line.settings in service s 0 p.admitted.items ≡ before (reach s p.horizon) (service s 0 p.admitted.items)
     ++ in_line s p.line.ready (queue_of p.line)
 parted p kept open' =
     let s = p.line.settings in
@@ -52,13 +52,13 @@ parted p kept open' =
     events_follow s from p.admitted.items kept.come ∙ ap (λ (q : LineState). before from all ++ in_line s q.free q.waiting) (sym (kept.state open'))
 
 -- the line served all before the instant that `to` reaches
-pub kept_before : {Z : Type 0} (p : Inside Z) (line : Line Z) (to : ℕ) → IsKept p → p.finished ≡ false → p.horizon ≤ to
+pub kept_before : {Z : Type 0} (p : Inside Z) (line : Line Z) (to : ℕ) → IsKeptPort p → p.finished ≡ false → p.horizon ≤ to
     → IsSound line → ((room : ℕ) → HasRoom room p.line → HasRoom room line) → line.settings ≡ p.line.settings
     → line.sent.items ≡ p.line.sent.items ++ sent_of (before (reach p.line.settings to) (in_line p.line.settings p.line.ready (queue_of p.line)))
     → line.aged.items ≡ p.line.aged.items ++ aged_of (before (reach p.line.settings to) (in_line p.line.settings p.line.ready (queue_of p.line)))
     → state_of line ≡ reached (reach p.line.settings to) (rest_in_line p.line.settings (reach p.line.settings to) p.line.ready (queue_of p.line))
     → line.ready < max stamp_end (max p.line.ready (reach p.line.settings to) + 1)
-    → IsKept (record { line = line; admitted = p.admitted; horizon = to; finished = p.finished; room = p.room })
+    → IsKeptPort (record { line = line; admitted = p.admitted; horizon = to; finished = p.finished; room = p.room })
 kept_before p line to kept open' le sound room settings sent aged state start =
     let s = p.line.settings in
     let items = p.admitted.items in
@@ -84,11 +84,11 @@ kept_before p line to kept open' le sound room settings sent aged state start =
     }
 
 -- the line served all
-pub kept_all : {Z : Type 0} (p : Inside Z) (line : Line Z) → IsKept p → p.finished ≡ false
+pub kept_all : {Z : Type 0} (p : Inside Z) (line : Line Z) → IsKeptPort p → p.finished ≡ false
     → IsSound line → ((room : ℕ) → HasRoom room p.line → HasRoom room line) → line.settings ≡ p.line.settings
     → line.sent.items ≡ p.line.sent.items ++ sent_of (in_line p.line.settings p.line.ready (queue_of p.line))
     → line.aged.items ≡ p.line.aged.items ++ aged_of (in_line p.line.settings p.line.ready (queue_of p.line))
-    → IsKept (record { line = line; admitted = p.admitted; horizon = p.horizon; finished = true; room = p.room })
+    → IsKeptPort (record { line = line; admitted = p.admitted; horizon = p.horizon; finished = true; room = p.room })
 kept_all p line kept open' sound room settings sent aged =
     let s = p.line.settings in
     let items = p.admitted.items in
@@ -108,10 +108,10 @@ kept_all p line kept open' sound room settings sent aged =
     }
 
 -- more room was made
-pub kept_reserved : {Z : Type 0} (p : Inside Z) (line : Line Z) (admitted : Vec Item Z) (room : ℕ) → IsKept p
+pub kept_reserved : {Z : Type 0} (p : Inside Z) (line : Line Z) (admitted : Vec Item Z) (room : ℕ) → IsKeptPort p
     → IsSound line → HasRoom room line → line.settings ≡ p.line.settings → line.sent.items ≡ p.line.sent.items → line.aged.items ≡ p.line.aged.items → state_of line ≡ state_of p.line
     → admitted.items ≡ p.admitted.items → vec_len admitted + room ≤ vec_capacity admitted
-    → IsKept (record { line = line; admitted = admitted; horizon = p.horizon; finished = p.finished; room = room })
+    → IsKeptPort (record { line = line; admitted = admitted; horizon = p.horizon; finished = p.finished; room = room })
 kept_reserved p line admitted room kept sound has settings sent aged state same fits =
     record {
       sound = sound;
@@ -125,12 +125,12 @@ kept_reserved p line admitted room kept sound has settings sent aged state same 
     }
 
 -- an item that came at the horizon joined
-pub kept_queued : {Z : Type 0} (p : Inside Z) (line : Line Z) (admitted : Vec Item Z) (x : Item) (room : ℕ) → IsKept p → p.finished ≡ false → p.horizon ≡ x.stamp → room + 1 ≡ p.room
+pub kept_queued : {Z : Type 0} (p : Inside Z) (line : Line Z) (admitted : Vec Item Z) (x : Item) (room : ℕ) → IsKeptPort p → p.finished ≡ false → p.horizon ≡ x.stamp → room + 1 ≡ p.room
     → IsSound line → ((room : ℕ) → HasRoom (room + 1) p.line → HasRoom room line) → line.settings ≡ p.line.settings
     → state_of line ≡ record { free = p.line.ready; waiting = queued x p.line.waiting }
     → line.sent.items ≡ p.line.sent.items → line.aged.items ≡ p.line.aged.items
     → admitted.items ≡ p.admitted.items ++ x ∷ [] → vec_len admitted ≡ vec_len p.admitted + 1 → vec_capacity admitted ≡ vec_capacity p.admitted
-    → IsKept (record { line = line; admitted = admitted; horizon = p.horizon; finished = p.finished; room = room })
+    → IsKeptPort (record { line = line; admitted = admitted; horizon = p.horizon; finished = p.finished; room = room })
 kept_queued {Z} p line admitted x room kept open' at less sound has settings state sent aged items' len' cap' =
     let s = p.line.settings in
     let at_once = ap (reach s) at in
@@ -158,7 +158,7 @@ kept_queued {Z} p line admitted x room kept open' at less sound has settings sta
     }
 
 -- the sum of what is on the line and what waits tells whether x fits
-pub fits_kept : {Z : Type 0} (p : Inside Z) (c : Content) (x : Item) → IsKept p → content_of p ≡ c → c.finished ≡ false → c.horizon ≡ x.stamp
+pub fits_kept : {Z : Type 0} (p : Inside Z) (c : Content) (x : Item) → IsKeptPort p → content_of p ≡ c → c.finished ≡ false → c.horizon ≡ x.stamp
     → nat_le (x.size + (on_line (came p.line.settings x) p.line.sent.items + sum_by (λ (other : Item). other.size) (queue_of p.line))) p.line.settings.buffer ≡ fits c.settings c.admitted x
 fits_kept p c x kept view is_open is_at =
     let open' : p.finished ≡ false = ap (λ (v : Content). v.finished) view ∙ is_open in
@@ -176,7 +176,7 @@ fits_kept p c x kept view is_open is_at =
     ap (λ n. nat_le (x.size + n) z.buffer) (sum ∙ all) ∙ ap (λ (v : Content). fits v.settings v.admitted x) view
 
 -- what is due
-pub due_open : {Z : Type 0} (p : Inside Z) → IsKept p → p.finished ≡ false → first_start p.line.ready (queue_of p.line) ≡ due (content_of p)
+pub due_open : {Z : Type 0} (p : Inside Z) → IsKeptPort p → p.finished ≡ false → first_start p.line.ready (queue_of p.line) ≡ due (content_of p)
 due_open p kept open' =
     let s = p.line.settings in
     let from = reach s p.horizon in

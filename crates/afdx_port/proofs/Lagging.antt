@@ -6,7 +6,7 @@ use Rattle.afdx_port.specs.declared.Settings.{Settings}
 use Rattle.afdx_port.specs.declared.Item.{Item}
 use Rattle.afdx_port.specs.Service.{Event, instant, reach, came, service, before}
 use Rattle.afdx_port.specs.Admission.{fits}
-use Rattle.afdx_port.specs.Progress.{left, is_due}
+use Rattle.afdx_port.specs.Inner.Progress.{left, is_due}
 use Rattle.afdx_port.specs.Course.{starts_before}
 use Rattle.afdx_port.specs.Content.{Content, done, due, offered, advanced, closed}
 use Rattle.afdx_port.specs.Lagging.{has_due}

@@ -6,7 +6,7 @@ use Rattle.std.specs.List.{AllByRecursion}
 use Rattle.afdx_port.specs.declared.Settings.{Settings}
 use Rattle.afdx_port.specs.declared.Item.{Item}
 use Rattle.afdx_port.specs.Service.{Event, reach, came, service, before}
-use Rattle.afdx_port.specs.Order.{InOrder}
+use Rattle.afdx_port.specs.Inner.Order.{InOrder}
 use Rattle.afdx_port.specs.Content.{done}
 use Rattle.afdx_port.proofs.Parts.{before_on}
 

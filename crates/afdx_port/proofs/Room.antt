@@ -14,7 +14,7 @@ use Rattle.afdx_port.specs.declared.Sent.{Sent}
 use Rattle.afdx_port.specs.declared.Aged.{Aged}
 use Rattle.afdx_port.specs.Service.{came, Event, sending, aging, instant, item_of, free_after, fate, next, others, turn, serve, service, before, sent_of}
 use Rattle.afdx_port.specs.Admission.{is_gone, occupied}
-use Rattle.afdx_port.specs.Progress.{left, on_line}
+use Rattle.afdx_port.specs.Inner.Progress.{left, on_line}
 use Rattle.afdx_port.proofs.Turns.{instant-next, free_after-next, item_of-next, turn-lt, service-step, by_events, by_steps}
 use Rattle.afdx_port.proofs.Earlier.{late, late_start, before-step}
 use Rattle.afdx_port.proofs.Parts.{left-step, left-stop, split}

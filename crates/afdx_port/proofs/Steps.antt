@@ -7,7 +7,7 @@ use Rattle.afdx_port.specs.declared.Settings.{Settings}
 use Rattle.afdx_port.specs.declared.Item.{Item}
 use Rattle.afdx_port.specs.declared.Sent.{Sent}
 use Rattle.afdx_port.specs.Service.{Event, sending, aging, fate, sent_of, aged_of}
-use Rattle.afdx_port.specs.Progress.{on_line}
+use Rattle.afdx_port.specs.Inner.Progress.{on_line}
 use Rattle.afdx_port.proofs.Choices.{choose_yes, choose_no}
 
 pub fate_aged : (s : Settings) (b : ℕ) (x : Item) → s.max_delay < b - x.stamp → fate s b x ≡ aging (record { item = x; at = b })

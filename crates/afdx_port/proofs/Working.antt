@@ -9,8 +9,8 @@ use Rattle.afdx_units.specs.Line.{cost_of}
 use Rattle.afdx_port.specs.declared.Settings.{Settings}
 use Rattle.afdx_port.specs.declared.Item.{Item}
 use Rattle.afdx_port.specs.Service.{came, Event, sending, aging, instant, item_of, free_after, fate, next, others, turn, service, before, aged_of}
-use Rattle.afdx_port.specs.Progress.{LineState, left, is_due}
-use Rattle.afdx_port.specs.Work.{item_cost, rest_at, work, taken_by, line_time, NoneAged, HaveCome}
+use Rattle.afdx_port.specs.Inner.Progress.{LineState, left, is_due}
+use Rattle.afdx_port.specs.Inner.Work.{item_cost, rest_at, work, taken_by, line_time, NoneAged, HaveCome}
 use Rattle.afdx_port.proofs.Choices.{above, not_below}
 use Rattle.afdx_port.proofs.Turns.{instant-next, free_after-next, item_of-next, length-others, service-step, by_steps}
 use Rattle.afdx_port.proofs.Earlier.{late, late_start, before-step}

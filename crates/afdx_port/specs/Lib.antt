@@ -1,14 +1,7 @@
-pub mod Service
-pub mod Events
 pub mod Admission
-pub mod Gone
 pub mod Content
-pub mod Progress
-pub mod Order
-pub mod Work
 pub mod Course
-pub mod Queued
-pub mod Sound
-pub mod Lagging
-pub mod Shift
+pub mod Inner
 pub mod Kept
+pub mod Lagging
+pub mod Service

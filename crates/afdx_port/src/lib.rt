@@ -14,8 +14,8 @@
 
 ghost use Rattle.std.specs.Prelude.{◌≡◌, ◌≤◌};
 ghost use Rattle.afdx_port.specs.Service.{reach, came, fate};
-ghost use Rattle.afdx_port.specs.Progress.{event_of};
-ghost use Rattle.afdx_port.specs.Sound.{IsSmall};
+ghost use Rattle.afdx_port.specs.Inner.Progress.{event_of};
+ghost use Rattle.afdx_port.specs.Inner.Sound.{IsSmall};
 
 use afdx_units::{Priority, Speed, Stamp, cost};
 

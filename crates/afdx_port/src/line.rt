@@ -4,11 +4,11 @@ ghost use Rattle.std.specs.Prelude.{◌≡◌, ℕ, ◌+◌, ◌<◌, ◌≤◌,
 ghost use Rattle.afdx_units.specs.Time.{stamp_end};
 ghost use Rattle.std.specs.Vec.{vec_capacity};
 ghost use Rattle.afdx_port.specs.Service.{reach, came, before, sent_of, aged_of};
-ghost use Rattle.afdx_port.specs.Order.{in_line};
-ghost use Rattle.afdx_port.specs.Progress.{on_line};
+ghost use Rattle.afdx_port.specs.Inner.Order.{in_line};
+ghost use Rattle.afdx_port.specs.Inner.Progress.{on_line};
 ghost use Rattle.afdx_port.specs.Course.{next_in_line, after_next, rest_in_line, reached, first_start, starts_before};
-ghost use Rattle.afdx_port.specs.Queued.{line_of, count_of, queued};
-ghost use Rattle.afdx_port.specs.Sound.{IsSound, IsSmall, HasRoom, queue_of, state_of};
+ghost use Rattle.afdx_port.specs.Inner.Queued.{line_of, count_of, queued};
+ghost use Rattle.afdx_port.specs.Inner.Sound.{IsSound, IsSmall, HasRoom, queue_of, state_of};
 
 use crate::queues::Queues;
 use crate::{Aged, Item, Sent, Settings};

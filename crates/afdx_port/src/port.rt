@@ -4,7 +4,7 @@ ghost use Rattle.std.specs.Prelude.{◌≡◌, ℕ, ◌+◌, ◌<◌, ◌≤◌,
 ghost use Rattle.afdx_units.specs.Time.{last_second};
 ghost use Rattle.afdx_port.specs.Service.{sent_of, aged_of};
 ghost use Rattle.afdx_port.specs.Admission.{fits};
-ghost use Rattle.afdx_port.specs.Sound.{IsSmall};
+ghost use Rattle.afdx_port.specs.Inner.Sound.{IsSmall};
 ghost use Rattle.afdx_port.specs.Content.{Content, PortValue, done, due, fresh, answer, offered, advanced, closed};
 ghost use Rattle.afdx_port.specs.Lagging.{has_due};
 
@@ -38,11 +38,11 @@ impl<A: Allocator> Model for Port<A> {
 
     ghost Value = { PortValue };
 
-    ghost use Rattle.afdx_port.specs.Kept.{value_of, IsKept};
+    ghost use Rattle.afdx_port.specs.Kept.{value_of, IsKeptPort};
 
     ghost view = { value_of };
 
-    ghost invariant = { IsKept };
+    ghost invariant = { IsKeptPort };
 }
 
 impl<A: Allocator + Copy> Port<A> {

@@ -8,7 +8,7 @@ use Rattle.afdx_words.specs.declared.request.NetworkRequest.TheVariants as ask
 use Rattle.afdx_serve.specs.declared.network_failure.NetworkFailure.TheVariants as network
 use Rattle.afdx_serve.specs.declared.failure.Failure.{Failure}
 use Rattle.afdx_serve.specs.declared.failure.Failure.TheVariants as failure
-use Rattle.afdx_serve.specs.Failures.{wiring_failure}
+use Rattle.afdx_serve.specs.Inner.Failures.{wiring_failure}
 use Rattle.afdx_serve.specs.Files.{Files, DeviceLog, KeepsFiles}
 use Rattle.afdx_serve.specs.Lines.{IsMade}
 use Rattle.afdx_serve.specs.Networks.{FailsToGetNetwork}

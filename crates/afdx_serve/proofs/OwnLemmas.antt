@@ -10,7 +10,7 @@ use Rattle.afdx_filter.specs.declared.outcome.Verdict.{Verdict}
 use Rattle.afdx_filter.specs.declared.outcome.Verdict.TheVariants.{Cut, Short, Long, Foreign, NoLink, WrongPort, TooBig, Clean}
 use Rattle.afdx_filter.specs.Verdict.{link_verdict, verdict_of}
 use Rattle.afdx_serve.specs.Own.{constant}
-use Rattle.afdx_serve.specs.OwnClean.{OwnFramesAreClean}
+use Rattle.afdx_serve.specs.Inner.OwnClean.{OwnFramesAreClean}
 
 -- the verdict by its tests, on a frame that comes in at the link's port
 abbrev verdict_by : Bool → Bool → Bool → Bool → Bool → Bool → ℕ → Verdict

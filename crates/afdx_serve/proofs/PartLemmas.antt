@@ -16,10 +16,10 @@ use Rattle.afdx_pcap.specs.Reading as reading
 use Rattle.afdx_pcap.specs.Text.{capture_text, record_text}
 use Rattle.afdx_words.specs.declared.link.Alone.{Alone}
 use Rattle.afdx_serve.specs.Own.{is_own}
-use Rattle.afdx_serve.specs.Offer.{IsOffered}
+use Rattle.afdx_serve.specs.Inner.Offer.{IsOffered}
 use Rattle.afdx_serve.specs.Answer.{IsAnswer, frame_of, terms_of, passed_of_link}
-use Rattle.afdx_serve.specs.Ground.{Ground}
-use Rattle.afdx_serve.specs.Output.{AppendsFront}
+use Rattle.afdx_serve.specs.Inner.Ground.{Ground}
+use Rattle.afdx_serve.specs.Output.{AppendsPrefix}
 use Rattle.afdx_serve.proofs.Progress.{Polices, one_further, all_policed}
 
 -- a capture that is lent has no fault
@@ -31,15 +31,15 @@ no_fault not_both bytes n rs fault whole told memory =
 -- ---- a text of which a prefix was written
 
 -- after a text that was written a prefix of the next one is
-pub AppendsFront-after : (a b c : Option (List ℕ)) (written next : List ℕ) → Appends a b written → AppendsFront b c next → AppendsFront a c (written ++ next)
-AppendsFront-after a b c written next before h =
+pub AppendsPrefix-after : (a b c : Option (List ℕ)) (written next : List ℕ) → Appends a b written → AppendsPrefix b c next → AppendsPrefix a c (written ++ next)
+AppendsPrefix-after a b c written next before h =
     let front = h.0 in
     let rest = h.1 in
     (written ++ front, rest, ap (λ (x : List ℕ). written ++ x) h.2 ∙ sym (append_assoc written front rest), Appends-trans a b c written front before h.3)
 
 -- and it is a prefix of a longer text
-pub AppendsFront-longer : (a c : Option (List ℕ)) (text more : List ℕ) → AppendsFront a c text → AppendsFront a c (text ++ more)
-AppendsFront-longer a c text more h =
+pub AppendsPrefix-longer : (a c : Option (List ℕ)) (text more : List ℕ) → AppendsPrefix a c text → AppendsPrefix a c (text ++ more)
+AppendsPrefix-longer a c text more h =
     (h.0, h.1 ++ more, ap (λ (x : List ℕ). x ++ more) h.2 ∙ append_assoc h.0 h.1 more, h.3)
 
 -- ---- the answer to the whole capture begins with that to its first frames
@@ -128,19 +128,19 @@ module _ (g : Ground) (link : Alone) (bytes : List ℕ) (frames later : Reading)
       }
 
   -- or a prefix of the answer was written
-  pub stopped : TakenBegin → (c : Option (List ℕ)) (all : List Entry) → passes ≡ true → IsCapture bytes all → AppendsFront b c (part ++ record_text r)
-      → (text : List ℕ) × IsAnswer link bytes text × AppendsFront a c text
+  pub stopped : TakenBegin → (c : Option (List ℕ)) (all : List Entry) → passes ≡ true → IsCapture bytes all → AppendsPrefix b c (part ++ record_text r)
+      → (text : List ℕ) × IsAnswer link bytes text × AppendsPrefix a c text
   stopped begin c all passed whole front =
       let text = w.written ++ (part ++ record_text r) in
       let policed = with_frame text (rw passed (sym (append_assoc w.written part (record_text r)))) in
       let answer = whole_answer g begin link bytes (taken_in later) new text all whole policed in
-      (text ++ answer.0, answer.1, AppendsFront-longer a c text answer.0 (AppendsFront-after a b c w.written (part ++ record_text r) w.appended front))
+      (text ++ answer.0, answer.1, AppendsPrefix-longer a c text answer.0 (AppendsPrefix-after a b c w.written (part ++ record_text r) w.appended front))
 
 -- at the end all of the answer was written, or a prefix of it
 pub all_written : {E : Type 0} (g : Ground) (link : Alone) (bytes : List ℕ) (frames : Reading) (account : ByteAccount) (a b c : Option (List ℕ)) (part : List ℕ) (result : Result (Unit {0}) E)
-    → Writes link bytes frames account a b part → IsSound frames.bytes frames.given true → OnOk result (Appends b c part) → AppendsFront b c part
-    → MatchResult result (λ _. (text : List ℕ) × IsAnswer link bytes text × Appends a c text) (λ _. (text : List ℕ) × IsAnswer link bytes text × AppendsFront a c text)
+    → Writes link bytes frames account a b part → IsSound frames.bytes frames.given true → OnOk result (Appends b c part) → AppendsPrefix b c part
+    → MatchResult result (λ _. (text : List ℕ) × IsAnswer link bytes text × Appends a c text) (λ _. (text : List ℕ) × IsAnswer link bytes text × AppendsPrefix a c text)
 all_written g link bytes frames account a b c part (Ok x) w sound all front =
     (w.written ++ part, all_policed g link bytes (taken_in frames) account (w.written ++ part) w.policed sound, Appends-trans a b c w.written part w.appended all)
 all_written g link bytes frames account a b c part (Err e) w sound all front =
-    (w.written ++ part, all_policed g link bytes (taken_in frames) account (w.written ++ part) w.policed sound, AppendsFront-after a b c w.written part w.appended front)
+    (w.written ++ part, all_policed g link bytes (taken_in frames) account (w.written ++ part) w.policed sound, AppendsPrefix-after a b c w.written part w.appended front)

@@ -18,9 +18,9 @@ use Rattle.afdx_pcap.specs.Text.{capture_text, record_text}
 use Rattle.afdx_words.specs.declared.link.Alone.{Alone}
 use Rattle.afdx_serve.specs.Own.{is_own}
 use Rattle.afdx_serve.specs.Faults.{IsFaultOf, fault_of}
-use Rattle.afdx_serve.specs.Offer.{IsOffered}
+use Rattle.afdx_serve.specs.Inner.Offer.{IsOffered}
 use Rattle.afdx_serve.specs.Answer.{IsAnswer, frame_of, terms_of, passed_of_link}
-use Rattle.afdx_serve.specs.Ground.{Ground}
+use Rattle.afdx_serve.specs.Inner.Ground.{Ground}
 
 abbrev pub own_frames : Alone → List Entry → List Frame
 own_frames link seen = map frame_of (filter (is_own link) seen)

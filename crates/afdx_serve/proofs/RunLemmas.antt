@@ -12,7 +12,7 @@ use Rattle.afdx_session.specs.Texts.{Text, AreOfPorts}
 use Rattle.afdx_session.specs.Output.{output_text, outputs}
 use Rattle.afdx_session.specs.Carried.{Rest, IsCarried, results_of}
 use Rattle.afdx_core.specs.State.{State}
-use Rattle.afdx_core.specs.Isolation.{IsIsolated as KeepsApart}
+use Rattle.afdx_core.specs.Isolation.{IsIsolatedRun}
 use Rattle.afdx_session.specs.declared.plan.Plan.{Plan}
 use Rattle.afdx_session.specs.Outcome.{Results, table_in, is_cleared, IsOutcome, IsDoneOf}
 use Rattle.afdx_session.specs.Headline.{AcceptedRunsIsolate}
@@ -125,7 +125,7 @@ module _ (inputs : Inputs) (a : Option Files) (plan : Plan) (captures : List Tex
 module _ (paths : Paths) (a : Option Files) (plan : Plan) (captures : List Text) (before after : DeviceLog) (of : IsRunOf (inputs_of paths) a plan captures) (count : after ≡ before) where
   -- a finished switch of the captures, and what is told of it
   abbrev pub IsTold : List (List ℕ) → Type 0
-  IsTold texts = (s : State) × IsDoneOf (is_cleared plan) (table_in plan) captures s × (is_cleared plan ≡ true → KeepsApart s.run) × (texts ≡ trace_texts s.run)
+  IsTold texts = (s : State) × IsDoneOf (is_cleared plan) (table_in plan) captures s × (is_cleared plan ≡ true → IsIsolatedRun s.run) × (texts ≡ trace_texts s.run)
 
   pub traced : (r : Result (List (List ℕ)) Failure) → MatchResult r IsTold (λ f. FailsToLead f (table_in plan) captures)
       → MatchResult r (λ texts. IsTraceIn paths a texts × (after ≡ before)) (λ f. FailsToGather f (inputs_of paths) a before after)

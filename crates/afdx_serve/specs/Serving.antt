@@ -28,7 +28,7 @@ use Rattle.afdx_serve.specs.NetworkJitters.{JittersAre, FailsToFit}
 use Rattle.afdx_serve.specs.NetworkRuns.{LeadsToNetwork, FailsToPutNetwork, names_at, bytes_at, captures_of, reports_of}
 use Rattle.afdx_serve.specs.Files.{Files, DeviceLog, KeepsFiles, PutsFiles, one_more}
 use Rattle.afdx_session.specs.Outcome.{Results}
-use Rattle.afdx_serve.specs.Output.{AppendsFront}
+use Rattle.afdx_serve.specs.Output.{AppendsPrefix}
 use Rattle.afdx_serve.specs.Measures.{MeasuresTo}
 use Rattle.afdx_serve.specs.Traces.{PutsTrace, FailsToTrace}
 use Rattle.afdx_serve.specs.Runs.{HasTable, HasNoTable, LeadsTo, FailsToGather, FailsToRun, names_in, bytes_of, report_in}
@@ -69,7 +69,7 @@ abbrev pub FailsToAnswer : Failure → Alone → Option (List ℕ) → Option (L
 FailsToAnswer (failure.Capture fault) link input old new = ((bytes : List ℕ) × AreGiven input bytes × IsFault bytes fault) × Keeps old new
 FailsToAnswer failure.Read link input old new = Keeps old new
 FailsToAnswer failure.Write link input old new =
-    (bytes : List ℕ) × (text : List ℕ) × AreGiven input bytes × IsAnswer link bytes text × AppendsFront old new text
+    (bytes : List ℕ) × (text : List ℕ) × AreGiven input bytes × IsAnswer link bytes text × AppendsPrefix old new text
 FailsToAnswer failure.Memory link input old new = Keeps old new
 FailsToAnswer _ link input old new = ⊥
 
@@ -94,7 +94,7 @@ FailsToCheck (failure.Table refusal) path old new = HasNoTable old.files path re
 FailsToCheck (failure.Load fault) path old new =
     (t : Content) × HasTable old.files path t × (first_fault t.latency t.links t.ports ≡ Some fault) × KeepsFolder old new × WritesNothing old new
 FailsToCheck failure.Write path old new =
-    (t : Content) × (text : List ℕ) × HasTable old.files path t × IsAccepted t × IsCheckOf t text × AppendsFront old.written new.written text × KeepsFolder old new
+    (t : Content) × (text : List ℕ) × HasTable old.files path t × IsAccepted t × IsCheckOf t text × AppendsPrefix old.written new.written text × KeepsFolder old new
 FailsToCheck failure.Memory path old new = KeepsFiles old.files new.files × WritesNothing old new
 FailsToCheck _ path old new = ⊥
 
@@ -111,7 +111,7 @@ FailsToSize (failure.Get name) path old new =
     (string_bytes name ≡ path) × (new.failed ≡ one_more path old.failed) × KeepsFiles old.files new.files × WritesNothing old new
 FailsToSize (failure.Table refusal) path old new = HasNoTable old.files path refusal × KeepsFolder old new × WritesNothing old new
 FailsToSize failure.Write path old new =
-    (t : Content) × (text : List ℕ) × HasTable old.files path t × AreSizesIn t text × AppendsFront old.written new.written text × KeepsFolder old new
+    (t : Content) × (text : List ℕ) × HasTable old.files path t × AreSizesIn t text × AppendsPrefix old.written new.written text × KeepsFolder old new
 FailsToSize failure.Memory path old new = KeepsFiles old.files new.files × WritesNothing old new
 FailsToSize _ path old new = ⊥
 
@@ -126,7 +126,7 @@ ChecksNetwork path old new =
 -- why they were not, and what was written
 abbrev pub FailsToCheckNetwork : Failure → List ℕ → World → World → Type 0
 FailsToCheckNetwork failure.Write path old new =
-    (net : Network) × (text : List ℕ) × HasNetwork old.files path net × IsAcceptedNetwork net × IsNetworkCheck net text × AppendsFront old.written new.written text
+    (net : Network) × (text : List ℕ) × HasNetwork old.files path net × IsAcceptedNetwork net × IsNetworkCheck net text × AppendsPrefix old.written new.written text
     × KeepsFolder old new
 FailsToCheckNetwork failure.Memory path old new = KeepsFiles old.files new.files × WritesNothing old new
 FailsToCheckNetwork f path old new =
@@ -157,7 +157,7 @@ FailsPastJitters f path old new =
 -- why a network has no such jitters, and what was written
 abbrev pub FailsToGiveJitters : Failure → List ℕ → World → World → Type 0
 FailsToGiveJitters failure.Write path old new =
-    (net : Network) × (past : Option Short) × (text : List ℕ) × JittersAre old.files path net past text × AppendsFront old.written new.written text × KeepsFolder old new
+    (net : Network) × (past : Option Short) × (text : List ℕ) × JittersAre old.files path net past text × AppendsPrefix old.written new.written text × KeepsFolder old new
 FailsToGiveJitters failure.Memory path old new = (KeepsFiles old.files new.files × WritesNothing old new) ⊎ FailsPastJitters failure.Memory path old new
 FailsToGiveJitters (failure.Network e) path old new = FailsBeforeJitters (failure.Network e) path old new ⊎ FailsPastJitters (failure.Network e) path old new
 FailsToGiveJitters f path old new = FailsBeforeJitters f path old new
@@ -176,7 +176,7 @@ RunsNetwork paths old new =
 -- why they were not, and what was done
 abbrev pub FailsToRunNetwork : Failure → NetworkPaths → World → World → Type 0
 FailsToRunNetwork failure.Write paths old new =
-    (net : Network) × (left : List Results) × PutsNetwork paths old new net left × AppendsFront old.written new.written (reports_of (names_of net.layout.switches) left)
+    (net : Network) × (left : List Results) × PutsNetwork paths old new net left × AppendsPrefix old.written new.written (reports_of (names_of net.layout.switches) left)
 FailsToRunNetwork f paths old new = FailsToPutNetwork f paths old.files new.files old.failed new.failed × WritesNothing old new
 
 -- what a request of networks asks for was done
@@ -204,7 +204,7 @@ Runs paths old new = (results : Results) × PutsResults paths old new results ×
 
 -- why it was not, and what was done
 abbrev pub FailsToRunAll : Failure → Paths → World → World → Type 0
-FailsToRunAll failure.Write paths old new = (results : Results) × PutsResults paths old new results × AppendsFront old.written new.written (report_in results)
+FailsToRunAll failure.Write paths old new = (results : Results) × PutsResults paths old new results × AppendsPrefix old.written new.written (report_in results)
 FailsToRunAll f paths old new = FailsToRun f paths old.files new.files old.failed new.failed × WritesNothing old new
 
 -- ---- what is told of a run
@@ -215,7 +215,7 @@ Measures inputs old new = (text : List ℕ) × MeasuresTo inputs old.files text 
 
 -- why it was not, and what was written
 abbrev pub FailsToMeasure : Failure → Inputs → World → World → Type 0
-FailsToMeasure failure.Write inputs old new = (text : List ℕ) × MeasuresTo inputs old.files text × AppendsFront old.written new.written text × KeepsFolder old new
+FailsToMeasure failure.Write inputs old new = (text : List ℕ) × MeasuresTo inputs old.files text × AppendsPrefix old.written new.written text × KeepsFolder old new
 FailsToMeasure f inputs old new = FailsToGather f inputs old.files old.failed new.failed × KeepsFiles old.files new.files × WritesNothing old new
 
 -- what is told of each frame and copy was put; nothing was written

@@ -1,7 +1,7 @@
 -- What is put of what became of each frame of a folder's captures.
 use Rattle.std.specs.Prelude.{◌≡◌, ℕ, false, not, codes, List, [], ◌∷◌, ◌++◌, Option}
 use Rattle.afdx_table.specs.Content.{Content}
-use Rattle.afdx_core.specs.Isolation.{IsIsolated}
+use Rattle.afdx_core.specs.Isolation.{IsIsolatedRun}
 use Rattle.afdx_core.specs.State.{Run, State}
 use Rattle.afdx_trace.specs.Arrivals.{arrivals_text}
 use Rattle.afdx_trace.specs.Departures.{departures_text}
@@ -33,7 +33,7 @@ pub record TracesTo (paths : Paths) (files : Option Files) (s : State) : Type 0 
   pub has_plan : HasPlan files (inputs_of paths) table
   pub has_captures : HasCaptures files paths.input.now table captures
   pub is_done : IsDoneOf (not paths.unchecked) table captures s
-  pub isolated : paths.unchecked ≡ false → IsIsolated s.run
+  pub isolated : paths.unchecked ≡ false → IsIsolatedRun s.run
 
 -- it leads to these two texts
 abbrev pub IsTraceIn : Paths → Option Files → List (List ℕ) → Type 0

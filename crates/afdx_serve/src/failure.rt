@@ -73,7 +73,7 @@ impl<T: Drop> From<AllocFailed<T>> for Failure {
 }
 
 impl From<InputFault> for Failure {
-    ghost use Rattle.afdx_serve.specs.Failures.{input_failure};
+    ghost use Rattle.afdx_serve.specs.Inner.Failures.{input_failure};
 
     ghost from_gives = { λ fault failure. failure ≡ input_failure fault };
 
@@ -96,7 +96,7 @@ impl From<WriteFault> for Failure {
 }
 
 impl From<AloneFault> for Failure {
-    ghost use Rattle.afdx_serve.specs.Failures.{alone_failure};
+    ghost use Rattle.afdx_serve.specs.Inner.Failures.{alone_failure};
 
     ghost from_gives = { λ fault failure. failure ≡ alone_failure fault };
 
@@ -109,7 +109,7 @@ impl From<AloneFault> for Failure {
 }
 
 impl From<TableFault> for Failure {
-    ghost use Rattle.afdx_serve.specs.Failures.{table_failure};
+    ghost use Rattle.afdx_serve.specs.Inner.Failures.{table_failure};
 
     ghost from_gives = { λ fault failure. failure ≡ table_failure fault };
 
@@ -122,7 +122,7 @@ impl From<TableFault> for Failure {
 }
 
 impl From<NetworkFault> for Failure {
-    ghost use Rattle.afdx_serve.specs.Failures.{wiring_failure};
+    ghost use Rattle.afdx_serve.specs.Inner.Failures.{wiring_failure};
 
     ghost from_gives = { λ fault failure. failure ≡ wiring_failure fault };
 
@@ -135,7 +135,7 @@ impl From<NetworkFault> for Failure {
 }
 
 impl From<RunFault> for Failure {
-    ghost use Rattle.afdx_serve.specs.Failures.{run_failure};
+    ghost use Rattle.afdx_serve.specs.Inner.Failures.{run_failure};
 
     ghost from_gives = { λ fault failure. failure ≡ run_failure fault };
 

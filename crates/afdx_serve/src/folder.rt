@@ -39,7 +39,7 @@ impl<T: Drop> From<AllocFailed<T>> for FolderFault {
 }
 
 impl From<InputFault> for FolderFault {
-    ghost use Rattle.afdx_serve.specs.Failures.{folder_fault};
+    ghost use Rattle.afdx_serve.specs.Inner.Failures.{folder_fault};
 
     ghost from_gives = { λ fault given. given ≡ folder_fault fault };
 

@@ -2,7 +2,7 @@
 
 ghost use Rattle.std.specs.Prelude.{OnOk};
 ghost use Rattle.std.specs.Io.KnownBytes.{Appends};
-ghost use Rattle.afdx_serve.specs.Output.{AppendsFront};
+ghost use Rattle.afdx_serve.specs.Output.{AppendsPrefix};
 
 use std::io::Write;
 
@@ -12,11 +12,11 @@ pub(crate) struct WriteFault;
 
 /// Writes all the bytes.
 ///
-/// A write that fails, is interrupted or takes nothing is a fault and isn't tried again; some front of the
+/// A write that fails, is interrupted or takes nothing is a fault and isn't tried again; some prefix of the
 /// bytes was written then. O(bytes).
 pub(crate) fn write_bytes<W: Write>(out: &mut W, bytes: &[u8]) -> Result<(), WriteFault>
     ensures all { OnOk result (Appends (W.contents out.old) (W.contents out.new) bytes.now) }
-    ensures front { AppendsFront (W.contents out.old) (W.contents out.new) bytes.now }
+    ensures prefix { AppendsPrefix (W.contents out.old) (W.contents out.new) bytes.now }
 {
     let mut rest = bytes;
     while !rest.is_empty() {

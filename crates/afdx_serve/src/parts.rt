@@ -3,7 +3,7 @@
 ghost use Rattle.std.specs.Prelude.{◌≡◌, ◌++◌, List, ℕ, IfOk, OnOk, OnErr};
 ghost use Rattle.std.specs.Io.KnownBytes.{Appends};
 ghost use Rattle.afdx_pcap.specs.Text.{header_text, record_text};
-ghost use Rattle.afdx_serve.specs.Output.{AppendsFront};
+ghost use Rattle.afdx_serve.specs.Output.{AppendsPrefix};
 
 use crate::output::{WriteFault, write_bytes};
 use afdx_pcap::{Record, write_header, write_record};
@@ -58,7 +58,7 @@ impl<A: Allocator> Part<A> {
     ) -> Result<(), WriteFault>
         ensures written { OnOk result ((front : List ℕ) × (self.old ++ record_text record.now ≡ front ++ self.new)
             × Appends (W.contents out.old) (W.contents out.new) front) }
-        ensures front { OnErr result (AppendsFront (W.contents out.old) (W.contents out.new) (self.old ++ record_text record.now)) }
+        ensures prefix { OnErr result (AppendsPrefix (W.contents out.old) (W.contents out.new) (self.old ++ record_text record.now)) }
     {
         if write_record(&mut self.bytes, record).is_err() {
             unreachable!()
@@ -74,7 +74,7 @@ impl<A: Allocator> Part<A> {
     /// Writes the rest. O(bytes).
     pub(crate) fn write<W: Write>(&self, out: &mut W) -> Result<(), WriteFault>
         ensures all { OnOk result (Appends (W.contents out.old) (W.contents out.new) self.now) }
-        ensures front { AppendsFront (W.contents out.old) (W.contents out.new) self.now }
+        ensures prefix { AppendsPrefix (W.contents out.old) (W.contents out.new) self.now }
     {
         write_bytes(out, &self.bytes)
     }

@@ -5,10 +5,10 @@ ghost use Rattle.std.specs.Io.KnownBytes.{Appends};
 ghost use Rattle.afdx_account.specs.Account.{byte_account_since};
 ghost use Rattle.afdx_serve.specs.Own.{is_own};
 ghost use Rattle.afdx_serve.specs.Answer.{IsAnswer, frame_of};
-ghost use Rattle.afdx_serve.specs.Offer.{IsOffered};
+ghost use Rattle.afdx_serve.specs.Inner.Offer.{IsOffered};
 ghost use Rattle.afdx_serve.specs.Faults.{IsFaultOf};
-ghost use Rattle.afdx_serve.specs.Ground.{Ground};
-ghost use Rattle.afdx_serve.specs.Output.{AppendsFront};
+ghost use Rattle.afdx_serve.specs.Inner.Ground.{Ground};
+ghost use Rattle.afdx_serve.specs.Output.{AppendsPrefix};
 ghost use Rattle.afdx_pcap.specs.Entry.{Entry};
 ghost use Rattle.afdx_pcap.specs.Capture.{IsCapture};
 ghost use Rattle.afdx_pcap.specs.Reading.{Answers, whole_reading};
@@ -159,7 +159,7 @@ pub(crate) fn write_passed<A: Allocator + Copy, W: Write>(
     requires header { part ≡ header_text }
     ensures { MatchResult result
         (λ _. (text : List ℕ) × IsAnswer link.now input.now text × Appends (W.contents out.old) (W.contents out.new) text)
-        (λ _. (text : List ℕ) × IsAnswer link.now input.now text × AppendsFront (W.contents out.old) (W.contents out.new) text) }
+        (λ _. (text : List ℕ) × IsAnswer link.now input.now text × AppendsPrefix (W.contents out.old) (W.contents out.new) text) }
 {
     ground::<A>();
     taken_records_begin_the_capture();

@@ -4,7 +4,7 @@ ghost use Rattle.std.specs.Prelude.{◌≡◌, ◌≢◌, map, string_bytes, Mat
 ghost use Rattle.std.specs.Io.KnownBytes.{Keeps};
 ghost use Rattle.afdx_serve.specs.declared.failure.Failure.{Failure as Failing};
 ghost use Rattle.afdx_serve.specs.Lines.{line_of, status_of};
-ghost use Rattle.afdx_serve.specs.Output.{AppendsFront};
+ghost use Rattle.afdx_serve.specs.Output.{AppendsPrefix};
 ghost use Rattle.afdx_serve.specs.Serving.{world, Answers, FailsToAnswer, Performs, FailsToPerform, Serves, Fails};
 
 use crate::check::check;
@@ -126,7 +126,7 @@ pub fn serve<R: Read, O: Write, E: Write, F: Folder>(
     ensures failed { result ≢ 0 → (f : Failing) × (result ≡ status_of f)
         × Fails f (map string_bytes words.now) (R.remaining input.old)
         (world (O.contents out.old) (F.files folder.old) (F.failed folder.old)) (world (O.contents out.new) (F.files folder.new) (F.failed folder.new))
-        × AppendsFront (E.contents err.old) (E.contents err.new) (line_of f) }
+        × AppendsPrefix (E.contents err.old) (E.contents err.new) (line_of f) }
 {
     match serve_words(alloc, words, input, out, folder) {
         Ok(()) => 0,

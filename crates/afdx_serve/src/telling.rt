@@ -3,7 +3,7 @@
 ghost use Rattle.std.specs.Prelude.{◌≡◌, ◌≤◌, ◌++◌, codes, string_bytes, IfOk, MatchResult};
 ghost use Rattle.afdx_serve.specs.declared.failure.Failure.{Failure as Failing};
 ghost use Rattle.afdx_serve.specs.Lines.{ended, line_of, memory_line, status_of, TellsOf};
-ghost use Rattle.afdx_serve.specs.Output.{AppendsFront};
+ghost use Rattle.afdx_serve.specs.Output.{AppendsPrefix};
 
 use crate::capture_line::capture_line;
 use crate::failure::Failure;
@@ -17,7 +17,7 @@ use std::io::Write;
 /// Writes a line, as far as the writer takes it, and gives the status.
 fn tell<E: Write>(err: &mut E, line: &str, status: u8) -> u8
     ensures status { result ≡ status }
-    ensures line { AppendsFront (E.contents err.old) (E.contents err.new) line.now }
+    ensures line { AppendsPrefix (E.contents err.old) (E.contents err.new) line.now }
 {
     let _ = write_bytes(err, line.as_bytes());
     status
@@ -26,8 +26,8 @@ fn tell<E: Write>(err: &mut E, line: &str, status: u8) -> u8
 /// Writes a line that was made, and gives the status; where memory ran out for it, that of memory.
 fn tell_made<E: Write>(err: &mut E, line: Result<String, AllocError>, status: u8) -> u8
     ensures { MatchResult line
-        (λ text. (result ≡ status) × AppendsFront (E.contents err.old) (E.contents err.new) (string_bytes text))
-        (λ _. (result ≡ 5) × AppendsFront (E.contents err.old) (E.contents err.new) memory_line) }
+        (λ text. (result ≡ status) × AppendsPrefix (E.contents err.old) (E.contents err.new) (string_bytes text))
+        (λ _. (result ≡ 5) × AppendsPrefix (E.contents err.old) (E.contents err.new) memory_line) }
 {
     match line {
         Ok(text) => tell(err, &text, status),
@@ -53,7 +53,7 @@ fn device_line(alloc: Global, call: &str, name: &str) -> Result<String, AllocErr
 /// Only a line with a number or a name takes memory. Where that is refused, memory is the failure. O(line).
 pub fn report<E: Write>(alloc: Global, failure: &Failure, err: &mut E) -> u8
     ensures told { (told : Failing) × TellsOf failure.now told × (result ≡ status_of told)
-        × AppendsFront (E.contents err.old) (E.contents err.new) (line_of told) }
+        × AppendsPrefix (E.contents err.old) (E.contents err.new) (line_of told) }
     ensures failed { 2 ≤ result }
 {
     match failure {

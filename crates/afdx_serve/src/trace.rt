@@ -1,7 +1,7 @@
 //! The command `trace`.
 
 ghost use Rattle.std.specs.Prelude.{◌≡◌, true, [], ◌∷◌, ◌++◌, IfOk, MatchResult, string_bytes};
-ghost use Rattle.afdx_core.specs.Isolation.{IsIsolated};
+ghost use Rattle.afdx_core.specs.Isolation.{IsIsolatedRun};
 ghost use Rattle.afdx_core.specs.State.{State};
 ghost use Rattle.afdx_session.specs.Texts.{texts_of, AreOfPorts};
 ghost use Rattle.afdx_session.specs.Outcome.{table_in, is_cleared, IsDoneOf};
@@ -38,7 +38,7 @@ fn tell(alloc: Global, plan: Plan, captures: &[(u8, Vec<u8>)]) -> Result<Pair, F
     requires { AreOfPorts (table_in plan) (texts_of captures.now) }
     ensures { MatchResult result
         (λ texts. (s : State) × IsDoneOf (is_cleared plan) (table_in plan) (texts_of captures.now) s
-        × (is_cleared plan ≡ true → IsIsolated s.run) × (texts ≡ trace_texts s.run))
+        × (is_cleared plan ≡ true → IsIsolatedRun s.run) × (texts ≡ trace_texts s.run))
         (λ f. FailsToLead f (table_in plan) (texts_of captures.now)) }
 {
     let done = afdx_session::finished(alloc, plan, captures)?;

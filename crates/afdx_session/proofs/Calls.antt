@@ -17,11 +17,11 @@ use Rattle.afdx_session.specs.declared.lane.Lane.{Lane}
 use Rattle.afdx_session.specs.declared.machine.Machine.{Machine}
 use Rattle.afdx_session.specs.declared.plan.RunFault.{RunFault}
 use Rattle.afdx_session.specs.Reading.{IsFaultAt}
-use Rattle.afdx_session.specs.Settled.{IsGiven, HandsOut}
+use Rattle.afdx_session.specs.Inner.Settled.{IsGiven, HandsOut}
 use Rattle.afdx_session.specs.Session.{IsSoundSoFar}
 use Rattle.afdx_session.specs.Lanes.{limit_at, IsStill, Adds, HasReadAll, NoneGoes, IsPieceFault}
-use Rattle.afdx_session.specs.Kept.{AreOfTable, come_to, AreOut, Every, IsGoing, HasCome, IsRunning, AreTouched, AreGrown, IsOfSameTable, IsMarked}
-use Rattle.afdx_session.specs.View.{IsReady, IsOpenAt, AreHalfDone, AreSettledLanes, IsFed, IsEnded, IsNotFed, IsNotEnded, intakes_of}
+use Rattle.afdx_session.specs.Inner.Kept.{AreOfTable, come_to, AreOut, Every, IsGoing, HasCome, IsRunning, AreTouched, AreGrown, IsOfSameTable, IsMarked}
+use Rattle.afdx_session.specs.Inner.View.{IsReady, IsOpenAt, AreHalfDone, AreSettledLanes, IsFed, IsEnded, IsNotFed, IsNotEnded, intakes_of}
 use Rattle.afdx_session.proofs.Going.{some_same, reads_on}
 use Rattle.afdx_session.proofs.Given.{comes_on, no_going_back}
 use Rattle.afdx_session.proofs.Numbered.{all_slice_get}

@@ -19,11 +19,11 @@ use Rattle.afdx_session.specs.declared.plan.RunFault.{RunFault}
 use Rattle.afdx_session.specs.declared.plan.RunFault.TheVariants as run
 use Rattle.afdx_session.specs.Texts.{Text}
 use Rattle.afdx_session.specs.Reading.{IsSound}
-use Rattle.afdx_session.specs.Settled.{first_place, IsGiven, HandsOut}
+use Rattle.afdx_session.specs.Inner.Settled.{first_place, IsGiven, HandsOut}
 use Rattle.afdx_session.specs.Lanes.{limit_at, with_waiting, head_of, head_stamp, IsFirstUpTo, IsFirstOf, IsWithinPlace, IsLimit, NoneGoes, IsReadOn, HasDrawn, IsLaneFault}
-use Rattle.afdx_session.specs.Lent.{AreSound, IsOver, texts_over, left_of, left_in, IsOneFault, IsCarrying, CarriesOn, HandsOn}
-use Rattle.afdx_session.specs.Kept.{AreOfTable, AreOut, Every, IsGoing, AreTouched, IsGrown, AreGrown, IsOfSameTable}
-use Rattle.afdx_session.specs.View.{HasGone, IsRound}
+use Rattle.afdx_session.specs.Inner.Lent.{AreSound, IsOver, texts_over, left_of, left_in, IsOneFault, IsCarrying, CarriesOn, HandsOn}
+use Rattle.afdx_session.specs.Inner.Kept.{AreOfTable, AreOut, Every, IsGoing, AreTouched, IsGrown, AreGrown, IsOfSameTable}
+use Rattle.afdx_session.specs.Inner.View.{HasGone, IsRound}
 use Rattle.afdx_session.proofs.Firsts.{get-map}
 use Rattle.afdx_session.proofs.Gone.{at_index, grown_length, drained_going}
 use Rattle.afdx_session.proofs.Going.{some_same, reads_on}

@@ -5,7 +5,7 @@ use Rattle.afdx_pcap.specs.Fault.{IsFault}
 use Rattle.afdx_pcap.specs.declared.fault.PcapFault.{PcapFault}
 use Rattle.afdx_session.specs.Texts.{Text, texts_of}
 use Rattle.afdx_session.specs.Reading.{IsSound, IsFirstFault}
-use Rattle.afdx_session.specs.Lent.{AreSound}
+use Rattle.afdx_session.specs.Inner.Lent.{AreSound}
 use Rattle.afdx_session.proofs.Firsts.{get-map}
 use Rattle.afdx_session.proofs.Going.{some_same}
 

@@ -9,8 +9,8 @@ use Rattle.afdx_session.specs.declared.plan.RunFault.{RunFault}
 use Rattle.afdx_session.specs.Reading.{IsFaultAt, IsReadFault}
 use Rattle.afdx_session.specs.Streams.{Stream}
 use Rattle.afdx_session.specs.Lanes.{IsStill, Adds, HasReadAll}
-use Rattle.afdx_session.specs.Kept.{AreLanesOf, AreOfTable, IsGoing, IsMarked}
-use Rattle.afdx_session.specs.View.{IsReady, AreHalfDone, AreEndedLanes, texts_at}
+use Rattle.afdx_session.specs.Inner.Kept.{AreLanesOf, AreOfTable, IsGoing, IsMarked}
+use Rattle.afdx_session.specs.Inner.View.{IsReady, AreHalfDone, AreEndedLanes, texts_at}
 use Rattle.afdx_session.proofs.Going.{some_same, reads_on}
 use Rattle.afdx_session.proofs.Intakes.{still_of_table, ended_half}
 use Rattle.afdx_session.proofs.Shown.{half_ports}

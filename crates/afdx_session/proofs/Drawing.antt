@@ -9,7 +9,7 @@ use Rattle.afdx_pcap.specs.Text.{header_text, record_text, capture_text}
 use Rattle.afdx_table.specs.declared.rows.PortRow.{PortRow}
 use Rattle.afdx_table.specs.Content.{Content}
 use Rattle.afdx_port.specs.declared.Sent.{Sent}
-use Rattle.afdx_port.specs.Order.{ReachesInOrder}
+use Rattle.afdx_port.specs.Inner.Order.{ReachesInOrder}
 use Rattle.afdx_port.specs.Course.{EventsAreInParts}
 use Rattle.afdx_core.specs.declared.kinds.Row.{Row}
 use Rattle.afdx_core.specs.Handling.{Handling}
@@ -20,9 +20,9 @@ use Rattle.afdx_core.specs.Merge.{Arrival}
 use Rattle.afdx_session.specs.Output.{rows_of, written}
 use Rattle.afdx_session.specs.Replay.{HasBytesOf, left_at, IsDrained}
 use Rattle.afdx_session.specs.Streams.{sent_up_to}
-use Rattle.afdx_session.specs.Settled.{IsGiven, IsAt, Draws}
+use Rattle.afdx_session.specs.Inner.Settled.{IsGiven, IsAt, Draws}
 use Rattle.afdx_session.specs.declared.lane.Lane.{Lane}
-use Rattle.afdx_session.specs.Kept.{text_up_to, IsOut}
+use Rattle.afdx_session.specs.Inner.Kept.{text_up_to, IsOut}
 use Rattle.afdx_session.proofs.Replaying.{bytes_stay, bytes_more}
 use Rattle.afdx_session.proofs.Draining.{left_before, left_after, place_within, written_out, none_left}
 use Rattle.afdx_session.proofs.Growing.{sent_later}

@@ -11,7 +11,7 @@ use Rattle.afdx_pcap.specs.Reading.{Taking, HasTaken, IsSound}
 use Rattle.afdx_table.specs.declared.rows.PortRow.{PortRow}
 use Rattle.afdx_table.specs.Content.{Content}
 use Rattle.afdx_port.specs.Admission.{EarlierEventsStayAdmitted}
-use Rattle.afdx_port.specs.Order.{ReachesInOrder}
+use Rattle.afdx_port.specs.Inner.Order.{ReachesInOrder}
 use Rattle.afdx_core.specs.State.{State}
 use Rattle.afdx_core.specs.Merge.{Arrival, merged}
 use Rattle.afdx_count.specs.Tally.{Tally, ended}
@@ -23,8 +23,8 @@ use Rattle.afdx_session.specs.Output.{output_text}
 use Rattle.afdx_session.specs.Streams.{Stream, captures_of, whole_of, merged_so_far, frontier, text_so_far, last_instant, AllStartBeforeTheLastInstant}
 use Rattle.afdx_session.specs.Session.{Intake}
 use Rattle.afdx_session.specs.Lanes.{waiting_of, HasReadAll}
-use Rattle.afdx_session.specs.Kept.{IsLaneOf, AreLanesOf, AreOfTable, come_to, IsGoing, IsRunning, AreTouched, IsMarked}
-use Rattle.afdx_session.specs.View.{IsHalfDone, AreHalfDone, IsEndedLane, AreEndedLanes, texts_at}
+use Rattle.afdx_session.specs.Inner.Kept.{IsLaneOf, AreLanesOf, AreOfTable, come_to, IsGoing, IsRunning, AreTouched, IsMarked}
+use Rattle.afdx_session.specs.Inner.View.{IsHalfDone, AreHalfDone, IsEndedLane, AreEndedLanes, texts_at}
 use Rattle.afdx_session.proofs.Going.{Early, lanes_early, some_same}
 use Rattle.afdx_session.proofs.Growing.{no_frontier, output_of_all, AllEnded}
 use Rattle.afdx_session.proofs.Settling.{all_back}

@@ -8,12 +8,12 @@ use Rattle.afdx_table.specs.Content.{Content}
 use Rattle.afdx_table.specs.WellFormed.{IsWellFormed}
 use Rattle.afdx_table.specs.WellFormed as table
 use Rattle.afdx_port.specs.Admission.{EarlierEventsStayAdmitted}
-use Rattle.afdx_port.specs.Order.{ReachesInOrder}
+use Rattle.afdx_port.specs.Inner.Order.{ReachesInOrder}
 use Rattle.afdx_core.specs.State.{after_finish}
 use Rattle.afdx_core.specs.Merge.{Arrival, Capture, merged}
 use Rattle.afdx_count.specs.Tally.{ended}
 use Rattle.afdx_count.specs.Run.{counts_so_far, counts_of}
-use Rattle.afdx_count.specs.Laws.{EndCountsTheRun}
+use Rattle.afdx_count.specs.Inner.Laws.{EndCountsTheRun}
 use Rattle.afdx_session.specs.declared.lane.Lane.{Lane}
 use Rattle.afdx_session.specs.declared.machine.Machine.{Machine}
 use Rattle.afdx_session.specs.Texts.{Text}
@@ -24,8 +24,8 @@ use Rattle.afdx_session.specs.Streams.{captures_of, AllStartBeforeTheLastInstant
 use Rattle.afdx_session.specs.Session.{Intake, Seen, taken_in}
 use Rattle.afdx_session.specs.Finish.{rest_of, texts_in, IsFinished}
 use Rattle.afdx_session.specs.Lanes.{intake_of}
-use Rattle.afdx_session.specs.Kept.{AreOfTable, IsRunning, IsMarked, IsOfSameTable}
-use Rattle.afdx_session.specs.View.{intakes_of, texts_at, seen_of, AreHalfDone, AreEndedLanes, IsKept}
+use Rattle.afdx_session.specs.Inner.Kept.{AreOfTable, IsRunning, IsMarked, IsOfSameTable}
+use Rattle.afdx_session.specs.Inner.View.{intakes_of, texts_at, seen_of, AreHalfDone, AreEndedLanes, IsKeptMachine}
 use Rattle.afdx_session.proofs.Going.{some_same}
 use Rattle.afdx_session.proofs.Numbered.{all_slice_get}
 use Rattle.afdx_session.proofs.Gone.{port_of_lane}
@@ -90,7 +90,7 @@ half_intakes (l ∷ old) (n ∷ new) half = ap (λ i. i ∷ intakes_of new) half
 -- ---- the outcome
 
 pub finished : {Z : Type 0} → EarlierEventsStayAdmitted → ReachesInOrder → AllStartBeforeTheLastInstant → TakenAreTheCapture → EndCountsTheRun → AcceptedRunsIsolate
-    → (old new : Machine Z) (begun : Bool) (results : Results) → IsKept old begun false
+    → (old new : Machine Z) (begun : Bool) (results : Results) → IsKeptMachine old begun false
     → IsOfSameTable old.switch new.switch → AreHalfDone old.lanes.items new.lanes.items → AreEndedLanes old.lanes.items new.lanes.items
     → IsRunning new.switch.run.table new.lanes.items new.switch new.counts
     → results.captures ≡ map (λ (l : Lane Z). (l.port, l.out.items)) new.lanes.items → results.counts ≡ ended (after_finish new.switch.run) new.counts → IsFinished (seen_of old begun false) results

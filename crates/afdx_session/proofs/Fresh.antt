@@ -19,16 +19,16 @@ use Rattle.afdx_core.specs.Rows.{feed_of}
 use Rattle.afdx_core.specs.State.{fresh_state}
 use Rattle.afdx_core.specs.Merge.{Arrival, arrivals_of, by_stamp}
 use Rattle.afdx_count.specs.Tally.{fresh}
-use Rattle.afdx_count.specs.Laws.{StartsWithNone}
+use Rattle.afdx_count.specs.Inner.Laws.{StartsWithNone}
 use Rattle.afdx_session.specs.declared.lane.Lane.{Lane}
 use Rattle.afdx_session.specs.declared.machine.Machine.{Machine}
 use Rattle.afdx_session.specs.Output.{written}
 use Rattle.afdx_session.specs.Streams.{Stream, captures_of, frontier, least, sent_up_to}
-use Rattle.afdx_session.specs.Settled.{AreQueued, IsGiven}
+use Rattle.afdx_session.specs.Inner.Settled.{AreQueued, IsGiven}
 use Rattle.afdx_session.specs.Session.{fresh_intake, fresh_session}
 use Rattle.afdx_session.specs.Lanes.{intake_of, waiting_of, HasReadAll}
-use Rattle.afdx_session.specs.Kept.{IsLaneOf, AreLanesOf, come_to, text_up_to, IsGoing, IsRunning, IsMarked}
-use Rattle.afdx_session.specs.View.{IsFreshLane, AreFreshLanes, intakes_of, seen_of, IsShown, IsKept}
+use Rattle.afdx_session.specs.Inner.Kept.{IsLaneOf, AreLanesOf, come_to, text_up_to, IsGoing, IsRunning, IsMarked}
+use Rattle.afdx_session.specs.Inner.View.{IsFreshLane, AreFreshLanes, intakes_of, seen_of, IsShown, IsKeptMachine}
 use Rattle.afdx_session.proofs.Shown.{lanes_are_streams}
 
 -- ---- no bytes
@@ -218,7 +218,7 @@ length-zeros (p ∷ ports) = ap suc (length-zeros ports)
 -- what is true of each session is true of it
 pub fresh_kept : {Z : Type 0} → StartsWithNone → (accepted : Bool) (t : Content) (m : Machine Z) → IsWellFormed t → (accepted ≡ true → IsAccepted t) → m.switch ≡ fresh_state accepted t → m.counts
     ≡ fresh t → AreFreshLanes t.ports m.lanes.items
-    → IsKept m false false
+    → IsKeptMachine m false false
 fresh_kept starts accepted t m formed is_accepted switch counts fresh = record {
   of = rw switch (record { formed = formed; ports = fresh_ports t.ports m.lanes.items fresh });
   handed = rw switch (length-zeros t.ports);

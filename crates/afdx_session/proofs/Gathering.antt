@@ -14,7 +14,7 @@ use Rattle.afdx_pcap.specs.Entry.{Entry}
 use Rattle.afdx_pcap.specs.Capture.{Splits, IsCapture, after, parts, stamp_of, head_of}
 use Rattle.afdx_core.specs.Merge.{Arrival, Capture, Rises, arrivals_of, placed, by_stamp}
 use Rattle.afdx_session.specs.Texts.{Text}
-use Rattle.afdx_session.specs.Merging.{AreInOrder}
+use Rattle.afdx_session.specs.Inner.Merging.{AreInOrder}
 use Rattle.afdx_session.specs.Reading.{AreCaptures, AreMerged}
 use Rattle.afdx_session.proofs.Joining.{by_stamp-in_order}
 

@@ -13,7 +13,7 @@ use Rattle.afdx_table.specs.declared.rows.PortRow.{PortRow}
 use Rattle.afdx_table.specs.Content.{Content, port_row}
 use Rattle.afdx_table.specs.WellFormed.{IsWellFormed}
 use Rattle.afdx_port.specs.Admission.{EarlierEventsStayAdmitted}
-use Rattle.afdx_port.specs.Order.{ReachesInOrder}
+use Rattle.afdx_port.specs.Inner.Order.{ReachesInOrder}
 use Rattle.afdx_core.specs.declared.kinds.Row.{Row}
 use Rattle.afdx_core.specs.Handling.{Handling}
 use Rattle.afdx_core.specs.Rows.{row_of}
@@ -22,14 +22,14 @@ use Rattle.afdx_core.specs.Held.{Keeps, IsTaken}
 use Rattle.afdx_core.specs.Merge.{Arrival, Capture, merged, arrivals_of}
 use Rattle.afdx_count.specs.Tally.{Tally, noted}
 use Rattle.afdx_count.specs.Run.{counts_so_far}
-use Rattle.afdx_count.specs.Laws.{NoteCountsOneMore}
+use Rattle.afdx_count.specs.Inner.Laws.{NoteCountsOneMore}
 use Rattle.afdx_session.specs.declared.lane.Lane.{Lane}
 use Rattle.afdx_session.specs.Output.{rows_of, written}
 use Rattle.afdx_session.specs.Streams.{Stream, frontier}
-use Rattle.afdx_session.specs.Merging.{AreInOrder}
-use Rattle.afdx_session.specs.Settled.{without, IsGiven, HeadFrom, AllRise, IsPast}
+use Rattle.afdx_session.specs.Inner.Merging.{AreInOrder}
+use Rattle.afdx_session.specs.Inner.Settled.{without, IsGiven, HeadFrom, AllRise, IsPast}
 use Rattle.afdx_session.specs.Lanes.{waiting_of, limit_at, with_waiting, IsWithinPlace, IsFirstOf, IsFirstUpTo, Goes, NoneGoes}
-use Rattle.afdx_session.specs.Kept.{AreLanesOf, AreOfTable, come_to, text_up_to, IsOut, IsGoing, HasCome}
+use Rattle.afdx_session.specs.Inner.Kept.{AreLanesOf, AreOfTable, come_to, text_up_to, IsOut, IsGoing, HasCome}
 use Rattle.afdx_session.proofs.Joining.{AllFrom, frames-from, by_stamp-in_order}
 use Rattle.afdx_session.proofs.Settling.{all_back}
 use Rattle.afdx_session.proofs.Gathering.{Known, all_known}

@@ -1,4 +1,4 @@
--- What has left so far is a front of what has left later.
+-- What has left so far is a prefix of what has left later.
 use Rattle.std.proofs.Common.{◌≡◌, ℕ, ◌<◌, ◌≤◌, nat_lt, nat_le, Bool, true, false, cond, List, [], ◌∷◌, ◌++◌, map, filter, Option, Some, None, refl, ap, sym, ◌∙◌, arith, inl, inr, subst, append_assoc}
 use Rattle.std.specs.List.{AllByRecursion, flat_map}
 use Rattle.std.proofs.lemmas.List.{append-nil, map-append}
@@ -14,12 +14,12 @@ use Rattle.afdx_table.specs.Content.{Content}
 use Rattle.afdx_port.specs.declared.Sent.{Sent}
 use Rattle.afdx_port.specs.Service.{Event, sending, aging, instant, reach, service, before, sent_of}
 use Rattle.afdx_port.specs.Admission.{admitted, EarlierEventsStayAdmitted}
-use Rattle.afdx_port.specs.Order.{ReachesInOrder}
+use Rattle.afdx_port.specs.Inner.Order.{ReachesInOrder}
 use Rattle.afdx_port.specs.Course.{EventsAreInParts}
 use Rattle.afdx_isolation.specs.Table.{settings_of}
 use Rattle.afdx_core.specs.Rows.{feed_of}
 use Rattle.afdx_core.specs.Merge.{Arrival, Capture, Rises, arrivals_of, placed, by_stamp, merged}
-use Rattle.afdx_session.specs.Merging.{AreInOrder}
+use Rattle.afdx_session.specs.Inner.Merging.{AreInOrder}
 use Rattle.afdx_session.specs.Output.{rows_of, sent_by, written, output_of, output_text}
 use Rattle.afdx_session.specs.Streams.{Stream, captures_of, last_of, merged_so_far, least, frontier, sent_up_to, output_so_far, text_so_far, GoesOn, GoOn, whole_of}
 use Rattle.afdx_session.proofs.Joining.{le_true, le_false, AllFrom, first-placed, later-placed, frames-from, weaken, by_stamp-in_order}
@@ -311,7 +311,7 @@ before_later t u (e ∷ es) le = by_first (nat_lt (instant e) t) refl (before_la
       let out : before t (e ∷ es) ≡ before t es = filter-out (λ (x : Event). nat_lt (instant x) t) e es is in
       ap (before u) out ∙ ih ∙ sym out
 
--- what is sent before an instant is a front of what is sent up to a later one, or in the end
+-- what is sent before an instant is a prefix of what is sent up to a later one, or in the end
 abbrev pub IsBeyond : ℕ → Option ℕ → Type 0
 IsBeyond h None = Unit {0}
 IsBeyond h (Some k) = h ≤ k

@@ -8,7 +8,7 @@ use Rattle.afdx_table.specs.WellFormed.{Rises}
 use Rattle.afdx_core.specs.Merge.{Arrival, Capture, part_at, merged, arrivals_of, IsMerge, Precedes, AreByStampAndPort, PortsRise, MergedIsAMerge, MergedIsByStampAndPort}
 use Rattle.afdx_session.specs.Texts.{Text}
 use Rattle.afdx_session.specs.Reading.{AreCaptures}
-use Rattle.afdx_session.specs.OneMerge.{MergedIsTheOnlyOne}
+use Rattle.afdx_session.specs.Inner.OneMerge.{MergedIsTheOnlyOne}
 use Rattle.afdx_session.proofs.Numbered.{all_append}
 use Rattle.afdx_session.proofs.Leaving.{merge_is_read}
 

@@ -1,4 +1,4 @@
--- However captures come in pieces, and whenever output is taken: what was taken of a port is a front of its output.
+-- However captures come in pieces, and whenever output is taken: what was taken of a port is a prefix of its output.
 use Rattle.std.proofs.Common.{◌≡◌, ℕ, zero, suc, ◌==◌, Bool, true, false, cond, List, [], ◌∷◌, ◌++◌, map, length, drop, Some, None, Ok, refl, ap, sym, ◌∙◌, arith, append_assoc, subst}
 use Rattle.std.specs.Prelude.{find, Result}
 use Rattle.std.specs.List.{AllZip}
@@ -12,7 +12,7 @@ use Rattle.afdx_pcap.specs.Reading.{AreFirst}
 use Rattle.afdx_table.specs.declared.rows.PortRow.{PortRow}
 use Rattle.afdx_table.specs.Content.{Content, port_row}
 use Rattle.afdx_port.specs.Admission.{EarlierEventsStayAdmitted}
-use Rattle.afdx_port.specs.Order.{ReachesInOrder}
+use Rattle.afdx_port.specs.Inner.Order.{ReachesInOrder}
 use Rattle.afdx_port.specs.Course.{EventsAreInParts}
 use Rattle.afdx_core.specs.Merge.{Capture, merged}
 use Rattle.afdx_session.specs.declared.plan.RunFault.TheVariants as run
@@ -22,7 +22,7 @@ use Rattle.afdx_session.specs.Output.{output_text}
 use Rattle.afdx_session.specs.Streams.{Stream, AreWhole, whole_of, text_so_far, GoOn}
 use Rattle.afdx_session.specs.Session.{Intake, Seen, fresh_intake, AreStreams, HasGoneOut, taken_in, intake_at, taken_of, refusal_at, refusal, changed, fed, ended, took, after_take, IsFedOn, AreFedOn}
 use Rattle.afdx_session.specs.Finish.{text_in, texts_in, rest_of}
-use Rattle.afdx_session.specs.Pieces.{GoesOnTo, CallsGoOn, WasTaken, NothingWasTaken, TakenStays, TakesJoin, IsContinued, bytes_in, capture_at, TakenIsAFront, TakesAndRestAreTheOutput}
+use Rattle.afdx_session.specs.Inner.Pieces.{GoesOnTo, CallsGoOn, WasTaken, NothingWasTaken, TakenStays, TakesJoin, IsContinued, bytes_in, capture_at, TakenIsAPrefix, TakesAndRestAreTheOutput}
 use Rattle.afdx_session.proofs.Growing.{front_of_output}
 use Rattle.afdx_session.proofs.WholeRecords.{RecordsStay, RecordsAreUnique, holds_front, go_on, grows_with_bytes, streams_unique}
 use Rattle.afdx_session.proofs.Going.{some_same}
@@ -167,7 +167,7 @@ found_later port (j ∷ intakes) (n ∷ later) i on found = by (j.port == port) 
       let next = more (sym (ap (λ b. cond b (Some j) (find (is_of port) intakes)) other) ∙ found) in
       (next.0, ap (λ b. cond b (Some n) (find (is_of port) later)) (ap (λ k. k == port) on.0.port ∙ other) ∙ next.1)
 
--- a front of a front
+-- a prefix of a front
 front_on : (whole text taken rest more : List ℕ) → whole ≡ text ++ more → text ≡ taken ++ rest → whole ≡ taken ++ (rest ++ more)
 front_on whole text taken rest more is front = is ∙ ap (λ xs. xs ++ more) front ∙ append_assoc taken rest more
 
@@ -313,7 +313,7 @@ found_output f (q ∷ ports) port p found = by (q.id == port) refl (found_output
       ap (λ b. cond b (Some (q.id, f q)) (find (is_text_of port) texts)) other
       ∙ more (sym (ap (λ b. cond b (Some q) (find (is_row_of port) ports)) other) ∙ found)
 
-pub taken_is_a_front : EarlierEventsStayAdmitted → ReachesInOrder → EventsAreInParts → RecordsStay → RecordsAreUnique → TakenIsAFront
+pub taken_is_a_front : EarlierEventsStayAdmitted → ReachesInOrder → EventsAreInParts → RecordsStay → RecordsAreUnique → TakenIsAPrefix
 taken_is_a_front stay reaches parts records unique v port taken texts results was continued outcome = (was.rest ++ whole.0, at ∙ front_on out was.text taken was.rest whole.0 whole.1 was.front) where
   out : List ℕ
   out = output_text v.table (merged outcome.read) was.row

@@ -9,7 +9,7 @@ use Rattle.afdx_table.specs.declared.rows.PortRow.{PortRow}
 use Rattle.afdx_session.specs.declared.lane.Lane.{Lane}
 use Rattle.afdx_session.specs.Session.{Intake, changed}
 use Rattle.afdx_session.specs.Lanes.{intake_of}
-use Rattle.afdx_session.specs.View.{intakes_of}
+use Rattle.afdx_session.specs.Inner.View.{intakes_of}
 
 -- ---- positions
 

@@ -4,8 +4,8 @@ use Rattle.std.specs.List.{AllByRecursion}
 use Rattle.afdx_pcap.specs.Reading.{NoNext, IsSound}
 use Rattle.afdx_session.specs.declared.lane.Lane.{Lane}
 use Rattle.afdx_session.specs.Lanes.{HasReadAll}
-use Rattle.afdx_session.specs.Kept.{AreTouched}
-use Rattle.afdx_session.specs.View.{AreSettledLanes}
+use Rattle.afdx_session.specs.Inner.Kept.{AreTouched}
+use Rattle.afdx_session.specs.Inner.View.{AreSettledLanes}
 
 pub read_same : {Z : Type 0} (a b : Lane Z) → b.reader ≡ a.reader → b.ended ≡ a.ended → HasReadAll a → HasReadAll b
 read_same a b reader ended read = record {

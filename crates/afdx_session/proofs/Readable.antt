@@ -11,12 +11,12 @@ use Rattle.afdx_pcap.specs.Text.{AreReadable}
 use Rattle.afdx_table.specs.declared.rows.PortRow.{PortRow}
 use Rattle.afdx_table.specs.Content.{Content}
 use Rattle.afdx_table.specs.WellFormed.{IsWellFormed}
-use Rattle.afdx_filter.specs.Clean.{CleanFramesHaveALink}
+use Rattle.afdx_filter.specs.Inner.Clean.{CleanFramesHaveALink}
 use Rattle.afdx_port.specs.declared.Sent.{Sent}
 use Rattle.afdx_port.specs.Admission.{admitted}
-use Rattle.afdx_port.specs.Order.{EndsDoNotFall}
+use Rattle.afdx_port.specs.Inner.Order.{EndsDoNotFall}
 use Rattle.afdx_port.specs.Service.{service, sent_of}
-use Rattle.afdx_port.specs.Work.{EndsWithinASecond}
+use Rattle.afdx_port.specs.Inner.Work.{EndsWithinASecond}
 use Rattle.afdx_isolation.specs.Table.{settings_of}
 use Rattle.afdx_core.specs.Agreement.{VerdictsNameLinks}
 use Rattle.afdx_core.specs.Merge.{Arrival, Capture, arrivals_of, merged}

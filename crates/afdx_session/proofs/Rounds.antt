@@ -8,20 +8,20 @@ use Rattle.std.proofs.lemmas.Option.{slice_get_within}
 use Rattle.afdx_pcap.specs.Entry.{Entry}
 use Rattle.afdx_table.specs.Content.{Content}
 use Rattle.afdx_port.specs.Admission.{EarlierEventsStayAdmitted}
-use Rattle.afdx_port.specs.Order.{ReachesInOrder}
+use Rattle.afdx_port.specs.Inner.Order.{ReachesInOrder}
 use Rattle.afdx_core.specs.Handling.{Handling}
 use Rattle.afdx_core.specs.Rows.{row_of}
 use Rattle.afdx_core.specs.State.{State}
 use Rattle.afdx_core.specs.Held.{IsTaken}
 use Rattle.afdx_core.specs.Merge.{merged}
 use Rattle.afdx_count.specs.Tally.{Tally, noted}
-use Rattle.afdx_count.specs.Laws.{NoteCountsOneMore}
+use Rattle.afdx_count.specs.Inner.Laws.{NoteCountsOneMore}
 use Rattle.afdx_session.specs.declared.lane.Lane.{Lane}
 use Rattle.afdx_session.specs.declared.machine.Machine.{Machine}
-use Rattle.afdx_session.specs.Settled.{first_place}
+use Rattle.afdx_session.specs.Inner.Settled.{first_place}
 use Rattle.afdx_session.specs.Lanes.{waiting_of, limit_at, with_waiting, IsWithinPlace, IsFirstIn, IsLimit, Goes, GoesAt, NoneGoes}
-use Rattle.afdx_session.specs.Kept.{AreOfTable, IsGoing, AreTouched, IsOfSameTable}
-use Rattle.afdx_session.specs.View.{HasGone, IsRound}
+use Rattle.afdx_session.specs.Inner.Kept.{AreOfTable, IsGoing, AreTouched, IsOfSameTable}
+use Rattle.afdx_session.specs.Inner.View.{HasGone, IsRound}
 use Rattle.afdx_session.proofs.Going.{some_same}
 use Rattle.afdx_session.proofs.Gone.{at_index}
 use Rattle.afdx_session.proofs.Settles.{back_items}

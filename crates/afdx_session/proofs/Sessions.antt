@@ -9,10 +9,10 @@ use Rattle.afdx_pcap.specs.Capture.{IsCapture}
 use Rattle.afdx_table.specs.declared.rows.PortRow.{PortRow}
 use Rattle.afdx_table.specs.Content.{Content, port_row}
 use Rattle.afdx_port.specs.Admission.{EarlierEventsStayAdmitted}
-use Rattle.afdx_port.specs.Order.{ReachesInOrder}
+use Rattle.afdx_port.specs.Inner.Order.{ReachesInOrder}
 use Rattle.afdx_core.specs.State.{after_finish}
 use Rattle.afdx_count.specs.Tally.{ended as after_end}
-use Rattle.afdx_count.specs.Laws.{EndCountsTheRun}
+use Rattle.afdx_count.specs.Inner.Laws.{EndCountsTheRun}
 use Rattle.afdx_session.specs.declared.lane.Lane.{Lane}
 use Rattle.afdx_session.specs.declared.machine.Machine.{Machine}
 use Rattle.afdx_session.specs.declared.plan.RunFault.{RunFault}
@@ -25,8 +25,8 @@ use Rattle.afdx_session.specs.Streams.{AllStartBeforeTheLastInstant}
 use Rattle.afdx_session.specs.Session.{Intake, Seen, bytes_in, taken_in, taken_of, refusal_at, refusal, bytes_of, changed, fed, ended, took, after_feed, after_close, after_take, after_failure}
 use Rattle.afdx_session.specs.Session.{IsRefused, IsSoundSoFar, HasGoneOut}
 use Rattle.afdx_session.specs.Lanes.{intake_of, IsPieceFault}
-use Rattle.afdx_session.specs.Kept.{AreOfTable, IsOfSameTable, IsRunning}
-use Rattle.afdx_session.specs.View.{intakes_of, seen_of, gone_out, IsShownAt, IsKept, IsReady, AreHalfDone, AreEndedLanes, texts_at, IsTaken, IsOpenAt, IsFed, IsEnded, IsNotFed, IsNotEnded}
+use Rattle.afdx_session.specs.Inner.Kept.{AreOfTable, IsOfSameTable, IsRunning}
+use Rattle.afdx_session.specs.Inner.View.{intakes_of, seen_of, gone_out, IsShownAt, IsKeptMachine, IsReady, AreHalfDone, AreEndedLanes, texts_at, IsTaken, IsOpenAt, IsFed, IsEnded, IsNotFed, IsNotEnded}
 use Rattle.afdx_session.proofs.Going.{some_same}
 use Rattle.afdx_session.proofs.Gone.{at_index}
 use Rattle.afdx_session.proofs.Firsts.{map-set, get-map}
@@ -174,22 +174,22 @@ ports_after old new k l i at same is =
 -- a piece came, or a capture ended: what is true of each session stays
 pub kept_fed : {Z : Type 0} → EarlierEventsStayAdmitted → ReachesInOrder → AllStartBeforeTheLastInstant → (old new : Machine Z) (begun failed : Bool) (place : ℕ) (piece : List ℕ) → failed ≡ false
     → IsOfSameTable old.switch new.switch
-    → IsFed old.lanes.items new.lanes.items place piece → IsReady new true → IsKept old begun failed → IsKept new true failed
+    → IsFed old.lanes.items new.lanes.items place piece → IsReady new true → IsKeptMachine old begun failed → IsKeptMachine new true failed
 kept_fed stay reaches ends old new begun failed place piece not_failed same is ready kept =
-    subst (λ b. IsKept new true b) (sym not_failed)
+    subst (λ b. IsKeptMachine new true b) (sym not_failed)
     (kept_ready stay reaches ends old new begun failed same (ports_after old.lanes.items new.lanes.items place is.lane (fed piece (intake_of is.lane)) is.at refl is.intakes) kept ready)
 
 pub kept_ended : {Z : Type 0} → EarlierEventsStayAdmitted → ReachesInOrder → AllStartBeforeTheLastInstant → (old new : Machine Z) (begun failed : Bool) (place : ℕ) → failed ≡ false
     → IsOfSameTable old.switch new.switch
-    → IsEnded old.lanes.items new.lanes.items place → IsReady new true → IsKept old begun failed → IsKept new true failed
+    → IsEnded old.lanes.items new.lanes.items place → IsReady new true → IsKeptMachine old begun failed → IsKeptMachine new true failed
 kept_ended stay reaches ends old new begun failed place not_failed same is ready kept =
-    subst (λ b. IsKept new true b) (sym not_failed)
+    subst (λ b. IsKeptMachine new true b) (sym not_failed)
     (kept_ready stay reaches ends old new begun failed same (ports_after old.lanes.items new.lanes.items place is.lane (ended (intake_of is.lane)) is.at refl is.intakes) kept ready)
 
 -- the call failed
-pub kept_half : {Z : Type 0} (old new : Machine Z) (begun failed : Bool) → failed ≡ false → IsOfSameTable old.switch new.switch → AreHalfDone old.lanes.items new.lanes.items → IsKept old begun failed
-    → IsKept new begun true
-kept_half old new begun failed not_failed same half kept = kept_failed old new begun same half (subst (λ b. IsKept old begun b) not_failed kept)
+pub kept_half : {Z : Type 0} (old new : Machine Z) (begun failed : Bool) → failed ≡ false → IsOfSameTable old.switch new.switch → AreHalfDone old.lanes.items new.lanes.items → IsKeptMachine old begun failed
+    → IsKeptMachine new begun true
+kept_half old new begun failed not_failed same half kept = kept_failed old new begun same half (subst (λ b. IsKeptMachine old begun b) not_failed kept)
 
 pub answers_fed : {Z : Type 0} (old new : Machine Z) (begun failed : Bool) (v : Seen) (port place : ℕ) (piece : List ℕ) → seen_of old begun failed ≡ v → failed ≡ false
     → AreOfTable old.switch.run.table old.lanes.items → IsOpenAt old.lanes.items port place
@@ -239,16 +239,16 @@ place_is t lanes port place of at =
     let both = position_at (is_lane_of port) lanes place at in
     place_of_port t.ports lanes port place of.ports both.0 both.1
 
-shown_place : {Z : Type 0} (m : Machine Z) (begun failed : Bool) (port place : ℕ) (l : Lane Z) (kept : IsKept m begun failed) (is : IsPlaceOf m.switch.run.table.ports m.lanes.items port place)
+shown_place : {Z : Type 0} (m : Machine Z) (begun failed : Bool) (port place : ℕ) (l : Lane Z) (kept : IsKeptMachine m begun failed) (is : IsPlaceOf m.switch.run.table.ports m.lanes.items port place)
     → slice_get m.lanes.items place ≡ Some l
     → IsShownAt (gone_out m.switch.run.table begun kept.shown.streams is.row) l
 shown_place m begun failed port place l kept is at = kept.shown.each place is.row l is.row_at at
 
-pub take_fits : {Z : Type 0} (m : Machine Z) (begun failed : Bool) (port place : ℕ) (l : Lane Z) → IsKept m begun failed → position (is_lane_of port) m.lanes.items ≡ Some place
+pub take_fits : {Z : Type 0} (m : Machine Z) (begun failed : Bool) (port place : ℕ) (l : Lane Z) → IsKeptMachine m begun failed → position (is_lane_of port) m.lanes.items ≡ Some place
     → slice_get m.lanes.items place ≡ Some l → l.taken + l.ready < 2 ^ 128
 take_fits m begun failed port place l kept is at = (shown_place m begun failed port place l kept (place_is m.switch.run.table m.lanes.items port place kept.of is) at).bound
 
-pub answers_take : {Z : Type 0} (m next : Machine Z) (begun failed : Bool) (v : Seen) (port place : ℕ) (old new : Lane Z) (bytes : List ℕ) → seen_of m begun failed ≡ v → IsKept m begun failed
+pub answers_take : {Z : Type 0} (m next : Machine Z) (begun failed : Bool) (v : Seen) (port place : ℕ) (old new : Lane Z) (bytes : List ℕ) → seen_of m begun failed ≡ v → IsKeptMachine m begun failed
     → position (is_lane_of port) m.lanes.items ≡ Some place
     → slice_get m.lanes.items place ≡ Some old → IsTaken old new → bytes ≡ take old.ready old.out.items → next.switch ≡ m.switch → next.lanes.items ≡ set m.lanes.items place new
     → IfSome (port_row v.table port) (λ p. (text : List ℕ) × HasGoneOut v p text × (taken_of v port ≤ length text) × (bytes ≡ drop (taken_of v port) text)
@@ -323,13 +323,13 @@ lane_at lanes port place l at is = at_index lanes place l (position_at (is_lane_
 
 pub answers_finished : {Z : Type 0} → EarlierEventsStayAdmitted → ReachesInOrder → AllStartBeforeTheLastInstant → TakenAreTheCapture → EndCountsTheRun → AcceptedRunsIsolate
     → (old new : Machine Z) (begun failed : Bool) (v : Seen) (results : Results)
-    → seen_of old begun failed ≡ v → failed ≡ false → IsKept old begun failed → IsOfSameTable old.switch new.switch → AreHalfDone old.lanes.items new.lanes.items
+    → seen_of old begun failed ≡ v → failed ≡ false → IsKeptMachine old begun failed → IsOfSameTable old.switch new.switch → AreHalfDone old.lanes.items new.lanes.items
     → AreEndedLanes old.lanes.items new.lanes.items
     → IsRunning new.switch.run.table new.lanes.items new.switch new.counts → results.captures ≡ map (λ (l : Lane Z). (l.port, l.out.items)) new.lanes.items → results.counts
     ≡ after_end (after_finish new.switch.run) new.counts → IsFinished v results
 answers_finished stay reaches ends takes law isolate old new begun failed v results view not_failed kept same half closed running captures counts =
     subst (λ w. IsFinished w results) (seen_so_far old begun failed v view not_failed)
-    (finished stay reaches ends takes law isolate old new begun results (subst (λ b. IsKept old begun b) not_failed kept) same half closed running captures counts)
+    (finished stay reaches ends takes law isolate old new begun results (subst (λ b. IsKeptMachine old begun b) not_failed kept) same half closed running captures counts)
 
 pub answers_not_finished : {Z : Type 0} (old new : Machine Z) (begun failed : Bool) (v : Seen) (fault : RunFault) → seen_of old begun failed ≡ v → failed ≡ false → IsOfSameTable old.switch new.switch
     → AreHalfDone old.lanes.items new.lanes.items

@@ -5,7 +5,7 @@ use Rattle.std.specs.Vec.{with_items}
 use Rattle.std.proofs.lemmas.List.{with_items_is}
 use Rattle.afdx_table.specs.declared.rows.PortRow.{PortRow}
 use Rattle.afdx_session.specs.declared.lane.Lane.{Lane}
-use Rattle.afdx_session.specs.View.{IsSettledLane, AreSettledLanes, IsFreshLane, AreFreshLanes}
+use Rattle.afdx_session.specs.Inner.View.{IsSettledLane, AreSettledLanes, IsFreshLane, AreFreshLanes}
 use Rattle.afdx_session.proofs.Going.{some_same}
 
 -- what a loop over a list's elements leaves is written back

@@ -10,7 +10,7 @@ use Rattle.afdx_pcap.specs.Entry.{Entry}
 use Rattle.afdx_core.specs.Merge.{Arrival, Capture, Rises, part_at, records_of, arrivals_of, placed, by_stamp, merged, MergedIsAMerge, Precedes, AreByStampAndPort, PortsRise as NumbersRise}
 use Rattle.afdx_core.specs.Merge.{MergedIsByStampAndPort}
 use Rattle.afdx_session.specs.Streams.{Stream, capture_of, captures_of, last_of, merged_so_far, GoesOn, GoOn}
-use Rattle.afdx_session.specs.Settled.{Ascend, ports_of, ComesBefore, IsSettled, AreQueued, IsSettling, AllWait, AllRise}
+use Rattle.afdx_session.specs.Inner.Settled.{Ascend, ports_of, ComesBefore, IsSettled, AreQueued, IsSettling, AllWait, AllRise}
 use Rattle.afdx_session.proofs.Numbered.{all_append}
 use Rattle.afdx_session.proofs.OneMerge.{port_is, merge_is_unique}
 use Rattle.afdx_session.proofs.Growing.{further_of, last_grows}

@@ -5,14 +5,14 @@ use Rattle.std.proofs.lemmas.List.{length-append}
 use Rattle.afdx_pcap.specs.Reading.{NoNext}
 use Rattle.afdx_table.specs.Content.{Content}
 use Rattle.afdx_port.specs.Admission.{EarlierEventsStayAdmitted}
-use Rattle.afdx_port.specs.Order.{ReachesInOrder}
+use Rattle.afdx_port.specs.Inner.Order.{ReachesInOrder}
 use Rattle.afdx_session.specs.declared.lane.Lane.{Lane}
 use Rattle.afdx_session.specs.declared.machine.Machine.{Machine}
 use Rattle.afdx_session.specs.Streams.{Stream, AreWhole, AllStartBeforeTheLastInstant}
 use Rattle.afdx_session.specs.Session.{Intake, IsStream, AreStreams}
 use Rattle.afdx_session.specs.Lanes.{HasReadAll}
-use Rattle.afdx_session.specs.Kept.{AreLanesOf, AreOfTable, text_up_to, IsMarked, IsOfSameTable}
-use Rattle.afdx_session.specs.View.{intakes_of, gone_out, IsShownAt, IsShown, IsReady, IsKept, IsHalfDone, AreHalfDone}
+use Rattle.afdx_session.specs.Inner.Kept.{AreLanesOf, AreOfTable, text_up_to, IsMarked, IsOfSameTable}
+use Rattle.afdx_session.specs.Inner.View.{intakes_of, gone_out, IsShownAt, IsShown, IsReady, IsKeptMachine, IsHalfDone, AreHalfDone}
 use Rattle.afdx_session.proofs.Going.{some_same}
 use Rattle.afdx_session.proofs.Numbered.{all_slice_get}
 use Rattle.afdx_session.proofs.Gone.{text_is}
@@ -120,7 +120,7 @@ half_ports {Z = Z} (l ∷ old) (n ∷ new) half = ap (λ m. m ∷ map (λ (x : L
 
 -- ---- what is true of each session stays
 
-pub kept_failed : {Z : Type 0} (old new : Machine Z) (begun : Bool) → IsOfSameTable old.switch new.switch → AreHalfDone old.lanes.items new.lanes.items → IsKept old begun false → IsKept new begun true
+pub kept_failed : {Z : Type 0} (old new : Machine Z) (begun : Bool) → IsOfSameTable old.switch new.switch → AreHalfDone old.lanes.items new.lanes.items → IsKeptMachine old begun false → IsKeptMachine new begun true
 kept_failed old new begun same half kept = record {
   of = subst (λ t. AreOfTable t new.lanes.items) (sym same.table) (record { formed = kept.of.formed; ports = half_ports old.lanes.items new.lanes.items half ∙ kept.of.ports });
   handed = same.handed ∙ kept.handed ∙ ap (λ (t : Content). length t.ports) (sym same.table);
@@ -133,7 +133,7 @@ kept_failed old new begun same half kept = record {
 
 pub kept_ready : {Z : Type 0} → EarlierEventsStayAdmitted → ReachesInOrder → AllStartBeforeTheLastInstant → (old new : Machine Z) (begun failed : Bool) → IsOfSameTable old.switch new.switch
     → map (λ (l : Lane Z). l.port) new.lanes.items ≡ map (λ (l : Lane Z). l.port) old.lanes.items
-    → IsKept old begun failed → IsReady new true → IsKept new true false
+    → IsKeptMachine old begun failed → IsReady new true → IsKeptMachine new true false
 kept_ready stay reaches ends old new begun failed same ports kept ready = record {
   of = of;
   handed = same.handed ∙ kept.handed ∙ ap (λ (t : Content). length t.ports) (sym same.table);

@@ -13,11 +13,11 @@ use Rattle.afdx_count.specs.Tally.{Tally}
 use Rattle.afdx_session.specs.declared.lane.Lane.{Lane}
 use Rattle.afdx_session.specs.declared.machine.Machine.{Machine}
 use Rattle.afdx_session.specs.Streams.{Stream}
-use Rattle.afdx_session.specs.Settled.{IsSettling}
+use Rattle.afdx_session.specs.Inner.Settled.{IsSettling}
 use Rattle.afdx_session.specs.Session.{IsStream, AreStreams, took}
 use Rattle.afdx_session.specs.Lanes.{intake_of, waiting_of, HasReadAll}
-use Rattle.afdx_session.specs.Kept.{IsLaneOf, AreLanesOf, text_up_to, IsOut, IsGoing, IsRunning, IsMarked}
-use Rattle.afdx_session.specs.View.{intakes_of, gone_out, IsShownAt, IsShown, IsKept, IsTaken}
+use Rattle.afdx_session.specs.Inner.Kept.{IsLaneOf, AreLanesOf, text_up_to, IsOut, IsGoing, IsRunning, IsMarked}
+use Rattle.afdx_session.specs.Inner.View.{intakes_of, gone_out, IsShownAt, IsShown, IsKeptMachine, IsTaken}
 use Rattle.afdx_session.proofs.Going.{some_same, get-set}
 use Rattle.afdx_session.proofs.Numbered.{all_slice_get}
 use Rattle.afdx_session.proofs.ReadUp.{read_same, all_set}
@@ -207,7 +207,7 @@ running_took {Z} begun t lanes s counts k old new at taken marked run = record {
 -- what is true of a session stays
 pub kept_taken : {Z : Type 0} (m next : Machine Z) (begun failed : Bool) (k : ℕ) (old new : Lane Z) → slice_get m.lanes.items k ≡ Some old → IsTaken old new → next.switch ≡ m.switch → next.counts
     ≡ m.counts → next.lanes.items ≡ set m.lanes.items k new
-    → IsKept m begun failed → IsKept next begun failed
+    → IsKeptMachine m begun failed → IsKeptMachine next begun failed
 kept_taken {Z} m next begun failed k old new at taken switch counts lanes kept = record {
   of = rw (switch, lanes) (record { formed = kept.of.formed; ports = took_ports m.lanes.items k old new at taken ∙ kept.of.ports });
   handed = rw switch kept.handed;

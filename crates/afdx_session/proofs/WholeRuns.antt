@@ -5,12 +5,12 @@ use Rattle.std.specs.List.{AllByRecursion}
 use Rattle.afdx_table.specs.declared.rows.PortRow.{PortRow}
 use Rattle.afdx_table.specs.Content.{Content}
 use Rattle.afdx_port.specs.Admission.{EarlierEventsStayAdmitted}
-use Rattle.afdx_port.specs.Order.{ReachesInOrder}
+use Rattle.afdx_port.specs.Inner.Order.{ReachesInOrder}
 use Rattle.afdx_core.specs.State.{Run, State, after_finish}
 use Rattle.afdx_core.specs.Isolation.{IsRun}
 use Rattle.afdx_core.specs.Merge.{merged}
 use Rattle.afdx_count.specs.Tally.{ended}
-use Rattle.afdx_count.specs.Laws.{EndCountsTheRun}
+use Rattle.afdx_count.specs.Inner.Laws.{EndCountsTheRun}
 use Rattle.afdx_session.specs.declared.lane.Lane.{Lane}
 use Rattle.afdx_session.specs.declared.machine.Machine.{Machine}
 use Rattle.afdx_session.specs.declared.plan.RunFault.{RunFault}
@@ -24,8 +24,8 @@ use Rattle.afdx_session.specs.Streams.{captures_of, AllStartBeforeTheLastInstant
 use Rattle.afdx_session.specs.Session.{Intake, Seen, taken_in, taken_of}
 use Rattle.afdx_session.specs.Finish.{rest_of, IsFinished}
 use Rattle.afdx_session.specs.Lanes.{intake_of}
-use Rattle.afdx_session.specs.Kept.{IsMarked, IsOfSameTable, IsGoing}
-use Rattle.afdx_session.specs.View.{texts_at, seen_of, intakes_of, IsReady, IsKept, AreLent, HasCarried}
+use Rattle.afdx_session.specs.Inner.Kept.{IsMarked, IsOfSameTable, IsGoing}
+use Rattle.afdx_session.specs.Inner.View.{texts_at, seen_of, intakes_of, IsReady, IsKeptMachine, AreLent, HasCarried}
 use Rattle.afdx_session.proofs.Intakes.{marked_bytes}
 use Rattle.afdx_session.proofs.Shown.{kept_ready}
 use Rattle.afdx_session.proofs.Ending.{TakenAreTheCapture, are_captures, given_all}
@@ -72,9 +72,9 @@ same_results a b captures counts = ap (λ texts. record { captures = texts; coun
 -- ---- the run
 
 -- what is true of each session is true of a machine that all captures were lent to
-pub kept_lent : {Z : Type 0} → EarlierEventsStayAdmitted → ReachesInOrder → AllStartBeforeTheLastInstant → (old new : Machine Z) (t : Content) (texts : List Text) → IsKept old false false
+pub kept_lent : {Z : Type 0} → EarlierEventsStayAdmitted → ReachesInOrder → AllStartBeforeTheLastInstant → (old new : Machine Z) (t : Content) (texts : List Text) → IsKeptMachine old false false
     → old.switch.run.table ≡ t → AreOfPorts t texts → IsOfSameTable old.switch new.switch → IsReady new true
-    → AreLent texts new.lanes.items → IsKept new true false
+    → AreLent texts new.lanes.items → IsKeptMachine new true false
 kept_lent stay reaches ends old new t texts kept table ports same ready lent =
     kept_ready stay reaches ends old new false false same (lent_ports texts new.lanes.items lent ∙ ports ∙ ap (λ (c : Content). map (λ (p : PortRow). p.id) c.ports) (sym table) ∙ sym kept.of.ports)
     kept ready

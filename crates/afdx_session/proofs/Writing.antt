@@ -9,7 +9,7 @@ use Rattle.afdx_table.specs.Content.{Content}
 use Rattle.afdx_port.specs.declared.Sent.{Sent}
 use Rattle.afdx_port.specs.Content.{done}
 use Rattle.afdx_port.specs.Service.{sent_of}
-use Rattle.afdx_port.specs.Order.{ReachesInOrder}
+use Rattle.afdx_port.specs.Inner.Order.{ReachesInOrder}
 use Rattle.afdx_port.specs.Course.{EventsAreInParts}
 use Rattle.afdx_core.specs.declared.kinds.Row.{Row}
 use Rattle.afdx_core.specs.State.{Run, State, sent_in, port_after, place_of, next_by, after_finish}
@@ -17,7 +17,7 @@ use Rattle.afdx_core.specs.Held.{Keeps}
 use Rattle.afdx_core.specs.Merge.{Arrival, arrivals_of, by_stamp, merged}
 use Rattle.afdx_count.specs.Tally.{ended}
 use Rattle.afdx_count.specs.Run.{counts_so_far, counts_of}
-use Rattle.afdx_count.specs.Laws.{EndCountsTheRun}
+use Rattle.afdx_count.specs.Inner.Laws.{EndCountsTheRun}
 use Rattle.afdx_session.specs.declared.lane.Lane.{Lane}
 use Rattle.afdx_session.specs.declared.machine.Machine.{Machine}
 use Rattle.afdx_session.specs.Texts.{Text, AreOfPorts}
@@ -25,10 +25,10 @@ use Rattle.afdx_session.specs.Reading.{AreCaptures}
 use Rattle.afdx_session.specs.Output.{rows_of, written, output_text, sent_by}
 use Rattle.afdx_session.specs.Replay.{HasBytesOf, left_at, IsDrained}
 use Rattle.afdx_session.specs.Streams.{Stream, captures_of, sent_up_to}
-use Rattle.afdx_session.specs.Settled.{Draws}
+use Rattle.afdx_session.specs.Inner.Settled.{Draws}
 use Rattle.afdx_session.specs.Lanes.{waiting_of}
-use Rattle.afdx_session.specs.Lent.{IsOver, texts_over, HaveGone}
-use Rattle.afdx_session.specs.Kept.{AreLanesOf, text_up_to, IsOut, IsGoing}
+use Rattle.afdx_session.specs.Inner.Lent.{IsOver, texts_over, HaveGone}
+use Rattle.afdx_session.specs.Inner.Kept.{AreLanesOf, text_up_to, IsOut, IsGoing}
 use Rattle.afdx_session.specs.Carried.{Rest, IsLeft, IsCarried}
 use Rattle.afdx_session.proofs.Draining.{none_left}
 use Rattle.afdx_session.proofs.Drawing.{sent-front, capture-append, same_handed}

@@ -134,7 +134,7 @@ AreFedOn [] (n ∷ later) = ⊥
 AreFedOn (i ∷ intakes) [] = ⊥
 AreFedOn (i ∷ intakes) (n ∷ later) = IsFedOn i n × AreFedOn intakes later
 
--- however the bytes come in pieces, what has gone out so far is a front of what has gone out later
+-- however the bytes come in pieces, what has gone out so far is a prefix of what has gone out later
 abbrev pub OutputGrowsWithBytes : Type 0
 OutputGrowsWithBytes = (t : Content) (intakes later : List Intake) (streams others : List Stream) (p : PortRow) → AreFedOn intakes later → AreStreams intakes streams → AreStreams later others
     → (rest : List ℕ) × (text_so_far t others p ≡ text_so_far t streams p ++ rest)

@@ -6,7 +6,7 @@ ghost use Rattle.afdx_pcap.specs.Capture.{IsCapture};
 ghost use Rattle.afdx_pcap.specs.Fault.{IsFault};
 ghost use Rattle.afdx_session.specs.Texts.{texts_of};
 ghost use Rattle.afdx_session.specs.Reading.{IsReadFault};
-ghost use Rattle.afdx_session.specs.Lent.{AreSound};
+ghost use Rattle.afdx_session.specs.Inner.Lent.{AreSound};
 
 use crate::plan::RunFault;
 use afdx_pcap::{PcapFault, Reader};

@@ -4,8 +4,8 @@ ghost use Rattle.std.specs.Prelude.{◌≡◌, ◌++◌, ◌≤◌, ℕ, Some, N
 ghost use Rattle.afdx_core.specs.Merge.{Arrival};
 ghost use Rattle.afdx_core.specs.State.{place_of, next_by};
 ghost use Rattle.afdx_session.specs.Replay.{HasBytesOf, IsDrained};
-ghost use Rattle.afdx_session.specs.Settled.{IsGiven, HandsOut, Draws};
-ghost use Rattle.afdx_session.specs.Kept.{AreOfTable, AreOut, AreGrown, Every};
+ghost use Rattle.afdx_session.specs.Inner.Settled.{IsGiven, HandsOut, Draws};
+ghost use Rattle.afdx_session.specs.Inner.Kept.{AreOfTable, AreOut, AreGrown, Every};
 ghost use Rattle.afdx_table.specs.Content.{Content};
 
 use crate::lane::Lane;

@@ -1,12 +1,12 @@
 //! Laws over the definitions.
 
 ghost use Rattle.afdx_session.specs.Headline.{AcceptedRunsIsolate, OwnFramesAreTheLinksAlone, OthersChangeNothing};
-ghost use Rattle.afdx_session.specs.OneMerge.{MergedIsTheOnlyOne};
-ghost use Rattle.afdx_session.specs.Pieces.{CallsGoOn, NothingWasTaken, TakenStays, TakesJoin, TakenIsAFront, TakesAndRestAreTheOutput};
-ghost use Rattle.afdx_session.specs.Readable.{OutputsAreReadable};
+ghost use Rattle.afdx_session.specs.Inner.OneMerge.{MergedIsTheOnlyOne};
+ghost use Rattle.afdx_session.specs.Inner.Pieces.{CallsGoOn, NothingWasTaken, TakenStays, TakesJoin, TakenIsAPrefix, TakesAndRestAreTheOutput};
+ghost use Rattle.afdx_session.specs.Inner.Readable.{OutputsAreReadable};
 ghost use Rattle.afdx_session.specs.Session.{OutputGrowsWithBytes, WholeRecordsAreUnique};
-ghost use Rattle.afdx_session.specs.Settled.{MergeIsUnique, SettledStays, SettledRecordsGo, RestComesAtTheFrontier, SwitchShowsWhatLeft};
-ghost use Rattle.afdx_session.specs.Streams.{LaterArrivalsChangeNothing, OutputGrows, TextGrows, OutputOfAll, IsFrontOfTheOutput, AllStartBeforeTheLastInstant};
+ghost use Rattle.afdx_session.specs.Inner.Settled.{MergeIsUnique, SettledStays, SettledRecordsGo, RestComesAtTheFrontier, SwitchShowsWhatLeft};
+ghost use Rattle.afdx_session.specs.Streams.{LaterArrivalsChangeNothing, OutputGrows, TextGrows, OutputOfAll, IsPrefixOfTheOutput, AllStartBeforeTheLastInstant};
 
 use afdx_core::laws::{
     accepted_tables_isolate, merged_is_a_merge, merged_is_by_stamp_and_port, verdicts_name_links,
@@ -52,12 +52,12 @@ pub fn later_arrivals_change_nothing()
     stamps_keep_their_order();
 }
 
-/// What has left so far is a front of what has left later, and in the end of the output of all.
+/// What has left so far is a prefix of what has left later, and in the end of the output of all.
 pub fn output_so_far_grows()
     ensures records { OutputGrows }
     ensures texts { TextGrows }
     ensures all { OutputOfAll }
-    ensures front { IsFrontOfTheOutput }
+    ensures prefix { IsPrefixOfTheOutput }
 {
     arrivals_change_nothing_earlier();
     stamps_keep_their_order();
@@ -101,7 +101,7 @@ pub fn settled_records_go()
     ensures rest { RestComesAtTheFrontier }
 {}
 
-/// However the bytes come in pieces, what has gone out so far is a front of what has gone out later; the bytes so
+/// However the bytes come in pieces, what has gone out so far is a prefix of what has gone out later; the bytes so
 /// far have one list of whole records.
 pub fn output_grows_with_bytes()
     ensures grows { OutputGrowsWithBytes }
@@ -120,7 +120,7 @@ pub fn takes_join_to_the_output()
     ensures none { NothingWasTaken }
     ensures stays { TakenStays }
     ensures joins { TakesJoin }
-    ensures front { TakenIsAFront }
+    ensures prefix { TakenIsAPrefix }
     ensures whole { TakesAndRestAreTheOutput }
 {
     arrivals_change_nothing_earlier();

@@ -10,10 +10,10 @@ ghost use Rattle.afdx_core.specs.Held.{told, IsTaken, Keeps};
 ghost use Rattle.afdx_core.specs.Rows.{row_of};
 ghost use Rattle.afdx_core.specs.State.{refusal_of, fresh_state, after_finish};
 ghost use Rattle.afdx_count.specs.Tally.{noted, fresh, ended};
-ghost use Rattle.afdx_session.specs.Kept.{AreOfTable, AreTouched, IsOfSameTable, IsGoing, IsRunning, come_to};
+ghost use Rattle.afdx_session.specs.Inner.Kept.{AreOfTable, AreTouched, IsOfSameTable, IsGoing, IsRunning, come_to};
 ghost use Rattle.afdx_session.specs.Lanes.{limit_at, NoneGoes, IsLimit};
-ghost use Rattle.afdx_session.specs.Lent.{texts_over, IsOneFault, IsCarrying, CarriesOn, HandsOn, HaveGone};
-ghost use Rattle.afdx_session.specs.View.{IsRound, IsReady, IsOpenAt, IsFed, IsNotFed, IsEnded, IsNotEnded, AreSettledLanes, AreFreshLanes, AreHalfDone, AreEndedLanes, AreLent, texts_at};
+ghost use Rattle.afdx_session.specs.Inner.Lent.{texts_over, IsOneFault, IsCarrying, CarriesOn, HandsOn, HaveGone};
+ghost use Rattle.afdx_session.specs.Inner.View.{IsRound, IsReady, IsOpenAt, IsFed, IsNotFed, IsEnded, IsNotEnded, AreSettledLanes, AreFreshLanes, AreHalfDone, AreEndedLanes, AreLent, texts_at};
 ghost use Rattle.afdx_session.specs.Texts.{texts_of, AreOfPorts};
 ghost use Rattle.afdx_session.specs.Reading.{IsReadFault};
 
@@ -54,7 +54,7 @@ pub(crate) struct Machine<'a, A: Allocator> {
 }
 
 /// The fault that an arrival is refused for where its port is the table's and its stamp does not go back.
-fn want_of_memory(fault: CoreFault) -> AllocError
+fn out_of_memory(fault: CoreFault) -> AllocError
     requires { told fault ≡ None }
 {
     match fault {
@@ -116,7 +116,7 @@ impl<'a, A: Allocator + Copy> Machine<'a, A> {
                 self.counts.note(&step);
                 Ok(())
             }
-            Err((fault, _)) => Err(want_of_memory(fault)),
+            Err((fault, _)) => Err(out_of_memory(fault)),
         }
     }
 

@@ -7,7 +7,7 @@ ghost use Rattle.afdx_core.specs.Merge.{Arrival};
 ghost use Rattle.afdx_core.specs.State.{place_of, next_by};
 ghost use Rattle.afdx_session.specs.Output.{output_text};
 ghost use Rattle.afdx_session.specs.Replay.{HasBytesOf, IsDrained};
-ghost use Rattle.afdx_session.specs.Settled.{Draws};
+ghost use Rattle.afdx_session.specs.Inner.Settled.{Draws};
 ghost use Rattle.afdx_session.specs.Carried.{IsLeft};
 
 use crate::lane::Lane;

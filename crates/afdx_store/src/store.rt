@@ -33,11 +33,11 @@ impl<'a, A: Allocator> Model for Store<'a, A> {
 
     ghost Value = { StoreValue };
 
-    ghost use Rattle.afdx_store.specs.Kept.{value_of, IsKept};
+    ghost use Rattle.afdx_store.specs.Kept.{value_of, IsKeptStore};
 
     ghost view = { value_of };
 
-    ghost invariant = { IsKept };
+    ghost invariant = { IsKeptStore };
 }
 
 /// Empties the slot at a key.
@@ -118,7 +118,7 @@ impl<'a, A: Allocator + Copy> Store<'a, A> {
     }
 
     /// Gives up one copy of a frame, and the frame with the last of them. O(1).
-    pub fn give_up(&mut self, number: usize)
+    pub fn discard(&mut self, number: usize)
         requires { is_held self.old.held number ≡ true }
         ensures held { self.new.held ≡ set self.old.held number (one_less (slice_index_or self.old.held number None)) }
         ensures room { self.new.room ≡ self.old.room }

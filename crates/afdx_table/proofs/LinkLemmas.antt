@@ -9,7 +9,7 @@ use Rattle.std.proofs.lemmas.List.{length-map, map-append}
 use Rattle.std.proofs.lemmas.List.Quantifiers.{position-Some}
 use Rattle.afdx_table.specs.Link.{Link}
 use Rattle.afdx_table.specs.Links.{has_link}
-use Rattle.afdx_table.specs.Found.{LinksStandAtTheirPlaces}
+use Rattle.afdx_table.specs.Inner.Found.{LinksStandAtTheirPlaces}
 
 -- ---- a search of the rows by number is one of their numbers
 

@@ -4,7 +4,7 @@ use Rattle.std.specs.List.{AllByRecursion}
 use Rattle.std.proofs.lemmas.Bool.Decides.{nat_tests}
 use Rattle.afdx_table.specs.declared.rows.PortRow.{PortRow}
 use Rattle.afdx_table.specs.WellFormed.{Rises}
-use Rattle.afdx_table.specs.Found.{PortsAreFound}
+use Rattle.afdx_table.specs.Inner.Found.{PortsAreFound}
 
 same : (a : ℕ) → (a == a) ≡ true
 same a = grind (arith, nat_tests)

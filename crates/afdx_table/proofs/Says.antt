@@ -25,7 +25,7 @@ use Rattle.afdx_table.specs.Refusal.{or_refuse}
 use Rattle.afdx_table.specs.Fields.{natural_of, are_known, known_at, all_of, value_at, number_in, text_in, number_at, bounded, bounded_at, text_at, if_present, optional_number_at, optional_text_at}
 use Rattle.afdx_table.specs.Fields.{tables_in, tables_at, as_natural, bounded_natural, all_bounded, numbers_at}
 use Rattle.afdx_table.specs.Links.{police_from}
-use Rattle.afdx_table.specs.Holds.{Has, HasNone, HasNumber, HasText, number_items, HasNumbers, table_items, HasTables, mbit_of, priority_text, police_text, HasPolice, HasSpeed}
+use Rattle.afdx_table.specs.Inner.Holds.{Has, HasNone, HasNumber, HasText, number_items, HasNumbers, table_items, HasTables, mbit_of, priority_text, police_text, HasPolice, HasSpeed}
 use Rattle.afdx_table.proofs.Steps.{steps, ok_inside}
 
 -- ---- values of one kind

@@ -24,7 +24,7 @@ use Rattle.afdx_table.specs.Top.{Top, all_keys, top_keys, version_from, group_ad
 use Rattle.afdx_table.specs.Ports.{with_port, port_keys, port_at, ports_from}
 use Rattle.afdx_table.specs.Links.{link_keys, police_from, row_at, fitting, link_at, links_from}
 use Rattle.afdx_table.specs.Text.{content_of, tree_of, table_of}
-use Rattle.afdx_table.specs.Holds.{IsPortOf, IsLinkOf, HasNumber, HasVersion, HasConstant, HasLatency, HasTables, Holds, TablesHoldTheirTexts}
+use Rattle.afdx_table.specs.Inner.Holds.{IsPortOf, IsLinkOf, HasNumber, HasVersion, HasConstant, HasLatency, HasTables, Holds, TablesHoldTheirTexts}
 use Rattle.afdx_table.proofs.Steps.{steps, ok_inside}
 use Rattle.afdx_table.proofs.Says.{there, known_at-says, number_at-says, bounded_at-says, text_at-says, optional_number_at-says, no_number, optional_text_at-says, no_text, tables_at-says}
 use Rattle.afdx_table.proofs.Says.{numbers_at-says, speed-says, bag-says, priority-says, police-says}

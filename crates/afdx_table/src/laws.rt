@@ -1,8 +1,8 @@
 //! Laws over the definitions.
 
 ghost use Rattle.afdx_table.specs.WellFormed.{TablesAreWellFormed};
-ghost use Rattle.afdx_table.specs.Holds.{TablesHoldTheirTexts};
-ghost use Rattle.afdx_table.specs.Found.{LinksAreFound, LinksStandAtTheirPlaces, PortsAreFound};
+ghost use Rattle.afdx_table.specs.Inner.Holds.{TablesHoldTheirTexts};
+ghost use Rattle.afdx_table.specs.Inner.Found.{LinksAreFound, LinksStandAtTheirPlaces, PortsAreFound};
 
 /// Every table of a text is well formed.
 pub fn tables_are_well_formed()

@@ -18,7 +18,7 @@ use Rattle.afdx_core.specs.State.{Run}
 use Rattle.afdx_trace.specs.Csv.{joined, optional}
 use Rattle.afdx_trace.specs.Arrivals.{verdict_word, fate_word, early_in, full_in, fate_fields, refusing}
 use Rattle.afdx_trace.specs.declared.teller.Teller.{Teller}
-use Rattle.afdx_trace.specs.Telling.{IsPassed, IsPoliced, Tells}
+use Rattle.afdx_trace.specs.Inner.Telling.{IsPassed, IsPoliced, Tells}
 
 -- the fields of a fate, by the link
 abbrev fields_by : Run → List Row → Row → Option Link → List (List ℕ)

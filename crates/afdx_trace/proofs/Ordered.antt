@@ -11,7 +11,7 @@ use Rattle.afdx_port.specs.declared.Aged.{Aged}
 use Rattle.afdx_port.specs.Service.{Event, sending, aging, instant, free_after, came, fate, next, others, in_turn, serve}
 use Rattle.afdx_port.specs.Content.{done}
 use Rattle.afdx_trace.specs.Departures.{AreInOrder}
-use Rattle.afdx_trace.specs.Laws.{EventsAreInOrder}
+use Rattle.afdx_trace.specs.Inner.Laws.{EventsAreInOrder}
 
 -- none lies before an instant
 abbrev NoneBefore : ℕ → List Event → Type 0
@@ -34,13 +34,13 @@ takes_time Thousand size = omega arith
 event_first : (s : Settings) (b : ℕ) (x : Item) (events : List Event) → NoneBefore (free_after (fate s b x)) events → AreInOrder events
     → AreInOrder (fate s b x ∷ events)
 event_first s b x events late order = by (nat_lt s.max_delay (b - x.stamp)) late where
-  given_up : Aged
-  given_up = record { item = x; at = b }
+  discarded : Aged
+  discarded = record { item = x; at = b }
 
   sent : Sent
   sent = record { item = x; begin = b; end = b + cost_of s.speed x.size }
 
-  by : (old : Bool) → NoneBefore (free_after (cond old (aging given_up) (sending sent))) events → AreInOrder (cond old (aging given_up) (sending sent) ∷ events)
+  by : (old : Bool) → NoneBefore (free_after (cond old (aging discarded) (sending sent))) events → AreInOrder (cond old (aging discarded) (sending sent) ∷ events)
   by true late = (late, order)
   by false late = (none_at b (b + cost_of s.speed x.size) events (let some = takes_time s.speed x.size in omega (arith, some)) late, order)
 

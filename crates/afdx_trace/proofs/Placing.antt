@@ -9,7 +9,7 @@ use Rattle.afdx_table.specs.declared.rows.PortRow.{PortRow}
 use Rattle.afdx_table.specs.Link.{Link}
 use Rattle.afdx_table.specs.Content.{Content, link_row}
 use Rattle.afdx_table.specs.WellFormed.{IsLink}
-use Rattle.afdx_table.specs.Found.{LinksAreFound, LinksStandAtTheirPlaces}
+use Rattle.afdx_table.specs.Inner.Found.{LinksAreFound, LinksStandAtTheirPlaces}
 use Rattle.afdx_filter.specs.declared.outcome.Verdict.{Verdict}
 use Rattle.afdx_filter.specs.declared.outcome.Verdict.TheVariants.{Cut, Short, Long, Foreign, NoLink, WrongPort, TooBig, Clean}
 use Rattle.afdx_filter.specs.Place.{place_named}

@@ -20,13 +20,13 @@ use Rattle.afdx_port.specs.declared.Offer.TheVariants.{Queued, Full}
 use Rattle.afdx_port.specs.Service.{Event, sending, aging, item_of as item_in, service, sent_of, aged_of}
 use Rattle.afdx_port.specs.Admission.{fits, admit, admit_all, admitted}
 use Rattle.afdx_port.specs.Content.{done}
-use Rattle.afdx_port.specs.Events.{EachHasOneEvent}
+use Rattle.afdx_port.specs.Inner.Events.{EachHasOneEvent}
 use Rattle.afdx_isolation.specs.Table.{settings_of}
 use Rattle.afdx_core.specs.declared.kinds.Row.{Row}
 use Rattle.afdx_core.specs.Rows.{each_after, named, passes, item_of, copies_by, copies, feed_of}
 use Rattle.afdx_core.specs.State.{Run, sent_in, aged_in, answer_of, offers_by}
 use Rattle.afdx_trace.specs.Arrivals.{took, refusing, full_in}
-use Rattle.afdx_trace.specs.Laws.{is_full, full_ports, run_before, FullIsExact}
+use Rattle.afdx_trace.specs.Inner.Laws.{is_full, full_ports, run_before, FullIsExact}
 
 abbrev is_copy : ℕ → Item → Bool
 is_copy k x = x.number == k

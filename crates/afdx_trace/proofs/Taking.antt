@@ -13,7 +13,7 @@ use Rattle.afdx_port.specs.declared.Sent.{Sent}
 use Rattle.afdx_port.specs.declared.Aged.{Aged}
 use Rattle.afdx_core.specs.State.{Run, sent_in, aged_in}
 use Rattle.afdx_trace.specs.Arrivals.{took, refusing}
-use Rattle.afdx_trace.specs.Taken.{flag_at, unflagged, AreTaken}
+use Rattle.afdx_trace.specs.Inner.Taken.{flag_at, unflagged, AreTaken}
 
 -- the flags of the ports below this one
 abbrev pub AreTakenBelow : Run → ℕ → List (List Bool) → Type 0

@@ -1,6 +1,4 @@
 pub mod Arrivals
 pub mod Csv
 pub mod Departures
-pub mod Laws
-pub mod Taken
-pub mod Telling
+pub mod Inner

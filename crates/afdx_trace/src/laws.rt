@@ -1,6 +1,6 @@
 //! Laws over the definitions.
 
-ghost use Rattle.afdx_trace.specs.Laws.{EventsAreInOrder, FullIsExact};
+ghost use Rattle.afdx_trace.specs.Inner.Laws.{EventsAreInOrder, FullIsExact};
 
 use afdx_port::laws::each_has_one_event;
 

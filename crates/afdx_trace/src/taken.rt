@@ -3,7 +3,7 @@
 ghost use Rattle.std.specs.Prelude.{◌≡◌, ℕ, ◌<◌, ◌==◌, ◌||◌, [], true, false, length, set, slice_index_or, IfOk};
 ghost use Rattle.std.specs.List.{list_any};
 ghost use Rattle.afdx_table.specs.WellFormed.{IsWellFormed};
-ghost use Rattle.afdx_trace.specs.Taken.{AreTaken, flag_at, unflagged};
+ghost use Rattle.afdx_trace.specs.Inner.Taken.{AreTaken, flag_at, unflagged};
 
 use afdx_core::Done;
 use afdx_port::{Aged, Sent};

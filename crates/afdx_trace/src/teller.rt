@@ -5,8 +5,8 @@ ghost use Rattle.afdx_filter.specs.Place.{place_named};
 ghost use Rattle.afdx_core.specs.Kept.{AccountsStand};
 ghost use Rattle.afdx_trace.specs.Csv.{field, joined, optional};
 ghost use Rattle.afdx_trace.specs.Arrivals.{verdict_word, record_in, frame_fields, fate_fields, arrival_line};
-ghost use Rattle.afdx_trace.specs.Taken.{AreTaken};
-ghost use Rattle.afdx_trace.specs.Telling.{AreCounted, IsPassed, IsPoliced, Tells};
+ghost use Rattle.afdx_trace.specs.Inner.Taken.{AreTaken};
+ghost use Rattle.afdx_trace.specs.Inner.Telling.{AreCounted, IsPassed, IsPoliced, Tells};
 
 use crate::fields::{put_number, put_optional, put_ports, put_word};
 use crate::taken::{Flags, all_taken, refusing};

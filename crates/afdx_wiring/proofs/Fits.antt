@@ -11,15 +11,15 @@ use Rattle.afdx_wiring.specs.Net.{Network, Back, rows_of, rows_on, IsWayBack}
 use Rattle.afdx_wiring.specs.Rules.{Joins, GoesOn, FitsTogether}
 use Rattle.afdx_wiring.specs.Order.{Answer, first_of, by_wires, joined_at, shares, most_rows, has_source, fed_numbers, each_once, misfit}
 use Rattle.afdx_wiring.proofs.Chains.{first_kept, rest_kept, wires_kept, all_kept, all_weaken, all_both}
-use Rattle.afdx_wiring.proofs.JointLemmas.{IsKept, joins, all_go}
+use Rattle.afdx_wiring.proofs.JointLemmas.{SharesAt, joins, all_go}
 use Rattle.afdx_wiring.proofs.FeedLemmas.{way_back, source_there}
 use Rattle.afdx_wiring.proofs.OnceLemmas.{once}
 
-shared_by_all : (net : Network) (what : Shared) → by_wires (shares net what) 0 net.layout.wires ≡ Ok tt → AllByRecursion (IsKept net what) net.layout.wires
-shared_by_all net what h = wires_kept (shares net what) (IsKept net what) (λ at w kept. (at, kept)) 0 net.layout.wires h
+shared_by_all : (net : Network) (what : Shared) → by_wires (shares net what) 0 net.layout.wires ≡ Ok tt → AllByRecursion (SharesAt net what) net.layout.wires
+shared_by_all net what h = wires_kept (shares net what) (SharesAt net what) (λ at w kept. (at, kept)) 0 net.layout.wires h
 
 abbrev AllKept : Network → Wire → Type 0
-AllKept net w = Joins net w × (IsKept net shared.Number w × (IsKept net shared.Port w × IsKept net shared.Terms w))
+AllKept net w = Joins net w × (SharesAt net shared.Number w × (SharesAt net shared.Port w × SharesAt net shared.Terms w))
 
 goes_on : (net : Network) (w : Wire) → AllKept net w → All (GoesOn net w) (rows_on net w)
 goes_on net w kept = All-from_recursion (GoesOn net w) (rows_on net w) (all_go net w kept.0 kept.1.0 kept.1.1.0 kept.1.1.1)
@@ -47,9 +47,9 @@ fits net h =
     let ns = shared_by_all net shared.Number (first_kept numbers after_numbers tt h1) in
     let ps = shared_by_all net shared.Port (first_kept ports after_ports tt h2) in
     let ts = shared_by_all net shared.Terms (first_kept terms after_terms tt h3) in
-    let kept = all_both (Joins net) (λ w. IsKept net shared.Number w × (IsKept net shared.Port w × IsKept net shared.Terms w)) ws js
-    (all_both (IsKept net shared.Number) (λ w. IsKept net shared.Port w × IsKept net shared.Terms w) ws ns
-    (all_both (IsKept net shared.Port) (IsKept net shared.Terms) ws ps ts)) in
+    let kept = all_both (Joins net) (λ w. SharesAt net shared.Number w × (SharesAt net shared.Port w × SharesAt net shared.Terms w)) ws js
+    (all_both (SharesAt net shared.Number) (λ w. SharesAt net shared.Port w × SharesAt net shared.Terms w) ws ns
+    (all_both (SharesAt net shared.Port) (SharesAt net shared.Terms) ws ps ts)) in
     let fed = all_kept (has_source net) (rows_of net) (first_kept sources after_sources tt h4) in
     record {
       wires = All-from_recursion (Joins net) ws js;

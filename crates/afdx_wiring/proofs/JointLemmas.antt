@@ -199,10 +199,10 @@ all_filter P p (x ∷ xs) all = by (p x) refl (all_filter P p xs all.1) where
   by false is rest = rest
 
 -- a rule that is kept on a wire
-abbrev pub IsKept : Network → Shared → Wire → Type 0
-IsKept net what w = (at : At) × (shares net what at w ≡ Ok tt)
+abbrev pub SharesAt : Network → Shared → Wire → Type 0
+SharesAt net what w = (at : At) × (shares net what at w ≡ Ok tt)
 
-each_link : (net : Network) (what : Shared) (w : Wire) (j : Joins net w) (kept : IsKept net what w) (l : Link) → Contains j.here.links l → goes_on what kept.0 j.there w l ≡ Ok tt
+each_link : (net : Network) (what : Shared) (w : Wire) (j : Joins net w) (kept : SharesAt net what w) (l : Link) → Contains j.here.links l → goes_on what kept.0 j.there w l ≡ Ok tt
 each_link net what w j kept l among =
     All-contains (λ (m : Link). goes_on what kept.0 j.there w m ≡ Ok tt) j.here.links l
     (All-from_recursion (λ (m : Link). goes_on what kept.0 j.there w m ≡ Ok tt) j.here.links
@@ -229,7 +229,7 @@ same_table net w j r s at =
     some_same (sym s.table_is ∙ ap (slice_get net.tables) place ∙ j.here_is)
 
 -- where the rules on rows were kept on a wire that joins, each row on it goes on
-pub all_go : (net : Network) (w : Wire) → Joins net w → IsKept net shared.Number w → IsKept net shared.Port w → IsKept net shared.Terms w → AllByRecursion (GoesOn net w) (rows_on net w)
+pub all_go : (net : Network) (w : Wire) → Joins net w → SharesAt net shared.Number w → SharesAt net shared.Port w → SharesAt net shared.Terms w → AllByRecursion (GoesOn net w) (rows_on net w)
 all_go net w j n p t =
     all_filter (GoesOn net w) (λ (r : Row). leads_to w.from.port r.link) _
     (all_filter (λ (r : Row). leads_to w.from.port r.link ≡ true → GoesOn net w r) (λ (r : Row). is_end (record { switch = r.switch; port = w.from.port }) w.from) (rows_of net)

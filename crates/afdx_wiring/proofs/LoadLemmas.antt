@@ -5,7 +5,7 @@ use Rattle.std.specs.List.{AllByRecursion}
 use Rattle.std.proofs.lemmas.List.Elements.{All-from_recursion}
 use Rattle.afdx_table.specs.Content.{Content}
 use Rattle.afdx_load.specs.Accepted.{IsAccepted, first_fault}
-use Rattle.afdx_load.specs.Laws.{AcceptedMeansNoFault}
+use Rattle.afdx_load.specs.Inner.Laws.{AcceptedMeansNoFault}
 use Rattle.afdx_load.specs.declared.fault.LoadFault.{LoadFault}
 use Rattle.afdx_wiring.specs.Order.{Answer, load_fits, loads_fit}
 use Rattle.afdx_wiring.proofs.Chains.{fine, first_kept, rest_kept}

@@ -1,6 +1,6 @@
 pub mod Fields
 pub mod File
-pub mod Limits
+pub mod Inner
 pub mod Names
 pub mod Needs
 pub mod Net

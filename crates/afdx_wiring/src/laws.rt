@@ -1,6 +1,6 @@
 //! Laws over the definitions: functions that do nothing, whose contracts are the laws.
 
-ghost use Rattle.afdx_wiring.specs.Limits.{LayoutsAreWithinLimits};
+ghost use Rattle.afdx_wiring.specs.Inner.Limits.{LayoutsAreWithinLimits};
 
 /// A layout that is read has at most 64 switches, and no wire takes more than a millisecond.
 pub fn layouts_are_within_limits()

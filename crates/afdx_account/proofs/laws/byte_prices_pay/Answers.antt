@@ -1,4 +1,4 @@
-use Rattle.afdx_account.specs.MeterLaws.{pays_for}
+use Rattle.afdx_account.specs.Inner.MeterLaws.{pays_for}
 use Rattle.afdx_account.proofs.laws.byte_prices_pay.Goals as goal
 
 pub returns : goal.returns

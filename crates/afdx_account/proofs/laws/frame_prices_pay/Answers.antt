@@ -1,4 +1,4 @@
-use Rattle.afdx_account.specs.MeterLaws.{frame_pays_for}
+use Rattle.afdx_account.specs.Inner.MeterLaws.{frame_pays_for}
 use Rattle.afdx_account.proofs.laws.frame_prices_pay.Goals as goal
 
 pub returns : goal.returns

@@ -1,5 +1,5 @@
 use Rattle.afdx_network.specs.Runs.{Given}
-use Rattle.afdx_network.specs.Sites.{AreSites}
+use Rattle.afdx_network.specs.Inner.Sites.{AreSites}
 use Rattle.afdx_network.proofs.rounds.receive.Given as goal
 
 abbrev pub invariant-loop-row : goal.invariant-loop-row

@@ -5,7 +5,7 @@ use Rattle.std.proofs.lemmas.Option.{slice_get-get_or}
 use Rattle.std.specs.Prelude.{List}
 use Rattle.afdx_wiring.specs.declared.layout.Wire.{Wire}
 use Rattle.afdx_wiring.specs.File.{Layout}
-use Rattle.afdx_network.specs.Sites.{Site, Agrees}
+use Rattle.afdx_network.specs.Inner.Sites.{Site, Agrees}
 use Rattle.afdx_network.proofs.Stepping.{one_more_has, all_taken, ends_are_wired, have_run}
 use Rattle.afdx_network.proofs.rounds.rests.Goals as goal
 

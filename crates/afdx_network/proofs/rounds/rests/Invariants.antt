@@ -1,6 +1,6 @@
 use Rattle.std.proofs.Common.{take}
 use Rattle.std.specs.Prelude.{All}
-use Rattle.afdx_network.specs.Sites.{Agrees}
+use Rattle.afdx_network.specs.Inner.Sites.{Agrees}
 use Rattle.afdx_network.proofs.rounds.rests.Given as goal
 
 abbrev pub invariant-loop-wire : goal.invariant-loop-wire

@@ -1,5 +1,5 @@
 use Rattle.afdx_network.specs.Runs.{Given}
-use Rattle.afdx_network.specs.Sites.{AreSites}
+use Rattle.afdx_network.specs.Inner.Sites.{AreSites}
 use Rattle.afdx_network.proofs.rounds.round.Given as goal
 
 abbrev pub invariant-loop-switch : goal.invariant-loop-switch

@@ -2,7 +2,7 @@ use Rattle.std.proofs.Common.{◌≡◌, List, [], ◌∷◌, ◌++◌, length, 
 use Rattle.std.specs.Vec.Iter.{into_iter_items}
 use Rattle.afdx_session.specs.Texts.{texts_of}
 use Rattle.afdx_network.specs.Given.{given_of}
-use Rattle.afdx_network.specs.Sites.{Site}
+use Rattle.afdx_network.specs.Inner.Sites.{Site}
 use Rattle.afdx_network.proofs.Starting.{next_at, open_there, first_site, one_more}
 use Rattle.afdx_network.proofs.rounds.sites_of.Goals as goal
 

@@ -1,6 +1,6 @@
 use Rattle.std.proofs.Common.{◌++◌, ◌∙◌, sym, subst, arith, take, drop, length}
 use Rattle.afdx_network.specs.Given.{given_of, IsRefusal}
-use Rattle.afdx_network.specs.Sites.{AreSites}
+use Rattle.afdx_network.specs.Inner.Sites.{AreSites}
 use Rattle.afdx_network.proofs.Keeping.{of_error}
 use Rattle.afdx_network.proofs.Refusing.{refused_wire}
 use Rattle.afdx_network.proofs.Settled.{cames, settled}

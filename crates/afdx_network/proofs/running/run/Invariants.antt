@@ -1,5 +1,5 @@
 use Rattle.afdx_network.specs.Given.{given_of}
-use Rattle.afdx_network.specs.Sites.{AreSites}
+use Rattle.afdx_network.specs.Inner.Sites.{AreSites}
 use Rattle.afdx_network.proofs.running.run.Given as goal
 
 abbrev pub invariant-loop : goal.invariant-loop

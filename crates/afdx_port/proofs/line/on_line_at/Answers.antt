@@ -1,7 +1,7 @@
 use Rattle.std.proofs.Common.{◌≡◌, ℕ, ◌-◌, ◌∙◌, ap, sym, Some, List, [], ◌∷◌, cond, length, arith}
 use Rattle.std.specs.Prelude.{nat_lt, slice_get}
 use Rattle.afdx_port.specs.declared.Sent.{Sent}
-use Rattle.afdx_port.specs.Progress.{on_line}
+use Rattle.afdx_port.specs.Inner.Progress.{on_line}
 use Rattle.afdx_port.proofs.Choices.{is_below, not_below}
 use Rattle.afdx_port.proofs.Steps.{on_line_last}
 use Rattle.afdx_port.proofs.line.on_line_at.Goals as goal

@@ -28,8 +28,7 @@ returns-in_err-write_bytes g c =
     let needs = c.in_ok-needs.needs in
     let front = rw c.as_bytes.ensures.value at c.in_err-write_bytes.ensures.front in
     let told : string_bytes c.in_ok-text.text ≡ jitter_text (names_of net.layout.switches) needs.rows.items = search rules in
-    of_error _ _ _ Write c.from_residual-in_err-write_bytes.ensures
-    (
+    of_error _ _ _ Write c.from_residual-in_err-write_bytes.ensures (
       net,
       needs.past,
       string_bytes c.in_ok-text.text,
@@ -48,8 +47,7 @@ returns-in-Some g c =
     let all = rw c.as_bytes.ensures.value at c.in_ok-write_bytes.ensures.all in
     let told : string_bytes c.in_ok-text.text ≡ jitter_text (names_of net.layout.switches) needs.rows.items = search rules in
     let are = rw c.in-Some.is at c.in_ok-needs.ensures in
-    past_told c.args.path.now _ _ net c.in-Some.short
-    (
+    past_told c.args.path.now _ _ net c.in-Some.short (
       string_bytes c.in_ok-text.text,
       record { rows = needs.rows.items; has_network = got.got.0; fits = c.in_default.ensures.0; needs = are; told = told },
       all,
@@ -64,8 +62,7 @@ returns g c =
     let needs = c.in_ok-needs.needs in
     let all = rw c.as_bytes.ensures.value at c.in_ok-write_bytes.ensures.all in
     let told : string_bytes c.in_ok-text.text ≡ jitter_text (names_of net.layout.switches) needs.rows.items = search rules in
-    let are = rw c.in-None.is at c.in_ok-needs.ensures in
-    (
+    let are = rw c.in-None.is at c.in_ok-needs.ensures in (
       net,
       string_bytes c.in_ok-text.text,
       record { rows = needs.rows.items; has_network = got.got.0; fits = c.in_default.ensures.0; needs = are; told = told },

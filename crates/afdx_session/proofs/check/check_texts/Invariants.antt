@@ -1,6 +1,6 @@
 use Rattle.std.proofs.Common.{take}
 use Rattle.afdx_session.specs.Texts.{texts_of}
-use Rattle.afdx_session.specs.Lent.{AreSound}
+use Rattle.afdx_session.specs.Inner.Lent.{AreSound}
 use Rattle.afdx_session.proofs.check.check_texts.Given as goal
 
 abbrev pub invariant-loop-port : goal.invariant-loop-port

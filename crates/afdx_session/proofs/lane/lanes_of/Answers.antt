@@ -1,5 +1,5 @@
 use Rattle.std.proofs.Common.{◌+◌, take, sym, subst}
-use Rattle.afdx_session.specs.View.{AreFreshLanes}
+use Rattle.afdx_session.specs.Inner.View.{AreFreshLanes}
 use Rattle.afdx_session.proofs.Gone.{at_index}
 use Rattle.afdx_session.proofs.Settles.{fresh_more, fresh_all}
 use Rattle.afdx_session.proofs.lane.lanes_of.Goals as goal

@@ -1,5 +1,5 @@
 use Rattle.std.proofs.Common.{take}
-use Rattle.afdx_session.specs.View.{AreFreshLanes}
+use Rattle.afdx_session.specs.Inner.View.{AreFreshLanes}
 use Rattle.afdx_session.proofs.lane.lanes_of.Given as goal
 
 abbrev pub invariant-loop-row : goal.invariant-loop-row

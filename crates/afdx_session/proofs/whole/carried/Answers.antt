@@ -3,7 +3,7 @@ use Rattle.afdx_table.specs.Content.{Content}
 use Rattle.afdx_core.specs.State.{State}
 use Rattle.afdx_session.specs.Texts.{AreOfPorts, texts_of}
 use Rattle.afdx_session.specs.Outcome.{table_in, is_cleared, IsRefusal}
-use Rattle.afdx_session.specs.View.{AreFreshLanes}
+use Rattle.afdx_session.specs.Inner.View.{AreFreshLanes}
 use Rattle.afdx_session.proofs.Fresh.{fresh_kept}
 use Rattle.afdx_session.proofs.Sessions.{of_error}
 use Rattle.afdx_session.proofs.WholeRuns.{is_refusal}

@@ -2,7 +2,7 @@ use Rattle.std.proofs.Common.{List, [], ◌++◌, take, string_bytes, sym, ap, �
 use Rattle.afdx_core.specs.declared.kinds.Row.{Row}
 use Rattle.afdx_core.specs.Rows.{each_after}
 use Rattle.afdx_trace.specs.Arrivals.{arrivals_heading, arrival_line}
-use Rattle.afdx_trace.specs.Telling.{Tells}
+use Rattle.afdx_trace.specs.Inner.Telling.{Tells}
 use Rattle.afdx_trace.proofs.Fated.{tells_later, take_next, comes_next, told_next, told_all}
 use Rattle.afdx_trace.proofs.arrival_lines.arrivals.Goals as goal
 

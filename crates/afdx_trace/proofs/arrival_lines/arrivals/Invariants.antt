@@ -2,7 +2,7 @@ use Rattle.std.proofs.Common.{◌≡◌, ℕ, ◌++◌, [], take, drop, map, str
 use Rattle.afdx_account.specs.Level.{InOrder}
 use Rattle.afdx_core.specs.Rows.{each_after, frame_of}
 use Rattle.afdx_trace.specs.Arrivals.{arrivals_heading, arrival_line}
-use Rattle.afdx_trace.specs.Telling.{Tells}
+use Rattle.afdx_trace.specs.Inner.Telling.{Tells}
 use Rattle.afdx_trace.proofs.arrival_lines.arrivals.Given as goal
 
 abbrev pub invariant-loop-number : goal.invariant-loop-number

@@ -1,5 +1,5 @@
 use Rattle.std.proofs.Common.{◌≡◌, ◌++◌, drop}
-use Rattle.afdx_trace.specs.Taken.{unflagged}
+use Rattle.afdx_trace.specs.Inner.Taken.{unflagged}
 use Rattle.afdx_trace.proofs.taken.refusing.Given as goal
 
 abbrev pub invariant-loop-port : goal.invariant-loop-port

@@ -1,7 +1,7 @@
 use Rattle.std.proofs.Common.{rules, ◌*◌}
 use Rattle.afdx_units.specs.Line.{cost_of}
 use Rattle.afdx_account.specs.Account.{frame_account_terms, frame_account_weight}
-use Rattle.afdx_account.specs.MeterLaws.{frame_pays_for}
+use Rattle.afdx_account.specs.Inner.MeterLaws.{frame_pays_for}
 use Rattle.afdx_account.proofs.Windows.{passes_what_conforms, pays_what_passes}
 use Rattle.afdx_account.proofs.frames.FrameAccountMeter.offer.Goals as goal
 

@@ -2,7 +2,7 @@ use Rattle.std.proofs.Common.{◌≡◌, is_some, ap, sym, ◌∙◌, refl}
 use Rattle.afdx_session.specs.declared.plan.RunFault.TheVariants.{Memory}
 use Rattle.afdx_session.specs.Texts.{AreOfPorts, texts_of}
 use Rattle.afdx_session.specs.Outcome.{IsRefusal}
-use Rattle.afdx_network.specs.Sites.{Site}
+use Rattle.afdx_network.specs.Inner.Sites.{Site}
 use Rattle.afdx_network.proofs.Keeping.{of_error, runs_already, runs_now}
 use Rattle.afdx_network.proofs.sites.Site.run.Goals as goal
 

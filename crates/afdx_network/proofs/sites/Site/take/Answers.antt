@@ -1,6 +1,6 @@
 use Rattle.std.proofs.Common.{ap, sym, ◌∙◌, inr}
 use Rattle.std.specs.List.{position}
-use Rattle.afdx_network.specs.Sites.{Site}
+use Rattle.afdx_network.specs.Inner.Sites.{Site}
 use Rattle.afdx_network.proofs.Keeping.{is_port, is_put_in}
 use Rattle.afdx_network.proofs.sites.Site.take.Goals as goal
 

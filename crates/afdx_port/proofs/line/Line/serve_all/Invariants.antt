@@ -1,8 +1,8 @@
 use Rattle.std.proofs.Common.{◌≡◌, ℕ, ◌++◌}
 use Rattle.afdx_port.specs.Service.{sent_of, aged_of}
-use Rattle.afdx_port.specs.Order.{in_line}
-use Rattle.afdx_port.specs.Queued.{count_of}
-use Rattle.afdx_port.specs.Sound.{IsSound, HasRoom, queue_of}
+use Rattle.afdx_port.specs.Inner.Order.{in_line}
+use Rattle.afdx_port.specs.Inner.Queued.{count_of}
+use Rattle.afdx_port.specs.Inner.Sound.{IsSound, HasRoom, queue_of}
 use Rattle.afdx_port.proofs.line.Line.serve_all.Given as goal
 
 -- what was done and what is left to do are all of it

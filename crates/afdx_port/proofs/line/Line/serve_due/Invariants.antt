@@ -2,10 +2,10 @@ use Rattle.std.proofs.Common.{◌≡◌, ℕ, ◌+◌, ◌<◌, ◌++◌}
 use Rattle.std.specs.Prelude.{max}
 use Rattle.afdx_units.specs.Time.{stamp_end}
 use Rattle.afdx_port.specs.Service.{before, sent_of, aged_of}
-use Rattle.afdx_port.specs.Order.{in_line}
+use Rattle.afdx_port.specs.Inner.Order.{in_line}
 use Rattle.afdx_port.specs.Course.{rest_in_line}
-use Rattle.afdx_port.specs.Queued.{count_of}
-use Rattle.afdx_port.specs.Sound.{IsSound, HasRoom, queue_of}
+use Rattle.afdx_port.specs.Inner.Queued.{count_of}
+use Rattle.afdx_port.specs.Inner.Sound.{IsSound, HasRoom, queue_of}
 use Rattle.afdx_port.proofs.line.Line.serve_due.Given as goal
 
 -- what was done and what is left to do before the instant are all of it

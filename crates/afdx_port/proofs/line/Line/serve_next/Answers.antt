@@ -5,8 +5,8 @@ use Rattle.std.proofs.lemmas.List.Elements.{All-head, All-tail, All-same}
 use Rattle.afdx_units.specs.Time.{stamp_end}
 use Rattle.afdx_port.specs.declared.Item.{Item}
 use Rattle.afdx_port.specs.declared.line.Line.{Line}
-use Rattle.afdx_port.specs.Queued.{line_of, IsQueued}
-use Rattle.afdx_port.specs.Sound.{IsSmall, IsSound, queue_of}
+use Rattle.afdx_port.specs.Inner.Queued.{line_of, IsQueued}
+use Rattle.afdx_port.specs.Inner.Sound.{IsSmall, IsSound, queue_of}
 use Rattle.afdx_port.proofs.Course.{some_if}
 use Rattle.afdx_port.proofs.line.Line.serve_next.Goals as goal
 

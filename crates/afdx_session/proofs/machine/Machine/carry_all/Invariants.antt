@@ -1,6 +1,6 @@
 use Rattle.std.proofs.Common.{◌≡◌, ◌<◌}
-use Rattle.afdx_session.specs.Kept.{IsOfSameTable}
-use Rattle.afdx_session.specs.Lent.{texts_over, left_in, IsCarrying}
+use Rattle.afdx_session.specs.Inner.Kept.{IsOfSameTable}
+use Rattle.afdx_session.specs.Inner.Lent.{texts_over, left_in, IsCarrying}
 use Rattle.afdx_session.proofs.machine.Machine.carry_all.Given as goal
 
 abbrev pub invariant-loop-given : goal.invariant-loop-given

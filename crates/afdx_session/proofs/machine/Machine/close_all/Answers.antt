@@ -1,6 +1,6 @@
 use Rattle.std.proofs.Common.{rules, ◌<◌, ◌≤◌, ◌+◌, length, set, length-set, sym, subst, ◌∙◌, ap}
-use Rattle.afdx_session.specs.Kept.{IsGoing}
-use Rattle.afdx_session.specs.View.{AreHalfDone, AreEndedLanes}
+use Rattle.afdx_session.specs.Inner.Kept.{IsGoing}
+use Rattle.afdx_session.specs.Inner.View.{AreHalfDone, AreEndedLanes}
 use Rattle.afdx_session.proofs.Gone.{at_index}
 use Rattle.afdx_session.proofs.Settles.{back_items}
 use Rattle.afdx_session.proofs.Closing.{Closes, closes_none, no_fault, closes_over, closes_one, closes_half, closes_fault, closes_all}

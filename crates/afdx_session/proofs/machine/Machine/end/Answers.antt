@@ -1,5 +1,5 @@
 use Rattle.std.proofs.Common.{arith, sym, subst}
-use Rattle.afdx_session.specs.Kept.{AreOfTable}
+use Rattle.afdx_session.specs.Inner.Kept.{AreOfTable}
 use Rattle.afdx_session.proofs.Intakes.{half_touched}
 use Rattle.afdx_session.proofs.Ending.{all_ended_touched}
 use Rattle.afdx_session.proofs.Calls.{half_of_table}

@@ -1,7 +1,7 @@
 use Rattle.std.proofs.Common.{ap, sym, refl, subst}
 use Rattle.std.specs.Vec.{with_items}
 use Rattle.afdx_session.specs.Lanes.{NoneGoes}
-use Rattle.afdx_session.specs.Kept.{AreTouched}
+use Rattle.afdx_session.specs.Inner.Kept.{AreTouched}
 use Rattle.afdx_session.proofs.Given.{none_else}
 use Rattle.afdx_session.proofs.Intakes.{all_touched_none}
 use Rattle.afdx_session.proofs.Rounds.{goes_within, goes_from, none_here, round_arrives, round_touched, round_goes, round_ends}

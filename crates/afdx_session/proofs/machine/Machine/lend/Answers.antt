@@ -1,5 +1,5 @@
 use Rattle.std.proofs.Common.{subst}
-use Rattle.afdx_session.specs.View.{AreLent}
+use Rattle.afdx_session.specs.Inner.View.{AreLent}
 use Rattle.afdx_session.proofs.ReadUp.{touched_read_up}
 use Rattle.afdx_session.proofs.Calls.{is_ready}
 use Rattle.afdx_session.proofs.Lending.{lent_settled, over_lent, over_read}

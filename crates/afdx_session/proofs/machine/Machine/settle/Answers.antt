@@ -1,5 +1,5 @@
 use Rattle.std.proofs.Common.{◌<◌, ◌≤◌, length, sym, subst, ◌∙◌, ap}
-use Rattle.afdx_session.specs.View.{AreSettledLanes}
+use Rattle.afdx_session.specs.Inner.View.{AreSettledLanes}
 use Rattle.afdx_session.proofs.Gone.{at_index}
 use Rattle.afdx_session.proofs.Settles.{back_items, SettledUpTo, settled_none, settled_more, settled_all}
 use Rattle.afdx_session.proofs.machine.Machine.settle.Goals as goal

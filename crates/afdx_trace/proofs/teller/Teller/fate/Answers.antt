@@ -1,8 +1,8 @@
 use Rattle.std.proofs.Common.{◌≡◌, List, Bool, length, None, sym, ap, ◌∙◌, subst, arith}
 use Rattle.afdx_table.specs.Content.{Content}
 use Rattle.afdx_filter.specs.Place.{place_named}
-use Rattle.afdx_trace.specs.Taken.{unflagged}
-use Rattle.afdx_trace.specs.Telling.{IsPassed}
+use Rattle.afdx_trace.specs.Inner.Taken.{unflagged}
+use Rattle.afdx_trace.specs.Inner.Telling.{IsPassed}
 use Rattle.afdx_trace.proofs.Placing.{none_at}
 use Rattle.afdx_trace.proofs.Taking.{unflagged_refuse}
 use Rattle.afdx_trace.proofs.Fated.{passed_fields}

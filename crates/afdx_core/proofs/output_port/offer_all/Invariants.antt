@@ -1,0 +1,17 @@
+use Rattle.std.proofs.Common.{◌≡◌, ℕ, ◌+◌, ◌-◌, ◌≤◌, ◌++◌, length, map, vec_len, take}
+use Rattle.std.specs.Vec.{vec_capacity}
+use Rattle.afdx_core.specs.OutputPorts.{Became, touched, answer_at, dues_of}
+use Rattle.afdx_core.specs.Copies.{AddsCopies}
+use Rattle.afdx_core.proofs.Offers.{Later}
+use Rattle.afdx_core.proofs.output_port.offer_all.Given as goal
+
+abbrev pub invariant-loop-port : goal.invariant-loop-port
+invariant-loop-port g l = record {
+  became : Became (touched l.item (take l.port-index l.to)) l.initial.output_ports l.output_ports;
+  later : Later (take l.port-index l.to) l.initial.output_ports l.output_ports;
+  room : vec_len l.answers + (length l.to - l.port-index) ≤ vec_capacity l.answers;
+  listed : l.answers.items ≡ l.initial.answers.items ++ map (λ (port : ℕ). (port, answer_at l.item l.initial.output_ports port)) (take l.port-index l.to);
+  copies : AddsCopies l.item.number l.queued l.initial.output_ports l.output_ports;
+  few : l.queued ≤ l.port-index;
+  dues : l.dues ≡ dues_of l.output_ports;
+}

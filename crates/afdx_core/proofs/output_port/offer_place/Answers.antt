@@ -1,0 +1,25 @@
+use Rattle.std.proofs.Common.{refl, ap, get_or, ◌∙◌}
+use Rattle.std.proofs.lemmas.List.{get_or_default}
+use Rattle.afdx_port.specs.Content.{Content}
+use Rattle.afdx_core.specs.declared.output_port.OutputPort.{OutputPort}
+use Rattle.afdx_core.specs.OutputPorts.{Out, seen, offered_to}
+use Rattle.afdx_core.proofs.Walk.{dues_set}
+use Rattle.afdx_core.proofs.output_port.offer_place.Goals as goal
+
+pub returns-clause-output_ports : goal.returns-clause-output_ports
+returns-clause-output_ports g c =
+    let os = c.args.output_ports.now in
+    let place = c.args.place in
+    let o = get_or os place c.index-output_ports-place.result in
+    record {
+      one = record { row = o.row; port = c.offer-answer.new.self; handed = o.handed };
+      is = refl;
+      here = λ d. ap {B = Out} (λ (v : Content). record { row = o.row; content = v; handed = o.handed }) c.offer-answer.ensures.content
+          ∙ ap (λ (x : OutputPort _). offered_to c.args.item.now (seen x)) (get_or_default os place c.index-output_ports-place.result d c.requires.place);
+    }
+
+pub returns-clause-dues : goal.returns-clause-dues
+returns-clause-dues g c =
+    let os = c.args.output_ports.now in
+    let o = get_or os c.args.place c.index-output_ports-place.result in
+    c.set.ensures ∙ dues_set c.args.dues.now os c.args.place (record { row = o.row; port = c.offer-answer.new.self; handed = o.handed }) c.due.result c.requires.dues c.due.ensures

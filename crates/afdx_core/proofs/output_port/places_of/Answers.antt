@@ -1,0 +1,17 @@
+use Rattle.std.proofs.Common.{◌≡◌, ◌<◌, ◌≤◌, ◌==◌, ◌+◌, ℕ, length, refl, arith, ◌∙◌}
+use Rattle.std.proofs.lemmas.List.{length-set}
+use Rattle.afdx_core.proofs.Rooms.{places_step, places_end}
+use Rattle.afdx_core.proofs.output_port.places_of.Goals as goal
+
+pub loop-number-init : goal.loop-number-init
+loop-number-init c = record { long = refl; each = λ port lt. absurd (omega (arith, lt)) }
+
+pub loop-number-preserved : goal.loop-number-preserved
+loop-number-preserved c =
+    let l = c.loop-number in record {
+      long = length-set l.places l.number c.search.result ∙ l.invariant.long;
+      each = places_step l.places c.args.ports.now l.number c.search.result (omega (arith, l.invariant.long, c.loop-number-test.true)) l.invariant.each c.search.ensures;
+    }
+
+pub returns : goal.returns
+returns c = places_end c.loop-number.places c.args.ports.now c.loop-number.number c.loop-number.invariant.long (omega (arith, c.loop-number-test.false)) c.requires c.loop-number.invariant.each

@@ -1,0 +1,6 @@
+pub mod Account
+pub mod Claims
+pub mod Flow
+pub mod Ground
+pub mod Kept
+pub mod Potential

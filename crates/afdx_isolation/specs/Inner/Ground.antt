@@ -1,0 +1,24 @@
+-- The laws of the accounts and of the port on which the laws of this crate stand.
+use Rattle.afdx_account.specs.Inner.Laws.{NextFrameJoinsWhereItConforms, PassedByTheirFrames, HeadroomIsCredited, HeadroomDecides, HeadroomIsDebited}
+use Rattle.afdx_port.specs.declared.Item.{Item}
+use Rattle.afdx_port.specs.Admission.{EarlierEventsStay}
+use Rattle.afdx_port.specs.Course.{LineGoesOn, ArrivalJoinsTheLine, EventsAreInParts, EventsFollowTheLine, WorkIsOfTheLine, EventsAreOfItems, WaitingIsOfItems}
+use Rattle.afdx_port.specs.Inner.Order.{KeepsOrder}
+use Rattle.afdx_port.specs.Inner.Work.{WorkBoundsBytes}
+
+pub record Ground : Type 0 where
+  pub credited : HeadroomIsCredited
+  pub decides : HeadroomDecides
+  pub debited : HeadroomIsDebited
+  pub next_frame : NextFrameJoinsWhereItConforms
+  pub by_frames : PassedByTheirFrames Item
+  pub earlier_stay : EarlierEventsStay
+  pub goes_on : LineGoesOn
+  pub joins : ArrivalJoinsTheLine
+  pub in_parts : EventsAreInParts
+  pub follow : EventsFollowTheLine
+  pub work : WorkIsOfTheLine
+  pub waiting : WaitingIsOfItems
+  pub events : EventsAreOfItems
+  pub order : KeepsOrder
+  pub bytes : WorkBoundsBytes

@@ -1,0 +1,4 @@
+pub mod Failures
+pub mod Ground
+pub mod Offer
+pub mod OwnClean
