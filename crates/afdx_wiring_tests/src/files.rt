@@ -1,17 +1,41 @@
 //! Network files, and what they are read to or refused for.
 
-use crate::networks::{file, layout};
+use crate::networks::layout;
 use crate::refused::{CHANGED, WHOLE};
-use afdx_wiring::{At, End, Key, NetworkFault, Wire, read};
+use afdx_samples::network_file;
+use afdx_wiring::{At, End, Key, Layout, NetworkFault, Wire, read};
+use std::alloc::Global;
 use std::test::Fail;
+
+/// Whether these are the wires of a layout, and its switches have these names and tables.
+fn has(layout: &Layout, switches: &[(&str, &str)], wires: &[Wire]) -> bool {
+    layout.switches.len() == switches.len()
+        && layout
+            .switches
+            .iter()
+            .zip(switches)
+            .all(|(switch, (name, path))| {
+                switch.name.as_str() == *name && switch.path.as_str() == *path
+            })
+        && layout.wires.as_slice() == wires
+}
+
+/// What a text is refused for.
+fn refusal(alloc: Global, text: &[u8]) -> Option<NetworkFault> {
+    read(alloc, text).err()
+}
+
+/// How many switches and wires it has, where it is read.
+fn counts(alloc: Global, text: &[u8]) -> Option<(usize, usize)> {
+    match read(alloc, text) {
+        Ok(layout) => Some((layout.switches.len(), layout.wires.len())),
+        Err(_) => None,
+    }
+}
 
 #[test]
 fn a_file_is_read(rt: HostRuntime) -> Result<(), Fail> {
     let alloc = rt.alloc();
-    let read = read(alloc, WHOLE.as_bytes()).ok().ok_or("refused")?;
-    assert_eq!(rt; read.switches.len(), 2);
-    assert_eq!(rt; read.switches[1].name.as_str(), "B");
-    assert_eq!(rt; read.switches[1].path.as_str(), "B.toml");
     let there = Wire {
         from: End { switch: 0, port: 3 },
         to: End { switch: 1, port: 1 },
@@ -22,7 +46,10 @@ fn a_file_is_read(rt: HostRuntime) -> Result<(), Fail> {
         to: End { switch: 0, port: 1 },
         delay: 0,
     };
-    assert_eq!(rt; read.wires.as_slice(), [there, back].as_slice());
+    let layout = read(alloc, WHOLE.as_bytes())
+        .ok()
+        .ok_or("a network file")?;
+    assert!(rt; has(&layout, &[("A", "A.toml"), ("B", "B.toml")], &[there, back]));
     Ok(())
 }
 
@@ -30,15 +57,9 @@ fn a_file_is_read(rt: HostRuntime) -> Result<(), Fail> {
 fn changed_files(rt: HostRuntime) -> Result<(), Fail> {
     let alloc = rt.alloc();
     for ((old, new), fault) in CHANGED {
-        if !WHOLE.contains(old) {
-            return Err("nothing is changed".into());
-        }
+        assert!(rt; WHOLE.contains(old), "no {old}");
         let text = WHOLE.replace(alloc, old, new)?;
-        assert_eq!(rt;
-            read(alloc, text.as_bytes()).err(),
-            Some(*fault),
-            "at {new}"
-        );
+        assert_eq!(rt; refusal(alloc, text.as_bytes()), Some(*fault), "{new}");
     }
     Ok(())
 }
@@ -46,33 +67,57 @@ fn changed_files(rt: HostRuntime) -> Result<(), Fail> {
 #[test]
 fn other_files(rt: HostRuntime) -> Result<(), Fail> {
     let alloc = rt.alloc();
-    assert_eq!(rt; read(alloc, b"\xff").err(), Some(NetworkFault::Toml));
-    assert_eq!(rt;
-        read(alloc, b"switch = 3\n").err(),
-        Some(NetworkFault::Kind(At::Top, Key::Switch))
-    );
-    assert_eq!(rt;
-        read(alloc, b"").ok().map(|layout| layout.switches.len()),
-        Some(0)
-    );
-    let many = file(alloc, &["S"; 65], &[])?;
-    assert_eq!(rt;
-        read(alloc, many.as_bytes()).err(),
-        Some(NetworkFault::Range(At::Top, Key::Switch))
-    );
+    let kind = NetworkFault::Kind(At::Top, Key::Switch);
+    assert_eq!(rt; refusal(alloc, b"\xff"), Some(NetworkFault::Toml));
+    assert_eq!(rt; refusal(alloc, b"switch = 3\n"), Some(kind));
+    assert_eq!(rt; counts(alloc, b""), Some((0, 0)));
+    Ok(())
+}
+
+/// Switches of one name: they are counted before their names are looked at.
+#[test]
+fn at_most_64_switches(rt: HostRuntime) -> Result<(), Fail> {
+    let alloc = rt.alloc();
+    for (count, fault) in [
+        (64, NetworkFault::TwiceSwitch(At::Switch(2))),
+        (65, NetworkFault::Range(At::Top, Key::Switch)),
+    ] {
+        let names = vec![in alloc; "S"; count]?;
+        let text = network_file(alloc, &names, &[])?;
+        assert_eq!(rt; refusal(alloc, text.as_bytes()), Some(fault));
+    }
     Ok(())
 }
 
 #[test]
 fn greatest_values(rt: HostRuntime) -> Result<(), Fail> {
     let alloc = rt.alloc();
-    let wires = [
+    let names = ["AAAAAAAAAAAAAAAA", "a-b_9"];
+    let written = [
         ("AAAAAAAAAAAAAAAA.24", "a-b_9.1", 1_000_000),
         ("a-b_9.9", "AAAAAAAAAAAAAAAA.10", 0),
     ];
-    let read = layout(alloc, &["AAAAAAAAAAAAAAAA", "a-b_9"], &wires)?;
-    assert_eq!(rt; read.wires[0].delay, 1_000_000);
-    assert_eq!(rt; read.wires[0].from.port, 24);
-    assert_eq!(rt; read.wires[1].to.port, 10);
+    let there = Wire {
+        from: End {
+            switch: 0,
+            port: 24,
+        },
+        to: End { switch: 1, port: 1 },
+        delay: 1_000_000,
+    };
+    let back = Wire {
+        from: End { switch: 1, port: 9 },
+        to: End {
+            switch: 0,
+            port: 10,
+        },
+        delay: 0,
+    };
+    let switches = [
+        ("AAAAAAAAAAAAAAAA", "AAAAAAAAAAAAAAAA.toml"),
+        ("a-b_9", "a-b_9.toml"),
+    ];
+    let layout = layout(alloc, &names, &written)?;
+    assert!(rt; has(&layout, &switches, &[there, back]));
     Ok(())
 }

@@ -1,27 +1,39 @@
 //! Jitters that are enough on the way, and those that are a microsecond short.
 
-use crate::networks::{network, small, text};
-use afdx_samples::{Link, Port, link, port};
+use crate::networks::{fitting, port_at};
+use afdx_samples::{
+    Ends, Link, MULTICAST, RING, four_ports_each, later, link, multicast, port, ring, small_link,
+    table, three_switches, two_switches,
+};
 use afdx_wiring::{NetworkFault, Short};
-use std::alloc::Global;
+use std::alloc::{AllocError, Global};
 use std::test::Fail;
 
+/// The wire from A to B.
+const WIRED: [Ends; 1] = [("A.3", "B.1", 0)];
+
 /// What the check of these tables says, which fit together.
-fn shortage(
-    alloc: Global,
-    texts: &[String],
-    wires: &[(&str, &str, u32)],
-) -> Result<Option<NetworkFault>, Fail> {
-    let network = network(alloc, texts, wires)?.ok().ok_or("no ports")?;
-    network.fit(alloc).ok().ok_or("a misfit")?;
-    let cleared = network.clear().ok().ok_or("a load")?;
-    Ok(cleared.check(alloc).err())
+fn shortage(alloc: Global, texts: &[String], wires: &[Ends]) -> Result<Option<NetworkFault>, Fail> {
+    let network = fitting(alloc, texts, wires)?;
+    match network.clear() {
+        Ok(cleared) => Ok(cleared.check(alloc).err()),
+        Err(_) => Err("loads that are accepted".into()),
+    }
 }
 
-/// The refusal of a row of link 1 at switch B.
-fn short(need: u64, has: u64) -> Option<NetworkFault> {
+/// The same of switches of four ports with these links.
+fn shortage_of(
+    alloc: Global,
+    switches: &[&[Link]],
+    wires: &[Ends],
+) -> Result<Option<NetworkFault>, Fail> {
+    shortage(alloc, &four_ports_each(alloc, switches)?, wires)
+}
+
+/// The refusal of a row of link 1 at a switch.
+fn short(switch: usize, need: u64, has: u64) -> Option<NetworkFault> {
     Some(NetworkFault::Jitter(Short {
-        switch: 1,
+        switch,
         link: 1,
         need,
         has,
@@ -32,115 +44,85 @@ fn short(need: u64, has: u64) -> Option<NetworkFault> {
 #[test]
 fn fourteen_are_enough(rt: HostRuntime) -> Result<(), Fail> {
     let alloc = rt.alloc();
-    for (jitter, fault) in [(14, None), (13, short(14, 13))] {
-        let mut first = Vec::new(alloc);
-        let mut second = Vec::new(alloc);
-        for (id, from) in [(1, 1), (2, 2), (3, 3)] {
-            first.push(small(id, from, "[4]", 0))?;
-            second.push(small(id, 1, "[2]", jitter))?;
-        }
-        let texts = vec![in alloc; text(alloc, &first)?, text(alloc, &second)?]?;
-        assert_eq!(rt; shortage(alloc, &texts, &[("A.4", "B.1", 0)])?, fault);
+    for (jitter, fault) in [(14, None), (13, short(1, 14, 13))] {
+        let [first, second] = two_switches(jitter);
+        let wires = [("A.4", "B.1", 0)];
+        assert_eq!(rt; shortage_of(alloc, &[&first, &second], &wires)?, fault);
     }
     Ok(())
 }
 
-/// The tables of three switches in a row: a link over all of them, and a second one at each.
-fn row(alloc: Global, jitter: u32, later: u32) -> Result<Vec<String>, Fail> {
-    Ok(vec![in alloc;
-        text(alloc, &[small(1, 1, "[3]", 0), small(11, 2, "[3]", 0)])?,
-        text(
-            alloc,
-            &[
-                small(1, 1, "[3]", jitter),
-                small(11, 1, "[4]", 7),
-                small(12, 2, "[3]", 0)
-            ]
-        )?,
-        text(
-            alloc,
-            &[
-                small(1, 1, "[3]", later),
-                small(12, 1, "[4]", 7),
-                small(13, 2, "[3]", 0)
-            ]
-        )?,
-    ]?)
-}
-
+/// 6,720 ns arise at each of the two before.
 #[test]
 fn three_in_a_row(rt: HostRuntime) -> Result<(), Fail> {
     let alloc = rt.alloc();
     let wires = [("A.3", "B.1", 0), ("B.3", "C.1", 0)];
-    assert_eq!(rt; shortage(alloc, &row(alloc, 7, 14)?, &wires)?, None);
-    assert_eq!(rt; shortage(alloc, &row(alloc, 6, 14)?, &wires)?, short(7, 6));
-    let second = Some(NetworkFault::Jitter(Short {
-        switch: 2,
-        link: 1,
-        need: 14,
-        has: 13,
-    }));
-    assert_eq!(rt; shortage(alloc, &row(alloc, 7, 13)?, &wires)?, second);
+    for (jitter, later, fault) in [
+        (7, 14, None),
+        (6, 14, short(1, 7, 6)),
+        (7, 13, short(2, 14, 13)),
+    ] {
+        let (first, second, third) = three_switches(jitter, later);
+        let switches: [&[Link]; 3] = [&first, &second, &third];
+        assert_eq!(rt; shortage_of(alloc, &switches, &wires)?, fault);
+    }
     Ok(())
 }
 
-/// Each link comes in at port 2, goes on at port 3 of two switches and leaves at port 4 of the next.
+/// The link that leaves at A has come in at B and gone over C.
 #[test]
 fn a_ring(rt: HostRuntime) -> Result<(), Fail> {
     let alloc = rt.alloc();
-    let mut texts = Vec::new(alloc);
-    for (own, passing, last) in [(1, 3, 2), (2, 1, 3), (3, 2, 1)] {
-        texts.push(text(
-            alloc,
-            &[
-                small(own, 2, "[3]", 0),
-                small(passing, 1, "[3]", 7),
-                small(last, 1, "[4]", 14),
-            ],
-        )?)?;
+    let last = NetworkFault::Jitter(Short {
+        switch: 0,
+        link: 2,
+        need: 14,
+        has: 13,
+    });
+    for (jitter, fault) in [(14, None), (13, Some(last))] {
+        let [first, second, third] = ring(7, jitter);
+        let switches: [&[Link]; 3] = [&first, &second, &third];
+        assert_eq!(rt; shortage_of(alloc, &switches, &RING)?, fault);
     }
-    let wires = [("A.3", "B.1", 0), ("B.3", "C.1", 0), ("C.3", "A.1", 0)];
-    assert_eq!(rt; shortage(alloc, &texts, &wires)?, None);
     Ok(())
 }
 
-/// One frame over two cables to three ports; cables add to both ends of the delay and ask for no jitter.
+/// Cables add to both ends of the delay and ask for no jitter.
 #[test]
-fn multicast(rt: HostRuntime) -> Result<(), Fail> {
+fn a_multicast(rt: HostRuntime) -> Result<(), Fail> {
     let alloc = rt.alloc();
-    let texts = vec![in alloc;
-        text(alloc, &[small(5, 1, "[2, 3]", 0)])?,
-        text(alloc, &[small(5, 1, "[2]", 0)])?,
-        text(alloc, &[small(5, 2, "[1, 3]", 0)])?,
-    ]?;
-    let wires = [("A.2", "B.1", 25), ("A.3", "C.2", 0)];
-    assert_eq!(rt; shortage(alloc, &texts, &wires)?, None);
+    let [first, second, third] = multicast();
+    let switches: [&[Link]; 3] = [&first, &second, &third];
+    assert_eq!(rt; shortage_of(alloc, &switches, &MULTICAST)?, None);
     Ok(())
+}
+
+/// A link of B goes to port 2, with this jitter.
+fn goes_on(link: Link, jitter_us: u32) -> Link {
+    Link {
+        jitter_us,
+        to: "[2]",
+        ..link
+    }
 }
 
 /// A port with a link of 1518 bytes by frames, 123,040 ns, and one by bytes, 159,390 ns.
 #[test]
 fn both_kinds_of_policing(rt: HostRuntime) -> Result<(), Fail> {
     let alloc = rt.alloc();
-    for (jitter_us, fault) in [(276, None), (275, short(276, 275))] {
-        let framed = Link {
-            police: "frame",
-            ..link(1, 1, "[3]")
-        };
-        let later = Link {
-            jitter_us,
-            to: "[2]",
-            ..framed
-        };
-        let other = Link {
-            jitter_us: 276,
-            ..link(2, 1, "[3]")
-        };
-        let texts = vec![in alloc;
-            text(alloc, &[framed, link(2, 2, "[3]")])?,
-            text(alloc, &[later, other])?,
-        ]?;
-        assert_eq!(rt; shortage(alloc, &texts, &[("A.3", "B.1", 0)])?, fault);
+    let framed = Link {
+        police: "frame",
+        ..link(1, 1, "[3]")
+    };
+    let by_bytes = link(2, 2, "[3]");
+    let other = Link {
+        jitter_us: 276,
+        ..link(2, 1, "[3]")
+    };
+    for (jitter, fault) in [(276, None), (275, short(1, 276, 275))] {
+        let later = [goes_on(framed, jitter), other];
+        let switches: [&[Link]; 2] = [&[framed, by_bytes], &later];
+        assert_eq!(rt; shortage_of(alloc, &switches, &WIRED)?, fault);
     }
     Ok(())
 }
@@ -149,78 +131,73 @@ fn both_kinds_of_policing(rt: HostRuntime) -> Result<(), Fail> {
 #[test]
 fn bound_of_its_priority(rt: HostRuntime) -> Result<(), Fail> {
     let alloc = rt.alloc();
-    for (jitter_us, fault) in [(124, None), (123, short(124, 123))] {
-        let high = Link {
-            priority: "high",
-            ..small(1, 1, "[3]", 0)
-        };
-        let later = Link {
-            jitter_us,
-            to: "[2]",
-            ..high
-        };
-        let low = Link {
-            jitter_us: 161,
-            ..link(2, 1, "[3]")
-        };
-        let texts = vec![in alloc;
-            text(alloc, &[high, link(2, 2, "[3]")])?,
-            text(alloc, &[later, low])?,
-        ]?;
-        assert_eq!(rt; shortage(alloc, &texts, &[("A.3", "B.1", 0)])?, fault);
+    let high = Link {
+        priority: "high",
+        ..small_link(1, 1, "[3]", 0)
+    };
+    let low = Link {
+        jitter_us: 161,
+        ..link(2, 1, "[3]")
+    };
+    for (jitter, fault) in [(124, None), (123, short(1, 124, 123))] {
+        let later = [goes_on(high, jitter), low];
+        let switches: [&[Link]; 2] = [&[high, link(2, 2, "[3]")], &later];
+        assert_eq!(rt; shortage_of(alloc, &switches, &WIRED)?, fault);
     }
     Ok(())
+}
+
+/// The tables of a switch with lines of 10 Mbit/s and of one that sends ten times as fast, where link 1 has this jitter.
+fn slow_and_fast(alloc: Global, jitter: u32) -> Result<Vec<String>, AllocError> {
+    let slow = [port_at(1, 10), port_at(2, 10), port_at(3, 10), port(4)];
+    let fast = [port_at(1, 10), port(2), port(3)];
+    let first = [small_link(1, 1, "[3]", 0), small_link(2, 2, "[3]", 0)];
+    let second = [small_link(1, 1, "[2]", jitter), small_link(2, 1, "[3]", 68)];
+    let mut texts = Vec::new(alloc);
+    texts.push(table(alloc, &slow, &first)?)?;
+    texts.push(table(alloc, &fast, &second)?)?;
+    Ok(texts)
 }
 
 /// The least delay is that of A's port, 67,200 ns, though B sends ten times as fast.
 #[test]
 fn speed_of_the_port_before(rt: HostRuntime) -> Result<(), Fail> {
     let alloc = rt.alloc();
-    let slow = |id| Port {
-        mbit: 10,
-        ..port(id)
-    };
-    for (jitter, fault) in [(68, None), (67, short(68, 67))] {
-        let texts = vec![in alloc;
-            afdx_samples::table(
-                alloc,
-                &[slow(1), slow(2), slow(3), port(4)],
-                &[small(1, 1, "[3]", 0), small(2, 2, "[3]", 0)],
-            )?,
-            afdx_samples::table(
-                alloc,
-                &[slow(1), port(2), port(3)],
-                &[small(1, 1, "[2]", jitter), small(2, 1, "[3]", 68)],
-            )?,
-        ]?;
-        assert_eq!(rt; shortage(alloc, &texts, &[("A.3", "B.1", 0)])?, fault);
+    for (jitter, fault) in [(68, None), (67, short(1, 68, 67))] {
+        let texts = slow_and_fast(alloc, jitter)?;
+        assert_eq!(rt; shortage(alloc, &texts, &WIRED)?, fault);
     }
     Ok(())
 }
 
-/// Five switches with lines of 1000 Mbit/s: the sums are 672, 1,345, 2,019 and 2,695 ns, of which only the whole way is rounded.
+/// The tables of five switches in a row with lines of 1000 Mbit/s and 50 us of latency, the last of which has this jitter.
+fn five_switches(alloc: Global, last: u32) -> Result<Vec<String>, AllocError> {
+    let ports = [port_at(1, 1000), port_at(2, 1000), port_at(3, 1000)];
+    let mut texts = Vec::new(alloc);
+    for (jitter, from) in [(0, 3), (1, 1), (2, 1), (3, 1), (last, 1)] {
+        let links = [
+            small_link(1, 1, "[2]", jitter),
+            small_link(2, from, "[2]", jitter),
+        ];
+        let text = table(alloc, &ports, &links)?;
+        texts.push(later(alloc, &text, 50)?)?;
+    }
+    Ok(texts)
+}
+
+/// The sums are 672, 1,345, 2,019 and 2,695 ns, of which only the whole way is rounded. The latencies ask for no jitter.
 #[test]
 fn rounded_once(rt: HostRuntime) -> Result<(), Fail> {
     let alloc = rt.alloc();
-    let mut texts = Vec::new(alloc);
-    for (jitter, from) in [(0, 3), (1, 1), (2, 1), (3, 1), (3, 1)] {
-        let fast = |id| Port {
-            mbit: 1000,
-            ..port(id)
-        };
-        let text = afdx_samples::table(
-            alloc,
-            &[fast(1), fast(2), fast(3)],
-            &[small(1, 1, "[2]", jitter), small(2, from, "[2]", jitter)],
-        )?;
-        texts.push(afdx_samples::later(alloc, text.as_str(), 0)?)?;
-    }
     let wires = [
         ("A.2", "B.1", 0),
         ("B.2", "C.1", 0),
         ("C.2", "D.1", 0),
         ("D.2", "E.1", 0),
     ];
-    assert_eq!(rt; shortage(alloc, &texts, &wires)?, None);
+    for (jitter, fault) in [(3, None), (2, short(4, 3, 2))] {
+        let texts = five_switches(alloc, jitter)?;
+        assert_eq!(rt; shortage(alloc, &texts, &wires)?, fault);
+    }
     Ok(())
 }

@@ -1,50 +1,40 @@
 //! The jitters that rows would need.
 
-use crate::networks::{network, small, text};
-use afdx_samples::{Link, Port, link, port};
-use afdx_wiring::{Needs, Short};
-use std::alloc::Global;
+use crate::networks::{fitting, port_at};
+use afdx_samples::{Ends, Link, RING, four_ports_each, link, ring, table};
+use afdx_wiring::Short;
+use std::alloc::{AllocError, Global};
 use std::test::Fail;
 
-/// What the rows of these tables need, which fit together.
-fn needs(alloc: Global, texts: &[String], wires: &[(&str, &str, u32)]) -> Result<Needs, Fail> {
-    let network = network(alloc, texts, wires)?.ok().ok_or("no ports")?;
-    network.fit(alloc).ok().ok_or("a misfit")?;
+/// Whether the rows of these tables, which fit together, need these jitters, by switch and row, and whether this row's is past
+/// what a table can have.
+fn needs(
+    alloc: Global,
+    texts: &[String],
+    wires: &[Ends],
+    wanted: &[u64],
+    past: Option<Short>,
+) -> Result<bool, Fail> {
+    let network = fitting(alloc, texts, wires)?;
     match network.jitters(alloc) {
-        Ok(needs) => Ok(needs),
-        Err(_) => Err("no jitters".into()),
+        Ok(needs) => Ok(needs.past == past
+            && needs.rows.len() == wanted.len()
+            && needs
+                .rows
+                .iter()
+                .zip(wanted)
+                .all(|(row, need)| row.need == *need)),
+        Err(_) => Err("jitters".into()),
     }
 }
 
-/// The needs alone, by switch and row.
-fn microseconds(alloc: Global, needs: &Needs) -> Result<Vec<u64>, Fail> {
-    let mut all = Vec::new(alloc);
-    for row in &needs.rows {
-        all.push(row.need)?;
-    }
-    Ok(all)
-}
-
-/// Each link comes in at port 2, goes on at port 3 of two switches and leaves at port 4 of the next.
 #[test]
 fn of_a_ring(rt: HostRuntime) -> Result<(), Fail> {
     let alloc = rt.alloc();
-    let mut texts = Vec::new(alloc);
-    for (own, passing, last) in [(1, 3, 2), (2, 1, 3), (3, 2, 1)] {
-        texts.push(text(
-            alloc,
-            &[
-                small(own, 2, "[3]", 0),
-                small(passing, 1, "[3]", 0),
-                small(last, 1, "[4]", 0),
-            ],
-        )?)?;
-    }
-    let wires = [("A.3", "B.1", 0), ("B.3", "C.1", 0), ("C.3", "A.1", 0)];
-    let needs = needs(alloc, &texts, &wires)?;
+    let [first, second, third] = ring(0, 0);
+    let texts = four_ports_each(alloc, &[&first, &second, &third])?;
     let wanted = [0, 7, 14, 0, 7, 14, 0, 7, 14];
-    assert_eq!(rt; microseconds(alloc, &needs)?.as_slice(), wanted.as_slice());
-    assert_eq!(rt; needs.past, None);
+    assert!(rt; needs(alloc, &texts, &RING, &wanted, None)?);
     Ok(())
 }
 
@@ -52,45 +42,44 @@ fn of_a_ring(rt: HostRuntime) -> Result<(), Fail> {
 #[test]
 fn turn_by_turn(rt: HostRuntime) -> Result<(), Fail> {
     let alloc = rt.alloc();
-    let mut texts = Vec::new(alloc);
-    for from in [2, 1, 1] {
-        texts.push(text(alloc, &[link(1, 1, "[3]"), link(2, from, "[3]")])?)?;
-    }
-    let needs = needs(alloc, &texts, &[("A.3", "B.1", 0), ("B.3", "C.1", 0)])?;
+    let first = [link(1, 1, "[3]"), link(2, 2, "[3]")];
+    let later = [link(1, 1, "[3]"), link(2, 1, "[3]")];
+    let texts = four_ports_each(alloc, &[&first, &later, &later])?;
+    let wires = [("A.3", "B.1", 0), ("B.3", "C.1", 0)];
     let wanted = [0, 0, 313, 313, 724, 724];
-    assert_eq!(rt; microseconds(alloc, &needs)?.as_slice(), wanted.as_slice());
-    assert_eq!(rt; needs.past, None);
+    assert!(rt; needs(alloc, &texts, &wires, &wanted, None)?);
     Ok(())
 }
 
-/// Nine links of 1518 bytes at 10 Mbit/s: 9 * 1,593,900 - 67,200 ns.
+/// The tables of two switches with lines of 10 Mbit/s, each with nine links of 1518 bytes.
+fn nine_links(alloc: Global) -> Result<Vec<String>, AllocError> {
+    let links = [1, 2, 3, 4, 5, 6, 7, 8, 9].map(|id| Link {
+        bag_ms: 128,
+        ..link(id, 1, "[2]")
+    });
+    let mut texts = Vec::new(alloc);
+    for _ in 0..2 {
+        texts.push(table(alloc, &[port_at(1, 10), port_at(2, 10)], &links)?)?;
+    }
+    Ok(texts)
+}
+
+/// 9 * 1,593,900 - 67,200 ns.
 #[test]
 fn past_the_limit(rt: HostRuntime) -> Result<(), Fail> {
     let alloc = rt.alloc();
-    let slow = |id| Port {
-        mbit: 10,
-        ..port(id)
-    };
-    let mut rows = Vec::new(alloc);
-    for id in 1u16..10 {
-        rows.push(Link {
-            bag_ms: 128,
-            ..link(id, 1, "[2]")
-        })?;
-    }
-    let mut texts = Vec::new(alloc);
-    for _ in 0..2 {
-        texts.push(afdx_samples::table(alloc, &[slow(1), slow(2)], &rows)?)?;
-    }
-    let needs = needs(alloc, &texts, &[("A.2", "B.1", 0)])?;
+    let texts = nine_links(alloc)?;
     let past = Short {
         switch: 1,
         link: 1,
         need: 14_278,
         has: 10_000,
     };
-    assert_eq!(rt; needs.past, Some(past));
-    assert_eq!(rt; needs.rows.len(), 18);
-    assert_eq!(rt; needs.rows[17].need, 14_278);
+    let mut wanted = [0u64; 18];
+    for need in &mut wanted[9..] {
+        *need = 14_278;
+    }
+    let wires = [("A.2", "B.1", 0)];
+    assert!(rt; needs(alloc, &texts, &wires, &wanted, Some(past))?);
     Ok(())
 }

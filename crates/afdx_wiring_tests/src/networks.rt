@@ -1,75 +1,57 @@
-//! The networks that the tests start from.
+//! Networks of texts.
 
-use afdx_samples::{Link, Port, link, port};
+use afdx_samples::{Ends, Port, network_file, port};
 use afdx_table::{Table, read};
 use afdx_wiring::{Layout, Network, NetworkFault};
 use std::alloc::Global;
-use std::fmt::Write;
 use std::test::Fail;
 
-/// A low link of frames of 64 bytes each millisecond.
-pub(crate) fn small(id: u16, from: u8, to: &'static str, jitter_us: u32) -> Link {
-    Link {
-        max_size: 64,
-        jitter_us,
-        ..link(id, from, to)
-    }
+/// The names of the switches.
+const NAMES: [&str; 5] = ["A", "B", "C", "D", "E"];
+
+/// A port of so many Mbit/s.
+pub(crate) fn port_at(id: u8, mbit: u32) -> Port {
+    Port { mbit, ..port(id) }
 }
 
-/// Ports 1 to 4 at 100 Mbit/s.
-pub(crate) fn four_ports() -> [Port; 4] {
-    [port(1), port(2), port(3), port(4)]
-}
-
-/// The text of a table with ports 1 to 4.
-pub(crate) fn text(alloc: Global, links: &[Link]) -> Result<String, Fail> {
-    Ok(afdx_samples::table(alloc, &four_ports(), links)?)
-}
-
-/// The text of a network file: the names of its switches, and its wires as `A.3 B.1`, without delay.
-pub(crate) fn file(
-    alloc: Global,
-    names: &[&str],
-    wires: &[(&str, &str, u32)],
-) -> Result<String, Fail> {
-    let mut text = String::from_str(alloc, "version = 1\n")?;
-    for name in names {
-        writeln!(text, "[[switch]]")?;
-        writeln!(text, "name = \"{name}\"")?;
-        writeln!(text, "table = \"{name}.toml\"")?;
+/// The tables of these texts.
+fn tables(alloc: Global, texts: &[String]) -> Result<Vec<Table>, Fail> {
+    let mut tables = Vec::new(alloc);
+    for text in texts {
+        tables.push(read(alloc, text.as_bytes())?)?;
     }
-    for (from, to, delay) in wires {
-        writeln!(text, "[[wire]]")?;
-        writeln!(text, "from = \"{from}\"")?;
-        writeln!(text, "to = \"{to}\"")?;
-        writeln!(text, "delay_ns = {delay}")?;
-    }
-    Ok(text)
+    Ok(tables)
 }
 
 /// The layout of these switches and wires.
-pub(crate) fn layout(
-    alloc: Global,
-    names: &[&str],
-    wires: &[(&str, &str, u32)],
-) -> Result<Layout, Fail> {
-    let text = file(alloc, names, wires)?;
-    match afdx_wiring::read(alloc, text.as_bytes()) {
-        Ok(layout) => Ok(layout),
-        Err(_) => Err("the file is refused".into()),
-    }
+pub(crate) fn layout(alloc: Global, names: &[&str], wires: &[Ends]) -> Result<Layout, Fail> {
+    let text = network_file(alloc, names, wires)?;
+    let layout = afdx_wiring::read(alloc, text.as_bytes())
+        .ok()
+        .ok_or("a network file")?;
+    Ok(layout)
 }
 
 /// The network of switches A, B and so on, of the tables that these texts are.
 pub(crate) fn network(
     alloc: Global,
     texts: &[String],
-    wires: &[(&str, &str, u32)],
+    wires: &[Ends],
 ) -> Result<Result<Network, NetworkFault>, Fail> {
-    let names = &["A", "B", "C", "D", "E"][..texts.len()];
-    let mut tables: Vec<Table> = Vec::new(alloc);
-    for text in texts {
-        tables.push(read(alloc, text.as_bytes())?)?;
-    }
-    Ok(Network::new(layout(alloc, names, wires)?, tables))
+    let names = NAMES.get(..texts.len()).ok_or("at most five switches")?;
+    let tables = tables(alloc, texts)?;
+    let layout = layout(alloc, names, wires)?;
+    Ok(Network::new(layout, tables))
 }
+
+/// The same, where the tables fit together.
+pub(crate) fn fitting(alloc: Global, texts: &[String], wires: &[Ends]) -> Result<Network, Fail> {
+    let network = network(alloc, texts, wires)?
+        .ok()
+        .ok_or("ports of the tables")?;
+    match network.fit(alloc) {
+        Ok(()) => Ok(network),
+        Err(_) => Err("tables that fit together".into()),
+    }
+}
+
