@@ -40,7 +40,7 @@ fn behind(aged: &[Aged], count: usize) -> &[Aged]
     &aged[count..]
 }
 
-/// Gives up a copy of each of these frames.
+/// Discards a copy of each of these frames.
 fn discard_all<A: Allocator + Copy>(aged: &[Aged], store: &mut Store<'_, A>)
     requires { Enough (map (λ a. a.item) aged.now) store.old.held }
     ensures store { Discards (map (λ a. a.item) aged.now) store.old.held store.new.held }
@@ -65,7 +65,7 @@ impl<A: Allocator + Copy> OutputPort<A> {
         }
     }
 
-    /// Carries out the starts before the instant that the stamp reaches, and gives up the copies that are aged.
+    /// Carries out the starts before the instant that the stamp reaches, and discards the copies that are aged.
     fn carry(&mut self, at: Stamp, store: &mut Store<'_, A>)
         requires can { CanCarry at self.old }
         requires holds { (i : ℕ) → copies_at self.old.port.content self.old.handed i ≤ copies_of (slice_index_or store.old.held i None) }
@@ -82,7 +82,7 @@ impl<A: Allocator + Copy> OutputPort<A> {
         discard_all(behind(self.port.aged(), before), store);
     }
 
-    /// Carries out all that is left, and gives up the copies that are aged.
+    /// Carries out all that is left, and discards the copies that are aged.
     fn end(&mut self, store: &mut Store<'_, A>)
         requires counted { IsCounted self.old }
         requires holds { (i : ℕ) → copies_at self.old.port.content self.old.handed i ≤ copies_of (slice_index_or store.old.held i None) }

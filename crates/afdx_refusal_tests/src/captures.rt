@@ -106,7 +106,7 @@ fn wants_for_good<A: Allocator + Copy>(reader: &mut Reader<'static, A>) -> bool 
     fed == want && asked == want && fed_again == want
 }
 
-/// Whether the record of one frame comes with its last byte and no other one before the end; none for want of memory.
+/// Whether the record of one frame comes with its last byte and no other one before the end; none where memory runs out.
 fn gives_one<A: Allocator + Copy>(reader: &mut Reader<'static, A>, text: &[u8]) -> Option<bool> {
     let mut fed = 0usize;
     for byte in text {
@@ -139,7 +139,7 @@ impl Calls for Feeding<'_> {
     }
 }
 
-/// Growths for the bytes, and one for the record's copy. Want of memory is for good.
+/// Growths for the bytes, and one for the record's copy. Out of memory is for good.
 #[test]
 fn reader_byte_by_byte(rt: HostRuntime) -> Result<(), Fail> {
     let alloc = rt.alloc();

@@ -50,7 +50,7 @@ fn fresh<'a>(memory: &'a Memory, table: &Table, wants: &mut u64) -> Option<Count
     }
 }
 
-/// Whether the report is this text; none for want of memory.
+/// Whether the report is this text; none where memory runs out.
 fn tell<A: Allocator + Copy>(counts: &Counts<A>, memory: &Memory, text: &str) -> Option<bool> {
     match counts.report(memory) {
         Ok(report) => Some(report.as_str() == text),

@@ -13,7 +13,7 @@ pub(crate) type Memory = Refusing<Global>;
 
 /// Calls that take memory, and the answers that they should give.
 pub(crate) trait Calls {
-    /// Whether they answer so; none for want of memory.
+    /// Whether they answer so; none where memory runs out.
     fn answer(&self, memory: &Memory) -> Result<Option<bool>, Fail>;
 }
 

@@ -22,7 +22,7 @@ struct Switching<'a> {
     checked: bool,
 }
 
-/// A switch over a table, checked first or not; none for want of memory.
+/// A switch over a table, checked first or not; none where memory runs out.
 fn made<'a>(
     calls: &Switching,
     memory: &'a Memory,

@@ -174,7 +174,7 @@ gives_on stay reaches law t old new s next counts after port frame step of small
   next_given : IsGiven t (going.given ++ a ∷ []) next
   next_given = gives t going.given a s next step going.is_given taken
 
--- it refuses it for want of memory alone
+-- it refuses it for memory alone
 pub none_else : {Z : Type 0} (t : Content) (old new : List (Lane Z)) (s : State) (counts : Tally) (port : ℕ) (frame : Entry) → AreOfTable t old → Arrives t old new s counts port frame
     → refusal_of s.run port frame.stamp ≡ None
 none_else t old new s counts port frame of arrives =

@@ -25,7 +25,7 @@ pub record Seen : Type 0 where
   pub intakes : List Intake
   -- a feed or a close has answered Ok
   pub begun : Bool
-  -- a call has answered want of memory or a capture's fault
+  -- a call has answered out of memory or a capture's fault
   pub failed : Bool
 
 abbrev pub fresh_intake : PortRow → Intake
@@ -114,7 +114,7 @@ after_failure v = record { table = v.table; accepted = v.accepted; intakes = v.i
 abbrev pub IsSoundSoFar : List ℕ → Type 0
 IsSoundSoFar bytes = (fault : PcapFault) → IsEarlyFault bytes fault → ⊥
 
--- a call at a port is refused: for the session's state, and nothing changes; or for want of memory or a fault of the bytes, and nothing
+-- a call at a port is refused: for the session's state, and nothing changes; or for memory or a fault of the bytes, and nothing
 -- changes but that a call has failed
 abbrev pub IsRefused : Seen → Seen → ℕ → RunFault → Type 0 → Type 0
 IsRefused old new port fault Why = ((refusal old port ≡ Some fault) × (new ≡ old)) ⊎ ((refusal old port ≡ None) × (new ≡ after_failure old) × Why)

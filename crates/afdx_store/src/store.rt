@@ -117,7 +117,7 @@ impl<'a, A: Allocator + Copy> Store<'a, A> {
         self.keys.push_reserved(key);
     }
 
-    /// Gives up one copy of a frame, and the frame with the last of them. O(1).
+    /// Discards one copy of a frame, and the frame with the last of them. O(1).
     pub fn discard(&mut self, number: usize)
         requires { is_held self.old.held number ≡ true }
         ensures held { self.new.held ≡ set self.old.held number (one_less (slice_index_or self.old.held number None)) }

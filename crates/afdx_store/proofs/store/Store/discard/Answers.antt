@@ -64,7 +64,7 @@ held_more_left p number key slot kept f ne =
     ≡ set (value_of p).held number (one_less (get_or (value_of p).held number None))) e
     (held_fewer p kept number key slot f m.0 m.1)
 
--- the last copy was given up: its slot was written, and then emptied
+-- the last copy was discarded: its slot was written, and then emptied
 emptied : {Z : Type 0} (p : Inside Z) (number key : ℕ) (slot : Slot Z) (slots : Slab (Slot Z)) (kept : IsKeptStore p) (f : Found p.keys.items p.slots.slots number key slot)
     → Updates (with_value p.slots key (less slot)) slots key None → Gone p kept number key slot f slots
 emptied p number key slot slots kept f updates = record {
