@@ -1,106 +1,90 @@
 //! Captures of which there is no run.
 
-use crate::networks::{given, network, refusal, row, text};
-use afdx_network::{NetworkRunFault, Texts};
+use crate::networks::{Captures, cleared, refusal};
+use afdx_network::NetworkRunFault;
 use afdx_pcap::PcapFault;
-use afdx_samples::{Sample, small};
-use afdx_wiring::ClearedNetwork;
+use afdx_samples::{HEADER, Sample, capture, four_ports_each, small, small_link};
 use std::alloc::Global;
 use std::test::Fail;
 
-/// A frame in the second before the last one that pcap can tell, so many nanoseconds before that.
-fn late(nanos: u32) -> Sample {
-    Sample {
-        seconds: 4_294_967_294,
-        nanos: 1_000_000_000 - nanos,
-        ..small(1, 0)
-    }
-}
+/// Captures of no frames, for the four open ports of A.
+const AT_A: Captures<'static> = &[(1, &HEADER), (2, &HEADER), (3, &HEADER), (4, &HEADER)];
 
-/// A link from A's port 1 over a wire to B's port 2.
-fn two_switches(alloc: Global) -> Result<ClearedNetwork, Fail> {
-    let texts = vec![in alloc;
-        text(alloc, &[row(1, 1, "[4]", 0)])?,
-        text(alloc, &[row(1, 1, "[2]", 0)])?,
-    ]?;
-    network(alloc, &texts, &[("A.4", "B.1", 0)])
-}
-
-/// Captures of these frames and of none, for the four open ports of A.
-fn at_a(alloc: Global, frames: &[Sample]) -> Result<Texts, Fail> {
-    given(alloc, &[(1, frames), (2, &[]), (3, &[]), (4, &[])])
-}
+/// Those of the first three of them.
+const TOO_FEW: Captures<'static> = &[(1, &HEADER), (2, &HEADER), (3, &HEADER)];
 
 /// Captures of no frames, for the three open ports of B.
-fn at_b(alloc: Global) -> Result<Texts, Fail> {
-    given(alloc, &[(2, &[]), (3, &[]), (4, &[])])
+const AT_B: Captures<'static> = &[(2, &HEADER), (3, &HEADER), (4, &HEADER)];
+
+/// At ports 3 and 4 of A a header that is cut, and nothing.
+const BROKEN: Captures<'static> = &[(1, &HEADER), (2, &HEADER), (3, &[0; 23]), (4, &[])];
+
+/// At port 2 of B a header with another magic.
+const OTHER_MAGIC: Captures<'static> = &[(2, &[0; 24]), (3, &HEADER), (4, &HEADER)];
+
+/// What the run of a link from A's port 1 over a wire to B's port 2 is refused for, over these captures.
+fn fault_of(
+    alloc: Global,
+    captures: &[Captures<'_>],
+) -> Result<Option<NetworkRunFault>, Fail> {
+    let first = [small_link(1, 1, "[4]", 0)];
+    let second = [small_link(1, 1, "[2]", 0)];
+    let texts = four_ports_each(alloc, &[&first, &second])?;
+    let network = cleared(alloc, &texts, &[("A.4", "B.1", 0)])?;
+    let fault = refusal(alloc, &network, captures)?;
+    Ok(fault)
 }
 
 #[test]
 fn captures_of_other_ports(rt: HostRuntime) -> Result<(), Fail> {
     let alloc = rt.alloc();
-    let network = two_switches(alloc)?;
-    let three = given(alloc, &[(1, &[]), (2, &[]), (3, &[])])?;
-    let too_few = vec![in alloc; three, at_b(alloc)?]?;
-    assert_eq!(rt;
-        refusal(alloc, &network, too_few),
-        Some(NetworkRunFault::WrongPorts(0))
-    );
-    let wired = given(alloc, &[(1, &[]), (2, &[]), (3, &[]), (4, &[])])?;
-    let too_many = vec![in alloc; at_a(alloc, &[])?, wired]?;
-    assert_eq!(rt;
-        refusal(alloc, &network, too_many),
-        Some(NetworkRunFault::WrongPorts(1))
-    );
-    let one_switch = vec![in alloc; at_a(alloc, &[])?]?;
-    assert_eq!(rt;
-        refusal(alloc, &network, one_switch),
-        Some(NetworkRunFault::WrongPorts(1))
-    );
-    let three_switches = vec![in alloc; at_a(alloc, &[])?, at_b(alloc)?, at_b(alloc)?]?;
-    assert_eq!(rt;
-        refusal(alloc, &network, three_switches),
-        Some(NetworkRunFault::WrongPorts(2))
-    );
+    let too_few = [TOO_FEW, AT_B];
+    let too_many = [AT_A, AT_A];
+    let one = [AT_A];
+    let three = [AT_A, AT_B, AT_B];
+    for (captures, switch) in [
+        (too_few.as_slice(), 0),
+        (too_many.as_slice(), 1),
+        (one.as_slice(), 1),
+        (three.as_slice(), 2),
+    ] {
+        let fault = NetworkRunFault::WrongPorts(switch);
+        assert_eq!(rt; fault_of(alloc, captures)?, Some(fault));
+    }
     Ok(())
 }
 
-/// Both switches have a text that is no capture; the ports are looked at before them.
+/// The ports are looked at before the texts, and the texts by switch and then by port.
 #[test]
 fn texts_that_are_no_captures(rt: HostRuntime) -> Result<(), Fail> {
     let alloc = rt.alloc();
-    let network = two_switches(alloc)?;
-    let mut broken = at_a(alloc, &[])?;
-    broken[2].1.truncate(23);
-    broken[3].1.truncate(0);
-    let mut magic = at_b(alloc)?;
-    magic[0].1[0] = 0;
-    let no_ports = vec![in alloc; broken, Vec::new(alloc)]?;
-    assert_eq!(rt;
-        refusal(alloc, &network, no_ports),
-        Some(NetworkRunFault::WrongPorts(1))
-    );
-    let second = vec![in alloc; at_a(alloc, &[small(1, 0)])?, magic]?;
-    let no_magic = NetworkRunFault::Capture(1, 2, PcapFault::Magic);
-    assert_eq!(rt; refusal(alloc, &network, second), Some(no_magic));
-    let mut broken = at_a(alloc, &[])?;
-    broken[2].1.truncate(23);
-    broken[3].1.truncate(0);
-    let mut magic = at_b(alloc)?;
-    magic[0].1[0] = 0;
-    let both = vec![in alloc; broken, magic]?;
-    let no_header = NetworkRunFault::Capture(0, 3, PcapFault::NoHeader);
-    assert_eq!(rt; refusal(alloc, &network, both), Some(no_header));
+    for (captures, fault) in [
+        ([BROKEN, &[]], NetworkRunFault::WrongPorts(1)),
+        (
+            [AT_A, OTHER_MAGIC],
+            NetworkRunFault::Capture(1, 2, PcapFault::Magic),
+        ),
+        (
+            [BROKEN, OTHER_MAGIC],
+            NetworkRunFault::Capture(0, 3, PcapFault::NoHeader),
+        ),
+    ] {
+        assert_eq!(rt; fault_of(alloc, &captures)?, Some(fault));
+    }
     Ok(())
 }
 
 /// What leaves A ends in the last second that pcap can tell, so that B cannot read it.
 #[test]
-fn frames_that_are_too_late(rt: HostRuntime) -> Result<(), Fail> {
+fn a_frame_that_is_too_late(rt: HostRuntime) -> Result<(), Fail> {
     let alloc = rt.alloc();
-    let network = two_switches(alloc)?;
-    let last = vec![in alloc; at_a(alloc, &[late(1)])?, at_b(alloc)?]?;
-    let too_late = NetworkRunFault::Capture(1, 1, PcapFault::Late(1));
-    assert_eq!(rt; refusal(alloc, &network, last), Some(too_late));
+    let last = Sample {
+        seconds: 4_294_967_294,
+        ..small(1, 999_999_999)
+    };
+    let came = capture(alloc, &[last])?;
+    let at_a: Captures<'_> = &[(1, &came), (2, &HEADER), (3, &HEADER), (4, &HEADER)];
+    let fault = NetworkRunFault::Capture(1, 1, PcapFault::Late(1));
+    assert_eq!(rt; fault_of(alloc, &[at_a, AT_B])?, Some(fault));
     Ok(())
 }

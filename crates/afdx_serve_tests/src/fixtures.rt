@@ -214,6 +214,20 @@ pub(crate) fn tells(
     answers(alloc, line, &mut folder, said)
 }
 
+/// Whether captures of ports 1 and up that are none are refused with status 3 and this line, and no file is put.
+pub(crate) fn refuses(
+    alloc: Global,
+    line: &str,
+    table: &str,
+    captures: &[&[u8]],
+    said: &str,
+) -> Result<bool, AllocError> {
+    let mut folder = folder_of(alloc, table, captures)?;
+    let files = folder.count();
+    let is_said = answers(alloc, line, &mut folder, (3, "", said))?;
+    Ok(is_said && folder.count() == files)
+}
+
 /// What it answers over a folder without files.
 pub(crate) fn answer(alloc: Global, line: &str, input: &[u8]) -> Result<Served, AllocError> {
     let mut folder = MemoryFolder::new(alloc);

@@ -1,6 +1,6 @@
 //! `afdx trace` over a folder in memory. Values from outside: tables, captures, and lines that were worked out by hand.
 
-use crate::fixtures::{Broken, OneFrame, answer_over, answers, folder_of};
+use crate::fixtures::{Broken, OneFrame, answers, folder_of, refuses};
 use crate::memory_folder::MemoryFolder;
 use afdx_samples::{HEADER, Port, capture, double, frame, later, mixed, port, single};
 use afdx_serve::FolderFault;
@@ -40,14 +40,6 @@ fn puts(
     let is_said = answers(alloc, words, &mut folder, (0, "", ""))?;
     let is_put = has(&folder, &arrivals, &departures);
     Ok(is_said && is_put)
-}
-
-/// The status of the trace of captures that are none, and whether no arrivals are put.
-fn refused(alloc: Global, table: &str, captures: &[&[u8]]) -> Result<(u8, bool), AllocError> {
-    let mut folder = folder_of(alloc, table, captures)?;
-    let got = answer_over(alloc, TRACE, b"", &mut folder)?;
-    let is_put = folder.bytes("out/arrivals.csv").is_some();
-    Ok((got.status, !is_put))
 }
 
 #[test]
@@ -163,6 +155,7 @@ fn stops_at_a_failing_folder(rt: HostRuntime) -> Result<(), Fail> {
 fn refuses_as_a_run_does(rt: HostRuntime) -> Result<(), Fail> {
     let alloc = rt.alloc();
     let cut = [&HEADER[..23], &HEADER];
-    assert_eq!(rt; refused(rt.alloc(), &mixed(alloc)?, &cut)?, (3, true));
+    let line = "afdx: capture P2 NoHeader, port 1\n";
+    assert!(rt; refuses(rt.alloc(), TRACE, &mixed(alloc)?, &cut, line)?);
     Ok(())
 }

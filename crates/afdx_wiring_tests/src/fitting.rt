@@ -58,6 +58,11 @@ fn ports_that_are_not_there(rt: HostRuntime) -> Result<(), Fail> {
     Ok(())
 }
 
+/// What the network is refused for, where B has these links.
+fn refusal_with(alloc: Global, second: [Link; 2]) -> Result<Option<NetworkFault>, Fail> {
+    refusal(alloc, &[&first(), &second], &WIRED)
+}
+
 /// The rows of B, changed, and what the network is refused for.
 fn changed_rows() -> [([Link; 2], NetworkFault); 5] {
     let [one, two] = second();
@@ -85,9 +90,8 @@ fn changed_rows() -> [([Link; 2], NetworkFault); 5] {
 #[test]
 fn rows_that_differ(rt: HostRuntime) -> Result<(), Fail> {
     let alloc = rt.alloc();
-    let first = first();
     for (links, fault) in changed_rows() {
-        assert_eq!(rt; refusal(alloc, &[&first, &links], &WIRED)?, Some(fault));
+        assert_eq!(rt; refusal_with(alloc, links)?, Some(fault));
     }
     Ok(())
 }
