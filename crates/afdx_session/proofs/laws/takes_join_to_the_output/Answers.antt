@@ -15,8 +15,8 @@ returns-clause-stays c =
 pub returns-clause-joins : goal.returns-clause-joins
 returns-clause-joins c = takes_join c.whole_records_stay.ensures.stay c.whole_records_stay.ensures.unique
 
-pub returns-clause-front : goal.returns-clause-front
-returns-clause-front c =
+pub returns-clause-prefix : goal.returns-clause-prefix
+returns-clause-prefix c =
     taken_is_a_front c.arrivals_change_nothing_earlier.ensures.admission c.stamps_keep_their_order.ensures.instants c.events_follow_the_line.ensures.parts c.whole_records_stay.ensures.stay
     c.whole_records_stay.ensures.unique
 
