@@ -1,10 +1,10 @@
 //! Networks, what comes in and what goes out.
 
-use afdx_network::{NetworkRunFault, Texts, run};
+use afdx_network::Texts;
 use afdx_samples::{Ends, Sample, capture, network_file};
 use afdx_session::Outcome;
 use afdx_table::{Table, read};
-use afdx_wiring::{ClearedNetwork, Layout, Network};
+use afdx_wiring::{ClearedNetwork, End, Layout, Network};
 use std::alloc::{AllocError, Global};
 use std::test::Fail;
 
@@ -53,44 +53,52 @@ pub(crate) fn cleared(
     Ok(cleared)
 }
 
-/// Captures of ports of a switch.
-pub(crate) type Captures<'a> = &'a [(u8, &'a [u8])];
+/// A frame at a port of a switch.
+pub(crate) type At = (usize, u8, Sample);
 
-/// Frames that come in at ports of a switch.
-pub(crate) type Frames<'a> = &'a [(u8, &'a [Sample])];
+/// The capture of those of these frames that are at a port of a switch.
+pub(crate) fn capture_at(
+    alloc: Global,
+    frames: &[At],
+    switch: usize,
+    port: u8,
+) -> Result<Vec<u8>, AllocError> {
+    let mut samples = Vec::new(alloc);
+    for frame in frames {
+        if frame.0 == switch && frame.1 == port {
+            samples.push(frame.2)?;
+        }
+    }
+    capture(alloc, &samples)
+}
 
-/// These captures of a switch.
-fn copied(alloc: Global, captures: Captures<'_>) -> Result<Texts, AllocError> {
+/// The captures of a switch's ports without a wire.
+fn given_at(
+    alloc: Global,
+    network: &Network,
+    switch: usize,
+    table: &Table,
+    came: &[At],
+) -> Result<Texts, AllocError> {
     let mut texts = Vec::new(alloc);
-    for (port, bytes) in captures {
-        texts.push((*port, Vec::from_slice(alloc, bytes)?))?;
+    for row in table.ports() {
+        let port = row.id;
+        if network.wire_to(End { switch, port }).is_none() {
+            texts.push((port, capture_at(alloc, came, switch, port)?))?;
+        }
     }
     Ok(texts)
 }
 
 /// Those of each switch.
-fn copied_each(alloc: Global, switches: &[Captures<'_>]) -> Result<Vec<Texts>, AllocError> {
+pub(crate) fn given(
+    alloc: Global,
+    network: &Network,
+    came: &[At],
+) -> Result<Vec<Texts>, AllocError> {
     let mut given = Vec::new(alloc);
-    for captures in switches {
-        given.push(copied(alloc, captures)?)?;
-    }
-    Ok(given)
-}
-
-/// The captures of these frames of a switch.
-fn written(alloc: Global, frames: Frames<'_>) -> Result<Texts, AllocError> {
-    let mut texts = Vec::new(alloc);
-    for (port, samples) in frames {
-        texts.push((*port, capture(alloc, samples)?))?;
-    }
-    Ok(texts)
-}
-
-/// Those of each switch.
-fn written_each(alloc: Global, switches: &[Frames<'_>]) -> Result<Vec<Texts>, AllocError> {
-    let mut given = Vec::new(alloc);
-    for frames in switches {
-        given.push(written(alloc, frames)?)?;
+    for (switch, table) in network.tables().iter().enumerate() {
+        given.push(given_at(alloc, network, switch, table, came)?)?;
     }
     Ok(given)
 }
@@ -99,19 +107,11 @@ fn written_each(alloc: Global, switches: &[Frames<'_>]) -> Result<Vec<Texts>, Al
 pub(crate) fn outcomes(
     alloc: Global,
     network: &ClearedNetwork,
-    came: &[Frames<'_>],
+    came: &[At],
 ) -> Result<Vec<Outcome<Global>>, Fail> {
-    match run(alloc, network, written_each(alloc, came)?) {
+    let given = given(alloc, network.network(), came)?;
+    match afdx_network::run(alloc, network, given) {
         Ok(outcomes) => Ok(outcomes),
         Err(_) => Err("a run".into()),
     }
-}
-
-/// What a run over these captures is refused for.
-pub(crate) fn refusal(
-    alloc: Global,
-    network: &ClearedNetwork,
-    captures: &[Captures<'_>],
-) -> Result<Option<NetworkRunFault>, AllocError> {
-    Ok(run(alloc, network, copied_each(alloc, captures)?).err())
 }

@@ -1,90 +1,140 @@
 //! Captures of which there is no run.
 
-use crate::networks::{Captures, cleared, refusal};
-use afdx_network::NetworkRunFault;
+use crate::networks::{cleared, given};
+use afdx_network::{NetworkRunFault, Texts, run};
 use afdx_pcap::PcapFault;
-use afdx_samples::{HEADER, Sample, capture, four_ports_each, small, small_link};
+use afdx_samples::{Ends, HEADER, Sample, four_ports_each, small, small_link};
 use std::alloc::Global;
 use std::test::Fail;
 
-/// Captures of no frames, for the four open ports of A.
-const AT_A: Captures<'static> = &[(1, &HEADER), (2, &HEADER), (3, &HEADER), (4, &HEADER)];
+/// A port of a switch, and how many bytes of a header its capture has: 24 are the capture of no frames.
+type Cut = (usize, u8, usize);
 
-/// Those of the first three of them.
-const TOO_FEW: Captures<'static> = &[(1, &HEADER), (2, &HEADER), (3, &HEADER)];
+/// Captures of the ports without a wire, and of some of them.
+const WHOLE: &[Cut] = &[
+    (0, 1, 24),
+    (0, 2, 24),
+    (0, 3, 24),
+    (0, 4, 24),
+    (1, 2, 24),
+    (1, 3, 24),
+    (1, 4, 24),
+];
 
-/// Captures of no frames, for the three open ports of B.
-const AT_B: Captures<'static> = &[(2, &HEADER), (3, &HEADER), (4, &HEADER)];
+const PORT_MISSING: &[Cut] = &[
+    (0, 1, 24),
+    (0, 2, 24),
+    (0, 4, 24),
+    (1, 2, 24),
+    (1, 3, 24),
+    (1, 4, 24),
+];
 
-/// At ports 3 and 4 of A a header that is cut, and nothing.
-const BROKEN: Captures<'static> = &[(1, &HEADER), (2, &HEADER), (3, &[0; 23]), (4, &[])];
+const PORT_WITH_A_WIRE: &[Cut] = &[
+    (0, 1, 24),
+    (0, 2, 24),
+    (0, 3, 24),
+    (0, 4, 24),
+    (1, 1, 24),
+    (1, 2, 24),
+    (1, 3, 24),
+    (1, 4, 24),
+];
 
-/// At port 2 of B a header with another magic.
-const OTHER_MAGIC: Captures<'static> = &[(2, &[0; 24]), (3, &HEADER), (4, &HEADER)];
+/// Two texts of A that are no captures, and none of B.
+const CUT_AND_MISSING: &[Cut] = &[(0, 1, 24), (0, 2, 24), (0, 3, 23), (0, 4, 0)];
 
-/// What the run of a link from A's port 1 over a wire to B's port 2 is refused for, over these captures.
-fn fault_of(
-    alloc: Global,
-    captures: &[Captures<'_>],
-) -> Result<Option<NetworkRunFault>, Fail> {
+const CUT_AT_BOTH: &[Cut] = &[
+    (0, 1, 24),
+    (0, 2, 24),
+    (0, 3, 23),
+    (0, 4, 0),
+    (1, 2, 23),
+    (1, 3, 24),
+    (1, 4, 24),
+];
+
+const CUT_AT_B: &[Cut] = &[
+    (0, 1, 24),
+    (0, 2, 24),
+    (0, 3, 24),
+    (0, 4, 24),
+    (1, 2, 24),
+    (1, 3, 23),
+    (1, 4, 0),
+];
+
+/// The wire.
+const WIRED: [Ends; 1] = [("A.4", "B.1", 0)];
+
+/// The tables of a link from A's port 1 over the wire to B's port 2.
+fn tables(alloc: Global) -> Result<Vec<String>, Fail> {
     let first = [small_link(1, 1, "[4]", 0)];
     let second = [small_link(1, 1, "[2]", 0)];
-    let texts = four_ports_each(alloc, &[&first, &second])?;
-    let network = cleared(alloc, &texts, &[("A.4", "B.1", 0)])?;
-    let fault = refusal(alloc, &network, captures)?;
-    Ok(fault)
+    Ok(four_ports_each(alloc, &[&first, &second])?)
 }
 
-#[test]
-fn captures_of_other_ports(rt: HostRuntime) -> Result<(), Fail> {
-    let alloc = rt.alloc();
-    let too_few = [TOO_FEW, AT_B];
-    let too_many = [AT_A, AT_A];
-    let one = [AT_A];
-    let three = [AT_A, AT_B, AT_B];
-    for (captures, switch) in [
-        (too_few.as_slice(), 0),
-        (too_many.as_slice(), 1),
-        (one.as_slice(), 1),
-        (three.as_slice(), 2),
-    ] {
-        let fault = NetworkRunFault::WrongPorts(switch);
-        assert_eq!(rt; fault_of(alloc, captures)?, Some(fault));
+/// The captures of a switch.
+fn cut_at(alloc: Global, switch: usize, cuts: &[Cut]) -> Result<Texts, Fail> {
+    let mut texts = Vec::new(alloc);
+    for cut in cuts {
+        if cut.0 == switch {
+            let bytes = HEADER.get(..cut.2).ok_or("bytes of a header")?;
+            texts.push((cut.1, Vec::from_slice(alloc, bytes)?))?;
+        }
     }
-    Ok(())
+    Ok(texts)
+}
+
+/// Those of so many switches.
+fn cut_each(alloc: Global, switches: usize, cuts: &[Cut]) -> Result<Vec<Texts>, Fail> {
+    let mut given = Vec::new(alloc);
+    for switch in 0..switches {
+        given.push(cut_at(alloc, switch, cuts)?)?;
+    }
+    Ok(given)
+}
+
+/// What the run over the captures of so many switches is refused for.
+fn refusal(alloc: Global, switches: usize, cuts: &[Cut]) -> Result<Option<NetworkRunFault>, Fail> {
+    let network = cleared(alloc, &tables(alloc)?, &WIRED)?;
+    Ok(run(alloc, &network, cut_each(alloc, switches, cuts)?).err())
 }
 
 /// The ports are looked at before the texts, and the texts by switch and then by port.
 #[test]
-fn texts_that_are_no_captures(rt: HostRuntime) -> Result<(), Fail> {
+fn given_captures(rt: HostRuntime) -> Result<(), Fail> {
     let alloc = rt.alloc();
-    for (captures, fault) in [
-        ([BROKEN, &[]], NetworkRunFault::WrongPorts(1)),
-        (
-            [AT_A, OTHER_MAGIC],
-            NetworkRunFault::Capture(1, 2, PcapFault::Magic),
-        ),
-        (
-            [BROKEN, OTHER_MAGIC],
-            NetworkRunFault::Capture(0, 3, PcapFault::NoHeader),
-        ),
+    let header = PcapFault::NoHeader;
+    for (switches, cuts, fault) in [
+        (2, PORT_MISSING, NetworkRunFault::WrongPorts(0)),
+        (2, PORT_WITH_A_WIRE, NetworkRunFault::WrongPorts(1)),
+        (1, WHOLE, NetworkRunFault::WrongPorts(1)),
+        (3, WHOLE, NetworkRunFault::WrongPorts(2)),
+        (2, CUT_AND_MISSING, NetworkRunFault::WrongPorts(1)),
+        (2, CUT_AT_BOTH, NetworkRunFault::Capture(0, 3, header)),
+        (2, CUT_AT_B, NetworkRunFault::Capture(1, 3, header)),
     ] {
-        assert_eq!(rt; fault_of(alloc, &captures)?, Some(fault));
+        assert_eq!(rt; refusal(alloc, switches, cuts)?, Some(fault));
     }
     Ok(())
+}
+
+/// What the run over a frame at port 1 of A is refused for.
+fn refusal_of(alloc: Global, frame: Sample) -> Result<Option<NetworkRunFault>, Fail> {
+    let network = cleared(alloc, &tables(alloc)?, &WIRED)?;
+    let given = given(alloc, network.network(), &[(0, 1, frame)])?;
+    Ok(run(alloc, &network, given).err())
 }
 
 /// What leaves A ends in the last second that pcap can tell, so that B cannot read it.
 #[test]
 fn a_frame_that_is_too_late(rt: HostRuntime) -> Result<(), Fail> {
-    let alloc = rt.alloc();
     let last = Sample {
         seconds: 4_294_967_294,
         ..small(1, 999_999_999)
     };
-    let came = capture(alloc, &[last])?;
-    let at_a: Captures<'_> = &[(1, &came), (2, &HEADER), (3, &HEADER), (4, &HEADER)];
     let fault = NetworkRunFault::Capture(1, 1, PcapFault::Late(1));
-    assert_eq!(rt; fault_of(alloc, &[at_a, AT_B])?, Some(fault));
+    assert_eq!(rt; refusal_of(rt.alloc(), last)?, Some(fault));
     Ok(())
 }

@@ -1,7 +1,7 @@
 //! `afdx measure` over a folder in memory. Values from outside: a table, captures, and lines that were worked out by hand.
 
-use crate::fixtures::{Broken, OneFrame, refuses, tells};
-use afdx_samples::{HEADER, Port, capture, double, frame, later, mixed, port, single};
+use crate::fixtures::{Broken, OneFrame, crowd, crowded, early, refuses, tells};
+use afdx_samples::{HEADER, capture, later, mixed, single, small};
 use afdx_serve::FolderFault;
 use std::test::Fail;
 
@@ -17,14 +17,7 @@ out 2 occupied 64 of 100000 at 0
 fn tells_of_one_link(rt: HostRuntime) -> Result<(), Fail> {
     let alloc = rt.alloc();
     let table = single(alloc)?;
-    let early = capture(
-        alloc,
-        &[
-            frame(10, 1514, 0),
-            frame(10, 1514, 999_999),
-            frame(10, 1514, 1_000_000),
-        ],
-    )?;
+    let early = early(alloc)?;
     assert!(rt;
         tells(
             rt.alloc(),
@@ -59,7 +52,7 @@ fn counts_the_latency(rt: HostRuntime) -> Result<(), Fail> {
     let alloc = rt.alloc();
     let table = later(alloc, &single(alloc)?, 50)?;
     // The second is queued when the line is free of the first.
-    let two = capture(alloc, &[frame(10, 60, 0), frame(10, 60, 6_720)])?;
+    let two = capture(alloc, &[small(10, 0), small(10, 6_720)])?;
     assert!(rt;
         tells(
             rt.alloc(),
@@ -79,14 +72,8 @@ fn counts_the_latency(rt: HostRuntime) -> Result<(), Fail> {
 #[test]
 fn tells_what_was_lost_by_what_is_missing(rt: HostRuntime) -> Result<(), Fail> {
     let alloc = rt.alloc();
-    let third = Port {
-        buffer: 1581,
-        max_delay_us: 100,
-        ..port(3)
-    };
-    let table = double(alloc, third)?;
-    let first = capture(alloc, &[frame(10, 1513, 0)])?;
-    let second = capture(alloc, &[frame(20, 60, 0), frame(20, 1514, 122_960)])?;
+    let table = crowded(alloc)?;
+    let (first, second) = crowd(alloc)?;
     assert!(rt;
         tells(
             rt.alloc(),

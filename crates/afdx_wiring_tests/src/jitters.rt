@@ -69,80 +69,91 @@ fn three_in_a_row(rt: HostRuntime) -> Result<(), Fail> {
     Ok(())
 }
 
+/// What the check says of a ring, where a link that leaves has this jitter.
+fn shortage_of_ring(alloc: Global, jitter: u32) -> Result<Option<NetworkFault>, Fail> {
+    let [first, second, third] = ring(7, jitter);
+    shortage_of(alloc, &[&first, &second, &third], &RING)
+}
+
 /// The link that leaves at A has come in at B and gone over C.
 #[test]
 fn a_ring(rt: HostRuntime) -> Result<(), Fail> {
     let alloc = rt.alloc();
-    let last = NetworkFault::Jitter(Short {
+    let fault = NetworkFault::Jitter(Short {
         switch: 0,
         link: 2,
         need: 14,
         has: 13,
     });
-    for (jitter, fault) in [(14, None), (13, Some(last))] {
-        let [first, second, third] = ring(7, jitter);
-        let switches: [&[Link]; 3] = [&first, &second, &third];
-        assert_eq!(rt; shortage_of(alloc, &switches, &RING)?, fault);
-    }
+    assert_eq!(rt; shortage_of_ring(alloc, 14)?, None);
+    assert_eq!(rt; shortage_of_ring(alloc, 13)?, Some(fault));
     Ok(())
 }
 
 /// Cables add to both ends of the delay and ask for no jitter.
 #[test]
 fn a_multicast(rt: HostRuntime) -> Result<(), Fail> {
-    let alloc = rt.alloc();
     let [first, second, third] = multicast();
     let switches: [&[Link]; 3] = [&first, &second, &third];
-    assert_eq!(rt; shortage_of(alloc, &switches, &MULTICAST)?, None);
+    assert_eq!(rt; shortage_of(rt.alloc(), &switches, &MULTICAST)?, None);
     Ok(())
 }
 
-/// A link of B goes to port 2, with this jitter.
-fn goes_on(link: Link, jitter_us: u32) -> Link {
-    Link {
+/// The links of A and of B, and what the check says of link 1 at B.
+type Pair = ([Link; 2], [Link; 2], Option<NetworkFault>);
+
+/// Link 1 as it is, with this jitter, beside another one of B.
+fn goes_on(link: Link, jitter_us: u32, other: Link) -> [Link; 2] {
+    let later = Link {
         jitter_us,
         to: "[2]",
         ..link
-    }
+    };
+    [later, other]
 }
 
-/// A port with a link of 1518 bytes by frames, 123,040 ns, and one by bytes, 159,390 ns.
-#[test]
-fn both_kinds_of_policing(rt: HostRuntime) -> Result<(), Fail> {
-    let alloc = rt.alloc();
+/// A port with a link of 1518 bytes by frames, 123,040 ns, and one by bytes, 159,390 ns; then a high link of 64 bytes behind a low
+/// frame of 1518, and the low link behind the high one.
+fn pairs() -> [Pair; 4] {
     let framed = Link {
         police: "frame",
         ..link(1, 1, "[3]")
     };
-    let by_bytes = link(2, 2, "[3]");
-    let other = Link {
-        jitter_us: 276,
-        ..link(2, 1, "[3]")
-    };
-    for (jitter, fault) in [(276, None), (275, short(1, 276, 275))] {
-        let later = [goes_on(framed, jitter), other];
-        let switches: [&[Link]; 2] = [&[framed, by_bytes], &later];
-        assert_eq!(rt; shortage_of(alloc, &switches, &WIRED)?, fault);
-    }
-    Ok(())
-}
-
-/// A high link of 64 bytes behind a low frame of 1518, and the low link behind the high one.
-#[test]
-fn bound_of_its_priority(rt: HostRuntime) -> Result<(), Fail> {
-    let alloc = rt.alloc();
     let high = Link {
         priority: "high",
         ..small_link(1, 1, "[3]", 0)
     };
+    let other = link(2, 2, "[3]");
+    let by_bytes = Link {
+        jitter_us: 276,
+        from: 1,
+        ..other
+    };
     let low = Link {
         jitter_us: 161,
-        ..link(2, 1, "[3]")
+        ..by_bytes
     };
-    for (jitter, fault) in [(124, None), (123, short(1, 124, 123))] {
-        let later = [goes_on(high, jitter), low];
-        let switches: [&[Link]; 2] = [&[high, link(2, 2, "[3]")], &later];
-        assert_eq!(rt; shortage_of(alloc, &switches, &WIRED)?, fault);
+    [
+        ([framed, other], goes_on(framed, 276, by_bytes), None),
+        (
+            [framed, other],
+            goes_on(framed, 275, by_bytes),
+            short(1, 276, 275),
+        ),
+        ([high, other], goes_on(high, 124, low), None),
+        ([high, other], goes_on(high, 123, low), short(1, 124, 123)),
+    ]
+}
+
+/// What the check says of such a pair.
+fn shortage_of_pair(alloc: Global, pair: Pair) -> Result<Option<NetworkFault>, Fail> {
+    shortage_of(alloc, &[&pair.0, &pair.1], &WIRED)
+}
+
+#[test]
+fn kinds_of_policing_and_priorities(rt: HostRuntime) -> Result<(), Fail> {
+    for pair in pairs() {
+        assert_eq!(rt; shortage_of_pair(rt.alloc(), pair)?, pair.2);
     }
     Ok(())
 }

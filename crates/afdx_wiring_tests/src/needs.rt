@@ -2,30 +2,34 @@
 
 use crate::networks::{fitting, port_at};
 use afdx_samples::{Ends, Link, RING, four_ports_each, link, ring, table};
-use afdx_wiring::Short;
+use afdx_wiring::{Needs, Short};
 use std::alloc::{AllocError, Global};
 use std::test::Fail;
 
-/// Whether the rows of these tables, which fit together, need these jitters, by switch and row, and whether this row's is past
-/// what a table can have.
-fn needs(
-    alloc: Global,
-    texts: &[String],
-    wires: &[Ends],
-    wanted: &[u64],
-    past: Option<Short>,
-) -> Result<bool, Fail> {
+/// What the rows need, by switch and row, and the first of them that needs more than a table can have.
+type Answer = (Vec<u64>, Option<Short>);
+
+/// The answer for these tables, which fit together.
+fn needs(alloc: Global, texts: &[String], wires: &[Ends]) -> Result<Answer, Fail> {
     let network = fitting(alloc, texts, wires)?;
     match network.jitters(alloc) {
-        Ok(needs) => Ok(needs.past == past
-            && needs.rows.len() == wanted.len()
-            && needs
-                .rows
-                .iter()
-                .zip(wanted)
-                .all(|(row, need)| row.need == *need)),
+        Ok(needs) => Ok((numbers(alloc, &needs)?, needs.past)),
         Err(_) => Err("jitters".into()),
     }
+}
+
+/// The jitters that the rows need.
+fn numbers(alloc: Global, needs: &Needs) -> Result<Vec<u64>, AllocError> {
+    let mut all = Vec::new(alloc);
+    for row in &needs.rows {
+        all.push(row.need)?;
+    }
+    Ok(all)
+}
+
+/// Whether it is this answer.
+fn is(answer: &Answer, wanted: &[u64], past: Option<Short>) -> bool {
+    answer.0.as_slice() == wanted && answer.1 == past
 }
 
 #[test]
@@ -34,7 +38,7 @@ fn of_a_ring(rt: HostRuntime) -> Result<(), Fail> {
     let [first, second, third] = ring(0, 0);
     let texts = four_ports_each(alloc, &[&first, &second, &third])?;
     let wanted = [0, 7, 14, 0, 7, 14, 0, 7, 14];
-    assert!(rt; needs(alloc, &texts, &RING, &wanted, None)?);
+    assert!(rt; is(&needs(alloc, &texts, &RING)?, &wanted, None));
     Ok(())
 }
 
@@ -47,20 +51,29 @@ fn turn_by_turn(rt: HostRuntime) -> Result<(), Fail> {
     let texts = four_ports_each(alloc, &[&first, &later, &later])?;
     let wires = [("A.3", "B.1", 0), ("B.3", "C.1", 0)];
     let wanted = [0, 0, 313, 313, 724, 724];
-    assert!(rt; needs(alloc, &texts, &wires, &wanted, None)?);
+    assert!(rt; is(&needs(alloc, &texts, &wires)?, &wanted, None));
     Ok(())
 }
 
-/// The tables of two switches with lines of 10 Mbit/s, each with nine links of 1518 bytes.
-fn nine_links(alloc: Global) -> Result<Vec<String>, AllocError> {
-    let links = [1, 2, 3, 4, 5, 6, 7, 8, 9].map(|id| Link {
-        bag_ms: 128,
-        ..link(id, 1, "[2]")
-    });
-    let mut texts = Vec::new(alloc);
-    for _ in 0..2 {
-        texts.push(table(alloc, &[port_at(1, 10), port_at(2, 10)], &links)?)?;
+/// Links 1 to 9 of 1518 bytes.
+fn nine_links(alloc: Global) -> Result<Vec<Link>, AllocError> {
+    let mut links = Vec::new(alloc);
+    for id in 1u16..10 {
+        links.push(Link {
+            bag_ms: 128,
+            ..link(id, 1, "[2]")
+        })?;
     }
+    Ok(links)
+}
+
+/// The tables of two switches with lines of 10 Mbit/s and these links.
+fn nine_links_twice(alloc: Global) -> Result<Vec<String>, AllocError> {
+    let ports = [port_at(1, 10), port_at(2, 10)];
+    let links = nine_links(alloc)?;
+    let mut texts = Vec::new(alloc);
+    texts.push(table(alloc, &ports, &links)?)?;
+    texts.push(table(alloc, &ports, &links)?)?;
     Ok(texts)
 }
 
@@ -68,18 +81,18 @@ fn nine_links(alloc: Global) -> Result<Vec<String>, AllocError> {
 #[test]
 fn past_the_limit(rt: HostRuntime) -> Result<(), Fail> {
     let alloc = rt.alloc();
-    let texts = nine_links(alloc)?;
+    let texts = nine_links_twice(alloc)?;
     let past = Short {
         switch: 1,
         link: 1,
         need: 14_278,
         has: 10_000,
     };
-    let mut wanted = [0u64; 18];
-    for need in &mut wanted[9..] {
-        *need = 14_278;
-    }
+    let need = past.need;
+    let wanted = [
+        0, 0, 0, 0, 0, 0, 0, 0, 0, need, need, need, need, need, need, need, need, need,
+    ];
     let wires = [("A.2", "B.1", 0)];
-    assert!(rt; needs(alloc, &texts, &wires, &wanted, Some(past))?);
+    assert!(rt; is(&needs(alloc, &texts, &wires)?, &wanted, Some(past)));
     Ok(())
 }
