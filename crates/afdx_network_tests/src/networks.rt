@@ -1,15 +1,18 @@
-//! Networks, what comes in and what goes out.
+//! Networks of texts.
 
-use afdx_network::Texts;
-use afdx_samples::{Ends, Sample, capture, network_file};
-use afdx_session::Outcome;
+use afdx_samples::{Ends, Port, network_file, port};
 use afdx_table::{Table, read};
-use afdx_wiring::{ClearedNetwork, End, Layout, Network};
-use std::alloc::{AllocError, Global};
+use afdx_wiring::{ClearedNetwork, Layout, Network, NetworkFault};
+use std::alloc::Global;
 use std::test::Fail;
 
 /// The names of the switches.
-const NAMES: [&str; 3] = ["A", "B", "C"];
+const NAMES: [&str; 5] = ["A", "B", "C", "D", "E"];
+
+/// A port of so many Mbit/s.
+pub(crate) fn port_at(id: u8, mbit: u32) -> Port {
+    Port { mbit, ..port(id) }
+}
 
 /// The tables of these texts.
 fn tables(alloc: Global, texts: &[String]) -> Result<Vec<Table>, Fail> {
@@ -20,9 +23,8 @@ fn tables(alloc: Global, texts: &[String]) -> Result<Vec<Table>, Fail> {
     Ok(tables)
 }
 
-/// The layout of so many switches and these wires.
-fn layout(alloc: Global, switches: usize, wires: &[Ends]) -> Result<Layout, Fail> {
-    let names = NAMES.get(..switches).ok_or("at most three switches")?;
+/// The layout of these switches and wires.
+pub(crate) fn layout(alloc: Global, names: &[&str], wires: &[Ends]) -> Result<Layout, Fail> {
     let text = network_file(alloc, names, wires)?;
     let layout = afdx_wiring::read(alloc, text.as_bytes())
         .ok()
@@ -30,10 +32,21 @@ fn layout(alloc: Global, switches: usize, wires: &[Ends]) -> Result<Layout, Fail
     Ok(layout)
 }
 
-/// The network of switches A, B and so on, of the tables that these texts are, which fit together.
-fn fitting(alloc: Global, texts: &[String], wires: &[Ends]) -> Result<Network, Fail> {
+/// The network of switches A, B and so on, of the tables that these texts are.
+pub(crate) fn network(
+    alloc: Global,
+    texts: &[String],
+    wires: &[Ends],
+) -> Result<Result<Network, NetworkFault>, Fail> {
+    let names = NAMES.get(..texts.len()).ok_or("at most five switches")?;
     let tables = tables(alloc, texts)?;
-    let network = Network::new(layout(alloc, texts.len(), wires)?, tables)
+    let layout = layout(alloc, names, wires)?;
+    Ok(Network::new(layout, tables))
+}
+
+/// The same, where the tables fit together.
+pub(crate) fn fitting(alloc: Global, texts: &[String], wires: &[Ends]) -> Result<Network, Fail> {
+    let network = network(alloc, texts, wires)?
         .ok()
         .ok_or("ports of the tables")?;
     match network.fit(alloc) {
@@ -51,67 +64,4 @@ pub(crate) fn cleared(
     let network = fitting(alloc, texts, wires)?;
     let cleared = network.clear().ok().ok_or("loads that are accepted")?;
     Ok(cleared)
-}
-
-/// A frame at a port of a switch.
-pub(crate) type At = (usize, u8, Sample);
-
-/// The capture of those of these frames that are at a port of a switch.
-pub(crate) fn capture_at(
-    alloc: Global,
-    frames: &[At],
-    switch: usize,
-    port: u8,
-) -> Result<Vec<u8>, AllocError> {
-    let mut samples = Vec::new(alloc);
-    for frame in frames {
-        if frame.0 == switch && frame.1 == port {
-            samples.push(frame.2)?;
-        }
-    }
-    capture(alloc, &samples)
-}
-
-/// The captures of a switch's ports without a wire.
-fn given_at(
-    alloc: Global,
-    network: &Network,
-    switch: usize,
-    table: &Table,
-    came: &[At],
-) -> Result<Texts, AllocError> {
-    let mut texts = Vec::new(alloc);
-    for row in table.ports() {
-        let port = row.id;
-        if network.wire_to(End { switch, port }).is_none() {
-            texts.push((port, capture_at(alloc, came, switch, port)?))?;
-        }
-    }
-    Ok(texts)
-}
-
-/// Those of each switch.
-pub(crate) fn given(
-    alloc: Global,
-    network: &Network,
-    came: &[At],
-) -> Result<Vec<Texts>, AllocError> {
-    let mut given = Vec::new(alloc);
-    for (switch, table) in network.tables().iter().enumerate() {
-        given.push(given_at(alloc, network, switch, table, came)?)?;
-    }
-    Ok(given)
-}
-
-/// What each switch leads to, where these frames come in.
-pub(crate) fn outcomes(
-    alloc: Global,
-    network: &ClearedNetwork,
-    came: &[At],
-) -> Result<Vec<Outcome<Global>>, Fail> {
-    let given = given(alloc, network.network(), came)?;
-    match afdx_network::run(alloc, network, given) {
-        Ok(outcomes) => Ok(outcomes),
-        Err(_) => Err("a run".into()),
-    }
 }

@@ -1,6 +1,7 @@
 //! Runs of whole networks, to the nanosecond. All tables, frames and lines were worked out by hand.
 
-use crate::networks::{At, capture_at, cleared, outcomes};
+use crate::networks::cleared;
+use crate::traffic::{At, capture_at, outcomes};
 use afdx_samples::{
     Ends, Link, MULTICAST, Port, RING, four_ports_each, later, link, multicast, port, ring, small,
     small_link, table, three_switches, two_switches,

@@ -78,20 +78,23 @@ fn rates_alone_are_judged(rt: HostRuntime) -> Result<(), Fail> {
 
 /// Ports 1 and 2 at 10 Mbit/s, and nine links from 1 to 2 of frames of 1518 bytes.
 fn nine(alloc: Global) -> Result<String, AllocError> {
-    let ports = [1, 2].map(|id| Port {
+    let slow = Port {
         mbit: 10,
-        ..port(id)
-    });
-    let links = [1, 2, 3, 4, 5, 6, 7, 8, 9].map(|id| Link {
-        bag_ms: 128,
-        ..link(id, 1, "[2]")
-    });
-    table(alloc, &ports, &links)
+        ..port(1)
+    };
+    let mut links = Vec::new(alloc);
+    for id in 1u16..10 {
+        links.push(Link {
+            bag_ms: 128,
+            ..link(id, 1, "[2]")
+        })?;
+    }
+    table(alloc, &[slow, Port { id: 2, ..slow }], &links)
 }
 
 /// The lines of nine links at a switch.
 fn push_nine_lines(text: &mut String, switch: &str, jitter: u32) -> Result<(), AllocError> {
-    for id in 1..10 {
+    for id in 1u16..10 {
         writeln!(text, "switch {switch} link {id} jitter_us {jitter}")?;
     }
     Ok(())
@@ -106,7 +109,7 @@ fn a_jitter_past_the_limit(rt: HostRuntime) -> Result<(), Fail> {
     push_nine_lines(&mut lines, "A", 0)?;
     push_nine_lines(&mut lines, "B", 14_278)?;
     let line = "afdx: network J2 NoJitter, switch B, link 1, need 14278\n";
-    assert!(rt; network.answers(JITTER, (4, &lines, line))?);
+    assert!(rt; network.answers(JITTER, (4, lines.as_str(), line))?);
     Ok(())
 }
 

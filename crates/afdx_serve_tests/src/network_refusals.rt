@@ -55,9 +55,8 @@ const TABLES: [(Change<'static>, &str); 7] = [
 
 /// Whether a network is refused with this status and line by the check, and by the run before a capture is got.
 fn is_refused(network: &TwoSwitches, status: u8, line: &str) -> Result<bool, AllocError> {
-    let said = (status, "", line);
-    let is_checked = network.answers("afdx network check net/n.toml", said)?;
-    let is_run = network.answers("afdx network run net/n.toml in out", said)?;
+    let is_checked = network.answers("afdx network check net/n.toml", (status, "", line))?;
+    let is_run = network.answers("afdx network run net/n.toml in out", (status, "", line))?;
     Ok(is_checked && is_run)
 }
 

@@ -1,6 +1,6 @@
 //! `afdx network run` over a folder in memory. Values from outside: tables, captures and printed lines.
 
-use crate::fixtures::{Said, answers};
+use crate::fixtures::answers;
 use crate::memory_folder::MemoryFolder;
 use crate::networks::{TwoSwitches, stated};
 use afdx_samples::{HEADER, Sample, capture, port, small, small_link, table};
@@ -47,11 +47,12 @@ fn given(alloc: Global, came: Sample) -> Result<MemoryFolder<Global>, AllocError
     Ok(folder)
 }
 
-/// Whether the folder has these captures under these names.
-fn has_put(folder: &MemoryFolder<Global>, captures: &[(&str, &[u8])]) -> bool {
-    captures
-        .iter()
-        .all(|(name, bytes)| folder.bytes(name) == Some(*bytes))
+/// Whether the folder has these captures of ports 2 of A and of B, and those of no frames of their ports 1.
+fn has_put(folder: &MemoryFolder<Global>, at_a: &[u8], at_b: &[u8]) -> bool {
+    folder.bytes("out/A/port-1.pcap") == Some(&HEADER)
+        && folder.bytes("out/A/port-2.pcap") == Some(at_a)
+        && folder.bytes("out/B/port-1.pcap") == Some(&HEADER)
+        && folder.bytes("out/B/port-2.pcap") == Some(at_b)
 }
 
 /// Whether a run over a frame at port 1 of A tells the reports, and puts these frames at ports 2 of A and of B.
@@ -60,13 +61,7 @@ fn puts(alloc: Global, came: Sample, at_a: Sample, at_b: Sample) -> Result<bool,
     let second = capture(alloc, &[at_b])?;
     let mut folder = given(alloc, came)?;
     let is_said = answers(alloc, RUN, &mut folder, (0, REPORTS, ""))?;
-    let captures: [(&str, &[u8]); 4] = [
-        ("out/A/port-1.pcap", &HEADER),
-        ("out/A/port-2.pcap", &first),
-        ("out/B/port-1.pcap", &HEADER),
-        ("out/B/port-2.pcap", &second),
-    ];
-    let is_put = has_put(&folder, &captures);
+    let is_put = has_put(&folder, &first, &second);
     Ok(is_said && is_put)
 }
 
@@ -78,16 +73,19 @@ fn a_frame_over_two_switches(rt: HostRuntime) -> Result<(), Fail> {
     Ok(())
 }
 
-/// Whether the run over captures with this frame, of which this file has these bytes, answers so and puts nothing.
+/// Whether the run over captures with this frame, of which one has so many bytes of a header, is refused with this line and puts
+/// nothing.
 fn puts_nothing(
     alloc: Global,
     came: Sample,
-    (name, bytes): (&str, &[u8]),
-    said: Said,
+    (name, left): (&str, usize),
+    line: &str,
 ) -> Result<bool, AllocError> {
+    let mut bytes = capture(alloc, &[])?;
+    bytes.truncate(left);
     let mut folder = given(alloc, came)?;
-    folder.add(name, bytes)?;
-    let is_said = answers(alloc, RUN, &mut folder, said)?;
+    folder.add(name, &bytes)?;
+    let is_said = answers(alloc, RUN, &mut folder, (3, "", line))?;
     Ok(is_said && folder.bytes("out/A/port-1.pcap").is_none())
 }
 
@@ -98,52 +96,49 @@ fn captures_that_are_refused(rt: HostRuntime) -> Result<(), Fail> {
         seconds: 4_294_967_294,
         ..small(1, 999_999_999)
     };
-    // The frame, the file that has other bytes, and the line.
-    for (came, name, bytes, line) in [
+    // The frame, the file of which so many bytes of a header are left, and the line.
+    for (came, file, line) in [
         (
             small(1, 0),
-            "in/B/port-2.pcap",
-            &HEADER[..23],
+            ("in/B/port-2.pcap", 23),
             "afdx: capture P2 NoHeader, port 2, switch B\n",
         ),
         (
             small(1, 0),
-            "in/A/port-2.pcap",
-            &HEADER[..0],
+            ("in/A/port-2.pcap", 0),
             "afdx: capture P2 NoHeader, port 2, switch A\n",
         ),
         (
             late,
-            "in/B/port-2.pcap",
-            &HEADER[..24],
+            ("in/B/port-2.pcap", 24),
             "afdx: capture P9 Late, port 1, record 1, switch B\n",
         ),
     ] {
         assert!(rt;
-            puts_nothing(rt.alloc(), came, (name, bytes), (3, "", line))?,
+            puts_nothing(rt.alloc(), came, file, line)?,
             "{line}"
         );
     }
     Ok(())
 }
 
-/// Whether the run fails with this line, where the captures of these names alone are there.
-fn fails_to_get(alloc: Global, names: &[&str], line: &str) -> Result<bool, AllocError> {
+/// Whether the run fails with this line, where the captures of A alone are there, or none.
+fn fails_to_get(alloc: Global, has_a: bool, line: &str) -> Result<bool, AllocError> {
     let mut folder = line_of_two(alloc)?.folder()?;
-    for name in names {
-        folder.add(name, &HEADER)?;
+    if has_a {
+        folder.add("in/A/port-1.pcap", &HEADER)?;
+        folder.add("in/A/port-2.pcap", &HEADER)?;
     }
     answers(alloc, RUN, &mut folder, (5, "", line))
 }
 
 #[test]
 fn captures_that_are_not_there(rt: HostRuntime) -> Result<(), Fail> {
-    let at_a = ["in/A/port-1.pcap", "in/A/port-2.pcap"];
-    for (names, line) in [
-        (&at_a[..0], "afdx: device get in/A/port-1.pcap\n"),
-        (&at_a[..2], "afdx: device get in/B/port-2.pcap\n"),
+    for (has_a, line) in [
+        (false, "afdx: device get in/A/port-1.pcap\n"),
+        (true, "afdx: device get in/B/port-2.pcap\n"),
     ] {
-        assert!(rt; fails_to_get(rt.alloc(), names, line)?, "{line}");
+        assert!(rt; fails_to_get(rt.alloc(), has_a, line)?, "{line}");
     }
     Ok(())
 }

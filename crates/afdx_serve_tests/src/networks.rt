@@ -30,6 +30,11 @@ pub(crate) fn stated(link: Link) -> Link {
     }
 }
 
+fn all_stated(links: [Link; 3]) -> [Link; 3] {
+    let [one, two, three] = links;
+    [stated(one), stated(two), stated(three)]
+}
+
 /// A network file and the tables of its switches A and B.
 #[derive(Drop)]
 pub(crate) struct TwoSwitches {
@@ -43,8 +48,8 @@ impl TwoSwitches {
     /// Three links over a wire of 25 ns, with this jitter at B.
     pub(crate) fn new(alloc: Global, jitter_us: u32) -> Result<TwoSwitches, AllocError> {
         let [first, second] = two_switches(jitter_us);
-        let first = four_ports(alloc, &first.map(stated))?;
-        let second = four_ports(alloc, &second.map(stated))?;
+        let first = four_ports(alloc, &all_stated(first))?;
+        let second = four_ports(alloc, &all_stated(second))?;
         TwoSwitches::of(alloc, first, second)
     }
 

@@ -1,6 +1,7 @@
 //! Captures of which there is no run.
 
-use crate::networks::{cleared, given};
+use crate::networks::cleared;
+use crate::traffic::given;
 use afdx_network::{NetworkRunFault, Texts, run};
 use afdx_pcap::PcapFault;
 use afdx_samples::{Ends, HEADER, Sample, four_ports_each, small, small_link};

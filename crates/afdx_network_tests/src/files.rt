@@ -1,7 +1,7 @@
 //! Network files, and what they are read to or refused for.
 
 use crate::networks::layout;
-use crate::refused::{CHANGED, WHOLE};
+use crate::refused_files::{CHANGED, WHOLE};
 use afdx_samples::network_file;
 use afdx_wiring::{At, End, Key, Layout, NetworkFault, Wire, read};
 use std::alloc::Global;
@@ -41,9 +41,7 @@ fn a_file_is_read(rt: HostRuntime) -> Result<(), Fail> {
         to: End { switch: 0, port: 1 },
         delay: 0,
     };
-    let layout = read(alloc, WHOLE.as_bytes())
-        .ok()
-        .ok_or("a network file")?;
+    let layout = read(alloc, WHOLE.as_bytes()).ok().ok_or("a network file")?;
     assert!(rt; has(&layout, [("A", "A.toml"), ("B", "B.toml")], &[there, back]));
     Ok(())
 }

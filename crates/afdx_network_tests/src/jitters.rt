@@ -1,6 +1,6 @@
 //! Jitters that are enough on the way, and those that are a microsecond short.
 
-use crate::networks::{fitting, port_at};
+use crate::networks::{cleared, port_at};
 use afdx_samples::{
     Ends, Link, MULTICAST, RING, four_ports_each, later, link, multicast, port, ring, small_link,
     table, three_switches, two_switches,
@@ -14,11 +14,8 @@ const WIRED: [Ends; 1] = [("A.3", "B.1", 0)];
 
 /// What the check of these tables says, which fit together.
 fn shortage(alloc: Global, texts: &[String], wires: &[Ends]) -> Result<Option<NetworkFault>, Fail> {
-    let network = fitting(alloc, texts, wires)?;
-    match network.clear() {
-        Ok(cleared) => Ok(cleared.check(alloc).err()),
-        Err(_) => Err("loads that are accepted".into()),
-    }
+    let network = cleared(alloc, texts, wires)?;
+    Ok(network.check(alloc).err())
 }
 
 /// The same of switches of four ports with these links.

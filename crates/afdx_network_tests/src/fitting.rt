@@ -52,10 +52,20 @@ fn rows() -> [Case; 7] {
         (first, [one, two], WIRED, None),
         (first, [one, third], WIRED, no_row),
         (first, [elsewhere, third], WIRED, no_row),
-        (first, [elsewhere, two], WIRED, Some(NetworkFault::From(at, 1))),
+        (
+            first,
+            [elsewhere, two],
+            WIRED,
+            Some(NetworkFault::From(at, 1)),
+        ),
         (first, [larger, two], WIRED, Some(NetworkFault::Size(at, 1))),
         (first, [slower, two], WIRED, Some(NetworkFault::Bag(at, 1))),
-        (first, [one, framed], WIRED, Some(NetworkFault::Police(at, 2))),
+        (
+            first,
+            [one, framed],
+            WIRED,
+            Some(NetworkFault::Police(at, 2)),
+        ),
     ]
 }
 
@@ -68,7 +78,7 @@ fn ports_and_sources() -> [Case; 5] {
         to: "[3]",
         ..goes_on
     };
-    let other = small_link(5, 2, "[2]", 0);
+    let other = small_link(5, 2, "[1]", 0);
     let own = Link { from: 3, ..last };
     let no_start = [("A.5", "B.1", 0), ("B.4", "A.4", 0)];
     let no_goal = [("A.4", "B.4", 0), ("A.3", "B.5", 0)];
@@ -89,7 +99,11 @@ fn ports_and_sources() -> [Case; 5] {
 
 /// What a case is refused for, where each switch has four ports.
 fn refusal(alloc: Global, case: Case) -> Result<Option<NetworkFault>, Fail> {
-    misfit(alloc, &four_ports_each(alloc, &[&case.0, &case.1])?, &case.2)
+    misfit(
+        alloc,
+        &four_ports_each(alloc, &[&case.0, &case.1])?,
+        &case.2,
+    )
 }
 
 #[test]
