@@ -9,27 +9,29 @@ and the files of the folder `out`; or its status is 5, standard error is `afdx: 
 files that stand are the first of the right ones. Prints how many allocations were refused.
 """
 import os
-import shutil
+import re
 import subprocess
 import sys
+from pathlib import Path
 
 WANT = (5, b"", b"afdx: memory\n")
 
 
+def names():
+    """The files of the folder `out` in the order in which they are put: by folder, and by rising port number."""
+    found = [path for path in Path("out").rglob("*") if path.is_file()]
+    return sorted(found, key=lambda path: (path.parent, int("0" + re.sub(r"\D", "", path.stem)), path.name))
+
+
 def files():
-    """What stands in the folder `out`, by rising port number."""
-    names = sorted(os.listdir("out"), key=lambda name: int(name.strip("port-.ca")))
-    found = {}
-    for name in names:
-        with open(f"out/{name}", "rb") as file:
-            found[name] = file.read()
-    return found
+    """What stands there."""
+    return {str(path): path.read_bytes() for path in names()}
 
 
 def answer(library, number, source, sink, words):
     """Status, standard output, standard error, files; and whether an allocation was refused."""
-    shutil.rmtree("out", ignore_errors=True)
-    os.mkdir("out")
+    for path in names():
+        path.unlink()
     told, tell = os.pipe()
     os.dup2(tell, 9)
     os.close(tell)
@@ -44,7 +46,7 @@ def answer(library, number, source, sink, words):
     return (done.returncode, done.stdout or b"", done.stderr), files(), refused
 
 
-def are_a_front(found, right):
+def are_a_prefix(found, right):
     """Whether the files are the first of those that are right."""
     return list(found.items()) == list(right.items())[:len(found)]
 
@@ -58,7 +60,7 @@ def main(library, status, line, source, sink, *words):
         number += 1
         said, found, refused = answer(library, number, source, sink, words)
         is_right = said == right and found == right_files
-        wants = refused and said == WANT and are_a_front(found, right_files)
+        wants = refused and said == WANT and are_a_prefix(found, right_files)
         if not is_right and not wants:
             sys.exit(f"allocation {number}: status {said[0]}, {said[2]}, {len(said[1])} bytes, files {list(found)}")
         if not refused:

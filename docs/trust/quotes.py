@@ -1,5 +1,5 @@
 #!/usr/bin/env python3
-"""Keeps the quotes of SPECIFICATION.md and PROGRAM.md as their sources have them.
+"""Keeps the quotes of SPECIFICATION.md, NETWORKS.md and PROGRAM.md as their sources have them.
 
     docs/trust/quotes.py           writes each quote anew from its source, also where that has moved to another file
     docs/trust/quotes.py --check   changes nothing; fails where a quote is not its source's text, where a name is not found, and
@@ -19,7 +19,7 @@ from itertools import groupby
 from pathlib import Path
 
 TOP = Path(__file__).resolve().parents[2]
-PAGES = [Path(__file__).resolve().parent / name for name in ("SPECIFICATION.md", "PROGRAM.md")]
+PAGES = [Path(__file__).resolve().parent / name for name in ("SPECIFICATION.md", "NETWORKS.md", "PROGRAM.md")]
 
 # What the pages are about: whatever the contracts of these public functions name, directly or not, is quoted.
 ROOTS = [
@@ -31,6 +31,12 @@ ROOTS = [
     ("afdx_session", "Session.close"),
     ("afdx_session", "Session.take"),
     ("afdx_session", "Session.finish"),
+    ("afdx_series", "jitter_enough"),
+    ("afdx_network", "run"),
+    ("afdx_network", "ways_deliver"),
+    ("afdx_network", "ways_are_there"),
+    ("afdx_network", "network_runs_deliver"),
+    ("afdx_network", "others_change_nothing_in_networks"),
     ("afdx_serve", "serve"),
 ]
 
@@ -123,7 +129,7 @@ def place_of(path):
 def type_in(crate, name, modules):
     named = crate / "src" / f"{'/'.join(modules)}.rt"
     for file in [named] if modules else sorted(crate.glob("src/**/*.rt")):
-        if re.search(rf"^pub(?:\(crate\))? (?:struct|enum|trait) {name}\b", file.read_text(encoding="utf-8"), re.M):
+        if re.search(rf"^pub(?:\(crate\))? (?:struct|enum|trait|type) {name}\b", file.read_text(encoding="utf-8"), re.M):
             return (str(file.relative_to(TOP)), name)
     raise Missing(f"no type {name} in {named.relative_to(TOP)}")
 
@@ -193,7 +199,7 @@ def rust_item(file, name):
         inside = [at for at, line in enumerate(lines) if re.match(rf"impl\b(?!.* for ).*\b{type_name}\b", line)]
         lines = lines[inside[0] :] if inside else []
     else:
-        pattern = rf"pub(?:\(crate\))? (?:(?:struct|enum|trait) {name}\b|fn {name}[<(])"
+        pattern = rf"pub(?:\(crate\))? (?:(?:struct|enum|trait|type) {name}\b|fn {name}[<(])"
     for start, line in enumerate(lines):
         if re.match(pattern, line):
             return "\n".join(contract_at(lines, start) if " fn " in line else item_at(lines, start))
@@ -242,7 +248,7 @@ def types_in(file, name, code):
         shown = re.sub(r"^\s*(ghost|ensures|requires|#).*$", "", code, flags=re.M)
         shown = shown if " fn " in shown.split("{")[0] else shown.partition("{")[2] or shown.partition("(")[2]
     brought = rust_imports(file)
-    here = set(re.findall(r"^pub(?:\(crate\))? (?:struct|enum|trait) (\w+)", read(file), re.M))
+    here = set(re.findall(r"^pub(?:\(crate\))? (?:struct|enum|trait|type) (\w+)", read(file), re.M))
     words = set(re.findall(r"\b([A-Z]\w*)", shown))
     return {(file, word) for word in words & here} | {type_in(brought[w][0], w, brought[w][1]) for w in words & set(brought) - here}
 

@@ -1,5 +1,6 @@
 -- What a step of a round does to the sites, and what all wires agreeing means.
-use Rattle.std.proofs.Common.{◌≡◌, ◌⊎◌, ℕ, zero, suc, ◌+◌, ◌<◌, ◌≤◌, ◌==◌, ◌&&◌, Bool, true, false, List, [], ◌∷◌, ◌++◌, length, slice_get, get_or, take, drop, append-nil, find, cond, Some, Option, None, is_some, rules}
+use Rattle.std.proofs.Common.{◌≡◌, ◌⊎◌, ℕ, zero, suc, ◌+◌, ◌<◌, ◌≤◌, ◌==◌, ◌&&◌, Bool, true, false, List, [], ◌∷◌, ◌++◌, length, slice_get, get_or, take, drop, append-nil, find, cond, Some, Option}
+use Rattle.std.proofs.Common.{None, is_some, rules}
 use Rattle.std.proofs.Common.{refl, ap, sym, ◌∙◌, arith, subst}
 use Rattle.std.specs.Prelude.{All, IsSome, slice_set}
 use Rattle.std.specs.List.{list_all}

@@ -1,7 +1,7 @@
 //! What is given for a run: the captures of the ports to which no wire goes.
 
-ghost use Rattle.std.specs.Prelude.{◌≡◌, ℕ, All, Contains, IfErr, IfOk, OnOk, IsTrue, ◌↔◌, None};
-ghost use Rattle.afdx_session.specs.Texts.{Text, texts_of};
+ghost use Rattle.std.specs.Prelude.{◌≡◌, ℕ, All, IfErr, IfOk, OnOk, IsTrue, ◌↔◌};
+ghost use Rattle.afdx_session.specs.Texts.{texts_of};
 ghost use Rattle.afdx_session.specs.Reading.{IsSound};
 ghost use Rattle.afdx_wiring.specs.Net.{wire_to};
 ghost use Rattle.afdx_network.specs.declared.fault.NetworkRunFault.TheVariants.{WrongPorts};

@@ -1,8 +1,7 @@
 //! Rounds over the switches of a network.
 
-ghost use Rattle.std.specs.Prelude.{◌≡◌, ℕ, All, IfErr, IfOk, IfSome, IsTrue, Some, map, is_some, true};
+ghost use Rattle.std.specs.Prelude.{◌≡◌, All, IfErr, IfOk, IfSome, IsTrue, Some, map, true};
 ghost use Rattle.afdx_table.specs.WellFormed.{IsWellFormed};
-ghost use Rattle.afdx_load.specs.Accepted.{IsAccepted};
 ghost use Rattle.afdx_network.specs.Runs.{Given};
 ghost use Rattle.afdx_wiring.specs.Net.{Network as Net};
 ghost use Rattle.afdx_network.specs.Given.{given_of, AreGiven, AreSound, IsWired, IsWireFault};

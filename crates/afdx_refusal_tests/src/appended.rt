@@ -1,4 +1,4 @@
-//! Frames that a switch appends to a capture. Each call that wants memory is made once more.
+//! Frames that a switch appends to a capture. Each call that is out of memory is made once more.
 
 use crate::growths::{Calls, Memory, count, growths, made_again};
 use crate::switches::{advances, arrive};

@@ -97,7 +97,7 @@ fn more<A: Allocator + Copy>(
     reader.next()
 }
 
-/// Whether each call of a reader wants memory for good.
+/// Whether each call of a reader is out of memory for good.
 fn wants_for_good<A: Allocator + Copy>(reader: &mut Reader<'static, A>) -> bool {
     let want = Some(PcapFault::Memory);
     let fed = more(reader, 0).err();

@@ -1,4 +1,4 @@
-//! Counters and their report. Each call that wants memory is made once more.
+//! Counters and their report. Each call that is out of memory is made once more.
 
 use crate::growths::{Calls, Memory, count, growths, made_again};
 use crate::tables::table_of;

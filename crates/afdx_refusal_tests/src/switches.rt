@@ -1,4 +1,4 @@
-//! A switch by its calls. Each call that wants memory is made once more.
+//! A switch by its calls. Each call that is out of memory is made once more.
 
 ghost use Rattle.std.specs.Prelude.{◌<◌};
 ghost use Rattle.afdx_units.specs.Time.{last_second};

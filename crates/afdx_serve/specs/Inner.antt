@@ -2,4 +2,5 @@ pub mod Failures
 pub mod Ground
 pub mod NetworkRunning
 pub mod Offer
+pub mod OpenPorts
 pub mod OwnClean

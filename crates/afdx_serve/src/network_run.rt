@@ -1,13 +1,14 @@
 //! The command `network run`.
 
-ghost use Rattle.std.specs.Prelude.{◌≡◌, List, length, map, string_bytes, IfOk, MatchResult};
+ghost use Rattle.std.specs.Prelude.{◌≡◌, List, length, map, filter, string_bytes, IfOk, MatchResult};
 ghost use Rattle.afdx_session.specs.Texts.{Text, texts_of};
-ghost use Rattle.afdx_network.specs.Given.{given_of, AreGiven};
+ghost use Rattle.afdx_network.specs.Given.{given_of, is_open, AreGiven};
 ghost use Rattle.afdx_network.specs.Runs.{IsRunOf};
 ghost use Rattle.afdx_serve.specs.Files.{KeepsFiles, PutsFiles};
-ghost use Rattle.afdx_serve.specs.Runs.{bytes_of, FailsToPut};
+ghost use Rattle.afdx_serve.specs.Runs.{capture_name, bytes_of, FailsToPut};
 ghost use Rattle.afdx_serve.specs.Networks.{names_of};
 ghost use Rattle.afdx_serve.specs.NetworkRuns.{switch_folder, bytes_at, captures_of, reports_of, HasGiven, FailsToGetGiven};
+ghost use Rattle.afdx_serve.specs.Inner.OpenPorts.{HasOpen, FailsToGetNamed};
 ghost use Rattle.afdx_serve.specs.Inner.NetworkRunning.{names_by, held_names, AreAsMany, IsRunFailure, FailsToLeadGiven};
 ghost use Rattle.afdx_serve.specs.Serving.{world, RunsNetwork, FailsToRunNetwork};
 
@@ -42,6 +43,13 @@ fn switch_folder(alloc: Global, folder: &str, name: &str) -> Result<String, Allo
     Ok(path)
 }
 
+/// Whether no wire goes to a port.
+fn is_open(network: &Network, switch: usize, port: u8) -> bool
+    ensures { result ≡ is_open network.now switch port }
+{
+    network.wire_to(End { switch, port }).is_none()
+}
+
 /// The captures of the ports of a switch to which no wire goes, by rising number, from this folder.
 fn get_open<F: Folder>(
     alloc: Global,
@@ -50,14 +58,19 @@ fn get_open<F: Folder>(
     network: &Network,
     switch: usize,
     table: &Table,
-) -> Result<Texts, Failure> {
+) -> Result<Texts, Failure>
+    ensures got { MatchResult result
+        (λ texts. HasOpen (F.files folder.old) path.now network.now switch table.now (texts_of texts.items) × (F.failed folder.new ≡ F.failed folder.old))
+        (λ f. FailsToGetNamed f (F.files folder.old) (map (capture_name path.now) (filter (is_open network.now switch) (map (λ p. p.id) table.now.ports)))
+        (F.failed folder.old) (F.failed folder.new)) }
+    ensures same { KeepsFiles (F.files folder.old) (F.files folder.new) }
+{
     let mut texts = Vec::new(alloc);
     for row in table.ports() {
-        let port = row.id;
-        if network.wire_to(End { switch, port }).is_none() {
-            let name = capture_name(alloc, path, port)?;
+        if is_open(network, switch, row.id) {
+            let name = capture_name(alloc, path, row.id)?;
             let text = get(alloc, folder, &name)?;
-            texts.push((port, text))?;
+            texts.push((row.id, text))?;
         }
     }
     Ok(texts)

@@ -48,7 +48,7 @@ new, after a failed write all are. A file that was read is not replaced. Capture
 of ports that the table lacks are not looked at. Names are printed as they were
 given.
 
-Status: 0 done, 2 words, 3 no table or capture, 4 a port cannot give what its
+Status: 0 done, 2 arguments, 3 no table or capture, 4 a port cannot give what its
 links ask for, 5 memory or a device.
 
 Example: mkdir out && afdx run table.toml in out
@@ -68,8 +68,8 @@ For each port with links: what they need and what the port has, by rule (the
 line's rate in parts, the buffer in bytes, the delays in ns), and the rules that
 it breaks.
 
-Status: 0 told, whether each port fits or not, 2 words, 3 no table, 5 memory or a
-device.
+Status: 0 told, whether each port fits or not, 2 arguments, 3 no table, 5 memory
+or a device.
 
 Example: afdx size table.toml
 ";
@@ -91,9 +91,9 @@ Runs as run does, and puts two files of comma-separated values with a heading in
 OUT, which must be there, in place of the captures: arrivals.csv has a line for
 each frame that came in, with its fate, how many ns too early a policed one came,
 and the ports whose buffers were full; departures.csv has one for each copy that a
-port sent or gave up. A file is written beside its name and then moved onto it.
+port sent or discarded. A file is written beside its name and then moved onto it.
 
-Status: 0 done, 2 words, 3 no table or capture, 4 a port cannot give what its
+Status: 0 done, 2 arguments, 3 no table or capture, 4 a port cannot give what its
 links ask for, 5 memory or a device.
 
 Example: mkdir told && afdx trace table.toml in told
@@ -117,7 +117,7 @@ the stamp to the end on the line, beside the port's bound. For each port: the mo
 bytes that its buffer held, and the stamp in ns of the first frame that filled it
 so.
 
-Status: 0 told, 2 words, 3 no table or capture, 4 a port cannot give what its
+Status: 0 told, 2 arguments, 3 no table or capture, 4 a port cannot give what its
 links ask for, 5 memory or a device.
 
 Example: afdx measure table.toml in
@@ -137,7 +137,7 @@ Options:
 Reads a capture on standard input and writes the capture of the frames that the
 link's account passes on standard output.
 
-Status: 0 done, 2 words, 3 no capture, 5 memory or a device.
+Status: 0 done, 2 arguments, 3 no capture, 5 memory or a device.
 
 Example: afdx alone --id 10 --bag 1 --jitter 0 --size 1000 < in.pcap > out.pcap
 ";

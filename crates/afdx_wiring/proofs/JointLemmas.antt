@@ -1,5 +1,6 @@
 -- Wires whose ends agree, and the rows behind them.
-use Rattle.std.proofs.Common.{◌≡◌, ℕ, ◌==◌, ◌&&◌, Bool, true, false, List, [], ◌∷◌, filter, cond, slice_get, Option, Some, None, option_map, option_and_then, Ok, Err, not, refl, ap, sym, ◌∙◌, arith, subst}
+use Rattle.std.proofs.Common.{◌≡◌, ℕ, ◌==◌, ◌&&◌, Bool, true, false, List, [], ◌∷◌, filter, cond, slice_get, Option, Some, None, option_map, option_and_then, Ok, Err, not, refl, ap, sym, ◌∙◌}
+use Rattle.std.proofs.Common.{arith, subst}
 use Rattle.std.specs.Prelude.{Contains}
 use Rattle.std.specs.List.{AllByRecursion}
 use Rattle.std.specs.Str.{bytes_eq}
@@ -239,4 +240,5 @@ all_go net w j n p t =
           let parts = both (r.switch == w.from.switch) (w.from.port == w.from.port) at in
           let table = same_table net w j r s (equal r.switch w.from.switch parts.0) in
           let among = subst (λ (c : Content). Contains c.links r.link) table s.known in
-          goes net w j r (behind n.0 p.0 t.0 j.there w r.link leads (each_link net shared.Number w j n r.link among) (each_link net shared.Port w j p r.link among) (each_link net shared.Terms w j t r.link among))
+          goes net w j r (behind n.0 p.0 t.0 j.there w r.link leads (each_link net shared.Number w j n r.link among) (each_link net shared.Port w j p r.link among)
+          (each_link net shared.Terms w j t r.link among))

@@ -1,5 +1,6 @@
 -- Ways that go over one line more, and the exits of rows one after another.
-use Rattle.std.proofs.Common.{◌≡◌, ℕ, ◌+◌, ◌<◌, Bool, true, false, cond, List, [], ◌∷◌, ◌++◌, map, length, take, drop, get_or, slice_get, append_assoc, add-one, Option, Some, None, option_map, option_and_then, Ok, Err, refl, ap, sym, ◌∙◌, subst}
+use Rattle.std.proofs.Common.{◌≡◌, ℕ, ◌+◌, ◌<◌, Bool, true, false, cond, List, [], ◌∷◌, ◌++◌, map, length, take, drop, get_or, slice_get, append_assoc, add-one, Option, Some, None, option_map}
+use Rattle.std.proofs.Common.{option_and_then, Ok, Err, refl, ap, sym, ◌∙◌, subst}
 use Rattle.std.specs.Prelude.{flat_map, Result, IfOk}
 use Rattle.std.specs.List.{filter, AllZip}
 use Rattle.std.proofs.Math.Seq.{drop-cons}

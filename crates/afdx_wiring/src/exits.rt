@@ -2,7 +2,7 @@
 
 ghost use Rattle.std.specs.Prelude.{◌≡◌, ◌++◌, flat_map, option_copied, IfOk};
 ghost use Rattle.std.specs.List.Sorted.{IsPermutation, IsSorted};
-ghost use Rattle.afdx_wiring.specs.Net.{rows_in, rows_of};
+ghost use Rattle.afdx_wiring.specs.Net.{rows_in};
 ghost use Rattle.afdx_wiring.specs.Order.{row_of};
 ghost use Rattle.afdx_wiring.specs.Ways.{wire_from, end_of, leads_out, exits_at, exits_of, by_link};
 

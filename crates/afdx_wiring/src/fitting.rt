@@ -1,6 +1,6 @@
 //! Whether the tables of a network fit together.
 
-ghost use Rattle.std.specs.Prelude.{◌≡◌, IfOk};
+ghost use Rattle.std.specs.Prelude.{IfOk};
 ghost use Rattle.afdx_wiring.specs.Refusal.{Gives};
 ghost use Rattle.afdx_wiring.specs.Order.{misfit};
 ghost use Rattle.afdx_wiring.specs.Rules.{FitsTogether};

@@ -1,9 +1,8 @@
 //! What the tables at both ends of a wire agree on.
 
 ghost use Rattle.std.specs.Prelude.{◌≡◌, ◌<◌, option_copied, length, slice_index_or};
-ghost use Rattle.std.specs.Str.{bytes_eq};
 ghost use Rattle.afdx_table.specs.WellFormed.{IsLink};
-ghost use Rattle.afdx_wiring.specs.Order.{by_wires, first_of, same_rate, same_constant, same_speed, joined_at, goes_on, all_go_on, shares};
+ghost use Rattle.afdx_wiring.specs.Order.{by_wires, first_of, same_rate, same_constant, same_speed, joined_at, goes_on, shares};
 
 use crate::fault::{At, NetworkFault};
 use crate::layout::Wire;

@@ -6,7 +6,8 @@ use Rattle.std.proofs.Common.{◌-◌, length, take}
 use Rattle.std.proofs.lemmas.List.{take_rest}
 use Rattle.std.specs.Box.{box_value}
 use Rattle.std.specs.Str.Parse.{ParsesUnsigned}
-use Rattle.clap.specs.Words.{AddsSubcommand, App, app_of, shape_of, with_subcommand, HasKind, IsAmong, Kinds, Row, Text, fault_of, first_of, is_simple, is_simple_and_free, kind_of, one_text, rows_of, subcommand_name_of, subcommand_of, subcommand_rows, subcommand_rows_of, ReadsOne}
+use Rattle.clap.specs.Words.{AddsSubcommand, App, app_of, shape_of, with_subcommand, HasKind, IsAmong, Kinds, Row, Text, fault_of, is_simple, is_simple_and_free, kind_of, one_text, rows_of}
+use Rattle.clap.specs.Words.{subcommand_name_of, subcommand_of, subcommand_rows, subcommand_rows_of, ReadsOne}
 use Rattle.clap.specs.declared.builder.command.Command.{Command}
 use Rattle.clap.specs.declared.builder.command.Command.TheViews.{out-Command}
 use Rattle.clap.specs.declared.error.Error.{Error}
@@ -19,22 +20,20 @@ use Rattle.clap.proofs.WalkLemmas.{one_text-rows}
 use Rattle.afdx_words.specs.declared.link.Alone.{Alone}
 use Rattle.afdx_words.specs.declared.request.NoRequest.{NoRequest}
 use Rattle.afdx_words.specs.declared.request.NoRequest.TheVariants.{Help, Usage, Memory}
-use Rattle.afdx_words.specs.declared.request.Paths.{Paths}
-use Rattle.afdx_words.specs.declared.request.Inputs.{Inputs}
 use Rattle.afdx_words.specs.declared.request.NetworkRequest.{NetworkRequest}
 use Rattle.afdx_words.specs.declared.request.Request.{Request}
 use Rattle.afdx_words.specs.declared.request.Request.TheVariants as request
-use Rattle.afdx_words.specs.Commands.{alone_app, check_app, size_app, run_app, measure_app, trace_app, network_app, program}
+use Rattle.afdx_words.specs.Commands.{alone_app, check_app, size_app, paths_app, measure_app, program}
 use Rattle.afdx_words.specs.Commands.{network_check_app, network_jitter_app, network_run_app, network_program}
-use Rattle.afdx_words.specs.Requests.{HasNumber, HasLink, HasPaths, HasInputs, AsksFor, AsksOfNetwork, AsksIn, Explains, Reads}
+use Rattle.afdx_words.specs.Requests.{HasNumber, HasLink, AsksFor, AsksOfNetwork, AsksIn, Explains, Reads}
 use Rattle.afdx_words.specs.Requests.{is_network, fault_in, faults_of, HasMatches, HasNoMatches}
 
 pub simple : is_simple program ≡ true
-unfolding program alone_app check_app size_app run_app measure_app trace_app
+unfolding program alone_app check_app size_app paths_app measure_app
 simple = refl
 
 pub simple_and_free : is_simple_and_free program ≡ true
-unfolding program alone_app check_app size_app run_app measure_app trace_app
+unfolding program alone_app check_app size_app paths_app measure_app
 simple_and_free = refl
 
 pub network_simple : is_simple network_program ≡ true
@@ -85,9 +84,6 @@ begins : (name a b : Text) → name ≡ a → name ≡ b → get_or a 0 0 ≡ ge
 begins name a b is_a is_b = ap (λ (t : Text). get_or t 0 0) (sym is_a ∙ is_b)
 
 module _ (sub : Option (Text × List Row)) (name : Text) (rows : List Row) (is : sub ≡ Some (name, rows)) where
-  pub asks : (r : Request) → AsksFor (Some (name, rows)) r → AsksFor sub r
-  asks r h = subst (λ (s : Option (Text × List Row)). AsksFor s r) (sym is) h
-
   asks_none : ((r : Request) → AsksFor (Some (name, rows)) r → ⊥) → (r : Request) → AsksFor sub r → ⊥
   asks_none none r h = none r (subst (λ (s : Option (Text × List Row)). AsksFor s r) is h)
 
@@ -104,73 +100,6 @@ module _ (sub : Option (Text × List Row)) (name : Text) (rows : List Row) (is :
     go (request.Run paths) h = other (codes "alone") (codes "run") (λ bad. omega (arith, bad)) named h.0
     go (request.Measure inputs) h = other (codes "alone") (codes "measure") (λ bad. omega (arith, bad)) named h.0
     go (request.Trace paths) h = other (codes "alone") (codes "trace") (λ bad. omega (arith, bad)) named h.0
-    go (request.Network r) h = h
-
-  pub no_table : name ≡ codes "check" → None ≡ first_of (codes "TABLE") rows → (r : Request) → AsksFor sub r → ⊥
-  no_table named none = asks_none go where
-    go : (r : Request) → AsksFor (Some (name, rows)) r → ⊥
-    go (request.Alone link) h = other (codes "check") (codes "alone") (λ bad. omega (arith, bad)) named h.0
-    go (request.Check table) h = let bad = none ∙ h.1 in absurd (cc)
-    go (request.Size table) h = other (codes "check") (codes "size") (λ bad. omega (arith, bad)) named h.0
-    go (request.Run paths) h = other (codes "check") (codes "run") (λ bad. omega (arith, bad)) named h.0
-    go (request.Measure inputs) h = other (codes "check") (codes "measure") (λ bad. omega (arith, bad)) named h.0
-    go (request.Trace paths) h = other (codes "check") (codes "trace") (λ bad. omega (arith, bad)) named h.0
-    go (request.Network r) h = h
-
-  pub no_size : name ≡ codes "size" → None ≡ first_of (codes "TABLE") rows → (r : Request) → AsksFor sub r → ⊥
-  no_size named none = asks_none go where
-    go : (r : Request) → AsksFor (Some (name, rows)) r → ⊥
-    go (request.Alone link) h = other (codes "size") (codes "alone") (λ bad. omega (arith, bad)) named h.0
-    go (request.Check table) h = other (codes "size") (codes "check") (λ bad. omega (arith, bad)) named h.0
-    go (request.Size table) h = let bad = none ∙ h.1 in absurd (cc)
-    go (request.Run paths) h = other (codes "size") (codes "run") (λ bad. omega (arith, bad)) named h.0
-    go (request.Measure inputs) h = other (codes "size") (codes "measure") (λ bad. omega (arith, bad)) named h.0
-    go (request.Trace paths) h = other (codes "size") (codes "trace") (λ bad. omega (arith, bad)) named h.0
-    go (request.Network r) h = h
-
-  pub no_paths : name ≡ codes "run" → ((paths : Paths) → HasPaths rows paths → ⊥) → (r : Request) → AsksFor sub r → ⊥
-  no_paths named none = asks_none go where
-    go : (r : Request) → AsksFor (Some (name, rows)) r → ⊥
-    go (request.Alone link) h = other (codes "run") (codes "alone") (λ bad. omega (arith, bad)) named h.0
-    go (request.Check table) h = other (codes "run") (codes "check") (λ bad. omega (arith, bad)) named h.0
-    go (request.Size table) h = other (codes "run") (codes "size") (λ bad. omega (arith, bad)) named h.0
-    go (request.Run paths) h = none paths h.1
-    go (request.Measure inputs) h = other (codes "run") (codes "measure") (λ bad. omega (arith, bad)) named h.0
-    go (request.Trace paths) h = other (codes "run") (codes "trace") (λ bad. omega (arith, bad)) named h.0
-    go (request.Network r) h = h
-
-  pub no_inputs : name ≡ codes "measure" → ((inputs : Inputs) → HasInputs rows inputs → ⊥) → (r : Request) → AsksFor sub r → ⊥
-  no_inputs named none = asks_none go where
-    go : (r : Request) → AsksFor (Some (name, rows)) r → ⊥
-    go (request.Alone link) h = other (codes "measure") (codes "alone") (λ bad. omega (arith, bad)) named h.0
-    go (request.Check table) h = other (codes "measure") (codes "check") (λ bad. omega (arith, bad)) named h.0
-    go (request.Size table) h = other (codes "measure") (codes "size") (λ bad. omega (arith, bad)) named h.0
-    go (request.Run paths) h = other (codes "measure") (codes "run") (λ bad. omega (arith, bad)) named h.0
-    go (request.Measure inputs) h = none inputs h.1
-    go (request.Trace paths) h = other (codes "measure") (codes "trace") (λ bad. omega (arith, bad)) named h.0
-    go (request.Network r) h = h
-
-  pub no_traced_paths : name ≡ codes "trace" → ((paths : Paths) → HasPaths rows paths → ⊥) → (r : Request) → AsksFor sub r → ⊥
-  no_traced_paths named none = asks_none go where
-    go : (r : Request) → AsksFor (Some (name, rows)) r → ⊥
-    go (request.Alone link) h = other (codes "trace") (codes "alone") (λ bad. omega (arith, bad)) named h.0
-    go (request.Check table) h = other (codes "trace") (codes "check") (λ bad. omega (arith, bad)) named h.0
-    go (request.Size table) h = other (codes "trace") (codes "size") (λ bad. omega (arith, bad)) named h.0
-    go (request.Run paths) h = other (codes "trace") (codes "run") (λ bad. omega (arith, bad)) named h.0
-    go (request.Measure inputs) h = other (codes "trace") (codes "measure") (λ bad. omega (arith, bad)) named h.0
-    go (request.Trace paths) h = none paths h.1
-    go (request.Network r) h = h
-
-  pub no_command : (name ≡ codes "alone" → ⊥) → (name ≡ codes "check" → ⊥) → (name ≡ codes "size" → ⊥) → (name ≡ codes "run" → ⊥) → (name ≡ codes "measure" → ⊥) → (name ≡ codes "trace" → ⊥)
-      → (r : Request) → AsksFor sub r → ⊥
-  no_command alone check size run measure trace = asks_none go where
-    go : (r : Request) → AsksFor (Some (name, rows)) r → ⊥
-    go (request.Alone link) h = alone h.0
-    go (request.Check table) h = check h.0
-    go (request.Size table) h = size h.0
-    go (request.Run paths) h = run h.0
-    go (request.Measure inputs) h = measure h.0
-    go (request.Trace paths) h = trace h.0
     go (request.Network r) h = h
 
 -- an error of `clap`

@@ -30,22 +30,16 @@ check_app = with_rule (new_app (codes "check")) (path_rule (codes "TABLE"))
 unfoldable pub size_app : App
 size_app = with_rule (new_app (codes "size")) (path_rule (codes "TABLE"))
 
--- afdx run TABLE IN OUT [--unchecked]
-unfoldable pub run_app : App
-run_app =
-    with_rule (with_rule (with_rule (with_rule (new_app (codes "run")) (path_rule (codes "TABLE"))) (path_rule (codes "IN"))) (path_rule (codes "OUT")))
+-- afdx run TABLE IN OUT [--unchecked], and trace with the same words
+unfoldable pub paths_app : Text → App
+paths_app name =
+    with_rule (with_rule (with_rule (with_rule (new_app name) (path_rule (codes "TABLE"))) (path_rule (codes "IN"))) (path_rule (codes "OUT")))
     (flag_rule (codes "unchecked"))
 
 -- afdx measure TABLE IN [--unchecked]
 unfoldable pub measure_app : App
 measure_app =
     with_rule (with_rule (with_rule (new_app (codes "measure")) (path_rule (codes "TABLE"))) (path_rule (codes "IN"))) (flag_rule (codes "unchecked"))
-
--- afdx trace TABLE IN OUT [--unchecked]
-unfoldable pub trace_app : App
-trace_app =
-    with_rule (with_rule (with_rule (with_rule (new_app (codes "trace")) (path_rule (codes "TABLE"))) (path_rule (codes "IN"))) (path_rule (codes "OUT")))
-    (flag_rule (codes "unchecked"))
 
 -- afdx network, whose own words are read by the program below
 abbrev pub network_app : App
@@ -59,8 +53,10 @@ unfoldable pub program : App
 program =
     with_subcommand
     (with_subcommand
-    (with_subcommand (with_subcommand (with_subcommand (with_subcommand (with_subcommand bare_program alone_app.top) check_app.top) size_app.top) run_app.top) measure_app.top)
-    trace_app.top)
+    (with_subcommand
+    (with_subcommand (with_subcommand (with_subcommand (with_subcommand bare_program alone_app.top) check_app.top) size_app.top) (paths_app (codes "run")).top)
+    measure_app.top)
+    (paths_app (codes "trace")).top)
     network_app.top
 
 -- ---- networks

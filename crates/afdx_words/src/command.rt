@@ -1,9 +1,9 @@
 //! The command line, as `clap` reads it.
 
-ghost use Rattle.std.specs.Prelude.{◌≡◌, false, IfOk};
+ghost use Rattle.std.specs.Prelude.{◌≡◌, codes, false, IfOk};
 ghost use Rattle.clap.specs.Words.{app_of, new_app, rule_of};
 ghost use Rattle.clap.specs.declared.builder.command.Command.TheViews.{out-Command};
-ghost use Rattle.afdx_words.specs.Commands.{number_rule, path_rule, flag_rule, alone_app, check_app, size_app, run_app, measure_app, trace_app, network_app, bare_program, program};
+ghost use Rattle.afdx_words.specs.Commands.{number_rule, path_rule, flag_rule, alone_app, check_app, size_app, paths_app, measure_app, network_app, bare_program, program};
 
 use clap::builder::ValueParser;
 use clap::{Arg, ArgAction, Command};
@@ -44,14 +44,14 @@ fn flag<'a>(alloc: Global, name: &'a str, about: &'a str) -> Arg<'a>
 const ALONE: &str = "Reads a capture on standard input and writes the capture of the frames that the
 link's account passes on standard output.
 
-Status: 0 done, 2 words, 3 no capture, 5 memory or a device.
+Status: 0 done, 2 arguments, 3 no capture, 5 memory or a device.
 
 Example: afdx alone --id 10 --bag 1 --jitter 0 --size 1000 < in.pcap > out.pcap";
 
 /// What the help of `check` says at its end.
 const CHECK: &str =
-    "Status: 0 accepted, 2 words, 3 no table, 4 a port cannot give what its links ask
-for, 5 memory or a device.
+    "Status: 0 accepted, 2 arguments, 3 no table, 4 a port cannot give what its links
+ask for, 5 memory or a device.
 
 Example: afdx check table.toml";
 
@@ -60,8 +60,8 @@ const SIZE: &str = "For each port with links: what they need and what the port h
 line's rate in parts, the buffer in bytes, the delays in ns), and the rules that
 it breaks.
 
-Status: 0 told, whether each port fits or not, 2 words, 3 no table, 5 memory or a
-device.
+Status: 0 told, whether each port fits or not, 2 arguments, 3 no table, 5 memory
+or a device.
 
 Example: afdx size table.toml";
 
@@ -74,7 +74,7 @@ new, after a failed write all are. A file that was read is not replaced. Capture
 of ports that the table lacks are not looked at. Names are printed as they were
 given.
 
-Status: 0 done, 2 words, 3 no table or capture, 4 a port cannot give what its
+Status: 0 done, 2 arguments, 3 no table or capture, 4 a port cannot give what its
 links ask for, 5 memory or a device.
 
 Example: mkdir out && afdx run table.toml in out";
@@ -86,7 +86,7 @@ the stamp to the end on the line, beside the port's bound. For each port: the mo
 bytes that its buffer held, and the stamp in ns of the first frame that filled it
 so.
 
-Status: 0 told, 2 words, 3 no table or capture, 4 a port cannot give what its
+Status: 0 told, 2 arguments, 3 no table or capture, 4 a port cannot give what its
 links ask for, 5 memory or a device.
 
 Example: afdx measure table.toml in";
@@ -97,9 +97,9 @@ const TRACE: &str =
 OUT, which must be there, in place of the captures: arrivals.csv has a line for
 each frame that came in, with its fate, how many ns too early a policed one came,
 and the ports whose buffers were full; departures.csv has one for each copy that a
-port sent or gave up. A file is written beside its name and then moved onto it.
+port sent or discarded. A file is written beside its name and then moved onto it.
 
-Status: 0 done, 2 words, 3 no table or capture, 4 a port cannot give what its
+Status: 0 done, 2 arguments, 3 no table or capture, 4 a port cannot give what its
 links ask for, 5 memory or a device.
 
 Example: mkdir told && afdx trace table.toml in told";
@@ -169,21 +169,32 @@ fn size<'a>(alloc: Global) -> Result<Command<'a>, AllocError>
     wordless(alloc, "size", about, SIZE).arg(path(alloc, "TABLE", "The configuration table"))
 }
 
-#[tactic(auto, unfolding(crate::specs::Commands::run_app))]
+/// A command that goes by the files of a run, with what its help says of it, at its end and of OUT.
+#[tactic(auto, unfolding(crate::specs::Commands::paths_app))]
+fn with_paths<'a>(
+    alloc: Global,
+    name: &'a str,
+    about: &'a str,
+    more: &'a str,
+    output: &'a str,
+) -> Result<Command<'a>, AllocError>
+    ensures app { IfOk result (λ c. app_of c ≡ paths_app name.entry.now) }
+    ensures local { IfOk result (λ c. (out-Command c).has_globals ≡ false) }
+{
+    wordless(alloc, name, about, more)
+        .arg(path(alloc, "TABLE", "The configuration table"))?
+        .arg(path(alloc, "IN", "The folder of port-1.pcap and so on"))?
+        .arg(path(alloc, "OUT", output))?
+        .arg(flag(alloc, "unchecked", "Runs a table whatever its load"))
+}
+
 fn run<'a>(alloc: Global) -> Result<Command<'a>, AllocError>
-    ensures app { IfOk result (λ c. app_of c ≡ run_app) }
+    ensures app { IfOk result (λ c. app_of c ≡ paths_app (codes "run")) }
     ensures local { IfOk result (λ c. (out-Command c).has_globals ≡ false) }
 {
     let about = "Runs the switch over one capture for each port";
-    wordless(alloc, "run", about, RUN)
-        .arg(path(alloc, "TABLE", "The configuration table"))?
-        .arg(path(alloc, "IN", "The folder of port-1.pcap and so on"))?
-        .arg(path(
-            alloc,
-            "OUT",
-            "The folder for the captures of the output ports",
-        ))?
-        .arg(flag(alloc, "unchecked", "Runs a table whatever its load"))
+    let output = "The folder for the captures of the output ports";
+    with_paths(alloc, "run", about, RUN, output)
 }
 
 #[tactic(auto, unfolding(crate::specs::Commands::measure_app))]
@@ -202,21 +213,13 @@ fn measure<'a>(alloc: Global) -> Result<Command<'a>, AllocError>
         ))
 }
 
-#[tactic(auto, unfolding(crate::specs::Commands::trace_app))]
 fn trace<'a>(alloc: Global) -> Result<Command<'a>, AllocError>
-    ensures app { IfOk result (λ c. app_of c ≡ trace_app) }
+    ensures app { IfOk result (λ c. app_of c ≡ paths_app (codes "trace")) }
     ensures local { IfOk result (λ c. (out-Command c).has_globals ≡ false) }
 {
     let about = "Tells what became of each frame and of each copy";
-    wordless(alloc, "trace", about, TRACE)
-        .arg(path(alloc, "TABLE", "The configuration table"))?
-        .arg(path(alloc, "IN", "The folder of port-1.pcap and so on"))?
-        .arg(path(
-            alloc,
-            "OUT",
-            "The folder for arrivals.csv and departures.csv",
-        ))?
-        .arg(flag(alloc, "unchecked", "Runs a table whatever its load"))
+    let output = "The folder for arrivals.csv and departures.csv";
+    with_paths(alloc, "trace", about, TRACE, output)
 }
 
 /// What the program's help tells of the commands of networks.

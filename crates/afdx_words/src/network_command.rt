@@ -17,8 +17,8 @@ whether each jitter is enough for the whole way to its switch. For each link and
 each of its ends: its way, the least and the greatest delay in ns, and the jitter
 in us that it needs at each switch.
 
-Status: 0 accepted, 2 words, 3 no network or no table, 4 a port cannot give what
-its links ask for or a jitter is not enough, 5 memory or a device.
+Status: 0 accepted, 2 arguments, 3 no network or no table, 4 a port cannot give
+what its links ask for or a jitter is not enough, 5 memory or a device.
 
 Example: afdx network check network.toml";
 
@@ -28,8 +28,8 @@ const JITTER: &str =
 the first switches on. Whoever writes the tables takes them from here; check says
 then whether they are enough.
 
-Status: 0 told, 2 words, 3 no network or no table, 4 the links ask for more than a
-line, or a jitter past 10000 us is needed, 5 memory or a device.
+Status: 0 told, 2 arguments, 3 no network or no table, 4 the links ask for more
+than a line, or a jitter past 10000 us is needed, 5 memory or a device.
 
 Example: afdx network jitter network.toml";
 
@@ -39,8 +39,8 @@ to which no wire leads, port-1.pcap and so on; those of all its output ports are
 put into OUT/A, which must be there. What leaves a port with a wire comes in at the
 wire's end. The report of each switch is written, with its name before each line.
 
-Status: 0 done, 2 words, 3 no network, table or capture, 4 a network that check
-refuses or that does not come to rest, 5 memory or a device.
+Status: 0 done, 2 arguments, 3 no network, table or capture, 4 a network that
+check refuses or that does not come to rest, 5 memory or a device.
 
 Example: mkdir -p out/A out/B && afdx network run network.toml in out";
 

@@ -1,4 +1,4 @@
-use Rattle.afdx_network.proofs.Ways.{Ground, ways_deliver}
+use Rattle.afdx_network.proofs.Ways.{ways_deliver}
 use Rattle.afdx_network.proofs.laws.ways_deliver.Goals as goal
 
 pub returns : goal.returns
