@@ -32,7 +32,7 @@ readme_shows() {
     [ "$(grep -cxFf lines.txt "$top/README.md")" -eq "$1" ]
 }
 
-# tells_jitters: the tables have the jitters that the links need; with others in their place the same ones are told.
+# tells_jitters: the jitters that the links need, whatever those of the tables are.
 tells_jitters() {
     as_modelled jitter && mv lines.txt before.txt && sed -i '/^id = 400/,/^jitter_us/ s/^jitter_us = .*/jitter_us = 10000/' work/bay.toml &&
         "$afdx" network jitter work/network.toml | cmp before.txt -
@@ -103,15 +103,20 @@ no_table() {
         ends 5 "afdx: device get work/none.toml" /dev/null network check work/network.toml
 }
 
-# unsettled: frames over a ring, each of which delays the next one at the next switch, so that a round settles one more of them.
-unsettled() {
-    mkdir -p ring/out/A ring/out/B ring/out/C && python3 "$top/end_to_end/ring.py" ring 63 &&
-        ends 4 "afdx: network R1 Unsettled" /dev/null network run ring/network.toml ring ring/out
+# ring_of COUNT: so many frames over a ring, each of which delays the next one at the next switch, so that a round settles three
+# more of them (ring.py): 188 take all 64 rounds.
+ring_of() {
+    mkdir -p ring/out/A ring/out/B ring/out/C && python3 "$top/end_to_end/ring.py" ring "$1"
 }
 
-# settled: one frame less, and what goes round comes to rest in the last round.
+# unsettled: a frame more than the rounds settle.
+unsettled() {
+    ring_of 189 && ends 4 "afdx: network R1 Unsettled" /dev/null network run ring/network.toml ring ring/out
+}
+
+# settled: what goes round comes to rest in the last round.
 settled() {
-    python3 "$top/end_to_end/ring.py" ring 62 && "$afdx" network run ring/network.toml ring ring/out >lines.txt &&
+    ring_of 188 && "$afdx" network run ring/network.toml ring ring/out >lines.txt &&
         python3 "$model" run ring/network.toml ring wanted-ring >wanted.txt && cmp wanted.txt lines.txt && diff -r wanted-ring ring/out
 }
 

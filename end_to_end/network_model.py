@@ -433,14 +433,12 @@ def jitter(net):
 
 
 def order_of(net):
-    """The switches, each after those whose wires lead to it; None where there is no such order."""
+    """All switches: next is one whose wires all come from those before, where there is one, else the first of the file that is left."""
     order, left = [], list(net.names)
     while left:
         ready = [name for name in left if not any(wire.end.switch == name and wire.start.switch in left for wire in net.wires)]
-        if not ready:
-            return None
-        order.append(ready[0])
-        left.remove(ready[0])
+        order.append((ready or left)[0])
+        left.remove(order[-1])
     return order
 
 
@@ -474,29 +472,22 @@ def texts_at(net, name, given, wired):
     return {end.port: wired[end] if end in wired else given[end] for end in ends}
 
 
-def run_one(net, name, given, wired):
-    return of_switch(name, model.run, net.tables[name], texts_at(net, name, given, wired))
+def brought(net, name, outcomes):
+    """What the wires bring to a switch: nothing from one that has not run."""
+    return {wire.end: carried(wire, outcomes[wire.start.switch]) if wire.start.switch in outcomes else model.capture_of([])
+            for wire in net.wires if wire.end.switch == name}
 
 
-def run_in_order(net, order, given):
-    wired, outcomes = {}, {}
-    for name in order:
-        outcomes[name] = run_one(net, name, given, wired)
-        for wire in net.wires:
-            if wire.start.switch == name:
-                wired[wire.end] = carried(wire, outcomes[name])
-    return outcomes
-
-
-def run_by_rounds(net, given, rounds):
-    """All switches over what is there, again until the wires' texts are those of the round before."""
-    wired = {wire.end: model.capture_of([]) for wire in net.wires}
+def run_in_rounds(net, given, order, rounds):
+    """The switches in this order over what is there, and again where a wire brings another text, until each brings what came in."""
+    came, outcomes = {}, {}
     for _ in range(rounds):
-        outcomes = {name: run_one(net, name, given, wired) for name in net.names}
-        after = {wire.end: carried(wire, outcomes[wire.start.switch]) for wire in net.wires}
-        if after == wired:
+        for name in order:
+            texts = texts_at(net, name, given, brought(net, name, outcomes))
+            if texts != came.get(name):
+                came[name], outcomes[name] = texts, of_switch(name, model.run, net.tables[name], texts)
+        if all(texts_at(net, name, given, brought(net, name, outcomes)) == came[name] for name in order):
             return outcomes
-        wired = after
     refuse("R1 Unsettled")
 
 
@@ -505,8 +496,7 @@ def run(net, given, rounds=MOST_ROUNDS):
     accept(net)
     for end in open_ends(net):
         of_switch(end.switch, model.records_of, given[end], end.port)
-    order = order_of(net)
-    return run_in_order(net, order, given) if order else run_by_rounds(net, given, rounds)
+    return run_in_rounds(net, given, order_of(net), rounds)
 
 
 def open_ends(net):

@@ -143,8 +143,9 @@ def three_in_a_row():
     for switch, babbler in (("A", 11), ("B", 12), ("C", 13)):
         sees(name, outcomes, switch, "link 1 passed 1 policed 0", f"link {babbler} passed 1 policed 2")
     given = {end: SILENCE for end in network_model.open_ends(net)} | {End("A", 1): capture((1, 1))}
-    by_rounds = network_model.run_by_rounds(net, given, 64)
-    same("the order of the wires and rounds", by_rounds, network_model.run(net, given))
+    same("along the wires", network_model.order_of(net), ["A", "B", "C"])
+    backwards = network_model.run_in_rounds(net, given, ["C", "B", "A"], 64)
+    same("whatever the order", backwards, network_model.run(net, given, 1))
 
 
 def ring_of_three(jitters):
@@ -161,7 +162,7 @@ def ring():
          "link 2 from B.2 to A.4 ways B.3 C.3 A.4 least 20160 most 33788 jitter 0 7 14",
          "link 3 from C.2 to B.4 ways C.3 A.3 B.4 least 20160 most 33788 jitter 0 7 14",
          "greatest 33788 link 1 to C.4", "accepted")
-    same(name, network_model.order_of(net), None)
+    same(name, network_model.order_of(net), ["A", "B", "C"])
     given = {"A2": capture((1, 0)), "B2": capture((2, 0)), "C2": capture((3, 0))}
     outcomes = run(net, **given)
     same(name, left(outcomes, "A", 3), [(1, 6_720), (3, 13_440)])
@@ -170,7 +171,7 @@ def ring():
           *(f"switch {switch} link {number} jitter_us {us}" for switch, numbers in (("A", (1, 3, 2)), ("B", (2, 1, 3)), ("C", (3, 2, 1)))
             for number, us in zip(numbers, (0, 7, 14))))
     given = {end: given.get(f"{end.switch}{end.port}", SILENCE) for end in network_model.open_ends(net)}
-    refuses(name, "afdx: network R1 Unsettled", 4, network_model.run, net, given, 2)
+    refuses(name, "afdx: network R1 Unsettled", 4, network_model.run, net, given, 1)
 
 
 def multicast():

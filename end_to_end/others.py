@@ -1,5 +1,5 @@
 #!/usr/bin/env python3
-"""Compares two runs of a network: says which frames of links other than this one differ.
+"""Compares two runs of a network: says which captures differ in the frames of links other than this one.
 
 usage: others.py OUT OTHER_OUT LINK     the folders that `afdx network run` put captures into, and the link that may differ
 

@@ -28,7 +28,7 @@ use Rattle.afdx_wiring.specs.Rules.{Joins, GoesOn}
 use Rattle.afdx_network.specs.Way.{Node, Stage, IsStage, Step, Follows, IsWay, AreEnough, delayed}
 use Rattle.afdx_network.specs.Runs.{SwitchRun, Given}
 use Rattle.afdx_network.specs.Ways.{node_of, IsStageAt, GoesOver, IsWayFrom, IsWayIn}
-use Rattle.afdx_network.specs.Inner.Laws.{IsAcceptedRun}
+use Rattle.afdx_network.specs.Laws.{IsAcceptedRun}
 use Rattle.afdx_network.proofs.Found.{some_same, get_map, got_map, map_contains, all_at, ports_are_found, one_port}
 use Rattle.afdx_network.proofs.Rows.{wire_goes_there, rows_have, rows_on_have, row_is, same_bound}
 use Rattle.afdx_network.proofs.Lengths.{IsFound, found_row}

@@ -20,7 +20,7 @@ use Rattle.afdx_wiring.specs.Net.{Network, Row, Back, rows_of, ingress, wire_to,
 use Rattle.afdx_network.specs.Way.{Stage, Step, last_of}
 use Rattle.afdx_network.specs.Runs.{SwitchRun, Given}
 use Rattle.afdx_network.specs.Ways.{node_of, IsStageAt, GoesOver, IsWayFrom, IsWayIn}
-use Rattle.afdx_network.specs.Inner.Laws.{IsAcceptedRun, EndsAt}
+use Rattle.afdx_network.specs.Laws.{IsAcceptedRun, EndsAt}
 use Rattle.afdx_network.proofs.Found.{contains_filter}
 use Rattle.afdx_network.proofs.Rows.{rows_have, same_bound}
 use Rattle.afdx_network.proofs.Agreement.{Ground, stage_by, end_by, table_at, formed_at, accepted_at, RowBefore, row_before, first_stage}

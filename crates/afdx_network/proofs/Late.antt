@@ -24,7 +24,7 @@ use Rattle.afdx_wiring.specs.declared.layout.Wire.{Wire}
 use Rattle.afdx_wiring.specs.Net.{Network, Row, Back, rows_of, wire_to, IsWayBack}
 use Rattle.afdx_network.specs.Way.{delayed}
 use Rattle.afdx_network.specs.Runs.{SwitchRun, Given}
-use Rattle.afdx_network.specs.Inner.Laws.{IsAcceptedRun, NoneComesLate, WaysAreShort}
+use Rattle.afdx_network.specs.Laws.{IsAcceptedRun, NoneComesLate, WaysAreShort}
 use Rattle.afdx_network.proofs.Lists.{all_weaken, all_map, all_append, all_kept, all_tested}
 use Rattle.afdx_network.proofs.Found.{same_number, equal, get_map, contains_at, map_contains}
 use Rattle.afdx_network.proofs.Rows.{wire_goes_there, rows_have}

@@ -1,7 +1,7 @@
 //! Laws over the definitions: functions that do nothing, whose contracts are the laws.
 
-ghost use Rattle.afdx_network.specs.Inner.Laws.{RunsAreNodes, AgreementIsWired, NetworkRunsDeliver, OthersChangeNothingInNetworks, WaysAreThere};
-ghost use Rattle.afdx_network.specs.Inner.Laws.{RestIsAgreement, WaysAreShort, NoneIsLate};
+ghost use Rattle.afdx_network.specs.Laws.{RunsAreNodes, AgreementIsWired, NetworkRunsDeliver, OthersChangeNothingInNetworks, WaysAreThere};
+ghost use Rattle.afdx_network.specs.Laws.{RestIsAgreement, WaysAreShort, NoneIsLate};
 ghost use Rattle.afdx_network.specs.Way.{WaysDeliver, OthersChangeNothingOnTheWay};
 
 use afdx_account::laws::passed_by_their_frames;

@@ -1,113 +1,67 @@
-//! Networks, what comes in and what goes out.
+//! Networks of texts.
 
-use afdx_network::{NetworkRunFault, Texts, run};
-use afdx_pcap::read_all;
-use afdx_samples::{Link, Sample, capture, link, port};
-use afdx_session::Outcome;
-use afdx_table::read;
-use afdx_wiring::{ClearedNetwork, Network};
+use afdx_samples::{Ends, Port, network_file, port};
+use afdx_table::{Table, read};
+use afdx_wiring::{ClearedNetwork, Layout, Network, NetworkFault};
 use std::alloc::Global;
-use std::fmt::Write;
 use std::test::Fail;
 
-/// A wire: its start, its end and its delay.
-pub(crate) type Ends = (&'static str, &'static str, u32);
+/// The names of the switches.
+const NAMES: [&str; 5] = ["A", "B", "C", "D", "E"];
 
-/// A low link of frames of 64 bytes each millisecond.
-pub(crate) fn row(id: u16, from: u8, to: &'static str, jitter_us: u32) -> Link {
-    Link {
-        max_size: 64,
-        jitter_us,
-        ..link(id, from, to)
+/// A port of so many Mbit/s.
+pub(crate) fn port_at(id: u8, mbit: u32) -> Port {
+    Port { mbit, ..port(id) }
+}
+
+/// The tables of these texts.
+fn tables(alloc: Global, texts: &[String]) -> Result<Vec<Table>, Fail> {
+    let mut tables = Vec::new(alloc);
+    for text in texts {
+        tables.push(read(alloc, text.as_bytes())?)?;
     }
+    Ok(tables)
 }
 
-/// The text of a table with ports 1 to 4 at 100 Mbit/s.
-pub(crate) fn text(alloc: Global, links: &[Link]) -> Result<String, Fail> {
-    let ports = [port(1), port(2), port(3), port(4)];
-    Ok(afdx_samples::table(alloc, &ports, links)?)
+/// The layout of these switches and wires.
+pub(crate) fn layout(alloc: Global, names: &[&str], wires: &[Ends]) -> Result<Layout, Fail> {
+    let text = network_file(alloc, names, wires)?;
+    let layout = afdx_wiring::read(alloc, text.as_bytes())
+        .ok()
+        .ok_or("a network file")?;
+    Ok(layout)
 }
 
-/// The network of switches A, B and so on, of the tables that these texts are; it is accepted.
+/// The network of switches A, B and so on, of the tables that these texts are.
 pub(crate) fn network(
     alloc: Global,
     texts: &[String],
     wires: &[Ends],
-) -> Result<ClearedNetwork, Fail> {
-    let mut file = String::new(alloc);
-    let mut tables = Vec::new(alloc);
-    for (name, text) in ["A", "B", "C", "D", "E"].iter().zip(texts) {
-        writeln!(file, "[[switch]]")?;
-        writeln!(file, "name = \"{name}\"")?;
-        writeln!(file, "table = \"{name}.toml\"")?;
-        tables.push(read(alloc, text.as_bytes())?)?;
-    }
-    for (from, to, delay) in wires {
-        writeln!(file, "[[wire]]")?;
-        writeln!(file, "from = \"{from}\"")?;
-        writeln!(file, "to = \"{to}\"")?;
-        writeln!(file, "delay_ns = {delay}")?;
-    }
-    let layout = afdx_wiring::read(alloc, file.as_bytes())
+) -> Result<Result<Network, NetworkFault>, Fail> {
+    let names = NAMES.get(..texts.len()).ok_or("at most five switches")?;
+    let tables = tables(alloc, texts)?;
+    let layout = layout(alloc, names, wires)?;
+    Ok(Network::new(layout, tables))
+}
+
+/// The same, where the tables fit together.
+pub(crate) fn fitting(alloc: Global, texts: &[String], wires: &[Ends]) -> Result<Network, Fail> {
+    let network = network(alloc, texts, wires)?
         .ok()
-        .ok_or("the file is refused")?;
-    let network = Network::new(layout, tables).ok().ok_or("no ports")?;
-    network.fit(alloc).ok().ok_or("a misfit")?;
-    let cleared = network.clear().ok().ok_or("a load")?;
-    cleared.check(alloc).ok().ok_or("a jitter")?;
+        .ok_or("ports of the tables")?;
+    match network.fit(alloc) {
+        Ok(()) => Ok(network),
+        Err(_) => Err("tables that fit together".into()),
+    }
+}
+
+/// The same, where each load is accepted. Whether the jitters are enough is not asked.
+pub(crate) fn cleared(
+    alloc: Global,
+    texts: &[String],
+    wires: &[Ends],
+) -> Result<ClearedNetwork, Fail> {
+    let network = fitting(alloc, texts, wires)?;
+    let cleared = network.clear().ok().ok_or("loads that are accepted")?;
     Ok(cleared)
-}
-
-/// A capture of these frames for each of these ports of a switch.
-pub(crate) fn given(alloc: Global, ports: &[(u8, &[Sample])]) -> Result<Texts, Fail> {
-    let mut texts = Vec::new(alloc);
-    for (port, frames) in ports {
-        texts.push((*port, capture(alloc, frames)?))?;
-    }
-    Ok(texts)
-}
-
-/// What each switch leads to.
-pub(crate) fn outcomes(
-    alloc: Global,
-    network: &ClearedNetwork,
-    given: Vec<Texts>,
-) -> Result<Vec<Outcome<Global>>, Fail> {
-    match run(alloc, network, given) {
-        Ok(outcomes) => Ok(outcomes),
-        Err(_) => Err("no run".into()),
-    }
-}
-
-/// What a run is refused for.
-pub(crate) fn refusal(
-    alloc: Global,
-    network: &ClearedNetwork,
-    given: Vec<Texts>,
-) -> Option<NetworkRunFault> {
-    run(alloc, network, given).err()
-}
-
-/// The link and the nanosecond of each frame that left a port.
-pub(crate) fn left(
-    alloc: Global,
-    outcome: &Outcome<Global>,
-    port: u8,
-) -> Result<Vec<(u8, u64)>, Fail> {
-    let capture = outcome
-        .captures
-        .iter()
-        .find(|capture| capture.0 == port)
-        .ok_or("no such port")?;
-    let mut frames = Vec::new(alloc);
-    for record in read_all(alloc, &capture.1)? {
-        frames.push((record.bytes()[5], record.stamp().ns()))?;
-    }
-    Ok(frames)
-}
-
-/// Whether a switch's report has this line.
-pub(crate) fn reports(alloc: Global, outcome: &Outcome<Global>, line: &str) -> Result<bool, Fail> {
-    let report = outcome.counts.report(alloc)?;
-    Ok(report.as_str().lines().any(|said| said == line))
 }

@@ -1,5 +1,6 @@
 -- Networks that were got: the files of tables, and why they were not.
-use Rattle.std.proofs.Common.{◌≡◌, ◌≢◌, ℕ, ◌+◌, ◌<◌, ◌≤◌, List, [], ◌∷◌, ◌++◌, map, length, take, Option, Some, None, Result, Ok, Err, Vec, inl, inr, refl, sym, ap, subst, ◌∙◌, arith, get_or, slice_get, String, Global, string_bytes}
+use Rattle.std.proofs.Common.{◌≡◌, ◌≢◌, ℕ, ◌+◌, ◌<◌, ◌≤◌, List, [], ◌∷◌, ◌++◌, map, length, take, Option, Some, None, Result, Ok, Err, Vec, inl, inr, refl, sym, ap, subst, ◌∙◌, arith, get_or}
+use Rattle.std.proofs.Common.{slice_get, length-append, String, Global, string_bytes}
 use Rattle.std.specs.Prelude.{◌⊎◌, option_map, MatchResult}
 use Rattle.std.specs.Path.{path_with_file_name}
 use Rattle.std.proofs.lemmas.List.{get_or-map, map-append, take_more, take_all, take-map, length-map}
@@ -16,7 +17,8 @@ use Rattle.afdx_serve.specs.declared.failure.Failure.{Failure}
 use Rattle.afdx_serve.specs.declared.failure.Failure.TheVariants as failure
 use Rattle.afdx_serve.specs.Files.{Files, Shows, ShowsAll, KeepsFiles, DeviceLog, one_more}
 use Rattle.afdx_serve.specs.Runs.{FailsToGet}
-use Rattle.afdx_serve.specs.Networks.{bytes_in, table_names, names_of, HasLayout, HasTexts, AreTables, GetsTables, StopsAtTable, IsRefusedTable, FailsToLayout, FailsToGetTexts, FailsToReadTables, FailsToJoin, HasNetwork, FailsToGetNetwork}
+use Rattle.afdx_serve.specs.Networks.{bytes_in, table_names, names_of, HasLayout, HasTexts, AreTables, GetsTables, StopsAtTable, IsRefusedTable, FailsToLayout, FailsToGetTexts, FailsToReadTables}
+use Rattle.afdx_serve.specs.Networks.{FailsToJoin, HasNetwork, FailsToGetNetwork}
 use Rattle.afdx_serve.proofs.FileLemmas.{ShowsAll-push, ShowsAll-before, Shows-before, KeepsFiles-trans}
 
 -- ---- the files of tables
@@ -44,7 +46,7 @@ one_more_text {Z} a b c path name switches i d old new bytes grown lt first seco
     let all = ShowsAll-push a (table_names path (take i switches)) (bytes_in old) _ bytes.items got one in (
       subst (λ (names : List (List ℕ)). ShowsAll a names (bytes_in new)) (sym (more_names path switches i d lt))
           (subst (λ (ts : List (List ℕ)). ShowsAll a (table_names path (take i switches) ++ path_with_file_name path (get_or switches i d).path ∷ []) ts) (sym texts) all),
-      grind (arith, grown, len),
+      (let n = ap length grown ∙ length-append old (bytes ∷ []) in omega (arith, n, len)),
       KeepsFiles-trans a b c first second,
     )
 
@@ -139,7 +141,8 @@ text_at {Z} texts i text within is = get_or-map (λ (t : Vec ℕ Z). t.items) te
 pub one_more_table : (texts : List (List ℕ)) (i : ℕ) (old new : List Content) (t : Content) → i < length texts → AreTables (take i texts) old → new ≡ old ++ t ∷ []
     → table_of (get_or texts i []) ≡ Ok t → AreTables (take (i + 1) texts) new
 one_more_table texts i old new t lt are grown is =
-    ap (map table_of) (take_more texts i [] lt) ∙ map-append table_of (take i texts) (get_or texts i [] ∷ []) ∙ ap (λ (l : List (Result Content TableFault)). l ++ table_of (get_or texts i []) ∷ []) are
+    ap (map table_of) (take_more texts i [] lt) ∙ map-append table_of (take i texts) (get_or texts i [] ∷ [])
+    ∙ ap (λ (l : List (Result Content TableFault)). l ++ table_of (get_or texts i []) ∷ []) are
     ∙ ap (λ (r : Result Content TableFault). map (λ (x : Content). Ok x) old ++ r ∷ []) is ∙ sym (map-append (λ (x : Content). Ok x) old (t ∷ [])) ∙ ap (map (λ (x : Content). Ok x)) (sym grown)
 
 pub all_tables : (texts : List (List ℕ)) (i : ℕ) (tables : List Content) → length texts ≤ i → AreTables (take i texts) tables → AreTables texts tables
@@ -181,7 +184,8 @@ gets_before : (name : List ℕ) (a b : Option Files) (path : List ℕ) (switches
 gets_before name a b path switches keeps s = record { place = s.place; got = s.got; is_there = s.is_there; earlier = ShowsAll-before a b _ _ keeps s.earlier }
 
 -- the tables were not there, where nothing was put before
-not_joined_before : (f : Failure) (a b : Option Files) (path : List ℕ) (l : Layout) (before after : DeviceLog) → KeepsFiles a b → FailsToJoin f b path l before after → FailsToJoin f a path l before after
+not_joined_before : (f : Failure) (a b : Option Files) (path : List ℕ) (l : Layout) (before after : DeviceLog) → KeepsFiles a b → FailsToJoin f b path l before after
+    → FailsToJoin f a path l before after
 not_joined_before (failure.Network (network.Table refusal name)) a b path l before after keeps h = ((h.0.0, has_before a b path l.switches h.0.0 keeps h.0.1, h.0.2), h.1)
 not_joined_before (failure.Network (network.Refused e name)) a b path l before after keeps h =
     ((h.0.0, h.0.1, has_before a b path l.switches h.0.0 keeps h.0.2, h.0.3, h.0.4), h.1, h.2)

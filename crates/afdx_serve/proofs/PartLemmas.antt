@@ -33,9 +33,9 @@ no_fault not_both bytes n rs fault whole told memory =
 -- after a text that was written a prefix of the next one is
 pub AppendsPrefix-after : (a b c : Option (List ℕ)) (written next : List ℕ) → Appends a b written → AppendsPrefix b c next → AppendsPrefix a c (written ++ next)
 AppendsPrefix-after a b c written next before h =
-    let front = h.0 in
+    let prefix = h.0 in
     let rest = h.1 in
-    (written ++ front, rest, ap (λ (x : List ℕ). written ++ x) h.2 ∙ sym (append_assoc written front rest), Appends-trans a b c written front before h.3)
+    (written ++ prefix, rest, ap (λ (x : List ℕ). written ++ x) h.2 ∙ sym (append_assoc written prefix rest), Appends-trans a b c written prefix before h.3)
 
 -- and it is a prefix of a longer text
 pub AppendsPrefix-longer : (a c : Option (List ℕ)) (text more : List ℕ) → AppendsPrefix a c text → AppendsPrefix a c (text ++ more)
@@ -92,7 +92,7 @@ pub record Writes (link : Alone) (bytes : List ℕ) (frames : Reading) (account 
 
 -- the text of a frame that passes joins the part, of which a prefix may be written
 abbrev pub Grows : Bool → Entry → Option (List ℕ) → Option (List ℕ) → List ℕ → List ℕ → Type 0
-Grows passes r old new part rest = (front : List ℕ) × (cond passes (part ++ record_text r) part ≡ front ++ rest) × Appends old new front
+Grows passes r old new part rest = (prefix : List ℕ) × (cond passes (part ++ record_text r) part ≡ prefix ++ rest) × Appends old new prefix
 
 pub grows_on : (passes : Bool) (r : Entry) (old new : Option (List ℕ)) (part rest : List ℕ) → passes ≡ true → Grows true r old new part rest → Grows passes r old new part rest
 grows_on true r old new part rest is h = h
@@ -117,30 +117,30 @@ module _ (g : Ground) (link : Alone) (bytes : List ℕ) (frames later : Reading)
   -- and then the loop has come one frame further
   pub writes_on : (c : Option (List ℕ)) (rest : List ℕ) → Grows passes r b c part rest → Writes link bytes later new a c rest
   writes_on c rest h =
-      let front = h.0 in
+      let prefix = h.0 in
       let same = ap (λ (x : Reading). x.bytes) w.reads in
       let count = ap (λ (x : Reading). x.given) came in
       record {
         reads = came ∙ ap (λ (bs : List ℕ). whole_reading bs (frames.given + 1)) same ∙ ap (whole_reading bytes) (sym count);
-        written = w.written ++ front;
-        appended = Appends-trans a b c w.written front w.appended h.2;
-        policed = with_frame ((w.written ++ front) ++ rest) (append_assoc w.written front rest ∙ ap (λ (x : List ℕ). w.written ++ x) (sym h.1) ∙ joined passes w.written part (record_text r));
+        written = w.written ++ prefix;
+        appended = Appends-trans a b c w.written prefix w.appended h.2;
+        policed = with_frame ((w.written ++ prefix) ++ rest) (append_assoc w.written prefix rest ∙ ap (λ (x : List ℕ). w.written ++ x) (sym h.1) ∙ joined passes w.written part (record_text r));
       }
 
   -- or a prefix of the answer was written
   pub stopped : TakenBegin → (c : Option (List ℕ)) (all : List Entry) → passes ≡ true → IsCapture bytes all → AppendsPrefix b c (part ++ record_text r)
       → (text : List ℕ) × IsAnswer link bytes text × AppendsPrefix a c text
-  stopped begin c all passed whole front =
+  stopped begin c all passed whole prefix =
       let text = w.written ++ (part ++ record_text r) in
       let policed = with_frame text (rw passed (sym (append_assoc w.written part (record_text r)))) in
       let answer = whole_answer g begin link bytes (taken_in later) new text all whole policed in
-      (text ++ answer.0, answer.1, AppendsPrefix-longer a c text answer.0 (AppendsPrefix-after a b c w.written (part ++ record_text r) w.appended front))
+      (text ++ answer.0, answer.1, AppendsPrefix-longer a c text answer.0 (AppendsPrefix-after a b c w.written (part ++ record_text r) w.appended prefix))
 
 -- at the end all of the answer was written, or a prefix of it
 pub all_written : {E : Type 0} (g : Ground) (link : Alone) (bytes : List ℕ) (frames : Reading) (account : ByteAccount) (a b c : Option (List ℕ)) (part : List ℕ) (result : Result (Unit {0}) E)
     → Writes link bytes frames account a b part → IsSound frames.bytes frames.given true → OnOk result (Appends b c part) → AppendsPrefix b c part
     → MatchResult result (λ _. (text : List ℕ) × IsAnswer link bytes text × Appends a c text) (λ _. (text : List ℕ) × IsAnswer link bytes text × AppendsPrefix a c text)
-all_written g link bytes frames account a b c part (Ok x) w sound all front =
+all_written g link bytes frames account a b c part (Ok x) w sound all prefix =
     (w.written ++ part, all_policed g link bytes (taken_in frames) account (w.written ++ part) w.policed sound, Appends-trans a b c w.written part w.appended all)
-all_written g link bytes frames account a b c part (Err e) w sound all front =
-    (w.written ++ part, all_policed g link bytes (taken_in frames) account (w.written ++ part) w.policed sound, AppendsPrefix-after a b c w.written part w.appended front)
+all_written g link bytes frames account a b c part (Err e) w sound all prefix =
+    (w.written ++ part, all_policed g link bytes (taken_in frames) account (w.written ++ part) w.policed sound, AppendsPrefix-after a b c w.written part w.appended prefix)

@@ -1,4 +1,5 @@
 pub mod Failures
 pub mod Ground
 pub mod Offer
+pub mod OpenPorts
 pub mod OwnClean

@@ -2,12 +2,13 @@
 
 ghost use Rattle.std.specs.Prelude.{◌≡◌, ◌++◌, codes, option_map, string_bytes, IfOk, OnOk};
 ghost use Rattle.afdx_wiring.specs.Names.{key_text, place_text};
-ghost use Rattle.afdx_serve.specs.Lines.{network_rule, switch_part, link_part, short_text, network_text, network_failure_text, network_failure_line, network_status};
+ghost use Rattle.afdx_serve.specs.Lines.{load_fault_text, network_rule, switch_part, link_part, short_text, network_text, network_failure_text, network_failure_line, network_status};
 
 use crate::capture_line::capture_text;
 use crate::load_line::load_fault_text;
 use crate::network_failure::NetworkFailure;
 use crate::table_line::table_text;
+use afdx_load::LoadFault;
 use afdx_wiring::{At, Key, NetworkFault, Short};
 use std::alloc::{AllocError, Global};
 
@@ -84,6 +85,15 @@ fn short_text(
     Ok(text)
 }
 
+/// A refusal of the load of a switch.
+fn load_text(alloc: Global, fault: LoadFault, name: Option<&str>) -> Result<String, AllocError>
+    ensures { IfOk result (λ text. string_bytes text ≡ load_fault_text fault ++ switch_part (option_map (λ n. n.now) name.entry)) }
+{
+    let mut text = load_fault_text(alloc, fault)?;
+    put_switch(&mut text, name)?;
+    Ok(text)
+}
+
 /// A refusal of a network, of the switch of this name where it is of one.
 fn network_text(
     alloc: Global,
@@ -105,11 +115,7 @@ fn network_text(
         NetworkFault::TwiceTo(at) => at_place(alloc, "G3 TwiceTo", at),
         NetworkFault::OwnPort(at) => at_place(alloc, "G3 OwnPort", at),
         NetworkFault::NoSuchPort(at) => at_place(alloc, "G3 NoSuchPort", at),
-        NetworkFault::Load(_, fault) => {
-            let mut text = load_fault_text(alloc, fault)?;
-            put_switch(&mut text, name)?;
-            Ok(text)
-        }
+        NetworkFault::Load(_, fault) => load_text(alloc, fault, name),
         NetworkFault::Constant(at) => at_place(alloc, "G4 Constant", at),
         NetworkFault::Speed(at) => at_place(alloc, "G4 Speed", at),
         NetworkFault::NoRow(at, link) => at_link(alloc, "G5 NoRow", at, link),

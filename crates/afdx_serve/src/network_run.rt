@@ -1,5 +1,15 @@
 //! The command `network run`.
 
+ghost use Rattle.std.specs.Prelude.{◌≡◌, length, map, filter, string_bytes, IfOk, MatchResult};
+ghost use Rattle.afdx_session.specs.Texts.{texts_of};
+ghost use Rattle.afdx_network.specs.Given.{given_of, is_open, AreGiven};
+ghost use Rattle.afdx_serve.specs.Files.{KeepsFiles};
+ghost use Rattle.afdx_serve.specs.Runs.{capture_name};
+ghost use Rattle.afdx_serve.specs.Networks.{names_of};
+ghost use Rattle.afdx_serve.specs.NetworkRuns.{switch_folder, HasGiven, FailsToGetGiven};
+ghost use Rattle.afdx_serve.specs.Inner.OpenPorts.{HasOpen, FailsToGetNamed};
+ghost use Rattle.afdx_serve.specs.Serving.{world, RunsNetwork, FailsToRunNetwork};
+
 use crate::failure::Failure;
 use crate::folder::Folder;
 use crate::get::get;
@@ -19,11 +29,20 @@ use std::alloc::{AllocError, Global};
 use std::io::Write;
 
 /// The folder of a switch's captures in a folder.
-fn switch_folder(alloc: Global, folder: &str, name: &str) -> Result<String, AllocError> {
+fn switch_folder(alloc: Global, folder: &str, name: &str) -> Result<String, AllocError>
+    ensures { IfOk result (λ path. string_bytes path ≡ switch_folder folder.now name.now) }
+{
     let mut path = String::from_str(alloc, folder)?;
     path.push_str("/")?;
     path.push_str(name)?;
     Ok(path)
+}
+
+/// Whether no wire goes to a port.
+fn is_open(network: &Network, switch: usize, port: u8) -> bool
+    ensures { result ≡ is_open network.now switch port }
+{
+    network.wire_to(End { switch, port }).is_none()
 }
 
 /// The captures of the ports of a switch to which no wire goes, by rising number, from this folder.
@@ -34,14 +53,19 @@ fn get_open<F: Folder>(
     network: &Network,
     switch: usize,
     table: &Table,
-) -> Result<Texts, Failure> {
+) -> Result<Texts, Failure>
+    ensures got { MatchResult result
+        (λ texts. HasOpen (F.files folder.old) path.now network.now switch table.now (texts_of texts.items) × (F.failed folder.new ≡ F.failed folder.old))
+        (λ f. FailsToGetNamed f (F.files folder.old) (map (capture_name path.now) (filter (is_open network.now switch) (map (λ p. p.id) table.now.ports)))
+        (F.failed folder.old) (F.failed folder.new)) }
+    ensures same { KeepsFiles (F.files folder.old) (F.files folder.new) }
+{
     let mut texts = Vec::new(alloc);
     for row in table.ports() {
-        let port = row.id;
-        if network.wire_to(End { switch, port }).is_none() {
-            let name = capture_name(alloc, path, port)?;
+        if is_open(network, switch, row.id) {
+            let name = capture_name(alloc, path, row.id)?;
             let text = get(alloc, folder, &name)?;
-            texts.push((port, text))?;
+            texts.push((row.id, text))?;
         }
     }
     Ok(texts)
@@ -54,7 +78,15 @@ fn get_given<F: Folder>(
     path: &str,
     names: &[String],
     network: &Network,
-) -> Result<Vec<Texts>, Failure> {
+) -> Result<Vec<Texts>, Failure>
+    requires names { map string_bytes names.now ≡ names_of network.now.layout.switches }
+    requires tables { length network.now.tables ≡ length network.now.layout.switches }
+    ensures got { MatchResult result
+        (λ given. (HasGiven (F.files folder.old) path.now (names_of network.now.layout.switches) (given_of given.items)
+        × AreGiven network.now (given_of given.items)) × (F.failed folder.new ≡ F.failed folder.old))
+        (λ f. FailsToGetGiven f (F.files folder.old) path.now network.now (F.failed folder.old) (F.failed folder.new)) }
+    ensures same { KeepsFiles (F.files folder.old) (F.files folder.new) }
+{
     let mut given = Vec::new(alloc);
     for (switch, table) in network.tables().iter().enumerate() {
         let switch_path = switch_folder(alloc, path, name_of(names, switch))?;
@@ -166,7 +198,13 @@ pub(crate) fn network_run<O: Write, F: Folder>(
     paths: &NetworkPaths<'_>,
     out: &mut O,
     folder: &mut F,
-) -> Result<(), Failure> {
+) -> Result<(), Failure>
+    ensures { MatchResult result
+        (λ _. RunsNetwork paths.now
+        (world (O.contents out.old) (F.files folder.old) (F.failed folder.old)) (world (O.contents out.new) (F.files folder.new) (F.failed folder.new)))
+        (λ f. FailsToRunNetwork f paths.now
+        (world (O.contents out.old) (F.files folder.old) (F.failed folder.old)) (world (O.contents out.new) (F.files folder.new) (F.failed folder.new))) }
+{
     let network = get_network(alloc, folder, paths.network)?;
     let names = names_of(alloc, &network.layout().switches)?;
     let cleared = accept(alloc, &names, network)?;

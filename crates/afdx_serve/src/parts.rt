@@ -56,8 +56,8 @@ impl<A: Allocator> Part<A> {
         record: &Record<'_, B>,
         out: &mut W,
     ) -> Result<(), WriteFault>
-        ensures written { OnOk result ((front : List ℕ) × (self.old ++ record_text record.now ≡ front ++ self.new)
-            × Appends (W.contents out.old) (W.contents out.new) front) }
+        ensures written { OnOk result ((prefix : List ℕ) × (self.old ++ record_text record.now ≡ prefix ++ self.new)
+            × Appends (W.contents out.old) (W.contents out.new) prefix) }
         ensures prefix { OnErr result (AppendsPrefix (W.contents out.old) (W.contents out.new) (self.old ++ record_text record.now)) }
     {
         if write_record(&mut self.bytes, record).is_err() {

@@ -95,7 +95,8 @@ fn serve_words<R: Read, O: Write, F: Folder>(
 }
 
 /// Serves what the words ask for, of which the first is the program's name, and gives the status: 0 done,
-/// 2 refused words, 3 a refused table or capture, 4 a refused load, 5 memory or a device.
+/// 2 refused words, 3 a refused table, network or capture, 4 a refused load or jitter or a network that does not come to rest,
+/// 5 memory or a device.
 ///
 /// `afdx alone` reads `input` to its end and writes its answer on `out`; `afdx check TABLE` and `afdx size TABLE` get TABLE
 /// from `folder` and write their lines on `out`; `afdx run TABLE IN OUT` gets TABLE, checks its load unless there is
@@ -103,9 +104,10 @@ fn serve_words<R: Read, O: Write, F: Folder>(
 /// `afdx measure TABLE IN` does so too, but puts nothing and writes what delays and buffers were; `afdx trace TABLE IN OUT`
 /// puts OUT/arrivals.csv and OUT/departures.csv in place of the captures, and writes nothing; `afdx network check NET` and
 /// `afdx network jitter NET` get NET and the tables that it names and write their lines; `afdx network run NET IN OUT` gets
-/// IN/A/port-1.pcap and so on for each switch A, puts OUT/A/port-1.pcap and so on and writes the reports; `--help` and `--version` write the text of `clap` on `out`. On another status than 0 one line goes to `err`, and a fault in
-/// writing it changes nothing. What is met before the answer is written leaves `out` as it was; where writing fails, a front
-/// of the answer was written.
+/// IN/A/port-1.pcap and so on for each switch A, puts OUT/A/port-1.pcap and so on and writes the reports; `--help` and
+/// `--version` write the text of `clap` on `out`. On another status than 0 one line goes to `err`, and a fault in writing it
+/// changes nothing. What is met before the answer is written leaves `out` as it was; where writing fails, a prefix of the
+/// answer was written.
 ///
 /// No contract knows why a reader, a writer or a folder fails, or whether memory is left: that 5 comes only then, and
 /// that `err` holds its whole line where it takes it, is shown by tests.

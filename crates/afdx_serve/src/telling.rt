@@ -48,7 +48,8 @@ fn device_line(alloc: Global, call: &str, name: &str) -> Result<String, AllocErr
 }
 
 /// Writes the line of a failure, as far as the writer takes it, and gives the failure's status: 2 for refused words,
-/// 3 for a refused table or capture, 4 for a refused load, 5 for a device or memory.
+/// 3 for a refused table, network or capture, 4 for a refused load or jitter or a network that does not come to rest, 5 for a
+/// device or memory.
 ///
 /// Only a line with a number or a name takes memory. Where that is refused, memory is the failure. O(line).
 pub fn report<E: Write>(alloc: Global, failure: &Failure, err: &mut E) -> u8

@@ -1,7 +1,7 @@
 //! What the tests share: frames, a run of one frame, and what the program answers.
 
 use crate::memory_folder::MemoryFolder;
-use afdx_samples::{HEADER, Sample, capture, frame, single};
+use afdx_samples::{HEADER, Port, Sample, capture, double, frame, large, port, single, small};
 use afdx_serve::{FolderFault, serve};
 use std::alloc::{AllocError, Global};
 
@@ -11,6 +11,32 @@ pub(crate) fn captured(bytes: u32, seconds: u32, nanos: u32) -> Sample {
         seconds,
         ..frame(10, bytes, nanos)
     }
+}
+
+/// A capture of three of the largest frames of link 10, of which the second comes a nanosecond too early.
+pub(crate) fn early(alloc: Global) -> Result<Vec<u8>, AllocError> {
+    capture(
+        alloc,
+        &[large(10, 0), large(10, 999_999), large(10, 1_000_000)],
+    )
+}
+
+/// Links 10 from port 1 and 20 from port 2 to port 3, which has room for 1581 bytes and lets no frame wait for more than 100 us.
+pub(crate) fn crowded(alloc: Global) -> Result<String, AllocError> {
+    let third = Port {
+        buffer: 1581,
+        max_delay_us: 100,
+        ..port(3)
+    };
+    double(alloc, third)
+}
+
+/// What comes in there at ports 1 and 2: a frame that leaves, and one that has waited too long by then; a third one comes at that
+/// instant and finds no room.
+pub(crate) fn crowd(alloc: Global) -> Result<(Vec<u8>, Vec<u8>), AllocError> {
+    let first = capture(alloc, &[frame(10, 1513, 0)])?;
+    let second = capture(alloc, &[small(20, 0), large(20, 122_960)])?;
+    Ok((first, second))
 }
 
 /// The report of one frame of link 10 that comes in at port 1 and goes out at port 2.
@@ -212,6 +238,20 @@ pub(crate) fn tells(
 ) -> Result<bool, AllocError> {
     let mut folder = folder_of(alloc, table, captures)?;
     answers(alloc, line, &mut folder, said)
+}
+
+/// Whether captures of ports 1 and up that are none are refused with status 3 and this line, and no file is put.
+pub(crate) fn refuses(
+    alloc: Global,
+    line: &str,
+    table: &str,
+    captures: &[&[u8]],
+    said: &str,
+) -> Result<bool, AllocError> {
+    let mut folder = folder_of(alloc, table, captures)?;
+    let files = folder.count();
+    let is_said = answers(alloc, line, &mut folder, (3, "", said))?;
+    Ok(is_said && folder.count() == files)
 }
 
 /// What it answers over a folder without files.

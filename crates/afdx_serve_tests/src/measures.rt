@@ -1,41 +1,27 @@
 //! `afdx measure` over a folder in memory. Values from outside: a table, captures, and lines that were worked out by hand.
 
-use crate::fixtures::{Broken, OneFrame, answer_over, folder_of, tells};
-use afdx_samples::{HEADER, Port, capture, double, frame, later, mixed, port, single};
+use crate::fixtures::{Broken, OneFrame, crowd, crowded, early, refuses, tells};
+use afdx_samples::{HEADER, capture, later, mixed, single, small};
 use afdx_serve::FolderFault;
-use std::alloc::{AllocError, Global};
 use std::test::Fail;
 
-/// The status of the words over a folder with a table and with captures of ports 1 and up.
-fn status(alloc: Global, words: &str, table: &str, captures: &[&[u8]]) -> Result<u8, AllocError> {
-    let mut folder = folder_of(alloc, table, captures)?;
-    Ok(answer_over(alloc, words, b"", &mut folder)?.status)
-}
+const MEASURE: &str = "afdx measure t in";
 
-/// Whether what is there is left as it is, with status 0.
-fn is_left(run: &OneFrame, alloc: Global, words: &str) -> Result<bool, AllocError> {
-    let mut folder = run.sound()?;
-    let got = answer_over(alloc, words, b"", &mut folder)?;
-    let is_left = folder.holds(&run.files(), 3);
-    Ok(got.status == 0 && is_left)
-}
+/// What is told of the run of one frame.
+const ONE_FRAME: &str = "link 10 out 2 sent 1 least 6720 greatest 6720 bound 159390
+out 1 occupied 0 of 100000 at -
+out 2 occupied 64 of 100000 at 0
+";
 
 #[test]
 fn tells_of_one_link(rt: HostRuntime) -> Result<(), Fail> {
     let alloc = rt.alloc();
     let table = single(alloc)?;
-    let early = capture(
-        alloc,
-        &[
-            frame(10, 1514, 0),
-            frame(10, 1514, 999_999),
-            frame(10, 1514, 1_000_000),
-        ],
-    )?;
+    let early = early(alloc)?;
     assert!(rt;
         tells(
             rt.alloc(),
-            "afdx measure t in",
+            MEASURE,
             &table,
             &[&early, &HEADER],
             (
@@ -66,11 +52,11 @@ fn counts_the_latency(rt: HostRuntime) -> Result<(), Fail> {
     let alloc = rt.alloc();
     let table = later(alloc, &single(alloc)?, 50)?;
     // The second is queued when the line is free of the first.
-    let two = capture(alloc, &[frame(10, 60, 0), frame(10, 60, 6_720)])?;
+    let two = capture(alloc, &[small(10, 0), small(10, 6_720)])?;
     assert!(rt;
         tells(
             rt.alloc(),
-            "afdx measure t in",
+            MEASURE,
             &table,
             &[&two, &HEADER],
             (
@@ -86,14 +72,8 @@ fn counts_the_latency(rt: HostRuntime) -> Result<(), Fail> {
 #[test]
 fn tells_what_was_lost_by_what_is_missing(rt: HostRuntime) -> Result<(), Fail> {
     let alloc = rt.alloc();
-    let third = Port {
-        buffer: 1581,
-        max_delay_us: 100,
-        ..port(3)
-    };
-    let table = double(alloc, third)?;
-    let first = capture(alloc, &[frame(10, 1513, 0)])?;
-    let second = capture(alloc, &[frame(20, 60, 0), frame(20, 1514, 122_960)])?;
+    let table = crowded(alloc)?;
+    let (first, second) = crowd(alloc)?;
     assert!(rt;
         tells(
             rt.alloc(),
@@ -119,7 +99,7 @@ out 3 occupied 1581 of 1581 at 0
 fn puts_nothing(rt: HostRuntime) -> Result<(), Fail> {
     let alloc = rt.alloc();
     let run = OneFrame::new(alloc)?;
-    assert!(rt; is_left(&run, rt.alloc(), "afdx measure t in")?);
+    assert!(rt; run.leaves(MEASURE, (0, ONE_FRAME, ""), &run.files(), 3)?);
     Ok(())
 }
 
@@ -140,14 +120,12 @@ fn refuses_as_a_run_does(rt: HostRuntime) -> Result<(), Fail> {
             line,
         };
         assert!(rt;
-            run.stops("afdx measure t in", &broken, &run.files(), 3)?,
+            run.stops(MEASURE, &broken, &run.files(), 3)?,
             "{name}"
         );
     }
     let cut = [&HEADER[..23], &HEADER];
-    assert_eq!(rt;
-        status(rt.alloc(), "afdx measure t in", &mixed(alloc)?, &cut)?,
-        3
-    );
+    let line = "afdx: capture P2 NoHeader, port 1\n";
+    assert!(rt; refuses(rt.alloc(), MEASURE, &mixed(alloc)?, &cut, line)?);
     Ok(())
 }

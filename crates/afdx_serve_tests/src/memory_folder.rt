@@ -71,6 +71,11 @@ impl<A: Allocator + Copy> MemoryFolder<A> {
         all
     }
 
+    /// How many times a file was added or put.
+    pub(crate) fn count(&self) -> usize {
+        self.files.len()
+    }
+
     /// How many calls it was given.
     pub(crate) fn calls(&self) -> u64 {
         self.calls

@@ -1,8 +1,9 @@
 //! `afdx network check` and `afdx network jitter` over a folder in memory. Values from outside: tables, and lines that were
 //! worked out by hand.
 
-use crate::fixtures::answers;
-use crate::networks::TwoSwitches;
+use crate::fixtures::{Said, answers};
+use crate::memory_folder::MemoryFolder;
+use crate::networks::{Change, TwoSwitches};
 use afdx_samples::{Link, Port, link, port, table};
 use std::alloc::{AllocError, Global};
 use std::fmt::Write;
@@ -31,19 +32,23 @@ switch B link 3 jitter_us 14
 
 #[test]
 fn an_accepted_network(rt: HostRuntime) -> Result<(), Fail> {
-    let alloc = rt.alloc();
-    let network = TwoSwitches::new(alloc, 14)?;
+    let network = TwoSwitches::new(rt.alloc(), 14)?;
     assert!(rt; network.answers(CHECK, (0, ACCEPTED, ""))?);
     Ok(())
+}
+
+/// Whether the program answers so over a folder with an empty network file alone.
+fn answers_without_switches(alloc: Global, words: &str, said: Said) -> Result<bool, AllocError> {
+    let mut folder = MemoryFolder::new(alloc);
+    folder.add("net/n.toml", b"")?;
+    answers(alloc, words, &mut folder, said)
 }
 
 #[test]
 fn no_switch(rt: HostRuntime) -> Result<(), Fail> {
     let alloc = rt.alloc();
-    let mut network = TwoSwitches::new(alloc, 14)?;
-    network.network = String::new(alloc);
-    assert!(rt; network.answers(CHECK, (0, "accepted\n", ""))?);
-    assert!(rt; network.answers(JITTER, (0, "", ""))?);
+    assert!(rt; answers_without_switches(alloc, CHECK, (0, "accepted\n", ""))?);
+    assert!(rt; answers_without_switches(alloc, JITTER, (0, "", ""))?);
     Ok(())
 }
 
@@ -61,25 +66,21 @@ fn jitters_that_are_needed(rt: HostRuntime) -> Result<(), Fail> {
 #[test]
 fn rates_alone_are_judged(rt: HostRuntime) -> Result<(), Fail> {
     let alloc = rt.alloc();
-    let mut network = TwoSwitches::new(alloc, 0)?;
-    network.second = network
-        .second
-        .replace(alloc, "buffer = 100000", "buffer = 100")?;
-    assert!(rt; network.answers(JITTER, (0, JITTERS, ""))?);
-    network.second = network
-        .second
-        .replace(alloc, "max_size = 64", "max_size = 1518")?;
-    network.second = network.second.replace(alloc, "mbit = 100", "mbit = 10")?;
+    let small = TwoSwitches::new(alloc, 0)?.second_changed(("buffer = 100000", "buffer = 100"))?;
+    assert!(rt; small.answers(JITTER, (0, JITTERS, ""))?);
+    let heavy = TwoSwitches::new(alloc, 0)?
+        .second_changed(("max_size = 64", "max_size = 1518"))?
+        .second_changed(("mbit = 100", "mbit = 10"))?;
     let line = "afdx: load L1 Rate, port 2, need 9792921600, limit 2048000000, switch B\n";
-    assert!(rt; network.answers(JITTER, (4, "", line))?);
+    assert!(rt; heavy.answers(JITTER, (4, "", line))?);
     Ok(())
 }
 
 /// Ports 1 and 2 at 10 Mbit/s, and nine links from 1 to 2 of frames of 1518 bytes.
 fn nine(alloc: Global) -> Result<String, AllocError> {
-    let slow = |id| Port {
+    let slow = Port {
         mbit: 10,
-        ..port(id)
+        ..port(1)
     };
     let mut links = Vec::new(alloc);
     for id in 1u16..10 {
@@ -88,60 +89,71 @@ fn nine(alloc: Global) -> Result<String, AllocError> {
             ..link(id, 1, "[2]")
         })?;
     }
-    table(alloc, &[slow(1), slow(2)], &links)
+    table(alloc, &[slow, Port { id: 2, ..slow }], &links)
 }
 
 /// The lines of nine links at a switch.
-fn nine_lines(alloc: Global, switch: &str, jitter: u32) -> Result<String, AllocError> {
-    let mut text = String::new(alloc);
-    for id in 1..10 {
-        write!(text, "switch {switch} link {id} ")?;
-        write!(text, "jitter_us {jitter}\n")?;
+fn push_nine_lines(text: &mut String, switch: &str, jitter: u32) -> Result<(), AllocError> {
+    for id in 1u16..10 {
+        writeln!(text, "switch {switch} link {id} jitter_us {jitter}")?;
     }
-    Ok(text)
+    Ok(())
 }
 
 /// 9 * 1,593,900 - 67,200 ns: what is past the limit is told, and then refused.
 #[test]
 fn a_jitter_past_the_limit(rt: HostRuntime) -> Result<(), Fail> {
     let alloc = rt.alloc();
-    let mut network = TwoSwitches::of(alloc, nine(alloc)?, nine(alloc)?)?;
-    network.network = network.network.replace(alloc, "A.4", "A.2")?;
-    let mut lines = nine_lines(alloc, "A", 0)?;
-    lines.push_str(&nine_lines(alloc, "B", 14_278)?)?;
+    let network = TwoSwitches::of(alloc, nine(alloc)?, nine(alloc)?)?.rewired(("A.4", "A.2"))?;
+    let mut lines = String::new(alloc);
+    push_nine_lines(&mut lines, "A", 0)?;
+    push_nine_lines(&mut lines, "B", 14_278)?;
     let line = "afdx: network J2 NoJitter, switch B, link 1, need 14278\n";
-    assert!(rt; network.answers(JITTER, (4, &lines, line))?);
+    assert!(rt; network.answers(JITTER, (4, lines.as_str(), line))?);
     Ok(())
+}
+
+/// Whether check and jitter fail with this line, where the network file is changed so.
+fn fails_to_get(alloc: Global, change: Change<'_>, line: &str) -> Result<bool, AllocError> {
+    let network = TwoSwitches::new(alloc, 14)?.rewired(change)?;
+    let is_checked = network.answers(CHECK, (5, "", line))?;
+    let is_solved = network.answers(JITTER, (5, "", line))?;
+    Ok(is_checked && is_solved)
 }
 
 /// A table's name that begins with `/` is not looked for beside the network file.
 #[test]
-fn files_that_are_not_there(rt: HostRuntime) -> Result<(), Fail> {
-    let alloc = rt.alloc();
+fn tables_that_are_not_there(rt: HostRuntime) -> Result<(), Fail> {
     for (path, line) in [
         ("B.toml", "afdx: device get net/B.toml\n"),
         ("/tables/B.toml", "afdx: device get /tables/B.toml\n"),
     ] {
-        let mut network = TwoSwitches::new(alloc, 14)?;
-        network.network = network.network.replace(alloc, "tables/B.toml", path)?;
-        assert!(rt; network.answers(CHECK, (5, "", line))?, "{line}");
-        assert!(rt; network.answers(JITTER, (5, "", line))?, "{line}");
+        assert!(rt;
+            fails_to_get(rt.alloc(), ("tables/B.toml", path), line)?,
+            "{line}"
+        );
     }
-    let network = TwoSwitches::new(alloc, 14)?;
-    let none = "afdx: device get net/none.toml\n";
-    assert!(rt; network.answers("afdx network check net/none.toml", (5, "", none))?);
     Ok(())
 }
 
 #[test]
-fn a_table_elsewhere(rt: HostRuntime) -> Result<(), Fail> {
-    let alloc = rt.alloc();
-    let mut network = TwoSwitches::new(alloc, 14)?;
-    network.network = network
-        .network
-        .replace(alloc, "tables/B.toml", "/tables/B.toml")?;
+fn no_network_file(rt: HostRuntime) -> Result<(), Fail> {
+    let network = TwoSwitches::new(rt.alloc(), 14)?;
+    let said = (5, "", "afdx: device get net/none.toml\n");
+    assert!(rt; network.answers("afdx network check net/none.toml", said)?);
+    Ok(())
+}
+
+/// Whether the network is accepted, where B's table stands elsewhere too and the network file names that one.
+fn is_accepted_elsewhere(alloc: Global) -> Result<bool, AllocError> {
+    let network = TwoSwitches::new(alloc, 14)?.rewired(("tables/B.toml", "/tables/B.toml"))?;
     let mut folder = network.folder()?;
     folder.add("/tables/B.toml", network.second.as_bytes())?;
-    assert!(rt; answers(alloc, CHECK, &mut folder, (0, ACCEPTED, ""))?);
+    answers(alloc, CHECK, &mut folder, (0, ACCEPTED, ""))
+}
+
+#[test]
+fn a_table_elsewhere(rt: HostRuntime) -> Result<(), Fail> {
+    assert!(rt; is_accepted_elsewhere(rt.alloc())?);
     Ok(())
 }

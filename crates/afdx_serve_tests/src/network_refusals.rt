@@ -4,12 +4,13 @@ use crate::networks::{Change, TwoSwitches};
 use std::alloc::{AllocError, Global};
 use std::test::Fail;
 
-/// The network file, changed, and what it is refused for; `A` has three switches' worth of ports, `B` as well.
-const FILES: [(Change<'static>, &str); 12] = [
+/// The network file, changed, and the rule by which it is refused.
+const FILES: [(Change<'static>, &str); 13] = [
     (("version = 1", "version = "), "G1 Toml"),
     (("delay_ns", "delay_us"), "G2 UnknownKey, wire 1"),
     (("name = \"B\"\n", ""), "G2 MissingKey, switch 2, name"),
     (("\"A.4\"", "4"), "G2 Kind, wire 1, from"),
+    (("version = 1", "version = 2"), "G2 Range, top, version"),
     (("= 25", "= 1000001"), "G2 Range, wire 1, delay_ns"),
     (("\"B\"", "\"A\""), "G3 TwiceSwitch, switch 2"),
     (("B.1", "C.1"), "G3 NoSuchSwitch, wire 1"),
@@ -29,8 +30,8 @@ const FILES: [(Change<'static>, &str); 12] = [
     ),
 ];
 
-/// The table of B, changed, and what the network is refused for.
-const TABLES: [(Change<'static>, &str); 8] = [
+/// The table of B, changed, and the rule by which the network is refused.
+const TABLES: [(Change<'static>, &str); 7] = [
     (
         ("version = 2", "version = 2\nconstant = \"07000000\""),
         "G4 Constant, wire 1",
@@ -50,34 +51,27 @@ const TABLES: [(Change<'static>, &str); 8] = [
     ),
     (("bag_ms = 1\n", "bag_ms = 2\n"), "G7 Bag, wire 1, link 1"),
     (("\"byte\"", "\"frame\""), "G7 Police, wire 1, link 1"),
-    (
-        ("id = 3\nfrom = 1", "id = 5\nfrom = 1"),
-        "G5 NoRow, wire 1, link 3",
-    ),
 ];
 
-/// Whether a network is refused with this status and so, after `afdx: `, by the check, and by the run before a capture is got.
-fn is_refused(
-    alloc: Global,
-    network: &TwoSwitches,
-    status: u8,
-    why: &str,
-) -> Result<bool, AllocError> {
-    let line = format!(in alloc; "afdx: {why}\n")?;
-    let said = (status, "", line.as_str());
-    let is_checked = network.answers("afdx network check net/n.toml", said)?;
-    let is_run = network.answers("afdx network run net/n.toml in out", said)?;
+/// Whether a network is refused with this status and line by the check, and by the run before a capture is got.
+fn is_refused(network: &TwoSwitches, status: u8, line: &str) -> Result<bool, AllocError> {
+    let is_checked = network.answers("afdx network check net/n.toml", (status, "", line))?;
+    let is_run = network.answers("afdx network run net/n.toml in out", (status, "", line))?;
     Ok(is_checked && is_run)
+}
+
+/// Whether it is refused by this rule of networks, and with status 3.
+fn breaks(alloc: Global, network: &TwoSwitches, rule: &str) -> Result<bool, AllocError> {
+    let line = format!(in alloc; "afdx: network {rule}\n")?;
+    is_refused(network, 3, &line)
 }
 
 #[test]
 fn network_files(rt: HostRuntime) -> Result<(), Fail> {
     let alloc = rt.alloc();
-    for ((old, new), rule) in FILES {
-        let mut network = TwoSwitches::new(alloc, 14)?;
-        network.network = network.network.replace(alloc, old, new)?;
-        let why = format!(in alloc; "network {rule}")?;
-        assert!(rt; is_refused(alloc, &network, 3, &why)?, "{rule}");
+    for (change, rule) in FILES {
+        let network = TwoSwitches::new(alloc, 14)?.rewired(change)?;
+        assert!(rt; breaks(alloc, &network, rule)?, "{rule}");
     }
     Ok(())
 }
@@ -85,11 +79,9 @@ fn network_files(rt: HostRuntime) -> Result<(), Fail> {
 #[test]
 fn tables_that_do_not_fit(rt: HostRuntime) -> Result<(), Fail> {
     let alloc = rt.alloc();
-    for ((old, new), rule) in TABLES {
-        let mut network = TwoSwitches::new(alloc, 14)?;
-        network.second = network.second.replace(alloc, old, new)?;
-        let why = format!(in alloc; "network {rule}")?;
-        assert!(rt; is_refused(alloc, &network, 3, &why)?, "{rule}");
+    for (change, rule) in TABLES {
+        let network = TwoSwitches::new(alloc, 14)?.second_changed(change)?;
+        assert!(rt; breaks(alloc, &network, rule)?, "{rule}");
     }
     Ok(())
 }
@@ -98,24 +90,26 @@ fn tables_that_do_not_fit(rt: HostRuntime) -> Result<(), Fail> {
 #[test]
 fn a_link_without_a_source(rt: HostRuntime) -> Result<(), Fail> {
     let alloc = rt.alloc();
-    let mut network = TwoSwitches::new(alloc, 14)?;
-    network.first = network
-        .first
-        .replace(alloc, "from = 3\nto = [4]", "from = 3\nto = [2]")?;
-    let why = "network G8 NoSource, switch B, link 3";
-    assert!(rt; is_refused(alloc, &network, 3, why)?);
+    let elsewhere = ("from = 3\nto = [4]", "from = 3\nto = [2]");
+    let network = TwoSwitches::new(alloc, 14)?.first_changed(elsewhere)?;
+    assert!(rt; breaks(alloc, &network, "G8 NoSource, switch B, link 3")?);
     Ok(())
 }
 
+/// The network in which B's table is none.
+fn without_a_table(alloc: Global) -> Result<TwoSwitches, AllocError> {
+    TwoSwitches::new(alloc, 14)?.second_changed(("mbit", "mbits"))
+}
+
+/// Where no table is one, that of the first switch is told.
 #[test]
-fn a_table_that_is_none(rt: HostRuntime) -> Result<(), Fail> {
+fn tables_that_are_none(rt: HostRuntime) -> Result<(), Fail> {
     let alloc = rt.alloc();
-    let mut network = TwoSwitches::new(alloc, 14)?;
-    network.second = network.second.replace(alloc, "mbit", "mbits")?;
-    let why = "table C3 UnknownKey, port 1, switch B";
-    assert!(rt; is_refused(alloc, &network, 3, why)?);
-    network.first = network.first.replace(alloc, "[[port]]", "[[port]")?;
-    assert!(rt; is_refused(alloc, &network, 3, "table C2 Toml, switch A")?);
+    let second = without_a_table(alloc)?;
+    let line = "afdx: table C3 UnknownKey, port 1, switch B\n";
+    assert!(rt; is_refused(&second, 3, line)?);
+    let both = without_a_table(alloc)?.first_changed(("[[port]]", "[[port]"))?;
+    assert!(rt; is_refused(&both, 3, "afdx: table C2 Toml, switch A\n")?);
     Ok(())
 }
 
@@ -124,13 +118,10 @@ fn a_table_that_is_none(rt: HostRuntime) -> Result<(), Fail> {
 fn loads_and_jitters(rt: HostRuntime) -> Result<(), Fail> {
     let alloc = rt.alloc();
     let short = TwoSwitches::new(alloc, 13)?;
-    let why = "network J1 Jitter, switch B, link 1, need 14, has 13";
-    assert!(rt; is_refused(alloc, &short, 4, why)?);
-    let mut heavy = TwoSwitches::new(alloc, 14)?;
-    heavy.second = heavy
-        .second
-        .replace(alloc, "buffer = 100000", "buffer = 100")?;
-    let why = "load L2 Buffer, port 2, need 55628267520000, limit 16384000000000, switch B";
-    assert!(rt; is_refused(alloc, &heavy, 4, why)?);
+    let line = "afdx: network J1 Jitter, switch B, link 1, need 14, has 13\n";
+    assert!(rt; is_refused(&short, 4, line)?);
+    let small = TwoSwitches::new(alloc, 14)?.second_changed(("buffer = 100000", "buffer = 100"))?;
+    let line = "afdx: load L2 Buffer, port 2, need 55628267520000, limit 16384000000000, switch B\n";
+    assert!(rt; is_refused(&small, 4, line)?);
     Ok(())
 }

@@ -1,9 +1,9 @@
 //! `afdx network run` over a folder in memory. Values from outside: tables, captures and printed lines.
 
-use crate::fixtures::{Said, answers};
+use crate::fixtures::answers;
 use crate::memory_folder::MemoryFolder;
-use crate::networks::{TwoSwitches, row};
-use afdx_samples::{HEADER, Sample, capture, port, small, table};
+use crate::networks::{TwoSwitches, stated};
+use afdx_samples::{HEADER, Sample, capture, port, small, small_link, table};
 use afdx_serve::FolderFault;
 use std::alloc::{AllocError, Global};
 use std::test::Fail;
@@ -31,14 +31,10 @@ B out 2 low offered 1 full 0 aged 0 sent 1
 /// Link 1 from port 1 to port 2 of A, and over a wire of 25 ns to port 2 of B.
 fn line_of_two(alloc: Global) -> Result<TwoSwitches, AllocError> {
     let ports = [port(1), port(2)];
-    let links = [row(1, 1, "[2]", 0)];
-    let mut network = TwoSwitches::of(
-        alloc,
-        table(alloc, &ports, &links)?,
-        table(alloc, &ports, &links)?,
-    )?;
-    network.network = network.network.replace(alloc, "A.4", "A.2")?;
-    Ok(network)
+    let links = [stated(small_link(1, 1, "[2]", 0))];
+    let first = table(alloc, &ports, &links)?;
+    let second = table(alloc, &ports, &links)?;
+    TwoSwitches::of(alloc, first, second)?.rewired(("A.4", "A.2"))
 }
 
 /// The network, and captures of the ports without a wire, of which those at A have this frame at port 1. No capture comes in
@@ -51,113 +47,122 @@ fn given(alloc: Global, came: Sample) -> Result<MemoryFolder<Global>, AllocError
     Ok(folder)
 }
 
-/// Whether the folder has these captures under these names.
-fn has_put(folder: &MemoryFolder<Global>, captures: &[(&str, &[u8])]) -> bool {
-    captures
-        .iter()
-        .all(|(name, bytes)| folder.bytes(name) == Some(*bytes))
+/// Whether the folder has these captures of ports 2 of A and of B, and those of no frames of their ports 1.
+fn has_put(folder: &MemoryFolder<Global>, at_a: &[u8], at_b: &[u8]) -> bool {
+    folder.bytes("out/A/port-1.pcap") == Some(&HEADER)
+        && folder.bytes("out/A/port-2.pcap") == Some(at_a)
+        && folder.bytes("out/B/port-1.pcap") == Some(&HEADER)
+        && folder.bytes("out/B/port-2.pcap") == Some(at_b)
+}
+
+/// Whether a run over a frame at port 1 of A tells the reports, and puts these frames at ports 2 of A and of B.
+fn puts(alloc: Global, came: Sample, at_a: Sample, at_b: Sample) -> Result<bool, AllocError> {
+    let first = capture(alloc, &[at_a])?;
+    let second = capture(alloc, &[at_b])?;
+    let mut folder = given(alloc, came)?;
+    let is_said = answers(alloc, RUN, &mut folder, (0, REPORTS, ""))?;
+    let is_put = has_put(&folder, &first, &second);
+    Ok(is_said && is_put)
 }
 
 /// The frame leaves A after 6,720 ns, and B after 25 and 6,720 ns more.
 #[test]
 fn a_frame_over_two_switches(rt: HostRuntime) -> Result<(), Fail> {
-    let alloc = rt.alloc();
-    let mut folder = given(alloc, small(1, 0))?;
-    assert!(rt; answers(alloc, RUN, &mut folder, (0, REPORTS, ""))?);
-    let first = capture(alloc, &[small(1, 6_720)])?;
-    let second = capture(alloc, &[small(1, 13_465)])?;
-    let put: [(&str, &[u8]); 4] = [
-        ("out/A/port-1.pcap", &HEADER),
-        ("out/A/port-2.pcap", &first),
-        ("out/B/port-1.pcap", &HEADER),
-        ("out/B/port-2.pcap", &second),
-    ];
-    assert!(rt; has_put(&folder, &put));
+    let (at_a, at_b) = (small(1, 6_720), small(1, 13_465));
+    assert!(rt; puts(rt.alloc(), small(1, 0), at_a, at_b)?);
     Ok(())
 }
 
-/// Whether the run over captures with this frame, of which this file has these bytes, answers so and puts nothing.
+/// Whether the run over captures with this frame, of which one has so many bytes of a header, is refused with this line and puts
+/// nothing.
 fn puts_nothing(
     alloc: Global,
     came: Sample,
-    (name, bytes): (&str, &[u8]),
-    said: Said,
+    (name, left): (&str, usize),
+    line: &str,
 ) -> Result<bool, AllocError> {
+    let mut bytes = capture(alloc, &[])?;
+    bytes.truncate(left);
     let mut folder = given(alloc, came)?;
-    folder.add(name, bytes)?;
-    let is_said = answers(alloc, RUN, &mut folder, said)?;
+    folder.add(name, &bytes)?;
+    let is_said = answers(alloc, RUN, &mut folder, (3, "", line))?;
     Ok(is_said && folder.bytes("out/A/port-1.pcap").is_none())
 }
 
 /// Captures are refused by switch and then by port; what a wire brings is refused where it comes in.
 #[test]
 fn captures_that_are_refused(rt: HostRuntime) -> Result<(), Fail> {
-    let alloc = rt.alloc();
     let late = Sample {
         seconds: 4_294_967_294,
         ..small(1, 999_999_999)
     };
-    for (came, name, left, line) in [
+    // The frame, the file of which so many bytes of a header are left, and the line.
+    for (came, file, line) in [
         (
             small(1, 0),
-            "in/B/port-2.pcap",
-            23,
+            ("in/B/port-2.pcap", 23),
             "afdx: capture P2 NoHeader, port 2, switch B\n",
         ),
         (
             small(1, 0),
-            "in/A/port-2.pcap",
-            0,
+            ("in/A/port-2.pcap", 0),
             "afdx: capture P2 NoHeader, port 2, switch A\n",
         ),
         (
             late,
-            "in/B/port-2.pcap",
-            24,
+            ("in/B/port-2.pcap", 24),
             "afdx: capture P9 Late, port 1, record 1, switch B\n",
         ),
     ] {
-        let bytes = &HEADER[..left];
         assert!(rt;
-            puts_nothing(alloc, came, (name, bytes), (3, "", line))?,
+            puts_nothing(rt.alloc(), came, file, line)?,
             "{line}"
         );
     }
     Ok(())
 }
 
+/// Whether the run fails with this line, where the captures of A alone are there, or none.
+fn fails_to_get(alloc: Global, has_a: bool, line: &str) -> Result<bool, AllocError> {
+    let mut folder = line_of_two(alloc)?.folder()?;
+    if has_a {
+        folder.add("in/A/port-1.pcap", &HEADER)?;
+        folder.add("in/A/port-2.pcap", &HEADER)?;
+    }
+    answers(alloc, RUN, &mut folder, (5, "", line))
+}
+
 #[test]
 fn captures_that_are_not_there(rt: HostRuntime) -> Result<(), Fail> {
-    let alloc = rt.alloc();
-    let mut folder = line_of_two(alloc)?.folder()?;
-    let first = "afdx: device get in/A/port-1.pcap\n";
-    assert!(rt; answers(alloc, RUN, &mut folder, (5, "", first))?);
-    folder.add("in/A/port-1.pcap", &HEADER)?;
-    folder.add("in/A/port-2.pcap", &HEADER)?;
-    let second = "afdx: device get in/B/port-2.pcap\n";
-    assert!(rt; answers(alloc, RUN, &mut folder, (5, "", second))?);
+    for (has_a, line) in [
+        (false, "afdx: device get in/A/port-1.pcap\n"),
+        (true, "afdx: device get in/B/port-2.pcap\n"),
+    ] {
+        assert!(rt; fails_to_get(rt.alloc(), has_a, line)?, "{line}");
+    }
     Ok(())
+}
+
+/// Whether the run fails with this line at the call of this number, after which none comes, and has put the captures of A or has
+/// put none.
+fn fails_at(alloc: Global, call: u64, line: &str, is_put: bool) -> Result<bool, AllocError> {
+    let mut folder = given(alloc, small(1, 0))?;
+    folder.fail_at(call, FolderFault::Device);
+    let is_said = answers(alloc, RUN, &mut folder, (5, "", line))?;
+    let is_left = folder.bytes("out/A/port-2.pcap").is_some() == is_put;
+    Ok(is_said && is_left && folder.calls() == call)
 }
 
 /// Six files are got, and the seventh call puts the first one.
 #[test]
 fn a_folder_that_fails(rt: HostRuntime) -> Result<(), Fail> {
-    let alloc = rt.alloc();
-    for (call, line, is_first_put) in [
+    for (call, line, is_put) in [
         (2, "afdx: device get net/A.toml\n", false),
         (6, "afdx: device get in/B/port-2.pcap\n", false),
         (7, "afdx: device put out/A/port-1.pcap\n", false),
         (9, "afdx: device put out/B/port-1.pcap\n", true),
     ] {
-        let mut folder = given(alloc, small(1, 0))?;
-        folder.fail_at(call, FolderFault::Device);
-        assert!(rt; answers(alloc, RUN, &mut folder, (5, "", line))?, "{line}");
-        assert_eq!(rt; folder.calls(), call, "{line}");
-        assert_eq!(rt;
-            folder.bytes("out/A/port-2.pcap").is_some(),
-            is_first_put,
-            "{line}"
-        );
+        assert!(rt; fails_at(rt.alloc(), call, line, is_put)?, "{line}");
     }
     Ok(())
 }

@@ -2,7 +2,7 @@
 
 use crate::fixtures::{Said, answers};
 use crate::memory_folder::MemoryFolder;
-use afdx_samples::{Link, link, port, table};
+use afdx_samples::{Link, four_ports, two_switches};
 use std::alloc::{AllocError, Global};
 
 /// Two switches, and the wire between them.
@@ -22,49 +22,35 @@ delay_ns = 25
 /// A text of a file, and what is to stand in its place.
 pub(crate) type Change<'a> = (&'a str, &'a str);
 
-/// A low link of frames of 64 bytes each millisecond, which says how it is policed.
-pub(crate) fn row(id: u16, from: u8, to: &'static str, jitter_us: u32) -> Link {
+/// A link that says how it is policed.
+pub(crate) fn stated(link: Link) -> Link {
     Link {
-        max_size: 64,
-        jitter_us,
         police: "byte",
-        ..link(id, from, to)
+        ..link
     }
 }
 
-/// A table of ports 1 to 4 at 100 Mbit/s and of these links.
-pub(crate) fn four_ports(alloc: Global, links: &[Link]) -> Result<String, AllocError> {
-    table(alloc, &[port(1), port(2), port(3), port(4)], links)
+fn all_stated(links: [Link; 3]) -> [Link; 3] {
+    let [one, two, three] = links;
+    [stated(one), stated(two), stated(three)]
 }
 
 /// A network file and the tables of its switches A and B.
 #[derive(Drop)]
 pub(crate) struct TwoSwitches {
     alloc: Global,
-    pub(crate) network: String,
-    pub(crate) first: String,
+    network: String,
+    first: String,
     pub(crate) second: String,
 }
 
 impl TwoSwitches {
-    /// Three links that come in at ports 1 to 3 of A, over the wire to port 2 of B, with this jitter there. The port of A sends
-    /// three frames of 6,720 ns, so that 13,440 ns of jitter arise.
+    /// Three links over a wire of 25 ns, with this jitter at B.
     pub(crate) fn new(alloc: Global, jitter_us: u32) -> Result<TwoSwitches, AllocError> {
-        let first = [
-            row(1, 1, "[4]", 0),
-            row(2, 2, "[4]", 0),
-            row(3, 3, "[4]", 0),
-        ];
-        let second = [
-            row(1, 1, "[2]", jitter_us),
-            row(2, 1, "[2]", jitter_us),
-            row(3, 1, "[2]", jitter_us),
-        ];
-        TwoSwitches::of(
-            alloc,
-            four_ports(alloc, &first)?,
-            four_ports(alloc, &second)?,
-        )
+        let [first, second] = two_switches(jitter_us);
+        let first = four_ports(alloc, &all_stated(first))?;
+        let second = four_ports(alloc, &all_stated(second))?;
+        TwoSwitches::of(alloc, first, second)
     }
 
     /// Switches of these tables.
@@ -80,6 +66,27 @@ impl TwoSwitches {
             first,
             second,
         })
+    }
+
+    /// The same with another text in the network file.
+    pub(crate) fn rewired(self, (old, new): Change<'_>) -> Result<TwoSwitches, AllocError> {
+        let mut changed = self;
+        changed.network = changed.network.replace(changed.alloc, old, new)?;
+        Ok(changed)
+    }
+
+    /// The same with another text in the table of A.
+    pub(crate) fn first_changed(self, (old, new): Change<'_>) -> Result<TwoSwitches, AllocError> {
+        let mut changed = self;
+        changed.first = changed.first.replace(changed.alloc, old, new)?;
+        Ok(changed)
+    }
+
+    /// The same with another text in the table of B.
+    pub(crate) fn second_changed(self, (old, new): Change<'_>) -> Result<TwoSwitches, AllocError> {
+        let mut changed = self;
+        changed.second = changed.second.replace(changed.alloc, old, new)?;
+        Ok(changed)
     }
 
     /// The folder of the three files.

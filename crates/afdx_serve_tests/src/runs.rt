@@ -2,7 +2,7 @@
 
 use crate::fixtures::{
     Broken, CHECKED, OneFrame, REPORT, RUN, Served, answer_over, answers, captured, folder_of,
-    tells,
+    refuses, tells,
 };
 use crate::memory_folder::MemoryFolder;
 use afdx_samples::{HEADER, Link, Port, capture, link, mixed, port, single, table};
@@ -198,14 +198,11 @@ fn cut(alloc: Global, left: usize) -> Result<Vec<u8>, AllocError> {
     Ok(bytes)
 }
 
-/// Whether a run, of which so many bytes are left of each port's capture, has status 3 and this line, and puts no capture.
+/// Whether a run, of which so many bytes are left of each port's capture, is refused with this line, and puts no capture.
 fn is_refused(alloc: Global, left: [usize; 2], line: &str) -> Result<bool, AllocError> {
     let first = cut(alloc, left[0])?;
     let second = cut(alloc, left[1])?;
-    let mut folder = folder_of(alloc, &single(alloc)?, &[&first, &second])?;
-    let got = answer_over(alloc, RUN, b"", &mut folder)?;
-    let is_told = got.status == 3 && got.err.as_slice() == line.as_bytes();
-    Ok(is_told && folder.bytes("out/port-1.pcap").is_none())
+    refuses(alloc, RUN, &single(alloc)?, &[&first, &second], line)
 }
 
 #[test]

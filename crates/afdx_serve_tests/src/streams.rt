@@ -237,36 +237,52 @@ fn gives_up_where_every_read_is_interrupted(rt: HostRuntime) -> Result<(), Fail>
     Ok(())
 }
 
-/// Of sixty records of 1530 bytes the header and 43 are the first part, of 65,814 bytes.
-#[test]
-fn writes_a_long_answer_in_parts(rt: HostRuntime) -> Result<(), Fail> {
-    let alloc = rt.alloc();
+/// A capture of sixty records of 1530 bytes, a gap apart.
+fn sixty_frames(alloc: Global) -> Result<Vec<u8>, AllocError> {
     let mut came = Vec::new(alloc);
     for number in 0..60u32 {
         came.push(large(10, number.saturating_mul(1_000_000)))?;
     }
-    let input = capture(alloc, &came)?;
-    // The write that fails, how many there are, the status and how many bytes are written.
-    for (failing, calls, status, written) in [
-        (0, 2, 0, 91_824),
-        (1, 1, 5, 0),
-        (2, 2, 5, 65_814usize),
+    capture(alloc, &came)
+}
+
+/// The status of the policing of a capture, how many writes there are, and whether exactly the first so many of its bytes are
+/// written, where the write of this number fails.
+fn in_parts(
+    alloc: Global,
+    input: &[u8],
+    failing: u64,
+    written: usize,
+) -> Result<(u8, u64, bool), AllocError> {
+    let mut reader = input;
+    let mut out = Sink::new(alloc, 100_000, failing, Some(ErrorKind::BrokenPipe));
+    let mut folder = MemoryFolder::new(alloc);
+    let got = served(
+        alloc,
+        LINK_10,
+        &mut reader,
+        &mut out,
+        &mut folder,
+        SOUND_WRITER,
+    )?;
+    let is_written = Some(out.bytes.as_slice()) == input.get(..written);
+    Ok((got.0, out.calls, is_written))
+}
+
+/// The header and 43 of sixty records are the first part, of 65,814 bytes.
+#[test]
+fn writes_a_long_answer_in_parts(rt: HostRuntime) -> Result<(), Fail> {
+    let alloc = rt.alloc();
+    let input = sixty_frames(alloc)?;
+    // The write that fails, the status, how many writes there are and how many bytes are written.
+    for (failing, status, calls, written) in [
+        (0, 0, 2, 91_824),
+        (1, 5, 1, 0),
+        (2, 5, 2, 65_814),
     ] {
-        let mut reader = input.as_slice();
-        let mut out = Sink::new(alloc, 100_000, failing, Some(ErrorKind::BrokenPipe));
-        let mut folder = MemoryFolder::new(alloc);
-        let got = served(
-            alloc,
-            LINK_10,
-            &mut reader,
-            &mut out,
-            &mut folder,
-            SOUND_WRITER,
-        )?;
-        assert_eq!(rt; got.0, status, "write {failing}");
-        assert_eq!(rt; out.calls, calls, "write {failing}");
-        assert!(rt;
-            Some(out.bytes.as_slice()) == input.get(..written),
+        assert_eq!(rt;
+            in_parts(alloc, &input, failing, written)?,
+            (status, calls, true),
             "write {failing}"
         );
     }

@@ -1,8 +1,10 @@
 //! `afdx trace` over a folder in memory. Values from outside: tables, captures, and lines that were worked out by hand.
 
-use crate::fixtures::{Broken, OneFrame, answer_over, answers, folder_of};
+use crate::fixtures::{
+    Broken, OneFrame, answers, crowd, crowded, early, folder_of, refuses,
+};
 use crate::memory_folder::MemoryFolder;
-use afdx_samples::{HEADER, Port, capture, double, frame, later, mixed, port, single};
+use afdx_samples::{HEADER, capture, later, mixed, single, small};
 use afdx_serve::FolderFault;
 use std::alloc::{AllocError, Global};
 use std::test::Fail;
@@ -42,25 +44,10 @@ fn puts(
     Ok(is_said && is_put)
 }
 
-/// The status of the trace of captures that are none, and whether no arrivals are put.
-fn refused(alloc: Global, table: &str, captures: &[&[u8]]) -> Result<(u8, bool), AllocError> {
-    let mut folder = folder_of(alloc, table, captures)?;
-    let got = answer_over(alloc, TRACE, b"", &mut folder)?;
-    let is_put = folder.bytes("out/arrivals.csv").is_some();
-    Ok((got.status, !is_put))
-}
-
 #[test]
 fn tells_how_early_a_frame_was(rt: HostRuntime) -> Result<(), Fail> {
     let alloc = rt.alloc();
-    let early = capture(
-        alloc,
-        &[
-            frame(10, 1514, 0),
-            frame(10, 1514, 999_999),
-            frame(10, 1514, 1_000_000),
-        ],
-    )?;
+    let early = early(alloc)?;
     assert!(rt;
         puts(
             rt.alloc(),
@@ -79,7 +66,7 @@ fn tells_how_early_a_frame_was(rt: HostRuntime) -> Result<(), Fail> {
 #[test]
 fn counts_the_latency(rt: HostRuntime) -> Result<(), Fail> {
     let alloc = rt.alloc();
-    let two = capture(alloc, &[frame(10, 60, 5), frame(10, 60, 6)])?;
+    let two = capture(alloc, &[small(10, 5), small(10, 6)])?;
     assert!(rt;
         puts(
             rt.alloc(),
@@ -98,18 +85,12 @@ fn counts_the_latency(rt: HostRuntime) -> Result<(), Fail> {
 #[test]
 fn tells_what_was_full_and_what_aged(rt: HostRuntime) -> Result<(), Fail> {
     let alloc = rt.alloc();
-    let third = Port {
-        buffer: 1581,
-        max_delay_us: 100,
-        ..port(3)
-    };
-    let first = capture(alloc, &[frame(10, 1513, 0)])?;
-    let second = capture(alloc, &[frame(20, 60, 0), frame(20, 1514, 122_960)])?;
+    let (first, second) = crowd(alloc)?;
     assert!(rt;
         puts(
             rt.alloc(),
             "afdx trace t in out --unchecked",
-            &double(alloc, third)?,
+            &crowded(alloc)?,
             &[&first, &second, &HEADER],
             [
                 "0,1,1,0,10,1517,passed,,\n1,2,1,0,20,64,passed,,\n2,2,2,122960,20,1518,passed,,3\n",
@@ -163,6 +144,7 @@ fn stops_at_a_failing_folder(rt: HostRuntime) -> Result<(), Fail> {
 fn refuses_as_a_run_does(rt: HostRuntime) -> Result<(), Fail> {
     let alloc = rt.alloc();
     let cut = [&HEADER[..23], &HEADER];
-    assert_eq!(rt; refused(rt.alloc(), &mixed(alloc)?, &cut)?, (3, true));
+    let line = "afdx: capture P2 NoHeader, port 1\n";
+    assert!(rt; refuses(rt.alloc(), TRACE, &mixed(alloc)?, &cut, line)?);
     Ok(())
 }

@@ -16,7 +16,8 @@ returns-in_err-captures-clause-got g c =
     let same = c.in_ok-plan.ensures.0 in
     let plan : HasPlan files inputs t =
     (subst (λ (x : Content). HasTable files inputs.table.now x) (sym same) c.in_ok-table.ensures.got.0, λ checked. subst (λ (x : Content). IsAccepted x) (sym same) (c.in_ok-plan.ensures.2 checked)) in
-    let fails = subst (λ (x : Content). FailsToGetAll c.in_err-captures.field-0.0 (g.F.Folder.files c.get_table.new.folder) inputs.input.now x (g.F.Folder.failed c.get_table.new.folder) (g.F.Folder.failed c.get_captures.new.folder)) c.table.ensures.table c.in_err-captures.ensures.got in
+    let fails = subst (λ (x : Content). FailsToGetAll c.in_err-captures.field-0.0 (g.F.Folder.files c.get_table.new.folder) inputs.input.now x (g.F.Folder.failed c.get_table.new.folder)
+    (g.F.Folder.failed c.get_captures.new.folder)) c.table.ensures.table c.in_err-captures.ensures.got in
     of_error _ _ _ c.in_err-captures.field-0.0 c.from_residual-in_err-captures.ensures
     (not_gathered inputs files _ t _ _ _ plan c.in_ok-table.ensures.same c.in_ok-table.ensures.got.1 c.in_err-captures.field-0.0 fails)
 

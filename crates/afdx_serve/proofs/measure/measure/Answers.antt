@@ -5,6 +5,6 @@ use Rattle.afdx_serve.proofs.measure.measure.Goals as goal
 
 pub returns-in_err-write_bytes : goal.returns-in_err-write_bytes
 returns-in_err-write_bytes g c =
-    let front = rw c.as_bytes.ensures.value at c.in_err-write_bytes.ensures.front in
+    let prefix = rw c.as_bytes.ensures.value at c.in_err-write_bytes.ensures.prefix in
     let text = c.in_ok-text.ensures in
-    of_error _ _ _ Write c.from_residual-in_err-write_bytes.ensures (string_bytes c.in_ok-text.text, text.led.0, front, (text.same, text.led.1))
+    of_error _ _ _ Write c.from_residual-in_err-write_bytes.ensures (string_bytes c.in_ok-text.text, text.led.0, prefix, (text.same, text.led.1))

@@ -7,5 +7,6 @@ use Rattle.afdx_serve.proofs.measure.tell.Goals as goal
 
 pub returns : goal.returns
 returns c =
-    is_measured c.accepted_tables_stay_within_the_load.ensures (is_cleared c.args.plan) c.args.promised (table_in c.args.plan) (texts_of c.args.captures.now) c.in_ok-done.done (string_bytes c.in_ok-text.text)
+    is_measured c.accepted_tables_stay_within_the_load.ensures (is_cleared c.args.plan) c.args.promised (table_in c.args.plan) (texts_of c.args.captures.now) c.in_ok-done.done
+    (string_bytes c.in_ok-text.text)
     (subst IsWellFormed c.table.ensures.table c.ports.ensures.well_formed) c.table.ensures.accepted c.requires.promised c.in_ok-done.ensures.ok c.in_ok-text.ensures

@@ -26,14 +26,14 @@ returns-in_err-write_bytes g c =
     let net = c.in_ok-network.network in
     let got = c.in_ok-network.ensures in
     let needs = c.in_ok-needs.needs in
-    let front = rw c.as_bytes.ensures.value at c.in_err-write_bytes.ensures.front in
+    let prefix = rw c.as_bytes.ensures.value at c.in_err-write_bytes.ensures.prefix in
     let told : string_bytes c.in_ok-text.text ≡ jitter_text (names_of net.layout.switches) needs.rows.items = search rules in
     of_error _ _ _ Write c.from_residual-in_err-write_bytes.ensures (
       net,
       needs.past,
       string_bytes c.in_ok-text.text,
       record { rows = needs.rows.items; has_network = got.got.0; fits = c.in_default.ensures.0; needs = c.in_ok-needs.ensures; told = told },
-      front,
+      prefix,
       (got.same, got.got.1),
     )
 
@@ -64,8 +64,10 @@ returns g c =
     let told : string_bytes c.in_ok-text.text ≡ jitter_text (names_of net.layout.switches) needs.rows.items = search rules in
     let are = rw c.in-None.is at c.in_ok-needs.ensures in (
       net,
-      string_bytes c.in_ok-text.text,
-      record { rows = needs.rows.items; has_network = got.got.0; fits = c.in_default.ensures.0; needs = are; told = told },
-      all,
-      (got.same, got.got.1),
+      (
+        string_bytes c.in_ok-text.text,
+        record { rows = needs.rows.items; has_network = got.got.0; fits = c.in_default.ensures.0; needs = are; told = told },
+        all,
+        (got.same, got.got.1),
+      ),
     )

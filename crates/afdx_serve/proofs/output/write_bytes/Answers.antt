@@ -5,10 +5,11 @@ use Rattle.afdx_serve.proofs.output.write_bytes.Goals as goal
 
 pub loop-rest-preserved : goal.loop-rest-preserved
 loop-rest-preserved g c =
-    let front = c.loop-rest.invariant.0 in
+    let prefix = c.loop-rest.invariant.0 in
     let rest_is : c.split_at.result.1.now ≡ drop c.in-Ok.count c.loop-rest.rest.now = search rules in
     let taken = take c.in-Ok.count c.loop-rest.rest.now in (
-      front ++ taken,
-      c.loop-rest.invariant.1 ∙ ap (λ (x : List ℕ). front ++ x) (sym (take-append-drop c.in-Ok.count c.loop-rest.rest.now)) ∙ sym (append_assoc front taken _) ∙ ap (λ (x : List ℕ). (front ++ taken) ++ x) (sym rest_is),
+      prefix ++ taken,
+      c.loop-rest.invariant.1 ∙ ap (λ (x : List ℕ). prefix ++ x) (sym (take-append-drop c.in-Ok.count c.loop-rest.rest.now)) ∙ sym (append_assoc prefix taken _)
+          ∙ ap (λ (x : List ℕ). (prefix ++ taken) ++ x) (sym rest_is),
       Appends-trans _ _ _ _ _ c.loop-rest.invariant.2 c.in-Ok.ensures.bytes,
     )

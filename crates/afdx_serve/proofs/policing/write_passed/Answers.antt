@@ -27,9 +27,9 @@ passes-requires g c =
 
 pub returns-in_err-append : goal.returns-in_err-append
 returns-in_err-append g c =
-    let front = stopped c.ground.ensures _ _ _ c.next_frame.new.frames _ _ _ _ _ c.in-Some.frame c.passes.result c.loop-frame.invariant c.in-Some.ensures.answer c.in-Some.ensures.next
-    c.passes.ensures.own c.passes.ensures.others c.taken_records_begin_the_capture.ensures _ c.requires.capture.0 c.if-passes.true c.requires.capture.1 c.in_err-append.ensures.front in
-    of_error _ _ _ _ c.from_residual.ensures front
+    let prefix = stopped c.ground.ensures _ _ _ c.next_frame.new.frames _ _ _ _ _ c.in-Some.frame c.passes.result c.loop-frame.invariant c.in-Some.ensures.answer c.in-Some.ensures.next
+    c.passes.ensures.own c.passes.ensures.others c.taken_records_begin_the_capture.ensures _ c.requires.capture.0 c.if-passes.true c.requires.capture.1 c.in_err-append.ensures.prefix in
+    of_error _ _ _ _ c.from_residual.ensures prefix
 
 pub loop-frame-preserved-after-passes : goal.loop-frame-preserved-after-passes
 loop-frame-preserved-after-passes g c =
@@ -49,4 +49,4 @@ loop-frame-preserved g c =
 
 pub returns : goal.returns
 returns g c =
-    all_written c.ground.ensures _ _ _ _ _ _ _ _ _ c.loop-frame.invariant c.in_default.ensures.answer.1 c.write.ensures.all c.write.ensures.front
+    all_written c.ground.ensures _ _ _ _ _ _ _ _ _ c.loop-frame.invariant c.in_default.ensures.answer.1 c.write.ensures.all c.write.ensures.prefix

@@ -80,7 +80,7 @@ returns-in_err-write_bytes g c =
     let led = leads_to c.accepted_runs_isolate.ensures paths (g.F.Folder.files c.args.folder.now) plan captures c.in_ok-carried.carried got.0 carried in
     let put = rw names at c.in_ok-put_outputs.ensures t arrivals carried.left count in
     let report = c.as_bytes.ensures.value ∙ c.in_ok-report.ensures in
-    let written = rw (report, carried.left.counts) at c.in_err-write_bytes.ensures.front in
+    let written = rw (report, carried.left.counts) at c.in_err-write_bytes.ensures.prefix in
     of_error _ _ _ Write c.from_residual-in_err-write_bytes.ensures
     (results_of t arrivals, all_put paths (results_of t arrivals) _ _ _ _ _ _ led c.in_ok-plan.ensures.same got.1 put.0 put.1 None None, written)
 

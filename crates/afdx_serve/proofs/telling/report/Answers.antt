@@ -22,7 +22,8 @@ pub returns-in-Capture-clause-told : goal.returns-in-Capture-clause-told
 returns-in-Capture-clause-told g c = rw c.in-Capture.is (made (failure.Capture c.in-Capture.fault) _ _ _ _ _ tt c.capture_line.ensures refl c.tell_made-in-Capture.ensures)
 
 pub returns-in-PortCapture-clause-told : goal.returns-in-PortCapture-clause-told
-returns-in-PortCapture-clause-told g c = rw c.in-PortCapture.is (made (failure.PortCapture c.in-PortCapture.port c.in-PortCapture.fault) _ _ _ _ _ tt c.capture_line-in-PortCapture.ensures refl c.tell_made-in-PortCapture.ensures)
+returns-in-PortCapture-clause-told g c = rw c.in-PortCapture.is (made (failure.PortCapture c.in-PortCapture.port c.in-PortCapture.fault) _ _ _ _ _ tt c.capture_line-in-PortCapture.ensures refl
+    c.tell_made-in-PortCapture.ensures)
 
 pub returns-in-Get-clause-told : goal.returns-in-Get-clause-told
 returns-in-Get-clause-told g c = rw c.in-Get.is (made (failure.Get c.in-Get.name) _ _ _ _ _ tt (rw c.deref.ensures at c.device_line.ensures) refl c.tell_made-in-Get.ensures)
@@ -34,4 +35,5 @@ pub returns-in-Load-clause-told : goal.returns-in-Load-clause-told
 returns-in-Load-clause-told g c = rw c.in-Load.is (made (failure.Load c.in-Load.fault) _ _ _ _ _ tt c.load_line.ensures refl c.tell_made-in-Load.ensures)
 
 pub returns-in-Network-clause-told : goal.returns-in-Network-clause-told
-returns-in-Network-clause-told g c = rw c.in-Network.is (made (failure.Network c.in-Network.refusal) _ _ _ _ _ tt c.network_failure_line.ensures c.network_status.ensures c.tell_made-in-Network.ensures)
+returns-in-Network-clause-told g c = rw c.in-Network.is (made (failure.Network c.in-Network.refusal) _ _ _ _ _ tt c.network_failure_line.ensures c.network_status.ensures
+    c.tell_made-in-Network.ensures)
