@@ -113,14 +113,16 @@ fn tables_that_are_none(rt: HostRuntime) -> Result<(), Fail> {
     Ok(())
 }
 
-/// Loads and jitters are refused with another status.
+/// Loads and jitters are refused with another status. Loads are looked at before the tables are compared.
 #[test]
 fn loads_and_jitters(rt: HostRuntime) -> Result<(), Fail> {
     let alloc = rt.alloc();
     let short = TwoSwitches::new(alloc, 13)?;
     let line = "afdx: network J1 Jitter, switch B, link 1, need 14, has 13\n";
     assert!(rt; is_refused(&short, 4, line)?);
-    let small = TwoSwitches::new(alloc, 14)?.second_changed(("buffer = 100000", "buffer = 100"))?;
+    let small = TwoSwitches::new(alloc, 14)?
+        .second_changed(("buffer = 100000", "buffer = 100"))?
+        .second_changed(("version = 2", "version = 2\nconstant = \"07000000\""))?;
     let line = "afdx: load L2 Buffer, port 2, need 55628267520000, limit 16384000000000, switch B\n";
     assert!(rt; is_refused(&small, 4, line)?);
     Ok(())
