@@ -1,5 +1,6 @@
 -- What a run of a network leads to: names and reports by switch, captures that are put in order, and why nothing is.
-use Rattle.std.proofs.Common.{◌≡◌, ℕ, ◌+◌, ◌<◌, ◌≤◌, List, [], ◌∷◌, ◌++◌, length, map, take, drop, get_or, slice_get, Option, Some, None, Result, Ok, Vec, String, Global, string_bytes, inl, inr, refl, sym, ap, subst, ◌∙◌, arith}
+use Rattle.std.proofs.Common.{◌≡◌, ℕ, ◌+◌, ◌<◌, ◌≤◌, List, [], ◌∷◌, ◌++◌, length, map, take, drop, get_or, slice_get, Option, Some, None, Result, Ok, Vec, String, Global, string_bytes, inl, inr}
+use Rattle.std.proofs.Common.{refl, sym, ap, subst, ◌∙◌, arith}
 use Rattle.std.specs.Prelude.{◌⊎◌, flat_map, All}
 use Rattle.std.specs.Io.KnownBytes.{Keeps}
 use Rattle.std.proofs.lemmas.Simd.{map-map}
@@ -80,7 +81,7 @@ one_more_named {Y} {Z} path names left i d old new own count lt grown named befo
     let within : length (captures_of (take i left)) < length told = let n = length-map names (λ (s : String Z). string_bytes s) in omega (arith, n, many, count, lt) in
     ap (map seen) grown ∙ map-append seen old (own ∷ []) ∙ ap (λ (l : List (List (List ℕ))). l ++ seen own ∷ []) before
     ∙ ap (λ (l : List (List ℕ)). names_by path told (captures_of (take i left)) ++ l ∷ [])
-      (named ∙ ap (λ (n : ℕ). names_in (switch_folder path (name_of told n)) (get_or left i d).captures) (sym many))
+    (named ∙ ap (λ (n : ℕ). names_in (switch_folder path (name_of told n)) (get_or left i d).captures) (sym many))
     ∙ sym (names_by-push path told (captures_of (take i left)) (get_or left i d).captures within)
     ∙ ap (names_by path told) (sym one)
 
@@ -116,7 +117,8 @@ held_at {Y} {Z} path names all held named =
     sym (flat_map-map (λ (x : List (List ℕ)). x) (λ (v : Vec (String Z) Y). map (λ (s : String Z). string_bytes s) v.items) held)
     ∙ ap (flat_map (λ (x : List (List ℕ)). x)) named ∙ flat_names path names all
 
-held_counts : {Y Z : Type 0} (held : List (Vec (String Z) Y)) → map (λ (v : Vec (String Z) Y). length (map (λ (s : String Z). string_bytes s) v.items)) held ≡ map (λ (v : Vec (String Z) Y). length v.items) held
+held_counts : {Y Z : Type 0} (held : List (Vec (String Z) Y)) → map (λ (v : Vec (String Z) Y). length (map (λ (s : String Z). string_bytes s) v.items)) held
+    ≡ map (λ (v : Vec (String Z) Y). length v.items) held
 held_counts {Y} {Z} held = λ j. map (λ (v : Vec (String Z) Y). length-map v.items (λ (s : String Z). string_bytes s) j) held
 
 -- and as many as the captures
@@ -158,7 +160,7 @@ StopsAt-append name ns bs ms cs more rest a b c same many put s =
       before = s.before;
       is_there = slice_get-get_or (ns ++ (ms ++ more)) (length ns + s.place) [] within ∙ ap (λ (n : List ℕ). Some n) here;
       earlier = rw (take_part ns ms more s.place (omega (arith, lt)), same, take_part bs cs rest s.place (omega (arith, lt, many)))
-      (PutsFiles-append a b s.before ns bs (take s.place ms) (take s.place cs) same put s.earlier);
+          (PutsFiles-append a b s.before ns bs (take s.place ms) (take s.place cs) same put s.earlier);
       others = s.others;
     }
 
@@ -187,14 +189,16 @@ module _ {X Y : Type 0} (f : X → List (List ℕ)) (g : Y → List (List ℕ)) 
       ∙ sym (flat_count g (take i ys))
 
   flat_more : {T : Type 0} (h : T → List (List ℕ)) (ts : List T) (i : ℕ) (d : T) → i < length ts → flat_map h (take (i + 1) ts) ≡ flat_map h (take i ts) ++ h (get_or ts i d)
-  flat_more h ts i d lt = ap (flat_map h) (take_more ts i d lt) ∙ flat_map-append h (take i ts) (get_or ts i d ∷ []) ∙ ap (λ (l : List (List ℕ)). flat_map h (take i ts) ++ l) (append-nil (h (get_or ts i d)))
+  flat_more h ts i d lt = ap (flat_map h) (take_more ts i d lt) ∙ flat_map-append h (take i ts) (get_or ts i d ∷ [])
+      ∙ ap (λ (l : List (List ℕ)). flat_map h (take i ts) ++ l) (append-nil (h (get_or ts i d)))
 
   flat_parts : {T : Type 0} (h : T → List (List ℕ)) (ts : List T) (i : ℕ) (d : T) → i < length ts → flat_map h ts ≡ flat_map h (take i ts) ++ (h (get_or ts i d) ++ flat_map h (drop (i + 1) ts))
   flat_parts h ts i d lt =
       ap (flat_map h) (sym (take-append-drop i ts)) ∙ flat_map-append h (take i ts) (drop i ts) ∙ ap (λ l. flat_map h (take i ts) ++ flat_map h l) (drop_more ts i d lt)
 
   -- those of one more were put
-  pub more_put : (i : ℕ) (d : X) (e : Y) (a b c : Option Files) → i < length xs → PutsFiles a b (flat_map f (take i xs)) (flat_map g (take i ys)) → PutsFiles b c (f (get_or xs i d)) (g (get_or ys i e))
+  pub more_put : (i : ℕ) (d : X) (e : Y) (a b c : Option Files) → i < length xs → PutsFiles a b (flat_map f (take i xs)) (flat_map g (take i ys))
+      → PutsFiles b c (f (get_or xs i d)) (g (get_or ys i e))
       → PutsFiles a c (flat_map f (take (i + 1) xs)) (flat_map g (take (i + 1) ys))
   more_put i d e a b c lt before one =
       rw (flat_more f xs i d lt, flat_more g ys i e (let n = as_long in omega (arith, n, lt))) (PutsFiles-append a b c _ _ _ _ (same_before i) before one)
@@ -212,7 +216,8 @@ held_same : {Y Z : Type 0} (held : List (Vec (String Z) Y)) (all : List (List Te
 held_same held all many = held_counts held ∙ many ∙ λ j. map (λ (own : List Text). sym (length-map own (λ (c : Text). c.1)) j) all
 
 -- as many names as captures, of each switch
-pub held_here : {Y Z : Type 0} (held : List (Vec (String Z) Y)) (left : List Results) (i : ℕ) (d : Vec (String Z) Y) (e : Results) → AreAsMany held (captures_of left) → i < length held → i < length left
+pub held_here : {Y Z : Type 0} (held : List (Vec (String Z) Y)) (left : List Results) (i : ℕ) (d : Vec (String Z) Y) (e : Results) → AreAsMany held (captures_of left) → i < length held
+    → i < length left
     → length (get_or held i d).items ≡ length (get_or left i e).captures
 held_here {Y} {Z} held left i d e many lt within =
     sym (get_or-map (λ (v : Vec (String Z) Y). length v.items) held i d 0 lt) ∙ ap (λ (l : List ℕ). get_or l i 0) many
@@ -308,7 +313,8 @@ pub record IsLed (paths : NetworkPaths) (files : Option Files) (net : Network) (
   pub named : names ≡ names_of net.layout.switches
   pub count : length names ≡ length left
 
-pub is_led : TablesAreWellFormed → LayoutsAreWithinLimits → NetworkRunsDeliver → (paths : NetworkPaths) (a b : Option Files) (net cleared seen : Network) (given : Given) (left : List Results) (names : Names)
+pub is_led : TablesAreWellFormed → LayoutsAreWithinLimits → NetworkRunsDeliver → (paths : NetworkPaths) (a b : Option Files) (net cleared seen : Network) (given : Given) (left : List Results)
+    (names : Names)
     → HasNetwork a paths.network.now net → cleared ≡ net → seen ≡ cleared → IsAcceptedNetwork net → KeepsFiles a b
     → HasGiven b paths.input.now (names_of seen.layout.switches) given → AreGiven seen given → (came : List (List Text)) × IsRunOf cleared given came left → names ≡ names_of net.layout.switches
     → IsLed paths a net names left
@@ -364,7 +370,8 @@ not_given_before failure.Read a b path net before after keeps h = absurd h
 not_given_before failure.Write a b path net before after keeps h = absurd h
 
 -- what was got leads to nothing
-led_to_none : (f : Failure) (files : Option Files) (path : List ℕ) (net : Network) (given : Given) (before after : DeviceLog) → HasGiven files path (names_of net.layout.switches) given → after ≡ before
+led_to_none : (f : Failure) (files : Option Files) (path : List ℕ) (net : Network) (given : Given) (before after : DeviceLog) → HasGiven files path (names_of net.layout.switches) given → after
+    ≡ before
     → FailsToLeadGiven f net given → FailsToGetGiven f files path net before after
 led_to_none (failure.Network (network.Capture port why name)) files path net given before after has same h = ((given, h.0, has, h.1, h.2), same)
 led_to_none (failure.Network network.Unsettled) files path net given before after has same h = ((given, has, h), same)
@@ -418,7 +425,8 @@ no_run (failure.Get s) paths a b first after keeps w v none h = ((h, keeps), non
 no_run failure.Read paths a b first after keeps w v none h = ((h, keeps), none)
 
 -- not all was got
-pub not_given : (f : Failure) (paths : NetworkPaths) (a b c : Option Files) (net cleared seen : Network) (first before after : DeviceLog) → HasNetwork a paths.network.now net → cleared ≡ net → seen ≡ cleared
+pub not_given : (f : Failure) (paths : NetworkPaths) (a b c : Option Files) (net cleared seen : Network) (first before after : DeviceLog) → HasNetwork a paths.network.now net → cleared ≡ net → seen
+    ≡ cleared
     → IsAcceptedNetwork net → KeepsFiles a b → KeepsFiles b c → before ≡ first → (w v : Option (List ℕ)) → Keeps w v → FailsToGetGiven f b paths.input.now seen before after
     → FailsToRunNetwork f paths (world w a first) (world v c after)
 not_given f paths a b c net cleared seen first before after has same met accepted keeps further log w v none h =
@@ -427,7 +435,8 @@ not_given f paths a b c net cleared seen first before after has same met accepte
     no_run f paths a c first after (KeepsFiles-trans a b c keeps further) w v none (inr (net, has, inr (accepted, not_given_before f a b paths.input.now net first after keeps fails)))
 
 -- it leads to no run
-pub not_led : (f : Failure) (paths : NetworkPaths) (a b c : Option Files) (net cleared seen : Network) (given : Given) (first before after : DeviceLog) → HasNetwork a paths.network.now net → cleared ≡ net
+pub not_led : (f : Failure) (paths : NetworkPaths) (a b c : Option Files) (net cleared seen : Network) (given : Given) (first before after : DeviceLog) → HasNetwork a paths.network.now net → cleared
+    ≡ net
     → seen ≡ cleared → IsAcceptedNetwork net → KeepsFiles a b → KeepsFiles b c → before ≡ first → after ≡ before → (w v : Option (List ℕ)) → Keeps w v
     → HasGiven b paths.input.now (names_of seen.layout.switches) given → FailsToLeadGiven f cleared given → FailsToRunNetwork f paths (world w a first) (world v c after)
 not_led f paths a b c net cleared seen given first before after has same met accepted keeps further log last w v none got h =

@@ -26,7 +26,8 @@ use Rattle.afdx_session.specs.Session.{Intake, Seen, bytes_in, taken_in, taken_o
 use Rattle.afdx_session.specs.Session.{IsRefused, IsSoundSoFar, HasGoneOut}
 use Rattle.afdx_session.specs.Lanes.{intake_of, IsPieceFault}
 use Rattle.afdx_session.specs.Inner.Kept.{AreOfTable, IsOfSameTable, IsRunning}
-use Rattle.afdx_session.specs.Inner.View.{intakes_of, seen_of, gone_out, IsShownAt, IsKeptMachine, IsReady, AreHalfDone, AreEndedLanes, texts_at, IsTaken, IsOpenAt, IsFed, IsEnded, IsNotFed, IsNotEnded}
+use Rattle.afdx_session.specs.Inner.View.{intakes_of, seen_of, gone_out, IsShownAt, IsKeptMachine, IsReady, AreHalfDone, AreEndedLanes, texts_at, IsTaken, IsOpenAt, IsFed, IsEnded, IsNotFed}
+use Rattle.afdx_session.specs.Inner.View.{IsNotEnded}
 use Rattle.afdx_session.proofs.Going.{some_same}
 use Rattle.afdx_session.proofs.Gone.{at_index}
 use Rattle.afdx_session.proofs.Firsts.{map-set, get-map}
@@ -187,7 +188,8 @@ kept_ended stay reaches ends old new begun failed place not_failed same is ready
     (kept_ready stay reaches ends old new begun failed same (ports_after old.lanes.items new.lanes.items place is.lane (ended (intake_of is.lane)) is.at refl is.intakes) kept ready)
 
 -- the call failed
-pub kept_half : {Z : Type 0} (old new : Machine Z) (begun failed : Bool) → failed ≡ false → IsOfSameTable old.switch new.switch → AreHalfDone old.lanes.items new.lanes.items → IsKeptMachine old begun failed
+pub kept_half : {Z : Type 0} (old new : Machine Z) (begun failed : Bool) → failed ≡ false → IsOfSameTable old.switch new.switch → AreHalfDone old.lanes.items new.lanes.items
+    → IsKeptMachine old begun failed
     → IsKeptMachine new begun true
 kept_half old new begun failed not_failed same half kept = kept_failed old new begun same half (subst (λ b. IsKeptMachine old begun b) not_failed kept)
 

@@ -120,7 +120,8 @@ half_ports {Z = Z} (l ∷ old) (n ∷ new) half = ap (λ m. m ∷ map (λ (x : L
 
 -- ---- what is true of each session stays
 
-pub kept_failed : {Z : Type 0} (old new : Machine Z) (begun : Bool) → IsOfSameTable old.switch new.switch → AreHalfDone old.lanes.items new.lanes.items → IsKeptMachine old begun false → IsKeptMachine new begun true
+pub kept_failed : {Z : Type 0} (old new : Machine Z) (begun : Bool) → IsOfSameTable old.switch new.switch → AreHalfDone old.lanes.items new.lanes.items → IsKeptMachine old begun false
+    → IsKeptMachine new begun true
 kept_failed old new begun same half kept = record {
   of = subst (λ t. AreOfTable t new.lanes.items) (sym same.table) (record { formed = kept.of.formed; ports = half_ports old.lanes.items new.lanes.items half ∙ kept.of.ports });
   handed = same.handed ∙ kept.handed ∙ ap (λ (t : Content). length t.ports) (sym same.table);

@@ -30,7 +30,8 @@ returns-in_err-given g c =
     let accepted = c.in_ok-cleared.ensures in
     let fails = c.in_err-given.ensures in
     of_error _ _ _ c.in_err-given.field-0.0 c.from_residual-in_err-given.ensures
-    (not_given c.in_err-given.field-0.0 c.args.paths.now _ _ _ c.in_ok-network.network _ _ _ _ _ got.got.0 accepted.0 c.network-2.ensures.network accepted.1 got.same fails.same got.got.1 _ _ (Keeps-refl _)
+    (not_given c.in_err-given.field-0.0 c.args.paths.now _ _ _ c.in_ok-network.network _ _ _ _ _ got.got.0 accepted.0 c.network-2.ensures.network accepted.1 got.same fails.same got.got.1 _ _
+    (Keeps-refl _)
     fails.got)
 
 pub returns-in_err-outcomes : goal.returns-in_err-outcomes
@@ -39,7 +40,8 @@ returns-in_err-outcomes g c =
     let accepted = c.in_ok-cleared.ensures in
     let given = c.in_ok-given.ensures in
     of_error _ _ _ c.in_err-outcomes.field-0.0 c.from_residual-in_err-outcomes.ensures
-    (not_led c.in_err-outcomes.field-0.0 c.args.paths.now _ _ _ c.in_ok-network.network _ _ (given_of c.in_ok-given.given.items) _ _ _ got.got.0 accepted.0 c.network-2.ensures.network accepted.1 got.same
+    (not_led c.in_err-outcomes.field-0.0 c.args.paths.now _ _ _ c.in_ok-network.network _ _ (given_of c.in_ok-given.given.items) _ _ _ got.got.0 accepted.0 c.network-2.ensures.network accepted.1
+    got.same
     given.same got.got.1 given.got.1 _ _ (Keeps-refl _) given.got.0.0 c.in_err-outcomes.ensures)
 
 pub output_names-requires : goal.output_names-requires
@@ -50,7 +52,8 @@ output_names-requires g c =
     let accepted = c.in_ok-cleared.ensures in
     let given = c.in_ok-given.ensures in
     let named : map string_bytes c.in_ok-names.names.items ≡ names_of net.layout.switches = search rules in
-    let led = is_led c.tables_are_well_formed.ensures c.layouts_are_within_limits.ensures c.network_runs_deliver.ensures paths _ _ net _ _ (given_of c.in_ok-given.given.items) c.in_ok-outcomes.outcomes.items _
+    let led = is_led c.tables_are_well_formed.ensures c.layouts_are_within_limits.ensures c.network_runs_deliver.ensures paths _ _ net _ _ (given_of c.in_ok-given.given.items)
+    c.in_ok-outcomes.outcomes.items _
     got.got.0 accepted.0 c.network-2.ensures.network accepted.1 got.same given.got.0.0 given.got.0.1 c.in_ok-outcomes.ensures named in
     ap (λ (l : List (String Global)). length l) c.deref-5.ensures.value ∙ sym (length-map c.in_ok-names.names.items (λ (s : String Global). string_bytes s)) ∙ led.count
     ∙ sym (ap (λ (l : List Results). length l) c.deref-6.ensures.value)
@@ -68,7 +71,8 @@ reports-requires g c =
     let accepted = c.in_ok-cleared.ensures in
     let given = c.in_ok-given.ensures in
     let named : map string_bytes c.in_ok-names.names.items ≡ names_of net.layout.switches = search rules in
-    let led = is_led c.tables_are_well_formed.ensures c.layouts_are_within_limits.ensures c.network_runs_deliver.ensures paths _ _ net _ _ (given_of c.in_ok-given.given.items) c.in_ok-outcomes.outcomes.items _
+    let led = is_led c.tables_are_well_formed.ensures c.layouts_are_within_limits.ensures c.network_runs_deliver.ensures paths _ _ net _ _ (given_of c.in_ok-given.given.items)
+    c.in_ok-outcomes.outcomes.items _
     got.got.0 accepted.0 c.network-2.ensures.network accepted.1 got.same given.got.0.0 given.got.0.1 c.in_ok-outcomes.ensures named in
     ap (λ (l : List (String Global)). length l) c.deref-7.ensures.value ∙ sym (length-map c.in_ok-names.names.items (λ (s : String Global). string_bytes s)) ∙ led.count
     ∙ sym (ap (λ (l : List Results). length l) c.deref-8.ensures.value)
@@ -86,7 +90,8 @@ put_all-requires g c =
     let accepted = c.in_ok-cleared.ensures in
     let given = c.in_ok-given.ensures in
     let named : map string_bytes c.in_ok-names.names.items ≡ names_of net.layout.switches = search rules in
-    let led = is_led c.tables_are_well_formed.ensures c.layouts_are_within_limits.ensures c.network_runs_deliver.ensures paths _ _ net _ _ (given_of c.in_ok-given.given.items) c.in_ok-outcomes.outcomes.items _
+    let led = is_led c.tables_are_well_formed.ensures c.layouts_are_within_limits.ensures c.network_runs_deliver.ensures paths _ _ net _ _ (given_of c.in_ok-given.given.items)
+    c.in_ok-outcomes.outcomes.items _
     got.got.0 accepted.0 c.network-2.ensures.network accepted.1 got.same given.got.0.0 given.got.0.1 c.in_ok-outcomes.ensures named in
     let out = paths.output.now in
     let told = map string_bytes c.in_ok-names.names.items in
@@ -103,7 +108,8 @@ returns-in_err-put_all g c =
     let accepted = c.in_ok-cleared.ensures in
     let given = c.in_ok-given.ensures in
     let named : map string_bytes c.in_ok-names.names.items ≡ names_of net.layout.switches = search rules in
-    let led = is_led c.tables_are_well_formed.ensures c.layouts_are_within_limits.ensures c.network_runs_deliver.ensures paths _ _ net _ _ (given_of c.in_ok-given.given.items) c.in_ok-outcomes.outcomes.items _
+    let led = is_led c.tables_are_well_formed.ensures c.layouts_are_within_limits.ensures c.network_runs_deliver.ensures paths _ _ net _ _ (given_of c.in_ok-given.given.items)
+    c.in_ok-outcomes.outcomes.items _
     got.got.0 accepted.0 c.network-2.ensures.network accepted.1 got.same given.got.0.0 given.got.0.1 c.in_ok-outcomes.ensures named in
     let out = paths.output.now in
     let told = map string_bytes c.in_ok-names.names.items in
@@ -123,7 +129,8 @@ returns-in_err-write_bytes g c =
     let accepted = c.in_ok-cleared.ensures in
     let given = c.in_ok-given.ensures in
     let named : map string_bytes c.in_ok-names.names.items ≡ names_of net.layout.switches = search rules in
-    let led = is_led c.tables_are_well_formed.ensures c.layouts_are_within_limits.ensures c.network_runs_deliver.ensures paths _ _ net _ _ (given_of c.in_ok-given.given.items) c.in_ok-outcomes.outcomes.items _
+    let led = is_led c.tables_are_well_formed.ensures c.layouts_are_within_limits.ensures c.network_runs_deliver.ensures paths _ _ net _ _ (given_of c.in_ok-given.given.items)
+    c.in_ok-outcomes.outcomes.items _
     got.got.0 accepted.0 c.network-2.ensures.network accepted.1 got.same given.got.0.0 given.got.0.1 c.in_ok-outcomes.ensures named in
     let out = paths.output.now in
     let told = map string_bytes c.in_ok-names.names.items in
@@ -145,7 +152,8 @@ returns g c =
     let accepted = c.in_ok-cleared.ensures in
     let given = c.in_ok-given.ensures in
     let named : map string_bytes c.in_ok-names.names.items ≡ names_of net.layout.switches = search rules in
-    let led = is_led c.tables_are_well_formed.ensures c.layouts_are_within_limits.ensures c.network_runs_deliver.ensures paths _ _ net _ _ (given_of c.in_ok-given.given.items) c.in_ok-outcomes.outcomes.items _
+    let led = is_led c.tables_are_well_formed.ensures c.layouts_are_within_limits.ensures c.network_runs_deliver.ensures paths _ _ net _ _ (given_of c.in_ok-given.given.items)
+    c.in_ok-outcomes.outcomes.items _
     got.got.0 accepted.0 c.network-2.ensures.network accepted.1 got.same given.got.0.0 given.got.0.1 c.in_ok-outcomes.ensures named in
     let out = paths.output.now in
     let told = map string_bytes c.in_ok-names.names.items in

@@ -21,4 +21,5 @@ loop-switch-preserved c =
     ap (λ (all : List (ℕ × Vec ℕ Global)). texts_of all) c.deref-in-loop-switch.ensures.value ∙ ap (λ (r : Results). r.captures) (c.outcome.view_is ∙ c.index-outcomes-switch.is) in
     let named = c.in_ok-names_in.ensures ∙ ap (λ (f : List ℕ). names_in f (texts_of c.deref-in-loop-switch.result.now)) folder
     ∙ ap (λ (all : List Text). names_in (switch_folder c.args.path.now (name_of names i)) all) texts in
-    one_more_named c.args.path.now c.args.names.now c.args.outcomes.now i c.index-outcomes-switch.result _ _ c.in_ok-names_in.field-0 c.requires lt c.in_ok-push.ensures.items named c.loop-switch.invariant
+    one_more_named c.args.path.now c.args.names.now c.args.outcomes.now i c.index-outcomes-switch.result _ _ c.in_ok-names_in.field-0 c.requires lt c.in_ok-push.ensures.items named
+    c.loop-switch.invariant

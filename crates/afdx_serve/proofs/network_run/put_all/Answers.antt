@@ -42,8 +42,7 @@ loop-place-preserved g c =
     let within : i < length left = let many = held_count names left c.requires in omega (arith, lt, many) in
     let own = c.deref.ensures.value ∙ ap (λ (v : Vec (String Global) Global). v.items) c.index-names-place.is in
     let texts = ap (λ (all : List (ℕ × Vec ℕ Global)). texts_of all) c.deref-in-loop-place.ensures.value ∙ ap (λ (r : Results). r.captures) (c.outcome.view_is ∙ c.index-outcomes-place.is) in
-    let put = rw (own, texts) at c.in_ok-put_captures.ensures in
-    (
+    let put = rw (own, texts) at c.in_ok-put_captures.ensures in (
       switch_put names left i c.index-names-place.result c.index-outcomes-place.result _ _ _ c.requires lt within c.loop-place.invariant.0 put.0,
       put.1 ∙ c.loop-place.invariant.1,
     )

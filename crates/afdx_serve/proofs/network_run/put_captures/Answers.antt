@@ -18,8 +18,8 @@ loop-place-preserved g c =
     let named : c.deref.result.now ≡ string_bytes (get_or names i d) = c.deref.ensures ∙ ap (λ (s : String Global). string_bytes s) c.index-names-place.is in
     let text : c.deref-in-loop-place.result.now ≡ (get_or (texts_of captures) i (0, [])).1 =
     c.deref-in-loop-place.ensures.value ∙ sym (ap (λ (x : Text). x.1) (get_or-map view captures i e (0, []) within)) in
-    let put = rw (named, text) at c.in_ok-put.ensures.put.0 in
-    (
-      one_more_file (λ (s : String Global). string_bytes s) (λ (x : Text). x.1) names (texts_of captures) i d (0, []) _ _ _ (c.requires ∙ sym (length-map captures view)) lt c.loop-place.invariant.0 put,
+    let put = rw (named, text) at c.in_ok-put.ensures.put.0 in (
+      one_more_file (λ (s : String Global). string_bytes s) (λ (x : Text). x.1) names (texts_of captures) i d (0, []) _ _ _ (c.requires ∙ sym (length-map captures view)) lt c.loop-place.invariant.0
+          put,
       c.in_ok-put.ensures.put.1 ∙ c.loop-place.invariant.1,
     )
