@@ -119,10 +119,7 @@ fn refuses_as_a_run_does(rt: HostRuntime) -> Result<(), Fail> {
             name: Some(name),
             line,
         };
-        assert!(rt;
-            run.stops(MEASURE, &broken, &run.files(), 3)?,
-            "{name}"
-        );
+        assert!(rt; run.stops(MEASURE, &broken, &run.files(), 3)?, "{name}");
     }
     let cut = [&HEADER[..23], &HEADER];
     let line = "afdx: capture P2 NoHeader, port 1\n";

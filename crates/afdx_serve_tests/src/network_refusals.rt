@@ -123,7 +123,8 @@ fn loads_and_jitters(rt: HostRuntime) -> Result<(), Fail> {
     let small = TwoSwitches::new(alloc, 14)?
         .second_changed(("buffer = 100000", "buffer = 100"))?
         .second_changed(("version = 2", "version = 2\nconstant = \"07000000\""))?;
-    let line = "afdx: load L2 Buffer, port 2, need 55628267520000, limit 16384000000000, switch B\n";
+    let line =
+        "afdx: load L2 Buffer, port 2, need 55628267520000, limit 16384000000000, switch B\n";
     assert!(rt; is_refused(&small, 4, line)?);
     Ok(())
 }

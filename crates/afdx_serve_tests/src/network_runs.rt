@@ -114,10 +114,7 @@ fn captures_that_are_refused(rt: HostRuntime) -> Result<(), Fail> {
             "afdx: capture P9 Late, port 1, record 1, switch B\n",
         ),
     ] {
-        assert!(rt;
-            puts_nothing(rt.alloc(), came, file, line)?,
-            "{line}"
-        );
+        assert!(rt; puts_nothing(rt.alloc(), came, file, line)?, "{line}");
     }
     Ok(())
 }

@@ -275,11 +275,7 @@ fn writes_a_long_answer_in_parts(rt: HostRuntime) -> Result<(), Fail> {
     let alloc = rt.alloc();
     let input = sixty_frames(alloc)?;
     // The write that fails, the status, how many writes there are and how many bytes are written.
-    for (failing, status, calls, written) in [
-        (0, 0, 2, 91_824),
-        (1, 5, 1, 0),
-        (2, 5, 2, 65_814),
-    ] {
+    for (failing, status, calls, written) in [(0, 0, 2, 91_824), (1, 5, 1, 0), (2, 5, 2, 65_814)] {
         assert_eq!(rt;
             in_parts(alloc, &input, failing, written)?,
             (status, calls, true),

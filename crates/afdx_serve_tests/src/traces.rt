@@ -1,8 +1,6 @@
 //! `afdx trace` over a folder in memory. Values from outside: tables, captures, and lines that were worked out by hand.
 
-use crate::fixtures::{
-    Broken, OneFrame, answers, crowd, crowded, early, folder_of, refuses,
-};
+use crate::fixtures::{Broken, OneFrame, answers, crowd, crowded, early, folder_of, refuses};
 use crate::memory_folder::MemoryFolder;
 use afdx_samples::{HEADER, capture, later, mixed, single, small};
 use afdx_serve::FolderFault;
