@@ -1,7 +1,7 @@
 -- Networks that were got: the files of tables, and why they were not.
-use Rattle.std.proofs.Common.{◌≡◌, ◌≢◌, ℕ, ◌+◌, ◌<◌, ◌≤◌, List, [], ◌∷◌, ◌++◌, map, length, take, Option, Some, None, Result, Ok, Err, Vec, inl, inr, refl, sym, ap, subst, ◌∙◌, arith, get_or}
-use Rattle.std.proofs.Common.{slice_get, length-append, String, Global, string_bytes}
-use Rattle.std.specs.Prelude.{◌⊎◌, option_map, MatchResult}
+use Rattle.std.proofs.Common.{◌≡◌, ◌≢◌, ℕ, ◌+◌, ◌<◌, ◌≤◌, List, [], ◌∷◌, ◌++◌, map, length, take, Option, Some, Result, Ok, Err, Vec, inr, sym, ap, subst, ◌∙◌, arith, get_or}
+use Rattle.std.proofs.Common.{slice_get, length-append, string_bytes}
+use Rattle.std.specs.Prelude.{option_map, MatchResult}
 use Rattle.std.specs.Path.{path_with_file_name}
 use Rattle.std.proofs.lemmas.List.{get_or-map, map-append, take_more, take_all, take-map, length-map}
 use Rattle.std.proofs.lemmas.Option.{slice_get-map, slice_get-get_or}
@@ -17,7 +17,7 @@ use Rattle.afdx_serve.specs.declared.failure.Failure.{Failure}
 use Rattle.afdx_serve.specs.declared.failure.Failure.TheVariants as failure
 use Rattle.afdx_serve.specs.Files.{Files, Shows, ShowsAll, KeepsFiles, DeviceLog, one_more}
 use Rattle.afdx_serve.specs.Runs.{FailsToGet}
-use Rattle.afdx_serve.specs.Networks.{bytes_in, table_names, names_of, HasLayout, HasTexts, AreTables, GetsTables, StopsAtTable, IsRefusedTable, FailsToLayout, FailsToGetTexts, FailsToReadTables}
+use Rattle.afdx_serve.specs.Networks.{bytes_in, table_names, HasLayout, HasTexts, AreTables, GetsTables, IsRefusedTable, FailsToLayout, FailsToGetTexts, FailsToReadTables}
 use Rattle.afdx_serve.specs.Networks.{FailsToJoin, HasNetwork, FailsToGetNetwork}
 use Rattle.afdx_serve.proofs.FileLemmas.{ShowsAll-push, ShowsAll-before, Shows-before, KeepsFiles-trans}
 

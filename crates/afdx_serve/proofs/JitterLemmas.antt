@@ -1,16 +1,15 @@
 -- The jitters that a network needs, and why they were not told.
-use Rattle.std.proofs.Common.{◌≡◌, ◌≢◌, ℕ, List, Option, Some, None, Err, inl, inr}
-use Rattle.std.specs.Io.KnownBytes.{Keeps}
+use Rattle.std.proofs.Common.{◌≡◌, ◌≢◌, ℕ, List, Some, Err, inl, inr}
 use Rattle.afdx_wiring.specs.declared.fault.Short.{Short}
 use Rattle.afdx_wiring.specs.declared.fault.NetworkFault.{NetworkFault}
 use Rattle.afdx_wiring.specs.declared.fault.NetworkFault.TheVariants as fault
 use Rattle.afdx_wiring.specs.Net.{Network}
 use Rattle.afdx_serve.specs.declared.failure.Failure.{Failure}
 use Rattle.afdx_serve.specs.declared.failure.Failure.TheVariants as failure
-use Rattle.afdx_serve.specs.Files.{Files, DeviceLog, KeepsFiles}
+use Rattle.afdx_serve.specs.Files.{KeepsFiles}
 use Rattle.afdx_serve.specs.Networks.{names_of, HasNetwork, IsRefused, FailsToGetNetwork}
 use Rattle.afdx_serve.specs.NetworkJitters.{fit_of}
-use Rattle.afdx_serve.specs.Serving.{World, world, WritesNothing, TellsJitters, FailsToGiveJitters}
+use Rattle.afdx_serve.specs.Serving.{World, WritesNothing, TellsJitters, FailsToGiveJitters}
 
 module _ (path : List ℕ) (old new : World) (keeps : KeepsFiles old.files new.files) (none : WritesNothing old new) where
   -- the network was not got

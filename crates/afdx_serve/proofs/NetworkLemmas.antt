@@ -1,5 +1,5 @@
 -- Why commands of networks were not served.
-use Rattle.std.proofs.Common.{◌≡◌, ◌≢◌, ℕ, List, Option, None, Result, Ok, Err, inl, inr}
+use Rattle.std.proofs.Common.{◌≢◌, ℕ, List, Option, None, inl, inr}
 use Rattle.std.specs.Prelude.{◌⊎◌}
 use Rattle.afdx_wiring.specs.declared.fault.NetworkFault.{NetworkFault}
 use Rattle.afdx_wiring.specs.declared.fault.NetworkFault.TheVariants as fault

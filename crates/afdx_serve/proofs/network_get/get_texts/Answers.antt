@@ -1,4 +1,4 @@
-use Rattle.std.proofs.Common.{rules, ◌≡◌, ◌∙◌, ap, get_or}
+use Rattle.std.proofs.Common.{rules, ◌≡◌, ◌∙◌, ap}
 use Rattle.std.specs.Path.{path_with_file_name}
 use Rattle.afdx_wiring.specs.File.{Switch}
 use Rattle.afdx_serve.specs.Networks.{bytes_in}
