@@ -1,5 +1,5 @@
 -- What the commands of networks get from a folder, and why they are refused.
-use Rattle.std.specs.Prelude.{◌≡◌, ◌≢◌, ◌⊎◌, ℕ, List, length, map, take, slice_get, Option, Some, None, option_map, option_and_then, Result, Ok, Err, Vec, string_bytes}
+use Rattle.std.specs.Prelude.{◌≡◌, ◌≢◌, ◌⊎◌, ℕ, List, length, map, take, slice_get, Option, Some, None, option_map, option_and_then, Ok, Err, Vec, string_bytes}
 use Rattle.std.specs.Path.{path_with_file_name}
 use Rattle.afdx_table.specs.Content.{Content}
 use Rattle.afdx_table.specs.Text.{table_of}
