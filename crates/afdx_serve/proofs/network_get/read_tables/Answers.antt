@@ -1,6 +1,5 @@
 use Rattle.std.proofs.Common.{rules, ◌≡◌, ◌<◌, ◌∙◌, ℕ, List, Vec, length, sym, ap, subst, arith}
 use Rattle.std.proofs.lemmas.List.{length-map}
-use Rattle.afdx_table.specs.declared.fault.TableFault.TheVariants as table
 use Rattle.afdx_table.specs.Text.{table_of}
 use Rattle.afdx_wiring.specs.File.{Switch}
 use Rattle.afdx_serve.specs.Networks.{bytes_in, IsRefusedTable}
