@@ -1,7 +1,7 @@
 #!/usr/bin/env bash
 # The commands of docs/use/GUIDE.md, one after the other in one folder, beside the page's table: they print what the page has.
 . "$(dirname "$0")/common.sh"
-install python3=python3 tshark=tshark
+install python3=python3 tshark=tshark editcap=wireshark-common
 export PYTHONDONTWRITEBYTECODE=1 LC_ALL=C
 afdx=${AFDX:-$top/crates/afdx/out/afdx}
 page=$top/docs/use/GUIDE.md

@@ -95,7 +95,7 @@ refuses "a constant that is none" 3 "afdx: table C7 Constant" /dev/null check co
 refuses "a link to its own port" 3 "afdx: table C13 ToOwnPort, link 1" /dev/null check own.toml
 refuses "a load that is refused" 4 "afdx: load L2 Buffer, port 2, need 904847360000000, limit 248709120000000" /dev/null \
     check small.toml
-refuses "a jitter that is not enough" 4 "afdx: network J1 Jitter, switch B, link 10, need 117, has 0" /dev/null \
+refuses "a jitter that is not enough" 4 "afdx: network J1 Jitter, switch B, link 10, need 153, has 0" /dev/null \
     network check short.toml
 refuses "pcapng" 3 "afdx: capture P3 Magic, port 1" /dev/null run table.toml pcapng out
 refuses "another link type" 3 "afdx: capture P5 LinkType 189, port 1" /dev/null run table.toml usb out
@@ -108,6 +108,7 @@ output=/dev/full refuses "the answer cannot be written" 5 "afdx: device write" i
 output=/dev/full refuses "the report cannot be written" 5 "afdx: device write" /dev/null run table.toml in out
 rm -r out && mv puts out
 refuses "network run" 0 "" /dev/null network run network.toml both out
+rm -r out && mkdir out
 mkdir first
 for port in 1 2 3 4; do
     tcpdump --time-stamp-precision=nano -c 17 -r "$top/examples/network/in/port-$port.pcap" -w "first/port-$port.pcap" 2>/dev/null

@@ -163,7 +163,7 @@ refusal 3 "afdx: network G6 From, wire 3, link 100" cockpit.toml '/^id = 100/,/^
 refusal 3 "afdx: network G7 Size, wire 1, link 403" bay.toml '/^id = 403/,/^max_size/ s/^max_size = .*/max_size = 127/'
 refusal 3 "afdx: network G7 Bag, wire 1, link 403" bay.toml '/^id = 403/,/^bag_ms/ s/^bag_ms = .*/bag_ms = 128/'
 refusal 3 "afdx: network G7 Police, wire 1, link 403" bay.toml -e '/^id = 403/ a police = "frame"' -e 's/^version = 1/version = 2/'
-refusal 3 "afdx: network G8 NoSource, switch bay, link 403" cabin.toml '/^id = 403/,/^to/ s/^to = .*/to = [2]/'
+refusal 3 "afdx: network G8 NoSource, switch bay, link 403" cabin.toml '/^id = 403/,/^to/ s/^to = .*/to = [1]/'
 twin >twin.toml
 refusal 3 "afdx: network G9 TwiceSource, link 300" cabin.toml '$r twin.toml'
 refusal 4 "afdx: network J1 Jitter, switch bay, link 400, need 1100, has 1099" bay.toml '/^id = 400/,/^jitter_us/ s/^jitter_us = .*/jitter_us = 1099/'
