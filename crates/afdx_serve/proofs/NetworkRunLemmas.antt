@@ -1,7 +1,7 @@
 -- What a run of a network leads to: names and reports by switch, captures that are put in order, and why nothing is.
-use Rattle.std.proofs.Common.{◌≡◌, ℕ, ◌+◌, ◌<◌, ◌≤◌, List, [], ◌∷◌, ◌++◌, length, map, take, drop, get_or, slice_get, Option, Some, None, Result, Ok, Vec, String, Global, string_bytes, inl, inr}
+use Rattle.std.proofs.Common.{◌≡◌, ℕ, ◌+◌, ◌<◌, ◌≤◌, List, [], ◌∷◌, ◌++◌, length, map, take, drop, get_or, Option, Some, None, Result, Ok, Vec, String, Global, string_bytes, inl, inr}
 use Rattle.std.proofs.Common.{refl, sym, ap, subst, ◌∙◌, arith}
-use Rattle.std.specs.Prelude.{◌⊎◌, flat_map, All}
+use Rattle.std.specs.Prelude.{flat_map}
 use Rattle.std.specs.Io.KnownBytes.{Keeps}
 use Rattle.std.proofs.lemmas.Simd.{map-map}
 use Rattle.std.proofs.lemmas.List.{append_assoc, append-nil, map-append, length-append, length-map, length-take, take_more, take-map, drop_more, get_or-map, take-append-drop}
@@ -12,9 +12,9 @@ use Rattle.std.proofs.lemmas.Option.{slice_get-get_or, slice_get_within, get_or_
 use Rattle.std.proofs.Math.Seq.{take-append-add}
 use Rattle.afdx_table.specs.Content.{Content}
 use Rattle.afdx_table.specs.Text.{table_of}
-use Rattle.afdx_table.specs.WellFormed.{IsWellFormed, TablesAreWellFormed}
+use Rattle.afdx_table.specs.WellFormed.{TablesAreWellFormed}
 use Rattle.afdx_table.specs.declared.fault.TableFault.{TableFault}
-use Rattle.afdx_session.specs.Texts.{Text, texts_of}
+use Rattle.afdx_session.specs.Texts.{Text}
 use Rattle.afdx_session.specs.Outcome.{Results}
 use Rattle.afdx_wiring.specs.File.{Switch}
 use Rattle.afdx_wiring.specs.Net.{Network}
@@ -28,9 +28,9 @@ use Rattle.afdx_words.specs.declared.request.NetworkPaths.{NetworkPaths}
 use Rattle.afdx_serve.specs.declared.network_failure.NetworkFailure.TheVariants as network
 use Rattle.afdx_serve.specs.declared.failure.Failure.{Failure}
 use Rattle.afdx_serve.specs.declared.failure.Failure.TheVariants as failure
-use Rattle.afdx_serve.specs.Files.{Files, with_file, with_files, ShowsAll, KeepsFiles, PutsFiles, DeviceLog, one_more}
+use Rattle.afdx_serve.specs.Files.{Files, with_file, with_files, KeepsFiles, PutsFiles, DeviceLog, one_more}
 use Rattle.afdx_serve.specs.Runs.{capture_name, names_in, bytes_of, report_in, StopsAt, FailsToPut}
-use Rattle.afdx_serve.specs.Networks.{names_of, HasNetwork, FailsToAcceptNetwork}
+use Rattle.afdx_serve.specs.Networks.{names_of, HasNetwork}
 use Rattle.afdx_serve.specs.NetworkRuns.{switch_folder, names_at, bytes_at, captures_of, reports_of, HasGiven, LeadsToNetwork, GetsGiven, FailsToGetGiven, FailsToLeadNetwork, StopsNetwork}
 use Rattle.afdx_serve.specs.Serving.{world, PutsNetwork, FailsToRunNetwork}
 use Rattle.afdx_serve.specs.Inner.NetworkRunning.{names_by, held_names, AreAsMany, FailsToLeadGiven}

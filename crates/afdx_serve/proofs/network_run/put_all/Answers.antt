@@ -1,4 +1,4 @@
-use Rattle.std.proofs.Common.{rules, ◌≡◌, ◌∙◌, ◌<◌, ℕ, List, Vec, String, Global, length, get_or, sym, ap, arith}
+use Rattle.std.proofs.Common.{rules, ◌∙◌, ◌<◌, ℕ, List, Vec, String, Global, length, sym, ap, arith}
 use Rattle.std.proofs.lemmas.List.{length-map}
 use Rattle.afdx_session.specs.Texts.{Text, texts_of}
 use Rattle.afdx_session.specs.Outcome.{Results}

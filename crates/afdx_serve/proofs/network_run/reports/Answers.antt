@@ -1,7 +1,6 @@
 use Rattle.std.proofs.Common.{rules, ◌≡◌, ◌∙◌, ◌<◌, length, map, get_or, string_bytes, sym, ap}
 use Rattle.std.proofs.lemmas.List.{length-map}
 use Rattle.afdx_session.specs.Outcome.{Results}
-use Rattle.afdx_ways.specs.Lines.{name_of, report_of}
 use Rattle.afdx_serve.specs.Runs.{report_in}
 use Rattle.afdx_serve.proofs.NetworkRunLemmas.{no_reports, one_more_report}
 use Rattle.afdx_serve.proofs.network_run.reports.Goals as goal
