@@ -21,7 +21,7 @@ loop-port-init g c = record {
 pub offer_to-answer-requires-clause-can : goal.offer_to-answer-requires-clause-can
 offer_to-answer-requires-clause-can g c =
     can_next c.args.item.now c.args.to.now c.loop-port.port-index c.args.output_ports.now c.loop-port.output_ports (omega (arith, c.loop-port-test.true)) c.requires.distinct
-        c.loop-port.invariant.became
+    c.loop-port.invariant.became
     c.loop-port.invariant.later c.requires.can
 
 pub offer_to-answer-requires-clause-once : goal.offer_to-answer-requires-clause-once
