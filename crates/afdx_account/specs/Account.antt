@@ -1,8 +1,8 @@
 -- What contracts see of an account.
 use Rattle.std.specs.Prelude.{ℕ, ◌-◌}
 use Rattle.afdx_units.specs.declared.line.Speed.{Speed}
-use Rattle.afdx_account.specs.declared.byte.ByteAccount.{ByteAccount}
-use Rattle.afdx_account.specs.declared.frames.FrameAccount.{FrameAccount}
+use Rattle.afdx_account.specs.declared.byte_account.ByteAccount.{ByteAccount}
+use Rattle.afdx_account.specs.declared.frame_account.FrameAccount.{FrameAccount}
 use Rattle.afdx_account.specs.declared.account.Account.{Account}
 use Rattle.afdx_account.specs.declared.account.Account.TheVariants as by
 use Rattle.afdx_account.specs.Policing.{Terms, byte_terms, byte_weight, frame_terms, frame_weight}

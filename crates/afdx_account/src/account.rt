@@ -5,8 +5,8 @@ ghost use Rattle.afdx_units.specs.declared.line.Speed.{Speed};
 ghost use Rattle.afdx_account.specs.Policing.{terms_by, weight_by};
 ghost use Rattle.afdx_account.specs.Level.{Stands};
 
-use crate::byte::ByteAccount;
-use crate::frames::FrameAccount;
+use crate::byte_account::ByteAccount;
+use crate::frame_account::FrameAccount;
 use crate::meter::Meter;
 use afdx_units::{Bag, Police, Speed, Stamp};
 

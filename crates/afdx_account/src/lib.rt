@@ -6,17 +6,17 @@
 #![tactic(auto)]
 
 mod account;
-mod byte;
+mod byte_account;
 mod frame;
-mod frames;
+mod frame_account;
 pub mod laws;
 mod meter;
 mod too_early;
 
 pub use account::Account;
-pub use byte::ByteAccount;
+pub use byte_account::ByteAccount;
 pub use frame::Frame;
-pub use frames::FrameAccount;
+pub use frame_account::FrameAccount;
 pub use meter::Meter;
 pub use too_early::early_by;
 

@@ -25,7 +25,7 @@ use Rattle.afdx_isolation.specs.Arrivals.{own, joins, feed_after, feed_of as off
 use Rattle.afdx_isolation.specs.Table.{flows_at, IsCleanIn, OffersWhatThePolicingPasses, AcceptedTablesIsolate as TablesIsolate, BuffersHoldTheBacklog as TablesHoldTheBacklog, ArriveAt}
 use Rattle.afdx_isolation.specs.Table.{IsIsolatedAt, settings_of}
 use Rattle.afdx_load.specs.Sums.{terms_of, load_of}
-use Rattle.afdx_core.specs.declared.kinds.Row.{Row}
+use Rattle.afdx_core.specs.declared.step.Row.{Row}
 use Rattle.afdx_core.specs.Rows.{frame_of, account_frames, says_clean, passes, named, item_of, copies_by, copies, each_after, feed_of}
 use Rattle.afdx_core.specs.State.{Run, port_in}
 use Rattle.afdx_core.specs.Agreement.{frame_in}

@@ -10,7 +10,7 @@ use Rattle.afdx_table.specs.declared.rows.PortRow.{PortRow}
 use Rattle.afdx_port.specs.declared.Item.{Item}
 use Rattle.afdx_port.specs.Admission.{AdmittedInOrder}
 use Rattle.afdx_isolation.specs.Table.{settings_of}
-use Rattle.afdx_core.specs.declared.kinds.Row.{Row}
+use Rattle.afdx_core.specs.declared.step.Row.{Row}
 use Rattle.afdx_core.specs.Rows.{frame_of, named, passes, item_of, copies_by, copies, each_after, feed_of}
 use Rattle.afdx_core.specs.State.{Run, admitted_in}
 use Rattle.afdx_core.specs.Isolation.{IsRun}

@@ -14,7 +14,7 @@ use Rattle.afdx_account.specs.Level.{Stands, PassesWhatConforms}
 use Rattle.afdx_account.specs.Account.{account_terms, account_since, account_level}
 use Rattle.afdx_account.specs.declared.account.Account.{Account}
 use Rattle.afdx_load.specs.Sums.{terms_of}
-use Rattle.afdx_core.specs.declared.kinds.Row.{Row}
+use Rattle.afdx_core.specs.declared.step.Row.{Row}
 use Rattle.afdx_core.specs.Rows.{frame_of, account_frames, says_clean, passes}
 use Rattle.afdx_core.specs.Kept.{AccountStands, AccountsStand, Polices}
 use Rattle.afdx_core.proofs.Feeds.{account-same, account-other}

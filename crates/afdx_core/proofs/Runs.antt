@@ -20,9 +20,9 @@ use Rattle.afdx_port.specs.declared.Offer.{Offer}
 use Rattle.afdx_port.specs.declared.Offer.TheVariants.{Queued, Full}
 use Rattle.afdx_port.specs.Admission.{admit, admitted, fits}
 use Rattle.afdx_isolation.specs.Table.{settings_of}
-use Rattle.afdx_core.specs.declared.kinds.Row.{Row}
-use Rattle.afdx_core.specs.declared.kinds.CoreFault.{CoreFault}
-use Rattle.afdx_core.specs.declared.kinds.CoreFault.TheVariants.{NoSuchPort, Earlier}
+use Rattle.afdx_core.specs.declared.step.Row.{Row}
+use Rattle.afdx_core.specs.declared.step.CoreFault.{CoreFault}
+use Rattle.afdx_core.specs.declared.step.CoreFault.TheVariants.{NoSuchPort, Earlier}
 use Rattle.afdx_core.specs.Rows.{row_of, frame_of, named, passes, item_of, feed_of}
 use Rattle.afdx_core.specs.Handling.{Handling}
 use Rattle.afdx_core.specs.Held.{IsTaken, IsRefused, IsNext, IsAppended}

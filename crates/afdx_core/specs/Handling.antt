@@ -1,7 +1,7 @@
 -- What a switch did with an arrival.
 use Rattle.std.specs.Prelude.{ℕ, List}
 use Rattle.afdx_port.specs.declared.Offer.{Offer}
-use Rattle.afdx_core.specs.declared.kinds.Fate.{Fate}
+use Rattle.afdx_core.specs.declared.step.Fate.{Fate}
 
 pub record Handling : Type 0 where
   -- the arrivals before it

@@ -18,7 +18,7 @@ use Rattle.afdx_isolation.specs.Arrivals.{own}
 use Rattle.afdx_port.specs.Admission.{AllFitIn}
 use Rattle.afdx_isolation.specs.Table.{settings_of, IsInBoundAt}
 use Rattle.afdx_load.specs.Sums.{terms_of, load_of}
-use Rattle.afdx_core.specs.declared.kinds.Row.{Row}
+use Rattle.afdx_core.specs.declared.step.Row.{Row}
 use Rattle.afdx_core.specs.Rows.{row_of, frame_of, account_frames, named, item_of, each_after, feed_of}
 use Rattle.afdx_core.specs.State.{Run, fresh_run, port_in, sent_in, aged_in, refusal_of, offers_of, after_row, after_advance, after_handing, after_finish}
 use Rattle.afdx_core.specs.Agreement.{frame_in}

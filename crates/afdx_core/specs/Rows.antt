@@ -13,9 +13,9 @@ use Rattle.afdx_account.specs.declared.frame.Frame.{Frame}
 use Rattle.afdx_account.specs.Policing.{conforms, passed_frames}
 use Rattle.afdx_port.specs.declared.Item.{Item}
 use Rattle.afdx_load.specs.Sums.{terms_of}
-use Rattle.afdx_core.specs.declared.kinds.Row.{Row}
-use Rattle.afdx_core.specs.declared.kinds.Fate.{Fate}
-use Rattle.afdx_core.specs.declared.kinds.Fate.TheVariants.{Filtered, Policed, Passed}
+use Rattle.afdx_core.specs.declared.step.Row.{Row}
+use Rattle.afdx_core.specs.declared.step.Fate.{Fate}
+use Rattle.afdx_core.specs.declared.step.Fate.TheVariants.{Filtered, Policed, Passed}
 
 -- the row of a frame that came in at a port
 abbrev pub row_of : Content → ℕ → Entry → Row

@@ -13,9 +13,9 @@ use Rattle.afdx_port.specs.Admission.{admitted}
 use Rattle.afdx_port.specs.Service.{sent_of, aged_of}
 use Rattle.afdx_port.specs.Content.{Content as PortContent, done, answer}
 use Rattle.afdx_isolation.specs.Table.{settings_of}
-use Rattle.afdx_core.specs.declared.kinds.Row.{Row}
-use Rattle.afdx_core.specs.declared.kinds.CoreFault.{CoreFault}
-use Rattle.afdx_core.specs.declared.kinds.CoreFault.TheVariants.{NoSuchPort, Earlier}
+use Rattle.afdx_core.specs.declared.step.Row.{Row}
+use Rattle.afdx_core.specs.declared.step.CoreFault.{CoreFault}
+use Rattle.afdx_core.specs.declared.step.CoreFault.TheVariants.{NoSuchPort, Earlier}
 use Rattle.afdx_core.specs.Handling.{Handling}
 use Rattle.afdx_core.specs.Rows.{named, passes, item_of, fate_of, feed_of}
 

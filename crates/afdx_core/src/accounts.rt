@@ -5,7 +5,7 @@ ghost use Rattle.afdx_account.specs.declared.account.Account.{Account};
 ghost use Rattle.afdx_account.specs.Account.{account_since};
 ghost use Rattle.afdx_core.specs.Kept.{AccountsStand, Polices};
 
-use crate::kinds::Row;
+use crate::step::Row;
 use afdx_account::{Account, Meter};
 use afdx_table::Table;
 use std::alloc::{AllocError, Allocator};

@@ -14,12 +14,12 @@
 mod accounts;
 mod dues;
 mod engine;
-mod kinds;
+mod step;
 pub mod laws;
 mod log;
 mod output_port;
 mod switch;
 
 pub use accounts::{accounts_of, police};
-pub use kinds::{CoreFault, Fate, Row, Step};
+pub use step::{CoreFault, Fate, Row, Step};
 pub use switch::{Done, Switch};

@@ -20,8 +20,8 @@ use Rattle.afdx_port.specs.declared.Aged.{Aged}
 use Rattle.afdx_port.specs.declared.Item.{Item}
 use Rattle.afdx_port.specs.declared.Offer.{Offer}
 use Rattle.afdx_port.specs.Service.{Event, sent_of, aged_of}
-use Rattle.afdx_core.specs.declared.kinds.Row.{Row}
-use Rattle.afdx_core.specs.declared.kinds.Fate.TheVariants.{Passed, Policed}
+use Rattle.afdx_core.specs.declared.step.Row.{Row}
+use Rattle.afdx_core.specs.declared.step.Fate.TheVariants.{Passed, Policed}
 use Rattle.afdx_core.specs.Rows.{each_after, fates_of, feed_of, fate_of, fate_by, named, passes, item_of, copies_by, copies}
 use Rattle.afdx_core.specs.State.{Run, answer_of, offers_by, offers_of, handling_of, sent_in, aged_in, after_finish}
 use Rattle.afdx_isolation.specs.Table.{settings_of}

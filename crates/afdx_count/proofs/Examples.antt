@@ -11,7 +11,7 @@ use Rattle.afdx_table.specs.Content.{Content}
 use Rattle.afdx_filter.specs.declared.outcome.Verdict.{Verdict}
 use Rattle.afdx_filter.specs.declared.outcome.Verdict.TheVariants.{Cut, Short, Clean}
 use Rattle.afdx_port.specs.Service.{next, others, reach}
-use Rattle.afdx_core.specs.declared.kinds.Row.{Row}
+use Rattle.afdx_core.specs.declared.step.Row.{Row}
 use Rattle.afdx_core.specs.Rows.{account_frames, passes, fates_of, feed_of}
 use Rattle.afdx_isolation.specs.Table.{settings_of}
 use Rattle.afdx_count.specs.declared.counters.OutCount.{OutCount}

@@ -8,7 +8,7 @@ use Rattle.afdx_units.specs.declared.line.Priority.{Priority}
 use Rattle.afdx_units.specs.declared.line.Priority.TheVariants.{High, Low}
 use Rattle.afdx_filter.specs.declared.outcome.Verdict.{Verdict}
 use Rattle.afdx_port.specs.declared.Offer.{Offer}
-use Rattle.afdx_core.specs.declared.kinds.Fate.TheVariants.{Filtered}
+use Rattle.afdx_core.specs.declared.step.Fate.TheVariants.{Filtered}
 use Rattle.afdx_core.specs.Handling.{Handling}
 use Rattle.afdx_core.specs.State.{Run}
 use Rattle.afdx_count.specs.declared.counters.OutCount.{OutCount}

@@ -12,9 +12,9 @@ use Rattle.afdx_port.specs.declared.Item.{Item}
 use Rattle.afdx_port.specs.Service.{Event, sending, aging, item_of, service, sent_of, aged_of}
 use Rattle.afdx_port.specs.Admission.{fits, admit, admit_all, admitted}
 use Rattle.afdx_port.specs.Inner.Events.{EachHasOneEvent}
-use Rattle.afdx_core.specs.declared.kinds.Row.{Row}
-use Rattle.afdx_core.specs.declared.kinds.Fate.{Fate}
-use Rattle.afdx_core.specs.declared.kinds.Fate.TheVariants.{Passed, Policed}
+use Rattle.afdx_core.specs.declared.step.Row.{Row}
+use Rattle.afdx_core.specs.declared.step.Fate.{Fate}
+use Rattle.afdx_core.specs.declared.step.Fate.TheVariants.{Passed, Policed}
 use Rattle.afdx_core.specs.Rows.{each_after, fates_of, fate_of, fate_by, named, passes, says_clean, own_frames}
 use Rattle.afdx_count.specs.Counting.{greatest, capped, is_of}
 use Rattle.afdx_count.specs.Run.{is_cut, is_short, is_long, is_foreign, has_no_link, is_at_wrong_port, is_too_big, is_clean, is_passed, is_policed, turned_away}

@@ -11,9 +11,9 @@ use Rattle.afdx_port.specs.declared.Settings.{Settings}
 use Rattle.afdx_port.specs.declared.Item.{Item}
 use Rattle.afdx_port.specs.Service.{Event, service, sent_of, aged_of}
 use Rattle.afdx_port.specs.Admission.{fits, admitted}
-use Rattle.afdx_core.specs.declared.kinds.Row.{Row}
-use Rattle.afdx_core.specs.declared.kinds.Fate.{Fate}
-use Rattle.afdx_core.specs.declared.kinds.Fate.TheVariants.{Filtered, Policed, Passed}
+use Rattle.afdx_core.specs.declared.step.Row.{Row}
+use Rattle.afdx_core.specs.declared.step.Fate.{Fate}
+use Rattle.afdx_core.specs.declared.step.Fate.TheVariants.{Filtered, Policed, Passed}
 use Rattle.afdx_core.specs.Handling.{Handling}
 use Rattle.afdx_core.specs.Rows.{each_after, fates_of, feed_of}
 use Rattle.afdx_core.specs.State.{Run, handling_of}

@@ -6,8 +6,8 @@ use Rattle.afdx_table.specs.declared.rows.PortRow.{PortRow}
 use Rattle.afdx_table.specs.Link.{Link}
 use Rattle.afdx_table.specs.Content.{Content, port_row}
 use Rattle.afdx_port.specs.declared.Offer.{Offer}
-use Rattle.afdx_core.specs.declared.kinds.Fate.{Fate}
-use Rattle.afdx_core.specs.declared.kinds.Fate.TheVariants.{Filtered, Policed, Passed}
+use Rattle.afdx_core.specs.declared.step.Fate.{Fate}
+use Rattle.afdx_core.specs.declared.step.Fate.TheVariants.{Filtered, Policed, Passed}
 use Rattle.afdx_core.specs.Handling.{Handling}
 use Rattle.afdx_core.specs.State.{Run, sent_in, aged_in}
 use Rattle.afdx_count.specs.declared.counters.InCount.{InCount}

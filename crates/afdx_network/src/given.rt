@@ -9,7 +9,7 @@ ghost use Rattle.afdx_network.specs.Given.{given_of, is_open, AreOpen, IsGivenAt
 ghost use Rattle.afdx_network.specs.Inner.Sites.{ComesIn};
 
 use crate::fault::NetworkRunFault;
-use crate::sites::Texts;
+use crate::site::Texts;
 use afdx_pcap::{PcapFault, read_all, write_header};
 use afdx_table::Table;
 use afdx_wiring::{End, Network};

@@ -12,8 +12,8 @@ pub mod laws;
 mod order;
 mod rounds;
 mod running;
-mod sites;
+mod site;
 
 pub use fault::NetworkRunFault;
 pub use running::run;
-pub use sites::Texts;
+pub use site::Texts;

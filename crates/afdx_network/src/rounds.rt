@@ -10,7 +10,7 @@ ghost use Rattle.afdx_network.specs.Inner.Sites.{AreSites, IsBrought, Agrees, Ha
 use crate::carrying::carry;
 use crate::fault::NetworkRunFault;
 use crate::given::first_texts;
-use crate::sites::{Site, Texts};
+use crate::site::{Site, Texts};
 use afdx_pcap::PcapFault;
 use afdx_pcap::laws::each_file_has_one_reading;
 use afdx_session::Outcome;

@@ -9,7 +9,7 @@ use crate::fault::NetworkRunFault;
 use crate::given::{check_captures, check_ports};
 use crate::order::order_of;
 use crate::rounds::{outcomes_of, rests, round, sites_of};
-use crate::sites::Texts;
+use crate::site::Texts;
 use afdx_session::Outcome;
 use afdx_wiring::ClearedNetwork;
 use std::alloc::Global;

@@ -3,8 +3,8 @@ use Rattle.std.proofs.Common.{◌≢◌, ℕ, List, Option, None, inl, inr}
 use Rattle.std.specs.Prelude.{◌⊎◌}
 use Rattle.afdx_wiring.specs.declared.fault.NetworkFault.{NetworkFault}
 use Rattle.afdx_wiring.specs.declared.fault.NetworkFault.TheVariants as fault
-use Rattle.afdx_words.specs.declared.request.NetworkRequest.{NetworkRequest}
-use Rattle.afdx_words.specs.declared.request.NetworkRequest.TheVariants as ask
+use Rattle.afdx_arguments.specs.declared.request.NetworkRequest.{NetworkRequest}
+use Rattle.afdx_arguments.specs.declared.request.NetworkRequest.TheVariants as ask
 use Rattle.afdx_serve.specs.declared.network_failure.NetworkFailure.TheVariants as network
 use Rattle.afdx_serve.specs.declared.failure.Failure.{Failure}
 use Rattle.afdx_serve.specs.declared.failure.Failure.TheVariants as failure

@@ -24,7 +24,7 @@ use Rattle.afdx_network.specs.Runs.{SwitchRun, Given, IsRunOf}
 use Rattle.afdx_network.specs.Given.{AreGiven}
 use Rattle.afdx_network.specs.Laws.{IsOfFile, NetworkRunsDeliver}
 use Rattle.afdx_ways.specs.Lines.{Names, name_of, report_of}
-use Rattle.afdx_words.specs.declared.request.NetworkPaths.{NetworkPaths}
+use Rattle.afdx_arguments.specs.declared.request.NetworkPaths.{NetworkPaths}
 use Rattle.afdx_serve.specs.declared.network_failure.NetworkFailure.TheVariants as network
 use Rattle.afdx_serve.specs.declared.failure.Failure.{Failure}
 use Rattle.afdx_serve.specs.declared.failure.Failure.TheVariants as failure

@@ -4,7 +4,7 @@ use Rattle.std.specs.Prelude.{filter, IsTrue, OnOk, MatchResult}
 use Rattle.std.specs.Io.KnownBytes.{Appends}
 use Rattle.std.proofs.KnownBytes.{Appends-nil, Appends-trans}
 use Rattle.std.proofs.lemmas.List.Elements.{filter-append}
-use Rattle.afdx_account.specs.declared.byte.ByteAccount.{ByteAccount}
+use Rattle.afdx_account.specs.declared.byte_account.ByteAccount.{ByteAccount}
 use Rattle.afdx_account.specs.Policing.{Terms, conforms, passed_of}
 use Rattle.afdx_pcap.specs.Entry.{Entry}
 use Rattle.afdx_pcap.specs.declared.fault.PcapFault.{PcapFault}
@@ -14,7 +14,7 @@ use Rattle.afdx_pcap.specs.Capture.{IsCapture}
 use Rattle.afdx_pcap.specs.Reading.{Reading, whole_reading, Taking, HasTaken, HasNext, IsNext, IsSound, taken_in}
 use Rattle.afdx_pcap.specs.Reading as reading
 use Rattle.afdx_pcap.specs.Text.{capture_text, record_text}
-use Rattle.afdx_words.specs.declared.link.Alone.{Alone}
+use Rattle.afdx_arguments.specs.declared.alone.Alone.{Alone}
 use Rattle.afdx_serve.specs.Own.{is_own}
 use Rattle.afdx_serve.specs.Inner.Offer.{IsOffered}
 use Rattle.afdx_serve.specs.Answer.{IsAnswer, frame_of, terms_of, passed_of_link}

@@ -3,7 +3,7 @@ use Rattle.std.proofs.Common.{◌≡◌, ◌≢◌, ℕ, ◌≤◌, Bool, true, 
 use Rattle.std.specs.Prelude.{filter, IsTrue}
 use Rattle.std.proofs.lemmas.List.{map-append}
 use Rattle.std.proofs.lemmas.List.Elements.{filter-append}
-use Rattle.afdx_account.specs.declared.byte.ByteAccount.{ByteAccount}
+use Rattle.afdx_account.specs.declared.byte_account.ByteAccount.{ByteAccount}
 use Rattle.afdx_account.specs.declared.frame.Frame.{Frame}
 use Rattle.afdx_account.specs.Account.{byte_account_terms, byte_account_since, byte_account_level}
 use Rattle.afdx_account.specs.Policing.{Terms, conforms, passed_of}
@@ -15,7 +15,7 @@ use Rattle.afdx_pcap.specs.Fault.{IsFault, last_stamp}
 use Rattle.afdx_pcap.specs.Capture.{IsCapture}
 use Rattle.afdx_pcap.specs.Reading.{HasTaken, IsNext, IsSound, Taking, taking_on}
 use Rattle.afdx_pcap.specs.Text.{capture_text, record_text}
-use Rattle.afdx_words.specs.declared.link.Alone.{Alone}
+use Rattle.afdx_arguments.specs.declared.alone.Alone.{Alone}
 use Rattle.afdx_serve.specs.Own.{is_own}
 use Rattle.afdx_serve.specs.Faults.{IsFaultOf, fault_of}
 use Rattle.afdx_serve.specs.Inner.Offer.{IsOffered}

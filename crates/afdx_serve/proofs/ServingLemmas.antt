@@ -1,10 +1,10 @@
 -- What was served, and why words were not served.
 use Rattle.std.proofs.Common.{ℕ, List, Option, Result, Ok, Err, sym, subst, inl, inr}
 use Rattle.std.specs.Prelude.{MatchResult}
-use Rattle.afdx_words.specs.declared.request.NetworkRequest.{NetworkRequest}
-use Rattle.afdx_words.specs.declared.request.Request.{Request}
-use Rattle.afdx_words.specs.declared.request.Request.TheVariants as request
-use Rattle.afdx_words.specs.Requests.{Asks}
+use Rattle.afdx_arguments.specs.declared.request.NetworkRequest.{NetworkRequest}
+use Rattle.afdx_arguments.specs.declared.request.Request.{Request}
+use Rattle.afdx_arguments.specs.declared.request.Request.TheVariants as request
+use Rattle.afdx_arguments.specs.Requests.{Asks}
 use Rattle.afdx_serve.specs.declared.failure.Failure.{Failure}
 use Rattle.afdx_serve.specs.declared.failure.Failure.TheVariants as failure
 use Rattle.afdx_serve.specs.Lines.{TellsOf, IsMade}

@@ -6,7 +6,7 @@ use Rattle.afdx_account.specs.Policing.{Terms, byte_terms, passed_of}
 use Rattle.afdx_pcap.specs.Entry.{Entry}
 use Rattle.afdx_pcap.specs.Capture.{IsCapture}
 use Rattle.afdx_pcap.specs.Text.{capture_text}
-use Rattle.afdx_words.specs.declared.link.Alone.{Alone}
+use Rattle.afdx_arguments.specs.declared.alone.Alone.{Alone}
 use Rattle.afdx_serve.specs.Own.{is_own}
 
 -- a captured frame, as an account sees it

@@ -11,7 +11,7 @@ use Rattle.afdx_network.specs.Way.{Stage, Step, IsDelivered}
 use Rattle.afdx_network.specs.Ways.{IsWayIn}
 use Rattle.afdx_network.specs.declared.fault.NetworkRunFault.TheVariants as run
 use Rattle.afdx_ways.specs.Lines.{Names, name_of, report_of}
-use Rattle.afdx_words.specs.declared.request.NetworkPaths.{NetworkPaths}
+use Rattle.afdx_arguments.specs.declared.request.NetworkPaths.{NetworkPaths}
 use Rattle.afdx_serve.specs.declared.network_failure.NetworkFailure.TheVariants as network
 use Rattle.afdx_serve.specs.declared.failure.Failure.{Failure}
 use Rattle.afdx_serve.specs.declared.failure.Failure.TheVariants as failure

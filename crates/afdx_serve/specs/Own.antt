@@ -4,7 +4,7 @@ use Rattle.std.specs.Str.{bytes_eq}
 use Rattle.afdx_frame.specs.Address.{constant_of, link_of}
 use Rattle.afdx_units.specs.Line.{size_of}
 use Rattle.afdx_pcap.specs.Entry.{Entry}
-use Rattle.afdx_words.specs.declared.link.Alone.{Alone}
+use Rattle.afdx_arguments.specs.declared.alone.Alone.{Alone}
 
 -- profile: the constant field of every link
 abbrev pub constant : List ℕ

@@ -2,12 +2,12 @@
 use Rattle.std.specs.Prelude.{string_bytes, Some, None, ◌≡◌, ◌⊎◌, ℕ, List, Option, IfSome}
 use Rattle.std.specs.Io.KnownBytes.{Appends, Keeps}
 use Rattle.afdx_pcap.specs.Fault.{IsFault}
-use Rattle.afdx_words.specs.declared.link.Alone.{Alone}
-use Rattle.afdx_words.specs.declared.request.Paths.{Paths}
-use Rattle.afdx_words.specs.declared.request.Inputs.{Inputs}
-use Rattle.afdx_words.specs.declared.request.Request.{Request}
-use Rattle.afdx_words.specs.declared.request.Request.TheVariants as request
-use Rattle.afdx_words.specs.Requests.{Asks, AskForHelp, AreRefused}
+use Rattle.afdx_arguments.specs.declared.alone.Alone.{Alone}
+use Rattle.afdx_arguments.specs.declared.request.Paths.{Paths}
+use Rattle.afdx_arguments.specs.declared.request.Inputs.{Inputs}
+use Rattle.afdx_arguments.specs.declared.request.Request.{Request}
+use Rattle.afdx_arguments.specs.declared.request.Request.TheVariants as request
+use Rattle.afdx_arguments.specs.Requests.{Asks, AskForHelp, AreRefused}
 use Rattle.afdx_serve.specs.declared.failure.Failure.{Failure}
 use Rattle.afdx_serve.specs.declared.failure.Failure.TheVariants as failure
 use Rattle.afdx_serve.specs.Answer.{IsAnswer}
@@ -19,9 +19,9 @@ use Rattle.afdx_wiring.specs.Net.{Network}
 use Rattle.afdx_wiring.specs.Rules.{IsAcceptedNetwork}
 use Rattle.afdx_wiring.specs.declared.fault.Short.{Short}
 use Rattle.afdx_wiring.specs.declared.fault.NetworkFault.TheVariants.{NoJitter}
-use Rattle.afdx_words.specs.declared.request.NetworkPaths.{NetworkPaths}
-use Rattle.afdx_words.specs.declared.request.NetworkRequest.{NetworkRequest}
-use Rattle.afdx_words.specs.declared.request.NetworkRequest.TheVariants as ask
+use Rattle.afdx_arguments.specs.declared.request.NetworkPaths.{NetworkPaths}
+use Rattle.afdx_arguments.specs.declared.request.NetworkRequest.{NetworkRequest}
+use Rattle.afdx_arguments.specs.declared.request.NetworkRequest.TheVariants as ask
 use Rattle.afdx_serve.specs.Networks.{names_of, HasNetwork, IsRefused, FailsToGetNetwork, FailsToAcceptNetwork}
 use Rattle.afdx_serve.specs.NetworkChecks.{IsNetworkCheck}
 use Rattle.afdx_serve.specs.NetworkJitters.{JittersAre, FailsToFit}

@@ -12,7 +12,7 @@ use crate::folder::Folder;
 use crate::get::{get_captures, get_table};
 use afdx_session::Plan;
 use afdx_table::Table;
-use afdx_words::{Inputs, Paths};
+use afdx_arguments::{Inputs, Paths};
 use std::alloc::Global;
 
 /// What a run is made of, beside where it goes.

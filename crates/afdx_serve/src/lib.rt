@@ -37,7 +37,7 @@ mod telling;
 mod trace;
 mod whole_file;
 
-pub use afdx_words::Alone;
+pub use afdx_arguments::Alone;
 pub use device_log::DeviceLog;
 pub use disk::Disk;
 pub use failure::Failure;

@@ -14,7 +14,7 @@ use crate::gathering::gather;
 use crate::output::write_bytes;
 use afdx_measure::laws::accepted_tables_stay_within_the_load;
 use afdx_session::Plan;
-use afdx_words::Inputs;
+use afdx_arguments::Inputs;
 use std::alloc::Global;
 use std::io::Write;
 

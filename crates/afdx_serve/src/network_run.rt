@@ -29,7 +29,7 @@ use afdx_table::laws::tables_are_well_formed;
 use afdx_ways::{name_of, push_report};
 use afdx_wiring::laws::layouts_are_within_limits;
 use afdx_wiring::{ClearedNetwork, End, Network};
-use afdx_words::NetworkPaths;
+use afdx_arguments::NetworkPaths;
 use std::alloc::{AllocError, Global};
 use std::io::Write;
 

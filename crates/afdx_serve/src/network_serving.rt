@@ -8,7 +8,7 @@ use crate::folder::Folder;
 use crate::network_check::network_check;
 use crate::network_jitter::network_jitter;
 use crate::network_run::network_run;
-use afdx_words::NetworkRequest;
+use afdx_arguments::NetworkRequest;
 use std::alloc::Global;
 use std::io::Write;
 

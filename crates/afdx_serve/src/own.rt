@@ -7,7 +7,7 @@ ghost use Rattle.afdx_serve.specs.Own.{is_addressed, is_own};
 use afdx_frame::view;
 use afdx_pcap::Record;
 use afdx_units::size;
-use afdx_words::{Alone, GREATEST_SIZE, LEAST_SIZE};
+use afdx_arguments::{Alone, GREATEST_SIZE, LEAST_SIZE};
 use std::alloc::Allocator;
 
 /// The constant field of every link (profile).

@@ -24,7 +24,7 @@ use afdx_pcap::laws::{
     taken_records_begin_the_capture,
 };
 use afdx_pcap::{PcapFault, Reader, Record, write_header, write_record};
-use afdx_words::Alone;
+use afdx_arguments::Alone;
 use std::alloc::{AllocError, Allocator};
 use std::io::Write;
 use thiserror::Error;

@@ -16,7 +16,7 @@ use crate::output::write_bytes;
 use crate::put::put_outputs;
 use afdx_session::laws::accepted_runs_isolate;
 use afdx_session::{Carried, Plan};
-use afdx_words::Paths;
+use afdx_arguments::Paths;
 use std::alloc::{AllocError, Global};
 use std::io::Write;
 

@@ -20,7 +20,7 @@ use crate::run::run;
 use crate::size::size;
 use crate::telling::report;
 use crate::trace::trace;
-use afdx_words::{Alone, NoRequest, Request, parse};
+use afdx_arguments::{Alone, NoRequest, Request, parse};
 use std::alloc::Global;
 use std::io::{Read, Write};
 

@@ -14,7 +14,7 @@ use crate::folder::Folder;
 use crate::gathering::{gather, inputs_of};
 use crate::put::put;
 use afdx_session::Plan;
-use afdx_words::Paths;
+use afdx_arguments::Paths;
 use std::alloc::{AllocError, Global};
 use std::marker::Model;
 

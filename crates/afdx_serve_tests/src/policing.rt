@@ -4,7 +4,7 @@ use crate::growths::{Calls, Memory, growths};
 use afdx_pcap::PcapFault;
 use afdx_samples::{capture, large, small};
 use afdx_serve::{AloneFault, alone};
-use afdx_words::Alone;
+use afdx_arguments::Alone;
 use std::test::*;
 
 /// Link 10, which may send a large frame each millisecond.

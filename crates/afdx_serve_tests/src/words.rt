@@ -4,7 +4,7 @@
 use crate::fixtures::{LINK_10, answer, captured, split};
 use afdx_samples::{HEADER, Sample, capture};
 use afdx_serve::alone;
-use afdx_words::{Alone, Request, parse};
+use afdx_arguments::{Alone, Request, parse};
 use std::alloc::{AllocError, Global};
 use std::test::Fail;
 

@@ -16,7 +16,7 @@ use Rattle.afdx_port.specs.declared.Sent.{Sent}
 use Rattle.afdx_port.specs.Admission.{admit_all, admitted, fits}
 use Rattle.afdx_port.specs.Service.{Event, sending, aging, reach, next, others, free_after, serve, service, before, instant, sent_of}
 use Rattle.afdx_isolation.specs.Table.{settings_of}
-use Rattle.afdx_core.specs.declared.kinds.Row.{Row}
+use Rattle.afdx_core.specs.declared.step.Row.{Row}
 use Rattle.afdx_core.specs.Rows.{row_of, named, passes, item_of, copies_by, copies, each_after, feed_of}
 use Rattle.afdx_core.specs.State.{State}
 use Rattle.afdx_core.specs.Merge.{Arrival, arrivals_of, merged}

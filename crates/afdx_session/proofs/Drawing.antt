@@ -11,7 +11,7 @@ use Rattle.afdx_table.specs.Content.{Content}
 use Rattle.afdx_port.specs.declared.Sent.{Sent}
 use Rattle.afdx_port.specs.Inner.Order.{ReachesInOrder}
 use Rattle.afdx_port.specs.Course.{EventsAreInParts}
-use Rattle.afdx_core.specs.declared.kinds.Row.{Row}
+use Rattle.afdx_core.specs.declared.step.Row.{Row}
 use Rattle.afdx_core.specs.Handling.{Handling}
 use Rattle.afdx_core.specs.Rows.{row_of}
 use Rattle.afdx_core.specs.State.{Run, State, sent_in, place_of, next_by, after_advance, after_handing}

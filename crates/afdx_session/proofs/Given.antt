@@ -14,7 +14,7 @@ use Rattle.afdx_table.specs.Content.{Content, port_row}
 use Rattle.afdx_table.specs.WellFormed.{IsWellFormed}
 use Rattle.afdx_port.specs.Admission.{EarlierEventsStayAdmitted}
 use Rattle.afdx_port.specs.Inner.Order.{ReachesInOrder}
-use Rattle.afdx_core.specs.declared.kinds.Row.{Row}
+use Rattle.afdx_core.specs.declared.step.Row.{Row}
 use Rattle.afdx_core.specs.Handling.{Handling}
 use Rattle.afdx_core.specs.Rows.{row_of}
 use Rattle.afdx_core.specs.State.{Run, State, refusal_of, handling_of, after_advance}

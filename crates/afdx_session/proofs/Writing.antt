@@ -11,7 +11,7 @@ use Rattle.afdx_port.specs.Content.{done}
 use Rattle.afdx_port.specs.Service.{sent_of}
 use Rattle.afdx_port.specs.Inner.Order.{ReachesInOrder}
 use Rattle.afdx_port.specs.Course.{EventsAreInParts}
-use Rattle.afdx_core.specs.declared.kinds.Row.{Row}
+use Rattle.afdx_core.specs.declared.step.Row.{Row}
 use Rattle.afdx_core.specs.State.{Run, State, sent_in, port_after, place_of, next_by, after_finish}
 use Rattle.afdx_core.specs.Held.{Keeps}
 use Rattle.afdx_core.specs.Merge.{Arrival, arrivals_of, by_stamp, merged}

@@ -11,8 +11,8 @@ use Rattle.afdx_account.specs.Level.{InOrder}
 use Rattle.afdx_account.specs.Policing.{passed_frames}
 use Rattle.afdx_account.specs.Early.{early_by}
 use Rattle.afdx_load.specs.Sums.{terms_of}
-use Rattle.afdx_core.specs.declared.kinds.Row.{Row}
-use Rattle.afdx_core.specs.declared.kinds.Fate.TheVariants.{Policed, Passed}
+use Rattle.afdx_core.specs.declared.step.Row.{Row}
+use Rattle.afdx_core.specs.declared.step.Fate.TheVariants.{Policed, Passed}
 use Rattle.afdx_core.specs.Rows.{named, fate_by, each_after, account_frames, frame_of}
 use Rattle.afdx_core.specs.State.{Run}
 use Rattle.afdx_trace.specs.Csv.{joined, optional}

@@ -19,7 +19,7 @@ use Rattle.afdx_account.specs.Level.{Stands}
 use Rattle.afdx_account.specs.Account.{account_terms, account_since, account_level}
 use Rattle.afdx_account.specs.Early.{TellsEarly, early_by}
 use Rattle.afdx_load.specs.Sums.{terms_of}
-use Rattle.afdx_core.specs.declared.kinds.Row.{Row}
+use Rattle.afdx_core.specs.declared.step.Row.{Row}
 use Rattle.afdx_core.specs.Rows.{named, account_frames, frame_of}
 use Rattle.afdx_core.specs.Kept.{AccountStands}
 

@@ -22,7 +22,7 @@ use Rattle.afdx_port.specs.Admission.{fits, admit, admit_all, admitted}
 use Rattle.afdx_port.specs.Content.{done}
 use Rattle.afdx_port.specs.Inner.Events.{EachHasOneEvent}
 use Rattle.afdx_isolation.specs.Table.{settings_of}
-use Rattle.afdx_core.specs.declared.kinds.Row.{Row}
+use Rattle.afdx_core.specs.declared.step.Row.{Row}
 use Rattle.afdx_core.specs.Rows.{each_after, named, passes, item_of, copies_by, copies, feed_of}
 use Rattle.afdx_core.specs.State.{Run, sent_in, aged_in, answer_of, offers_by}
 use Rattle.afdx_trace.specs.Arrivals.{took, refusing, full_in}

@@ -8,9 +8,9 @@ use Rattle.afdx_filter.specs.declared.outcome.Verdict.TheVariants.{Cut, Short, L
 use Rattle.afdx_account.specs.Policing.{passed_frames}
 use Rattle.afdx_account.specs.Early.{early_by}
 use Rattle.afdx_load.specs.Sums.{terms_of}
-use Rattle.afdx_core.specs.declared.kinds.Row.{Row}
-use Rattle.afdx_core.specs.declared.kinds.Fate.{Fate}
-use Rattle.afdx_core.specs.declared.kinds.Fate.TheVariants.{Filtered, Policed, Passed}
+use Rattle.afdx_core.specs.declared.step.Row.{Row}
+use Rattle.afdx_core.specs.declared.step.Fate.{Fate}
+use Rattle.afdx_core.specs.declared.step.Fate.TheVariants.{Filtered, Policed, Passed}
 use Rattle.afdx_core.specs.Rows.{each_after, named, passes, fate_of, account_frames, frame_of}
 use Rattle.afdx_core.specs.State.{Run, sent_in, aged_in}
 use Rattle.afdx_trace.specs.Csv.{field, joined, optional}

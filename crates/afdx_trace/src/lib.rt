@@ -8,7 +8,7 @@ mod arrival_lines;
 mod departure_lines;
 mod fields;
 pub mod laws;
-mod taken;
+mod flags;
 mod teller;
 
 pub use arrival_lines::arrivals;

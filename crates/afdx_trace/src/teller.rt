@@ -9,7 +9,7 @@ ghost use Rattle.afdx_trace.specs.Inner.Taken.{AreTaken};
 ghost use Rattle.afdx_trace.specs.Inner.Telling.{AreCounted, IsPassed, IsPoliced, Tells};
 
 use crate::fields::{put_number, put_optional, put_ports, put_word};
-use crate::taken::{Flags, all_taken, refusing};
+use crate::flags::{Flags, all_taken, refusing};
 use afdx_account::{Account, early_by};
 use afdx_core::laws::filtered_touch_no_account;
 use afdx_core::{Done, Row, accounts_of, police};

@@ -8,7 +8,7 @@ use Rattle.afdx_port.specs.declared.Settings.{Settings}
 use Rattle.afdx_port.specs.declared.Item.{Item}
 use Rattle.afdx_port.specs.Service.{service}
 use Rattle.afdx_port.specs.Admission.{admitted}
-use Rattle.afdx_core.specs.declared.kinds.Row.{Row}
+use Rattle.afdx_core.specs.declared.step.Row.{Row}
 use Rattle.afdx_core.specs.Rows.{own_frames, fates_of}
 use Rattle.afdx_core.specs.State.{Run, handling_of, after_finish}
 use Rattle.afdx_count.specs.declared.counters.InCount.{InCount}

@@ -1,6 +1,6 @@
 -- What the offer of a frame to an account answers, and what it makes of the account.
 use Rattle.std.specs.Prelude.{◌≡◌, Bool}
-use Rattle.afdx_account.specs.declared.byte.ByteAccount.{ByteAccount}
+use Rattle.afdx_account.specs.declared.byte_account.ByteAccount.{ByteAccount}
 use Rattle.afdx_account.specs.declared.frame.Frame.{Frame}
 use Rattle.afdx_account.specs.Account.{byte_account_terms, byte_account_since, byte_account_level}
 use Rattle.afdx_account.specs.Level.{PassesWhatConforms}

@@ -3,7 +3,7 @@ use Rattle.std.specs.Prelude.{◌≡◌, ℕ, Bool, true, false, List, ◌∷◌
 use Rattle.afdx_port.specs.declared.Offer.{Offer}
 use Rattle.afdx_port.specs.declared.Offer.TheVariants.{Queued, Full}
 use Rattle.afdx_port.specs.Content.{Content, done}
-use Rattle.afdx_core.specs.declared.kinds.Row.{Row}
+use Rattle.afdx_core.specs.declared.step.Row.{Row}
 use Rattle.afdx_core.specs.Rows.{named}
 use Rattle.afdx_core.specs.State.{Run, offers_of}
 use Rattle.afdx_trace.specs.Arrivals.{full_in}

@@ -5,7 +5,7 @@ use Rattle.afdx_table.specs.Content.{Content}
 use Rattle.afdx_account.specs.Policing.{passed_frames}
 use Rattle.afdx_account.specs.Early.{early_by}
 use Rattle.afdx_load.specs.Sums.{terms_of}
-use Rattle.afdx_core.specs.declared.kinds.Row.{Row}
+use Rattle.afdx_core.specs.declared.step.Row.{Row}
 use Rattle.afdx_core.specs.Rows.{named, passes, account_frames, frame_of}
 use Rattle.afdx_core.specs.State.{Run}
 use Rattle.afdx_core.specs.Kept.{AccountsStand}

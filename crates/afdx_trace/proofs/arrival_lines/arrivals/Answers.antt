@@ -1,5 +1,5 @@
 use Rattle.std.proofs.Common.{List, [], ◌++◌, take, string_bytes, sym, ap, ◌∙◌, subst, arith}
-use Rattle.afdx_core.specs.declared.kinds.Row.{Row}
+use Rattle.afdx_core.specs.declared.step.Row.{Row}
 use Rattle.afdx_core.specs.Rows.{each_after}
 use Rattle.afdx_trace.specs.Arrivals.{arrivals_heading, arrival_line}
 use Rattle.afdx_trace.specs.Inner.Telling.{Tells}

@@ -1,5 +1,5 @@
 use Rattle.std.proofs.Common.{ap, sym, ◌∙◌, subst}
-use Rattle.afdx_core.specs.declared.kinds.Row.{Row}
+use Rattle.afdx_core.specs.declared.step.Row.{Row}
 use Rattle.afdx_core.specs.Engine.{IsSized}
 use Rattle.afdx_core.proofs.Steps.{no_place}
 use Rattle.afdx_core.proofs.Calls.{sized_at}

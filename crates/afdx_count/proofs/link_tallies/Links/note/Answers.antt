@@ -1,5 +1,5 @@
 use Rattle.std.proofs.Common.{ap, ◌∙◌, sym, map}
-use Rattle.afdx_core.specs.declared.kinds.Fate.{Fate}
+use Rattle.afdx_core.specs.declared.step.Fate.{Fate}
 use Rattle.afdx_count.specs.Tally.{noted_link}
 use Rattle.afdx_count.proofs.Notes.{filtered}
 use Rattle.afdx_count.proofs.link_tallies.Links.note.Goals as goal

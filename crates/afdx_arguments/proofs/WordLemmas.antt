@@ -1,0 +1,189 @@
+-- What an option's entry says, and that the program's command is one whose matches and faults are exact.
+use Rattle.std.proofs.Common.{◌≡◌, ℕ, ap, get_or, arith, Global, String, List, map, string_bytes, true, Option, Some, None, Result, Ok, Err, refl, sym, subst, ◌∙◌, inl, inr}
+use Rattle.std.specs.Prelude.{IfOk, IsErr, IsErrAnd, Bool, [], drop, false, MatchOption, Box, codes, option_map}
+use Rattle.std.specs.List.{drop-map}
+use Rattle.std.proofs.Common.{◌-◌, length, take}
+use Rattle.std.proofs.lemmas.List.{take_rest}
+use Rattle.std.specs.Box.{box_value}
+use Rattle.std.specs.Str.Parse.{ParsesUnsigned}
+use Rattle.clap.specs.Words.{AddsSubcommand, App, app_of, shape_of, with_subcommand, HasKind, IsAmong, Kinds, Row, Text, fault_of, is_simple, is_simple_and_free, kind_of, one_text, rows_of}
+use Rattle.clap.specs.Words.{subcommand_name_of, subcommand_of, subcommand_rows, subcommand_rows_of, ReadsOne}
+use Rattle.clap.specs.declared.builder.command.Command.{Command}
+use Rattle.clap.specs.declared.builder.command.Command.TheViews.{out-Command}
+use Rattle.clap.specs.declared.error.Error.{Error}
+use Rattle.clap.specs.declared.error.kind.ErrorKind.TheVariants.{DisplayHelp, DisplayVersion, OutOfMemory}
+use Rattle.clap.specs.declared.parser.matches.ArgMatches.{ArgMatches}
+use Rattle.clap.specs.declared.parser.matches.ArgMatches.TheViews.{out-ArgMatches, out-SubCommand}
+use Rattle.clap.specs.declared.parser.matches.Found.{Found}
+use Rattle.clap.specs.declared.parser.matches.SubCommand.{SubCommand}
+use Rattle.clap.proofs.WalkLemmas.{one_text-rows}
+use Rattle.afdx_arguments.specs.declared.alone.Alone.{Alone}
+use Rattle.afdx_arguments.specs.declared.request.NoRequest.{NoRequest}
+use Rattle.afdx_arguments.specs.declared.request.NoRequest.TheVariants.{Help, Usage, Memory}
+use Rattle.afdx_arguments.specs.declared.request.NetworkRequest.{NetworkRequest}
+use Rattle.afdx_arguments.specs.declared.request.Request.{Request}
+use Rattle.afdx_arguments.specs.declared.request.Request.TheVariants as request
+use Rattle.afdx_arguments.specs.Commands.{alone_app, check_app, size_app, paths_app, measure_app, program}
+use Rattle.afdx_arguments.specs.Commands.{network_check_app, network_jitter_app, network_run_app, network_program}
+use Rattle.afdx_arguments.specs.Requests.{HasNumber, HasLink, AsksFor, AsksOfNetwork, AsksIn, Explains, Reads}
+use Rattle.afdx_arguments.specs.Requests.{is_network, fault_in, faults_of, HasMatches, HasNoMatches}
+
+pub simple : is_simple program ≡ true
+unfolding program alone_app check_app size_app paths_app measure_app
+simple = refl
+
+pub simple_and_free : is_simple_and_free program ≡ true
+unfolding program alone_app check_app size_app paths_app measure_app
+simple_and_free = refl
+
+pub network_simple : is_simple network_program ≡ true
+unfolding network_program network_check_app network_jitter_app network_run_app
+network_simple = refl
+
+pub network_simple_and_free : is_simple_and_free network_program ≡ true
+unfolding network_program network_check_app network_jitter_app network_run_app
+network_simple_and_free = refl
+
+-- a text is one number, or none
+one_reading : {E : Type 0} (t : Text) (e : E) (n : ℕ) → ParsesUnsigned 64 10 t (Err e) → ParsesUnsigned {E = Unit {0}} 64 10 t (Ok n) → ⊥
+one_reading t e n fails reads = fails reads.0
+
+-- what is read of an option is the number of its entry
+pub has_number : {E : Type 0} (gives : Text → Result ℕ E → Type 0) → ((t : Text) (r : Result ℕ E) → gives t r → ParsesUnsigned 64 10 t r)
+    → (f : Found) (name : Text) (r : Option ℕ) → (one_text f name ≡ None → r ≡ None) → ((t : Text) → one_text f name ≡ Some t → ReadsOne gives t r)
+    → MatchOption r ((n : ℕ) → HasNumber name (rows_of f) n → ⊥) (HasNumber name (rows_of f))
+has_number gives reads f name None none value = λ n h.
+    let entry : one_text f name ≡ Some h.0 = one_text-rows f name ∙ h.1 in
+    let failed = value h.0 entry in
+    one_reading h.0 failed.0 n (reads h.0 (Err failed.0) failed.1) h.2
+has_number {E} gives reads f name (Some n) none value = go (one_text f name) refl
+  where
+    go : (o : Option Text) → one_text f name ≡ o → HasNumber name (rows_of f) n
+    go None e = absurd (let bad = none e in cc)
+    go (Some t) e = (t, sym (one_text-rows f name) ∙ e, reads t (Ok n) (value t e))
+
+-- nothing was returned
+pub of_none : {A : Type 0} (r : Option A) (P : Type 0) (Q : A → Type 0) → r ≡ None → P → MatchOption r P Q
+of_none None P Q e p = p
+of_none (Some x) P Q e p = absurd (cc)
+
+-- the subcommand that a parse entered, by its name and its entries
+pub entered : (m : ArgMatches) (name : Text) (rows : List Row) → Some name ≡ subcommand_name_of m → Some rows ≡ option_map (λ p. p.1) (subcommand_rows_of m)
+    → subcommand_rows_of m ≡ Some (name, rows)
+entered m name rows = go (out-ArgMatches m).subcommand
+  where
+    go : (sub : Option (Box SubCommand Global)) → Some name ≡ option_map (λ b. (out-SubCommand (box_value b)).name.now) sub → Some rows ≡ option_map (λ p. p.1) (subcommand_rows sub)
+        → subcommand_rows sub ≡ Some (name, rows)
+    go None n r = absurd (cc)
+    go (Some b) n r = cc
+
+-- ---- what a subcommand of a name asks for
+
+-- two names of one thing begin alike
+begins : (name a b : Text) → name ≡ a → name ≡ b → get_or a 0 0 ≡ get_or b 0 0
+begins name a b is_a is_b = ap (λ (t : Text). get_or t 0 0) (sym is_a ∙ is_b)
+
+module _ (sub : Option (Text × List Row)) (name : Text) (rows : List Row) (is : sub ≡ Some (name, rows)) where
+  asks_none : ((r : Request) → AsksFor (Some (name, rows)) r → ⊥) → (r : Request) → AsksFor sub r → ⊥
+  asks_none none r h = none r (subst (λ (s : Option (Text × List Row)). AsksFor s r) is h)
+
+  -- the name of another subcommand begins with another letter
+  other : (a b : Text) → (get_or a 0 0 ≡ get_or b 0 0 → ⊥) → name ≡ a → name ≡ b → ⊥
+  other a b differ is_a is_b = differ (begins name a b is_a is_b)
+
+  pub no_link : name ≡ codes "alone" → ((link : Alone) → HasLink rows link → ⊥) → (r : Request) → AsksFor sub r → ⊥
+  no_link named none = asks_none go where
+    go : (r : Request) → AsksFor (Some (name, rows)) r → ⊥
+    go (request.Alone link) h = none link h.1
+    go (request.Check table) h = other (codes "alone") (codes "check") (λ bad. omega (arith, bad)) named h.0
+    go (request.Size table) h = other (codes "alone") (codes "size") (λ bad. omega (arith, bad)) named h.0
+    go (request.Run paths) h = other (codes "alone") (codes "run") (λ bad. omega (arith, bad)) named h.0
+    go (request.Measure inputs) h = other (codes "alone") (codes "measure") (λ bad. omega (arith, bad)) named h.0
+    go (request.Trace paths) h = other (codes "alone") (codes "trace") (λ bad. omega (arith, bad)) named h.0
+    go (request.Network r) h = h
+
+-- an error of `clap`
+pub refused : (kinds : Kinds) (e : Error) (n : NoRequest) → HasKind kinds e → Explains (kind_of e) n → HasNoMatches kinds n
+refused kinds e (Help text) (inl memory) (inl is) = absurd (let bad : OutOfMemory ≡ DisplayHelp = sym memory ∙ is in cc)
+refused kinds e (Help text) (inl memory) (inr is) = absurd (let bad : OutOfMemory ≡ DisplayVersion = sym memory ∙ is in cc)
+refused kinds e (Help text) (inr among) is = (kind_of e, among, is)
+refused kinds e Usage (inl memory) is = absurd (is.1 memory)
+refused kinds e Usage (inr among) is = (kind_of e, among, is.0)
+refused kinds e Memory h is = tt
+
+-- ---- what one of the two programs makes of the words is what they are read as
+
+module _ (words : List Text) (b : Bool) (is : is_network words ≡ b) where
+  faults : faults_of words ≡ fault_in b words
+  faults = ap (λ (x : Bool). fault_in x words) is
+
+  pub asks_by : (r : Request) → fault_in b words ≡ [] → AsksIn b words r → Reads words (Ok r)
+  asks_by r none asks = (faults ∙ none, subst (λ (x : Bool). AsksIn x words r) (sym is) asks)
+
+  pub asks_nothing_by : fault_in b words ≡ [] → ((r : Request) → AsksIn b words r → ⊥) → Reads words (Err Usage)
+  asks_nothing_by none nothing = inr (faults ∙ none, λ r asks. nothing r (subst (λ (x : Bool). AsksIn x words r) is asks))
+
+  pub no_matches_by : (n : NoRequest) → HasNoMatches (fault_in b words) n → Reads words (Err n)
+  no_matches_by (Help text) h = (h.0, subst (λ (k : Kinds). IsAmong h.0 k) (sym faults) h.1, h.2)
+  no_matches_by Usage h = inl (h.0, subst (λ (k : Kinds). IsAmong h.0 k) (sym faults) h.1, h.2)
+  no_matches_by Memory h = tt
+
+-- where the words of networks ask for nothing, no request is asked for
+pub none_of_networks : (words : List Text) → ((r : NetworkRequest) → AsksOfNetwork (subcommand_of network_program (drop 1 words)) r → ⊥)
+    → (r : Request) → AsksIn true words r → ⊥
+none_of_networks words none (request.Network r) h = none r h
+none_of_networks words none (request.Alone link) h = h
+none_of_networks words none (request.Check path) h = h
+none_of_networks words none (request.Size path) h = h
+none_of_networks words none (request.Run paths) h = h
+none_of_networks words none (request.Measure inputs) h = h
+none_of_networks words none (request.Trace paths) h = h
+
+-- an error that a call returned
+pub reads_error : (words : List Text) (r : Result Request NoRequest) (n : NoRequest) → IsErr r × IsErrAnd r (λ x. x ≡ n) → Reads words (Err n) → Reads words r
+reads_error words (Ok x) n e h = absurd e.1
+reads_error words (Err x) n e h = subst (λ (m : NoRequest). Reads words (Err m)) (sym e.1) h
+
+-- the words of networks are those after the first
+module _ (words : List (String Global)) (c : Command) (app : app_of c ≡ network_program) (is : is_network (map string_bytes words) ≡ true) where
+  rest : List Text
+  rest = map string_bytes (take (length words - 1) (drop 1 words))
+
+  same : rest ≡ drop 1 (map string_bytes words)
+  unfolding rest
+  same = ap (map string_bytes) (take_rest words 1) ∙ sym (drop-map string_bytes 1 words)
+
+  kinds : fault_of (app_of c) rest ≡ fault_in true (map string_bytes words)
+  kinds = ap (λ (a : App). fault_of a rest) app ∙ ap (fault_of network_program) same
+
+  entry : subcommand_of (app_of c) rest ≡ subcommand_of network_program (drop 1 (map string_bytes words))
+  entry = ap (λ (a : App). subcommand_of a rest) app ∙ ap (subcommand_of network_program) same
+
+  pub network_without : (n : NoRequest) → HasNoMatches (fault_of (app_of c) (map string_bytes (take (length words - 1) (drop 1 words)))) n → Reads (map string_bytes words) (Err n)
+  unfolding rest
+  network_without n h = no_matches_by (map string_bytes words) true is n (subst (λ (k : Kinds). HasNoMatches k n) kinds h)
+
+  pub network_found : (sub : Option (Text × List Row)) (r : NetworkRequest) → HasMatches (app_of c) (map string_bytes (take (length words - 1) (drop 1 words))) sub → AsksOfNetwork sub r
+      → Reads (map string_bytes words) (Ok (request.Network r))
+  unfolding rest
+  network_found sub r found asks =
+      asks_by (map string_bytes words) true is (request.Network r) (sym kinds ∙ found.0) (subst (λ (x : Option (Text × List Row)). AsksOfNetwork x r) (found.1 ∙ entry) asks)
+
+  pub network_nothing : (sub : Option (Text × List Row)) → HasMatches (app_of c) (map string_bytes (take (length words - 1) (drop 1 words))) sub → ((r : NetworkRequest) → AsksOfNetwork sub r → ⊥)
+      → Reads (map string_bytes words) (Err Usage)
+  unfolding rest
+  network_nothing sub found nothing =
+      asks_nothing_by (map string_bytes words) true is (sym kinds ∙ found.0)
+      (none_of_networks (map string_bytes words) (λ r asks. nothing r (subst (λ (x : Option (Text × List Row)). AsksOfNetwork x r) (sym (found.1 ∙ entry)) asks)))
+
+-- ---- a command with one more subcommand
+
+pub with_one_more : (old sub new : Command) (app inner : App) → AddsSubcommand old sub new → (out-Command sub).has_globals ≡ false → app_of old ≡ app → app_of sub ≡ inner
+    → app_of new ≡ with_subcommand app inner.top
+with_one_more old sub new app inner adds local is_old is_sub =
+    adds.shape local ∙ ap (λ (a : App). with_subcommand a (shape_of sub)) is_old ∙ ap (λ (a : App). with_subcommand app a.top) is_sub
+
+pub if_one_more : {E : Type 0} (old sub : Command) (r : Result Command E) (app inner : App) → IfOk r (AddsSubcommand old sub) → (out-Command sub).has_globals ≡ false
+    → app_of old ≡ app → app_of sub ≡ inner → IfOk r (λ c. app_of c ≡ with_subcommand app inner.top)
+if_one_more old sub (Ok new) app inner adds local is_old is_sub = with_one_more old sub new app inner adds local is_old is_sub
+if_one_more old sub (Err e) app inner adds local is_old is_sub = tt

@@ -1,0 +1,145 @@
+-- What the words ask for.
+use Rattle.std.specs.Prelude.{◌≡◌, ◌≢◌, ◌⊎◌, ℕ, Bool, codes, List, [], drop, slice_get, Option, Some, None, Result, Ok, Err, true, false}
+use Rattle.std.specs.Option.{option_map_or}
+use Rattle.std.specs.Str.{bytes_eq}
+use Rattle.std.specs.Str.Parse.{ParsesUnsigned}
+use Rattle.clap.specs.Words.{App, IsAmong, Kinds, Row, Text, fault_of, first_of, one_of, subcommand_of}
+use Rattle.clap.specs.declared.error.kind.ErrorKind.{ErrorKind}
+use Rattle.clap.specs.declared.error.kind.ErrorKind.TheVariants.{DisplayHelp, DisplayVersion, OutOfMemory}
+use Rattle.afdx_arguments.specs.declared.alone.Alone.{Alone}
+use Rattle.afdx_arguments.specs.declared.request.Paths.{Paths}
+use Rattle.afdx_arguments.specs.declared.request.Inputs.{Inputs}
+use Rattle.afdx_arguments.specs.declared.request.NetworkPaths.{NetworkPaths}
+use Rattle.afdx_arguments.specs.declared.request.NetworkRequest.{NetworkRequest}
+use Rattle.afdx_arguments.specs.declared.request.NetworkRequest.TheVariants as network
+use Rattle.afdx_arguments.specs.declared.request.Request.{Request}
+use Rattle.afdx_arguments.specs.declared.request.Request.TheVariants as request
+use Rattle.afdx_arguments.specs.declared.request.NoRequest.{NoRequest}
+use Rattle.afdx_arguments.specs.declared.request.NoRequest.TheVariants.{Help, Usage, Memory}
+use Rattle.afdx_arguments.specs.Link.{HasNumbers}
+use Rattle.afdx_arguments.specs.Commands.{program, network_program}
+
+-- the entry of an option is this number
+abbrev pub HasNumber : Text → List Row → ℕ → Type 0
+HasNumber name rows n = (t : Text) × (one_of name rows ≡ Some t) × ParsesUnsigned {E = Unit {0}} 64 10 t (Ok n)
+
+-- the entry of a flag says that it is set
+abbrev pub is_set : Text → List Row → Bool
+is_set name rows = option_map_or (λ t. bytes_eq t (codes "true")) (first_of name rows) false
+
+-- the entries of the four options are the link's numbers, within the limits of links
+pub record HasLink (rows : List Row) (link : Alone) : Type 0 where
+  pub id : ℕ
+  pub bag : ℕ
+  pub jitter : ℕ
+  pub size : ℕ
+  pub has_id : HasNumber (codes "id") rows id
+  pub has_bag : HasNumber (codes "bag") rows bag
+  pub has_jitter : HasNumber (codes "jitter") rows jitter
+  pub has_size : HasNumber (codes "size") rows size
+  pub numbers : HasNumbers link id bag jitter size
+
+-- the entries name the files of a run, and whether it is unchecked; profile: an empty word names no folder
+pub record HasPaths (rows : List Row) (paths : Paths) : Type 0 where
+  pub table : first_of (codes "TABLE") rows ≡ Some paths.table.now
+  pub input : first_of (codes "IN") rows ≡ Some paths.input.now
+  pub output : first_of (codes "OUT") rows ≡ Some paths.output.now
+  pub has_input : paths.input.now ≢ []
+  pub has_output : paths.output.now ≢ []
+  pub unchecked : paths.unchecked ≡ is_set (codes "unchecked") rows
+
+-- the same of a run of which nothing is put
+pub record HasInputs (rows : List Row) (inputs : Inputs) : Type 0 where
+  pub table : first_of (codes "TABLE") rows ≡ Some inputs.table.now
+  pub input : first_of (codes "IN") rows ≡ Some inputs.input.now
+  pub has_input : inputs.input.now ≢ []
+  pub unchecked : inputs.unchecked ≡ is_set (codes "unchecked") rows
+
+-- the entries name the files of a network's run
+pub record HasNetworkPaths (rows : List Row) (paths : NetworkPaths) : Type 0 where
+  pub network : first_of (codes "NET") rows ≡ Some paths.network.now
+  pub input : first_of (codes "IN") rows ≡ Some paths.input.now
+  pub output : first_of (codes "OUT") rows ≡ Some paths.output.now
+  pub has_input : paths.input.now ≢ []
+  pub has_output : paths.output.now ≢ []
+
+-- the subcommand of networks and its entries ask for this
+abbrev pub AsksOfNetwork : Option (Text × List Row) → NetworkRequest → Type 0
+AsksOfNetwork None r = ⊥
+AsksOfNetwork (Some (name, rows)) (network.Check path) = (name ≡ codes "check") × (first_of (codes "NET") rows ≡ Some path.now)
+AsksOfNetwork (Some (name, rows)) (network.Jitter path) = (name ≡ codes "jitter") × (first_of (codes "NET") rows ≡ Some path.now)
+AsksOfNetwork (Some (name, rows)) (network.Run paths) = (name ≡ codes "run") × HasNetworkPaths rows paths
+
+-- the subcommand and its entries ask for this
+abbrev pub AsksFor : Option (Text × List Row) → Request → Type 0
+AsksFor None r = ⊥
+AsksFor (Some (name, rows)) (request.Alone link) = (name ≡ codes "alone") × HasLink rows link
+AsksFor (Some (name, rows)) (request.Check table) = (name ≡ codes "check") × (first_of (codes "TABLE") rows ≡ Some table.now)
+AsksFor (Some (name, rows)) (request.Size table) = (name ≡ codes "size") × (first_of (codes "TABLE") rows ≡ Some table.now)
+AsksFor (Some (name, rows)) (request.Run paths) = (name ≡ codes "run") × HasPaths rows paths
+AsksFor (Some (name, rows)) (request.Measure inputs) = (name ≡ codes "measure") × HasInputs rows inputs
+AsksFor (Some (name, rows)) (request.Trace paths) = (name ≡ codes "trace") × HasPaths rows paths
+AsksFor (Some (name, rows)) (request.Network r) = ⊥
+
+-- ---- the two programs
+
+-- the first word after the program's name is `network`: what follows is read by a program of that name
+abbrev pub is_network : List Text → Bool
+is_network words = option_map_or (λ w. bytes_eq w (codes "network")) (slice_get words 1) false
+
+-- what `clap` says against words
+abbrev pub fault_in : Bool → List Text → Kinds
+fault_in true words = fault_of network_program (drop 1 words)
+fault_in false words = fault_of program words
+
+abbrev pub faults_of : List Text → Kinds
+faults_of words = fault_in (is_network words) words
+
+-- what the subcommand of one of the two and its entries ask for
+abbrev pub AsksIn : Bool → List Text → Request → Type 0
+AsksIn true words (request.Network r) = AsksOfNetwork (subcommand_of network_program (drop 1 words)) r
+AsksIn true words r = ⊥
+AsksIn false words r = AsksFor (subcommand_of program words) r
+
+-- `clap` takes the words, and its entries ask for this
+abbrev pub Asks : List Text → Request → Type 0
+Asks words r = (faults_of words ≡ []) × AsksIn (is_network words) words r
+
+-- an error of this kind has the text of help or of the version
+abbrev pub IsShown : ErrorKind → Type 0
+IsShown kind = (kind ≡ DisplayHelp) ⊎ (kind ≡ DisplayVersion)
+
+-- the words ask `clap` for help, or for the version
+abbrev pub AskForHelp : List Text → Type 0
+AskForHelp words = (kind : ErrorKind) × IsAmong kind (faults_of words) × IsShown kind
+
+-- `clap` refuses the words, or takes them and its entries ask for nothing within the limits
+abbrev pub AreRefused : List Text → Type 0
+AreRefused words =
+    ((kind : ErrorKind) × IsAmong kind (faults_of words) × (IsShown kind → ⊥))
+    ⊎ ((faults_of words ≡ []) × ((r : Request) → AsksIn (is_network words) words r → ⊥))
+
+-- why an error of a kind leaves the words with no request
+abbrev pub Explains : ErrorKind → NoRequest → Type 0
+Explains kind (Help text) = IsShown kind
+Explains kind Usage = (IsShown kind → ⊥) × (kind ≢ OutOfMemory)
+Explains kind Memory = Unit {0}
+
+-- what the words ask for, or why they ask for nothing
+abbrev pub Reads : List Text → Result Request NoRequest → Type 0
+Reads words (Ok r) = Asks words r
+Reads words (Err (Help text)) = AskForHelp words
+Reads words (Err Usage) = AreRefused words
+Reads words (Err Memory) = Unit {0}
+
+-- ---- what one program makes of words
+
+-- `clap` gives matches of them, with this subcommand and its entries
+abbrev pub HasMatches : App → List Text → Option (Text × List Row) → Type 0
+HasMatches app words sub = (fault_of app words ≡ []) × (sub ≡ subcommand_of app words)
+
+-- or none, for a fault of one of these kinds
+abbrev pub HasNoMatches : Kinds → NoRequest → Type 0
+HasNoMatches kinds (Help text) = (kind : ErrorKind) × IsAmong kind kinds × IsShown kind
+HasNoMatches kinds Usage = (kind : ErrorKind) × IsAmong kind kinds × (IsShown kind → ⊥)
+HasNoMatches kinds Memory = Unit {0}

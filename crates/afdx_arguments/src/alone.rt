@@ -1,0 +1,62 @@
+//! A virtual link by itself.
+
+ghost use Rattle.std.specs.Prelude.{◌≤◌};
+
+use afdx_units::Bag;
+
+/// The least size of a frame, in bytes (IEEE 802.3).
+pub const LEAST_SIZE: u32 = 64;
+
+/// The greatest size of a frame, in bytes (IEEE 802.3).
+pub const GREATEST_SIZE: u32 = 1518;
+
+/// The number of a link is two bytes of an address (ARINC 664 Part 7).
+const GREATEST_ID: u64 = 65_535;
+
+/// The greatest jitter of a link, in microseconds (profile).
+const GREATEST_JITTER: u64 = 10_000;
+
+const NANOS_PER_MICROSECOND: u64 = 1_000;
+
+/// What the policing of one virtual link goes by (ARINC 664 Part 7; limits: profile).
+#[derive(Clone, Copy, Debug, PartialEq, Eq)]
+pub struct Alone {
+    /// The last 16 bits of its destination address.
+    pub id: u16,
+    /// Its bandwidth allocation gap.
+    pub bag: Bag,
+    /// The greatest jitter, in nanoseconds.
+    pub jitter: u64,
+    /// The greatest size of a frame, in bytes.
+    pub max_size: u32,
+    ghost jitter_limit: { jitter ≤ 10000000 },
+    ghost least_size: { 64 ≤ max_size },
+    ghost most_size: { max_size ≤ 1518 },
+}
+
+impl Alone {
+    ghost use Rattle.std.specs.Prelude.{MatchOption};
+    ghost use Rattle.afdx_arguments.specs.declared.alone.Alone.{Alone as Link};
+    ghost use Rattle.afdx_arguments.specs.Link.{HasNumbers};
+
+    /// The link of these numbers (gap in ms, jitter in µs, size in bytes); `None` where one is out of its limits. O(1).
+    pub fn of_numbers(id: u64, bag: u64, jitter: u64, size: u64) -> Option<Alone>
+        ensures { MatchOption result ((link : Link) → HasNumbers link id bag jitter size → ⊥)
+            (λ link. HasNumbers link id bag jitter size) }
+    {
+        let bag = Bag::from_ms(bag)?;
+        let has_limits = id <= GREATEST_ID
+            && jitter <= GREATEST_JITTER
+            && u64::from(LEAST_SIZE) <= size
+            && size <= u64::from(GREATEST_SIZE);
+        if !has_limits {
+            return None;
+        }
+        Some(Alone {
+            id: id as u16,
+            bag,
+            jitter: jitter * NANOS_PER_MICROSECOND,
+            max_size: size as u32,
+        })
+    }
+}

@@ -1,0 +1,211 @@
+//! From the words to what they ask for.
+
+ghost use Rattle.std.specs.Prelude.{◌≡◌, ℕ, true, false, map, option_map, string_bytes, MatchOption, MatchResult};
+ghost use Rattle.clap.specs.Words.{app_of, fault_of, first_of, found_of, is_simple, is_simple_and_free, kind_of, rows_of, subcommand_rows_of};
+ghost use Rattle.afdx_arguments.specs.declared.alone.Alone.{Alone as Link};
+ghost use Rattle.afdx_arguments.specs.declared.request.Paths.{Paths as Files};
+ghost use Rattle.afdx_arguments.specs.declared.request.Inputs.{Inputs as Given};
+ghost use Rattle.afdx_arguments.specs.declared.request.Request.{Request as Asked};
+ghost use Rattle.afdx_arguments.specs.Requests.{HasNumber, is_set, HasLink, HasPaths, HasInputs, AsksFor, Explains, Reads};
+ghost use Rattle.afdx_arguments.specs.Requests.{HasMatches, HasNoMatches, is_network};
+
+use crate::command::program;
+use crate::alone::Alone;
+use crate::network_command::network_program;
+use crate::network_arguments::network_asked;
+use crate::request::{Inputs, NoRequest, Paths, Request};
+use clap::error::ErrorKind;
+use clap::{ArgMatches, Command, Error};
+use std::alloc::Global;
+
+/// The number of an option.
+fn number(matches: &ArgMatches<'_>, name: &str) -> Option<u64>
+    ensures { MatchOption result ((n : ℕ) → HasNumber name.now (rows_of (found_of matches.now)) n → ⊥)
+        (HasNumber name.now (rows_of (found_of matches.now))) }
+{
+    matches.get_one::<u64>(name)
+}
+
+/// The word in a place.
+pub(crate) fn word<'a>(matches: &ArgMatches<'a>, name: &str) -> Option<&'a str>
+    ensures { option_map (λ w. w.now) result ≡ first_of name.now (rows_of (found_of matches.now)) }
+{
+    matches.get_str(name)
+}
+
+/// Whether a flag is set: `clap` tells it as a word.
+fn flag(matches: &ArgMatches<'_>, name: &str) -> bool
+    ensures { result ≡ is_set name.now (rows_of (found_of matches.now)) }
+{
+    match word(matches, name) {
+        Some(text) => text == "true",
+        None => false,
+    }
+}
+
+/// The link of the four options.
+fn alone_of(matches: &ArgMatches<'_>) -> Option<Alone>
+    ensures { MatchOption result ((link : Link) → HasLink (rows_of (found_of matches.now)) link → ⊥)
+        (HasLink (rows_of (found_of matches.now))) }
+{
+    let id = number(matches, "id")?;
+    let bag = number(matches, "bag")?;
+    let jitter = number(matches, "jitter")?;
+    let size = number(matches, "size")?;
+    Alone::of_numbers(id, bag, jitter, size)
+}
+
+/// The files of a run. An empty word names no folder.
+fn paths_of<'a>(matches: &ArgMatches<'a>) -> Option<Paths<'a>>
+    ensures { MatchOption result ((paths : Files) → HasPaths (rows_of (found_of matches.now)) paths → ⊥)
+        (HasPaths (rows_of (found_of matches.now))) }
+{
+    let table = word(matches, "TABLE")?;
+    let input = word(matches, "IN")?;
+    let output = word(matches, "OUT")?;
+    if input.is_empty() || output.is_empty() {
+        return None;
+    }
+    let unchecked = flag(matches, "unchecked");
+    Some(Paths {
+        table,
+        input,
+        output,
+        unchecked,
+    })
+}
+
+/// The files of a run of which nothing is put. An empty word names no folder.
+fn inputs_of<'a>(matches: &ArgMatches<'a>) -> Option<Inputs<'a>>
+    ensures { MatchOption result ((inputs : Given) → HasInputs (rows_of (found_of matches.now)) inputs → ⊥)
+        (HasInputs (rows_of (found_of matches.now))) }
+{
+    let table = word(matches, "TABLE")?;
+    let input = word(matches, "IN")?;
+    if input.is_empty() {
+        return None;
+    }
+    let unchecked = flag(matches, "unchecked");
+    Some(Inputs {
+        table,
+        input,
+        unchecked,
+    })
+}
+
+/// What the subcommand that was entered asks for.
+fn asked<'a>(matches: &ArgMatches<'a>) -> Option<Request<'a>>
+    ensures { MatchOption result ((request : Asked) → AsksFor (subcommand_rows_of matches.now) request → ⊥)
+        (AsksFor (subcommand_rows_of matches.now)) }
+{
+    let (name, inner) = matches.subcommand()?;
+    if name == "alone" {
+        let link = alone_of(inner)?;
+        Some(Request::Alone(link))
+    } else if name == "check" {
+        let table = word(inner, "TABLE")?;
+        Some(Request::Check(table))
+    } else if name == "size" {
+        let table = word(inner, "TABLE")?;
+        Some(Request::Size(table))
+    } else if name == "run" {
+        let paths = paths_of(inner)?;
+        Some(Request::Run(paths))
+    } else if name == "measure" {
+        let inputs = inputs_of(inner)?;
+        Some(Request::Measure(inputs))
+    } else if name == "trace" {
+        let paths = paths_of(inner)?;
+        Some(Request::Trace(paths))
+    } else {
+        None
+    }
+}
+
+/// What an error of `clap` means.
+fn refusal(alloc: Global, error: &Error) -> NoRequest
+    ensures { Explains (kind_of error.now) result }
+{
+    match error.kind() {
+        ErrorKind::DisplayHelp | ErrorKind::DisplayVersion => match error.to_string(alloc) {
+            Ok(text) => NoRequest::Help(text),
+            Err(_) => NoRequest::Memory,
+        },
+        ErrorKind::OutOfMemory => NoRequest::Memory,
+        _ => NoRequest::Usage,
+    }
+}
+
+/// What `clap` finds in words, by this command.
+fn matches_of<'a>(
+    alloc: Global,
+    command: Command<'a>,
+    words: &'a [String],
+) -> Result<ArgMatches<'a>, NoRequest>
+    requires simple { is_simple (app_of command) ≡ true }
+    requires free { is_simple_and_free (app_of command) ≡ true }
+    ensures { MatchResult result
+        (λ m. HasMatches (app_of command.entry) (map string_bytes words.entry.now) (subcommand_rows_of m))
+        (λ n. HasNoMatches (fault_of (app_of command.entry) (map string_bytes words.entry.now)) n) }
+{
+    match command.try_get_matches_from(words) {
+        Ok(matches) => Ok(matches),
+        Err(error) => Err(refusal(alloc, &error)),
+    }
+}
+
+/// Whether the first word after the program's name is `network`.
+fn is_network(words: &[String]) -> bool
+    ensures { result ≡ is_network (map string_bytes words.now) }
+{
+    match words.get(1) {
+        Some(word) => word.as_str() == "network",
+        None => false,
+    }
+}
+
+/// What the words after `afdx` ask for, of which the first is `network`.
+fn parse_network<'a>(alloc: Global, words: &'a [String]) -> Result<Request<'a>, NoRequest>
+    requires { is_network (map string_bytes words.now) ≡ true }
+    ensures { Reads (map string_bytes words.entry.now) result }
+{
+    let Ok(command) = network_program(alloc) else {
+        return Err(NoRequest::Memory);
+    };
+    let matches = matches_of(alloc, command, &words[1..])?;
+    match network_asked(&matches) {
+        Some(request) => Ok(Request::Network(request)),
+        None => Err(NoRequest::Usage),
+    }
+}
+
+/// What words ask for that are of no network.
+fn parse_other<'a>(alloc: Global, words: &'a [String]) -> Result<Request<'a>, NoRequest>
+    requires { is_network (map string_bytes words.now) ≡ false }
+    ensures { Reads (map string_bytes words.entry.now) result }
+{
+    let Ok(command) = program(alloc) else {
+        return Err(NoRequest::Memory);
+    };
+    let matches = matches_of(alloc, command, words)?;
+    match asked(&matches) {
+        Some(request) => Ok(request),
+        None => Err(NoRequest::Usage),
+    }
+}
+
+/// What the words ask for, of which the first is the program's name.
+///
+/// # Errors
+///
+/// `Help` with its text where `clap` is asked for help or the version; `Memory` where a growth was refused; `Usage` where `clap` refuses
+/// the words for another cause, an option's number is out of its limits, or IN or OUT is empty.
+pub fn parse<'a>(alloc: Global, words: &'a [String]) -> Result<Request<'a>, NoRequest>
+    ensures { Reads (map string_bytes words.entry.now) result }
+{
+    if is_network(words) {
+        parse_network(alloc, words)
+    } else {
+        parse_other(alloc, words)
+    }
+}

@@ -1,0 +1,263 @@
+//! The command line, as `clap` reads it.
+
+ghost use Rattle.std.specs.Prelude.{◌≡◌, codes, false, IfOk};
+ghost use Rattle.clap.specs.Words.{app_of, new_app, rule_of};
+ghost use Rattle.clap.specs.declared.builder.command.Command.TheViews.{out-Command};
+ghost use Rattle.afdx_arguments.specs.Commands.{number_rule, path_rule, flag_rule, alone_app, check_app, size_app, paths_app, measure_app, network_app, bare_program, program};
+
+use clap::builder::ValueParser;
+use clap::{Arg, ArgAction, Command};
+use std::alloc::{AllocError, Global};
+
+/// A required option with a whole number of 64 bits. `Alone::of_numbers` alone tests its limits.
+fn number_option<'a>(alloc: Global, name: &'a str, value: &'a str, about: &'a str) -> Arg<'a>
+    ensures rule { rule_of result ≡ number_rule name.entry.now }
+    ensures local { result.global ≡ false }
+{
+    Arg::new(alloc, name)
+        .long(name)
+        .value_name(value)
+        .help(about)
+        .required(true)
+        .value_parser(ValueParser::unsigned(0, u64::MAX))
+}
+
+/// A required word in its place.
+pub(crate) fn path<'a>(alloc: Global, name: &'a str, about: &'a str) -> Arg<'a>
+    ensures rule { rule_of result ≡ path_rule name.entry.now }
+    ensures local { result.global ≡ false }
+{
+    Arg::new(alloc, name).help(about).required(true)
+}
+
+fn flag<'a>(alloc: Global, name: &'a str, about: &'a str) -> Arg<'a>
+    ensures rule { rule_of result ≡ flag_rule name.entry.now }
+    ensures local { result.global ≡ false }
+{
+    Arg::new(alloc, name)
+        .long(name)
+        .help(about)
+        .action(ArgAction::SetTrue)
+}
+
+/// What the help of `alone` says at its end.
+const ALONE: &str = "Reads a capture on standard input and writes the capture of the frames that the
+link's account passes on standard output.
+
+Status: 0 done, 2 arguments, 3 no capture, 5 memory or a device.
+
+Example: afdx alone --id 10 --bag 1 --jitter 0 --size 1000 < in.pcap > out.pcap";
+
+/// What the help of `check` says at its end.
+const CHECK: &str =
+    "Status: 0 accepted, 2 arguments, 3 no table, 4 a port cannot give what its links
+ask for, 5 memory or a device.
+
+Example: afdx check table.toml";
+
+/// What the help of `size` says at its end.
+const SIZE: &str = "For each port with links: what they need and what the port has, by rule (the
+line's rate in parts, the buffer in bytes, the delays in ns), and the rules that
+it breaks.
+
+Status: 0 told, whether each port fits or not, 2 arguments, 3 no table, 5 memory
+or a device.
+
+Example: afdx size table.toml";
+
+/// What the help of `run` says at its end.
+const RUN: &str = "All files are read before the first capture is written. OUT must be there. A
+capture is written to a new file beside its name, which is then moved onto the
+name: each name has what stood there or the whole new capture, also after a
+failure or a kill. After a failed put the captures of the ports before it are
+new, after a failed write all are. A file that was read is not replaced. Captures
+of ports that the table lacks are not looked at. Names are printed as they were
+given.
+
+Status: 0 done, 2 arguments, 3 no table or capture, 4 a port cannot give what its
+links ask for, 5 memory or a device.
+
+Example: mkdir out && afdx run table.toml in out";
+
+/// What the help of `measure` says at its end.
+const MEASURE: &str = "Runs as run does, and writes no capture. For each link and each of its output
+ports: how many frames were sent, and their least and greatest delay in ns, from
+the stamp to the end on the line, beside the port's bound. For each port: the most
+bytes that its buffer held, and the stamp in ns of the first frame that filled it
+so.
+
+Status: 0 told, 2 arguments, 3 no table or capture, 4 a port cannot give what its
+links ask for, 5 memory or a device.
+
+Example: afdx measure table.toml in";
+
+/// What the help of `trace` says at its end.
+const TRACE: &str =
+    "Runs as run does, and puts two files of comma-separated values with a heading into
+OUT, which must be there, in place of the captures: arrivals.csv has a line for
+each frame that came in, with its fate, how many ns too early a policed one came,
+and the ports whose buffers were full; departures.csv has one for each copy that a
+port sent or discarded. A file is written beside its name and then moved onto it.
+
+Status: 0 done, 2 arguments, 3 no table or capture, 4 a port cannot give what its
+links ask for, 5 memory or a device.
+
+Example: mkdir told && afdx trace table.toml in told";
+
+/// What the help of `network` says at its end. Its own commands are read by a program of their own.
+const NETWORK: &str = "Its commands are check, jitter and run: see afdx network --help.";
+
+/// What the program says of its version: its own number, and the kit that it is proved with.
+const VERSION: &str = "0.1.0\nrattle-kit-13b logic dac8208d650f15bf";
+
+/// A command without its words.
+pub(crate) fn wordless<'a>(
+    alloc: Global,
+    name: &'a str,
+    about: &'a str,
+    more: &'a str,
+) -> Command<'a>
+    ensures app { app_of result ≡ new_app name.entry.now }
+    ensures local { (out-Command result).has_globals ≡ false }
+{
+    Command::new(alloc, name).about(about).after_help(more)
+}
+
+#[tactic(auto, unfolding(crate::specs::Commands::alone_app))]
+fn alone<'a>(alloc: Global) -> Result<Command<'a>, AllocError>
+    ensures app { IfOk result (λ c. app_of c ≡ alone_app) }
+    ensures local { IfOk result (λ c. (out-Command c).has_globals ≡ false) }
+{
+    let about = "Polices one virtual link of the capture on standard input";
+    wordless(alloc, "alone", about, ALONE)
+        .arg(number_option(alloc, "id", "N", "The link's number, 0 to 65535"))?
+        .arg(number_option(
+            alloc,
+            "bag",
+            "MS",
+            "Its BAG in ms: 1, 2, 4, 8, 16, 32, 64 or 128",
+        ))?
+        .arg(number_option(
+            alloc,
+            "jitter",
+            "US",
+            "Its greatest jitter in us, 0 to 10000",
+        ))?
+        .arg(number_option(
+            alloc,
+            "size",
+            "N",
+            "Its greatest frame size in bytes, 64 to 1518",
+        ))
+}
+
+#[tactic(auto, unfolding(crate::specs::Commands::check_app))]
+fn check<'a>(alloc: Global) -> Result<Command<'a>, AllocError>
+    ensures app { IfOk result (λ c. app_of c ≡ check_app) }
+    ensures local { IfOk result (λ c. (out-Command c).has_globals ≡ false) }
+{
+    let about = "Checks the load of a configuration table";
+    wordless(alloc, "check", about, CHECK).arg(path(alloc, "TABLE", "The configuration table"))
+}
+
+#[tactic(auto, unfolding(crate::specs::Commands::size_app))]
+fn size<'a>(alloc: Global) -> Result<Command<'a>, AllocError>
+    ensures app { IfOk result (λ c. app_of c ≡ size_app) }
+    ensures local { IfOk result (λ c. (out-Command c).has_globals ≡ false) }
+{
+    let about = "Tells what each port needs and has, whether it fits or not";
+    wordless(alloc, "size", about, SIZE).arg(path(alloc, "TABLE", "The configuration table"))
+}
+
+/// A command that goes by the files of a run, with what its help says of it, at its end and of OUT.
+#[tactic(auto, unfolding(crate::specs::Commands::paths_app))]
+fn with_paths<'a>(
+    alloc: Global,
+    name: &'a str,
+    about: &'a str,
+    more: &'a str,
+    output: &'a str,
+) -> Result<Command<'a>, AllocError>
+    ensures app { IfOk result (λ c. app_of c ≡ paths_app name.entry.now) }
+    ensures local { IfOk result (λ c. (out-Command c).has_globals ≡ false) }
+{
+    wordless(alloc, name, about, more)
+        .arg(path(alloc, "TABLE", "The configuration table"))?
+        .arg(path(alloc, "IN", "The folder of port-1.pcap and so on"))?
+        .arg(path(alloc, "OUT", output))?
+        .arg(flag(alloc, "unchecked", "Runs a table whatever its load"))
+}
+
+fn run<'a>(alloc: Global) -> Result<Command<'a>, AllocError>
+    ensures app { IfOk result (λ c. app_of c ≡ paths_app (codes "run")) }
+    ensures local { IfOk result (λ c. (out-Command c).has_globals ≡ false) }
+{
+    let about = "Runs the switch over one capture for each port";
+    let output = "The folder for the captures of the output ports";
+    with_paths(alloc, "run", about, RUN, output)
+}
+
+#[tactic(auto, unfolding(crate::specs::Commands::measure_app))]
+fn measure<'a>(alloc: Global) -> Result<Command<'a>, AllocError>
+    ensures app { IfOk result (λ c. app_of c ≡ measure_app) }
+    ensures local { IfOk result (λ c. (out-Command c).has_globals ≡ false) }
+{
+    let about = "Tells the delays of each link and how full each buffer was";
+    wordless(alloc, "measure", about, MEASURE)
+        .arg(path(alloc, "TABLE", "The configuration table"))?
+        .arg(path(alloc, "IN", "The folder of port-1.pcap and so on"))?
+        .arg(flag(
+            alloc,
+            "unchecked",
+            "Runs a table whatever its load, and tells no bounds",
+        ))
+}
+
+fn trace<'a>(alloc: Global) -> Result<Command<'a>, AllocError>
+    ensures app { IfOk result (λ c. app_of c ≡ paths_app (codes "trace")) }
+    ensures local { IfOk result (λ c. (out-Command c).has_globals ≡ false) }
+{
+    let about = "Tells what became of each frame and of each copy";
+    let output = "The folder for arrivals.csv and departures.csv";
+    with_paths(alloc, "trace", about, TRACE, output)
+}
+
+/// What the program's help tells of the commands of networks.
+fn network<'a>(alloc: Global) -> Command<'a>
+    ensures app { app_of result ≡ network_app }
+    ensures local { (out-Command result).has_globals ≡ false }
+{
+    let about = "Checks and runs a network of switches";
+    wordless(alloc, "network", about, NETWORK)
+}
+
+/// The program without its commands.
+fn bare_program<'a>(alloc: Global) -> Command<'a>
+    ensures { app_of result ≡ bare_program }
+{
+    Command::new(alloc, "afdx")
+        .about("An AFDX switch over captured traffic")
+        .version(VERSION)
+        .subcommand_required(true)
+}
+
+/// The whole program.
+#[tactic(auto, unfolding(crate::specs::Commands::program))]
+pub(crate) fn program<'a>(alloc: Global) -> Result<Command<'a>, AllocError>
+    ensures { IfOk result (λ c. app_of c ≡ program) }
+{
+    let alone = alone(alloc)?;
+    let check = check(alloc)?;
+    let size = size(alloc)?;
+    let run = run(alloc)?;
+    let measure = measure(alloc)?;
+    let trace = trace(alloc)?;
+    bare_program(alloc)
+        .subcommand(alone)?
+        .subcommand(check)?
+        .subcommand(size)?
+        .subcommand(run)?
+        .subcommand(measure)?
+        .subcommand(trace)?
+        .subcommand(network(alloc))
+}

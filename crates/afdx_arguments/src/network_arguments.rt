@@ -1,0 +1,49 @@
+//! From what `clap` finds in the words of networks to what they ask for.
+
+ghost use Rattle.std.specs.Prelude.{MatchOption};
+ghost use Rattle.clap.specs.Words.{found_of, rows_of, subcommand_rows_of};
+ghost use Rattle.afdx_arguments.specs.declared.request.NetworkPaths.{NetworkPaths as Files};
+ghost use Rattle.afdx_arguments.specs.declared.request.NetworkRequest.{NetworkRequest as Asked};
+ghost use Rattle.afdx_arguments.specs.Requests.{HasNetworkPaths, AsksOfNetwork};
+
+use crate::request::{NetworkPaths, NetworkRequest};
+use crate::arguments::word;
+use clap::ArgMatches;
+
+/// The files of a network's run. An empty word names no folder.
+fn network_paths_of<'a>(matches: &ArgMatches<'a>) -> Option<NetworkPaths<'a>>
+    ensures { MatchOption result ((paths : Files) → HasNetworkPaths (rows_of (found_of matches.now)) paths → ⊥)
+        (HasNetworkPaths (rows_of (found_of matches.now))) }
+{
+    let network = word(matches, "NET")?;
+    let input = word(matches, "IN")?;
+    let output = word(matches, "OUT")?;
+    if input.is_empty() || output.is_empty() {
+        return None;
+    }
+    Some(NetworkPaths {
+        network,
+        input,
+        output,
+    })
+}
+
+/// What the subcommand that was entered asks for.
+pub(crate) fn network_asked<'a>(matches: &ArgMatches<'a>) -> Option<NetworkRequest<'a>>
+    ensures { MatchOption result ((request : Asked) → AsksOfNetwork (subcommand_rows_of matches.now) request → ⊥)
+        (AsksOfNetwork (subcommand_rows_of matches.now)) }
+{
+    let (name, inner) = matches.subcommand()?;
+    if name == "check" {
+        let path = word(inner, "NET")?;
+        Some(NetworkRequest::Check(path))
+    } else if name == "jitter" {
+        let path = word(inner, "NET")?;
+        Some(NetworkRequest::Jitter(path))
+    } else if name == "run" {
+        let paths = network_paths_of(inner)?;
+        Some(NetworkRequest::Run(paths))
+    } else {
+        None
+    }
+}

@@ -1,0 +1,107 @@
+//! The command line of networks, as `clap` reads it: the words after `afdx`.
+
+ghost use Rattle.std.specs.Prelude.{◌≡◌, false, IfOk};
+ghost use Rattle.clap.specs.Words.{app_of};
+ghost use Rattle.clap.specs.declared.builder.command.Command.TheViews.{out-Command};
+ghost use Rattle.afdx_arguments.specs.Commands.{network_check_app, network_jitter_app, network_run_app, bare_network, network_program};
+
+use crate::command::{path, wordless};
+use clap::Command;
+use std::alloc::{AllocError, Global};
+
+/// What the help of `check` says at its end.
+const CHECK: &str =
+    "NET names the switches, the files of their tables beside it, and the wires between
+their ports. Checks the load of each table, whether the tables fit together, and
+whether each jitter is enough for the whole way to its switch. For each link and
+each of its ends: its way, the least and the greatest delay in ns, and the jitter
+in us that it needs at each switch.
+
+Status: 0 accepted, 2 arguments, 3 no network or no table, 4 a port cannot give
+what its links ask for or a jitter is not enough, 5 memory or a device.
+
+Example: afdx network check network.toml";
+
+/// What the help of `jitter` says at its end.
+const JITTER: &str =
+    "For each link of each table: the jitter in us that it needs there, from those at
+the first switches on. Whoever writes the tables takes them from here; check says
+then whether they are enough.
+
+Status: 0 told, 2 arguments, 3 no network or no table, 4 the links ask for more
+than a line, or a jitter past 10000 us is needed, 5 memory or a device.
+
+Example: afdx network jitter network.toml";
+
+/// What the help of `run` says at its end.
+const RUN: &str = "Checks the network as check does. IN/A has the captures of the ports of switch A
+to which no wire leads, port-1.pcap and so on; those of all its output ports are
+put into OUT/A, which must be there. What leaves a port with a wire comes in at the
+wire's end. The report of each switch is written, with its name before each line.
+
+Status: 0 done, 2 arguments, 3 no network, table or capture, 4 a network that
+check refuses or that does not come to rest, 5 memory or a device.
+
+Example: mkdir -p out/A out/B && afdx network run network.toml in out";
+
+#[tactic(auto, unfolding(crate::specs::Commands::network_check_app))]
+fn check<'a>(alloc: Global) -> Result<Command<'a>, AllocError>
+    ensures app { IfOk result (λ c. app_of c ≡ network_check_app) }
+    ensures local { IfOk result (λ c. (out-Command c).has_globals ≡ false) }
+{
+    let about = "Checks a network and tells the way of each link";
+    wordless(alloc, "check", about, CHECK).arg(path(alloc, "NET", "The network file"))
+}
+
+#[tactic(auto, unfolding(crate::specs::Commands::network_jitter_app))]
+fn jitter<'a>(alloc: Global) -> Result<Command<'a>, AllocError>
+    ensures app { IfOk result (λ c. app_of c ≡ network_jitter_app) }
+    ensures local { IfOk result (λ c. (out-Command c).has_globals ≡ false) }
+{
+    let about = "Tells the jitter that each link needs at each switch";
+    wordless(alloc, "jitter", about, JITTER).arg(path(alloc, "NET", "The network file"))
+}
+
+#[tactic(auto, unfolding(crate::specs::Commands::network_run_app))]
+fn run<'a>(alloc: Global) -> Result<Command<'a>, AllocError>
+    ensures app { IfOk result (λ c. app_of c ≡ network_run_app) }
+    ensures local { IfOk result (λ c. (out-Command c).has_globals ≡ false) }
+{
+    let about = "Runs the switches of a network over one capture for each port without a wire";
+    wordless(alloc, "run", about, RUN)
+        .arg(path(alloc, "NET", "The network file"))?
+        .arg(path(
+            alloc,
+            "IN",
+            "The folder of a folder of captures for each switch",
+        ))?
+        .arg(path(
+            alloc,
+            "OUT",
+            "The folder of a folder for each switch's captures",
+        ))
+}
+
+/// The program without its commands.
+fn bare_network<'a>(alloc: Global) -> Result<Command<'a>, AllocError>
+    ensures { IfOk result (λ c. app_of c ≡ bare_network) }
+{
+    Command::new(alloc, "network")
+        .about("Checks and runs a network of switches")
+        .subcommand_required(true)
+        .bin_name("afdx network")
+}
+
+/// The program that reads the words after `afdx`, where the first of them is `network`.
+#[tactic(auto, unfolding(crate::specs::Commands::network_program))]
+pub(crate) fn network_program<'a>(alloc: Global) -> Result<Command<'a>, AllocError>
+    ensures { IfOk result (λ c. app_of c ≡ network_program) }
+{
+    let check = check(alloc)?;
+    let jitter = jitter(alloc)?;
+    let run = run(alloc)?;
+    bare_network(alloc)?
+        .subcommand(check)?
+        .subcommand(jitter)?
+        .subcommand(run)
+}

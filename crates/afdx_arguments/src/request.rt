@@ -1,0 +1,79 @@
+//! What the words of a command line ask for.
+
+use crate::alone::Alone;
+
+/// The files of a run, as they were written.
+#[derive(Clone, Copy, Debug, PartialEq, Eq)]
+pub struct Paths<'a> {
+    /// The file of the configuration table.
+    pub table: &'a str,
+    /// The folder of the captures that come in.
+    pub input: &'a str,
+    /// The folder of the files that are put.
+    pub output: &'a str,
+    /// Whether the table's load is left unchecked.
+    pub unchecked: bool,
+}
+
+/// The files of a run of which nothing is put, as they were written.
+#[derive(Clone, Copy, Debug, PartialEq, Eq)]
+pub struct Inputs<'a> {
+    /// The file of the configuration table.
+    pub table: &'a str,
+    /// The folder of the captures that come in.
+    pub input: &'a str,
+    /// Whether the table's load is left unchecked.
+    pub unchecked: bool,
+}
+
+/// The files of a run of a network, as they were written.
+#[derive(Clone, Copy, Debug, PartialEq, Eq)]
+pub struct NetworkPaths<'a> {
+    /// The network file.
+    pub network: &'a str,
+    /// The folder that has a folder of captures for each switch.
+    pub input: &'a str,
+    /// The folder that has one for each switch, into which its captures are put.
+    pub output: &'a str,
+}
+
+/// A command of networks with what it goes by.
+#[derive(Clone, Copy, Debug, PartialEq, Eq)]
+pub enum NetworkRequest<'a> {
+    /// The check of the network in this file.
+    Check(&'a str),
+    /// The jitters that the rows of the network in this file need.
+    Jitter(&'a str),
+    /// The network over captures.
+    Run(NetworkPaths<'a>),
+}
+
+/// A command with what it goes by.
+#[derive(Clone, Copy, Debug, PartialEq, Eq)]
+pub enum Request<'a> {
+    /// The policing of one link.
+    Alone(Alone),
+    /// The check of the table in this file.
+    Check(&'a str),
+    /// The need and the limit of each rule at the ports of the table in this file.
+    Size(&'a str),
+    /// The switch over captures.
+    Run(Paths<'a>),
+    /// The delays and the buffers of such a run.
+    Measure(Inputs<'a>),
+    /// What became of each frame and of each copy of such a run.
+    Trace(Paths<'a>),
+    /// A command of networks.
+    Network(NetworkRequest<'a>),
+}
+
+/// Why the words ask for no command.
+#[derive(Debug, Drop)]
+pub enum NoRequest {
+    /// They ask for help or the version, and this is its text.
+    Help(String),
+    /// They are refused.
+    Usage,
+    /// A growth was refused.
+    Memory,
+}

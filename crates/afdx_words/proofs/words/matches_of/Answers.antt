@@ -1,5 +1,0 @@
-use Rattle.afdx_words.proofs.WordLemmas.{refused}
-use Rattle.afdx_words.proofs.words.matches_of.Goals as goal
-
-pub returns-in-Err : goal.returns-in-Err
-returns-in-Err c = refused _ c.in-Err.error c.refusal.result (c.in-Err.ensures.kinds c.requires.free) c.refusal.ensures
