@@ -12,7 +12,7 @@ use Rattle.afdx_port.specs.declared.Item.{Item}
 use Rattle.afdx_port.specs.declared.Sent.{Sent}
 use Rattle.afdx_port.specs.Service.{Event, sending, aging, instant, item_of, reach, service, before, sent_of}
 use Rattle.afdx_port.specs.Admission.{fits, admit, admit_all}
-use Rattle.afdx_port.specs.Course.{EventsAreOfItems}
+use Rattle.afdx_port.specs.Inner.Course.{EventsAreOfItems}
 use Rattle.afdx_isolation.specs.Table.{settings_of}
 use Rattle.afdx_core.specs.declared.step.Row.{Row}
 use Rattle.afdx_core.specs.Rows.{named, passes, item_of as copy_of, copies_by, copies, each_after, feed_of}

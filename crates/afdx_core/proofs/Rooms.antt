@@ -8,7 +8,8 @@ use Rattle.std.proofs.lemmas.List.Quantifiers.{position-Some}
 use Rattle.afdx_table.specs.Link.{names_port}
 use Rattle.afdx_table.specs.declared.rows.PortRow.{PortRow}
 use Rattle.afdx_core.specs.declared.output_port.OutputPort.{OutputPort}
-use Rattle.afdx_core.specs.OutputPorts.{Out, seen, Became, PlacesAre}
+use Rattle.afdx_core.specs.OutputPorts.{Out, seen, PlacesAre}
+use Rattle.afdx_core.specs.Inner.OutputPorts.{Became}
 use Rattle.afdx_core.proofs.Outs.{became_map, became_then}
 use Rattle.afdx_table.specs.WellFormed.{IsPort}
 use Rattle.afdx_core.proofs.Calls.{position_within, some_of}

@@ -10,10 +10,12 @@ use Rattle.afdx_table.specs.declared.rows.PortRow.{PortRow}
 use Rattle.afdx_port.specs.Service.{reach}
 use Rattle.afdx_port.specs.Course.{starts_before}
 use Rattle.afdx_port.specs.Content.{Content, due, fresh, advanced}
-use Rattle.afdx_port.specs.Lagging.{has_due, AdvanceLeavesNothingDue, AdvanceAdds}
+use Rattle.afdx_port.specs.Lagging.{has_due}
+use Rattle.afdx_port.specs.Inner.Lagging.{AdvanceLeavesNothingDue, AdvanceAdds}
 use Rattle.afdx_core.specs.declared.output_port.OutputPort.{OutputPort}
 use Rattle.afdx_core.specs.Dues.{IsFirstBefore}
-use Rattle.afdx_core.specs.OutputPorts.{Out, seen, dues_of, carried, carried_due, CanCarry, Became}
+use Rattle.afdx_core.specs.OutputPorts.{Out, seen, dues_of}
+use Rattle.afdx_core.specs.Inner.OutputPorts.{carried, carried_due, CanCarry, Became}
 use Rattle.afdx_core.specs.Engine.{fresh_out}
 use Rattle.afdx_core.proofs.Counts.{carried_yes, carried_no}
 use Rattle.afdx_core.proofs.Keeping.{more_sent}

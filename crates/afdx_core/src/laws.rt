@@ -1,6 +1,6 @@
 //! Laws over the definitions.
 
-ghost use Rattle.afdx_core.specs.Agreement.{FeedIsPassed, VerdictsNameLinks, CopiesHaveTheirLinksPriority};
+ghost use Rattle.afdx_core.specs.Inner.Agreement.{FeedIsPassed, VerdictsNameLinks, CopiesHaveTheirLinksPriority};
 ghost use Rattle.afdx_core.specs.Isolation.{PassedCopiesArePassedFrames, AcceptedTablesIsolate, BuffersHoldTheBacklog, NoStepIsFull, OthersChangeNothing, RunsBegin, RunsTakeArrivals, RunsAdvance};
 ghost use Rattle.afdx_core.specs.Isolation.{RunsHandOut, RunsFinish};
 ghost use Rattle.afdx_core.specs.Kept.{FilteredTouchNoAccount};

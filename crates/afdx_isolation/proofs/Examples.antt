@@ -9,7 +9,7 @@ use Rattle.afdx_account.specs.Policing.{byte_terms, byte_weight}
 use Rattle.afdx_port.specs.declared.Settings.{Settings}
 use Rattle.afdx_port.specs.declared.Item.{Item}
 use Rattle.afdx_isolation.specs.Inner.Flow.{Flow, IsPaidFor, Carries, AreDistinct, bound, load_of}
-use Rattle.afdx_isolation.specs.Arrivals.{passed, feed_of, StampsDoNotFall}
+use Rattle.afdx_isolation.specs.Inner.Arrivals.{passed, feed_of, StampsDoNotFall}
 
 -- a frame of 1000 bytes in each ms, and one of 500 bytes, policed by bytes, on a line of 100 Mbit/s
 abbrev control : Flow

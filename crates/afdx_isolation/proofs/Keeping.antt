@@ -17,7 +17,7 @@ use Rattle.afdx_port.specs.declared.Item.{Item}
 use Rattle.afdx_port.specs.Service.{came, instant, item_of, is_high, service, before}
 use Rattle.afdx_port.specs.Admission.{occupied, fits}
 use Rattle.afdx_port.specs.Inner.Order.{highs, lows, line_up, in_line}
-use Rattle.afdx_port.specs.Course.{line_at}
+use Rattle.afdx_port.specs.Inner.Course.{line_at}
 use Rattle.afdx_port.specs.Inner.Work.{item_cost, work, HaveCome}
 use Rattle.afdx_load.specs.Sums.{parts}
 use Rattle.afdx_isolation.specs.Inner.Flow.{Flow, Load, IsPaidFor, IsWithinRate, HasBuffer, IsWithinDelay, Carries, AreDistinct, high_flows, low_flows, load_of, bound}

@@ -12,7 +12,8 @@ use Rattle.afdx_port.specs.Admission.{admitted}
 use Rattle.afdx_port.specs.Content.{Content, done}
 use Rattle.afdx_isolation.specs.Inner.Flow.{Flow, Load, Carries, load_of}
 use Rattle.afdx_isolation.specs.Inner.Account.{IsOfAFlow}
-use Rattle.afdx_isolation.specs.Arrivals.{frame_of, own, passed, feed_of}
+use Rattle.afdx_isolation.specs.Arrivals.{own}
+use Rattle.afdx_isolation.specs.Inner.Arrivals.{frame_of, passed, feed_of}
 use Rattle.afdx_isolation.specs.Inner.Claims.{Arrive, IsInBound, IsTimely, IsIsolatedPort, IsIsolatedSoFar, OthersChangeNothing}
 use Rattle.afdx_isolation.specs.Inner.Ground.{Ground}
 use Rattle.afdx_isolation.proofs.Keeping.{all_in_time, ordered}

@@ -12,7 +12,8 @@ use Rattle.afdx_account.specs.Level.{headroom}
 use Rattle.afdx_port.specs.declared.Item.{Item}
 use Rattle.afdx_isolation.specs.Inner.Flow.{Flow, AreDistinct}
 use Rattle.afdx_isolation.specs.Inner.Account.{Grow, AreDebited, charge}
-use Rattle.afdx_isolation.specs.Arrivals.{frame_of, own, is_passed, joins, level_after}
+use Rattle.afdx_isolation.specs.Arrivals.{own}
+use Rattle.afdx_isolation.specs.Inner.Arrivals.{frame_of, is_passed, joins, level_after}
 use Rattle.afdx_isolation.specs.Inner.Ground.{Ground}
 
 -- the frames of one link

@@ -15,7 +15,8 @@ use Rattle.afdx_port.specs.Admission.{admit_all, admitted}
 use Rattle.afdx_isolation.specs.Inner.Flow.{Flow, IsPaidFor, IsWithinRate, HasBuffer, AreDistinct}
 use Rattle.afdx_isolation.specs.Inner.Account.{Grow, IsOfAFlow}
 use Rattle.afdx_isolation.specs.Inner.Kept.{IsKeptLevel}
-use Rattle.afdx_isolation.specs.Arrivals.{frame_of, IsClean, own, passed, is_passed, joins, feed_after, feed_of, level_after}
+use Rattle.afdx_isolation.specs.Arrivals.{own}
+use Rattle.afdx_isolation.specs.Inner.Arrivals.{frame_of, IsClean, passed, is_passed, joins, feed_after, feed_of, level_after}
 use Rattle.afdx_isolation.specs.Inner.Claims.{Arrive}
 use Rattle.afdx_isolation.specs.Inner.Ground.{Ground}
 use Rattle.afdx_isolation.proofs.Clock.{reach-le, reach-gap}

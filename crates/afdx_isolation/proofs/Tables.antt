@@ -27,9 +27,11 @@ use Rattle.afdx_load.specs.Bounds.{backlog, byte_time}
 use Rattle.afdx_load.specs.Accepted.{Carries as CarriesSums}
 use Rattle.afdx_load.specs.Inner.Laws.{AsksWhatItsAccountGives, EachLinkAsks, AcceptedKeepsBounds}
 use Rattle.afdx_isolation.specs.Inner.Flow.{Flow, IsPaidFor, Carries, AreDistinct, high_flows, low_flows, rates, bursts, longest, load_of, bound}
-use Rattle.afdx_isolation.specs.Arrivals.{frame_of, IsClean, own, is_passed, joins, feed_of}
+use Rattle.afdx_isolation.specs.Arrivals.{own}
+use Rattle.afdx_isolation.specs.Inner.Arrivals.{frame_of, IsClean, is_passed, joins, feed_of}
 use Rattle.afdx_isolation.specs.Inner.Claims.{Arrive, IsInBound, IsIsolatedSoFar, IsolatesSoFar, NoneIsFull}
-use Rattle.afdx_isolation.specs.Table.{settings_of, flow_of, frames_for, flows_at, IsCleanIn, ArriveAt, bound_of, AcceptedTablesIsolate, OthersChangeNothingInTables}
+use Rattle.afdx_isolation.specs.Table.{settings_of, bound_of}
+use Rattle.afdx_isolation.specs.Inner.Table.{flow_of, frames_for, flows_at, IsCleanIn, ArriveAt, AcceptedTablesIsolate, OthersChangeNothingInTables}
 use Rattle.afdx_isolation.proofs.Sums.{among_filter}
 use Rattle.afdx_isolation.proofs.Levels.{joined, none_joined, passed_link}
 

@@ -11,7 +11,7 @@ use Rattle.afdx_port.specs.declared.Item.{Item}
 use Rattle.afdx_port.specs.Service.{sending, aging, free_after, fate, is_high}
 use Rattle.afdx_port.specs.Inner.Progress.{LineState, left}
 use Rattle.afdx_port.specs.Inner.Order.{highs, lows, line_up}
-use Rattle.afdx_port.specs.Course.{rest_in_line, line_at}
+use Rattle.afdx_port.specs.Inner.Course.{rest_in_line, line_at}
 use Rattle.afdx_port.specs.Inner.Work.{item_cost}
 use Rattle.afdx_isolation.specs.Inner.Flow.{Load}
 use Rattle.afdx_isolation.specs.Inner.Potential.{IsWithinPotentials}

@@ -2,7 +2,7 @@
 
 ghost use Rattle.afdx_isolation.specs.Inner.Ground.{Ground};
 ghost use Rattle.afdx_isolation.specs.Inner.Kept.{IsKeptAtFirst, IsKeptOverTime, IsKeptByWhatIsPaidFor, WhatIsPaidForFits};
-ghost use Rattle.afdx_isolation.specs.Table.{OffersWhatThePolicingPasses, AcceptedTablesIsolate, BuffersHoldTheBacklog, OthersChangeNothingInTables};
+ghost use Rattle.afdx_isolation.specs.Inner.Table.{OffersWhatThePolicingPasses, AcceptedTablesIsolate, BuffersHoldTheBacklog, OthersChangeNothingInTables};
 ghost use Rattle.afdx_isolation.specs.Inner.Claims.{PotentialsHold, NoneIsFull, HighKeepsBound, LowKeepsBound, Isolates, IsolatesSoFar, OthersChangeNothing};
 
 use afdx_account::laws::{

@@ -13,7 +13,8 @@ use Rattle.afdx_load.specs.declared.fault.Rule.TheVariants.{Rate, Buffer, HighDe
 use Rattle.afdx_load.specs.declared.fault.LoadFault.{LoadFault}
 use Rattle.afdx_load.specs.Sums.{Sums, load_of}
 use Rattle.afdx_load.specs.Accepted.{past_bound, fault_at, first_fault}
-use Rattle.afdx_load.specs.First.{need_of, limit_of, place_of, IsFirstFault, FaultIsTheFirst}
+use Rattle.afdx_load.specs.First.{need_of, limit_of}
+use Rattle.afdx_load.specs.Inner.First.{place_of, IsFirstFault, FaultIsTheFirst}
 use Rattle.afdx_load.proofs.SlotLemmas.{any_default, rise}
 use Rattle.afdx_load.proofs.FaultLemmas.{none_bound, or_none, some_none}
 

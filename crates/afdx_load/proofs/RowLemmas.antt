@@ -10,7 +10,7 @@ use Rattle.afdx_table.specs.Link.{Link}
 use Rattle.afdx_table.specs.Content.{Content}
 use Rattle.afdx_table.specs.Ports.{has_port}
 use Rattle.afdx_table.specs.WellFormed.{IsPort, IsLink, IsWellFormed}
-use Rattle.afdx_load.specs.Slots.{are_slots}
+use Rattle.afdx_load.specs.Inner.Slots.{are_slots}
 
 -- ---- ports
 

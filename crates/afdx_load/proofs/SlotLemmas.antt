@@ -10,7 +10,8 @@ use Rattle.afdx_table.specs.declared.rows.PortRow.{PortRow}
 use Rattle.afdx_table.specs.Content.{Content, port_row}
 use Rattle.afdx_table.specs.WellFormed.{IsPort, Rises}
 use Rattle.afdx_load.specs.Sums.{Sums, asked_of, behind, load_of, port_load}
-use Rattle.afdx_load.specs.Slots.{speed_at, AreLoads}
+use Rattle.afdx_load.specs.Slots.{AreLoads}
+use Rattle.afdx_load.specs.Inner.Slots.{speed_at}
 
 pub any_default : (rows : List PortRow) (i : ℕ) (d e : PortRow) → i < length rows → get_or rows i d ≡ get_or rows i e
 any_default [] i d e h = absurd (omega arith)

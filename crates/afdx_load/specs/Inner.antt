@@ -1,2 +1,4 @@
 pub mod Adding
+pub mod First
 pub mod Laws
+pub mod Slots

@@ -2,7 +2,7 @@
 
 ghost use Rattle.afdx_load.specs.Inner.Laws.{FactorCoversOverhead, AsksWhatItsAccountGives, EachLinkAsks, SumsTakeEachLinkOnce, LongestShowsLinks, HighLinksLeaveAPart};
 ghost use Rattle.afdx_load.specs.Inner.Laws.{AcceptedMeansNoFault, AcceptedKeepsBounds};
-ghost use Rattle.afdx_load.specs.First.{FaultIsTheFirst};
+ghost use Rattle.afdx_load.specs.Inner.First.{FaultIsTheFirst};
 ghost use Rattle.afdx_load.specs.Fits.{AcceptedWhereEachPortFits};
 
 /// The factor 21/16 of the rate of a link policed by bytes covers the line time of frames exactly from 64 bytes on.

@@ -4,7 +4,8 @@ ghost use Rattle.std.specs.Prelude.{◌≡◌, ℕ, true, ◌<◌, ◌≤◌, le
 ghost use Rattle.std.specs.List.{AllByRecursion};
 ghost use Rattle.afdx_table.specs.WellFormed.{IsPort, Rises, IsLink};
 ghost use Rattle.afdx_load.specs.Sums.{Sums, port_load};
-ghost use Rattle.afdx_load.specs.Slots.{are_slots, HasSpeeds, HaveRoom, with_routed, AreLoads};
+ghost use Rattle.afdx_load.specs.Slots.{AreLoads};
+ghost use Rattle.afdx_load.specs.Inner.Slots.{are_slots, HasSpeeds, HaveRoom, with_routed};
 
 use crate::port_loads::{Loads, SLOTS};
 use crate::sums::Load;

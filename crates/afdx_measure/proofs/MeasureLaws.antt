@@ -18,7 +18,7 @@ use Rattle.afdx_load.specs.Bounds.{backlog, byte_time}
 use Rattle.afdx_load.specs.Accepted.{IsAccepted}
 use Rattle.afdx_isolation.specs.Table.{settings_of, bound_of, IsInBoundAt}
 use Rattle.afdx_core.specs.Rows.{feed_of}
-use Rattle.afdx_core.specs.Agreement.{CopiesHaveTheirLinksPriority}
+use Rattle.afdx_core.specs.Inner.Agreement.{CopiesHaveTheirLinksPriority}
 use Rattle.afdx_core.specs.Isolation.{IsRun, AcceptedTablesIsolate, BuffersHoldTheBacklog}
 use Rattle.afdx_core.specs.State.{Run, port_in, sent_in}
 use Rattle.afdx_measure.specs.declared.filling.Filling.{Filling}

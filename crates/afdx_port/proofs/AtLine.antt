@@ -8,7 +8,7 @@ use Rattle.afdx_port.specs.declared.Item.{Item}
 use Rattle.afdx_port.specs.Service.{Event, instant, came, item_of, free_after, fate, next, others, is_high, in_turn, service, before}
 use Rattle.afdx_port.specs.Inner.Progress.{LineState, left, is_due}
 use Rattle.afdx_port.specs.Inner.Order.{in_line, highs, lows, line_up}
-use Rattle.afdx_port.specs.Course.{rest_in_line, reached, first_start, line_at}
+use Rattle.afdx_port.specs.Inner.Course.{rest_in_line, reached, first_start, line_at}
 use Rattle.afdx_port.specs.Inner.Work.{item_cost, work, HaveCome}
 use Rattle.afdx_port.proofs.Choices.{choose_yes, choose_no}
 use Rattle.afdx_port.proofs.Turns.{free_after-next, instant-fate, by_steps}

@@ -11,7 +11,8 @@ use Rattle.afdx_port.specs.declared.Item.{Item}
 use Rattle.afdx_port.specs.Service.{free_after, fate, before}
 use Rattle.afdx_port.specs.Inner.Progress.{LineState}
 use Rattle.afdx_port.specs.Inner.Order.{in_line}
-use Rattle.afdx_port.specs.Course.{next_in_line, after_next, rest_in_line, first_start, starts_before}
+use Rattle.afdx_port.specs.Course.{starts_before}
+use Rattle.afdx_port.specs.Inner.Course.{next_in_line, after_next, rest_in_line, first_start}
 use Rattle.afdx_port.proofs.Choices.{below, above}
 use Rattle.afdx_port.proofs.Turns.{instant-fate, free_after-fate}
 use Rattle.afdx_port.proofs.Earlier.{before-cons_out, before-cons_in}

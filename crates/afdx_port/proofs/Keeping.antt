@@ -14,7 +14,7 @@ use Rattle.afdx_port.specs.Admission.{fits}
 use Rattle.afdx_port.specs.Inner.Progress.{LineState, left, on_line}
 use Rattle.afdx_port.specs.Inner.Order.{in_line, line_up}
 use Rattle.afdx_port.specs.Inner.Work.{HaveCome}
-use Rattle.afdx_port.specs.Course.{rest_in_line, reached, first_start, line_at}
+use Rattle.afdx_port.specs.Inner.Course.{rest_in_line, reached, first_start, line_at}
 use Rattle.afdx_port.specs.Inner.Queued.{queued}
 use Rattle.afdx_port.specs.Inner.Sound.{IsSound, HasRoom, queue_of, state_of}
 use Rattle.afdx_port.specs.Content.{Content, done, due}

@@ -1,5 +1,7 @@
+pub mod Course
 pub mod Events
 pub mod Gone
+pub mod Lagging
 pub mod Order
 pub mod Progress
 pub mod Queued

@@ -6,7 +6,8 @@ ghost use Rattle.std.specs.Vec.{vec_capacity};
 ghost use Rattle.afdx_port.specs.Service.{reach, came, before, sent_of, aged_of};
 ghost use Rattle.afdx_port.specs.Inner.Order.{in_line};
 ghost use Rattle.afdx_port.specs.Inner.Progress.{on_line};
-ghost use Rattle.afdx_port.specs.Course.{next_in_line, after_next, rest_in_line, reached, first_start, starts_before};
+ghost use Rattle.afdx_port.specs.Course.{starts_before};
+ghost use Rattle.afdx_port.specs.Inner.Course.{next_in_line, after_next, rest_in_line, reached, first_start};
 ghost use Rattle.afdx_port.specs.Inner.Queued.{line_of, count_of, queued};
 ghost use Rattle.afdx_port.specs.Inner.Sound.{IsSound, IsSmall, HasRoom, queue_of, state_of};
 

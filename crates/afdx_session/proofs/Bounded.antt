@@ -24,7 +24,7 @@ use Rattle.afdx_count.specs.Tally.{Tally}
 use Rattle.afdx_session.specs.declared.lane.Lane.{Lane}
 use Rattle.afdx_session.specs.Output.{rows_of, bytes_at, written}
 use Rattle.afdx_session.specs.Streams.{Stream, captures_of, merged_so_far, sent_up_to}
-use Rattle.afdx_session.specs.Lanes.{waiting_of}
+use Rattle.afdx_session.specs.Inner.Lanes.{waiting_of}
 use Rattle.afdx_session.specs.Inner.Kept.{AreLanesOf, text_up_to, IsGoing}
 use Rattle.afdx_session.proofs.Numbered.{all_append}
 use Rattle.afdx_session.proofs.Settling.{all_front, by_stamp_in, arrived, all_arrived}

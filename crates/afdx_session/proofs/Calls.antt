@@ -19,7 +19,8 @@ use Rattle.afdx_session.specs.declared.plan.RunFault.{RunFault}
 use Rattle.afdx_session.specs.Reading.{IsFaultAt}
 use Rattle.afdx_session.specs.Inner.Settled.{IsGiven, HandsOut}
 use Rattle.afdx_session.specs.Session.{IsSoundSoFar}
-use Rattle.afdx_session.specs.Lanes.{limit_at, IsStill, Adds, HasReadAll, NoneGoes, IsPieceFault}
+use Rattle.afdx_session.specs.Lanes.{IsPieceFault}
+use Rattle.afdx_session.specs.Inner.Lanes.{limit_at, IsStill, Adds, HasReadAll, NoneGoes}
 use Rattle.afdx_session.specs.Inner.Kept.{AreOfTable, come_to, AreOut, Every, IsGoing, HasCome, IsRunning, AreTouched, AreGrown, IsOfSameTable, IsMarked}
 use Rattle.afdx_session.specs.Inner.View.{IsReady, IsOpenAt, AreHalfDone, AreSettledLanes, IsFed, IsEnded, IsNotFed, IsNotEnded, intakes_of}
 use Rattle.afdx_session.proofs.Going.{some_same, reads_on}

@@ -20,7 +20,7 @@ use Rattle.afdx_session.specs.declared.plan.RunFault.TheVariants as run
 use Rattle.afdx_session.specs.Texts.{Text}
 use Rattle.afdx_session.specs.Reading.{IsSound}
 use Rattle.afdx_session.specs.Inner.Settled.{first_place, IsGiven, HandsOut}
-use Rattle.afdx_session.specs.Lanes.{limit_at, with_waiting, head_of, head_stamp, IsFirstUpTo, IsFirstOf, IsWithinPlace, IsLimit, NoneGoes, IsReadOn, HasDrawn, IsLaneFault}
+use Rattle.afdx_session.specs.Inner.Lanes.{limit_at, with_waiting, head_of, head_stamp, IsFirstUpTo, IsFirstOf, IsWithinPlace, IsLimit, NoneGoes, IsReadOn, HasDrawn, IsLaneFault}
 use Rattle.afdx_session.specs.Inner.Lent.{AreSound, IsOver, texts_over, left_of, left_in, IsOneFault, IsCarrying, CarriesOn, HandsOn}
 use Rattle.afdx_session.specs.Inner.Kept.{AreOfTable, AreOut, Every, IsGoing, AreTouched, IsGrown, AreGrown, IsOfSameTable}
 use Rattle.afdx_session.specs.Inner.View.{HasGone, IsRound}

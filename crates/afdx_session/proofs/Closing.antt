@@ -8,7 +8,7 @@ use Rattle.afdx_session.specs.declared.machine.Machine.{Machine}
 use Rattle.afdx_session.specs.declared.plan.RunFault.{RunFault}
 use Rattle.afdx_session.specs.Reading.{IsFaultAt, IsReadFault}
 use Rattle.afdx_session.specs.Streams.{Stream}
-use Rattle.afdx_session.specs.Lanes.{IsStill, Adds, HasReadAll}
+use Rattle.afdx_session.specs.Inner.Lanes.{IsStill, Adds, HasReadAll}
 use Rattle.afdx_session.specs.Inner.Kept.{AreLanesOf, AreOfTable, IsGoing, IsMarked}
 use Rattle.afdx_session.specs.Inner.View.{IsReady, AreHalfDone, AreEndedLanes, texts_at}
 use Rattle.afdx_session.proofs.Going.{some_same, reads_on}

@@ -22,7 +22,7 @@ use Rattle.afdx_session.specs.Reading.{AreCaptures, IsFirstFault, IsFaultAt, IsR
 use Rattle.afdx_session.specs.Output.{output_text}
 use Rattle.afdx_session.specs.Streams.{Stream, captures_of, whole_of, merged_so_far, frontier, text_so_far, last_instant, AllStartBeforeTheLastInstant}
 use Rattle.afdx_session.specs.Session.{Intake}
-use Rattle.afdx_session.specs.Lanes.{waiting_of, HasReadAll}
+use Rattle.afdx_session.specs.Inner.Lanes.{waiting_of, HasReadAll}
 use Rattle.afdx_session.specs.Inner.Kept.{IsLaneOf, AreLanesOf, AreOfTable, come_to, IsGoing, IsRunning, AreTouched, IsMarked}
 use Rattle.afdx_session.specs.Inner.View.{IsHalfDone, AreHalfDone, IsEndedLane, AreEndedLanes, texts_at}
 use Rattle.afdx_session.proofs.Going.{Early, lanes_early, some_same}

@@ -23,7 +23,7 @@ use Rattle.afdx_session.specs.Headline.{AcceptedRunsIsolate}
 use Rattle.afdx_session.specs.Streams.{captures_of, AllStartBeforeTheLastInstant}
 use Rattle.afdx_session.specs.Session.{Intake, Seen, taken_in}
 use Rattle.afdx_session.specs.Finish.{rest_of, texts_in, IsFinished}
-use Rattle.afdx_session.specs.Lanes.{intake_of}
+use Rattle.afdx_session.specs.Inner.Lanes.{intake_of}
 use Rattle.afdx_session.specs.Inner.Kept.{AreOfTable, IsRunning, IsMarked, IsOfSameTable}
 use Rattle.afdx_session.specs.Inner.View.{intakes_of, texts_at, seen_of, AreHalfDone, AreEndedLanes, IsKeptMachine}
 use Rattle.afdx_session.proofs.Going.{some_same}

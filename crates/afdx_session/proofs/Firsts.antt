@@ -8,7 +8,7 @@ use Rattle.afdx_core.specs.Merge.{Arrival, Capture}
 use Rattle.afdx_session.specs.declared.lane.Lane.{Lane}
 use Rattle.afdx_session.specs.Streams.{Stream, captures_of, last_of}
 use Rattle.afdx_session.specs.Inner.Settled.{Ascend, ports_of, first_place, limit, IsWithin, HeadFrom, ComesFirst, AllRise, without, IsSettling, IsPast}
-use Rattle.afdx_session.specs.Lanes.{waiting_of, limit_at, head_of, head_stamp, IsFirstUpTo, IsWithinPlace, with_waiting, Goes}
+use Rattle.afdx_session.specs.Inner.Lanes.{waiting_of, limit_at, head_of, head_stamp, IsFirstUpTo, IsWithinPlace, with_waiting, Goes}
 use Rattle.afdx_session.specs.Inner.Kept.{AreLanesOf}
 use Rattle.afdx_session.proofs.Giving.{settles_on}
 

@@ -26,7 +26,7 @@ use Rattle.afdx_session.specs.Output.{written}
 use Rattle.afdx_session.specs.Streams.{Stream, captures_of, frontier, least, sent_up_to}
 use Rattle.afdx_session.specs.Inner.Settled.{AreQueued, IsGiven}
 use Rattle.afdx_session.specs.Session.{fresh_intake, fresh_session}
-use Rattle.afdx_session.specs.Lanes.{intake_of, waiting_of, HasReadAll}
+use Rattle.afdx_session.specs.Inner.Lanes.{intake_of, waiting_of, HasReadAll}
 use Rattle.afdx_session.specs.Inner.Kept.{IsLaneOf, AreLanesOf, come_to, text_up_to, IsGoing, IsRunning, IsMarked}
 use Rattle.afdx_session.specs.Inner.View.{IsFreshLane, AreFreshLanes, intakes_of, seen_of, IsShown, IsKeptMachine}
 use Rattle.afdx_session.proofs.Shown.{lanes_are_streams}

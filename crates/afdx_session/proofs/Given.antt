@@ -28,7 +28,7 @@ use Rattle.afdx_session.specs.Output.{rows_of, written}
 use Rattle.afdx_session.specs.Streams.{Stream, frontier}
 use Rattle.afdx_session.specs.Inner.Merging.{AreInOrder}
 use Rattle.afdx_session.specs.Inner.Settled.{without, IsGiven, HeadFrom, AllRise, IsPast}
-use Rattle.afdx_session.specs.Lanes.{waiting_of, limit_at, with_waiting, IsWithinPlace, IsFirstOf, IsFirstUpTo, Goes, NoneGoes}
+use Rattle.afdx_session.specs.Inner.Lanes.{waiting_of, limit_at, with_waiting, IsWithinPlace, IsFirstOf, IsFirstUpTo, Goes, NoneGoes}
 use Rattle.afdx_session.specs.Inner.Kept.{AreLanesOf, AreOfTable, come_to, text_up_to, IsOut, IsGoing, HasCome}
 use Rattle.afdx_session.proofs.Joining.{AllFrom, frames-from, by_stamp-in_order}
 use Rattle.afdx_session.proofs.Settling.{all_back}

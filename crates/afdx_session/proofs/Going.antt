@@ -17,7 +17,7 @@ use Rattle.afdx_count.specs.Tally.{Tally}
 use Rattle.afdx_session.specs.declared.lane.Lane.{Lane}
 use Rattle.afdx_session.specs.Streams.{Stream, captures_of, last_of, frontier, merged_so_far, GoOn}
 use Rattle.afdx_session.specs.Inner.Settled.{Ascend, ports_of, AllRise, AreQueued, AllWait}
-use Rattle.afdx_session.specs.Lanes.{Adds, waiting_of, with_waiting}
+use Rattle.afdx_session.specs.Inner.Lanes.{Adds, waiting_of, with_waiting}
 use Rattle.afdx_session.specs.Inner.Kept.{IsLaneOf, AreLanesOf, AreOfTable, come_to, text_up_to, IsOut, AreOut, Every, IsGoing}
 use Rattle.afdx_session.proofs.Joining.{AllFrom}
 use Rattle.afdx_session.proofs.Numbered.{all_append}

@@ -11,7 +11,7 @@ use Rattle.afdx_table.specs.declared.rows.PortRow.{PortRow}
 use Rattle.afdx_table.specs.Content.{Content}
 use Rattle.afdx_port.specs.Admission.{EarlierEventsStayAdmitted}
 use Rattle.afdx_port.specs.Inner.Order.{ReachesInOrder}
-use Rattle.afdx_port.specs.Course.{EventsAreInParts}
+use Rattle.afdx_port.specs.Inner.Course.{EventsAreInParts}
 use Rattle.afdx_core.specs.State.{State, place_of, next_by}
 use Rattle.afdx_core.specs.Merge.{Arrival, merged}
 use Rattle.afdx_count.specs.Tally.{Tally}
@@ -20,7 +20,7 @@ use Rattle.afdx_session.specs.Output.{written}
 use Rattle.afdx_session.specs.Replay.{HasBytesOf, IsDrained}
 use Rattle.afdx_session.specs.Streams.{Stream, merged_so_far, frontier, sent_up_to, output_so_far, text_so_far, last_instant, AllStartBeforeTheLastInstant}
 use Rattle.afdx_session.specs.Inner.Settled.{IsSettling, IsGiven, IsAt, HandsOut, Draws}
-use Rattle.afdx_session.specs.Lanes.{waiting_of}
+use Rattle.afdx_session.specs.Inner.Lanes.{waiting_of}
 use Rattle.afdx_pcap.specs.Reading.{HasTaken}
 use Rattle.afdx_session.specs.Inner.Kept.{IsLaneOf, AreLanesOf, AreOfTable, come_to, text_up_to, IsOut, AreOut, Every, IsGoing, HasCome, IsRunning, IsTouched, IsGrown, AreGrown}
 use Rattle.afdx_session.proofs.Joining.{AllFrom}

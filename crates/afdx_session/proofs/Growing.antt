@@ -15,7 +15,7 @@ use Rattle.afdx_port.specs.declared.Sent.{Sent}
 use Rattle.afdx_port.specs.Service.{Event, sending, aging, instant, reach, service, before, sent_of}
 use Rattle.afdx_port.specs.Admission.{admitted, EarlierEventsStayAdmitted}
 use Rattle.afdx_port.specs.Inner.Order.{ReachesInOrder}
-use Rattle.afdx_port.specs.Course.{EventsAreInParts}
+use Rattle.afdx_port.specs.Inner.Course.{EventsAreInParts}
 use Rattle.afdx_isolation.specs.Table.{settings_of}
 use Rattle.afdx_core.specs.Rows.{feed_of}
 use Rattle.afdx_core.specs.Merge.{Arrival, Capture, Rises, arrivals_of, placed, by_stamp, merged}

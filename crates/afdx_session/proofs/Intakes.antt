@@ -11,7 +11,7 @@ use Rattle.afdx_session.specs.declared.lane.Lane.{Lane}
 use Rattle.afdx_session.specs.Session.{Intake, fed, ended}
 use Rattle.afdx_session.specs.Inner.Settled.{IsSettling}
 use Rattle.afdx_session.specs.Streams.{Stream}
-use Rattle.afdx_session.specs.Lanes.{intake_of, waiting_of, IsStill}
+use Rattle.afdx_session.specs.Inner.Lanes.{intake_of, waiting_of, IsStill}
 use Rattle.afdx_session.specs.Inner.Kept.{IsLaneOf, AreLanesOf, AreOfTable, text_up_to, IsGoing, IsRunning, IsTouched, AreTouched, AreGrown, IsMarked}
 use Rattle.afdx_session.specs.Inner.View.{IsHalfDone, AreHalfDone, IsSettledLane, AreSettledLanes, intakes_of}
 use Rattle.afdx_session.proofs.Going.{some_same}

@@ -14,7 +14,7 @@ use Rattle.afdx_session.specs.declared.plan.RunFault.{RunFault}
 use Rattle.afdx_session.specs.declared.plan.RunFault.TheVariants as run
 use Rattle.afdx_session.specs.Texts.{Text, texts_of, AreOfPorts}
 use Rattle.afdx_session.specs.Reading.{IsFaultAt}
-use Rattle.afdx_session.specs.Lanes.{IsStill, IsReadOn, HasReadAll, Adds, HasDrawn}
+use Rattle.afdx_session.specs.Inner.Lanes.{IsStill, IsReadOn, HasReadAll, Adds, HasDrawn}
 use Rattle.afdx_session.specs.Inner.Lent.{IsOver, texts_over, IsOneFault}
 use Rattle.afdx_session.specs.Inner.Kept.{AreOfTable, IsGoing, AreTouched}
 use Rattle.afdx_session.specs.Inner.View.{IsFreshLane, AreFreshLanes, AreLent, AreSettledLanes}

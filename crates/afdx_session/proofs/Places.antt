@@ -8,7 +8,7 @@ use Rattle.std.proofs.lemmas.Bool.Decides.{nat_tests}
 use Rattle.afdx_table.specs.declared.rows.PortRow.{PortRow}
 use Rattle.afdx_session.specs.declared.lane.Lane.{Lane}
 use Rattle.afdx_session.specs.Session.{Intake, changed}
-use Rattle.afdx_session.specs.Lanes.{intake_of}
+use Rattle.afdx_session.specs.Inner.Lanes.{intake_of}
 use Rattle.afdx_session.specs.Inner.View.{intakes_of}
 
 -- ---- positions

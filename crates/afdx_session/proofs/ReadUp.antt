@@ -3,7 +3,7 @@ use Rattle.std.proofs.Common.{◌≡◌, ℕ, zero, suc, List, [], ◌∷◌, se
 use Rattle.std.specs.List.{AllByRecursion}
 use Rattle.afdx_pcap.specs.Reading.{NoNext, IsSound}
 use Rattle.afdx_session.specs.declared.lane.Lane.{Lane}
-use Rattle.afdx_session.specs.Lanes.{HasReadAll}
+use Rattle.afdx_session.specs.Inner.Lanes.{HasReadAll}
 use Rattle.afdx_session.specs.Inner.Kept.{AreTouched}
 use Rattle.afdx_session.specs.Inner.View.{AreSettledLanes}
 

@@ -18,7 +18,7 @@ use Rattle.afdx_port.specs.Inner.Order.{EndsDoNotFall}
 use Rattle.afdx_port.specs.Service.{service, sent_of}
 use Rattle.afdx_port.specs.Inner.Work.{EndsWithinASecond}
 use Rattle.afdx_isolation.specs.Table.{settings_of}
-use Rattle.afdx_core.specs.Agreement.{VerdictsNameLinks}
+use Rattle.afdx_core.specs.Inner.Agreement.{VerdictsNameLinks}
 use Rattle.afdx_core.specs.Merge.{Arrival, Capture, arrivals_of, merged}
 use Rattle.afdx_core.specs.Rows.{feed_of}
 use Rattle.afdx_session.specs.Texts.{Text}

@@ -7,7 +7,7 @@ use Rattle.afdx_core.specs.Merge.{Rises, Arrival, MergedIsAMerge, MergedIsByStam
 use Rattle.afdx_session.specs.declared.lane.Lane.{Lane}
 use Rattle.afdx_session.specs.Streams.{Stream, captures_of}
 use Rattle.afdx_session.specs.Inner.Settled.{Ascend, ports_of, IsSettling, Waits, AllWait}
-use Rattle.afdx_session.specs.Lanes.{waiting_of, Adds}
+use Rattle.afdx_session.specs.Inner.Lanes.{waiting_of, Adds}
 use Rattle.afdx_session.specs.Inner.Kept.{IsLaneOf, AreLanesOf}
 use Rattle.afdx_session.proofs.Gathering.{splits_rise}
 use Rattle.afdx_session.proofs.Settling.{settled_stays}

@@ -19,7 +19,7 @@ use Rattle.afdx_count.specs.Inner.Laws.{NoteCountsOneMore}
 use Rattle.afdx_session.specs.declared.lane.Lane.{Lane}
 use Rattle.afdx_session.specs.declared.machine.Machine.{Machine}
 use Rattle.afdx_session.specs.Inner.Settled.{first_place}
-use Rattle.afdx_session.specs.Lanes.{waiting_of, limit_at, with_waiting, IsWithinPlace, IsFirstIn, IsLimit, Goes, GoesAt, NoneGoes}
+use Rattle.afdx_session.specs.Inner.Lanes.{waiting_of, limit_at, with_waiting, IsWithinPlace, IsFirstIn, IsLimit, Goes, GoesAt, NoneGoes}
 use Rattle.afdx_session.specs.Inner.Kept.{AreOfTable, IsGoing, AreTouched, IsOfSameTable}
 use Rattle.afdx_session.specs.Inner.View.{HasGone, IsRound}
 use Rattle.afdx_session.proofs.Going.{some_same}

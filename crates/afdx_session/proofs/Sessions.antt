@@ -24,7 +24,8 @@ use Rattle.afdx_session.specs.Finish.{IsFinished, IsNotFinished}
 use Rattle.afdx_session.specs.Streams.{AllStartBeforeTheLastInstant}
 use Rattle.afdx_session.specs.Session.{Intake, Seen, bytes_in, taken_in, taken_of, refusal_at, refusal, bytes_of, changed, fed, ended, took, after_feed, after_close, after_take, after_failure}
 use Rattle.afdx_session.specs.Session.{IsRefused, IsSoundSoFar, HasGoneOut}
-use Rattle.afdx_session.specs.Lanes.{intake_of, IsPieceFault}
+use Rattle.afdx_session.specs.Lanes.{IsPieceFault}
+use Rattle.afdx_session.specs.Inner.Lanes.{intake_of}
 use Rattle.afdx_session.specs.Inner.Kept.{AreOfTable, IsOfSameTable, IsRunning}
 use Rattle.afdx_session.specs.Inner.View.{intakes_of, seen_of, gone_out, IsShownAt, IsKeptMachine, IsReady, AreHalfDone, AreEndedLanes, texts_at, IsTaken, IsOpenAt, IsFed, IsEnded, IsNotFed}
 use Rattle.afdx_session.specs.Inner.View.{IsNotEnded}

@@ -10,7 +10,7 @@ use Rattle.afdx_session.specs.declared.lane.Lane.{Lane}
 use Rattle.afdx_session.specs.declared.machine.Machine.{Machine}
 use Rattle.afdx_session.specs.Streams.{Stream, AreWhole, AllStartBeforeTheLastInstant}
 use Rattle.afdx_session.specs.Session.{Intake, IsStream, AreStreams}
-use Rattle.afdx_session.specs.Lanes.{HasReadAll}
+use Rattle.afdx_session.specs.Inner.Lanes.{HasReadAll}
 use Rattle.afdx_session.specs.Inner.Kept.{AreLanesOf, AreOfTable, text_up_to, IsMarked, IsOfSameTable}
 use Rattle.afdx_session.specs.Inner.View.{intakes_of, gone_out, IsShownAt, IsShown, IsReady, IsKeptMachine, IsHalfDone, AreHalfDone}
 use Rattle.afdx_session.proofs.Going.{some_same}

@@ -15,7 +15,7 @@ use Rattle.afdx_session.specs.declared.machine.Machine.{Machine}
 use Rattle.afdx_session.specs.Streams.{Stream}
 use Rattle.afdx_session.specs.Inner.Settled.{IsSettling}
 use Rattle.afdx_session.specs.Session.{IsStream, AreStreams, took}
-use Rattle.afdx_session.specs.Lanes.{intake_of, waiting_of, HasReadAll}
+use Rattle.afdx_session.specs.Inner.Lanes.{intake_of, waiting_of, HasReadAll}
 use Rattle.afdx_session.specs.Inner.Kept.{IsLaneOf, AreLanesOf, text_up_to, IsOut, IsGoing, IsRunning, IsMarked}
 use Rattle.afdx_session.specs.Inner.View.{intakes_of, gone_out, IsShownAt, IsShown, IsKeptMachine, IsTaken}
 use Rattle.afdx_session.proofs.Going.{some_same, get-set}

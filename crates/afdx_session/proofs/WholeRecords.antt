@@ -10,7 +10,7 @@ use Rattle.afdx_table.specs.declared.rows.PortRow.{PortRow}
 use Rattle.afdx_table.specs.Content.{Content}
 use Rattle.afdx_port.specs.Admission.{EarlierEventsStayAdmitted}
 use Rattle.afdx_port.specs.Inner.Order.{ReachesInOrder}
-use Rattle.afdx_port.specs.Course.{EventsAreInParts}
+use Rattle.afdx_port.specs.Inner.Course.{EventsAreInParts}
 use Rattle.afdx_core.specs.Merge.{Rises}
 use Rattle.afdx_session.specs.Streams.{Stream, AreWhole, text_so_far, GoesOn, GoOn}
 use Rattle.afdx_session.specs.Session.{Intake, IsStream, AreStreams, IsFedOn, AreFedOn}

@@ -23,7 +23,7 @@ use Rattle.afdx_session.specs.Output.{rows_of}
 use Rattle.afdx_session.specs.Streams.{captures_of, AllStartBeforeTheLastInstant}
 use Rattle.afdx_session.specs.Session.{Intake, Seen, taken_in, taken_of}
 use Rattle.afdx_session.specs.Finish.{rest_of, IsFinished}
-use Rattle.afdx_session.specs.Lanes.{intake_of}
+use Rattle.afdx_session.specs.Inner.Lanes.{intake_of}
 use Rattle.afdx_session.specs.Inner.Kept.{IsMarked, IsOfSameTable, IsGoing}
 use Rattle.afdx_session.specs.Inner.View.{texts_at, seen_of, intakes_of, IsReady, IsKeptMachine, AreLent, HasCarried}
 use Rattle.afdx_session.proofs.Intakes.{marked_bytes}

@@ -10,7 +10,7 @@ use Rattle.afdx_port.specs.declared.Sent.{Sent}
 use Rattle.afdx_port.specs.Content.{done}
 use Rattle.afdx_port.specs.Service.{sent_of}
 use Rattle.afdx_port.specs.Inner.Order.{ReachesInOrder}
-use Rattle.afdx_port.specs.Course.{EventsAreInParts}
+use Rattle.afdx_port.specs.Inner.Course.{EventsAreInParts}
 use Rattle.afdx_core.specs.declared.step.Row.{Row}
 use Rattle.afdx_core.specs.State.{Run, State, sent_in, port_after, place_of, next_by, after_finish}
 use Rattle.afdx_core.specs.Held.{Keeps}
@@ -26,7 +26,7 @@ use Rattle.afdx_session.specs.Output.{rows_of, written, output_text, sent_by}
 use Rattle.afdx_session.specs.Replay.{HasBytesOf, left_at, IsDrained}
 use Rattle.afdx_session.specs.Streams.{Stream, captures_of, sent_up_to}
 use Rattle.afdx_session.specs.Inner.Settled.{Draws}
-use Rattle.afdx_session.specs.Lanes.{waiting_of}
+use Rattle.afdx_session.specs.Inner.Lanes.{waiting_of}
 use Rattle.afdx_session.specs.Inner.Lent.{IsOver, texts_over, HaveGone}
 use Rattle.afdx_session.specs.Inner.Kept.{AreLanesOf, text_up_to, IsOut, IsGoing}
 use Rattle.afdx_session.specs.Carried.{Rest, IsLeft, IsCarried}

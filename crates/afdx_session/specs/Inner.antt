@@ -1,4 +1,5 @@
 pub mod Kept
+pub mod Lanes
 pub mod Lent
 pub mod Merging
 pub mod OneMerge

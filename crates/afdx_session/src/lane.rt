@@ -4,8 +4,9 @@ ghost use Rattle.std.specs.Prelude.{◌≡◌, ◌<◌, ◌≤◌, ◌-◌, ◌^
 ghost use Rattle.std.specs.Prelude.{if◌then◌else◌, ◌+◌, IsTrue, ◌↔◌, position, find};
 ghost use Rattle.afdx_pcap.specs.Entry.{Entry};
 ghost use Rattle.afdx_pcap.specs.Reading.{Answers};
-ghost use Rattle.afdx_session.specs.Lanes.{HasReadAll, HasDrawn, IsReadOn, Adds, IsLaneFault, limit_at, best_place, IsFirstOf, IsWithinPlace, head_of, sooner_of, IsStill, IsPieceFault, GoesAt};
-ghost use Rattle.afdx_session.specs.Lanes.{NoneGoes};
+ghost use Rattle.afdx_session.specs.Lanes.{IsPieceFault};
+ghost use Rattle.afdx_session.specs.Inner.Lanes.{HasReadAll, HasDrawn, IsReadOn, Adds, IsLaneFault, limit_at, best_place, IsFirstOf, IsWithinPlace, head_of, sooner_of, IsStill, GoesAt};
+ghost use Rattle.afdx_session.specs.Inner.Lanes.{NoneGoes};
 ghost use Rattle.afdx_session.specs.Inner.Lent.{IsOver};
 ghost use Rattle.afdx_session.specs.Reading.{IsFaultAt};
 ghost use Rattle.afdx_session.specs.Inner.View.{IsFreshLane, AreFreshLanes, IsSettledLane, IsTaken, IsOpenAt, intakes_of};

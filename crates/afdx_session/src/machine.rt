@@ -11,7 +11,7 @@ ghost use Rattle.afdx_core.specs.Rows.{row_of};
 ghost use Rattle.afdx_core.specs.State.{refusal_of, fresh_state, after_finish};
 ghost use Rattle.afdx_count.specs.Tally.{noted, fresh, ended};
 ghost use Rattle.afdx_session.specs.Inner.Kept.{AreOfTable, AreTouched, IsOfSameTable, IsGoing, IsRunning, come_to};
-ghost use Rattle.afdx_session.specs.Lanes.{limit_at, NoneGoes, IsLimit};
+ghost use Rattle.afdx_session.specs.Inner.Lanes.{limit_at, NoneGoes, IsLimit};
 ghost use Rattle.afdx_session.specs.Inner.Lent.{texts_over, IsOneFault, IsCarrying, CarriesOn, HandsOn, HaveGone};
 ghost use Rattle.afdx_session.specs.Inner.View.{IsRound, IsReady, IsOpenAt, IsFed, IsNotFed, IsEnded, IsNotEnded, AreSettledLanes, AreFreshLanes, AreHalfDone, AreEndedLanes, AreLent, texts_at};
 ghost use Rattle.afdx_session.specs.Texts.{texts_of, AreOfPorts};

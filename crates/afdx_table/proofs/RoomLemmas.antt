@@ -6,7 +6,7 @@ use Rattle.afdx_table.specs.declared.fault.Key.{Key}
 use Rattle.afdx_table.specs.declared.fault.Key.TheVariants as key
 use Rattle.afdx_table.specs.Fields.{known_at, optional_number_at, optional_text_at, tables_at}
 use Rattle.afdx_table.specs.Top.{Top, all_keys, top_keys, version_from, constant_from, latency_from, at_most, top_at}
-use Rattle.afdx_table.specs.Room.{head_at, HasItems, WantsRoom}
+use Rattle.afdx_table.specs.Inner.Room.{head_at, HasItems, WantsRoom}
 use Rattle.afdx_table.specs.Inner.Holds.{table_items, HasTables}
 use Rattle.afdx_table.proofs.Steps.{steps, answers, ok_inside}
 use Rattle.afdx_table.proofs.Says.{tables_at-says}

@@ -8,7 +8,8 @@ use Rattle.toml.specs.Errors.{IsBlank}
 use Rattle.toml.specs.Parse.{lines, parse_document}
 use Rattle.afdx_table.specs.declared.fault.TableFault.TheVariants.{Toml}
 use Rattle.afdx_table.specs.Text.{tree_of}
-use Rattle.afdx_table.specs.Room.{WantsRoom, SaysSomething}
+use Rattle.afdx_table.specs.Room.{SaysSomething}
+use Rattle.afdx_table.specs.Inner.Room.{WantsRoom}
 
 pub no_tree : (bytes : List ℕ) → (IsUtf8 bytes → parse_document bytes ≡ None) → tree_of bytes ≡ Err Toml
 unfolding tree_of

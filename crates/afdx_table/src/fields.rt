@@ -7,7 +7,7 @@ ghost use Rattle.toml.specs.Data.{get_member};
 ghost use Rattle.toml.specs.View.{view, table_view};
 ghost use Rattle.afdx_table.specs.Refusal.{Gives};
 ghost use Rattle.afdx_table.specs.Names.{key_text};
-ghost use Rattle.afdx_table.specs.Room.{HasItems};
+ghost use Rattle.afdx_table.specs.Inner.Room.{HasItems};
 ghost use Rattle.afdx_table.specs.declared.fault.TableFault.TheVariants.{Memory};
 ghost use Rattle.afdx_table.specs.Fields.{bounded_natural, is_one_of, are_known, known_at, value_at, number_in, text_in, number_at, bounded, bounded_at, text_at, optional_number_at};
 ghost use Rattle.afdx_table.specs.Fields.{optional_text_at, tables_at, all_bounded, numbers_at};

@@ -6,7 +6,8 @@ ghost use Rattle.afdx_table.specs.Refusal.{Gives};
 ghost use Rattle.afdx_table.specs.Link.{with_jitter};
 ghost use Rattle.afdx_table.specs.Content.{port_row, link_row, link_place};
 ghost use Rattle.afdx_table.specs.Text.{content_of, tree_of, table_of};
-ghost use Rattle.afdx_table.specs.Room.{WantsRoom, SaysSomething};
+ghost use Rattle.afdx_table.specs.Room.{SaysSomething};
+ghost use Rattle.afdx_table.specs.Inner.Room.{WantsRoom};
 ghost use Rattle.afdx_table.specs.WellFormed.{IsPort, IsLink, IsWellFormed};
 ghost use Rattle.afdx_table.specs.declared.fault.TableFault.TheVariants.{Memory};
 

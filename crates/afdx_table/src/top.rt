@@ -4,7 +4,7 @@ ghost use Rattle.std.specs.Prelude.{◌≡◌, ◌≢◌, ◌≤◌, Err, IfErr,
 ghost use Rattle.hex.specs.Hex.{decode_sized};
 ghost use Rattle.toml.specs.View.{table_view};
 ghost use Rattle.afdx_table.specs.Refusal.{Gives};
-ghost use Rattle.afdx_table.specs.Room.{WantsRoom};
+ghost use Rattle.afdx_table.specs.Inner.Room.{WantsRoom};
 ghost use Rattle.afdx_table.specs.declared.fault.TableFault.TheVariants.{Memory};
 ghost use Rattle.afdx_table.specs.Top.{top_keys, at_most, version_from, group_address, constant_from, latency_from, top_at};
 ghost use Rattle.afdx_table.specs.Fields.{known_at};

@@ -9,12 +9,13 @@ use Rattle.afdx_port.specs.declared.Sent.{Sent}
 use Rattle.afdx_port.specs.Service.{Event, sending, aging, reach, item_of, service, sent_of, aged_of}
 use Rattle.afdx_port.specs.Admission.{admitted}
 use Rattle.afdx_port.specs.Content.{Content, done}
-use Rattle.afdx_port.specs.Course.{line_at}
+use Rattle.afdx_port.specs.Inner.Course.{line_at}
 use Rattle.afdx_port.specs.Inner.Work.{item_cost}
 use Rattle.afdx_isolation.specs.Inner.Flow.{Flow, Load, IsPaidFor, IsWithinRate, HasBuffer, IsWithinDelay, Carries, AreDistinct, load_of, bound}
 use Rattle.afdx_isolation.specs.Inner.Potential.{KeepsPotentials}
 use Rattle.afdx_isolation.specs.Inner.Account.{IsOfAFlow}
-use Rattle.afdx_isolation.specs.Arrivals.{frame_of, StampsDoNotFall, IsClean, own, passed, feed_of, level_after}
+use Rattle.afdx_isolation.specs.Arrivals.{own}
+use Rattle.afdx_isolation.specs.Inner.Arrivals.{frame_of, StampsDoNotFall, IsClean, passed, feed_of, level_after}
 
 -- arrivals at the switch of this port: the flows are policed at prices that pay for line time, no two have one number,
 -- and of all clean arrivals, of these flows and of others, the stamps do not fall

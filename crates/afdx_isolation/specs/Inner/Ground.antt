@@ -2,7 +2,7 @@
 use Rattle.afdx_account.specs.Inner.Laws.{NextFrameJoinsWhereItConforms, PassedByTheirFrames, HeadroomIsCredited, HeadroomDecides, HeadroomIsDebited}
 use Rattle.afdx_port.specs.declared.Item.{Item}
 use Rattle.afdx_port.specs.Admission.{EarlierEventsStay}
-use Rattle.afdx_port.specs.Course.{LineGoesOn, ArrivalJoinsTheLine, EventsAreInParts, EventsFollowTheLine, WorkIsOfTheLine, EventsAreOfItems, WaitingIsOfItems}
+use Rattle.afdx_port.specs.Inner.Course.{LineGoesOn, ArrivalJoinsTheLine, EventsAreInParts, EventsFollowTheLine, WorkIsOfTheLine, EventsAreOfItems, WaitingIsOfItems}
 use Rattle.afdx_port.specs.Inner.Order.{KeepsOrder}
 use Rattle.afdx_port.specs.Inner.Work.{WorkBoundsBytes}
 

@@ -4,7 +4,7 @@ use Rattle.afdx_port.specs.declared.Settings.{Settings}
 use Rattle.afdx_port.specs.declared.Item.{Item}
 use Rattle.afdx_port.specs.Service.{came, service}
 use Rattle.afdx_port.specs.Admission.{fits}
-use Rattle.afdx_port.specs.Course.{line_at}
+use Rattle.afdx_port.specs.Inner.Course.{line_at}
 use Rattle.afdx_port.specs.Inner.Order.{InOrder}
 use Rattle.afdx_port.specs.Inner.Work.{HaveCome}
 use Rattle.afdx_load.specs.Sums.{parts}

@@ -13,7 +13,7 @@ use Rattle.afdx_session.specs.declared.lane.Lane.{Lane}
 use Rattle.afdx_session.specs.Output.{rows_of, written}
 use Rattle.afdx_session.specs.Streams.{Stream, frontier, sent_up_to, last_instant}
 use Rattle.afdx_session.specs.Inner.Settled.{IsSettling, IsGiven}
-use Rattle.afdx_session.specs.Lanes.{HasRead, waiting_of}
+use Rattle.afdx_session.specs.Inner.Lanes.{HasRead, waiting_of}
 
 -- a lane stands for the records that were read of its capture
 pub record IsLaneOf {Z : Type 0} (l : Lane Z) (s : Stream) : Type 0 where

@@ -9,7 +9,7 @@ use Rattle.afdx_session.specs.declared.plan.RunFault.{RunFault}
 use Rattle.afdx_session.specs.declared.plan.RunFault.TheVariants as run
 use Rattle.afdx_session.specs.Texts.{Text}
 use Rattle.afdx_session.specs.Reading.{IsSound}
-use Rattle.afdx_session.specs.Lanes.{HasReadAll}
+use Rattle.afdx_session.specs.Inner.Lanes.{HasReadAll}
 use Rattle.afdx_session.specs.Inner.Kept.{AreOfTable, IsGoing, IsOfSameTable}
 
 -- a lane over a whole capture: the last record that was read waits, or all were read and have gone

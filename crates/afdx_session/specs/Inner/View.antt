@@ -17,7 +17,8 @@ use Rattle.afdx_session.specs.Texts.{Text, AreOfPorts}
 use Rattle.afdx_session.specs.Finish.{text_in}
 use Rattle.afdx_session.specs.Streams.{Stream, text_so_far}
 use Rattle.afdx_session.specs.Session.{Intake, Seen, AreStreams, IsSoundSoFar, fed, ended}
-use Rattle.afdx_session.specs.Lanes.{intake_of, waiting_of, with_waiting, limit_at, HasReadAll, NoneGoes, IsPieceFault}
+use Rattle.afdx_session.specs.Lanes.{IsPieceFault}
+use Rattle.afdx_session.specs.Inner.Lanes.{intake_of, waiting_of, with_waiting, limit_at, HasReadAll, NoneGoes}
 use Rattle.afdx_session.specs.Inner.Kept.{AreOfTable, IsGoing, IsRunning, IsMarked, IsOfSameTable}
 
 abbrev pub intakes_of : {Z : Type 0} → List (Lane Z) → List Intake

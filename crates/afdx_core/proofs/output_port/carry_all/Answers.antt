@@ -2,7 +2,8 @@ use Rattle.std.proofs.Common.{rules, ◌+◌, ◌<◌, ◌≤◌, ◌≡◌, ℕ
 use Rattle.afdx_port.specs.Content.{due}
 use Rattle.afdx_port.specs.Course.{starts_before}
 use Rattle.afdx_core.specs.declared.output_port.OutputPort.{OutputPort}
-use Rattle.afdx_core.specs.OutputPorts.{Out, CanCarry, carried_due, seen}
+use Rattle.afdx_core.specs.OutputPorts.{Out, seen}
+use Rattle.afdx_core.specs.Inner.OutputPorts.{CanCarry, carried_due}
 use Rattle.afdx_core.specs.Copies.{newly_aged}
 use Rattle.afdx_core.specs.Dues.{IsFirstBefore}
 use Rattle.afdx_core.proofs.Outs.{more_room}

@@ -1,5 +1,6 @@
 use Rattle.std.proofs.Common.{◌≡◌, ◌+◌, ◌≤◌, ℕ, All, get_or}
-use Rattle.afdx_core.specs.OutputPorts.{CanCarry, dues_of}
+use Rattle.afdx_core.specs.OutputPorts.{dues_of}
+use Rattle.afdx_core.specs.Inner.OutputPorts.{CanCarry}
 use Rattle.afdx_core.specs.Copies.{HoldsCopies, Thinned}
 use Rattle.afdx_core.specs.declared.output_port.OutputPort.{OutputPort}
 use Rattle.afdx_core.proofs.Walk.{OnTheWay, lates}

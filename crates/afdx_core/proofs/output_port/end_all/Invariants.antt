@@ -1,4 +1,4 @@
-use Rattle.afdx_core.specs.OutputPorts.{ended}
+use Rattle.afdx_core.specs.Inner.OutputPorts.{ended}
 use Rattle.afdx_core.specs.Copies.{HoldsCopies, Thinned}
 use Rattle.afdx_core.proofs.Outs.{BecameUpTo}
 use Rattle.afdx_core.proofs.output_port.end_all.Given as goal

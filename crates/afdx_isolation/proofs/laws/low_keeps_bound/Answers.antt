@@ -1,5 +1,5 @@
 use Rattle.afdx_units.specs.declared.line.Priority.TheVariants.{Low}
-use Rattle.afdx_isolation.specs.Arrivals.{feed_of}
+use Rattle.afdx_isolation.specs.Inner.Arrivals.{feed_of}
 use Rattle.afdx_isolation.proofs.Keeping.{in_time}
 use Rattle.afdx_isolation.proofs.Offered.{kept}
 use Rattle.afdx_isolation.proofs.laws.low_keeps_bound.Goals as goal

@@ -2,7 +2,7 @@ use Rattle.std.proofs.Common.{◌≡◌, ℕ, ◌+◌, ◌<◌, true, ◌==◌, 
 use Rattle.std.specs.List.{list_any}
 use Rattle.afdx_load.specs.Sums.{Sums}
 use Rattle.afdx_load.specs.Inner.Adding.{with_link}
-use Rattle.afdx_load.specs.Slots.{are_slots, speed_at, with_routed}
+use Rattle.afdx_load.specs.Inner.Slots.{are_slots, speed_at, with_routed}
 use Rattle.afdx_load.proofs.loading.add_link.Given as goal
 
 abbrev pub invariant-loop-port : goal.invariant-loop-port

@@ -3,7 +3,7 @@ use Rattle.std.specs.Prelude.{max}
 use Rattle.afdx_units.specs.Time.{stamp_end}
 use Rattle.afdx_port.specs.Service.{before, sent_of, aged_of}
 use Rattle.afdx_port.specs.Inner.Order.{in_line}
-use Rattle.afdx_port.specs.Course.{rest_in_line}
+use Rattle.afdx_port.specs.Inner.Course.{rest_in_line}
 use Rattle.afdx_port.specs.Inner.Queued.{count_of}
 use Rattle.afdx_port.specs.Inner.Sound.{IsSound, HasRoom, queue_of}
 use Rattle.afdx_port.proofs.line.Line.serve_due.Given as goal

@@ -1,6 +1,6 @@
 use Rattle.std.proofs.Common.{ap, sym, refl, subst}
 use Rattle.std.specs.Vec.{with_items}
-use Rattle.afdx_session.specs.Lanes.{NoneGoes}
+use Rattle.afdx_session.specs.Inner.Lanes.{NoneGoes}
 use Rattle.afdx_session.specs.Inner.Kept.{AreTouched}
 use Rattle.afdx_session.proofs.Given.{none_else}
 use Rattle.afdx_session.proofs.Intakes.{all_touched_none}

@@ -1,5 +1,5 @@
 use Rattle.std.proofs.Common.{ap, sym, ◌∙◌}
-use Rattle.afdx_session.specs.Lanes.{limit_at}
+use Rattle.afdx_session.specs.Inner.Lanes.{limit_at}
 use Rattle.afdx_session.proofs.Rounds.{gives_none, own_limit, round_of, round_going, rounds_on, same_both, some_went, none_went, limit_after}
 use Rattle.afdx_session.proofs.Intakes.{all_touched_both}
 use Rattle.afdx_session.proofs.machine.Machine.give_settled.Goals as goal

@@ -1,6 +1,6 @@
 use Rattle.std.proofs.Common.{◌≡◌, length, map}
 use Rattle.afdx_core.specs.Merge.{merged}
-use Rattle.afdx_session.specs.Lanes.{waiting_of, limit_at}
+use Rattle.afdx_session.specs.Inner.Lanes.{waiting_of, limit_at}
 use Rattle.afdx_session.proofs.Rounds.{Gives}
 use Rattle.afdx_session.proofs.machine.Machine.give_settled.Given as goal
 

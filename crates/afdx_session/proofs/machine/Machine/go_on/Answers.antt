@@ -1,6 +1,6 @@
 use Rattle.std.proofs.Common.{ap, sym, ◌∙◌}
 use Rattle.std.proofs.lemmas.Result.{on_ok_weaker}
-use Rattle.afdx_session.specs.Lanes.{limit_at}
+use Rattle.afdx_session.specs.Inner.Lanes.{limit_at}
 use Rattle.afdx_session.proofs.Intakes.{all_touched_both, touched_of}
 use Rattle.afdx_session.proofs.Rounds.{same_both}
 use Rattle.afdx_session.proofs.Calls.{ok_told, err_told, advanced_same, handed_same, handed_stays, drained_back, machine_comes, machine_no_back, machine_runs, touched_table}

@@ -1,0 +1,26 @@
+-- A port that lags behind: what calls carry out, and where none of them would carry out anything.
+use Rattle.std.specs.Prelude.{ℕ, ◌≤◌, ◌≡◌, false, List, ◌++◌}
+use Rattle.afdx_port.specs.declared.Item.{Item}
+use Rattle.afdx_port.specs.Service.{Event}
+use Rattle.afdx_port.specs.Content.{Content, done, offered, advanced, closed}
+use Rattle.afdx_port.specs.Lagging.{has_due}
+
+-- the laws: where none does, the port that advanced has done the same
+abbrev pub NothingDueStays : Type 0
+NothingDueStays = (c : Content) (to : ℕ) → c.finished ≡ false → c.horizon ≤ to → has_due to c ≡ false → done (advanced to c) ≡ done c
+
+-- what an advance carries out comes behind what was carried out before
+abbrev pub AdvanceAdds : Type 0
+AdvanceAdds = (c : Content) (to : ℕ) → c.finished ≡ false → c.horizon ≤ to → (more : List Event) × (done (advanced to c) ≡ done c ++ more)
+
+-- and so does what the end carries out
+abbrev pub FinishAdds : Type 0
+FinishAdds = (c : Content) → (more : List Event) × (done (closed c) ≡ done c ++ more)
+
+-- an offer carries out what an advance to its stamp does
+abbrev pub OfferAdvances : Type 0
+OfferAdvances = (c : Content) (x : Item) → c.finished ≡ false → c.horizon ≤ x.stamp → done (offered x c) ≡ done (advanced x.stamp c)
+
+-- after an advance nothing lies before its instant
+abbrev pub AdvanceLeavesNothingDue : Type 0
+AdvanceLeavesNothingDue = (c : Content) (to : ℕ) → c.finished ≡ false → has_due to (advanced to c) ≡ false

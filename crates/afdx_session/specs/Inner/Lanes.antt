@@ -1,0 +1,160 @@
+-- What the machine has of its ports.
+use Rattle.std.specs.Prelude.{ℕ, ◌-◌, ◌≡◌, ◌<◌, ◌≤◌, ◌⊎◌, ◌↔◌, nat_le, Bool, true, false, if◌then◌else◌, List, [], ◌∷◌, ◌++◌, length, take, set, slice_get, Option, Some, None}
+use Rattle.std.specs.declared.collections.VecDeque.{VecDeque}
+use Rattle.afdx_pcap.specs.Entry.{Entry}
+use Rattle.afdx_pcap.specs.Fault.{last_stamp}
+use Rattle.afdx_pcap.specs.Reading.{HasTaken, NoNext, IsSound, IsWrong}
+use Rattle.afdx_core.specs.Merge.{Capture}
+use Rattle.afdx_session.specs.declared.lane.Lane.{Lane}
+use Rattle.afdx_session.specs.declared.plan.RunFault.{RunFault}
+use Rattle.afdx_session.specs.declared.plan.RunFault.TheVariants as run
+use Rattle.afdx_session.specs.Session.{Intake}
+use Rattle.afdx_session.specs.Inner.Settled.{first_place}
+
+-- as contracts see it: the bytes of a call that did not answer Ok do not count
+abbrev pub intake_of : {Z : Type 0} → Lane Z → Intake
+intake_of l = record { port = l.port; bytes = take (length l.reader.bytes - l.undone) l.reader.bytes; closed = l.closed; taken = l.taken }
+
+-- what waits there
+abbrev pub waiting_of : {Z : Type 0} → Lane Z → Capture
+waiting_of l = record { port = l.port; records = l.waiting.items }
+
+-- these records were read, and nothing was wrong so far
+pub record HasRead {Z : Type 0} (l : Lane Z) (records : List Entry) : Type 0 where
+  pub no_fault : l.reader.fault ≡ None
+  pub taken : HasTaken (record { bytes = l.reader.bytes; given = l.reader.given }) records
+  pub last : l.last ≡ last_stamp 0 records
+
+-- nothing else is there, and nothing is wrong; the lane has ended where the input has
+pub record HasReadAll {Z : Type 0} (l : Lane Z) : Type 0 where
+  pub none_left : NoNext l.reader.bytes l.reader.given
+  pub sound : IsSound l.reader.bytes l.reader.given l.reader.closed
+  pub ended : l.ended ≡ l.reader.closed
+
+-- a lane was read on: but for what waits, for its last stamp and for how far the reader has come it is as it was
+pub record IsReadOn {Z : Type 0} (old new : Lane Z) : Type 0 where
+  pub port : new.port ≡ old.port
+  pub bytes : new.reader.bytes ≡ old.reader.bytes
+  pub ended : new.reader.closed ≡ old.reader.closed
+  pub out : new.out ≡ old.out
+  pub undone : new.undone ≡ old.undone
+  pub closed : new.closed ≡ old.closed
+  pub ready : new.ready ≡ old.ready
+  pub taken : new.taken ≡ old.taken
+
+-- and these records are what it added
+pub record Adds {Z : Type 0} (old new : Lane Z) (more : List Entry) : Type 0 where
+  pub queue : new.waiting.items ≡ old.waiting.items ++ more
+  pub read : (records : List Entry) → HasRead old records → HasRead new (records ++ more)
+
+-- one more record was read
+pub record DrawsOne {Z : Type 0} (old new : Lane Z) : Type 0 where
+  pub frame : Entry
+  pub adds : Adds old new (frame ∷ [])
+  pub last : new.last ≡ frame.stamp
+  pub ended : new.ended ≡ old.ended
+  pub no_fault : new.reader.fault ≡ None
+  pub fewer : length new.reader.bytes - new.reader.given < length old.reader.bytes - old.reader.given
+
+-- none is left
+pub record DrawsNone {Z : Type 0} (old new : Lane Z) : Type 0 where
+  pub adds : Adds old new []
+  pub no_fault : new.reader.fault ≡ None
+  pub read : HasReadAll new
+
+abbrev pub HasDrawn : {Z : Type 0} → Bool → Lane Z → Lane Z → Type 0
+HasDrawn true old new = DrawsOne old new
+HasDrawn false old new = DrawsNone old new
+
+-- why a lane cannot be read on
+abbrev pub IsLaneFault : {Z : Type 0} → Lane Z → RunFault → Type 0
+IsLaneFault l run.Memory = Unit {0}
+IsLaneFault l (run.Capture port why) = (port ≡ l.port) × IsWrong l.reader.bytes l.reader.closed why
+IsLaneFault l run.WrongPorts = ⊥
+IsLaneFault l run.Closed = ⊥
+IsLaneFault l run.Failed = ⊥
+
+-- the least place that a lane that has not ended has come to
+abbrev pub limit_at : {Z : Type 0} → List (Lane Z) → Option (ℕ × ℕ)
+limit_at [] = None
+limit_at (l ∷ lanes) = if l.ended then limit_at lanes else Some (first_place (l.last, l.port) (limit_at lanes))
+
+-- of two places the first by stamp, and the former of equal ones
+abbrev pub best_place : Option (ℕ × ℕ) → ℕ × ℕ → ℕ × ℕ
+best_place None q = q
+best_place (Some p) q = if nat_le p.0 q.0 then p else q
+
+-- an arrival at this stamp and port lies at the limit or before it
+abbrev pub IsWithinPlace : Option (ℕ × ℕ) → ℕ → ℕ → Type 0
+IsWithinPlace None stamp port = Unit {0}
+IsWithinPlace (Some p) stamp port = (stamp < p.0) ⊎ ((stamp ≡ p.0) × (port ≤ p.1))
+
+-- the stamp of the first of some records
+abbrev pub head_of : List Entry → Option ℕ
+head_of [] = None
+head_of (r ∷ rs) = Some r.stamp
+
+-- the first record that waits at a place
+abbrev pub head_stamp : {Z : Type 0} → Option (Lane Z) → Option ℕ
+head_stamp None = None
+head_stamp (Some l) = head_of l.waiting.items
+
+-- up to some place: the first by stamp, and then by place, of the first records that wait
+pub record IsFirstUpTo {Z : Type 0} (lanes : List (Lane Z)) (n k t : ℕ) : Type 0 where
+  pub within : k < n
+  pub here : head_stamp (slice_get lanes k) ≡ Some t
+  pub sooner : (j u : ℕ) → j < n → head_stamp (slice_get lanes j) ≡ Some u → t ≤ u
+  pub former : (j u : ℕ) → j < k → head_stamp (slice_get lanes j) ≡ Some u → t < u
+
+abbrev pub IsFirstIn : {Z : Type 0} → List (Lane Z) → ℕ → Option (ℕ × ℕ) → Type 0
+IsFirstIn lanes n None = (j : ℕ) → j < n → head_stamp (slice_get lanes j) ≡ None
+IsFirstIn lanes n (Some x) = IsFirstUpTo lanes n x.0 x.1
+
+abbrev pub IsFirstOf : {Z : Type 0} → List (Lane Z) → Option (ℕ × ℕ) → Type 0
+IsFirstOf lanes first = IsFirstIn lanes (length lanes) first
+
+-- of what was found and of the head at a place the first by stamp, and the former of equal ones
+abbrev pub sooner_of : Option (ℕ × ℕ) → ℕ → Option ℕ → Option (ℕ × ℕ)
+sooner_of former place None = former
+sooner_of None place (Some u) = Some (place, u)
+sooner_of (Some x) place (Some u) = if nat_le x.1 u then Some x else Some (place, u)
+
+-- what no call changes but that one that answers Ok
+pub record IsStill {Z : Type 0} (old new : Lane Z) : Type 0 where
+  pub port : new.port ≡ old.port
+  pub out : new.out ≡ old.out
+  pub closed : new.closed ≡ old.closed
+  pub ready : new.ready ≡ old.ready
+  pub taken : new.taken ≡ old.taken
+
+-- a lane with other records that wait
+abbrev pub with_waiting : {Z : Type 0} → VecDeque Entry Z → Lane Z → Lane Z
+with_waiting w l = record { port = l.port; reader = l.reader; last = l.last; ended = l.ended; waiting = w; out = l.out; undone = l.undone; closed = l.closed; ready = l.ready; taken = l.taken }
+
+-- the first record that waits went from its lane: it is the first of all, and within the limit
+pub record Goes {Z : Type 0} (limit : Option (ℕ × ℕ)) (old new : List (Lane Z)) (port : ℕ) (frame : Entry) : Type 0 where
+  pub place : ℕ
+  pub lane : Lane Z
+  pub rest : VecDeque Entry Z
+  pub at : slice_get old place ≡ Some lane
+  pub port_is : port ≡ lane.port
+  pub head : lane.waiting.items ≡ frame ∷ rest.items
+  pub first : IsFirstUpTo old (length old) place frame.stamp
+  pub within : IsWithinPlace limit frame.stamp port
+  pub lanes : new ≡ set old place (with_waiting rest lane)
+
+-- it went from the lane at this place
+pub record GoesAt {Z : Type 0} (limit : Option (ℕ × ℕ)) (old new : List (Lane Z)) (place : ℕ) (frame : Entry) : Type 0 where
+  pub port : ℕ
+  pub goes : Goes limit old new port frame
+  pub here : goes.place ≡ place
+
+-- nothing waits, or the first of all is not within the limit
+pub record NoneGoes {Z : Type 0} (limit : Option (ℕ × ℕ)) (old : List (Lane Z)) (first : Option (ℕ × ℕ)) : Type 0 where
+  pub is : IsFirstOf old first
+  pub past : (place stamp : ℕ) (lane : Lane Z) → first ≡ Some (place, stamp) → slice_get old place ≡ Some lane → IsWithinPlace limit stamp lane.port → ⊥
+
+-- it tells of the first of what waits the same as the least place that a lane that has not ended has come to
+abbrev pub IsLimit : {Z : Type 0} → Option (ℕ × ℕ) → List (Lane Z) → Type 0
+IsLimit {Z} limit lanes = (place stamp : ℕ) (lane : Lane Z) → IsFirstUpTo lanes (length lanes) place stamp → slice_get lanes place ≡ Some lane
+    → IsWithinPlace limit stamp lane.port ↔ IsWithinPlace (limit_at lanes) stamp lane.port
