@@ -10,10 +10,10 @@ use afdx_serve::{Disk, Failure, report, serve};
 use std::process::ExitCode;
 use std::{env, io};
 
-/// The words of the command line, of which the first is the program's name. Words that are not UTF-8 are refused.
+/// The arguments of the command line, of which the first is the program's name. Arguments that are not UTF-8 are refused.
 fn arguments(rt: &HostRuntime) -> Result<Vec<String>, Failure> {
     match env::args(rt) {
-        Ok(words) => Ok(words.collect(rt.alloc())?),
+        Ok(arguments) => Ok(arguments.collect(rt.alloc())?),
         Err(e) if e.kind() == io::ErrorKind::OutOfMemory => Err(Failure::Memory),
         Err(_) => Err(Failure::Usage),
     }
@@ -22,9 +22,9 @@ fn arguments(rt: &HostRuntime) -> Result<Vec<String>, Failure> {
 fn main(rt: HostRuntime) -> ExitCode {
     let mut err = rt.stderr();
     let status = match arguments(&rt) {
-        Ok(words) => serve(
+        Ok(arguments) => serve(
             rt.alloc(),
-            &words,
+            &arguments,
             &mut rt.stdin(),
             &mut rt.stdout(),
             &mut err,

@@ -15,7 +15,7 @@ fn account() -> ByteAccount
 }
 
 /// What any account tells at an instant: its cap, its rate, what 64 bytes cost, and its level.
-fn told<M: Meter>(meter: &M, at: Stamp) -> [u64; 4]
+fn reported<M: Meter>(meter: &M, at: Stamp) -> [u64; 4]
     requires { M.since meter.now ≤ at }
 {
     [
@@ -30,7 +30,10 @@ fn told<M: Meter>(meter: &M, at: Stamp) -> [u64; 4]
 fn a_full_account_by_its_readers(rt: HostRuntime) {
     let account = account();
     let cap = 1_518_000_000;
-    assert_eq!(rt; told(&account, Stamp::ZERO), [cap, 1518, 64_000_000, cap]);
+    assert_eq!(rt;
+        reported(&account, Stamp::ZERO),
+        [cap, 1518, 64_000_000, cap]
+    );
     assert_eq!(rt; account.weight(Speed::Hundred), 21 * 80 * 128);
 }
 
@@ -80,7 +83,7 @@ fn by_frames(jitter_ns: u64) -> Account
 fn a_full_account_by_frames(rt: HostRuntime) {
     let account = by_frames(0);
     let cap = 1_000_000;
-    assert_eq!(rt; told(&account, Stamp::ZERO), [cap, 1, cap, cap]);
+    assert_eq!(rt; reported(&account, Stamp::ZERO), [cap, 1, cap, cap]);
     assert_eq!(rt; account.weight(Speed::Hundred), 16 * 80 * 1538 * 128);
 }
 

@@ -9,7 +9,7 @@ use Rattle.clap.specs.declared.builder.value_parser.ValueParser.TheVariants.{Uns
 abbrev pub number_rule : Text → Rule
 number_rule name = record (new_rule name) { long = Some name; value_names = 1; required = true; parser = Some (Unsigned 0 18446744073709551615) }
 
--- a word in its place, which is required
+-- an argument in its place, which is required
 abbrev pub path_rule : Text → Rule
 path_rule name = record (new_rule name) { required = true }
 
@@ -30,7 +30,7 @@ check_app = with_rule (new_app (codes "check")) (path_rule (codes "TABLE"))
 unfoldable pub size_app : App
 size_app = with_rule (new_app (codes "size")) (path_rule (codes "TABLE"))
 
--- afdx run TABLE IN OUT [--unchecked], and trace with the same words
+-- afdx run TABLE IN OUT [--unchecked], and trace with the same arguments
 unfoldable pub paths_app : Text → App
 paths_app name =
     with_rule (with_rule (with_rule (with_rule (new_app name) (path_rule (codes "TABLE"))) (path_rule (codes "IN"))) (path_rule (codes "OUT")))
@@ -41,7 +41,7 @@ unfoldable pub measure_app : App
 measure_app =
     with_rule (with_rule (with_rule (new_app (codes "measure")) (path_rule (codes "TABLE"))) (path_rule (codes "IN"))) (flag_rule (codes "unchecked"))
 
--- afdx network, whose own words are read by the program below
+-- afdx network, whose own arguments are read by the program below
 abbrev pub network_app : App
 network_app = new_app (codes "network")
 

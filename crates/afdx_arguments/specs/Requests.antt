@@ -1,4 +1,4 @@
--- What the words ask for.
+-- What the arguments ask for.
 use Rattle.std.specs.Prelude.{◌≡◌, ◌≢◌, ◌⊎◌, ℕ, Bool, codes, List, [], drop, slice_get, Option, Some, None, Result, Ok, Err, true, false}
 use Rattle.std.specs.Option.{option_map_or}
 use Rattle.std.specs.Str.{bytes_eq}
@@ -39,7 +39,7 @@ pub record HasLink (rows : List Row) (link : Alone) : Type 0 where
   pub has_size : HasNumber (codes "size") rows size
   pub numbers : HasNumbers link id bag jitter size
 
--- the entries name the files of a run, and whether it is unchecked; profile: an empty word names no folder
+-- the entries name the files of a run, and whether it is unchecked; profile: an empty argument names no folder
 pub record HasPaths (rows : List Row) (paths : Paths) : Type 0 where
   pub table : first_of (codes "TABLE") rows ≡ Some paths.table.now
   pub input : first_of (codes "IN") rows ≡ Some paths.input.now
@@ -83,60 +83,60 @@ AsksFor (Some (name, rows)) (request.Network r) = ⊥
 
 -- ---- the two programs
 
--- the first word after the program's name is `network`: what follows is read by a program of that name
+-- the first argument after the program's name is `network`: what follows is read by a program of that name
 abbrev pub is_network : List Text → Bool
-is_network words = option_map_or (λ w. bytes_eq w (codes "network")) (slice_get words 1) false
+is_network arguments = option_map_or (λ w. bytes_eq w (codes "network")) (slice_get arguments 1) false
 
--- what `clap` says against words
+-- what `clap` says against arguments
 abbrev pub fault_in : Bool → List Text → Kinds
-fault_in true words = fault_of network_program (drop 1 words)
-fault_in false words = fault_of program words
+fault_in true arguments = fault_of network_program (drop 1 arguments)
+fault_in false arguments = fault_of program arguments
 
 abbrev pub faults_of : List Text → Kinds
-faults_of words = fault_in (is_network words) words
+faults_of arguments = fault_in (is_network arguments) arguments
 
 -- what the subcommand of one of the two and its entries ask for
 abbrev pub AsksIn : Bool → List Text → Request → Type 0
-AsksIn true words (request.Network r) = AsksOfNetwork (subcommand_of network_program (drop 1 words)) r
-AsksIn true words r = ⊥
-AsksIn false words r = AsksFor (subcommand_of program words) r
+AsksIn true arguments (request.Network r) = AsksOfNetwork (subcommand_of network_program (drop 1 arguments)) r
+AsksIn true arguments r = ⊥
+AsksIn false arguments r = AsksFor (subcommand_of program arguments) r
 
--- `clap` takes the words, and its entries ask for this
+-- `clap` takes the arguments, and its entries ask for this
 abbrev pub Asks : List Text → Request → Type 0
-Asks words r = (faults_of words ≡ []) × AsksIn (is_network words) words r
+Asks arguments r = (faults_of arguments ≡ []) × AsksIn (is_network arguments) arguments r
 
 -- an error of this kind has the text of help or of the version
 abbrev pub IsShown : ErrorKind → Type 0
 IsShown kind = (kind ≡ DisplayHelp) ⊎ (kind ≡ DisplayVersion)
 
--- the words ask `clap` for help, or for the version
+-- the arguments ask `clap` for help, or for the version
 abbrev pub AskForHelp : List Text → Type 0
-AskForHelp words = (kind : ErrorKind) × IsAmong kind (faults_of words) × IsShown kind
+AskForHelp arguments = (kind : ErrorKind) × IsAmong kind (faults_of arguments) × IsShown kind
 
--- `clap` refuses the words, or takes them and its entries ask for nothing within the limits
+-- `clap` refuses the arguments, or takes them and its entries ask for nothing within the limits
 abbrev pub AreRefused : List Text → Type 0
-AreRefused words =
-    ((kind : ErrorKind) × IsAmong kind (faults_of words) × (IsShown kind → ⊥))
-    ⊎ ((faults_of words ≡ []) × ((r : Request) → AsksIn (is_network words) words r → ⊥))
+AreRefused arguments =
+    ((kind : ErrorKind) × IsAmong kind (faults_of arguments) × (IsShown kind → ⊥))
+    ⊎ ((faults_of arguments ≡ []) × ((r : Request) → AsksIn (is_network arguments) arguments r → ⊥))
 
--- why an error of a kind leaves the words with no request
+-- why an error of a kind leaves the arguments with no request
 abbrev pub Explains : ErrorKind → NoRequest → Type 0
 Explains kind (Help text) = IsShown kind
 Explains kind Usage = (IsShown kind → ⊥) × (kind ≢ OutOfMemory)
 Explains kind Memory = Unit {0}
 
--- what the words ask for, or why they ask for nothing
+-- what the arguments ask for, or why they ask for nothing
 abbrev pub Reads : List Text → Result Request NoRequest → Type 0
-Reads words (Ok r) = Asks words r
-Reads words (Err (Help text)) = AskForHelp words
-Reads words (Err Usage) = AreRefused words
-Reads words (Err Memory) = Unit {0}
+Reads arguments (Ok r) = Asks arguments r
+Reads arguments (Err (Help text)) = AskForHelp arguments
+Reads arguments (Err Usage) = AreRefused arguments
+Reads arguments (Err Memory) = Unit {0}
 
--- ---- what one program makes of words
+-- ---- what one program makes of arguments
 
 -- `clap` gives matches of them, with this subcommand and its entries
 abbrev pub HasMatches : App → List Text → Option (Text × List Row) → Type 0
-HasMatches app words sub = (fault_of app words ≡ []) × (sub ≡ subcommand_of app words)
+HasMatches app arguments sub = (fault_of app arguments ≡ []) × (sub ≡ subcommand_of app arguments)
 
 -- or none, for a fault of one of these kinds
 abbrev pub HasNoMatches : Kinds → NoRequest → Type 0

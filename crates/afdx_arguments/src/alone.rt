@@ -2,13 +2,7 @@
 
 ghost use Rattle.std.specs.Prelude.{◌≤◌};
 
-use afdx_units::Bag;
-
-/// The least size of a frame, in bytes (IEEE 802.3).
-pub const LEAST_SIZE: u32 = 64;
-
-/// The greatest size of a frame, in bytes (IEEE 802.3).
-pub const GREATEST_SIZE: u32 = 1518;
+use afdx_units::{Bag, GREATEST_SIZE, LEAST_SIZE};
 
 /// The number of a link is two bytes of an address (ARINC 664 Part 7).
 const GREATEST_ID: u64 = 65_535;

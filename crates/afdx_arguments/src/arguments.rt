@@ -1,4 +1,4 @@
-//! From the words to what they ask for.
+//! From the arguments to what they ask for.
 
 ghost use Rattle.std.specs.Prelude.{◌≡◌, ℕ, true, false, map, option_map, string_bytes, MatchOption, MatchResult};
 ghost use Rattle.clap.specs.Words.{app_of, fault_of, first_of, found_of, is_simple, is_simple_and_free, kind_of, rows_of, subcommand_rows_of};
@@ -9,10 +9,10 @@ ghost use Rattle.afdx_arguments.specs.declared.request.Request.{Request as Asked
 ghost use Rattle.afdx_arguments.specs.Requests.{HasNumber, is_set, HasLink, HasPaths, HasInputs, AsksFor, Explains, Reads};
 ghost use Rattle.afdx_arguments.specs.Requests.{HasMatches, HasNoMatches, is_network};
 
-use crate::command::program;
 use crate::alone::Alone;
-use crate::network_command::network_program;
+use crate::command::program;
 use crate::network_arguments::network_asked;
+use crate::network_command::network_program;
 use crate::request::{Inputs, NoRequest, Paths, Request};
 use clap::error::ErrorKind;
 use clap::{ArgMatches, Command, Error};
@@ -26,18 +26,18 @@ fn number(matches: &ArgMatches<'_>, name: &str) -> Option<u64>
     matches.get_one::<u64>(name)
 }
 
-/// The word in a place.
-pub(crate) fn word<'a>(matches: &ArgMatches<'a>, name: &str) -> Option<&'a str>
+/// The argument in a place.
+pub(crate) fn argument<'a>(matches: &ArgMatches<'a>, name: &str) -> Option<&'a str>
     ensures { option_map (λ w. w.now) result ≡ first_of name.now (rows_of (found_of matches.now)) }
 {
     matches.get_str(name)
 }
 
-/// Whether a flag is set: `clap` tells it as a word.
+/// Whether a flag is set: `clap` tells it as an argument.
 fn flag(matches: &ArgMatches<'_>, name: &str) -> bool
     ensures { result ≡ is_set name.now (rows_of (found_of matches.now)) }
 {
-    match word(matches, name) {
+    match argument(matches, name) {
         Some(text) => text == "true",
         None => false,
     }
@@ -55,14 +55,14 @@ fn alone_of(matches: &ArgMatches<'_>) -> Option<Alone>
     Alone::of_numbers(id, bag, jitter, size)
 }
 
-/// The files of a run. An empty word names no folder.
+/// The files of a run. An empty argument names no folder.
 fn paths_of<'a>(matches: &ArgMatches<'a>) -> Option<Paths<'a>>
     ensures { MatchOption result ((paths : Files) → HasPaths (rows_of (found_of matches.now)) paths → ⊥)
         (HasPaths (rows_of (found_of matches.now))) }
 {
-    let table = word(matches, "TABLE")?;
-    let input = word(matches, "IN")?;
-    let output = word(matches, "OUT")?;
+    let table = argument(matches, "TABLE")?;
+    let input = argument(matches, "IN")?;
+    let output = argument(matches, "OUT")?;
     if input.is_empty() || output.is_empty() {
         return None;
     }
@@ -75,13 +75,13 @@ fn paths_of<'a>(matches: &ArgMatches<'a>) -> Option<Paths<'a>>
     })
 }
 
-/// The files of a run of which nothing is put. An empty word names no folder.
+/// The files of a run of which nothing is put. An empty argument names no folder.
 fn inputs_of<'a>(matches: &ArgMatches<'a>) -> Option<Inputs<'a>>
     ensures { MatchOption result ((inputs : Given) → HasInputs (rows_of (found_of matches.now)) inputs → ⊥)
         (HasInputs (rows_of (found_of matches.now))) }
 {
-    let table = word(matches, "TABLE")?;
-    let input = word(matches, "IN")?;
+    let table = argument(matches, "TABLE")?;
+    let input = argument(matches, "IN")?;
     if input.is_empty() {
         return None;
     }
@@ -103,10 +103,10 @@ fn asked<'a>(matches: &ArgMatches<'a>) -> Option<Request<'a>>
         let link = alone_of(inner)?;
         Some(Request::Alone(link))
     } else if name == "check" {
-        let table = word(inner, "TABLE")?;
+        let table = argument(inner, "TABLE")?;
         Some(Request::Check(table))
     } else if name == "size" {
-        let table = word(inner, "TABLE")?;
+        let table = argument(inner, "TABLE")?;
         Some(Request::Size(table))
     } else if name == "run" {
         let paths = paths_of(inner)?;
@@ -136,76 +136,76 @@ fn refusal(alloc: Global, error: &Error) -> NoRequest
     }
 }
 
-/// What `clap` finds in words, by this command.
+/// What `clap` finds in arguments, by this command.
 fn matches_of<'a>(
     alloc: Global,
     command: Command<'a>,
-    words: &'a [String],
+    arguments: &'a [String],
 ) -> Result<ArgMatches<'a>, NoRequest>
     requires simple { is_simple (app_of command) ≡ true }
     requires free { is_simple_and_free (app_of command) ≡ true }
     ensures { MatchResult result
-        (λ m. HasMatches (app_of command.entry) (map string_bytes words.entry.now) (subcommand_rows_of m))
-        (λ n. HasNoMatches (fault_of (app_of command.entry) (map string_bytes words.entry.now)) n) }
+        (λ m. HasMatches (app_of command.entry) (map string_bytes arguments.entry.now) (subcommand_rows_of m))
+        (λ n. HasNoMatches (fault_of (app_of command.entry) (map string_bytes arguments.entry.now)) n) }
 {
-    match command.try_get_matches_from(words) {
+    match command.try_get_matches_from(arguments) {
         Ok(matches) => Ok(matches),
         Err(error) => Err(refusal(alloc, &error)),
     }
 }
 
-/// Whether the first word after the program's name is `network`.
-fn is_network(words: &[String]) -> bool
-    ensures { result ≡ is_network (map string_bytes words.now) }
+/// Whether the first argument after the program's name is `network`.
+fn is_network(arguments: &[String]) -> bool
+    ensures { result ≡ is_network (map string_bytes arguments.now) }
 {
-    match words.get(1) {
-        Some(word) => word.as_str() == "network",
+    match arguments.get(1) {
+        Some(argument) => argument.as_str() == "network",
         None => false,
     }
 }
 
-/// What the words after `afdx` ask for, of which the first is `network`.
-fn parse_network<'a>(alloc: Global, words: &'a [String]) -> Result<Request<'a>, NoRequest>
-    requires { is_network (map string_bytes words.now) ≡ true }
-    ensures { Reads (map string_bytes words.entry.now) result }
+/// What the arguments after `afdx` ask for, of which the first is `network`.
+fn parse_network<'a>(alloc: Global, arguments: &'a [String]) -> Result<Request<'a>, NoRequest>
+    requires { is_network (map string_bytes arguments.now) ≡ true }
+    ensures { Reads (map string_bytes arguments.entry.now) result }
 {
     let Ok(command) = network_program(alloc) else {
         return Err(NoRequest::Memory);
     };
-    let matches = matches_of(alloc, command, &words[1..])?;
+    let matches = matches_of(alloc, command, &arguments[1..])?;
     match network_asked(&matches) {
         Some(request) => Ok(Request::Network(request)),
         None => Err(NoRequest::Usage),
     }
 }
 
-/// What words ask for that are of no network.
-fn parse_other<'a>(alloc: Global, words: &'a [String]) -> Result<Request<'a>, NoRequest>
-    requires { is_network (map string_bytes words.now) ≡ false }
-    ensures { Reads (map string_bytes words.entry.now) result }
+/// What arguments ask for that are of no network.
+fn parse_other<'a>(alloc: Global, arguments: &'a [String]) -> Result<Request<'a>, NoRequest>
+    requires { is_network (map string_bytes arguments.now) ≡ false }
+    ensures { Reads (map string_bytes arguments.entry.now) result }
 {
     let Ok(command) = program(alloc) else {
         return Err(NoRequest::Memory);
     };
-    let matches = matches_of(alloc, command, words)?;
+    let matches = matches_of(alloc, command, arguments)?;
     match asked(&matches) {
         Some(request) => Ok(request),
         None => Err(NoRequest::Usage),
     }
 }
 
-/// What the words ask for, of which the first is the program's name.
+/// What the arguments ask for, of which the first is the program's name.
 ///
 /// # Errors
 ///
 /// `Help` with its text where `clap` is asked for help or the version; `Memory` where a growth was refused; `Usage` where `clap` refuses
-/// the words for another cause, an option's number is out of its limits, or IN or OUT is empty.
-pub fn parse<'a>(alloc: Global, words: &'a [String]) -> Result<Request<'a>, NoRequest>
-    ensures { Reads (map string_bytes words.entry.now) result }
+/// the arguments for another cause, an option's number is out of its limits, or IN or OUT is empty.
+pub fn parse<'a>(alloc: Global, arguments: &'a [String]) -> Result<Request<'a>, NoRequest>
+    ensures { Reads (map string_bytes arguments.entry.now) result }
 {
-    if is_network(words) {
-        parse_network(alloc, words)
+    if is_network(arguments) {
+        parse_network(alloc, arguments)
     } else {
-        parse_other(alloc, words)
+        parse_other(alloc, arguments)
     }
 }

@@ -22,7 +22,7 @@ fn number_option<'a>(alloc: Global, name: &'a str, value: &'a str, about: &'a st
         .value_parser(ValueParser::unsigned(0, u64::MAX))
 }
 
-/// A required word in its place.
+/// A required argument in its place.
 pub(crate) fn path<'a>(alloc: Global, name: &'a str, about: &'a str) -> Arg<'a>
     ensures rule { rule_of result ≡ path_rule name.entry.now }
     ensures local { result.global ≡ false }
@@ -60,7 +60,7 @@ const SIZE: &str = "For each port with links: what they need and what the port h
 line's rate in parts, the buffer in bytes, the delays in ns), and the rules that
 it breaks.
 
-Status: 0 told, whether each port fits or not, 2 arguments, 3 no table, 5 memory
+Status: 0 done, whether each port fits or not, 2 arguments, 3 no table, 5 memory
 or a device.
 
 Example: afdx size table.toml";
@@ -86,7 +86,7 @@ the stamp to the end on the line, beside the port's bound. For each port: the mo
 bytes that its buffer held, and the stamp in ns of the first frame that filled it
 so.
 
-Status: 0 told, 2 arguments, 3 no table or capture, 4 a port cannot give what its
+Status: 0 done, 2 arguments, 3 no table or capture, 4 a port cannot give what its
 links ask for, 5 memory or a device.
 
 Example: afdx measure table.toml in";
@@ -102,7 +102,7 @@ port sent or discarded. A file is written beside its name and then moved onto it
 Status: 0 done, 2 arguments, 3 no table or capture, 4 a port cannot give what its
 links ask for, 5 memory or a device.
 
-Example: mkdir told && afdx trace table.toml in told";
+Example: mkdir rows && afdx trace table.toml in rows";
 
 /// What the help of `network` says at its end. Its own commands are read by a program of their own.
 const NETWORK: &str = "Its commands are check, jitter and run: see afdx network --help.";
@@ -110,8 +110,8 @@ const NETWORK: &str = "Its commands are check, jitter and run: see afdx network 
 /// What the program says of its version: its own number, and the kit that it is proved with.
 const VERSION: &str = "0.1.0\nrattle-kit-13b logic dac8208d650f15bf";
 
-/// A command without its words.
-pub(crate) fn wordless<'a>(
+/// A command without its arguments.
+pub(crate) fn with_no_arguments<'a>(
     alloc: Global,
     name: &'a str,
     about: &'a str,
@@ -129,7 +129,7 @@ fn alone<'a>(alloc: Global) -> Result<Command<'a>, AllocError>
     ensures local { IfOk result (λ c. (out-Command c).has_globals ≡ false) }
 {
     let about = "Polices one virtual link of the capture on standard input";
-    wordless(alloc, "alone", about, ALONE)
+    with_no_arguments(alloc, "alone", about, ALONE)
         .arg(number_option(alloc, "id", "N", "The link's number, 0 to 65535"))?
         .arg(number_option(
             alloc,
@@ -157,7 +157,11 @@ fn check<'a>(alloc: Global) -> Result<Command<'a>, AllocError>
     ensures local { IfOk result (λ c. (out-Command c).has_globals ≡ false) }
 {
     let about = "Checks the load of a configuration table";
-    wordless(alloc, "check", about, CHECK).arg(path(alloc, "TABLE", "The configuration table"))
+    with_no_arguments(alloc, "check", about, CHECK).arg(path(
+        alloc,
+        "TABLE",
+        "The configuration table",
+    ))
 }
 
 #[tactic(auto, unfolding(crate::specs::Commands::size_app))]
@@ -166,7 +170,11 @@ fn size<'a>(alloc: Global) -> Result<Command<'a>, AllocError>
     ensures local { IfOk result (λ c. (out-Command c).has_globals ≡ false) }
 {
     let about = "Tells what each port needs and has, whether it fits or not";
-    wordless(alloc, "size", about, SIZE).arg(path(alloc, "TABLE", "The configuration table"))
+    with_no_arguments(alloc, "size", about, SIZE).arg(path(
+        alloc,
+        "TABLE",
+        "The configuration table",
+    ))
 }
 
 /// A command that goes by the files of a run, with what its help says of it, at its end and of OUT.
@@ -181,7 +189,7 @@ fn with_paths<'a>(
     ensures app { IfOk result (λ c. app_of c ≡ paths_app name.entry.now) }
     ensures local { IfOk result (λ c. (out-Command c).has_globals ≡ false) }
 {
-    wordless(alloc, name, about, more)
+    with_no_arguments(alloc, name, about, more)
         .arg(path(alloc, "TABLE", "The configuration table"))?
         .arg(path(alloc, "IN", "The folder of port-1.pcap and so on"))?
         .arg(path(alloc, "OUT", output))?
@@ -203,7 +211,7 @@ fn measure<'a>(alloc: Global) -> Result<Command<'a>, AllocError>
     ensures local { IfOk result (λ c. (out-Command c).has_globals ≡ false) }
 {
     let about = "Tells the delays of each link and how full each buffer was";
-    wordless(alloc, "measure", about, MEASURE)
+    with_no_arguments(alloc, "measure", about, MEASURE)
         .arg(path(alloc, "TABLE", "The configuration table"))?
         .arg(path(alloc, "IN", "The folder of port-1.pcap and so on"))?
         .arg(flag(
@@ -228,7 +236,7 @@ fn network<'a>(alloc: Global) -> Command<'a>
     ensures local { (out-Command result).has_globals ≡ false }
 {
     let about = "Checks and runs a network of switches";
-    wordless(alloc, "network", about, NETWORK)
+    with_no_arguments(alloc, "network", about, NETWORK)
 }
 
 /// The program without its commands.

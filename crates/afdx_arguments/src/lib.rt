@@ -1,13 +1,13 @@
-//! The command line: from its words, as `clap` reads them, to what they ask for.
+//! The command line: from its arguments, as `clap` reads them, to what they ask for.
 #![tactic(auto)]
 
-mod command;
 mod alone;
-mod network_command;
-mod network_arguments;
-mod request;
 mod arguments;
+mod command;
+mod network_arguments;
+mod network_command;
+mod request;
 
-pub use alone::{Alone, GREATEST_SIZE, LEAST_SIZE};
-pub use request::{Inputs, NetworkPaths, NetworkRequest, NoRequest, Paths, Request};
+pub use alone::Alone;
 pub use arguments::parse;
+pub use request::{Inputs, NetworkPaths, NetworkRequest, NoRequest, Paths, Request};

@@ -1,4 +1,4 @@
-//! From what `clap` finds in the words of networks to what they ask for.
+//! From what `clap` finds in the arguments of networks to what they ask for.
 
 ghost use Rattle.std.specs.Prelude.{MatchOption};
 ghost use Rattle.clap.specs.Words.{found_of, rows_of, subcommand_rows_of};
@@ -6,18 +6,18 @@ ghost use Rattle.afdx_arguments.specs.declared.request.NetworkPaths.{NetworkPath
 ghost use Rattle.afdx_arguments.specs.declared.request.NetworkRequest.{NetworkRequest as Asked};
 ghost use Rattle.afdx_arguments.specs.Requests.{HasNetworkPaths, AsksOfNetwork};
 
+use crate::arguments::argument;
 use crate::request::{NetworkPaths, NetworkRequest};
-use crate::arguments::word;
 use clap::ArgMatches;
 
-/// The files of a network's run. An empty word names no folder.
+/// The files of a network's run. An empty argument names no folder.
 fn network_paths_of<'a>(matches: &ArgMatches<'a>) -> Option<NetworkPaths<'a>>
     ensures { MatchOption result ((paths : Files) → HasNetworkPaths (rows_of (found_of matches.now)) paths → ⊥)
         (HasNetworkPaths (rows_of (found_of matches.now))) }
 {
-    let network = word(matches, "NET")?;
-    let input = word(matches, "IN")?;
-    let output = word(matches, "OUT")?;
+    let network = argument(matches, "NET")?;
+    let input = argument(matches, "IN")?;
+    let output = argument(matches, "OUT")?;
     if input.is_empty() || output.is_empty() {
         return None;
     }
@@ -35,10 +35,10 @@ pub(crate) fn network_asked<'a>(matches: &ArgMatches<'a>) -> Option<NetworkReque
 {
     let (name, inner) = matches.subcommand()?;
     if name == "check" {
-        let path = word(inner, "NET")?;
+        let path = argument(inner, "NET")?;
         Some(NetworkRequest::Check(path))
     } else if name == "jitter" {
-        let path = word(inner, "NET")?;
+        let path = argument(inner, "NET")?;
         Some(NetworkRequest::Jitter(path))
     } else if name == "run" {
         let paths = network_paths_of(inner)?;

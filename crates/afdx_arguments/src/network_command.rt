@@ -1,11 +1,11 @@
-//! The command line of networks, as `clap` reads it: the words after `afdx`.
+//! The command line of networks, as `clap` reads it: the arguments after `afdx`.
 
 ghost use Rattle.std.specs.Prelude.{◌≡◌, false, IfOk};
 ghost use Rattle.clap.specs.Words.{app_of};
 ghost use Rattle.clap.specs.declared.builder.command.Command.TheViews.{out-Command};
 ghost use Rattle.afdx_arguments.specs.Commands.{network_check_app, network_jitter_app, network_run_app, bare_network, network_program};
 
-use crate::command::{path, wordless};
+use crate::command::{path, with_no_arguments};
 use clap::Command;
 use std::alloc::{AllocError, Global};
 
@@ -28,7 +28,7 @@ const JITTER: &str =
 the first switches on. Whoever writes the tables takes them from here; check says
 then whether they are enough.
 
-Status: 0 told, 2 arguments, 3 no network or no table, 4 the links ask for more
+Status: 0 done, 2 arguments, 3 no network or no table, 4 the links ask for more
 than a line, or a jitter past 10000 us is needed, 5 memory or a device.
 
 Example: afdx network jitter network.toml";
@@ -50,7 +50,7 @@ fn check<'a>(alloc: Global) -> Result<Command<'a>, AllocError>
     ensures local { IfOk result (λ c. (out-Command c).has_globals ≡ false) }
 {
     let about = "Checks a network and tells the way of each link";
-    wordless(alloc, "check", about, CHECK).arg(path(alloc, "NET", "The network file"))
+    with_no_arguments(alloc, "check", about, CHECK).arg(path(alloc, "NET", "The network file"))
 }
 
 #[tactic(auto, unfolding(crate::specs::Commands::network_jitter_app))]
@@ -59,7 +59,7 @@ fn jitter<'a>(alloc: Global) -> Result<Command<'a>, AllocError>
     ensures local { IfOk result (λ c. (out-Command c).has_globals ≡ false) }
 {
     let about = "Tells the jitter that each link needs at each switch";
-    wordless(alloc, "jitter", about, JITTER).arg(path(alloc, "NET", "The network file"))
+    with_no_arguments(alloc, "jitter", about, JITTER).arg(path(alloc, "NET", "The network file"))
 }
 
 #[tactic(auto, unfolding(crate::specs::Commands::network_run_app))]
@@ -68,7 +68,7 @@ fn run<'a>(alloc: Global) -> Result<Command<'a>, AllocError>
     ensures local { IfOk result (λ c. (out-Command c).has_globals ≡ false) }
 {
     let about = "Runs the switches of a network over one capture for each port without a wire";
-    wordless(alloc, "run", about, RUN)
+    with_no_arguments(alloc, "run", about, RUN)
         .arg(path(alloc, "NET", "The network file"))?
         .arg(path(
             alloc,
@@ -92,7 +92,7 @@ fn bare_network<'a>(alloc: Global) -> Result<Command<'a>, AllocError>
         .bin_name("afdx network")
 }
 
-/// The program that reads the words after `afdx`, where the first of them is `network`.
+/// The program that reads the arguments after `afdx`, where the first of them is `network`.
 #[tactic(auto, unfolding(crate::specs::Commands::network_program))]
 pub(crate) fn network_program<'a>(alloc: Global) -> Result<Command<'a>, AllocError>
     ensures { IfOk result (λ c. app_of c ≡ network_program) }

@@ -1,4 +1,4 @@
-//! What the words of a command line ask for.
+//! What the arguments of a command line ask for.
 
 use crate::alone::Alone;
 
@@ -67,7 +67,7 @@ pub enum Request<'a> {
     Network(NetworkRequest<'a>),
 }
 
-/// Why the words ask for no command.
+/// Why the arguments ask for no command.
 #[derive(Debug, Drop)]
 pub enum NoRequest {
     /// They ask for help or the version, and this is its text.

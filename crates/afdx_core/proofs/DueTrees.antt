@@ -5,7 +5,7 @@ use Rattle.std.proofs.lemmas.List.{get_or-replicate, length-set, length-map, len
 use Rattle.std.proofs.Math.Seq.{take-set-lt}
 use Rattle.std.proofs.lemmas.Bool.{cases_eq, cases_lt, le-ltb, ne_eqb}
 use Rattle.afdx_port.specs.Course.{starts_before}
-use Rattle.afdx_core.specs.Dues.{IsFirstBefore, IsTree, never, due_of, told}
+use Rattle.afdx_core.specs.Dues.{IsFirstBefore, IsTree, never, due_of, reported}
 
 -- a node is the least of its children
 abbrev pub IsLeast : List ℕ → ℕ → Type 0
@@ -26,13 +26,13 @@ fresh_tree places few = record {
   no_place = λ leaf past within. get_or-replicate 64 (32 + leaf) never 0 (omega arith);
 }
 
-told_none : (n m : ℕ) → n ≤ m → map due_of (take n (replicate m never)) ≡ replicate n None
-told_none zero m le = refl
-told_none (suc n) zero le = absurd (omega arith)
-told_none (suc n) (suc m) le = ap (λ (ds : List (Option ℕ)). None ∷ ds) (told_none n m (omega arith))
+reported_none : (n m : ℕ) → n ≤ m → map due_of (take n (replicate m never)) ≡ replicate n None
+reported_none zero m le = refl
+reported_none (suc n) zero le = absurd (omega arith)
+reported_none (suc n) (suc m) le = ap (λ (ds : List (Option ℕ)). None ∷ ds) (reported_none n m (omega arith))
 
-pub told_fresh : (places : ℕ) → places ≤ 24 → told places (replicate 64 never) ≡ replicate places None
-told_fresh places few = told_none places 32 (omega arith)
+pub reported_fresh : (places : ℕ) → places ≤ 24 → reported places (replicate 64 never) ≡ replicate places None
+reported_fresh places few = reported_none places 32 (omega arith)
 
 -- ---- a write
 
@@ -73,13 +73,13 @@ node_stays tree at least here node positive within = elim (cases_eq node at) [
 pub leaves_kept : (tree : List ℕ) (node key : ℕ) (leaves : List ℕ) → node < 32 → drop 32 tree ≡ leaves → drop 32 (set tree node key) ≡ leaves
 leaves_kept tree node key leaves within is = drop-set-lt 32 tree node key within ∙ is
 
-pub told_written : (places : ℕ) (old tree : List ℕ) (place key : ℕ) (due : Option ℕ) → place < places → due_of key ≡ due
-    → drop 32 tree ≡ drop 32 (set old (32 + place) key) → told places tree ≡ set (told places old) place due
-told_written places old tree place key due within is leaves =
+pub reported_written : (places : ℕ) (old tree : List ℕ) (place key : ℕ) (due : Option ℕ) → place < places → due_of key ≡ due
+    → drop 32 tree ≡ drop 32 (set old (32 + place) key) → reported places tree ≡ set (reported places old) place due
+reported_written places old tree place key due within is leaves =
     ap (λ (xs : List ℕ). map due_of (take places xs)) (leaves ∙ drop-set-add 32 old place key)
     ∙ ap (map due_of) (take-set-lt places (drop 32 old) place key within)
     ∙ map-set due_of (take places (drop 32 old)) place key
-    ∙ ap (set (told places old) place) is
+    ∙ ap (set (reported places old) place) is
 
 pub tree_written : (places : ℕ) (old tree : List ℕ) (place key : ℕ) → IsTree places old → place < places → length tree ≡ 64
     → drop 32 tree ≡ drop 32 (set old (32 + place) key) → ((node : ℕ) → 0 < node → node < 32 → IsLeast tree node) → IsTree places tree
@@ -93,16 +93,16 @@ tree_written places old tree place key ok within long leaves least = record {
       ∙ get_or-set_other old (32 + place) (32 + leaf) key 0 other ∙ ok.no_place leaf past high;
 }
 
-pub length-told : (places : ℕ) (tree : List ℕ) → IsTree places tree → length (told places tree) ≡ places
-length-told places tree ok = length-map (take places (drop 32 tree)) due_of ∙ length-take-le places (drop 32 tree) (omega (arith, length-drop 32 tree, ok.long, ok.few))
+pub length-reported : (places : ℕ) (tree : List ℕ) → IsTree places tree → length (reported places tree) ≡ places
+length-reported places tree ok = length-map (take places (drop 32 tree)) due_of ∙ length-take-le places (drop 32 tree) (omega (arith, length-drop 32 tree, ok.long, ok.few))
 
-pub place_within : (places : ℕ) (tree : List ℕ) (dues : List (Option ℕ)) (place : ℕ) → IsTree places tree → told places tree ≡ dues → place < length dues → place < places
-place_within places tree dues place ok is within = omega (arith, ap length is, length-told places tree ok)
+pub place_within : (places : ℕ) (tree : List ℕ) (dues : List (Option ℕ)) (place : ℕ) → IsTree places tree → reported places tree ≡ dues → place < length dues → place < places
+place_within places tree dues place ok is within = omega (arith, ap length is, length-reported places tree ok)
 
 -- ---- the first
 
-pub told_at : (places : ℕ) (tree : List ℕ) (place : ℕ) (d : Option ℕ) → IsTree places tree → place < places → get_or (told places tree) place d ≡ due_of (get_or tree (32 + place) 0)
-told_at places tree place d ok within =
+pub reported_at : (places : ℕ) (tree : List ℕ) (place : ℕ) (d : Option ℕ) → IsTree places tree → place < places → get_or (reported places tree) place d ≡ due_of (get_or tree (32 + place) 0)
+reported_at places tree place d ok within =
     get_or-map due_of (take places (drop 32 tree)) place 0 d (omega (arith, length-take-le places (drop 32 tree) (omega (arith, length-drop 32 tree, ok.long, ok.few))))
     ∙ ap due_of (get_or-take places (drop 32 tree) place 0 within ∙ get_or-drop 32 tree place 0)
 
@@ -138,15 +138,15 @@ not_before t key le = elim (cases_eq key never) [
 
 -- nothing is due before an instant that is no later than the root
 pub none_before : (places : ℕ) (tree : List ℕ) (t : ℕ) → IsTree places tree → t ≤ get_or tree 1 0
-    → All (λ (due : Option ℕ). starts_before t due ≡ false) (told places tree)
+    → All (λ (due : Option ℕ). starts_before t due ≡ false) (reported places tree)
 none_before places tree t ok le place d within =
-    let here : place < places = omega (arith, length-told places tree ok) in
+    let here : place < places = omega (arith, length-reported places tree ok) in
     let least = root_least places tree ok place (omega (arith, ok.few)) in
-    rw (told_at places tree place d ok here) (not_before t (get_or tree (32 + place) 0) (omega arith))
+    rw (reported_at places tree place d ok here) (not_before t (get_or tree (32 + place) 0) (omega arith))
 
 -- the leaf that is as early as the root is due first
 pub first_before : (places : ℕ) (tree : List ℕ) (instant leaf : ℕ) → IsTree places tree → leaf < 32 → get_or tree (32 + leaf) 0 ≡ get_or tree 1 0
-    → get_or tree 1 0 < instant → instant ≤ never → IsFirstBefore instant (told places tree) leaf
+    → get_or tree 1 0 < instant → instant ≤ never → IsFirstBefore instant (reported places tree) leaf
 first_before places tree instant leaf ok within same before fits =
     let some : get_or tree (32 + leaf) 0 ≢ never = omega arith in
     let here : leaf < places = elim (cases_lt leaf places) [
@@ -155,8 +155,8 @@ first_before places tree instant leaf ok within same before fits =
     ] in
     record {
       at = get_or tree (32 + leaf) 0;
-      within = omega (arith, length-told places tree ok);
-      due = told_at places tree leaf None ok here ∙ rw (ne_eqb (get_or tree (32 + leaf) 0) never some) refl;
+      within = omega (arith, length-reported places tree ok);
+      due = reported_at places tree leaf None ok here ∙ rw (ne_eqb (get_or tree (32 + leaf) 0) never some) refl;
       before = omega arith;
       first = none_before places tree (get_or tree (32 + leaf) 0) ok (omega arith);
     }

@@ -220,10 +220,10 @@ module _ (links : LinksAreFound) (have_link : CleanFramesHaveALink) (offers : Of
     none_full = λ p among. (at_port p among).none_full ∙ sym (offered_is links r.table well offers p r.rows);
     none_aged = λ p among. (at_port p among).none_aged;
     in_bound = λ p among. (at_port p among).in_bound;
-    prefix_of_passed = λ p among l in_table leads. let front = (at_port p among).prefix_of_passed l in_table leads in (front.0, front.1);
+    prefix_of_passed = λ p among l in_table leads. let prefix = (at_port p among).prefix_of_passed l in_table leads in (prefix.0, prefix.1);
     all_passed_once_finished = λ ends p among l in_table leads.
-        let front = (at_port p among).prefix_of_passed l in_table leads in
-        sym (append-nil (sent_copies r p l)) ∙ ap (λ rest. sent_copies r p l ++ rest) (sym (front.2 ends)) ∙ front.1;
+        let prefix = (at_port p among).prefix_of_passed l in_table leads in
+        sym (append-nil (sent_copies r p l)) ∙ ap (λ rest. sent_copies r p l ++ rest) (sym (prefix.2 ends)) ∙ prefix.1;
   }
 
 -- ---- two worlds

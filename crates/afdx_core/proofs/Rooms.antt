@@ -38,7 +38,7 @@ module _ {Z : Type 0} where
 
   -- those that these ports name have room
   abbrev pub HaveRoomFor : List ℕ → List (OutputPort Z) → Type 0
-  HaveRoomFor front os = All (λ (o : OutputPort Z). names_port o.row.id front ≡ true → 0 < o.port.room) os
+  HaveRoomFor prefix os = All (λ (o : OutputPort Z). names_port o.row.id prefix ≡ true → 0 < o.port.room) os
 
   pub room_none : (os : List (OutputPort Z)) → HaveRoomFor [] os
   room_none os k d lt names = absurd (cc)
@@ -50,7 +50,7 @@ module _ {Z : Type 0} where
       let kmid : k < length mid = omega (arith, klt, became.len) in
       let row : (get_or new k d).row ≡ (get_or mid k d).row = ap (λ (o : Out). o.row) (became.at k d kmid) in
       either (names_port (get_or new k d).row.id (take i to)) (get_or to i 0 == (get_or new k d).row.id) (sym (names_next to i (get_or new k d).row.id lt) ∙ names)
-      (λ front. let n = before k d kmid (ap (λ (p : PortRow). names_port p.id (take i to)) (sym row) ∙ front) in let m = more k d in omega (arith, n, m))
+      (λ prefix. let n = before k d kmid (ap (λ (p : PortRow). names_port p.id (take i to)) (sym row) ∙ prefix) in let m = more k d in omega (arith, n, m))
       (λ next. here k d klt (flip (get_or new k d).row.id (get_or to i 0) ∙ next)) where
         either : {P : Type 0} (a b : Bool) → (a || b) ≡ true → (a ≡ true → P) → (b ≡ true → P) → P
         either true b e first second = first refl

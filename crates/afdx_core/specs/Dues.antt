@@ -18,8 +18,8 @@ abbrev pub due_of : ℕ → Option ℕ
 due_of key = if key == never then None else Some key
 
 -- the places are the first of the 32 leaves, which follow the nodes
-abbrev pub told : ℕ → List ℕ → List (Option ℕ)
-told places tree = map due_of (take places (drop 32 tree))
+abbrev pub reported : ℕ → List ℕ → List (Option ℕ)
+reported places tree = map due_of (take places (drop 32 tree))
 
 -- each node is the least of its two children, and nothing is due at a leaf that is no place
 pub record IsTree (places : ℕ) (tree : List ℕ) : Type 0 where

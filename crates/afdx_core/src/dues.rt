@@ -25,11 +25,11 @@ pub(crate) struct Dues {
 
 impl Model for Dues {
     ghost use Rattle.std.specs.Prelude.{ℕ, List, Option};
-    ghost use Rattle.afdx_core.specs.Dues.{told, IsTree};
+    ghost use Rattle.afdx_core.specs.Dues.{reported, IsTree};
 
     ghost Value = { List (Option ℕ) };
 
-    ghost view = { λ d. told d.places d.earliest };
+    ghost view = { λ d. reported d.places d.earliest };
 
     ghost invariant = { λ d. IsTree d.places d.earliest };
 }

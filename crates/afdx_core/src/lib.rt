@@ -14,10 +14,10 @@
 mod accounts;
 mod dues;
 mod engine;
-mod step;
 pub mod laws;
 mod log;
 mod output_port;
+mod step;
 mod switch;
 
 pub use accounts::{accounts_of, police};

@@ -32,7 +32,7 @@ fn answers_calls(
     let count = answered(alloc, &mut switch, &calls);
     let mut done = finished(switch);
     let is_left = leaves(&mut done, 2, &[(13_445, 60)]);
-    (count, is_left, told_at_the_end(&done))
+    (count, is_left, reported_at_the_end(&done))
 }
 
 #[test]
@@ -54,14 +54,14 @@ fn checked_switch_by_calls(rt: HostRuntime) -> Result<(), Fail> {
 }
 
 /// What a switch tells of port 2, how many frames it sent and discarded, and of all arrivals, how many fates.
-fn told(switch: &Switch<'static, Global>) -> (usize, usize, usize) {
+fn reported(switch: &Switch<'static, Global>) -> (usize, usize, usize) {
     let sent = switch.sent(2).len();
     let aged = switch.aged(2).len();
     (sent, aged, switch.fates().len())
 }
 
 /// The same of a finished switch.
-fn told_at_the_end(done: &Done<'static, Global>) -> (usize, usize, usize) {
+fn reported_at_the_end(done: &Done<'static, Global>) -> (usize, usize, usize) {
     (done.sent(2).len(), done.aged(2).len(), done.fates().len())
 }
 
@@ -72,13 +72,13 @@ fn readers_before_and_after_the_end(rt: HostRuntime) -> Result<(), Fail> {
     let mut switch = switch_of(alloc, &single(alloc)?)?;
     let _first = arrive(alloc, &mut switch, 1, small(10, 0));
     let _second = arrive(alloc, &mut switch, 1, small(10, 6_720));
-    assert_eq!(rt; told(&switch), (1, 0, 2));
+    assert_eq!(rt; reported(&switch), (1, 0, 2));
     let mut capture = Vec::new(alloc);
     let first = switch.next_out_into(2, &mut capture);
     let second = switch.next_out_into(2, &mut capture);
     assert_eq!(rt; (first, second, capture.len()), (Ok(true), Ok(false), 76));
     let done = finished(switch);
-    assert_eq!(rt; told_at_the_end(&done), (2, 0, 2));
+    assert_eq!(rt; reported_at_the_end(&done), (2, 0, 2));
     Ok(())
 }
 

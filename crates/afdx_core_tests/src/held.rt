@@ -88,7 +88,7 @@ fn frame_that_no_port_admits_is_not_held(rt: HostRuntime) -> Result<(), Fail> {
     Ok(())
 }
 
-/// The captured bytes of the frame of this number, by which it is told from the others in flight.
+/// The captured bytes of the frame of this number, by which it is known from the others in flight.
 fn length(number: u32) -> u32
     requires { number < 1000 }
     ensures { result < 67 }

@@ -132,9 +132,9 @@ pub(crate) fn advances(switch: &mut Switch<'static, Global>, ns: u64) -> bool {
 pub(crate) enum Call {
     /// A frame arrives at a port.
     Arrive(u8, Sample, Answer),
-    /// A frame arrives at a port, of which the fate is told alone.
+    /// A frame arrives at a port, of which the fate is reported alone.
     Fate(u8, Sample, Fate),
-    /// A frame arrives at a port, of which the first two offers are told alone.
+    /// A frame arrives at a port, of which the first two offers are reported alone.
     Offers(u8, Sample, (Option<(u8, Offer)>, Option<(u8, Offer)>)),
     /// An advance to so many nanoseconds, and whether it is made.
     Advance(u64, bool),

@@ -124,16 +124,16 @@ impl<A: Allocator + Copy> Links<A> {
         place < self.tallies.len() && self.tallies[place].id == id
     }
 
-    /// The place of the link of a number: the one that is told, where that link has the number, and else the one that
+    /// The place of the link of a number: the one that is given, where that link has the number, and else the one that
     /// is found.
-    fn place_told(&self, id: u16, told: Option<usize>) -> Option<usize>
+    fn place_reported(&self, id: u16, reported: Option<usize>) -> Option<usize>
         ensures at { IfSome result (IsPlaceOf (λ l. l.id) id self.now) }
         ensures absent { IfNone result (list_any (λ l. id == l.id) self.now ≡ false) }
         ensures within { IfSome result (λ place. place < length self.now) }
         ensures distinct { IsDistinct nat_eq (map (λ l. l.id) self.now) }
     {
-        match told {
-            Some(place) if self.stands_at(place, id) => told,
+        match reported {
+            Some(place) if self.stands_at(place, id) => reported,
             _ => self.place(id),
         }
     }
@@ -148,13 +148,13 @@ impl<A: Allocator + Copy> Links<A> {
         }
     }
 
-    /// Counts a passed frame at the link of a number, which may stand at the place that is told, and gives the priority
+    /// Counts a passed frame at the link of a number, which may stand at the place that is given, and gives the priority
     /// of its copies.
-    fn note_passed(&mut self, id: u16, told: Option<usize>) -> Option<Priority>
+    fn note_passed(&mut self, id: u16, reported: Option<usize>) -> Option<Priority>
         ensures links { self.new ≡ changed_at (λ l. l.id) id one_passed self.old }
         ensures class { result ≡ option_map (λ l. l.priority) (link_in id self.old) }
     {
-        match self.place_told(id, told) {
+        match self.place_reported(id, reported) {
             Some(place) => {
                 let tally = self.tallies[place];
                 self.tallies[place] = tally.with_passed();
@@ -164,24 +164,24 @@ impl<A: Allocator + Copy> Links<A> {
         }
     }
 
-    fn note_policed(&mut self, id: u16, told: Option<usize>)
+    fn note_policed(&mut self, id: u16, reported: Option<usize>)
         ensures { self.new ≡ changed_at (λ l. l.id) id one_policed self.old }
     {
-        if let Some(place) = self.place_told(id, told) {
+        if let Some(place) = self.place_reported(id, reported) {
             self.tallies[place] = self.tallies[place].with_policed();
         }
     }
 
-    /// Counts an arrival at its link, which may stand at the place that is told, and gives the priority of the copies of a
+    /// Counts an arrival at its link, which may stand at the place that is given, and gives the priority of the copies of a
     /// passed frame.
-    pub(crate) fn note(&mut self, fate: Fate, told: Option<usize>) -> Option<Priority>
+    pub(crate) fn note(&mut self, fate: Fate, reported: Option<usize>) -> Option<Priority>
         ensures links { self.new ≡ map (noted_link fate) self.old }
         ensures class { result ≡ class_of fate self.old }
     {
         match fate {
-            Fate::Passed(id) => self.note_passed(id, told),
+            Fate::Passed(id) => self.note_passed(id, reported),
             Fate::Policed(id) => {
-                self.note_policed(id, told);
+                self.note_policed(id, reported);
                 None
             }
             Fate::Filtered(_) => None,

@@ -11,14 +11,8 @@ use afdx_frame::view;
 use afdx_pcap::Record;
 use afdx_table::Table;
 use afdx_table::laws::{links_are_found, links_stand_at_their_places};
-use afdx_units::size;
+use afdx_units::{GREATEST_SIZE, LEAST_SIZE, size};
 use std::alloc::Allocator;
-
-/// The least size of a frame, in bytes (IEEE 802.3).
-const MIN_SIZE: u32 = 64;
-
-/// The greatest size of a frame, in bytes (IEEE 802.3).
-const MAX_SIZE: u32 = 1518;
 
 /// The verdict on a frame that arrives at a port, the link that it names, and where that link stands in the table.
 ///
@@ -70,10 +64,10 @@ pub fn judge<A: Allocator>(table: &Table, in_port: u8, frame: &Record<'_, A>) ->
         return Judged::refused(Verdict::Cut);
     }
     let size = size(bytes.len() as u32);
-    if size < MIN_SIZE {
+    if size < LEAST_SIZE {
         return Judged::refused(Verdict::Short);
     }
-    if size > MAX_SIZE {
+    if size > GREATEST_SIZE {
         return Judged::refused(Verdict::Long);
     }
     let address = view(bytes).unwrap();

@@ -64,11 +64,11 @@ module _ (g : Ground) (s : Settings) (load : Load) (items : List Item) (timely :
   carried_out true h = timely
   carried_out false h = All-filter (λ event. nat_lt (instant event) h) (IsTimely s load) (service s 0 items) timely
 
-  front : (id : ℕ) (passes : List Item) → own id (map item_of (service s 0 items)) ≡ passes → (finished : Bool) (h : ℕ) → (rest : List Item)
+  prefix : (id : ℕ) (passes : List Item) → own id (map item_of (service s 0 items)) ≡ passes → (finished : Bool) (h : ℕ) → (rest : List Item)
       × (own id (map (λ (x : Sent). x.item) (sent_of (cond finished (service s 0 items) (before h (service s 0 items))))) ++ rest ≡ passes)
       × (finished ≡ true → rest ≡ [])
-  front id passes is true h = ([], append-nil _ ∙ ap (own id) (items_sent s load (service s 0 items) timely) ∙ is, λ _. refl)
-  front id passes is false h =
+  prefix id passes is true h = ([], append-nil _ ∙ ap (own id) (items_sent s load (service s 0 items) timely) ∙ is, λ _. refl)
+  prefix id passes is false h =
       let now = before h (service s 0 items) in
       let parts = g.in_parts s h items in
       let later = parts.0 in (
@@ -98,8 +98,8 @@ isolated_so_far g c flows arrivals arrive carries is =
       none_aged = none_aged s load (done c) so_far;
       of_flows = of_carried_out (IsOfAFlow flows) (service s 0 c.admitted) c.finished (reach s c.horizon) of_events;
       in_bound = all_in_bound s load (done c) so_far;
-      front = λ flow among.
-          front g s load c.admitted timely flow.id (passed flow arrivals) (ap (λ xs. own flow.id (map item_of (service s 0 xs))) is ∙ all.exactly_passed flow among) c.finished (reach s c.horizon);
+      prefix = λ flow among.
+          prefix g s load c.admitted timely flow.id (passed flow arrivals) (ap (λ xs. own flow.id (map item_of (service s 0 xs))) is ∙ all.exactly_passed flow among) c.finished (reach s c.horizon);
     }
 
 pub others_nothing : Ground → OthersChangeNothing

@@ -335,7 +335,7 @@ isolated_at pays asks some keeps isolates t arrivals h row among c settings is =
             least = within.least;
             most = within.most;
           };
-      prefix_of_passed = λ link in_table leads. all.front (flow_of row.speed link) (of_map (flow_of row.speed) links link (among_filter (leads_to row.id) t.links link in_table leads));
+      prefix_of_passed = λ link in_table leads. all.prefix (flow_of row.speed link) (of_map (flow_of row.speed) links link (among_filter (leads_to row.id) t.links link in_table leads));
     }
 
 -- a row with a buffer of so many bytes admits all that its port is offered, where they hold the backlog
@@ -381,7 +381,7 @@ others_in_tables by_frames isolate t t' arrivals arrivals' h h' row row' among a
           → (c : PortContent) → c.settings ≡ settings_of t.latency row → c.admitted ≡ admitted (settings_of t.latency row) (feed_of (flows_at t row) arrivals) → c.finished ≡ true
           → frames_for link.id c ≡ passed_frames (terms_of link) (map frame_of (own link.id arrivals))
       all t arrivals h row among link in_table leads c settings admits ends =
-          let front = (isolate t arrivals h row among c settings admits).prefix_of_passed link in_table leads in
+          let prefix = (isolate t arrivals h row among c settings admits).prefix_of_passed link in_table leads in
           let sent' = own link.id (map (λ (x : Sent). x.item) (sent_of (done c))) in
-          ap (map frame_of) (sym (append-nil sent') ∙ ap (λ ys. sent' ++ ys) (sym (front.2 ends)) ∙ front.1)
+          ap (map frame_of) (sym (append-nil sent') ∙ ap (λ ys. sent' ++ ys) (sym (prefix.2 ends)) ∙ prefix.1)
           ∙ by_frames frame_of (terms_of link) (own link.id arrivals)

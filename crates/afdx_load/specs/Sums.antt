@@ -12,7 +12,7 @@ use Rattle.afdx_account.specs.Policing.{Terms, terms_by, weight_by}
 use Rattle.afdx_table.specs.Link.{Link, leads_to}
 use Rattle.afdx_table.specs.Content.{Content, port_row}
 
--- profile: the whole of a line, in the parts in which rates are told; they are 16 * 128,000,000, so that a byte's part
+-- profile: the whole of a line, in the parts in which rates are reported; they are 16 * 128,000,000, so that a byte's part
 -- is a whole number for each gap
 abbrev pub parts : ℕ
 parts = 2048000000

@@ -9,7 +9,7 @@ use Rattle.std.proofs.lemmas.List.{length-set, length-take, length-replicate, ma
 use Rattle.std.proofs.lemmas.List.Elements.{filter-append}
 use Rattle.afdx_port.specs.declared.Sent.{Sent}
 use Rattle.afdx_measure.specs.declared.delays.Delays.{Delays}
-use Rattle.afdx_measure.specs.Delays.{delay_of, delays_of, told, AreDelays}
+use Rattle.afdx_measure.specs.Delays.{delay_of, delays_of, reported, AreDelays}
 
 pub fold_push : {X Y : Type 0} (f : Y → X → Y) (a : Y) (xs : List X) (x : X) → fold f a (xs ++ x ∷ []) ≡ f (fold f a xs) x
 fold_push f a [] x = refl
@@ -50,14 +50,14 @@ no_more_than_sent sent all link d lt h =
     omega (arith, is, fewer link sent)
 
 pub copy_more : (sent : List Sent) (x : Sent) (all : List Delays) (new : Delays) → x.item.link < 65536
-    → new ≡ told (delays_of x.item.link sent ++ delay_of x ∷ []) → AreDelays sent all → AreDelays (sent ++ x ∷ []) (set all x.item.link new)
+    → new ≡ reported (delays_of x.item.link sent ++ delay_of x ∷ []) → AreDelays sent all → AreDelays (sent ++ x ∷ []) (set all x.item.link new)
 copy_more sent x all new lt more h = record { long = length-set all x.item.link new ∙ h.long; each = each }
   where
-    here : (d : Delays) → get_or (set all x.item.link new) x.item.link d ≡ told (delays_of x.item.link (sent ++ x ∷ []))
+    here : (d : Delays) → get_or (set all x.item.link new) x.item.link d ≡ reported (delays_of x.item.link (sent ++ x ∷ []))
     here d =
-        get_or-set_same all x.item.link new d (omega (arith, lt, h.long)) ∙ more ∙ ap told (sym (of_the_link sent x))
+        get_or-set_same all x.item.link new d (omega (arith, lt, h.long)) ∙ more ∙ ap reported (sym (of_the_link sent x))
 
-    each : (link : ℕ) (d : Delays) → link < 65536 → get_or (set all x.item.link new) link d ≡ told (delays_of link (sent ++ x ∷ []))
+    each : (link : ℕ) (d : Delays) → link < 65536 → get_or (set all x.item.link new) link d ≡ reported (delays_of link (sent ++ x ∷ []))
     each link d less = elim (cases_lt link x.item.link) [
       | inl lt ↦ elsewhere link d less (λ e. omega (arith, lt, e))
       | inr ge ↦ elim (cases_lt x.item.link link) [
@@ -65,12 +65,12 @@ copy_more sent x all new lt more h = record { long = length-set all x.item.link 
         | inr le ↦ let e : link ≡ x.item.link = omega (arith, ge, le) in rw e (here d)
       ]
     ] where
-      elsewhere : (link : ℕ) (d : Delays) → link < 65536 → link ≢ x.item.link → get_or (set all x.item.link new) link d ≡ told (delays_of link (sent ++ x ∷ []))
+      elsewhere : (link : ℕ) (d : Delays) → link < 65536 → link ≢ x.item.link → get_or (set all x.item.link new) link d ≡ reported (delays_of link (sent ++ x ∷ []))
       elsewhere link d less differ =
-          get_or-set_other all x.item.link link new d differ ∙ h.each link d less ∙ ap told (sym (of_another link sent x differ))
+          get_or-set_other all x.item.link link new d differ ∙ h.each link d less ∙ ap reported (sym (of_another link sent x differ))
 
 -- nothing was sent
-pub none_sent : (n : ℕ) (all : List Delays) (none : Delays) → n ≡ 65536 → all ≡ replicate n none → none ≡ told [] → AreDelays [] all
+pub none_sent : (n : ℕ) (all : List Delays) (none : Delays) → n ≡ 65536 → all ≡ replicate n none → none ≡ reported [] → AreDelays [] all
 none_sent n all none is same h = record {
   long = ap length same ∙ length-replicate n none ∙ is;
   each = λ link d lt. ap (λ (ds : List Delays). get_or ds link d) same ∙ get_or-replicate n link none d (omega (arith, is, lt)) ∙ h;
@@ -78,12 +78,12 @@ none_sent n all none is same h = record {
 
 -- the next copy
 pub next_copy : (sent : List Sent) (i : ℕ) (x : Sent) (all : List Delays) (place delay : ℕ) (old new : Delays) → i < length sent → x ≡ get_or sent i x → x.item.link < 65536
-    → place ≡ x.item.link → delay ≡ delay_of x → old ≡ get_or all place old → ((ns : List ℕ) → old ≡ told ns → new ≡ told (ns ++ delay ∷ []))
+    → place ≡ x.item.link → delay ≡ delay_of x → old ≡ get_or all place old → ((ns : List ℕ) → old ≡ reported ns → new ≡ reported (ns ++ delay ∷ []))
     → AreDelays (take i sent) all → AreDelays (take (i + 1) sent) (set all place new)
 next_copy sent i x all place delay old new inside is lt place_is delay_is at more h =
     let so_far = delays_of x.item.link (take i sent) in
-    let one : new ≡ told (so_far ++ delay_of x ∷ []) =
-    more so_far (at ∙ ap (λ (n : ℕ). get_or all n old) place_is ∙ h.each x.item.link old lt) ∙ ap (λ (n : ℕ). told (so_far ++ n ∷ [])) delay_is in
+    let one : new ≡ reported (so_far ++ delay_of x ∷ []) =
+    more so_far (at ∙ ap (λ (n : ℕ). get_or all n old) place_is ∙ h.each x.item.link old lt) ∙ ap (λ (n : ℕ). reported (so_far ++ n ∷ [])) delay_is in
     let longer = take_more sent i x inside ∙ ap (λ (y : Sent). take i sent ++ y ∷ []) (sym is) in
     subst (λ (n : ℕ). AreDelays (take (i + 1) sent) (set all n new)) (sym place_is) (subst (λ (xs : List Sent). AreDelays xs (set all x.item.link new)) (sym longer) (copy_more (take i
     sent) x all new lt one h))

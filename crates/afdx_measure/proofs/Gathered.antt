@@ -8,7 +8,7 @@ use Rattle.afdx_table.specs.Content.{port_row}
 use Rattle.afdx_core.specs.State.{Run, sent_in}
 use Rattle.afdx_measure.specs.declared.delays.Delays.{Delays}
 use Rattle.afdx_measure.specs.declared.telling.AtPort.{AtPort}
-use Rattle.afdx_measure.specs.Delays.{delays_of, told, AreDelays}
+use Rattle.afdx_measure.specs.Delays.{delays_of, reported, AreDelays}
 use Rattle.afdx_measure.specs.Report.{AreGathered}
 
 pub gathered_more : {Z : Type 0} (r : Run) (ports : List PortRow) (p : PortRow) (all : List (AtPort Z)) (d : AtPort Z) → d.port ≡ p.id → AreDelays (sent_in r (port_row r.table d.port)) d.delays.items
@@ -61,12 +61,12 @@ pub gathered_here : {Z : Type 0} (r : Run) (ports : List PortRow) (all : List (A
     → AreDelays (sent_in r (port_row r.table d.port)) d.delays.items
 gathered_here {Z} r ports all i d lt is h = subst (λ (x : AtPort Z). AreDelays (sent_in r (port_row r.table x.port)) x.delays.items) (sym is) (gathered_at r ports all i d lt h)
 
-pub told_of : {Z : Type 0} (r : Run) (ports : List PortRow) (all : List (AtPort Z)) (i : ℕ) (d : AtPort Z) (link place port : ℕ) (x : Delays) → i < length all → d ≡ get_or all i d → place ≡ link
+pub reported_of : {Z : Type 0} (r : Run) (ports : List PortRow) (all : List (AtPort Z)) (i : ℕ) (d : AtPort Z) (link place port : ℕ) (x : Delays) → i < length all → d ≡ get_or all i d → place ≡ link
     → link < 65536
-    → x ≡ get_or d.delays.items place x → d.port ≡ port → AreGathered r ports all → x ≡ told (delays_of link (sent_in r (port_row r.table port)))
-told_of r ports all i d link place port x lt is place_is small stands same h =
+    → x ≡ get_or d.delays.items place x → d.port ≡ port → AreGathered r ports all → x ≡ reported (delays_of link (sent_in r (port_row r.table port)))
+reported_of r ports all i d link place port x lt is place_is small stands same h =
     let here = gathered_here r ports all i d lt is h in
-    stands ∙ ap (λ (k : ℕ). get_or d.delays.items k x) place_is ∙ here.each link x small ∙ ap (λ (n : ℕ). told (delays_of link (sent_in r (port_row r.table n)))) same
+    stands ∙ ap (λ (k : ℕ). get_or d.delays.items k x) place_is ∙ here.each link x small ∙ ap (λ (n : ℕ). reported (delays_of link (sent_in r (port_row r.table n)))) same
 
 pub passed_on : {Z : Type 0} (r : Run) (ports : List PortRow) (all : List (AtPort Z)) (i n : ℕ) (d : AtPort Z) → i < length all → d ≡ get_or all i d → (d.port == n) ≡ false → AreGathered r ports all
     → row_from n i ports ≡ row_from n (i + 1) ports

@@ -16,7 +16,7 @@ use Rattle.afdx_port.specs.Inner.Order.{InOrder}
 use Rattle.afdx_port.specs.Inner.Gone.{gone, OccupiedIsWhatHasNotGone, SentEndInOrder, AgedInOrder}
 use Rattle.afdx_measure.specs.declared.filling.Level.{Level}
 use Rattle.afdx_measure.specs.Peak.{filling, fillings}
-use Rattle.afdx_measure.proofs.Fronts.{IsFront, sum_of_front, passed_more}
+use Rattle.afdx_measure.proofs.Prefixes.{IsPrefix, sum_of_prefix, passed_more}
 
 abbrev pub ended : ℕ → Sent → Bool
 ended t x = nat_le x.end t
@@ -53,22 +53,22 @@ later_sent t u x le h = grind (arith, nat_tests)
 later_aged : (t u : ℕ) (x : Aged) → t ≤ u → discarded t x ≡ true → discarded u x ≡ true
 later_aged t u x le h = grind (arith, nat_tests)
 
-sent_front : (t : ℕ) (sent : List Sent) → AllPairs (λ (a : Sent) (b : Sent). a.end ≤ b.end) sent → IsFront (ended t) sent
-sent_front t sent order i j d lt within h = let le = order i j d lt within in grind (arith, nat_tests)
+sent_prefix : (t : ℕ) (sent : List Sent) → AllPairs (λ (a : Sent) (b : Sent). a.end ≤ b.end) sent → IsPrefix (ended t) sent
+sent_prefix t sent order i j d lt within h = let le = order i j d lt within in grind (arith, nat_tests)
 
-aged_front : (t : ℕ) (aged : List Aged) → AllPairs (λ (a : Aged) (b : Aged). a.at ≤ b.at) aged → IsFront (discarded t) aged
-aged_front t aged order i j d lt within h = let le = order i j d lt within in grind (arith, nat_tests)
+aged_prefix : (t : ℕ) (aged : List Aged) → AllPairs (λ (a : Aged) (b : Aged). a.at ≤ b.at) aged → IsPrefix (discarded t) aged
+aged_prefix t aged order i j d lt within h = let le = order i j d lt within in grind (arith, nat_tests)
 
 module _ (s : Settings) (admitted : List Item) (sent : List Sent) (aged : List Aged) (law : OccupiedIsWhatHasNotGone) (sent_order : SentEndInOrder) (aged_order : AgedInOrder)
     (order : InOrder s admitted) (sent_is : sent ≡ sent_of (service s 0 admitted)) (aged_is : aged ≡ aged_of (service s 0 admitted)) where
   split : (k : ℕ) (x : Item) → k < length admitted → x ≡ get_or admitted k x → take k admitted ++ x ∷ drop (k + 1) admitted ≡ admitted
   split k x lt is = ap (λ (more : List Item). take k admitted ++ more) (ap (λ (y : Item). y ∷ drop (k + 1) admitted) is ∙ sym (drop_more admitted k x lt)) ∙ take-append-drop k admitted
 
-  is_sent_front : (t : ℕ) → IsFront (ended t) sent
-  is_sent_front t = sent_front t sent (subst (AllPairs (λ (a : Sent) (b : Sent). a.end ≤ b.end)) (sym sent_is) (sent_order s admitted))
+  is_sent_prefix : (t : ℕ) → IsPrefix (ended t) sent
+  is_sent_prefix t = sent_prefix t sent (subst (AllPairs (λ (a : Sent) (b : Sent). a.end ≤ b.end)) (sym sent_is) (sent_order s admitted))
 
-  is_aged_front : (t : ℕ) → IsFront (discarded t) aged
-  is_aged_front t = aged_front t aged (subst (AllPairs (λ (a : Aged) (b : Aged). a.at ≤ b.at)) (sym aged_is) (aged_order s admitted))
+  is_aged_prefix : (t : ℕ) → IsPrefix (discarded t) aged
+  is_aged_prefix t = aged_prefix t aged (subst (AllPairs (λ (a : Aged) (b : Aged). a.at ≤ b.at)) (sym aged_is) (aged_order s admitted))
 
   -- what is occupied for the next admission, by the lists of the end
   occupied_next : (k : ℕ) (x : Item) → k < length admitted → x ≡ get_or admitted k x
@@ -98,8 +98,8 @@ module _ (s : Settings) (admitted : List Item) (sent : List Sent) (aged : List A
       (omega arith) lt less in
       let aged_passed : (n : ℕ) (d : Aged) → n < old.aged → discarded t (get_or aged n d) ≡ true = λ n d less. ap (λ (u : ℕ). discarded u (get_or aged n d)) (sym at) ∙ h.aged_gone k n x
       d (omega arith) lt less in
-      let of_sent = sum_of_front (ended t) sent_size sent old.sent (is_sent_front t) h.sent_in sent_passed in
-      let of_aged = sum_of_front (discarded t) aged_size aged old.aged (is_aged_front t) h.aged_in aged_passed in
+      let of_sent = sum_of_prefix (ended t) sent_size sent old.sent (is_sent_prefix t) h.sent_in sent_passed in
+      let of_aged = sum_of_prefix (discarded t) aged_size aged old.aged (is_aged_prefix t) h.aged_in aged_passed in
       let more_sent = passed_more (ended t) sent old.sent h.sent_in sent_passed in
       let more_aged = passed_more (discarded t) aged old.aged h.aged_in aged_passed in
       let occupied_is = occupied_next k x lt is in

@@ -1,6 +1,6 @@
 pub mod DelayLemmas
 pub mod Going
-pub mod Fronts
+pub mod Prefixes
 pub mod Levels
 pub mod MeasureLaws
 pub mod TellLaws

@@ -1,4 +1,4 @@
--- What is told of a run as text (profile): lines that end with a line feed, numbers in decimal, `-` where there is none.
+-- What is reported of a run as text (profile): lines that end with a line feed, numbers in decimal, `-` where there is none.
 use Rattle.std.specs.Prelude.{ℕ, codes, decimal, List, [], ◌∷◌, ◌++◌, flat_map, Option, Some, None}
 use Rattle.std.specs.Option.{option_map, option_map_or}
 use Rattle.afdx_measure.specs.declared.delays.Delays.{Delays}

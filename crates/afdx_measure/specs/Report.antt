@@ -1,4 +1,4 @@
--- What is told of a finished run (profile): of each link of the table, in its order, the delays at each of its output ports, in the
+-- What is reported of a finished run (profile): of each link of the table, in its order, the delays at each of its output ports, in the
 -- link's order; then of each port, by rising number, how full its buffer was.
 use Rattle.std.specs.Prelude.{◌≡◌, ℕ, ◌++◌, Bool, if◌then◌else◌, List, [], ◌∷◌, flat_map, Option, Some, None}
 use Rattle.afdx_units.specs.declared.line.Priority.{Priority}
@@ -9,7 +9,7 @@ use Rattle.afdx_load.specs.Sums.{Sums, port_load}
 use Rattle.afdx_isolation.specs.Table.{bound_of}
 use Rattle.afdx_core.specs.State.{Run, sent_in}
 use Rattle.afdx_measure.specs.declared.telling.AtPort.{AtPort}
-use Rattle.afdx_measure.specs.Delays.{delays_of, told, AreDelays}
+use Rattle.afdx_measure.specs.Delays.{delays_of, reported, AreDelays}
 use Rattle.afdx_measure.specs.Ports.{peak_at}
 use Rattle.afdx_measure.specs.Lines.{link_line, peak_line}
 
@@ -24,7 +24,7 @@ bound_at promised t port priority = if promised then bound_by (port_load t port)
 
 -- the line of a link at the port of a number
 abbrev pub line_at : Bool → Run → Link → ℕ → List ℕ
-line_at promised r l port = link_line l.id port (told (delays_of l.id (sent_in r (port_row r.table port)))) (bound_at promised r.table port l.priority)
+line_at promised r l port = link_line l.id port (reported (delays_of l.id (sent_in r (port_row r.table port)))) (bound_at promised r.table port l.priority)
 
 -- the lines of a link, and that of a port
 abbrev pub link_lines : Bool → Run → Link → List ℕ

@@ -1,7 +1,7 @@
 //! The delays of what a port sent.
 
 ghost use Rattle.std.specs.Prelude.{◌≡◌, ℕ, ◌-◌, ◌<◌, ◌^◌, List, [], ◌∷◌, ◌++◌, IfOk};
-ghost use Rattle.afdx_measure.specs.Delays.{delay_of, told, AreDelays};
+ghost use Rattle.afdx_measure.specs.Delays.{delay_of, reported, AreDelays};
 
 use afdx_port::Sent;
 use std::alloc::{AllocError, Allocator};
@@ -35,7 +35,7 @@ impl Range {
 impl Delays {
     /// Those of no copies.
     pub(crate) fn none() -> Delays
-        ensures { result ≡ told [] }
+        ensures { result ≡ reported [] }
     {
         Delays {
             count: 0,
@@ -46,7 +46,7 @@ impl Delays {
     /// The same with one copy more.
     fn with(self, delay: u64) -> Delays
         requires room { self.count < 2 ^ 64 - 1 }
-        ensures { (ns : List ℕ) → self ≡ told ns → result ≡ told (ns ++ delay ∷ []) }
+        ensures { (ns : List ℕ) → self ≡ reported ns → result ≡ reported (ns ++ delay ∷ []) }
     {
         let range = match self.range {
             Some(range) => Range {

@@ -1,4 +1,4 @@
-//! What is told of a run, as text.
+//! What is reported of a run, as text.
 
 ghost use Rattle.std.specs.Prelude.{◌≡◌, ◌++◌, map, string_bytes, OnOk};
 ghost use Rattle.afdx_measure.specs.Lines.{number, part, line, link_line, peak_line};
@@ -10,11 +10,11 @@ use std::alloc::{AllocError, Allocator};
 /// A number, or `-` where there is none.
 fn put_number<A: Allocator + Copy>(
     text: &mut String<A>,
-    told: Option<u128>,
+    reported: Option<u128>,
 ) -> Result<(), AllocError>
-    ensures { OnOk result (string_bytes text.new ≡ string_bytes text.old ++ number told) }
+    ensures { OnOk result (string_bytes text.new ≡ string_bytes text.old ++ number reported) }
 {
-    match told {
+    match reported {
         Some(number) => write!(text, "{number}"),
         None => text.push_str("-"),
     }

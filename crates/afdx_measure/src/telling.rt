@@ -1,9 +1,9 @@
-//! All that is told of a finished run, as text.
+//! All that is reported of a finished run, as text.
 
 ghost use Rattle.std.specs.Prelude.{◌≡◌, ◌++◌, true, Some, flat_map, string_bytes, IfOk, OnOk};
 ghost use Rattle.afdx_table.specs.Content.{port_row};
 ghost use Rattle.afdx_core.specs.State.{sent_in};
-ghost use Rattle.afdx_measure.specs.Delays.{delays_of, told};
+ghost use Rattle.afdx_measure.specs.Delays.{delays_of, reported};
 ghost use Rattle.afdx_measure.specs.Report.{bound_at, link_lines, port_line, report_of, AreGathered};
 
 use crate::delays::{Delays, delays_by_link};
@@ -49,7 +49,7 @@ fn delays_at<A: Allocator + Copy>(
     port: u8,
 ) -> Delays
     requires { AreGathered done.now.run done.now.run.table.ports all.now }
-    ensures { result ≡ told (delays_of link (sent_in done.now.run (port_row done.now.run.table port))) }
+    ensures { result ≡ reported (delays_of link (sent_in done.now.run (port_row done.now.run.table port))) }
 {
     for at in all {
         if at.port == port {
@@ -136,8 +136,8 @@ fn put_ports<A: Allocator + Copy>(
     Ok(())
 }
 
-/// What is told of a finished switch: a line for each link and each of its output ports, then a line for each port.
-/// Bounds are told where they are promised: where the table was checked, and accepted.
+/// What is reported of a finished switch: a line for each link and each of its output ports, then a line for each port.
+/// Bounds are reported where they are promised: where the table was checked, and accepted.
 ///
 /// An error says that a growth was refused. O(copies) and O(ports) for each line; 2 MiB for each port.
 pub fn report<A: Allocator + Copy>(

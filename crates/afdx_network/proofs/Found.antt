@@ -56,7 +56,7 @@ contains_at [] n x is = absurd cc
 contains_at (y ∷ xs) zero x is = contains_head xs x y (some_same is)
 contains_at (y ∷ xs) (suc n) x is = contains_tail xs x y (contains_at xs n x is)
 
--- what holds of each element of a list, told of each element
+-- what holds of each element of a list, reported of each element
 pub all_by : {X : Type 0} (P : X → Type 0) (xs : List X) → ((x : X) → Contains xs x → P x) → AllByRecursion P xs
 all_by P [] each = tt
 all_by P (x ∷ xs) each = (each x (contains_head xs x x refl), all_by P xs (λ y among. each y (contains_tail xs y x among)))

@@ -5,7 +5,7 @@ use Rattle.afdx_pcap.specs.declared.fault.PcapFault.{PcapFault}
 use Rattle.afdx_pcap.specs.declared.fault.PcapFault.TheVariants.{Memory}
 use Rattle.afdx_pcap.specs.Entry.{Entry}
 use Rattle.afdx_pcap.specs.Reading.{Answers, IsNext, IsSound, IsWrong}
-use Rattle.afdx_pcap.proofs.Unique.{one_front, one_file_fault, capture_or_fault}
+use Rattle.afdx_pcap.proofs.Unique.{one_prefix, one_file_fault, capture_or_fault}
 
 abbrev refused : PcapFault → Result (Option Entry) PcapFault
 refused e = Err e
@@ -19,7 +19,7 @@ one_next : (bytes : List ℕ) (n : ℕ) (r q : Entry) → IsNext bytes n r → I
 one_next bytes n r q a b =
     let count = a.3 ∙ sym b.3 in
     let counts = length-append a.0 (r ∷ []) ∙ ap (λ (k : ℕ). k + 1) count ∙ sym (length-append b.0 (q ∷ [])) in
-    same_last a.0 b.0 r q count (one_front bytes a.1 b.1 (a.0 ++ r ∷ []) (b.0 ++ q ∷ []) a.2 b.2 counts)
+    same_last a.0 b.0 r q count (one_prefix bytes a.1 b.1 (a.0 ++ r ∷ []) (b.0 ++ q ∷ []) a.2 b.2 counts)
 
 one_wrong : (bytes : List ℕ) (closed : Bool) (d e : PcapFault) → IsWrong bytes closed d → IsWrong bytes closed e → d ≡ e
 one_wrong bytes true d e a b = one_file_fault bytes d e a b

@@ -12,7 +12,7 @@ use Rattle.afdx_pcap.specs.Capture.{header_of, Begins, after, Splits, IsCapture}
 use Rattle.afdx_pcap.specs.Fault.{record_fault, IsFault, IsEarlyFault, is_cut, Breaks, last_stamp}
 use Rattle.afdx_pcap.specs.Reading.{IsNext, HasNext, NoNext, IsSound, Answers, At, RestFault, Stands, answer_of}
 use Rattle.afdx_pcap.proofs.Splitting.{Splits-push, last_stamp-push}
-use Rattle.afdx_pcap.proofs.Unique.{front, fine_begins, one_record, same_tail, begins_fine, one_fault, one_format}
+use Rattle.afdx_pcap.proofs.Unique.{prefix, fine_begins, one_record, same_tail, begins_fine, one_fault, one_format}
 use Rattle.afdx_pcap.proofs.More.{not_cut, header-more, format_long, Splits-more}
 
 -- a record is found
@@ -27,7 +27,7 @@ found_next bytes n p r at b =
 
 -- a rest without a fault is a record
 pub fine_next : (bytes : List ℕ) (n : ℕ) (p : Progress) → At bytes n p → record_fault p.format p.last (n + 1) (drop p.place bytes) ≡ None → HasNext bytes n
-fine_next bytes n p at fine = (front p.format (drop p.place bytes), found_next bytes n p _ at (fine_begins p.format p.last (n + 1) (drop p.place bytes) fine))
+fine_next bytes n p at fine = (prefix p.format (drop p.place bytes), found_next bytes n p _ at (fine_begins p.format p.last (n + 1) (drop p.place bytes) fine))
 
 pub goes_on : (bytes : List ℕ) (n : ℕ) (p : Progress) (r : Entry) (rest : List ℕ) (place : ℕ) → At bytes n p → Begins p.format p.last (drop p.place bytes) r
     → rest ≡ after r (drop p.place bytes) → place ≡ length bytes - length rest → At bytes (n + 1) (record { format = p.format; place = place; last = r.stamp })

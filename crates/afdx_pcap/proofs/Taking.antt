@@ -7,7 +7,7 @@ use Rattle.afdx_pcap.specs.Entry.{Entry}
 use Rattle.afdx_pcap.specs.Capture.{header_of, Splits, Holds, IsCapture, after}
 use Rattle.afdx_pcap.specs.Fault.{last_stamp}
 use Rattle.afdx_pcap.specs.Reading.{Answers, AreFirst, HasTaken, IsNext, IsSound, Reading, Taking, taking_on, whole_reading}
-use Rattle.afdx_pcap.proofs.Unique.{not_in_nothing, one_format, one_front, one_record, next_after, same_tail}
+use Rattle.afdx_pcap.proofs.Unique.{not_in_nothing, one_format, one_prefix, one_record, next_after, same_tail}
 use Rattle.afdx_pcap.proofs.More.{Holds-more}
 
 none_of : (rs : List Entry) → length rs ≡ 0 → rs ≡ []
@@ -53,7 +53,7 @@ next_in_order t rs r taken next =
 
 first_are_all : (bytes : List ℕ) (rs : List Entry) → AreFirst bytes rs → IsSound bytes (length rs) true → IsCapture bytes rs
 first_are_all bytes [] first sound = subst (IsCapture bytes) (none_of sound.0 sound.2) sound.1
-first_are_all bytes (q ∷ qs) first sound = subst (IsCapture bytes) (one_front bytes [] first.0 sound.0 (q ∷ qs) sound.1 first.1 sound.2) sound.1
+first_are_all bytes (q ∷ qs) first sound = subst (IsCapture bytes) (one_prefix bytes [] first.0 sound.0 (q ∷ qs) sound.1 first.1 sound.2) sound.1
 
 pub taken_are_all : (t : Taking) (rs : List Entry) → HasTaken t rs → IsSound t.bytes t.given true → IsCapture t.bytes rs
 taken_are_all t rs taken sound = first_are_all t.bytes rs taken.first (subst (λ (n : ℕ). IsSound t.bytes n true) (sym taken.count) sound)
@@ -100,8 +100,8 @@ taken_begin t taken all has whole = first_begin t.bytes taken all has.first whol
 pub whole_answers : (r : Reading) (bytes : List ℕ) (n : ℕ) (found what : Option Entry) → r ≡ whole_reading bytes n
     → IfNone r.fault (Answers r.bytes r.given r.closed (Ok found)) → found ≡ what → Answers bytes n true (Ok what)
 whole_answers r bytes n found what is h same =
-    let told : Answers bytes n true (Ok found) = subst (λ (x : Reading). IfNone x.fault (Answers x.bytes x.given x.closed (Ok found))) is h in
-    subst (λ (o : Option Entry). Answers bytes n true (Ok o)) same told
+    let reported : Answers bytes n true (Ok found) = subst (λ (x : Reading). IfNone x.fault (Answers x.bytes x.given x.closed (Ok found))) is h in
+    subst (λ (o : Option Entry). Answers bytes n true (Ok o)) same reported
 
 pub whole_goes_on : (old new : Reading) (bytes : List ℕ) (n : ℕ) (found : Option Entry) (r : Entry) → old ≡ whole_reading bytes n
     → new ≡ record old { given = cond (is_some found) (old.given + 1) old.given } → found ≡ Some r → new ≡ whole_reading bytes (n + 1)

@@ -55,11 +55,11 @@ both_passed : (a b : Option PcapFault) → first_of a b ≡ None → (a ≡ None
 both_passed (Some e) b h = absurd cc
 both_passed None b h = (refl, h)
 
-abbrev pub front : Format → List ℕ → Entry
-front f bytes = let h = head_of f.endian bytes in record { stamp = stamp_of f.resolution h; original = h.original; bytes = take h.captured (drop 16 bytes) }
+abbrev pub prefix : Format → List ℕ → Entry
+prefix f bytes = let h = head_of f.endian bytes in record { stamp = stamp_of f.resolution h; original = h.original; bytes = take h.captured (drop 16 bytes) }
 
 -- where there is no fault, there is a whole record
-pub fine_begins : (f : Format) (last n : ℕ) (bytes : List ℕ) → record_fault f last n bytes ≡ None → Begins f last bytes (front f bytes)
+pub fine_begins : (f : Format) (last n : ℕ) (bytes : List ℕ) → record_fault f last n bytes ≡ None → Begins f last bytes (prefix f bytes)
 unfolding record_fault
 fine_begins f last n bytes none =
     let h = head_of f.endian bytes in
@@ -142,10 +142,10 @@ abbrev pub Reading : Format → ℕ → ℕ → List ℕ → Type 0
 Reading f last n bytes = ((rs : List Entry) × Splits f last bytes rs [])
     ⊎ ((rs : List Entry) × (rest : List ℕ) × (e : PcapFault) × Splits f last bytes rs rest × (0 < length rest) × (record_fault f (last_stamp last rs) (length rs + n) rest ≡ Some e))
 
--- one more record in front
-in_front : (f : Format) (last n : ℕ) (bytes : List ℕ) (r : Entry) → Begins f last bytes r → Reading f r.stamp (n + 1) (after r bytes) → Reading f last n bytes
-in_front f last n bytes r b (inl found) = inl (r ∷ found.0, (b, found.1))
-in_front f last n bytes r b (inr found) =
+-- one more record before
+in_prefix : (f : Format) (last n : ℕ) (bytes : List ℕ) (r : Entry) → Begins f last bytes r → Reading f r.stamp (n + 1) (after r bytes) → Reading f last n bytes
+in_prefix f last n bytes r b (inl found) = inl (r ∷ found.0, (b, found.1))
+in_prefix f last n bytes r b (inr found) =
     let k : length found.0 + (n + 1) ≡ suc (length found.0) + n = omega arith in
     inr (r ∷ found.0, found.1, found.2, (b, found.3), found.4, subst (λ (m : ℕ). record_fault f (last_stamp r.stamp found.0) m found.1 ≡ Some found.2) k found.5)
 
@@ -153,8 +153,8 @@ from_fault : (f : Format) (last n fuel : ℕ) (bytes : List ℕ) → ((last n : 
     → (o : Option PcapFault) → record_fault f last n bytes ≡ o → Reading f last n bytes
 from_fault f last n fuel bytes shorter le more (Some e) is = inr ([], bytes, e, refl, more, subst (λ (m : ℕ). record_fault f last m bytes ≡ Some e) (sym (zero-add n)) is)
 from_fault f last n fuel bytes shorter le more None is =
-    let r = front f bytes in
-    in_front f last n bytes r (fine_begins f last n bytes is) (shorter r.stamp (n + 1) (after r bytes) (omega (arith, length-drop (16 + length r.bytes) bytes)))
+    let r = prefix f bytes in
+    in_prefix f last n bytes r (fine_begins f last n bytes is) (shorter r.stamp (n + 1) (after r bytes) (omega (arith, length-drop (16 + length r.bytes) bytes)))
 
 -- every list of bytes has a reading; fuel bounds its length
 some_reading : (f : Format) (fuel last n : ℕ) (bytes : List ℕ) → length bytes ≤ fuel → Reading f last n bytes
@@ -205,30 +205,30 @@ some_verdict bytes = from_header bytes (header_of bytes) refl
 
 -- ---- so many records
 
-same_front : (f : Format) (last : ℕ) (bytes rest others : List ℕ) (rs qs : List Entry) → Splits f last bytes rs rest → Splits f last bytes qs others → length rs ≡ length qs → rs ≡ qs
-same_front f last bytes rest others [] [] a b same = refl
-same_front f last bytes rest others [] (q ∷ qs) a b same = absurd (omega arith)
-same_front f last bytes rest others (r ∷ rs) [] a b same = absurd (omega arith)
-same_front f last bytes rest others (r ∷ rs) (q ∷ qs) a b same =
+same_prefix : (f : Format) (last : ℕ) (bytes rest others : List ℕ) (rs qs : List Entry) → Splits f last bytes rs rest → Splits f last bytes qs others → length rs ≡ length qs → rs ≡ qs
+same_prefix f last bytes rest others [] [] a b same = refl
+same_prefix f last bytes rest others [] (q ∷ qs) a b same = absurd (omega arith)
+same_prefix f last bytes rest others (r ∷ rs) [] a b same = absurd (omega arith)
+same_prefix f last bytes rest others (r ∷ rs) (q ∷ qs) a b same =
     let one = one_record f last last bytes r q a.0 b.0 in
-    let others-too = same_front f r.stamp (after r bytes) rest others rs qs a.1 (same_tail f bytes r q qs others one b.1) (omega arith) in
+    let others-too = same_prefix f r.stamp (after r bytes) rest others rs qs a.1 (same_tail f bytes r q qs others one b.1) (omega arith) in
     cc
 
-pub one_front : (bytes rest others : List ℕ) (rs qs : List Entry) → Holds bytes rs rest → Holds bytes qs others → length rs ≡ length qs → rs ≡ qs
-one_front bytes rest others rs qs a b same =
+pub one_prefix : (bytes rest others : List ℕ) (rs qs : List Entry) → Holds bytes rs rest → Holds bytes qs others → length rs ≡ length qs → rs ≡ qs
+one_prefix bytes rest others rs qs a b same =
     let formats = one_format (header_of bytes) a.format b.format a.header b.header in
-    same_front a.format 0 (drop 24 bytes) rest others rs qs a.records (subst (λ (f : Format). Splits f 0 (drop 24 bytes) qs others) (sym formats) b.records) same
+    same_prefix a.format 0 (drop 24 bytes) rest others rs qs a.records (subst (λ (f : Format). Splits f 0 (drop 24 bytes) qs others) (sym formats) b.records) same
 
 -- what is left after the records but the last
-front_but_last : (f : Format) (last : ℕ) (bytes rest : List ℕ) (rs : List Entry) (r : Entry) → Splits f last bytes (rs ++ r ∷ []) rest → (between : List ℕ) × Splits f last bytes rs between
-front_but_last f last bytes rest [] r s = (bytes, refl)
-front_but_last f last bytes rest (q ∷ qs) r s = let shorter = front_but_last f q.stamp (after q bytes) rest qs r s.1 in (shorter.0, (s.0, shorter.1))
+prefix_but_last : (f : Format) (last : ℕ) (bytes rest : List ℕ) (rs : List Entry) (r : Entry) → Splits f last bytes (rs ++ r ∷ []) rest → (between : List ℕ) × Splits f last bytes rs between
+prefix_but_last f last bytes rest [] r s = (bytes, refl)
+prefix_but_last f last bytes rest (q ∷ qs) r s = let shorter = prefix_but_last f q.stamp (after q bytes) rest qs r s.1 in (shorter.0, (s.0, shorter.1))
 
 -- the record after so many is the one after these
 pub next_after : (bytes rest : List ℕ) (rs : List Entry) (r : Entry) → Holds bytes rs rest → IsNext bytes (length rs) r → (left : List ℕ) × Holds bytes (rs ++ r ∷ []) left
 next_after bytes rest rs r held next =
     let found = next.2 in
-    let shorter = front_but_last found.format 0 (drop 24 bytes) next.1 next.0 r found.records in
+    let shorter = prefix_but_last found.format 0 (drop 24 bytes) next.1 next.0 r found.records in
     let before : Holds bytes next.0 shorter.0 = record { format = found.format; header = found.header; records = shorter.1 } in
-    let same = one_front bytes shorter.0 rest next.0 rs before held next.3 in
+    let same = one_prefix bytes shorter.0 rest next.0 rs before held next.3 in
     (next.1, subst (λ (qs : List Entry). Holds bytes (qs ++ r ∷ []) next.1) same found)

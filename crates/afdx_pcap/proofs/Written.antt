@@ -102,15 +102,15 @@ written_all rs i out end out-is limits readable =
 
 -- ---- one record more
 
-front_more : (rs : List Entry) (i : ℕ) (r : Entry) → i < length rs → r ≡ get_or rs i r → take (i + 1) rs ≡ take i rs ++ r ∷ []
-front_more rs i r below is = take_more rs i r below ∙ ap (λ (q : Entry). take i rs ++ q ∷ []) (sym is)
+prefix_more : (rs : List Entry) (i : ℕ) (r : Entry) → i < length rs → r ≡ get_or rs i r → take (i + 1) rs ≡ take i rs ++ r ∷ []
+prefix_more rs i r below is = take_more rs i r below ∙ ap (λ (q : Entry). take i rs ++ q ∷ []) (sym is)
 
 -- the text of one more record
 pub capture_text-push : (rs : List Entry) (r : Entry) → capture_text (rs ++ r ∷ []) ≡ capture_text rs ++ record_text r
 capture_text-push rs r = sym (flat_map_more record_text header_text rs r)
 
 text_more : (rs : List Entry) (i : ℕ) (r : Entry) → i < length rs → r ≡ get_or rs i r → capture_text (take (i + 1) rs) ≡ capture_text (take i rs) ++ record_text r
-text_more rs i r below is = ap capture_text (front_more rs i r below is) ∙ capture_text-push (take i rs) r
+text_more rs i r below is = ap capture_text (prefix_more rs i r below is) ∙ capture_text-push (take i rs) r
 
 pub written_more : (rs : List Entry) (i : ℕ) (r : Entry) (out longer : List ℕ) → i < length rs → r ≡ get_or rs i r → out ≡ capture_text (take i rs) → longer ≡ out ++ record_text r → longer
     ≡ capture_text (take (i + 1) rs)
@@ -120,4 +120,4 @@ pub length_more : (rs : List Entry) (i : ℕ) (r : Entry) → i < length rs → 
 length_more rs i r below is = ap length (text_more rs i r below is) ∙ length-append (capture_text (take i rs)) (record_text r) ∙ ap (λ (n : ℕ). length (capture_text (take i rs)) + n) (text_long r)
 
 pub limits_more : (rs : List Entry) (i : ℕ) (r : Entry) → i < length rs → r ≡ get_or rs i r → All IsWithinLimit (take i rs) → IsWithinLimit r → All IsWithinLimit (take (i + 1) rs)
-limits_more rs i r below is limits limit = subst (All IsWithinLimit) (sym (front_more rs i r below is)) (All-push IsWithinLimit (take i rs) r limits limit)
+limits_more rs i r below is limits limit = subst (All IsWithinLimit) (sym (prefix_more rs i r below is)) (All-push IsWithinLimit (take i rs) r limits limit)

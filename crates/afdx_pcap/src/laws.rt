@@ -44,7 +44,7 @@ pub fn early_faults_stay()
         → IsEarlyFault (bytes ++ more) fault }
 {}
 
-/// The whole records at the front of some bytes stay where more bytes come, and so many records are only those.
+/// The whole records at the start of some bytes stay where more bytes come, and so many records are only those.
 pub fn whole_records_stay()
     ensures stay { (bytes more rest : List ℕ) (rs : List Entry) → Holds bytes rs rest
         → Holds (bytes ++ more) rs (rest ++ more) }

@@ -38,7 +38,7 @@ impl Progress {
         })
     }
 
-    /// The record at the front of the rest, and how far it leads.
+    /// The record at the start of the rest, and how far it leads.
     fn read_on<'b, A: Allocator>(
         self,
         bytes: &'b [u8],

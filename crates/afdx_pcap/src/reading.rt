@@ -1,4 +1,4 @@
-//! The header of a file, and a record at the front of some bytes.
+//! The header of a file, and a record at the start of some bytes.
 
 ghost use Rattle.std.specs.Prelude.{◌≡◌, ◌≢◌, ◌≤◌, length, Some, None, IfOk, IfErr};
 ghost use Rattle.afdx_pcap.specs.declared.fault.PcapFault.TheVariants.{Memory};
@@ -69,7 +69,7 @@ fn stamp_of_head(
     Ok(stamp)
 }
 
-/// The record at the front, which is the `number`th, and what comes after it.
+/// The record at the start, which is the `number`th, and what comes after it.
 ///
 /// Its bytes are lent, so no memory is taken.
 #[tactic(auto, unfolding(crate::specs::Fault::record_fault))]
@@ -86,7 +86,7 @@ pub fn read_record<'b, A: Allocator>(
     if bytes.len() < HEAD_LENGTH {
         return Err(PcapFault::CutHeader(number));
     }
-    let head = format.endian.head_at_front(bytes);
+    let head = format.endian.head_at_prefix(bytes);
     let stamp = stamp_of_head(format.resolution, last, number, head)?;
     let end = HEAD_LENGTH + head.captured as usize;
     if bytes.len() < end {

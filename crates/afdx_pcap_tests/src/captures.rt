@@ -77,7 +77,7 @@ fn take_records<'a>(
     Ok(())
 }
 
-/// Pieces of these lengths, from the front of the bytes on.
+/// Pieces of these lengths, from the start of the bytes on.
 fn cut<'a>(alloc: Global, bytes: &'a [u8], lengths: &[usize]) -> Result<Vec<&'a [u8]>, Fail> {
     let mut pieces = Vec::new(alloc);
     let mut rest = bytes;
@@ -200,7 +200,7 @@ fn every_cut(rt: HostRuntime) -> Result<(), Fail> {
     let later = [0, 0, 0, 0, 0x40, 0x42, 0x0f, 0, 60, 0, 0, 0, 60, 0, 0, 0];
     let bytes = joined(rt.alloc(), &[&HEADER, &AT_ZERO, &FRAME, &later, &FRAME])?;
     for length in 0usize..=176 {
-        let front = bytes.get(..length).ok_or("a front")?;
+        let prefix = bytes.get(..length).ok_or("a prefix")?;
         let want = match length {
             0..=23 => Err(PcapFault::NoHeader),
             24 => Ok(0),
@@ -211,8 +211,8 @@ fn every_cut(rt: HostRuntime) -> Result<(), Fail> {
             116..=175 => Err(PcapFault::CutData(2)),
             _ => Ok(2),
         };
-        assert_eq!(rt; read_whole(rt.alloc(), front), want, "{length} bytes");
-        let whole = read_pieces(rt.alloc(), &[front]).map(|records| records.len());
+        assert_eq!(rt; read_whole(rt.alloc(), prefix), want, "{length} bytes");
+        let whole = read_pieces(rt.alloc(), &[prefix]).map(|records| records.len());
         assert_eq!(rt; whole, want, "{length} bytes");
     }
     Ok(())
@@ -362,7 +362,7 @@ fn record_before_fault(rt: HostRuntime) -> Result<(), Fail> {
     Ok(())
 }
 
-/// A length of 4,294,967,295 is told as soon as the record's header is whole.
+/// A length of 4,294,967,295 is reported as soon as the record's header is whole.
 #[test]
 fn huge_length(rt: HostRuntime) -> Result<(), Fail> {
     let bytes = patched(rt.alloc(), 32, &[0xff; 4])?;

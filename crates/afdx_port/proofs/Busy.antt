@@ -21,27 +21,27 @@ use Rattle.afdx_port.proofs.Bounds.{work_grows}
 -- induction on a list from its end
 pub from_end : {X : Type 0} (P : List X → Type 0) → P [] → ((xs : List X) (x : X) → P xs → P (xs ++ x ∷ [])) → (xs : List X) → P xs
 from_end {X} P none more xs = after [] none xs where
-  after : (front : List X) → P front → (ys : List X) → P (front ++ ys)
-  after front h [] = subst P (sym (append-nil front)) h
-  after front h (y ∷ ys) = subst P (append_assoc front (y ∷ []) ys) (after (front ++ y ∷ []) (more front y h) ys)
+  after : (prefix : List X) → P prefix → (ys : List X) → P (prefix ++ ys)
+  after prefix h [] = subst P (sym (append-nil prefix)) h
+  after prefix h (y ∷ ys) = subst P (append_assoc prefix (y ∷ []) ys) (after (prefix ++ y ∷ []) (more prefix y h) ys)
 
 pub none_aged_less : (s : Settings) (t u : ℕ) (items : List Item) → t ≤ u → NoneAged s u items → NoneAged s t items
 none_aged_less s t u items le none =
     let rest = before u (service s (left s t 0 items).free (left s t 0 items).waiting) in
-    front_none (aged_of (before t (service s 0 items))) (aged_of rest) (sym (aged_of-append (before t (service s 0 items)) rest) ∙ ap aged_of (sym (parts s t u 0 items le)) ∙ none) where
-      front_none : {X : Type 0} (xs ys : List X) → xs ++ ys ≡ [] → xs ≡ []
-      front_none [] ys h = refl
-      front_none (x ∷ xs) ys h = (cc)
+    prefix_none (aged_of (before t (service s 0 items))) (aged_of rest) (sym (aged_of-append (before t (service s 0 items)) rest) ∙ ap aged_of (sym (parts s t u 0 items le)) ∙ none) where
+      prefix_none : {X : Type 0} (xs ys : List X) → xs ++ ys ≡ [] → xs ≡ []
+      prefix_none [] ys h = refl
+      prefix_none (x ∷ xs) ys h = (cc)
 
-pub in_order_front : (s : Settings) (items : List Item) (y : Item) → InOrder s (items ++ y ∷ []) → InOrder s items
-in_order_front s items y sorted i j d lt within =
+pub in_order_prefix : (s : Settings) (items : List Item) (y : Item) → InOrder s (items ++ y ∷ []) → InOrder s items
+in_order_prefix s items y sorted i j d lt within =
     let both = sorted i j d lt (omega (arith, length-append items (y ∷ []))) in
     let one = ap (λ (z : Item). came s z) (get_or_append_left items (y ∷ []) d i (omega arith)) in
     let two = ap (λ (z : Item). came s z) (get_or_append_left items (y ∷ []) d j within) in
     omega (arith, both, one, two)
 
-pub come_front : (s : Settings) (items : List Item) (y : Item) → InOrder s (items ++ y ∷ []) → HaveCome s (came s y) items
-come_front s items y sorted k d within =
+pub come_prefix : (s : Settings) (items : List Item) (y : Item) → InOrder s (items ++ y ∷ []) → HaveCome s (came s y) items
+come_prefix s items y sorted k d within =
     let both = sorted k (length items) d within (omega (arith, length-append items (y ∷ []))) in
     let one = ap (λ (z : Item). came s z) (get_or_append_left items (y ∷ []) d k within) in
     let two = ap (λ (z : Item). came s z) (get_or_push items y d (length items) refl) in
@@ -53,7 +53,7 @@ last_come s t items y come =
     omega (arith, here, ap (λ (z : Item). came s z) (get_or_push items y y (length items) refl))
 
 pub come_all : (s : Settings) (items : List Item) (y : Item) → InOrder s (items ++ y ∷ []) → HaveCome s (came s y) (items ++ y ∷ [])
-come_all s items y sorted = All-push (λ (z : Item). came s z ≤ came s y) items y (come_front s items y sorted) (omega arith)
+come_all s items y sorted = All-push (λ (z : Item). came s z ≤ came s y) items y (come_prefix s items y sorted) (omega arith)
 
 -- the line was busy from the arrival of `start` on, so that the work is what came since then less the time since
 record Busy (s : Settings) (t : ℕ) (items : List Item) : Type 0 where
@@ -73,10 +73,10 @@ busy s = from_end (λ items. InOrder s items → (t : ℕ) → HaveCome s t item
     let none_now = none_aged_less s now t (items ++ y ∷ []) le none in
     let same = earlier_events s now 0 items (y ∷ []) (omega arith, tt) in
     let none_before : NoneAged s now items = sym (ap aged_of same) ∙ none_now in
-    let come_now = come_front s items y sorted in
+    let come_now = come_prefix s items y sorted in
     let grows = work_grows s now items y (omega arith) none_before in
     let falls = work_falls s now t (items ++ y ∷ []) le (come_all s items y sorted) none in
-    step items y t le grows falls (ih (in_order_front s items y sorted) now come_now none_before)) where
+    step items y t le grows falls (ih (in_order_prefix s items y sorted) now come_now none_before)) where
       step : (items : List Item) (y : Item) (t : ℕ) → came s y ≤ t → work s (came s y) (items ++ y ∷ []) ≡ work s (came s y) items + item_cost s y → work s t (items ++ y ∷ [])
           ≡ work s (came s y) (items ++ y ∷ []) - (t - (came s y))
           → (work s (came s y) items ≡ 0) ⊎ Busy s (came s y) items → (work s t (items ++ y ∷ []) ≡ 0) ⊎ Busy s t (items ++ y ∷ [])

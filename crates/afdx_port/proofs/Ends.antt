@@ -54,7 +54,7 @@ InLater sent = AllPairs (λ a b. a.end ≤ b.end) sent
 abbrev EndsFrom : ℕ → Sent → Type 0
 EndsFrom free x = free ≤ x.end
 
--- one event more in front, of which the line is free again at such an instant
+-- one event more before, of which the line is free again at such an instant
 later_fate : (s : Settings) (b free : ℕ) (x : Item) (more : List Event) → free ≤ b → InLater (sent_of more) × All (EndsFrom (free_after (fate s b x))) (sent_of more)
     → InLater (sent_of (fate s b x ∷ more)) × All (EndsFrom free) (sent_of (fate s b x ∷ more))
 later_fate s b free x more start h = ⊎_elim

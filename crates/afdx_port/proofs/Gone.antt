@@ -1,4 +1,4 @@
--- What has gone from the buffer: told by what was sent and discarded in the end, whose instants do not fall.
+-- What has gone from the buffer: reported by what was sent and discarded in the end, whose instants do not fall.
 use Rattle.std.proofs.Common.{◌≡◌, ℕ, suc, zero, ◌+◌, ◌<◌, ◌≤◌, Bool, true, false, cond, List, [], ◌∷◌, ◌++◌, refl, ap, sym, subst, ◌∙◌, arith}
 use Rattle.std.specs.Prelude.{max, filter, nat_lt, nat_le, not, sum_by, All, AllPairs}
 use Rattle.std.specs.List.{AllByRecursion}

@@ -14,7 +14,7 @@ use Rattle.afdx_port.specs.Inner.Work.{item_cost, high_cost, high_work, NoneAged
 use Rattle.afdx_port.proofs.Earlier.{earlier_events}
 use Rattle.afdx_port.proofs.Parts.{left-append}
 use Rattle.afdx_port.proofs.Bounds.{high_sum, high_work_falls}
-use Rattle.afdx_port.proofs.Busy.{from_end, none_aged_less, in_order_front, come_front, come_all, last_come}
+use Rattle.afdx_port.proofs.Busy.{from_end, none_aged_less, in_order_prefix, come_prefix, come_all, last_come}
 
 high_is : (s : Settings) (t : ℕ) (items : List Item) → high_work s t items ≡ ((left s t 0 items).free - t) + sum_by (high_cost s) (left s t 0 items).waiting
 high_is s t items = ap (λ n. ((left s t 0 items).free - t) + n) (high_sum s (left s t 0 items).waiting)
@@ -37,8 +37,8 @@ record HighBusy (s : Settings) (low t : ℕ) (items : List Item) : Type 0 where
   since : came s start ≤ t
   enough : high_work s t items + (t - (came s start)) ≤ low + sum_by (high_cost s) (start ∷ mid)
 
-all_front : (P : Item → Type 0) (items : List Item) (y : Item) → All P (items ++ y ∷ []) → All P items
-all_front P items y h k d within = subst P (get_or_append_left items (y ∷ []) d k within) (h k d (omega (arith, length-append items (y ∷ []))))
+all_prefix : (P : Item → Type 0) (items : List Item) (y : Item) → All P (items ++ y ∷ []) → All P items
+all_prefix P items y h k d within = subst P (get_or_append_left items (y ∷ []) d k within) (h k d (omega (arith, length-append items (y ∷ []))))
 
 high_busy : (s : Settings) (low : ℕ) (items : List Item) → InOrder s items → All (λ item. is_high item.priority ≡ false → item_cost s item ≤ low) items → (t : ℕ) → HaveCome s t items
     → NoneAged s t items → (high_work s t items ≤ low) ⊎ HighBusy s low t items
@@ -52,7 +52,7 @@ high_busy s low = from_end (λ items. InOrder s items → All (λ item. is_high 
     let none_before : NoneAged s now items = sym (ap aged_of (earlier_events s now 0 items (y ∷ []) (omega arith, tt))) ∙ none_now in
     let grows = high_grows s now items y (omega arith) in
     let falls = high_work_falls s now t low (items ++ y ∷ []) le (come_all s items y sorted) none small in
-    step items y t le grows falls (ih (in_order_front s items y sorted) (all_front (λ item. is_high item.priority ≡ false → item_cost s item ≤ low) items y small) now (come_front s items y sorted)
+    step items y t le grows falls (ih (in_order_prefix s items y sorted) (all_prefix (λ item. is_high item.priority ≡ false → item_cost s item ≤ low) items y small) now (come_prefix s items y sorted)
     none_before)) where
       step : (items : List Item) (y : Item) (t : ℕ) → came s y ≤ t → high_work s (came s y) (items ++ y ∷ []) ≡ high_work s (came s y) items + high_cost s y → high_work s t (items ++ y ∷ [])
           ≤ max (high_work s (came s y) (items ++ y ∷ []) - (t - (came s y))) low

@@ -175,7 +175,7 @@ fn feed<A: Allocator + Copy>(
 
 /// A reader that was fed the header and the first bytes of the record's header waits for more, and tells this fault with the
 /// rest.
-fn told<A: Allocator + Copy>(
+fn reported<A: Allocator + Copy>(
     reader: &mut Reader<'static, A>,
     first: &[u8],
     rest: &[u8],
@@ -187,13 +187,13 @@ fn told<A: Allocator + Copy>(
     Ok((waits, reader.next().err()))
 }
 
-/// The length is told as soon as the record's header is whole, while the reader is open.
+/// The length is reported as soon as the record's header is whole, while the reader is open.
 #[test]
 fn huge_length(rt: HostRuntime) -> Result<(), Fail> {
     let alloc = rt.alloc();
     let huge = Some(PcapFault::Huge(1));
     let (first, rest) = HUGE.split_at(15);
-    let answer = told(&mut Reader::new(alloc), first, rest);
+    let answer = reported(&mut Reader::new(alloc), first, rest);
     assert_eq!(rt; answer, Ok((true, huge)));
     let text = joined(alloc, &[&HEADER, &HUGE])?;
     assert_eq!(rt; read(alloc, &text).err(), huge);

@@ -39,7 +39,7 @@ fn made<'a>(
 type Answer = (Option<Fate>, Option<(u8, Offer)>, Option<CoreFault>);
 
 /// What a step tells.
-fn told<A: Allocator>(step: &Step<A>) -> Answer {
+fn reported<A: Allocator>(step: &Step<A>) -> Answer {
     (Some(step.fate), step.offers.get(0).copied(), None)
 }
 
@@ -53,13 +53,13 @@ fn answer_to<A: Allocator + Copy>(
     requires { frame.stamp < last_second }
 {
     let back = match switch.arrive(in_port, frame) {
-        Ok(step) => return told(&step),
+        Ok(step) => return reported(&step),
         Err((CoreFault::Memory, back)) => back,
         Err((fault, _)) => return (None, None, Some(fault)),
     };
     count(wants);
     match switch.arrive(in_port, back) {
-        Ok(step) => told(&step),
+        Ok(step) => reported(&step),
         Err((fault, _)) => (None, None, Some(fault)),
     }
 }

@@ -1,4 +1,4 @@
-//! Frames, each told by what a capture tells of it.
+//! Frames, each named by what a capture says of it.
 
 ghost use Rattle.std.specs.Prelude.{◌<◌, IfSome};
 ghost use Rattle.afdx_units.specs.Time.{last_second};

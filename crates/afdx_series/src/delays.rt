@@ -3,10 +3,7 @@
 ghost use Rattle.std.specs.Prelude.{◌≡◌, ◌+◌, ◌<◌, ◌≤◌};
 ghost use Rattle.afdx_series.specs.Delay.{hop_of, joined, at_once};
 
-use afdx_units::{Speed, cost};
-
-/// The least size of a frame, in bytes (IEEE 802.3).
-const LEAST_SIZE: u32 = 64;
+use afdx_units::{LEAST_SIZE, Speed, cost};
 
 /// The least and the most that a frame of a link takes for a part of its way, in nanoseconds.
 #[derive(Clone, Copy, Debug, PartialEq, Eq)]

@@ -19,7 +19,7 @@ use Rattle.afdx_serve.specs.Runs.{capture_name, names_in, bytes_of, GetsUpTo, po
 pub same_files : (f g : Files) → ((q : List ℕ) → g q ≡ f q) → g ≡ f
 same_files f g p = λ j q. p q j
 
--- what holds of the files that are told holds of them while they stay
+-- what holds of the files that are reported holds of them while they stay
 carried : (P : Option Files → Type 0) (a b : Option Files) → P None → KeepsFiles a b → P b → P a
 carried P None b none keeps p = none
 carried P (Some f) None none keeps p = absurd keeps
@@ -133,9 +133,9 @@ not_put failure.Write name names all old new first before after same fails stops
 -- the first of two files was not put
 pub first_not_put : (f : Failure) (a b : Option Files) (n m x y : List ℕ) (names texts : List (List ℕ)) (before after : DeviceLog) → n ∷ m ∷ [] ≡ names → x ∷ y ∷ [] ≡ texts
     → KeepsOthers a b n → FailsToPutOne f n before after → FailsToPut f names texts a b before after
-first_not_put f a b n m x y names texts before after named told others fails =
+first_not_put f a b n m x y names texts before after named reported others fails =
     subst (λ (ns : List (List ℕ)). FailsToPut f ns texts a b before after) named
-    (subst (λ (ts : List (List ℕ)). FailsToPut f (n ∷ m ∷ []) ts a b before after) told
+    (subst (λ (ts : List (List ℕ)). FailsToPut f (n ∷ m ∷ []) ts a b before after) reported
     (not_put f n (n ∷ m ∷ []) (x ∷ y ∷ []) a b before before after refl fails (stops_first a b n m x y others)))
 
 -- the first was put, and then the second, or not
@@ -143,14 +143,14 @@ pub second_put : {T : Type 0} (r : Result T Failure) (a b c : Option Files) (n m
     → n ∷ m ∷ [] ≡ names → x ∷ y ∷ [] ≡ texts → PutsFile a b n x → KeepsOthers b c m
     → MatchResult r (λ _. PutsFile b c m y × (after ≡ before)) (λ f. FailsToPutOne f m before after)
     → MatchResult r (λ _. PutsFiles a c names texts × (after ≡ first)) (λ f. FailsToPut f names texts a c first after)
-second_put (Ok u) a b c n m x y names texts first before after same named told put others h = (
+second_put (Ok u) a b c n m x y names texts first before after same named reported put others h = (
   subst (λ (ns : List (List ℕ)). PutsFiles a c ns texts) named
-      (subst (λ (ts : List (List ℕ)). PutsFiles a c (n ∷ m ∷ []) ts) told (two_put a b c n m x y put h.0)),
+      (subst (λ (ts : List (List ℕ)). PutsFiles a c (n ∷ m ∷ []) ts) reported (two_put a b c n m x y put h.0)),
   h.1 ∙ same,
 )
-second_put (Err f) a b c n m x y names texts first before after same named told put others h =
+second_put (Err f) a b c n m x y names texts first before after same named reported put others h =
     subst (λ (ns : List (List ℕ)). FailsToPut f ns texts a c first after) named
-    (subst (λ (ts : List (List ℕ)). FailsToPut f (n ∷ m ∷ []) ts a c first after) told
+    (subst (λ (ts : List (List ℕ)). FailsToPut f (n ∷ m ∷ []) ts a c first after) reported
     (not_put f m (n ∷ m ∷ []) (x ∷ y ∷ []) a c first before after same h (stops_second a b c n m x y put others)))
 
 -- ---- the loops over captures

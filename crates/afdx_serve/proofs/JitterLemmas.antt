@@ -1,4 +1,4 @@
--- The jitters that a network needs, and why they were not told.
+-- The jitters that a network needs, and why they were not reported.
 use Rattle.std.proofs.Common.{◌≡◌, ◌≢◌, ℕ, List, Some, Err, inl, inr}
 use Rattle.afdx_wiring.specs.declared.fault.Short.{Short}
 use Rattle.afdx_wiring.specs.declared.fault.NetworkFault.{NetworkFault}
@@ -45,16 +45,16 @@ module _ (path : List ℕ) (old new : World) (keeps : KeepsFiles old.files new.f
   not_fit net has count e why failure.Write h = absurd h
 
 -- a row needs more than a table can have
-pub past_told : (path : List ℕ) (old new : World) (net : Network) (short : Short) → TellsJitters path net (Some short) old new
+pub past_reported : (path : List ℕ) (old new : World) (net : Network) (short : Short) → TellsJitters path net (Some short) old new
     → (f : Failure) → IsRefused (names_of net.layout.switches) (fault.NoJitter short) f → FailsToGiveJitters f path old new
-past_told path old new net short tells failure.Memory h = inr (net, short, tells, h)
-past_told path old new net short tells (failure.Network e) h = inr (net, short, tells, h)
-past_told path old new net short tells failure.Usage h = absurd h
-past_told path old new net short tells (failure.Table e) h = absurd h
-past_told path old new net short tells (failure.Load e) h = absurd h
-past_told path old new net short tells (failure.Capture e) h = absurd h
-past_told path old new net short tells (failure.PortCapture p e) h = absurd h
-past_told path old new net short tells (failure.Get name) h = absurd h
-past_told path old new net short tells (failure.Put name) h = absurd h
-past_told path old new net short tells failure.Read h = absurd h
-past_told path old new net short tells failure.Write h = absurd h
+past_reported path old new net short tells failure.Memory h = inr (net, short, tells, h)
+past_reported path old new net short tells (failure.Network e) h = inr (net, short, tells, h)
+past_reported path old new net short tells failure.Usage h = absurd h
+past_reported path old new net short tells (failure.Table e) h = absurd h
+past_reported path old new net short tells (failure.Load e) h = absurd h
+past_reported path old new net short tells (failure.Capture e) h = absurd h
+past_reported path old new net short tells (failure.PortCapture p e) h = absurd h
+past_reported path old new net short tells (failure.Get name) h = absurd h
+past_reported path old new net short tells (failure.Put name) h = absurd h
+past_reported path old new net short tells failure.Read h = absurd h
+past_reported path old new net short tells failure.Write h = absurd h

@@ -16,7 +16,7 @@ use Rattle.afdx_serve.specs.Serving.{World, WritesNothing, FailsToPerformNetwork
 
 -- ---- of all commands of networks
 
--- they never refuse the words
+-- they never refuse the arguments
 got : (files : Option Files) (path : List ℕ) (before after : DeviceLog) → FailsToGetNetwork failure.Usage files path before after → ⊥
 got files path before after (inl h) = h
 got files path before after (inr h) = h.2

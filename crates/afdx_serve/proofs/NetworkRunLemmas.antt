@@ -73,17 +73,17 @@ pub one_more_named : {Y Z : Type 0} (path : List ℕ) (names : List (String Z)) 
     → map (λ (v : Vec (String Z) Y). map (λ (s : String Z). string_bytes s) v.items) new ≡ names_by path (map (λ (s : String Z). string_bytes s) names) (captures_of (take (i + 1) left))
 one_more_named {Y} {Z} path names left i d old new own count lt grown named before =
     let texts : List Results → List (List Text) = captures_of in
-    let told : List (List ℕ) = map (λ (s : String Z). string_bytes s) names in
+    let reported : List (List ℕ) = map (λ (s : String Z). string_bytes s) names in
     let seen : Vec (String Z) Y → List (List ℕ) = λ v. map (λ (s : String Z). string_bytes s) v.items in
     let many : length (captures_of (take i left)) ≡ i = length-map (take i left) (λ (r : Results). r.captures) ∙ taken left i lt in
     let one : captures_of (take (i + 1) left) ≡ captures_of (take i left) ++ (get_or left i d).captures ∷ [] =
     ap texts (take_more left i d lt) ∙ map-append (λ (r : Results). r.captures) (take i left) (get_or left i d ∷ []) in
-    let within : length (captures_of (take i left)) < length told = let n = length-map names (λ (s : String Z). string_bytes s) in omega (arith, n, many, count, lt) in
+    let within : length (captures_of (take i left)) < length reported = let n = length-map names (λ (s : String Z). string_bytes s) in omega (arith, n, many, count, lt) in
     ap (map seen) grown ∙ map-append seen old (own ∷ []) ∙ ap (λ (l : List (List (List ℕ))). l ++ seen own ∷ []) before
-    ∙ ap (λ (l : List (List ℕ)). names_by path told (captures_of (take i left)) ++ l ∷ [])
-    (named ∙ ap (λ (n : ℕ). names_in (switch_folder path (name_of told n)) (get_or left i d).captures) (sym many))
-    ∙ sym (names_by-push path told (captures_of (take i left)) (get_or left i d).captures within)
-    ∙ ap (names_by path told) (sym one)
+    ∙ ap (λ (l : List (List ℕ)). names_by path reported (captures_of (take i left)) ++ l ∷ [])
+    (named ∙ ap (λ (n : ℕ). names_in (switch_folder path (name_of reported n)) (get_or left i d).captures) (sym many))
+    ∙ sym (names_by-push path reported (captures_of (take i left)) (get_or left i d).captures within)
+    ∙ ap (names_by path reported) (sym one)
 
 -- the report of one switch more
 pub one_more_report : (names : Names) (left : List Results) (i : ℕ) (d : Results) (old new : List ℕ) → length names ≡ length left → i < length left
@@ -448,9 +448,9 @@ not_led f paths a b c net cleared seen given first before after has same met acc
 -- ---- what is put of a run
 
 module _ (paths : NetworkPaths) (net : Network) (left : List Results) (names all : List (List ℕ)) (a b c : Option Files) (first before after : DeviceLog) (leads : LeadsToNetwork paths a net left)
-    (named : names ≡ names_at paths.output.now (names_of net.layout.switches) (captures_of left)) (told : all ≡ bytes_at (captures_of left)) (keeps : KeepsFiles a b) (same : before ≡ first) where
+    (named : names ≡ names_at paths.output.now (names_of net.layout.switches) (captures_of left)) (reported : all ≡ bytes_at (captures_of left)) (keeps : KeepsFiles a b) (same : before ≡ first) where
   stops_network : (name : List ℕ) → StopsAt name names all b c → StopsNetwork name paths a c
-  stops_network name s = (net, left, leads, rw (named, told) at (StopsAt-before name names all a b c keeps s))
+  stops_network name s = (net, left, leads, rw (named, reported) at (StopsAt-before name names all a b c keeps s))
 
   -- not all captures were put
   pub not_put_network : (f : Failure) (w v : Option (List ℕ)) → Keeps w v → FailsToPut f names all b c before after → FailsToRunNetwork f paths (world w a first) (world v c after)
@@ -468,4 +468,4 @@ module _ (paths : NetworkPaths) (net : Network) (left : List Results) (names all
 
   -- all were
   pub puts_network : PutsFiles b c names all → after ≡ before → (w v : Option (List ℕ)) → PutsNetwork paths (world w a first) (world v c after) net left
-  puts_network put last w v = (leads, rw (named, told) at (PutsFiles-before a b c names all keeps put), last ∙ same)
+  puts_network put last w v = (leads, rw (named, reported) at (PutsFiles-before a b c names all keeps put), last ∙ same)

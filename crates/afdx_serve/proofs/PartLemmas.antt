@@ -25,8 +25,8 @@ use Rattle.afdx_serve.proofs.Progress.{Polices, one_further, all_policed}
 -- a capture that is lent has no fault
 pub no_fault : ((bytes : List ℕ) (rs : List Entry) (e : PcapFault) → IsCapture bytes rs → IsFault bytes e → ⊥) → (bytes : List ℕ) (n : ℕ) (rs : List Entry) (fault : PcapFault) → IsCapture bytes rs
     → reading.Answers bytes n true (Err fault) → (fault ≡ Memory → HasNext bytes n × (true ≡ false)) → ⊥
-no_fault not_both bytes n rs fault whole told memory =
-    not_both bytes rs fault whole (told (λ same. let no = (memory same).1 in cc)).1
+no_fault not_both bytes n rs fault whole reported memory =
+    not_both bytes rs fault whole (reported (λ same. let no = (memory same).1 in cc)).1
 
 -- ---- a text of which a prefix was written
 

@@ -63,9 +63,9 @@ offered g link seen r old new answer own o p =
     let more : filter (is_own link) (seen ++ r ∷ []) ≡ before ++ r ∷ [] =
     filter-append (is_own link) seen (r ∷ []) ∙ ap (λ b. before ++ cond b (r ∷ []) []) own in
     let frames : own_frames link (seen ++ r ∷ []) ≡ own_frames link seen ++ f ∷ [] = ap (map frame_of) more ∙ map-append frame_of before (r ∷ []) in
-    let told = subst (λ (s : Terms). PassesWhatConforms s (byte_account_since old) (byte_account_level old (byte_account_since old)) f.stamp f.size answer (byte_account_level new f.stamp)) p.terms
+    let reported = subst (λ (s : Terms). PassesWhatConforms s (byte_account_since old) (byte_account_level old (byte_account_since old)) f.stamp f.size answer (byte_account_level new f.stamp)) p.terms
     o.answers (own_frames link seen) p.stands in
-    let joins : answer ≡ conforms t (map frame_of (passed_of frame_of t before)) f = told.0 ∙ ap (λ ps. conforms t ps f) (sym (g.by_frames frame_of t before)) in
+    let joins : answer ≡ conforms t (map frame_of (passed_of frame_of t before)) f = reported.0 ∙ ap (λ ps. conforms t ps f) (sym (g.by_frames frame_of t before)) in
     let latest = g.latest seen r in
     let since = o.since in
     record {
@@ -73,7 +73,7 @@ offered g link seen r old new answer own o p =
         terms = o.terms ∙ p.terms;
         since = omega (arith, latest, since);
         stands = subst (λ (n : ℕ). Stands t n (byte_account_level new n) (own_frames link (seen ++ r ∷ []))) (sym o.since)
-            (subst (λ (fs : List Frame). Stands t f.stamp (byte_account_level new f.stamp) fs) (sym frames) told.1);
+            (subst (λ (fs : List Frame). Stands t f.stamp (byte_account_level new f.stamp) fs) (sym frames) reported.1);
       };
       passed = rw joins (ap (passed_of frame_of t) more ∙ g.next frame_of t before r);
     }

@@ -123,13 +123,13 @@ module _ (inputs : Inputs) (a : Option Files) (plan : Plan) (captures : List Tex
       (λ text h. record { table = table_in plan; captures = captures; has_plan = of.has_plan; has_captures = of.has_captures; measured = h })
 
 module _ (paths : Paths) (a : Option Files) (plan : Plan) (captures : List Text) (before after : DeviceLog) (of : IsRunOf (inputs_of paths) a plan captures) (count : after ≡ before) where
-  -- a finished switch of the captures, and what is told of it
-  abbrev pub IsTold : List (List ℕ) → Type 0
-  IsTold texts = (s : State) × IsDoneOf (is_cleared plan) (table_in plan) captures s × (is_cleared plan ≡ true → IsIsolatedRun s.run) × (texts ≡ trace_texts s.run)
+  -- a finished switch of the captures, and what is reported of it
+  abbrev pub IsReported : List (List ℕ) → Type 0
+  IsReported texts = (s : State) × IsDoneOf (is_cleared plan) (table_in plan) captures s × (is_cleared plan ≡ true → IsIsolatedRun s.run) × (texts ≡ trace_texts s.run)
 
-  pub traced : (r : Result (List (List ℕ)) Failure) → MatchResult r IsTold (λ f. FailsToLead f (table_in plan) captures)
+  pub traced : (r : Result (List (List ℕ)) Failure) → MatchResult r IsReported (λ f. FailsToLead f (table_in plan) captures)
       → MatchResult r (λ texts. IsTraceIn paths a texts × (after ≡ before)) (λ f. FailsToGather f (inputs_of paths) a before after)
-  traced = leads_as (inputs_of paths) a plan captures before after of count IsTold (IsTraceIn paths a)
+  traced = leads_as (inputs_of paths) a plan captures before after of count IsReported (IsTraceIn paths a)
       (λ texts h. (
         h.0,
         record {
@@ -143,7 +143,7 @@ module _ (paths : Paths) (a : Option Files) (plan : Plan) (captures : List Text)
         h.3,
       ))
 
--- what was told was not all put, or was
+-- what was reported was not all put, or was
 module _ (paths : Paths) (texts : List (List ℕ)) (a b c : Option Files) (first before after : DeviceLog) (is : IsTraceIn paths a texts) (keeps : KeepsFiles a b) (same : before ≡ first) where
   abbrev names : List (List ℕ)
   names = trace_names paths.output.now

@@ -1,4 +1,4 @@
--- What was served, and why words were not served.
+-- What was served, and why arguments were not served.
 use Rattle.std.proofs.Common.{ℕ, List, Option, Result, Ok, Err, sym, subst, inl, inr}
 use Rattle.std.specs.Prelude.{MatchResult}
 use Rattle.afdx_arguments.specs.declared.request.NetworkRequest.{NetworkRequest}
@@ -11,8 +11,8 @@ use Rattle.afdx_serve.specs.Lines.{TellsOf, IsMade}
 use Rattle.afdx_serve.specs.Serving.{World, Performs, FailsToPerform, FailsToPerformNetwork, Serves, Fails, RunsOut}
 use Rattle.afdx_serve.proofs.NetworkLemmas.{never_usage, spares}
 
-module _ (words : List (List ℕ)) (input : Option (List ℕ)) (old new : World) where
-  fails : (r : Request) → Asks words r → (f : Failure) → FailsToPerform f r input old new → Fails f words input old new
+module _ (arguments : List (List ℕ)) (input : Option (List ℕ)) (old new : World) where
+  fails : (r : Request) → Asks arguments r → (f : Failure) → FailsToPerform f r input old new → Fails f arguments input old new
   fails (request.Alone link) asks failure.Usage h = absurd h.0
   fails (request.Check path) asks failure.Usage h = absurd h
   fails (request.Size path) asks failure.Usage h = absurd h
@@ -31,20 +31,20 @@ module _ (words : List (List ℕ)) (input : Option (List ℕ)) (old new : World)
   fails r asks failure.Write h = inr (r, asks, h)
   fails r asks failure.Memory h = inr (r, asks, h)
 
-  -- the request that was done is that of the words
-  pub performed : {T : Type 0} (result : Result T Failure) (r : Request) → Asks words r
-      → MatchResult result (λ _. Performs r input old new) (λ f. FailsToPerform f r input old new) → MatchResult result (λ _. Serves words input old new) (λ f. Fails f words input old new)
+  -- the request that was done is that of the arguments
+  pub performed : {T : Type 0} (result : Result T Failure) (r : Request) → Asks arguments r
+      → MatchResult result (λ _. Performs r input old new) (λ f. FailsToPerform f r input old new) → MatchResult result (λ _. Serves arguments input old new) (λ f. Fails f arguments input old new)
   performed (Ok x) r asks h = inr (r, asks, h)
   performed (Err f) r asks h = fails r asks f h
 
-  network_runs_out : (f : Failure) (r : NetworkRequest) → IsMade f → Asks words (request.Network r) → FailsToPerformNetwork f r old new → RunsOut words input old new
+  network_runs_out : (f : Failure) (r : NetworkRequest) → IsMade f → Asks arguments (request.Network r) → FailsToPerformNetwork f r old new → RunsOut arguments input old new
   network_runs_out f r made asks h = elim (spares f r old new made h) [
     | inl spared ↦ inl spared
     | inr out ↦ inr (request.Network r, asks, out)
   ]
 
   -- a failure with a line that is made leaves what may stand where memory ran out
-  runs_out : (f : Failure) (r : Request) → IsMade f → Asks words r → FailsToPerform f r input old new → RunsOut words input old new
+  runs_out : (f : Failure) (r : Request) → IsMade f → Asks arguments r → FailsToPerform f r input old new → RunsOut arguments input old new
   runs_out failure.Usage r made asks h = absurd made
   runs_out failure.Read r made asks h = absurd made
   runs_out failure.Write r made asks h = absurd made
@@ -100,16 +100,16 @@ module _ (words : List (List ℕ)) (input : Option (List ℕ)) (old new : World)
   runs_out (failure.Network e) (request.Network r) made asks h = network_runs_out (failure.Network e) r made asks h
 
   -- where memory ran out for its line, memory is the failure
-  pub told : (f t : Failure) → TellsOf f t → Fails f words input old new → Fails t words input old new
-  told f t (inl e) h = subst (λ (x : Failure). Fails x words input old new) (sym e) h
-  told failure.Usage t (inr e) h = absurd e.0
-  told failure.Read t (inr e) h = absurd e.0
-  told failure.Write t (inr e) h = absurd e.0
-  told failure.Memory t (inr e) h = absurd e.0
-  told (failure.Table r) t (inr e) h = subst (λ (x : Failure). Fails x words input old new) (sym e.1) (runs_out (failure.Table r) h.0 tt h.1 h.2)
-  told (failure.Network r) t (inr e) h = subst (λ (x : Failure). Fails x words input old new) (sym e.1) (runs_out (failure.Network r) h.0 tt h.1 h.2)
-  told (failure.Load r) t (inr e) h = subst (λ (x : Failure). Fails x words input old new) (sym e.1) (runs_out (failure.Load r) h.0 tt h.1 h.2)
-  told (failure.Capture r) t (inr e) h = subst (λ (x : Failure). Fails x words input old new) (sym e.1) (runs_out (failure.Capture r) h.0 tt h.1 h.2)
-  told (failure.PortCapture p r) t (inr e) h = subst (λ (x : Failure). Fails x words input old new) (sym e.1) (runs_out (failure.PortCapture p r) h.0 tt h.1 h.2)
-  told (failure.Get name) t (inr e) h = subst (λ (x : Failure). Fails x words input old new) (sym e.1) (runs_out (failure.Get name) h.0 tt h.1 h.2)
-  told (failure.Put name) t (inr e) h = subst (λ (x : Failure). Fails x words input old new) (sym e.1) (runs_out (failure.Put name) h.0 tt h.1 h.2)
+  pub reported : (f t : Failure) → TellsOf f t → Fails f arguments input old new → Fails t arguments input old new
+  reported f t (inl e) h = subst (λ (x : Failure). Fails x arguments input old new) (sym e) h
+  reported failure.Usage t (inr e) h = absurd e.0
+  reported failure.Read t (inr e) h = absurd e.0
+  reported failure.Write t (inr e) h = absurd e.0
+  reported failure.Memory t (inr e) h = absurd e.0
+  reported (failure.Table r) t (inr e) h = subst (λ (x : Failure). Fails x arguments input old new) (sym e.1) (runs_out (failure.Table r) h.0 tt h.1 h.2)
+  reported (failure.Network r) t (inr e) h = subst (λ (x : Failure). Fails x arguments input old new) (sym e.1) (runs_out (failure.Network r) h.0 tt h.1 h.2)
+  reported (failure.Load r) t (inr e) h = subst (λ (x : Failure). Fails x arguments input old new) (sym e.1) (runs_out (failure.Load r) h.0 tt h.1 h.2)
+  reported (failure.Capture r) t (inr e) h = subst (λ (x : Failure). Fails x arguments input old new) (sym e.1) (runs_out (failure.Capture r) h.0 tt h.1 h.2)
+  reported (failure.PortCapture p r) t (inr e) h = subst (λ (x : Failure). Fails x arguments input old new) (sym e.1) (runs_out (failure.PortCapture p r) h.0 tt h.1 h.2)
+  reported (failure.Get name) t (inr e) h = subst (λ (x : Failure). Fails x arguments input old new) (sym e.1) (runs_out (failure.Get name) h.0 tt h.1 h.2)
+  reported (failure.Put name) t (inr e) h = subst (λ (x : Failure). Fails x arguments input old new) (sym e.1) (runs_out (failure.Put name) h.0 tt h.1 h.2)

@@ -24,7 +24,7 @@ ended line = line ++ 10 ∷ []
 
 -- ---- of a table
 
--- what is told of the table: the refusal, its place and its key
+-- what is reported of the table: the refusal, its place and its key
 abbrev pub refusal_text : TableFault → List ℕ
 refusal_text table.Memory = codes "C1 Memory"
 refusal_text table.Toml = codes "C2 Toml"
@@ -54,7 +54,7 @@ fault_text fault.Memory = codes "P1 Memory"
 fault_text fault.NoHeader = codes "P2 NoHeader"
 fault_text fault.Magic = codes "P3 Magic"
 fault_text fault.Version = codes "P4 Version"
-fault_text (fault.LinkType word) = codes "P5 LinkType " ++ decimal word
+fault_text (fault.LinkType argument) = codes "P5 LinkType " ++ decimal argument
 fault_text (fault.CutHeader n) = codes "P6 CutHeader"
 fault_text (fault.Huge n) = codes "P7 Huge"
 fault_text (fault.Fraction n) = codes "P8 Fraction"
@@ -115,7 +115,7 @@ network_rule rule = codes "afdx: network " ++ rule
 abbrev pub short_text : List ℕ → Option (List ℕ) → Short → List ℕ
 short_text rule name short = network_rule rule ++ switch_part name ++ link_part short.link ++ codes ", need " ++ decimal short.need
 
--- what is told of a refusal, which may be of the switch of this name
+-- what is reported of a refusal, which may be of the switch of this name
 abbrev pub network_text : Option (List ℕ) → NetworkFault → List ℕ
 network_text name net.Memory = codes "afdx: memory"
 network_text name net.Toml = network_rule (codes "G1 Toml")
@@ -198,6 +198,6 @@ IsMade failure.Write = ⊥
 IsMade failure.Memory = ⊥
 IsMade _ = Unit {0}
 
--- the failure that is told: this one; or memory, where that ran out for its line
+-- the failure that is reported: this one; or memory, where that ran out for its line
 abbrev pub TellsOf : Failure → Failure → Type 0
-TellsOf f told = (told ≡ f) ⊎ (IsMade f × (told ≡ failure.Memory))
+TellsOf f reported = (reported ≡ f) ⊎ (IsMade f × (reported ≡ failure.Memory))

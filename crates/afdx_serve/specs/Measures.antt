@@ -1,4 +1,4 @@
--- What is told of the run of a folder's captures, of which nothing is put.
+-- What is reported of the run of a folder's captures, of which nothing is put.
 use Rattle.std.specs.Prelude.{◌≡◌, ℕ, Bool, true, not, List, Option, Contains}
 use Rattle.afdx_table.specs.declared.rows.PortRow.{PortRow}
 use Rattle.afdx_table.specs.Content.{Content}
@@ -11,15 +11,15 @@ use Rattle.afdx_arguments.specs.declared.request.Inputs.{Inputs}
 use Rattle.afdx_serve.specs.Files.{Files}
 use Rattle.afdx_serve.specs.Runs.{HasPlan, HasCaptures}
 
--- this is told of the finished switch of these captures; over a checked table it promises the bounds
+-- this is reported of the finished switch of these captures; over a checked table it promises the bounds
 pub record IsMeasured (cleared : Bool) (t : Content) (texts : List Text) (text : List ℕ) : Type 0 where
   pub done : State
   pub is_done : IsDoneOf cleared t texts done
-  pub told : text ≡ report_of cleared done.run
+  pub reported : text ≡ report_of cleared done.run
   -- and they are kept: no delay is above its bound, and no buffer held more than the least that its load asks for
   pub within : cleared ≡ true → (p : PortRow) → Contains t.ports p → IsWithinTheLoad done.run p
 
--- the files hold a table and captures, of which this is told
+-- the files hold a table and captures, of which this is reported
 pub record MeasuresTo (inputs : Inputs) (files : Option Files) (text : List ℕ) : Type 0 where
   pub table : Content
   pub captures : List Text

@@ -1,4 +1,4 @@
--- What is told of the jitters that the rows of a network need.
+-- What is reported of the jitters that the rows of a network need.
 use Rattle.std.specs.Prelude.{◌≡◌, ◌≢◌, ℕ, ◌+◌, List, [], ◌∷◌, Option, None, Ok, Err}
 use Rattle.std.specs.Option.{option_or}
 use Rattle.afdx_table.specs.declared.rows.PortRow.{PortRow}
@@ -50,4 +50,4 @@ pub record JittersAre (files : Option Files) (path : List ℕ) (net : Network) (
   pub has_network : HasNetwork files path net
   pub fits : fit_of net ≡ Ok tt
   pub needs : AreNeeds net rows past
-  pub told : text ≡ jitter_text (names_of net.layout.switches) rows
+  pub reported : text ≡ jitter_text (names_of net.layout.switches) rows

@@ -105,7 +105,7 @@ abbrev pub FailsToRead : Failure → Option Files → List ℕ → DeviceLog →
 FailsToRead (failure.Table refusal) files path before after = HasNoTable files path refusal × (after ≡ before)
 FailsToRead f files path before after = FailsToGet f path before after
 
--- not all captures of the table's ports were got: the first that failed is told
+-- not all captures of the table's ports were got: the first that failed is reported
 abbrev pub FailsToGetAll : Failure → Option Files → List ℕ → Content → DeviceLog → DeviceLog → Type 0
 FailsToGetAll (failure.Get name) files path t before after = GetsUpTo (string_bytes name) files path t × (after ≡ one_more (string_bytes name) before)
 FailsToGetAll failure.Memory files path t before after = Unit {0}

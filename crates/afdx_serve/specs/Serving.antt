@@ -1,4 +1,4 @@
--- What serving words does: to what a reader gives, and to what a writer and a folder hold before and after.
+-- What serving arguments does: to what a reader gives, and to what a writer and a folder hold before and after.
 use Rattle.std.specs.Prelude.{string_bytes, Some, None, ◌≡◌, ◌⊎◌, ℕ, List, Option, IfSome}
 use Rattle.std.specs.Io.KnownBytes.{Appends, Keeps}
 use Rattle.afdx_pcap.specs.Fault.{IsFault}
@@ -33,7 +33,7 @@ use Rattle.afdx_serve.specs.Measures.{MeasuresTo}
 use Rattle.afdx_serve.specs.Traces.{PutsTrace, FailsToTrace}
 use Rattle.afdx_serve.specs.Runs.{HasTable, HasNoTable, LeadsTo, FailsToGather, FailsToRun, names_in, bytes_of, report_in}
 
--- what commands work on, as far as it is told
+-- what commands work on, as far as it is reported
 pub record World : Type 0 where
   -- what the writer holds
   pub written : Option (List ℕ)
@@ -207,7 +207,7 @@ abbrev pub FailsToRunAll : Failure → Paths → World → World → Type 0
 FailsToRunAll failure.Write paths old new = (results : Results) × PutsResults paths old new results × AppendsPrefix old.written new.written (report_in results)
 FailsToRunAll f paths old new = FailsToRun f paths old.files new.files old.failed new.failed × WritesNothing old new
 
--- ---- what is told of a run
+-- ---- what is reported of a run
 
 -- the files lead to this text, which was written; nothing was put
 abbrev pub Measures : Inputs → World → World → Type 0
@@ -218,7 +218,7 @@ abbrev pub FailsToMeasure : Failure → Inputs → World → World → Type 0
 FailsToMeasure failure.Write inputs old new = (text : List ℕ) × MeasuresTo inputs old.files text × AppendsPrefix old.written new.written text × KeepsFolder old new
 FailsToMeasure f inputs old new = FailsToGather f inputs old.files old.failed new.failed × KeepsFiles old.files new.files × WritesNothing old new
 
--- what is told of each frame and copy was put; nothing was written
+-- what is reported of each frame and copy was put; nothing was written
 abbrev pub Traces : Paths → World → World → Type 0
 Traces paths old new = PutsTrace paths old.files new.files × (new.failed ≡ old.failed) × WritesNothing old new
 
@@ -250,21 +250,21 @@ FailsToPerform f (request.Network r) input old new = FailsToPerformNetwork f r o
 
 -- help was asked for and some text was written, or a request, which was done
 abbrev pub Serves : List (List ℕ) → Option (List ℕ) → World → World → Type 0
-Serves words input old new =
-    (AskForHelp words × ((text : List ℕ) × Appends old.written new.written text) × KeepsFolder old new)
-    ⊎ ((r : Request) × Asks words r × Performs r input old new)
+Serves arguments input old new =
+    (AskForHelp arguments × ((text : List ℕ) × Appends old.written new.written text) × KeepsFolder old new)
+    ⊎ ((r : Request) × Asks arguments r × Performs r input old new)
 
 -- what may stand where memory ran out: some of a run's files, and nothing written
 abbrev pub RunsOut : List (List ℕ) → Option (List ℕ) → World → World → Type 0
-RunsOut words input old new =
-    (WritesNothing old new × KeepsFiles old.files new.files) ⊎ ((r : Request) × Asks words r × FailsToPerform failure.Memory r input old new)
+RunsOut arguments input old new =
+    (WritesNothing old new × KeepsFiles old.files new.files) ⊎ ((r : Request) × Asks arguments r × FailsToPerform failure.Memory r input old new)
 
--- why words were not served, and what was done
+-- why arguments were not served, and what was done
 abbrev pub Fails : Failure → List (List ℕ) → Option (List ℕ) → World → World → Type 0
-Fails failure.Usage words input old new =
-    AreRefused words × WritesNothing old new × KeepsFolder old new
-Fails failure.Write words input old new =
-    (AskForHelp words × ((text : List ℕ) × Appends old.written new.written text) × KeepsFolder old new)
-    ⊎ ((r : Request) × Asks words r × FailsToPerform failure.Write r input old new)
-Fails failure.Memory words input old new = RunsOut words input old new
-Fails f words input old new = (r : Request) × Asks words r × FailsToPerform f r input old new
+Fails failure.Usage arguments input old new =
+    AreRefused arguments × WritesNothing old new × KeepsFolder old new
+Fails failure.Write arguments input old new =
+    (AskForHelp arguments × ((text : List ℕ) × Appends old.written new.written text) × KeepsFolder old new)
+    ⊎ ((r : Request) × Asks arguments r × FailsToPerform failure.Write r input old new)
+Fails failure.Memory arguments input old new = RunsOut arguments input old new
+Fails f arguments input old new = (r : Request) × Asks arguments r × FailsToPerform f r input old new

@@ -1,4 +1,4 @@
--- What is told of the size of a table's ports: what each needs and has, and the rules that it breaks.
+-- What is reported of the size of a table's ports: what each needs and has, and the rules that it breaks.
 use Rattle.std.specs.Prelude.{◌≡◌, ℕ, codes, nat_lt, ◌<◌, ◌+◌, List, [], ◌∷◌, ◌++◌, Option, Some, None, if◌then◌else◌}
 use Rattle.std.specs.Fmt.{decimal}
 use Rattle.afdx_table.specs.declared.rows.PortRow.{PortRow}

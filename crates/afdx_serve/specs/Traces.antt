@@ -22,7 +22,7 @@ departures_name folder = folder ++ codes "/departures.csv"
 abbrev pub trace_names : List ℕ → List (List ℕ)
 trace_names folder = arrivals_name folder ∷ departures_name folder ∷ []
 
--- what is told of a finished switch
+-- what is reported of a finished switch
 abbrev pub trace_texts : Run → List (List ℕ)
 trace_texts r = arrivals_text r ∷ departures_text r ∷ []
 

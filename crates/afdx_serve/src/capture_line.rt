@@ -1,4 +1,4 @@
-//! What is told of a capture's fault.
+//! What is reported of a capture's fault.
 
 ghost use Rattle.std.specs.Prelude.{◌≡◌, ◌++◌, IfOk, OnOk, string_bytes};
 ghost use Rattle.afdx_serve.specs.Lines.{fault_text, part, capture_text, capture_line, record_of};
@@ -11,7 +11,7 @@ fn fault_text(alloc: Global, fault: PcapFault) -> Result<String, AllocError>
     ensures { IfOk result (λ text. string_bytes text ≡ fault_text fault) }
 {
     let name = match fault {
-        PcapFault::LinkType(word) => return format!(in alloc; "P5 LinkType {word}"),
+        PcapFault::LinkType(argument) => return format!(in alloc; "P5 LinkType {argument}"),
         PcapFault::Memory => "P1 Memory",
         PcapFault::NoHeader => "P2 NoHeader",
         PcapFault::Magic => "P3 Magic",
@@ -52,7 +52,7 @@ fn push_part(line: &mut String, name: &str, number: Option<usize>) -> Result<(),
     Ok(())
 }
 
-/// What is told of a fault of a capture, which is a port's or not, without its line feed.
+/// What is reported of a fault of a capture, which is a port's or not, without its line feed.
 pub(crate) fn capture_text(
     alloc: Global,
     port: Option<u8>,

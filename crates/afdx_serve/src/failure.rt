@@ -17,7 +17,7 @@ use thiserror::Error;
 /// Why a command was not served. Each message is its variant's name.
 #[derive(Debug, Drop, Error)]
 pub enum Failure {
-    /// The words are refused.
+    /// The arguments are refused.
     #[error("Usage")]
     Usage,
     /// The file of the table holds none, and this is its first refusal.

@@ -10,9 +10,9 @@ ghost use Rattle.afdx_serve.specs.Runs.{inputs_of, IsRunOf, FailsToPlan, FailsTo
 use crate::failure::Failure;
 use crate::folder::Folder;
 use crate::get::{get_captures, get_table};
+use afdx_arguments::{Inputs, Paths};
 use afdx_session::Plan;
 use afdx_table::Table;
-use afdx_arguments::{Inputs, Paths};
 use std::alloc::Global;
 
 /// What a run is made of, beside where it goes.

@@ -1,4 +1,4 @@
-//! What the program does with the words of its command line, over any reader, writers and folder.
+//! What the program does with the arguments of its command line, over any reader, writers and folder.
 //!
 //! [`serve`] is the whole of it; the program `afdx` hands it the real ones. The module `laws` ties what [`alone`] takes for a
 //! link's own frames to the filter of the whole switch.

@@ -1,4 +1,4 @@
-//! What is told of a load that is refused.
+//! What is reported of a load that is refused.
 
 ghost use Rattle.std.specs.Prelude.{◌≡◌, IfOk, string_bytes};
 ghost use Rattle.afdx_serve.specs.Lines.{rule_text, load_fault_text, load_line};
@@ -18,7 +18,7 @@ fn rule_text(rule: Rule) -> &'static str
     }
 }
 
-/// What is told of a rule that is broken, without its line feed.
+/// What is reported of a rule that is broken, without its line feed.
 pub(crate) fn load_fault_text(alloc: Global, fault: LoadFault) -> Result<String, AllocError>
     ensures { IfOk result (λ text. string_bytes text ≡ load_fault_text fault) }
 {

@@ -12,13 +12,13 @@ use crate::failure::Failure;
 use crate::folder::Folder;
 use crate::gathering::gather;
 use crate::output::write_bytes;
+use afdx_arguments::Inputs;
 use afdx_measure::laws::accepted_tables_stay_within_the_load;
 use afdx_session::Plan;
-use afdx_arguments::Inputs;
 use std::alloc::Global;
 use std::io::Write;
 
-/// What is told of captures of the table's ports; bounds are told where the plan was checked.
+/// What is reported of captures of the table's ports; bounds are reported where the plan was checked.
 fn tell(
     alloc: Global,
     plan: Plan,
@@ -38,7 +38,7 @@ fn tell(
     Ok(text)
 }
 
-/// What is told of the files of a run.
+/// What is reported of the files of a run.
 fn text_of<F: Folder>(alloc: Global, inputs: &Inputs<'_>, folder: &mut F) -> Result<String, Failure>
     ensures led { MatchResult result
         (λ text. MeasuresTo inputs.now (F.files folder.old) (string_bytes text) × (F.failed folder.new ≡ F.failed folder.old))

@@ -4,7 +4,7 @@ use afdx_pcap::PcapFault;
 use afdx_table::TableFault;
 use afdx_wiring::NetworkFault;
 
-/// Why a command of networks was not served, beside what can befall any command. A switch is told by its name.
+/// Why a command of networks was not served, beside what can befall any command. A switch is named by its name.
 #[derive(Debug, Drop)]
 pub enum NetworkFailure {
     /// The network is refused, and this is the first refusal, with the name of the switch that it is of, where it is of one.

@@ -134,7 +134,7 @@ fn network_text(
     }
 }
 
-/// What is told of a failure, without its line feed.
+/// What is reported of a failure, without its line feed.
 fn network_failure_text(alloc: Global, failure: &NetworkFailure) -> Result<String, AllocError>
     ensures { IfOk result (λ text. string_bytes text ≡ network_failure_text failure.now) }
 {

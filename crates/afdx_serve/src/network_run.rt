@@ -21,6 +21,7 @@ use crate::network_failure::NetworkFailure;
 use crate::network_get::{get_network, names_of};
 use crate::output::write_bytes;
 use crate::put::put;
+use afdx_arguments::NetworkPaths;
 use afdx_network::laws::network_runs_deliver;
 use afdx_network::{NetworkRunFault, Texts};
 use afdx_session::Outcome;
@@ -29,7 +30,6 @@ use afdx_table::laws::tables_are_well_formed;
 use afdx_ways::{name_of, push_report};
 use afdx_wiring::laws::layouts_are_within_limits;
 use afdx_wiring::{ClearedNetwork, End, Network};
-use afdx_arguments::NetworkPaths;
 use std::alloc::{AllocError, Global};
 use std::io::Write;
 

@@ -4,10 +4,10 @@ ghost use Rattle.std.specs.Prelude.{◌≡◌, ◌≤◌, length};
 ghost use Rattle.afdx_units.specs.Line.{size_of};
 ghost use Rattle.afdx_serve.specs.Own.{is_addressed, is_own};
 
+use afdx_arguments::Alone;
 use afdx_frame::view;
 use afdx_pcap::Record;
-use afdx_units::size;
-use afdx_arguments::{Alone, GREATEST_SIZE, LEAST_SIZE};
+use afdx_units::{GREATEST_SIZE, LEAST_SIZE, size};
 use std::alloc::Allocator;
 
 /// The constant field of every link (profile).

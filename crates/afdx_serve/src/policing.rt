@@ -19,12 +19,12 @@ use crate::own::{frame_size, is_own};
 use crate::parts::Part;
 use afdx_account::laws::{next_joins_where_it_conforms, passed_by_their_frames};
 use afdx_account::{ByteAccount, Meter};
+use afdx_arguments::Alone;
 use afdx_pcap::laws::{
     each_file_has_one_reading, one_more_record_is_appended, taken_records_are_the_first,
     taken_records_begin_the_capture,
 };
 use afdx_pcap::{PcapFault, Reader, Record, write_header, write_record};
-use afdx_arguments::Alone;
 use std::alloc::{AllocError, Allocator};
 use std::io::Write;
 use thiserror::Error;

@@ -14,9 +14,9 @@ use crate::gathering::{gather, inputs_of};
 use crate::names::names_in;
 use crate::output::write_bytes;
 use crate::put::put_outputs;
+use afdx_arguments::Paths;
 use afdx_session::laws::accepted_runs_isolate;
 use afdx_session::{Carried, Plan};
-use afdx_arguments::Paths;
 use std::alloc::{AllocError, Global};
 use std::io::Write;
 

@@ -69,21 +69,21 @@ fn perform<R: Read, O: Write, F: Folder>(
     }
 }
 
-/// Serves what the words ask for, help included.
-fn serve_words<R: Read, O: Write, F: Folder>(
+/// Serves what the arguments ask for, help included.
+fn serve_arguments<R: Read, O: Write, F: Folder>(
     alloc: Global,
-    words: &[String],
+    arguments: &[String],
     input: &mut R,
     out: &mut O,
     folder: &mut F,
 ) -> Result<(), Failure>
     ensures { MatchResult result
-        (λ _. Serves (map string_bytes words.now) (R.remaining input.old)
+        (λ _. Serves (map string_bytes arguments.now) (R.remaining input.old)
         (world (O.contents out.old) (F.files folder.old) (F.failed folder.old)) (world (O.contents out.new) (F.files folder.new) (F.failed folder.new)))
-        (λ f. Fails f (map string_bytes words.now) (R.remaining input.old)
+        (λ f. Fails f (map string_bytes arguments.now) (R.remaining input.old)
         (world (O.contents out.old) (F.files folder.old) (F.failed folder.old)) (world (O.contents out.new) (F.files folder.new) (F.failed folder.new))) }
 {
-    match parse(alloc, words) {
+    match parse(alloc, arguments) {
         Ok(request) => perform(alloc, &request, input, out, folder),
         Err(NoRequest::Help(text)) => {
             write_bytes(out, text.as_bytes())?;
@@ -94,8 +94,8 @@ fn serve_words<R: Read, O: Write, F: Folder>(
     }
 }
 
-/// Serves what the words ask for, of which the first is the program's name, and gives the status: 0 done,
-/// 2 refused words, 3 a refused table, network or capture, 4 a refused load or jitter or a network that does not come to rest,
+/// Serves what the arguments ask for, of which the first is the program's name, and gives the status: 0 done,
+/// 2 refused arguments, 3 a refused table, network or capture, 4 a refused load or jitter or a network that does not come to rest,
 /// 5 memory or a device.
 ///
 /// `afdx alone` reads `input` to its end and writes its answer on `out`; `afdx check TABLE` and `afdx size TABLE` get TABLE
@@ -112,25 +112,25 @@ fn serve_words<R: Read, O: Write, F: Folder>(
 /// No contract knows why a reader, a writer or a folder fails, or whether memory is left: that 5 comes only then, and
 /// that `err` holds its whole line where it takes it, is shown by tests.
 ///
-/// O(words, input and files) beside the switch's own work, with at most 16,777,216 reads of `input`.
+/// O(arguments, input and files) beside the switch's own work, with at most 16,777,216 reads of `input`.
 pub fn serve<R: Read, O: Write, E: Write, F: Folder>(
     alloc: Global,
-    words: &[String],
+    arguments: &[String],
     input: &mut R,
     out: &mut O,
     err: &mut E,
     folder: &mut F,
 ) -> u8
     ensures served { result ≡ 0
-        → Serves (map string_bytes words.now) (R.remaining input.old)
+        → Serves (map string_bytes arguments.now) (R.remaining input.old)
         (world (O.contents out.old) (F.files folder.old) (F.failed folder.old)) (world (O.contents out.new) (F.files folder.new) (F.failed folder.new))
         × Keeps (E.contents err.old) (E.contents err.new) }
     ensures failed { result ≢ 0 → (f : Failing) × (result ≡ status_of f)
-        × Fails f (map string_bytes words.now) (R.remaining input.old)
+        × Fails f (map string_bytes arguments.now) (R.remaining input.old)
         (world (O.contents out.old) (F.files folder.old) (F.failed folder.old)) (world (O.contents out.new) (F.files folder.new) (F.failed folder.new))
         × AppendsPrefix (E.contents err.old) (E.contents err.new) (line_of f) }
 {
-    match serve_words(alloc, words, input, out, folder) {
+    match serve_arguments(alloc, arguments, input, out, folder) {
         Ok(()) => 0,
         Err(failure) => report(alloc, &failure, err),
     }

@@ -1,4 +1,4 @@
-//! What is told of a table's refusal.
+//! What is reported of a table's refusal.
 
 ghost use Rattle.std.specs.Prelude.{◌≡◌, ◌++◌, codes, IfOk, string_bytes};
 ghost use Rattle.afdx_table.specs.Names.{key_text, place_text};
@@ -29,7 +29,7 @@ fn at_key(alloc: Global, refusal: &str, at: At, key: Key) -> Result<String, Allo
     Ok(text)
 }
 
-/// What is told of a refusal, without its line feed.
+/// What is reported of a refusal, without its line feed.
 pub(crate) fn table_text(alloc: Global, refusal: TableFault) -> Result<String, AllocError>
     ensures { IfOk result (λ text. string_bytes text ≡ table_text refusal) }
 {

@@ -47,14 +47,14 @@ fn device_line(alloc: Global, call: &str, name: &str) -> Result<String, AllocErr
     Ok(line)
 }
 
-/// Writes the line of a failure, as far as the writer takes it, and gives the failure's status: 2 for refused words,
+/// Writes the line of a failure, as far as the writer takes it, and gives the failure's status: 2 for refused arguments,
 /// 3 for a refused table, network or capture, 4 for a refused load or jitter or a network that does not come to rest, 5 for a
 /// device or memory.
 ///
 /// Only a line with a number or a name takes memory. Where that is refused, memory is the failure. O(line).
 pub fn report<E: Write>(alloc: Global, failure: &Failure, err: &mut E) -> u8
-    ensures told { (told : Failing) × TellsOf failure.now told × (result ≡ status_of told)
-        × AppendsPrefix (E.contents err.old) (E.contents err.new) (line_of told) }
+    ensures reported { (reported : Failing) × TellsOf failure.now reported × (result ≡ status_of reported)
+        × AppendsPrefix (E.contents err.old) (E.contents err.new) (line_of reported) }
     ensures failed { 2 ≤ result }
 {
     match failure {

@@ -13,8 +13,8 @@ use crate::failure::Failure;
 use crate::folder::Folder;
 use crate::gathering::{gather, inputs_of};
 use crate::put::put;
-use afdx_session::Plan;
 use afdx_arguments::Paths;
+use afdx_session::Plan;
 use std::alloc::{AllocError, Global};
 use std::marker::Model;
 
@@ -33,7 +33,7 @@ impl Model for Pair {
     ghost view = { λ p. string_bytes p.arrivals ∷ string_bytes p.departures ∷ [] };
 }
 
-/// What is told of captures of the table's ports; the headline holds of their run, where the plan was checked.
+/// What is reported of captures of the table's ports; the headline holds of their run, where the plan was checked.
 fn tell(alloc: Global, plan: Plan, captures: &[(u8, Vec<u8>)]) -> Result<Pair, Failure>
     requires { AreOfPorts (table_in plan) (texts_of captures.now) }
     ensures { MatchResult result
@@ -50,7 +50,7 @@ fn tell(alloc: Global, plan: Plan, captures: &[(u8, Vec<u8>)]) -> Result<Pair, F
     })
 }
 
-/// What is told of the files of a run.
+/// What is reported of the files of a run.
 fn traced<F: Folder>(alloc: Global, paths: &Paths<'_>, folder: &mut F) -> Result<Pair, Failure>
     ensures led { MatchResult result
         (λ texts. IsTraceIn paths.now (F.files folder.old) texts × (F.failed folder.new ≡ F.failed folder.old))

@@ -104,14 +104,14 @@ fn has_left(folder: &MemoryFolder<Global>, left: &[u8]) -> bool {
 /// Whether these frames leave port 4, with this report, where ports 1 and 2 babble or are silent.
 fn leaves(
     alloc: Global,
-    words: &str,
+    arguments: &str,
     babbles: bool,
     frames: &[Sample],
     report: &str,
 ) -> Result<bool, AllocError> {
     let left = capture(alloc, frames)?;
     let mut folder = world(alloc, babbles)?;
-    let is_said = answers(alloc, words, &mut folder, (0, report, ""))?;
+    let is_said = answers(alloc, arguments, &mut folder, (0, report, ""))?;
     let is_left = has_left(&folder, &left);
     Ok(is_said && is_left)
 }

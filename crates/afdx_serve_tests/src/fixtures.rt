@@ -113,13 +113,13 @@ impl OneFrame {
     /// Whether the program, over what is there, answers so, and the first so many of these files stand then and no others.
     pub(crate) fn leaves(
         &self,
-        words: &str,
+        arguments: &str,
         said: Said,
         files: &[(&str, &[u8])],
         count: usize,
     ) -> Result<bool, AllocError> {
         let mut folder = self.sound()?;
-        let is_said = answers(self.alloc, words, &mut folder, said)?;
+        let is_said = answers(self.alloc, arguments, &mut folder, said)?;
         let is_left = folder.holds(files, count);
         Ok(is_said && is_left)
     }
@@ -128,13 +128,13 @@ impl OneFrame {
     /// the first so many of these files and no others.
     pub(crate) fn stops(
         &self,
-        words: &str,
+        arguments: &str,
         broken: &Broken,
         files: &[(&str, &[u8])],
         count: usize,
     ) -> Result<bool, AllocError> {
         let mut folder = self.folder(broken.call, broken.fault)?;
-        let is_said = answers(self.alloc, words, &mut folder, (5, "", broken.line))?;
+        let is_said = answers(self.alloc, arguments, &mut folder, (5, "", broken.line))?;
         let is_left = broken.is_of(&folder) && folder.holds(files, count);
         Ok(is_said && is_left)
     }
@@ -176,13 +176,13 @@ pub(crate) fn folder_of(
     Ok(folder)
 }
 
-/// The words of a command line.
+/// The arguments of a command line.
 pub(crate) fn split(alloc: Global, line: &str) -> Result<Vec<String>, AllocError> {
-    let mut words = Vec::new(alloc);
-    for word in line.split_whitespace() {
-        words.push(String::from_str(alloc, word)?)?;
+    let mut arguments = Vec::new(alloc);
+    for argument in line.split_whitespace() {
+        arguments.push(String::from_str(alloc, argument)?)?;
     }
-    Ok(words)
+    Ok(arguments)
 }
 
 /// What the program answers.
@@ -207,10 +207,10 @@ pub(crate) fn answer_over(
     mut input: &[u8],
     folder: &mut MemoryFolder<Global>,
 ) -> Result<Served, AllocError> {
-    let words = split(alloc, line)?;
+    let arguments = split(alloc, line)?;
     let mut out = Vec::new(alloc);
     let mut err = Vec::new(alloc);
-    let status = serve(alloc, &words, &mut input, &mut out, &mut err, folder);
+    let status = serve(alloc, &arguments, &mut input, &mut out, &mut err, folder);
     Ok(Served { status, out, err })
 }
 

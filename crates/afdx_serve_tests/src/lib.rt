@@ -4,6 +4,8 @@
 #![tactic(auto)]
 
 #[cfg(test)]
+mod arguments;
+#[cfg(test)]
 mod babblers;
 #[cfg(test)]
 mod devices;
@@ -37,5 +39,3 @@ mod sizes;
 mod streams;
 #[cfg(test)]
 mod traces;
-#[cfg(test)]
-mod words;

@@ -7,7 +7,7 @@ use std::test::Fail;
 
 const MEASURE: &str = "afdx measure t in";
 
-/// What is told of the run of one frame.
+/// What is reported of the run of one frame.
 const ONE_FRAME: &str = "link 10 out 2 sent 1 least 6720 greatest 6720 bound 159390
 out 1 occupied 0 of 100000 at -
 out 2 occupied 64 of 100000 at 0

@@ -38,10 +38,14 @@ fn an_accepted_network(rt: HostRuntime) -> Result<(), Fail> {
 }
 
 /// Whether the program answers so over a folder with an empty network file alone.
-fn answers_without_switches(alloc: Global, words: &str, said: Said) -> Result<bool, AllocError> {
+fn answers_without_switches(
+    alloc: Global,
+    arguments: &str,
+    said: Said,
+) -> Result<bool, AllocError> {
     let mut folder = MemoryFolder::new(alloc);
     folder.add("net/n.toml", b"")?;
-    answers(alloc, words, &mut folder, said)
+    answers(alloc, arguments, &mut folder, said)
 }
 
 #[test]
@@ -100,7 +104,7 @@ fn push_nine_lines(text: &mut String, switch: &str, jitter: u32) -> Result<(), A
     Ok(())
 }
 
-/// 9 * 1,593,900 - 67,200 ns: what is past the limit is told, and then refused.
+/// 9 * 1,593,900 - 67,200 ns: what is past the limit is reported, and then refused.
 #[test]
 fn a_jitter_past_the_limit(rt: HostRuntime) -> Result<(), Fail> {
     let alloc = rt.alloc();

@@ -101,7 +101,7 @@ fn without_a_table(alloc: Global) -> Result<TwoSwitches, AllocError> {
     TwoSwitches::new(alloc, 14)?.second_changed(("mbit", "mbits"))
 }
 
-/// Where no table is one, that of the first switch is told.
+/// Where no table is one, that of the first switch is reported.
 #[test]
 fn tables_that_are_none(rt: HostRuntime) -> Result<(), Fail> {
     let alloc = rt.alloc();

@@ -99,7 +99,7 @@ impl TwoSwitches {
     }
 
     /// Whether the program answers so over these files.
-    pub(crate) fn answers(&self, words: &str, said: Said) -> Result<bool, AllocError> {
-        answers(self.alloc, words, &mut self.folder()?, said)
+    pub(crate) fn answers(&self, arguments: &str, said: Said) -> Result<bool, AllocError> {
+        answers(self.alloc, arguments, &mut self.folder()?, said)
     }
 }

@@ -101,7 +101,7 @@ fn has_put(folder: &MemoryFolder<Global>, put: bool) -> bool {
 }
 
 /// Whether it is this status and this line, with something on standard output or nothing.
-fn is_told(got: &Served, status: u8, line: &str, put: bool) -> bool {
+fn is_reported(got: &Served, status: u8, line: &str, put: bool) -> bool {
     got.status == status && got.err.as_slice() == line.as_bytes() && got.out.is_empty() != put
 }
 
@@ -110,15 +110,15 @@ fn is_told(got: &Served, status: u8, line: &str, put: bool) -> bool {
 fn runs_short_of_room(
     run: &OneFrame,
     alloc: Global,
-    words: &str,
+    arguments: &str,
     (status, line): (u8, &str),
     calls: u64,
     put: bool,
 ) -> Result<bool, AllocError> {
     let mut folder = run.sound()?;
     folder.add("t", short_of_room(alloc)?.as_bytes())?;
-    let got = answer_over(alloc, words, b"", &mut folder)?;
-    let is_right = is_told(&got, status, line, put) && has_put(&folder, put);
+    let got = answer_over(alloc, arguments, b"", &mut folder)?;
+    let is_right = is_reported(&got, status, line, put) && has_put(&folder, put);
     Ok(is_right && folder.calls() == calls)
 }
 
@@ -127,11 +127,14 @@ fn refuses_a_load_unless_unchecked(rt: HostRuntime) -> Result<(), Fail> {
     let alloc = rt.alloc();
     let line = "afdx: load L2 Buffer, port 2, need 904847360000000, limit 248709120000000\n";
     let run = OneFrame::new(alloc)?;
-    // The words, the status, the line, the calls that the folder was given, and whether a capture was put.
-    for (words, status, line, calls, put) in [(CHECKED, 4, line, 1, false), (RUN, 0, "", 5, true)] {
+    // The arguments, the status, the line, the calls that the folder was given, and whether a capture was put.
+    for (arguments, status, line, calls, put) in [
+        (CHECKED, 4, line, 1, false),
+        (RUN, 0, "", 5, true),
+    ] {
         assert!(rt;
-            runs_short_of_room(&run, rt.alloc(), words, (status, line), calls, put)?,
-            "{words}"
+            runs_short_of_room(&run, rt.alloc(), arguments, (status, line), calls, put)?,
+            "{arguments}"
         );
     }
     Ok(())
@@ -158,9 +161,13 @@ const CALLS: [(&str, &str, usize); 5] = [
 ];
 
 /// Whether the run of one frame is done where the sixth call would fail.
-fn is_done_before_call_6(run: &OneFrame, alloc: Global, words: &str) -> Result<bool, AllocError> {
+fn is_done_before_call_6(
+    run: &OneFrame,
+    alloc: Global,
+    arguments: &str,
+) -> Result<bool, AllocError> {
     let mut folder = run.folder(6, FolderFault::Device)?;
-    let is_said = answers(alloc, words, &mut folder, (0, REPORT, ""))?;
+    let is_said = answers(alloc, arguments, &mut folder, (0, REPORT, ""))?;
     let is_left = folder.holds(&run.files(), 5);
     Ok(is_said && is_left)
 }
@@ -169,7 +176,7 @@ fn is_done_before_call_6(run: &OneFrame, alloc: Global, words: &str) -> Result<b
 fn stops_at_a_failing_folder(rt: HostRuntime) -> Result<(), Fail> {
     let alloc = rt.alloc();
     let run = OneFrame::new(alloc)?;
-    for words in [CHECKED, RUN] {
+    for arguments in [CHECKED, RUN] {
         let mut failing = 0u64;
         for (name, line, files) in CALLS {
             failing = failing.saturating_add(1);
@@ -183,10 +190,16 @@ fn stops_at_a_failing_folder(rt: HostRuntime) -> Result<(), Fail> {
                     name: last,
                     line,
                 };
-                assert!(rt; run.stops(words, &broken, &run.files(), files)?, "{name}");
+                assert!(rt;
+                    run.stops(arguments, &broken, &run.files(), files)?,
+                    "{name}"
+                );
             }
         }
-        assert!(rt; is_done_before_call_6(&run, rt.alloc(), words)?, "{words}");
+        assert!(rt;
+            is_done_before_call_6(&run, rt.alloc(), arguments)?,
+            "{arguments}"
+        );
     }
     Ok(())
 }

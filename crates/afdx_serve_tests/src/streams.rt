@@ -46,14 +46,14 @@ fn served<R: Read>(
     folder: &mut MemoryFolder<Global>,
     writer: LineWriter,
 ) -> Result<(u8, Vec<u8>), AllocError> {
-    let words = split(alloc, line)?;
+    let arguments = split(alloc, line)?;
     let mut err = Sink::new(alloc, writer.0, writer.1, Some(ErrorKind::BrokenPipe));
-    let status = serve(alloc, &words, input, out, &mut err, folder);
+    let status = serve(alloc, &arguments, input, out, &mut err, folder);
     Ok((status, err.bytes))
 }
 
 /// What a writer for the line holds then.
-fn told(line: &'static str, writer: LineWriter) -> &'static [u8] {
+fn reported(line: &'static str, writer: LineWriter) -> &'static [u8] {
     if writer.2 { line.as_bytes() } else { b"" }
 }
 
@@ -132,7 +132,7 @@ fn stops_where_a_writer_fails(rt: HostRuntime) -> Result<(), Fail> {
                 let wanted = Wanted {
                     status,
                     out: whole.get(..written),
-                    err: told(said, writer),
+                    err: reported(said, writer),
                     files,
                 };
                 let mut reader = run.came();
@@ -174,7 +174,7 @@ fn stops_where_a_reader_fails(rt: HostRuntime) -> Result<(), Fail> {
             let wanted = Wanted {
                 status,
                 out: run.came().get(..written),
-                err: told(said, writer),
+                err: reported(said, writer),
                 files: 3,
             };
             let mut reader = Source::new(run.came(), failing, kind);

@@ -29,7 +29,7 @@ fn has(folder: &MemoryFolder<Global>, arrivals: &str, departures: &str) -> bool 
 /// Whether these lines are put below the headings, with status 0 and nothing said.
 fn puts(
     alloc: Global,
-    words: &str,
+    arguments: &str,
     table: &str,
     captures: &[&[u8]],
     lines: [&str; 2],
@@ -37,7 +37,7 @@ fn puts(
     let arrivals = file(alloc, ARRIVALS, lines[0])?;
     let departures = file(alloc, DEPARTURES, lines[1])?;
     let mut folder = folder_of(alloc, table, captures)?;
-    let is_said = answers(alloc, words, &mut folder, (0, "", ""))?;
+    let is_said = answers(alloc, arguments, &mut folder, (0, "", ""))?;
     let is_put = has(&folder, &arrivals, &departures);
     Ok(is_said && is_put)
 }

@@ -27,7 +27,7 @@ use Rattle.afdx_session.specs.Streams.{Stream, captures_of, merged_so_far, sent_
 use Rattle.afdx_session.specs.Inner.Lanes.{waiting_of}
 use Rattle.afdx_session.specs.Inner.Kept.{AreLanesOf, text_up_to, IsGoing}
 use Rattle.afdx_session.proofs.Numbered.{all_append}
-use Rattle.afdx_session.proofs.Settling.{all_front, by_stamp_in, arrived, all_arrived}
+use Rattle.afdx_session.proofs.Settling.{all_prefix, by_stamp_in, arrived, all_arrived}
 
 -- ---- no record is too long
 
@@ -141,7 +141,7 @@ pub text_bound : {Z : Type 0} (t : Content) (lanes : List (Lane Z)) (s : State) 
     → length (text_up_to t going.given going.since p) < 2 ^ 128
 text_bound t lanes s counts going p =
     let all : AllByRecursion SmallArrival (merged_so_far going.streams) = by_stamp_in SmallArrival (arrivals_of (captures_of going.streams)) (arrivals_small lanes going.streams going.lanes_are) in
-    let given : AllByRecursion SmallArrival going.given = all_front SmallArrival going.given (merged (map waiting_of lanes)) (subst (AllByRecursion SmallArrival) going.settling.whole all) in
+    let given : AllByRecursion SmallArrival going.given = all_prefix SmallArrival going.given (merged (map waiting_of lanes)) (subst (AllByRecursion SmallArrival) going.settling.whole all) in
     let sent = sent_up_to t going.given (Some going.since) p in
     let few = sent_few t going.given going.since p in
     let long = texts_long going.given sent given in

@@ -61,13 +61,13 @@ machine_no_back mid limit to going is to_is lt =
     no_going_back mid.switch.run.table mid.lanes.items mid.switch mid.counts to going (to_is ∙ ap (λ o. come_to (option_map (λ (p : ℕ × ℕ). p.0) o)) is) lt
 
 -- what a call's answer tells
-pub ok_told : {T E : Type 0} (r : Result T E) (P : Type 0) → is_err r ≡ false → OnOk r P → P
-ok_told (Ok x) P told holds = holds
-ok_told (Err e) P told holds = absurd cc
+pub ok_reported : {T E : Type 0} (r : Result T E) (P : Type 0) → is_err r ≡ false → OnOk r P → P
+ok_reported (Ok x) P reported holds = holds
+ok_reported (Err e) P reported holds = absurd cc
 
-pub err_told : {T E : Type 0} (r : Result T E) (P : E → Type 0) (Q : Type 0) → is_err r ≡ true → IfErr r P → ((e : E) → P e → Q) → Q
-err_told (Ok x) P Q told holds use_it = absurd cc
-err_told (Err e) P Q told holds use_it = use_it e holds
+pub err_reported : {T E : Type 0} (r : Result T E) (P : E → Type 0) (Q : Type 0) → is_err r ≡ true → IfErr r P → ((e : E) → P e → Q) → Q
+err_reported (Ok x) P Q reported holds use_it = absurd cc
+err_reported (Err e) P Q reported holds use_it = use_it e holds
 
 pub handed_stays : (old new : State) → IsOfSameTable old new → length old.run.handed ≡ length old.run.table.ports → length new.run.handed ≡ length new.run.table.ports
 handed_stays old new same handed = same.handed ∙ handed ∙ ap (λ (c : Content). length c.ports) (sym same.table)

@@ -120,9 +120,9 @@ draws_on given port place start now new before text more out k s at len long has
 
 -- ---- all goes out
 
-pub sent-front : (xs ys : List Sent) → drop (length xs) (xs ++ ys) ≡ ys
-sent-front [] ys = refl
-sent-front (x ∷ xs) ys = sent-front xs ys
+pub sent-prefix : (xs ys : List Sent) → drop (length xs) (xs ++ ys) ≡ ys
+sent-prefix [] ys = refl
+sent-prefix (x ∷ xs) ys = sent-prefix xs ys
 
 pub capture-append : (es more : List Entry) → capture_text (es ++ more) ≡ capture_text es ++ flat_map record_text more
 capture-append es more = ap (λ text. header_text ++ text) (flat_map-append record_text es more) ∙ sym (append_assoc header_text (flat_map record_text es) (flat_map record_text more))
@@ -176,7 +176,7 @@ goes_out {Z} parts reaches t given h k start now p place old new at le place_sta
       ap (λ (o : Option PortRow). drop (slice_index start.run.handed place) (sent_in start.run o)) row_start
       ∙ ap (λ n. drop n (sent_in start.run (Some p))) out.count
       ∙ ap (drop (length first)) sent_start
-      ∙ sent-front first rest.0
+      ∙ sent-prefix first rest.0
 
   none_now : left_at now.run (Some place) ≡ []
   none_now = ap (left_at now.run) (sym place_now) ∙ none_left now.run (place_of now.run p.id) none

@@ -23,7 +23,7 @@ use Rattle.afdx_session.proofs.Joining.{AllFrom}
 use Rattle.afdx_session.proofs.Numbered.{all_append}
 use Rattle.afdx_session.proofs.Gathering.{splits_early}
 use Rattle.afdx_session.proofs.Growing.{HaveReached, have_reached, reached_on, frontier_above, all_ended, no_frontier, AllEnded, further_of}
-use Rattle.afdx_session.proofs.Settling.{all_front, all_back, by_stamp_in, by_stamp_out, arrived, all_arrived, rises_back}
+use Rattle.afdx_session.proofs.Settling.{all_prefix, all_back, by_stamp_in, by_stamp_out, arrived, all_arrived, rises_back}
 use Rattle.afdx_session.proofs.Readings.{first_rises, streams_with, one_reads, reads_settle}
 
 abbrev pub Early : Arrival → Type 0
@@ -103,8 +103,8 @@ reached_early h (s ∷ streams) reached ends some = elim (cases_Bool s.closed) [
 ]
 
 -- so the frontier is no later than the last instant
-pub front_early : (streams : List Stream) (h : ℕ) → EarlyEnds streams → frontier streams ≡ Some h → h < last_second
-front_early streams h ends is =
+pub prefix_early : (streams : List Stream) (h : ℕ) → EarlyEnds streams → frontier streams ≡ Some h → h < last_second
+prefix_early streams h ends is =
     reached_early h streams (have_reached streams h is) ends (λ all. none (sym is ∙ no_frontier streams all)) where
       none : Some h ≡ None → ⊥
       none e = absurd cc
@@ -113,7 +113,7 @@ front_early streams h ends is =
 pub come_grows : (streams later : List Stream) → EarlyEnds streams → GoOn streams later → come_to (frontier streams) ≤ come_to (frontier later)
 come_grows streams later ends on = by_old (frontier streams) refl where
   by_new : (h : ℕ) (k : Option ℕ) → frontier streams ≡ Some h → frontier later ≡ k → h ≤ come_to k
-  by_new h None is next = let lt = front_early streams h ends is in omega (arith, lt)
+  by_new h None is next = let lt = prefix_early streams h ends is in omega (arith, lt)
   by_new h (Some k) is next = frontier_above h k later (reached_on h streams later (have_reached streams h is) on) next
 
   ended_on : (ss ns : List Stream) → AllEnded ss → GoOn ss ns → AllEnded ns
@@ -182,7 +182,7 @@ wait_from n (s ∷ streams) (t ∷ later) (w ∷ waiting) (v ∷ more) wait some
       | inl closed ↦ subst At (sym (wait.0.on.ended closed).0) tt
       | inr still_open ↦ entries_from n (last_of s) wait.0.on.more (reached.0 still_open) (further_of s t wait.0.on)
     ] in
-    let was : At w.records = arrived_from n w.port w.records (all_front (λ (a : Arrival). n ≤ a.frame.stamp) (arrived w.port w.records) (arrivals_of waiting) all) in
+    let was : At w.records = arrived_from n w.port w.records (all_prefix (λ (a : Arrival). n ≤ a.frame.stamp) (arrived w.port w.records) (arrivals_of waiting) all) in
     let here : At v.records = subst At (sym wait.0.queue) (all_append (λ (r : Entry). n ≤ r.stamp) w.records wait.0.on.more was came) in
     all_append (λ (a : Arrival). n ≤ a.frame.stamp) (arrived v.port v.records) (arrivals_of more)
     (all_arrived (λ (a : Arrival). n ≤ a.frame.stamp) v.port v.records here)
@@ -194,16 +194,16 @@ reached-less h k (s ∷ streams) le all = ((λ (o : s.closed ≡ false). let at 
 
 -- whoever is not past the frontier was reached by all open captures
 not_past : (n : ℕ) (streams : List Stream) → n ≤ come_to (frontier streams) → HaveReached n streams
-not_past n streams le = by_front (frontier streams) refl where
+not_past n streams le = by_prefix (frontier streams) refl where
   closed_all : (ss : List Stream) → AllEnded ss → HaveReached n ss
   closed_all [] all = tt
   closed_all (s ∷ ss) all = ((λ (o : s.closed ≡ false). absurd (differ s.closed all.0 o)), closed_all ss all.1) where
     differ : (b : Bool) → b ≡ true → b ≡ false → ⊥
     differ b one other = absurd cc
 
-  by_front : (h : Option ℕ) → frontier streams ≡ h → HaveReached n streams
-  by_front None is = closed_all streams (all_ended streams is)
-  by_front (Some h) is = let same = ap come_to is in reached-less n h streams (omega (arith, le, same)) (have_reached streams h is)
+  by_prefix : (h : Option ℕ) → frontier streams ≡ h → HaveReached n streams
+  by_prefix None is = closed_all streams (all_ended streams is)
+  by_prefix (Some h) is = let same = ap come_to is in reached-less n h streams (omega (arith, le, same)) (have_reached streams h is)
 
 pub get-set : {X : Type 0} (xs : List X) (k j : ℕ) (old new x : X) → slice_get xs k ≡ Some old → slice_get (set xs k new) j ≡ Some x → ((j ≡ k) × (x ≡ new)) ⊎ (slice_get xs j ≡ Some x)
 get-set [] k j old new x at is = absurd cc

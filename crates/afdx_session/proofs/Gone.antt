@@ -24,7 +24,7 @@ use Rattle.afdx_session.specs.Inner.Lanes.{waiting_of}
 use Rattle.afdx_pcap.specs.Reading.{HasTaken}
 use Rattle.afdx_session.specs.Inner.Kept.{IsLaneOf, AreLanesOf, AreOfTable, come_to, text_up_to, IsOut, AreOut, Every, IsGoing, HasCome, IsRunning, IsTouched, IsGrown, AreGrown}
 use Rattle.afdx_session.proofs.Joining.{AllFrom}
-use Rattle.afdx_session.proofs.Settling.{all_front, all_back}
+use Rattle.afdx_session.proofs.Settling.{all_prefix, all_back}
 use Rattle.afdx_session.proofs.Later.{same_sent, same_bytes}
 use Rattle.afdx_session.proofs.Handing.{its_place}
 use Rattle.afdx_session.proofs.Drawing.{goes_out}
@@ -280,18 +280,18 @@ text_is {Z} stay reaches ends t lanes s counts run place p l of is_port is_lane 
   early = subst (AllByRecursion Early) whole (lanes_early lanes going.streams going.lanes_are)
 
   shown : (h : Option ℕ) → frontier going.streams ≡ h → output_so_far t going.streams p ≡ map (written going.given) (sent_up_to t going.given (Some going.since) p)
-  shown (Some h) front =
-      ap (λ f. map (written (merged_so_far going.streams)) (sent_up_to t (merged_so_far going.streams) f p)) front
+  shown (Some h) prefix =
+      ap (λ f. map (written (merged_so_far going.streams)) (sent_up_to t (merged_so_far going.streams) f p)) prefix
       ∙ ap (λ xs. map (written xs) (sent_up_to t xs (Some h) p)) whole
-      ∙ ap (map (written (going.given ++ waiting))) (same_sent stay reaches t going.given waiting h p (subst (λ f. AllFrom (come_to f) waiting) front later))
+      ∙ ap (map (written (going.given ++ waiting))) (same_sent stay reaches t going.given waiting h p (subst (λ f. AllFrom (come_to f) waiting) prefix later))
       ∙ same_bytes t going.given waiting (Some h) p
-      ∙ ap (λ n. map (written going.given) (sent_up_to t going.given (Some n) p)) (sym (since ∙ ap come_to front))
-  shown None front =
-      let none : waiting ≡ [] = none_late waiting (subst (λ f. AllFrom (come_to f) waiting) front later) (all_back Early going.given waiting early) in
-      ap (λ f. map (written (merged_so_far going.streams)) (sent_up_to t (merged_so_far going.streams) f p)) front
+      ∙ ap (λ n. map (written going.given) (sent_up_to t going.given (Some n) p)) (sym (since ∙ ap come_to prefix))
+  shown None prefix =
+      let none : waiting ≡ [] = none_late waiting (subst (λ f. AllFrom (come_to f) waiting) prefix later) (all_back Early going.given waiting early) in
+      ap (λ f. map (written (merged_so_far going.streams)) (sent_up_to t (merged_so_far going.streams) f p)) prefix
       ∙ ap (λ xs. map (written xs) (sent_up_to t xs None p)) (whole ∙ ap (λ xs. going.given ++ xs) none ∙ append-nil going.given)
-      ∙ ap (map (written going.given)) (sym (ends t going.given p of.formed (within t.ports place p is_port) (all_front Early going.given waiting early)))
-      ∙ ap (λ n. map (written going.given) (sent_up_to t going.given (Some n) p)) (sym (since ∙ ap come_to front))
+      ∙ ap (map (written going.given)) (sym (ends t going.given p of.formed (within t.ports place p is_port) (all_prefix Early going.given waiting early)))
+      ∙ ap (λ n. map (written going.given) (sent_up_to t going.given (Some n) p)) (sym (since ∙ ap come_to prefix))
 
 -- ---- the loop over the lanes
 

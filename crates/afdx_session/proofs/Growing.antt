@@ -405,9 +405,9 @@ output_of_all t captures p =
     ap (λ (cs : List Capture). map (written (merged cs)) (sent_up_to t (merged cs) (frontier (map whole_of captures)) p)) (captures_same captures)
     ∙ ap (λ h. map (written (merged captures)) (sent_up_to t (merged captures) h p)) (no_frontier (map whole_of captures) (ended_all captures))
 
-pub front_of_output : EarlierEventsStayAdmitted → ReachesInOrder → EventsAreInParts → (t : Content) (streams : List Stream) (captures : List Capture) (p : PortRow)
+pub prefix_of_output : EarlierEventsStayAdmitted → ReachesInOrder → EventsAreInParts → (t : Content) (streams : List Stream) (captures : List Capture) (p : PortRow)
     → GoOn streams (map whole_of captures)
     → (rest : List ℕ) × (output_text t (merged captures) p ≡ text_so_far t streams p ++ rest)
-front_of_output stay reaches parts t streams captures p on =
+prefix_of_output stay reaches parts t streams captures p on =
     let more = text_grows stay reaches parts t streams (map whole_of captures) p on in
     (more.0, ap capture_text (sym (output_of_all t captures p)) ∙ more.1)

@@ -57,16 +57,16 @@ still_of_table t old new ports of = record { formed = of.formed; ports = ports �
 made : ℕ → List ℕ → Bool → ℕ → Intake
 made port bytes closed taken = record { port = port; bytes = bytes; closed = closed; taken = taken }
 
-abbrev front_bytes : Reading → ℕ → List ℕ
-front_bytes r undone = take (length r.bytes - undone) r.bytes
+abbrev prefix_bytes : Reading → ℕ → List ℕ
+prefix_bytes r undone = take (length r.bytes - undone) r.bytes
 
-same_intake : {Z : Type 0} (a b : Lane Z) → b.port ≡ a.port → front_bytes b.reader b.undone ≡ front_bytes a.reader a.undone → b.closed ≡ a.closed → b.taken ≡ a.taken → intake_of b ≡ intake_of a
+same_intake : {Z : Type 0} (a b : Lane Z) → b.port ≡ a.port → prefix_bytes b.reader b.undone ≡ prefix_bytes a.reader a.undone → b.closed ≡ a.closed → b.taken ≡ a.taken → intake_of b ≡ intake_of a
 unfolding made
 same_intake a b port bytes closed taken = rw (port, bytes, closed, taken) refl
 
 pub half_of : {Z : Type 0} (a b : Lane Z) → IsTouched a b → IsHalfDone a b
 half_of a b touched = record {
-  intake = same_intake a b touched.port (ap (λ r. front_bytes r b.undone) touched.reader ∙ ap (front_bytes a.reader) touched.undone) touched.closed touched.taken;
+  intake = same_intake a b touched.port (ap (λ r. prefix_bytes r b.undone) touched.reader ∙ ap (prefix_bytes a.reader) touched.undone) touched.closed touched.taken;
   ready = touched.ready;
   more = touched.more;
   out = touched.out;
@@ -103,7 +103,7 @@ half_touched (l ∷ a) (m ∷ b) [] half touched = absurd touched
 half_touched (l ∷ a) (m ∷ b) (n ∷ c) half touched = (half_both l m n half.0 (half_of m n touched.0), half_touched a b c half.1 touched.1)
 
 -- a lane that took a piece, as long as the call has not answered Ok
-pub still_half : {Z : Type 0} (a b : Lane Z) → IsStill a b → front_bytes b.reader b.undone ≡ front_bytes a.reader a.undone → IsHalfDone a b
+pub still_half : {Z : Type 0} (a b : Lane Z) → IsStill a b → prefix_bytes b.reader b.undone ≡ prefix_bytes a.reader a.undone → IsHalfDone a b
 still_half a b still bytes = record {
   intake = same_intake a b still.port bytes still.closed still.taken;
   ready = still.ready;
@@ -120,7 +120,7 @@ all_bytes bytes n none = ap (λ m. take m bytes) (all_of (length bytes) n none) 
   whole [] = refl
   whole (x ∷ xs) = ap (λ ys. x ∷ ys) (whole xs)
 
--- the front is what there was before the piece
+-- the prefix is what there was before the piece
 pub fed_half : {Z : Type 0} (a b : Lane Z) → IsStill a b → a.undone ≡ 0 → take (length b.reader.bytes - b.undone) b.reader.bytes ≡ a.reader.bytes → IsHalfDone a b
 fed_half a b still none bytes = still_half a b still (bytes ∙ sym (all_bytes a.reader.bytes a.undone none))
 

@@ -23,8 +23,8 @@ use Rattle.afdx_session.specs.Streams.{Stream, AreWhole, whole_of, text_so_far, 
 use Rattle.afdx_session.specs.Session.{Intake, Seen, fresh_intake, AreStreams, HasGoneOut, taken_in, intake_at, taken_of, refusal_at, refusal, changed, fed, ended, took, after_take, IsFedOn, AreFedOn}
 use Rattle.afdx_session.specs.Finish.{text_in, texts_in, rest_of}
 use Rattle.afdx_session.specs.Inner.Pieces.{GoesOnTo, CallsGoOn, WasTaken, NothingWasTaken, TakenStays, TakesJoin, IsContinued, bytes_in, capture_at, TakenIsAPrefix, TakesAndRestAreTheOutput}
-use Rattle.afdx_session.proofs.Growing.{front_of_output}
-use Rattle.afdx_session.proofs.WholeRecords.{RecordsStay, RecordsAreUnique, holds_front, go_on, grows_with_bytes, streams_unique}
+use Rattle.afdx_session.proofs.Growing.{prefix_of_output}
+use Rattle.afdx_session.proofs.WholeRecords.{RecordsStay, RecordsAreUnique, holds_prefix, go_on, grows_with_bytes, streams_unique}
 use Rattle.afdx_session.proofs.Going.{some_same}
 use Rattle.afdx_session.proofs.Fresh.{fresh_stream, no_record}
 
@@ -135,7 +135,7 @@ nothing_was_taken accepted t port p row = record {
   text = [];
   gone = record { streams = map fresh_stream t.ports; are = fresh_streams t.ports; text_is = refl };
   rest = [];
-  front = refl;
+  prefix = refl;
 }
 
 -- ---- what has gone out later
@@ -167,9 +167,9 @@ found_later port (j ∷ intakes) (n ∷ later) i on found = by (j.port == port) 
       let next = more (sym (ap (λ b. cond b (Some j) (find (is_of port) intakes)) other) ∙ found) in
       (next.0, ap (λ b. cond b (Some n) (find (is_of port) later)) (ap (λ k. k == port) on.0.port ∙ other) ∙ next.1)
 
--- a prefix of a front
-front_on : (whole text taken rest more : List ℕ) → whole ≡ text ++ more → text ≡ taken ++ rest → whole ≡ taken ++ (rest ++ more)
-front_on whole text taken rest more is front = is ∙ ap (λ xs. xs ++ more) front ∙ append_assoc taken rest more
+-- a prefix of a prefix
+prefix_on : (whole text taken rest more : List ℕ) → whole ≡ text ++ more → text ≡ taken ++ rest → whole ≡ taken ++ (rest ++ more)
+prefix_on whole text taken rest more is prefix = is ∙ ap (λ xs. xs ++ more) prefix ∙ append_assoc taken rest more
 
 pub taken_stays : EarlierEventsStayAdmitted → ReachesInOrder → EventsAreInParts → RecordsStay → RecordsAreUnique → TakenStays
 taken_stays stay reaches parts records unique v later port p taken text on same row gone_out was =
@@ -186,14 +186,14 @@ taken_stays stay reaches parts records unique v later port p taken text on same 
       text = text;
       gone = gone_out;
       rest = was.rest ++ more.0;
-      front = front_on text was.text taken was.rest more.0 more.1 was.front;
+      prefix = prefix_on text was.text taken was.rest more.0 more.1 was.prefix;
     }
 
 -- ---- a take
 
-drop_front : (xs ys : List ℕ) → drop (length xs) (xs ++ ys) ≡ ys
-drop_front [] ys = refl
-drop_front (x ∷ xs) ys = drop_front xs ys
+drop_prefix : (xs ys : List ℕ) → drop (length xs) (xs ++ ys) ≡ ys
+drop_prefix [] ys = refl
+drop_prefix (x ∷ xs) ys = drop_prefix xs ys
 
 took_streams : (port n : ℕ) (intakes : List Intake) (streams : List Stream) → AreStreams intakes streams → AreStreams (changed port (took n) intakes) streams
 took_streams port n [] streams are = are
@@ -229,13 +229,13 @@ takes_join records unique v port p taken text row gone_out was = (joined, all) w
       ∙ ap (λ ss. gone v.table ss p v.begun) (streams_unique records unique v.intakes gone_out.streams was.gone.streams gone_out.are was.gone.are)
       ∙ ap (λ q. gone v.table was.gone.streams q v.begun) (some_same p was.row (sym row ∙ was.row_is))
       ∙ sym was.gone.text_is
-      ∙ was.front
+      ∙ was.prefix
 
   joined : taken ++ drop (taken_of v port) text ≡ text
   joined =
       ap (λ n. taken ++ drop n text) (ap taken_in was.intake_is ∙ was.count)
       ∙ ap (λ xs. taken ++ drop (length taken) xs) whole
-      ∙ ap (λ ys. taken ++ ys) (drop_front taken was.rest)
+      ∙ ap (λ ys. taken ++ ys) (drop_prefix taken was.rest)
       ∙ sym whole
 
   all : WasTaken (after_take v port (length text)) port text
@@ -248,7 +248,7 @@ takes_join records unique v port p taken text row gone_out was = (joined, all) w
     text = text;
     gone = record { streams = gone_out.streams; are = took_streams port (length text) v.intakes gone_out.streams gone_out.are; text_is = gone_out.text_is };
     rest = [];
-    front = sym (append-nil text);
+    prefix = sym (append-nil text);
   }
 
 -- ---- whole captures
@@ -264,8 +264,8 @@ whole_capture : RecordsAreUnique → (bytes : List ℕ) (rs : List Entry) → Is
 whole_capture unique bytes rs held = record {
   first = first rs held;
   none_left = λ r next.
-      let front = holds_front bytes next.0 (r ∷ []) next.1 next.2 in
-      let same : next.0 ≡ rs = unique bytes front.0 [] next.0 rs front.1 held next.3 in
+      let prefix = holds_prefix bytes next.0 (r ∷ []) next.1 next.2 in
+      let same : next.0 ≡ rs = unique bytes prefix.0 [] next.0 rs prefix.1 held next.3 in
       let format = format_same (header_of bytes) next.2.format held.format next.2.header held.header in
       all_gone held.format 0 (drop 24 bytes) rs r next.1 held.records
       (subst (λ xs. Splits held.format 0 (drop 24 bytes) (xs ++ r ∷ []) next.1) same (subst (λ f. Splits f 0 (drop 24 bytes) (next.0 ++ r ∷ []) next.1) format next.2.records));
@@ -313,8 +313,8 @@ found_output f (q ∷ ports) port p found = by (q.id == port) refl (found_output
       ap (λ b. cond b (Some (q.id, f q)) (find (is_text_of port) texts)) other
       ∙ more (sym (ap (λ b. cond b (Some q) (find (is_row_of port) ports)) other) ∙ found)
 
-pub taken_is_a_front : EarlierEventsStayAdmitted → ReachesInOrder → EventsAreInParts → RecordsStay → RecordsAreUnique → TakenIsAPrefix
-taken_is_a_front stay reaches parts records unique v port taken texts results was continued outcome = (was.rest ++ whole.0, at ∙ front_on out was.text taken was.rest whole.0 whole.1 was.front) where
+pub taken_is_a_prefix : EarlierEventsStayAdmitted → ReachesInOrder → EventsAreInParts → RecordsStay → RecordsAreUnique → TakenIsAPrefix
+taken_is_a_prefix stay reaches parts records unique v port taken texts results was continued outcome = (was.rest ++ whole.0, at ∙ prefix_on out was.text taken was.rest whole.0 whole.1 was.prefix) where
   out : List ℕ
   out = output_text v.table (merged outcome.read) was.row
 
@@ -331,7 +331,7 @@ taken_is_a_front stay reaches parts records unique v port taken texts results wa
   by : (b : Bool) → v.begun ≡ b → (rest : List ℕ) × (out ≡ was.text ++ rest)
   by false none = (out, ap (λ xs. xs ++ out) (sym (was.gone.text_is ∙ ap (gone v.table was.gone.streams was.row) none)))
   by true some =
-      let more = front_of_output stay reaches parts v.table was.gone.streams outcome.read was.row on in
+      let more = prefix_of_output stay reaches parts v.table was.gone.streams outcome.read was.row on in
       (more.0, more.1 ∙ ap (λ xs. xs ++ more.0) (sym (was.gone.text_is ∙ ap (gone v.table was.gone.streams was.row) some)))
 
   whole : (rest : List ℕ) × (out ≡ was.text ++ rest)
@@ -367,11 +367,11 @@ rest_at v port (text ∷ texts) = by (text.0 == port) refl (rest_at v port texts
 
 pub takes_and_rest : EarlierEventsStayAdmitted → ReachesInOrder → EventsAreInParts → RecordsStay → RecordsAreUnique → TakesAndRestAreTheOutput
 takes_and_rest stay reaches parts records unique v port taken results end was =
-    let front = taken_is_a_front stay reaches parts records unique v port taken (texts_in v) end.whole was (all_continued v.intakes) end.outcome in
+    let prefix = taken_is_a_prefix stay reaches parts records unique v port taken (texts_in v) end.whole was (all_continued v.intakes) end.outcome in
     let whole = capture_at port end.whole.captures in
     ap (λ xs. taken ++ capture_at port xs) end.captures
     ∙ ap (λ xs. taken ++ xs) (rest_at v port end.whole.captures)
     ∙ ap (λ n. taken ++ drop n whole) (ap taken_in was.intake_is ∙ was.count)
-    ∙ ap (λ xs. taken ++ drop (length taken) xs) front.1
-    ∙ ap (λ xs. taken ++ xs) (drop_front taken front.0)
-    ∙ sym front.1
+    ∙ ap (λ xs. taken ++ drop (length taken) xs) prefix.1
+    ∙ ap (λ xs. taken ++ xs) (drop_prefix taken prefix.0)
+    ∙ sym prefix.1

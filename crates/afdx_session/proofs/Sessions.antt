@@ -264,7 +264,7 @@ answers_take {Z} m next begun failed v port place old new bytes view kept is at 
       out,
       record { streams = kept.shown.streams; are = kept.shown.are; text_is = refl },
       subst (λ n. n ≤ length out) (sym count) shown.taken,
-      gives ∙ shown.front
+      gives ∙ shown.prefix
           ∙ ap (λ n. drop n out) (sym count),
       after,
     )) where

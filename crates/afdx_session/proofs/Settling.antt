@@ -1,4 +1,4 @@
--- The settled front of the program's merge stays.
+-- The settled prefix of the program's merge stays.
 use Rattle.std.proofs.Common.{◌≡◌, ℕ, ◌<◌, ◌≤◌, ◌==◌, nat_le, Bool, true, false, cond, List, [], ◌∷◌, ◌++◌, map, filter, refl, ap, sym, ◌∙◌, arith, inl, inr, subst, append_assoc}
 use Rattle.std.specs.Prelude.{◌⊎◌}
 use Rattle.std.specs.List.{AllByRecursion}
@@ -17,9 +17,9 @@ use Rattle.afdx_session.proofs.Growing.{further_of, last_grows}
 
 -- ---- what holds of all
 
-pub all_front : {X : Type 0} (P : X → Type 0) (xs ys : List X) → AllByRecursion P (xs ++ ys) → AllByRecursion P xs
-all_front P [] ys all = tt
-all_front P (x ∷ xs) ys all = (all.0, all_front P xs ys all.1)
+pub all_prefix : {X : Type 0} (P : X → Type 0) (xs ys : List X) → AllByRecursion P (xs ++ ys) → AllByRecursion P xs
+all_prefix P [] ys all = tt
+all_prefix P (x ∷ xs) ys all = (all.0, all_prefix P xs ys all.1)
 
 pub all_back : {X : Type 0} (P : X → Type 0) (xs ys : List X) → AllByRecursion P (xs ++ ys) → AllByRecursion P ys
 all_back P [] ys all = all
@@ -55,9 +55,9 @@ by_stamp_out P (a ∷ xs) all = let both = placed_out P a (by_stamp xs) all in (
 
 -- ---- lists by stamp and port number
 
-sorted_front : (xs ys : List Arrival) → AreByStampAndPort (xs ++ ys) → AreByStampAndPort xs
-sorted_front [] ys sorted = tt
-sorted_front (x ∷ xs) ys sorted = (all_front (λ b. Precedes x b) xs ys sorted.0, sorted_front xs ys sorted.1)
+sorted_prefix : (xs ys : List Arrival) → AreByStampAndPort (xs ++ ys) → AreByStampAndPort xs
+sorted_prefix [] ys sorted = tt
+sorted_prefix (x ∷ xs) ys sorted = (all_prefix (λ b. Precedes x b) xs ys sorted.0, sorted_prefix xs ys sorted.1)
 
 sorted_cross : (xs ys : List Arrival) → AreByStampAndPort (xs ++ ys) → AllByRecursion (λ a. AllByRecursion (λ b. Precedes a b) ys) xs
 sorted_cross [] ys sorted = tt
@@ -124,9 +124,9 @@ rises_at (c ∷ cs) ascend rise q = by_port (c.port == q) refl (rises_at cs asce
 
 -- ---- captures that go on
 
-pub rises_front : (rs more : List Entry) → Rises (rs ++ more) → Rises rs
-rises_front [] more rises = tt
-rises_front (r ∷ rs) more rises = (all_front (λ (q : Entry). r.stamp ≤ q.stamp) rs more rises.0, rises_front rs more rises.1)
+pub rises_prefix : (rs more : List Entry) → Rises (rs ++ more) → Rises rs
+rises_prefix [] more rises = tt
+rises_prefix (r ∷ rs) more rises = (all_prefix (λ (q : Entry). r.stamp ≤ q.stamp) rs more rises.0, rises_prefix rs more rises.1)
 
 pub rises_back : (rs more : List Entry) → Rises (rs ++ more) → Rises more
 rises_back [] more rises = rises
@@ -159,14 +159,14 @@ shape (s ∷ streams) (n ∷ later) (w ∷ waiting) (v ∷ more) wait queued =
     let rest : n.records ≡ own.gone ++ v.records =
     here.on.records ∙ ap (λ rs. rs ++ here.on.more) own.records ∙ append_assoc own.gone w.records here.on.more ∙ ap (λ rs. own.gone ++ rs) (sym here.queue) in
     let rises : Rises (s.records ++ here.on.more) = subst Rises here.on.records here.on.in_order in
-    let front : Rises s.records = rises_front s.records here.on.more rises in
+    let prefix : Rises s.records = rises_prefix s.records here.on.more rises in
     record {
       later_ports = ap (λ p. p ∷ ports_of (captures_of later)) here.on.port ∙ ap (λ ps. s.port ∷ ps) tail.later_ports;
       waiting_ports = ap (λ p. p ∷ ports_of waiting) own.port ∙ ap (λ ps. s.port ∷ ps) tail.waiting_ports;
       more_ports = ap (λ p. p ∷ ports_of more) here.port ∙ ap (λ ps. s.port ∷ ps) tail.more_ports;
-      rise = (front, tail.rise);
+      rise = (prefix, tail.rise);
       later_rise = (here.on.in_order, tail.later_rise);
-      waiting_rise = (rises_back own.gone w.records (subst Rises own.records front), tail.waiting_rise);
+      waiting_rise = (rises_back own.gone w.records (subst Rises own.records prefix), tail.waiting_rise);
       more_rise = (rises_back own.gone v.records (subst Rises rest here.on.in_order), tail.more_rise);
       more_queued = (record { port = here.port ∙ sym here.on.port; gone = own.gone; records = rest }, tail.more_queued);
       go_on = (here.on, tail.go_on);
@@ -252,7 +252,7 @@ cross_more a (s ∷ streams) (n ∷ later) (w ∷ waiting) (v ∷ more) wait que
     let P : Arrival → Type 0 = λ b. Precedes a b in
     let old : AllByRecursion (λ (r : Entry). P (record { port = s.port; frame = r })) w.records =
     subst (λ port. AllByRecursion (λ (r : Entry). P (record { port = port; frame = r })) w.records) queued.0.port
-    (back_of_arrived P w.port w.records (all_front P (arrived w.port w.records) (arrivals_of waiting) all)) in
+    (back_of_arrived P w.port w.records (all_prefix P (arrived w.port w.records) (arrivals_of waiting) all)) in
     let both = all_append (λ (r : Entry). P (record { port = s.port; frame = r })) w.records wait.0.on.more old (more_precedes a s n wait.0.on settled.0) in
     let own : AllByRecursion (λ (r : Entry). P (record { port = v.port; frame = r })) v.records =
     subst (λ port. AllByRecursion (λ (r : Entry). P (record { port = port; frame = r })) v.records) (sym wait.0.port)
@@ -299,7 +299,7 @@ settled_stays merge sorted streams later given waiting more ascend wait old = re
   queued = s.more_queued;
   whole = merge_is_unique (merged_so_far later) (given ++ merged more)
       (sorted (captures_of later) (numbers_rise (captures_of later) later_ascend))
-      (sorted_join given (merged more) (sorted_front given (merged waiting) whole_sorted) (sorted more (numbers_rise more more_ascend)) cross)
+      (sorted_join given (merged more) (sorted_prefix given (merged waiting) whole_sorted) (sorted more (numbers_rise more more_ascend)) cross)
       parts;
   settled = all_weaken (IsSettled streams) (IsSettled later) given (λ a. still_settled a streams later s.go_on) old.settled;
 } where

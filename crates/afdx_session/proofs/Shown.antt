@@ -1,4 +1,4 @@
--- What has gone out and was not taken is the front of each lane's output.
+-- What has gone out and was not taken is the prefix of each lane's output.
 use Rattle.std.proofs.Common.{◌≡◌, ℕ, zero, suc, ◌+◌, ◌≤◌, Bool, true, false, List, [], ◌∷◌, ◌++◌, map, length, take, drop, slice_get, Some, refl, ap, sym, ◌∙◌, arith, subst}
 use Rattle.std.specs.List.{AllByRecursion}
 use Rattle.std.proofs.lemmas.List.{length-append}
@@ -64,7 +64,7 @@ shown_ready stay reaches ends m of ready = record {
       let is_ready : l.ready ≡ length l.out.items = marked.ready in
       record {
         taken = subst (λ text. l.taken ≤ length text) (sym same) out.taken;
-        front = ap (λ n. take n l.out.items) is_ready ∙ take_whole l.out.items ∙ out.left ∙ ap (drop l.taken) (sym same);
+        prefix = ap (λ n. take n l.out.items) is_ready ∙ take_whole l.out.items ∙ out.left ∙ ap (drop l.taken) (sym same);
         ready = omega (arith, is_ready);
         bound = omega (arith, is_ready, long, cut, bound);
       };
@@ -100,7 +100,7 @@ half_shown text l n half shown =
     let same_ready = half.ready in
     record {
       taken = subst (λ m. m ≤ length text) (sym taken) shown.taken;
-      front = ap (λ m. take m n.out.items) half.ready ∙ ap (take l.ready) half.out ∙ take-within l.ready l.out.items half.more shown.ready ∙ shown.front ∙ ap (λ m. drop m text) (sym taken);
+      prefix = ap (λ m. take m n.out.items) half.ready ∙ ap (take l.ready) half.out ∙ take-within l.ready l.out.items half.more shown.ready ∙ shown.prefix ∙ ap (λ m. drop m text) (sym taken);
       ready = omega (arith, long, ready, same_ready);
       bound = omega (arith, taken, same_ready, bound);
     }

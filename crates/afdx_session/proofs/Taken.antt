@@ -34,7 +34,7 @@ drop_all xs n is = sym (drop_of_length-le xs (omega (arith, is)))
 -- all of the text is taken
 pub all_taken : {Z : Type 0} (text : List ℕ) (l : Lane Z) → IsShownAt text l → l.taken + l.ready ≡ length text
 all_taken text l shown =
-    let here = ap length shown.front in
+    let here = ap length shown.prefix in
     let long = length-take-within l.ready l.out.items shown.ready in
     let cut = length-drop-within l.taken text shown.taken in
     omega (arith, here, long, cut)
@@ -54,7 +54,7 @@ shown_taken text old new taken shown =
     let bound = shown.bound in
     record {
       taken = omega (arith, all, n);
-      front = ap (λ m. take m new.out.items) taken.ready ∙ drop_all text new.taken (n ∙ all);
+      prefix = ap (λ m. take m new.out.items) taken.ready ∙ drop_all text new.taken (n ∙ all);
       ready = omega (arith, none);
       bound = omega (arith, n, none, bound);
     }

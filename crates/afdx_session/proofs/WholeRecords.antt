@@ -1,4 +1,4 @@
--- The whole records at the front of some bytes, and where more bytes come.
+-- The whole records at the start of some bytes, and where more bytes come.
 use Rattle.std.proofs.Common.{◌≡◌, ℕ, zero, suc, ◌<◌, ◌≤◌, true, List, [], ◌∷◌, ◌++◌, length, drop, refl, ap, sym, ◌∙◌, arith, inl, inr, subst, append_assoc}
 use Rattle.std.proofs.lemmas.List.{append-nil, length-append}
 use Rattle.std.proofs.lemmas.Bool.{cases_lt}
@@ -24,30 +24,30 @@ RecordsStay = (bytes more rest : List ℕ) (rs : List Entry) → Holds bytes rs 
 abbrev pub RecordsAreUnique : Type 0
 RecordsAreUnique = (bytes rest others : List ℕ) (rs qs : List Entry) → Holds bytes rs rest → Holds bytes qs others → length rs ≡ length qs → rs ≡ qs
 
--- ---- fronts
+-- ---- prefixes
 
-splits_front : (f : Format) (last : ℕ) (bytes : List ℕ) (xs ys : List Entry) (rest : List ℕ) → Splits f last bytes (xs ++ ys) rest → (mid : List ℕ) × Splits f last bytes xs mid
-splits_front f last bytes [] ys rest splits = (bytes, refl)
-splits_front f last bytes (x ∷ xs) ys rest splits = let more = splits_front f x.stamp (after x bytes) xs ys rest splits.1 in (more.0, (splits.0, more.1))
+splits_prefix : (f : Format) (last : ℕ) (bytes : List ℕ) (xs ys : List Entry) (rest : List ℕ) → Splits f last bytes (xs ++ ys) rest → (mid : List ℕ) × Splits f last bytes xs mid
+splits_prefix f last bytes [] ys rest splits = (bytes, refl)
+splits_prefix f last bytes (x ∷ xs) ys rest splits = let more = splits_prefix f x.stamp (after x bytes) xs ys rest splits.1 in (more.0, (splits.0, more.1))
 
-pub holds_front : (bytes : List ℕ) (xs ys : List Entry) (rest : List ℕ) → Holds bytes (xs ++ ys) rest → (mid : List ℕ) × Holds bytes xs mid
-holds_front bytes xs ys rest holds =
-    let front = splits_front holds.format 0 (drop 24 bytes) xs ys rest holds.records in
-    (front.0, record { format = holds.format; header = holds.header; records = front.1 })
+pub holds_prefix : (bytes : List ℕ) (xs ys : List Entry) (rest : List ℕ) → Holds bytes (xs ++ ys) rest → (mid : List ℕ) × Holds bytes xs mid
+holds_prefix bytes xs ys rest holds =
+    let prefix = splits_prefix holds.format 0 (drop 24 bytes) xs ys rest holds.records in
+    (prefix.0, record { format = holds.format; header = holds.header; records = prefix.1 })
 
 -- a list is so many elements and others
 pub record IsCutAt {X : Type 0} (n : ℕ) (xs : List X) : Type 0 where
-  front : List X
+  prefix : List X
   back : List X
-  both : xs ≡ front ++ back
-  long : length front ≡ n
+  both : xs ≡ prefix ++ back
+  long : length prefix ≡ n
 
 cut_at : {X : Type 0} (n : ℕ) (xs : List X) → n ≤ length xs → IsCutAt n xs
-cut_at zero xs le = record { front = []; back = xs; both = refl; long = refl }
+cut_at zero xs le = record { prefix = []; back = xs; both = refl; long = refl }
 cut_at (suc n) [] le = absurd (omega (arith, le))
 cut_at (suc n) (x ∷ xs) le =
     let c = cut_at n xs (omega (arith, le)) in
-    record { front = x ∷ c.front; back = c.back; both = ap (λ ys. x ∷ ys) c.both; long = ap suc c.long }
+    record { prefix = x ∷ c.prefix; back = c.back; both = ap (λ ys. x ∷ ys) c.both; long = ap suc c.long }
 
 first_holds : (bytes : List ℕ) (rs : List Entry) (n : ℕ) → n < length rs → AreFirst bytes rs → (rest : List ℕ) × Holds bytes rs rest
 first_holds bytes [] n lt first = absurd (omega (arith, lt))
@@ -62,15 +62,15 @@ no_more bytes rs n first none = elim (cases_lt n (length rs)) [
       let c = cut_at n rs (omega (arith, lt)) in
       absurd (by_back c lt held c.back c.both)
 ] where
-  by_back : (c : IsCutAt n rs) → n < length rs → (rest : List ℕ) × Holds bytes rs rest → (back : List Entry) → rs ≡ c.front ++ back → ⊥
+  by_back : (c : IsCutAt n rs) → n < length rs → (rest : List ℕ) × Holds bytes rs rest → (back : List Entry) → rs ≡ c.prefix ++ back → ⊥
   by_back c lt held [] both =
-      let long : length rs ≡ length c.front = ap length (both ∙ append-nil c.front) in
+      let long : length rs ≡ length c.prefix = ap length (both ∙ append-nil c.prefix) in
       let same = c.long in
       omega (arith, lt, long, same)
   by_back c lt held (r ∷ back) both =
-      let whole : Holds bytes ((c.front ++ r ∷ []) ++ back) held.0 = subst (λ xs. Holds bytes xs held.0) (both ∙ sym (append_assoc c.front (r ∷ []) back)) held.1 in
-      let front = holds_front bytes (c.front ++ r ∷ []) back held.0 whole in
-      none r (c.front, front.0, front.1, c.long)
+      let whole : Holds bytes ((c.prefix ++ r ∷ []) ++ back) held.0 = subst (λ xs. Holds bytes xs held.0) (both ∙ sym (append_assoc c.prefix (r ∷ []) back)) held.1 in
+      let prefix = holds_prefix bytes (c.prefix ++ r ∷ []) back held.0 whole in
+      none r (c.prefix, prefix.0, prefix.1, c.long)
 
 -- more bytes leave the whole records so far, and may add others
 pub whole_on : RecordsStay → RecordsAreUnique → (bytes more : List ℕ) (rs qs : List Entry) → AreWhole bytes rs → AreWhole (bytes ++ more) qs → (added : List Entry) × (qs ≡ rs ++ added)
@@ -80,8 +80,8 @@ whole_on stay unique bytes more (r ∷ rs) qs was is =
     let le : length (r ∷ rs) ≤ length qs = no_more (bytes ++ more) (r ∷ rs) (length qs) (was.first.0 ++ more, held) is.none_left in
     let c = cut_at (length (r ∷ rs)) qs le in
     let whole = first_holds (bytes ++ more) qs (length rs) (omega (arith, le)) is.first in
-    let front = holds_front (bytes ++ more) c.front c.back whole.0 (subst (λ xs. Holds (bytes ++ more) xs whole.0) c.both whole.1) in
-    let same : c.front ≡ r ∷ rs = unique (bytes ++ more) front.0 (was.first.0 ++ more) c.front (r ∷ rs) front.1 held c.long in
+    let prefix = holds_prefix (bytes ++ more) c.prefix c.back whole.0 (subst (λ xs. Holds (bytes ++ more) xs whole.0) c.both whole.1) in
+    let same : c.prefix ≡ r ∷ rs = unique (bytes ++ more) prefix.0 (was.first.0 ++ more) c.prefix (r ∷ rs) prefix.1 held c.long in
     (c.back, c.both ∙ ap (λ xs. xs ++ c.back) same)
 
 pub whole_rises : (bytes : List ℕ) (rs : List Entry) → AreWhole bytes rs → Rises rs

@@ -31,7 +31,7 @@ use Rattle.afdx_session.specs.Inner.Lent.{IsOver, texts_over, HaveGone}
 use Rattle.afdx_session.specs.Inner.Kept.{AreLanesOf, text_up_to, IsOut, IsGoing}
 use Rattle.afdx_session.specs.Carried.{Rest, IsLeft, IsCarried}
 use Rattle.afdx_session.proofs.Draining.{none_left}
-use Rattle.afdx_session.proofs.Drawing.{sent-front, capture-append, same_handed}
+use Rattle.afdx_session.proofs.Drawing.{sent-prefix, capture-append, same_handed}
 use Rattle.afdx_session.proofs.Ending.{TakenAreTheCapture, lane_capture}
 use Rattle.afdx_session.proofs.Going.{some_same}
 use Rattle.afdx_session.proofs.Growing.{sent_later}
@@ -105,7 +105,7 @@ writes t arrivals n p old new text before out left is_port is_text texts counts 
   sym (append-nil out)
       ∙ ap (λ more. out ++ flat_map record_text (map (written arrivals) more)) (sym none_now)
       ∙ sym drawn.rest
-      ∙ ap (λ front. front ++ flat_map record_text (map (written arrivals) (left_at old.state.run (Some n)))) before_is
+      ∙ ap (λ prefix. prefix ++ flat_map record_text (map (written arrivals) (left_at old.state.run (Some n)))) before_is
       ∙ left.rest n p text (omega arith) is_port is_text,
 ) where
   id : p.id ≡ text.0
@@ -191,7 +191,7 @@ rest_of_port {Z} parts reaches given since s p place l rows is_port taken out =
           ap (λ (o : Option PortRow). drop (slice_index s.run.handed place) (sent_in (after_finish s.run) o)) is_port
           ∙ ap (λ n. drop n (sent_in (after_finish s.run) (Some p))) out.count
           ∙ ap (drop (length first)) (sent_in_the_end given s.run p rows ∙ rest.1)
-          ∙ sent-front first rest.0
+          ∙ sent-prefix first rest.0
 
 -- what is left of a machine whose switch took all records of these captures
 pub carried : {Z : Type 0} → EventsAreInParts → ReachesInOrder → TakenAreTheCapture → EndCountsTheRun → (t : Content) (texts : List Text) (m : Machine Z) (r : Rest) → AreOfPorts t texts

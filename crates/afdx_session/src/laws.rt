@@ -114,7 +114,7 @@ pub fn output_grows_with_bytes()
 }
 
 /// However captures come in pieces, and whenever output is taken: the takes of a port, one after the other, are a
-/// front of the output of a run over the whole captures, and with what the end gives they are that output.
+/// prefix of the output of a run over the whole captures, and with what the end gives they are that output.
 pub fn takes_join_to_the_output()
     ensures calls { CallsGoOn }
     ensures none { NothingWasTaken }

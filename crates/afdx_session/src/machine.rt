@@ -6,7 +6,7 @@ ghost use Rattle.afdx_table.specs.WellFormed.{IsWellFormed};
 ghost use Rattle.afdx_load.specs.Accepted.{IsAccepted};
 ghost use Rattle.afdx_session.specs.Outcome.{table_in, is_cleared};
 ghost use Rattle.afdx_core.specs.Handling.{Handling};
-ghost use Rattle.afdx_core.specs.Held.{told, IsTaken, Keeps};
+ghost use Rattle.afdx_core.specs.Held.{reported, IsTaken, Keeps};
 ghost use Rattle.afdx_core.specs.Rows.{row_of};
 ghost use Rattle.afdx_core.specs.State.{refusal_of, fresh_state, after_finish};
 ghost use Rattle.afdx_count.specs.Tally.{noted, fresh, ended};
@@ -55,7 +55,7 @@ pub(crate) struct Machine<'a, A: Allocator> {
 
 /// The fault that an arrival is refused for where its port is the table's and its stamp does not go back.
 fn out_of_memory(fault: CoreFault) -> AllocError
-    requires { told fault ≡ None }
+    requires { reported fault ≡ None }
 {
     match fault {
         CoreFault::Memory => AllocError,

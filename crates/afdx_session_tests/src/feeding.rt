@@ -28,22 +28,26 @@ pub(crate) fn open(alloc: Global, setting: Setting<'_>) -> Result<Session<Global
 
 /// What goes out of each port, by rising number, and the report.
 #[derive(Drop)]
-pub(crate) struct Told {
+pub(crate) struct Reported {
     pub(crate) captures: Vec<(u8, Vec<u8>)>,
     report: String,
 }
 
-fn tell(alloc: Global, outcome: Outcome<Global>) -> Result<Told, AllocError> {
+fn tell(alloc: Global, outcome: Outcome<Global>) -> Result<Reported, AllocError> {
     let report = outcome.counts.report(alloc)?;
     let Outcome { captures, .. } = outcome;
-    Ok(Told { captures, report })
+    Ok(Reported { captures, report })
 }
 
 /// What a run over the whole captures of the ports from 1 on tells.
-pub(crate) fn whole(alloc: Global, setting: Setting<'_>, texts: &[&[u8]]) -> Result<Told, Fail> {
+pub(crate) fn whole(
+    alloc: Global,
+    setting: Setting<'_>,
+    texts: &[&[u8]],
+) -> Result<Reported, Fail> {
     let outcome = outcome_of(alloc, plan(alloc, setting)?, texts)?;
-    let told = tell(alloc, outcome)?;
-    Ok(told)
+    let reported = tell(alloc, outcome)?;
+    Ok(reported)
 }
 
 /// The next bytes of a port's capture.
@@ -69,7 +73,7 @@ pub(crate) fn finish(
 }
 
 /// What the end of a session tells, where it has an outcome.
-pub(crate) fn rest(alloc: Global, session: Session<Global>) -> Option<Told> {
+pub(crate) fn rest(alloc: Global, session: Session<Global>) -> Option<Reported> {
     match finish(session) {
         Ok(outcome) => tell(alloc, outcome).ok(),
         Err(_) => None,
@@ -211,7 +215,7 @@ fn is_joined(taken: &[u8], rest: &[u8], text: &[u8]) -> bool {
 }
 
 /// Whether what was taken of each port, and then what the end tells, is what the whole run tells.
-pub(crate) fn agree(intakes: &[Intake<'_>], rest: &Told, whole: &Told) -> bool {
+pub(crate) fn agree(intakes: &[Intake<'_>], rest: &Reported, whole: &Reported) -> bool {
     if rest.captures.len() != intakes.len() || whole.captures.len() != intakes.len() {
         return false;
     }

@@ -1,7 +1,7 @@
 //! Captures that come in pieces, in any order of ports, beside a run over the whole captures.
 
 use crate::feeding::{
-    Setting, Told, agree, feed_all, feed_at, intakes, open, rest, take_at, whole,
+    Reported, Setting, agree, feed_all, feed_at, intakes, open, rest, take_at, whole,
 };
 use afdx_samples::{
     FRAME, HEADER, Link, Port, Sample, capture, double, frame, joined, large, link, mixed, narrow,
@@ -17,7 +17,7 @@ fn lead(
     texts: &[&[u8]],
     places: &[usize],
     size: usize,
-    whole: &Told,
+    whole: &Reported,
 ) -> Result<bool, Fail> {
     let mut intakes = intakes(alloc, texts)?;
     let mut session = open(alloc, setting)?;

@@ -37,9 +37,9 @@ fn counts_as(
     rest: &Carried<'_, Global>,
     whole: &Outcome<Global>,
 ) -> Result<bool, AllocError> {
-    let told = rest.counts().report(alloc)?;
+    let reported = rest.counts().report(alloc)?;
     let report = whole.counts.report(alloc)?;
-    Ok(told.as_str() == report.as_str())
+    Ok(reported.as_str() == report.as_str())
 }
 
 /// Whether a run whose outputs are written one at a time, those from a place on, has the same outputs and counts as one that

@@ -8,7 +8,7 @@ use afdx_session::{Outcome, RunFault, Session};
 use std::alloc::{AllocError, Global};
 use std::test::*;
 
-/// A call, and what it answers. A text is told by its place among those of the test.
+/// A call, and what it answers. A text is named by its place among those of the test.
 #[derive(Clone, Copy)]
 enum Call {
     Feed(u8, usize, Result<(), RunFault>),

@@ -28,10 +28,4 @@ pub(crate) const MAX_LATENCY: u64 = 100;
 /// In microseconds.
 pub(crate) const MAX_JITTER: u64 = 10_000;
 
-/// The least size of a frame, in bytes (IEEE 802.3).
-pub(crate) const MIN_SIZE: u64 = 64;
-
-/// The greatest size of a frame, in bytes (IEEE 802.3).
-pub(crate) const MAX_SIZE: u64 = 1518;
-
 pub(crate) const NANOS_PER_MICROSECOND: u64 = 1000;

@@ -9,11 +9,11 @@ ghost use Rattle.afdx_table.specs.Links.{has_link, targets, link_keys, police_fr
 
 use crate::fault::{At, Key, TableFault};
 use crate::fields::Fields;
-use crate::limits::{MAX_JITTER, MAX_LINK_ID, MAX_PORT_ID, MAX_SIZE, MIN_SIZE};
+use crate::limits::{MAX_JITTER, MAX_LINK_ID, MAX_PORT_ID};
 use crate::link_map::Links;
 use crate::ports::has_port;
 use crate::rows::{LinkRow, PortRow, bag_from_ms, nanos, police_from_text, priority_from_text};
-use afdx_units::Police;
+use afdx_units::{GREATEST_SIZE, LEAST_SIZE, Police};
 use std::alloc::Global;
 use toml::Table;
 
@@ -86,7 +86,11 @@ fn read_row(alloc: Global, version: u64, fields: &Fields<'_>) -> Result<LinkRow,
     let bag_ms = fields.number(Key::Bag)?;
     let bag = bag_from_ms(bag_ms).ok_or(TableFault::Range(fields.at, Key::Bag))?;
     let jitter_us = fields.bounded(Key::Jitter, 0, MAX_JITTER)?;
-    let max_size = fields.bounded(Key::MaxSize, MIN_SIZE, MAX_SIZE)? as u32;
+    let max_size = fields.bounded(
+        Key::MaxSize,
+        u64::from(LEAST_SIZE),
+        u64::from(GREATEST_SIZE),
+    )? as u32;
     let text = fields.text(Key::Priority)?;
     let priority = priority_from_text(text).ok_or(TableFault::Range(fields.at, Key::Priority))?;
     let police = police_from(fields.at, fields.optional_text(Key::Police)?)?;

@@ -109,23 +109,23 @@ one_sent port s all (sending y ∷ events) x sent aged number start text longer 
 }
 
 -- what the lists tell of the events
-told : (port : ℕ) (s : Settings) (all : List Event) (sent : List Sent) (aged : List Aged) (number : ℕ) (start text : List ℕ) (l : Left port s all sent aged number start text)
+reported : (port : ℕ) (s : Settings) (all : List Event) (sent : List Sent) (aged : List Aged) (number : ℕ) (start text : List ℕ) (l : Left port s all sent aged number start text)
     → ages_next sent aged ≡ starts_aged l.events
-told port s all sent aged number start text l = sym (ap (λ (xs : List Sent). ages_next xs aged) l.sent_is) ∙ sym (ap (ages_next (sent_of l.events)) l.aged_is) ∙ tells_next l.events l.order
+reported port s all sent aged number start text l = sym (ap (λ (xs : List Sent). ages_next xs aged) l.sent_is) ∙ sym (ap (ages_next (sent_of l.events)) l.aged_is) ∙ tells_next l.events l.order
 
 pub left_aged : (port : ℕ) (s : Settings) (sent₀ sent : List Sent) (aged₀ before_aged : List Aged) (a : Aged) (aged : List Aged) (number : ℕ) (start text longer : List ℕ)
     → ages_next sent before_aged ≡ true → before_aged ≡ a ∷ aged
     → longer ≡ text ++ aged_line port s a → LeftOf port s sent₀ aged₀ sent before_aged number start text → LeftOf port s sent₀ aged₀ sent aged number start longer
 left_aged port s sent₀ sent aged₀ before_aged a aged number start text longer next parts is before all order sent_is aged_is =
     let l = before all order sent_is aged_is in
-    one_aged port s all l.events sent a aged number start text longer (sym (told port s all sent before_aged number start text l) ∙ next) l.order l.sent_is (l.aged_is ∙ parts) l.text_is is
+    one_aged port s all l.events sent a aged number start text longer (sym (reported port s all sent before_aged number start text l) ∙ next) l.order l.sent_is (l.aged_is ∙ parts) l.text_is is
 
 pub left_sent : (port : ℕ) (s : Settings) (sent₀ before_sent : List Sent) (x : Sent) (sent : List Sent) (aged₀ aged : List Aged) (number : ℕ) (start text longer : List ℕ)
     → ages_next before_sent aged ≡ false → before_sent ≡ x ∷ sent
     → longer ≡ text ++ sent_line port s (number + 1) x → LeftOf port s sent₀ aged₀ before_sent aged number start text → LeftOf port s sent₀ aged₀ sent aged (number + 1) start longer
 left_sent port s sent₀ before_sent x sent aged₀ aged number start text longer next parts is before all order sent_is aged_is =
     let l = before all order sent_is aged_is in
-    one_sent port s all l.events x sent aged number start text longer (sym (told port s all before_sent aged number start text l) ∙ next) l.order (l.sent_is ∙ parts) l.aged_is l.text_is is
+    one_sent port s all l.events x sent aged number start text longer (sym (reported port s all before_sent aged number start text l) ∙ next) l.order (l.sent_is ∙ parts) l.aged_is l.text_is is
 
 -- no event is left
 none_sent : (sent : List Sent) → length sent ≡ 0 → sent ≡ []
@@ -141,9 +141,9 @@ none_left port s [] number no_sent no_aged = refl
 none_left port s (sending x ∷ events) number no_sent no_aged = absurd (let none : length (x ∷ sent_of events) ≡ 0 = ap length no_sent in omega (arith, none))
 none_left port s (aging a ∷ events) number no_sent no_aged = absurd (let none : length (a ∷ aged_of events) ≡ 0 = ap length no_aged in omega (arith, none))
 
-pub all_told : (port : ℕ) (s : Settings) (sent₀ sent : List Sent) (aged₀ aged : List Aged) (number : ℕ) (start text : List ℕ) → length sent ≡ 0 → length aged ≡ 0
+pub all_reported : (port : ℕ) (s : Settings) (sent₀ sent : List Sent) (aged₀ aged : List Aged) (number : ℕ) (start text : List ℕ) → length sent ≡ 0 → length aged ≡ 0
     → LeftOf port s sent₀ aged₀ sent aged number start text
     → (events : List Event) → AreInOrder events → sent_of events ≡ sent₀ → aged_of events ≡ aged₀ → text ≡ start ++ event_lines port s 0 events
-all_told port s sent₀ sent aged₀ aged number start text no_sent no_aged before events order sent_is aged_is =
+all_reported port s sent₀ sent aged₀ aged number start text no_sent no_aged before events order sent_is aged_is =
     let l = before events order sent_is aged_is in
     sym (l.text_is ∙ ap (λ (t : List ℕ). text ++ t) (none_left port s l.events number (l.sent_is ∙ none_sent sent no_sent) (l.aged_is ∙ none_aged aged no_aged)) ∙ append-nil text)

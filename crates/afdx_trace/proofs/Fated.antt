@@ -1,4 +1,4 @@
--- What is told of one arrival, and of one after the other.
+-- What is reported of one arrival, and of one after the other.
 use Rattle.std.proofs.Common.{◌≡◌, ℕ, suc, ◌+◌, ◌<◌, ◌≤◌, Bool, cond, List, [], ◌∷◌, ◌++◌, length, map, take, drop, get_or, codes, decimal, Option, Some, None, sym, ap, ◌∙◌}
 use Rattle.std.proofs.Common.{subst, arith, append_assoc, append-nil, add-one}
 use Rattle.std.proofs.Math.ListN.{drop_of_length-le}
@@ -73,15 +73,15 @@ pub comes_next : (rows : List Row) (n : ℕ) (x : Row) (latest : ℕ) → n < le
     → (latest ≤ x.stamp) × InOrder x.stamp (map frame_of (drop (n + 1) rows))
 comes_next rows n x latest lt is order = subst (λ (rest : List Row). InOrder latest (map frame_of rest)) (drop_next rows n x lt is) order
 
-pub told_next : (f : List Row → Row → List ℕ) (rows : List Row) (n : ℕ) (x : Row) (whole text longer : List ℕ) → n < length rows → x ≡ get_or rows n x
+pub reported_next : (f : List Row → Row → List ℕ) (rows : List Row) (n : ℕ) (x : Row) (whole text longer : List ℕ) → n < length rows → x ≡ get_or rows n x
     → whole ≡ text ++ each_after f (take n rows) (drop n rows) → longer ≡ text ++ f (take n rows) x
     → whole ≡ longer ++ each_after f (take (n + 1) rows) (drop (n + 1) rows)
-told_next f rows n x whole text longer lt is before grown =
+reported_next f rows n x whole text longer lt is before grown =
     before ∙ ap (λ (rest : List Row). text ++ each_after f (take n rows) rest) (drop_next rows n x lt is)
     ∙ sym (append_assoc text (f (take n rows) x) (each_after f (take n rows ++ x ∷ []) (drop (n + 1) rows)))
     ∙ ap (λ (t : List ℕ). t ++ each_after f (take n rows ++ x ∷ []) (drop (n + 1) rows)) (sym grown)
-    ∙ ap (λ (told : List Row). longer ++ each_after f told (drop (n + 1) rows)) (sym (take_next rows n x lt is))
+    ∙ ap (λ (reported : List Row). longer ++ each_after f reported (drop (n + 1) rows)) (sym (take_next rows n x lt is))
 
-pub told_all : (f : List Row → Row → List ℕ) (rows : List Row) (n : ℕ) (whole text : List ℕ) → length rows ≤ n
+pub reported_all : (f : List Row → Row → List ℕ) (rows : List Row) (n : ℕ) (whole text : List ℕ) → length rows ≤ n
     → whole ≡ text ++ each_after f (take n rows) (drop n rows) → text ≡ whole
-told_all f rows n whole text le before = sym (before ∙ ap (λ (rest : List Row). text ++ each_after f (take n rows) rest) (drop_of_length-le rows le) ∙ append-nil text)
+reported_all f rows n whole text le before = sym (before ∙ ap (λ (rest : List Row). text ++ each_after f (take n rows) rest) (drop_of_length-le rows le) ∙ append-nil text)

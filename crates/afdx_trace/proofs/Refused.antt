@@ -217,9 +217,9 @@ module _ (one : EachHasOneEvent) (r : Run) (ends : r.finished ≡ true) (before 
 
   refuses : (port : ℕ) → leads_to port l ≡ true → not (took r port (length before)) ≡ is_full (answer_at port)
   refuses port leads = by (port_row r.table port) refl where
-    told : (b : Bool) → not b ≡ is_full (cond b Queued Full)
-    told true = refl
-    told false = refl
+    reported : (b : Bool) → not b ≡ is_full (cond b Queued Full)
+    reported true = refl
+    reported false = refl
 
     by : (o : Option PortRow) → port_row r.table port ≡ o → not (took r port (length before)) ≡ is_full (answer_of (run_before r before) (item_of l before row) o)
     by None none = ap (λ (o : Option PortRow). not (list_any (λ (x : Sent). x.item.number == length before) (sent_in r o) || list_any (λ (x : Aged). x.item.number == length before) (aged_in r o)))
@@ -227,7 +227,7 @@ module _ (one : EachHasOneEvent) (r : Run) (ends : r.finished ≡ true) (before 
     by (Some p) row_is =
         ap not (took_admitted one r port p (length before) ends row_is
         ∙ at_port p (ap (λ (n : ℕ). leads_to n l) (found_id r.table.ports port p row_is) ∙ leads))
-        ∙ told (fits (settings_of r.table.latency p) (admitted (settings_of r.table.latency p) (feed_of r.table p.id before)) (item_of l before row))
+        ∙ reported (fits (settings_of r.table.latency p) (admitted (settings_of r.table.latency p) (feed_of r.table p.id before)) (item_of l before row))
 
   -- ---- all ports of the link
 

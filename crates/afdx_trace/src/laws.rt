@@ -10,7 +10,7 @@ pub fn events_are_in_order()
     ensures { EventsAreInOrder }
 {}
 
-/// Once all is carried out, the ports that are told to have refused a copy are those that answered `Full` to it: whose
+/// Once all is carried out, the ports that are reported to have refused a copy are those that answered `Full` to it: whose
 /// buffer had no room for it.
 pub fn full_is_exact()
     ensures { FullIsExact }

@@ -7,8 +7,8 @@
 mod arrival_lines;
 mod departure_lines;
 mod fields;
-pub mod laws;
 mod flags;
+pub mod laws;
 mod teller;
 
 pub use arrival_lines::arrivals;

@@ -161,7 +161,7 @@ impl<A: Allocator + Copy> Teller<A> {
         requires stand { AccountsStand done.now.run.table.links before.now row.now.stamp self.old.accounts.items }
         requires taken { AreTaken done.now.run self.old.taken.items }
         requires within { length before.now < length done.now.run.rows }
-        ensures fields { IfOk result (λ told. told.0.now ∷ optional told.1 ∷ joined (codes ";") (map decimal told.2.items) ∷ []
+        ensures fields { IfOk result (λ reported. reported.0.now ∷ optional reported.1 ∷ joined (codes ";") (map decimal reported.2.items) ∷ []
             ≡ fate_fields done.now.run before.now row.now) }
         ensures stand { AccountsStand done.now.run.table.links (before.now ++ row.now ∷ []) row.now.stamp self.new.accounts.items }
         ensures records { self.new.records ≡ self.old.records }

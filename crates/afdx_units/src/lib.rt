@@ -9,7 +9,7 @@ mod police;
 mod stamp;
 
 pub use bag::Bag;
-pub use line::{Priority, Speed, cost, size};
+pub use line::{GREATEST_SIZE, LEAST_SIZE, Priority, Speed, cost, size};
 pub use police::Police;
 pub use stamp::Stamp;
 

@@ -3,6 +3,12 @@
 ghost use Rattle.std.specs.Prelude.{◌≡◌, ◌≤◌};
 ghost use Rattle.afdx_units.specs.Line.{size_of, tick_of, cost_of};
 
+/// The least size of a frame, in bytes (IEEE 802.3).
+pub const LEAST_SIZE: u32 = 64;
+
+/// The greatest size of a frame, in bytes (IEEE 802.3).
+pub const GREATEST_SIZE: u32 = 1518;
+
 /// Bytes of the frame check sequence, which a capture leaves out (profile).
 const CHECK_SEQUENCE: u32 = 4;
 

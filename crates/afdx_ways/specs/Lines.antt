@@ -1,4 +1,4 @@
--- The lines that are told of a network (profile). Each ends with a line feed.
+-- The lines that are reported of a network (profile). Each ends with a line feed.
 use Rattle.std.specs.Prelude.{ℕ, ◌-◌, ◌==◌, Bool, true, codes, max, if◌then◌else◌, List, [], ◌∷◌, ◌++◌, length, flat_map, fold, find, slice_get, Option, unwrap_or}
 use Rattle.std.specs.Fmt.{decimal}
 use Rattle.std.specs.Option.{option_map_or}
@@ -51,7 +51,7 @@ greatest_of ways = find (λ w. w.delays.most == longest ways) ways
 abbrev pub greatest_text : Names → Way → List ℕ
 greatest_text names w = codes "greatest " ++ decimal w.delays.most ++ codes " link " ++ decimal w.link ++ codes " to " ++ end_text names (last_end w)
 
--- what is told of an accepted network of these ways
+-- what is reported of an accepted network of these ways
 abbrev pub accepted_text : Names → List Way → List ℕ
 accepted_text names ways =
     flat_map (λ name. ended (codes "switch " ++ name ++ codes " accepted")) names ++ flat_map (λ w. ended (way_text names w)) ways

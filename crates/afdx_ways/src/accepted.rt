@@ -1,4 +1,4 @@
-//! What is told of an accepted network.
+//! What is reported of an accepted network.
 
 ghost use Rattle.std.specs.Prelude.{◌≡◌, ◌++◌, codes, map, flat_map, option_copied, string_bytes, IfOk, OnOk};
 ghost use Rattle.afdx_ways.specs.Lines.{ended, last_end, numbers_text, way_text, longest, greatest_of, greatest_text, accepted_text};
@@ -96,7 +96,7 @@ fn put_greatest(text: &mut String, names: &[String], way: &Way) -> Result<(), Al
     text.push_str("\n")
 }
 
-/// What is told of an accepted network, of switches of these names and of these ways: a line for each switch, one for each
+/// What is reported of an accepted network, of switches of these names and of these ways: a line for each switch, one for each
 /// way, the first way that may take as long as any, where there is one, and that the network is accepted.
 ///
 /// An error says that a growth was refused. O(text).

@@ -97,19 +97,19 @@ joins net at w h =
 
 -- ---- rows
 
-told : (a : Bag) → bag_of (bag_ms a) ≡ Some a
+reported : (a : Bag) → bag_of (bag_ms a) ≡ Some a
 unfolding bag_of
-told Ms1 = refl
-told Ms2 = refl
-told Ms4 = refl
-told Ms8 = refl
-told Ms16 = refl
-told Ms32 = refl
-told Ms64 = refl
-told Ms128 = refl
+reported Ms1 = refl
+reported Ms2 = refl
+reported Ms4 = refl
+reported Ms8 = refl
+reported Ms16 = refl
+reported Ms32 = refl
+reported Ms64 = refl
+reported Ms128 = refl
 
 bags : (a b : Bag) → bag_ms a ≡ bag_ms b → a ≡ b
-bags a b h = some_same (sym (told a) ∙ ap bag_of h ∙ told b)
+bags a b h = some_same (sym (reported a) ∙ ap bag_of h ∙ reported b)
 
 polices : (a b : Police) → same_police a b ≡ true → a ≡ b
 polices Byte Byte h = refl
@@ -181,7 +181,7 @@ behind number port term there w l leads n p t =
       police = same.police;
     }
 
--- one rule kept on a wire, told of the rows of its first table
+-- one rule kept on a wire, reported of the rows of its first table
 on_wire : (what : Shared) (at : At) (w : Wire) (h t : Option Content) (here there : Content) → h ≡ Some here → t ≡ Some there → all_go_on what at w h t ≡ Ok tt
     → AllByRecursion (λ l. goes_on what at there w l ≡ Ok tt) here.links
 on_wire what at w (Some a) (Some b) here there h_is t_is kept =

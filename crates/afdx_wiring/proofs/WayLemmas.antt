@@ -142,7 +142,7 @@ zip_push R (z ∷ xs) (v ∷ ys) x y all one = (all.0, zip_push R xs ys x y all.
 pub way_more : (net : Network) (exits : List Exit) (i : ℕ) (d : Exit) (ways : List Way) (w : Way) → i < length exits → AllZip (IsWayOut net) (take i exits) ways
     → IsWayOut net (get_or exits i d) w → AllZip (IsWayOut net) (take (i + 1) exits) (ways ++ w ∷ [])
 way_more net exits i d ways w within all one =
-    subst (λ (front : List Exit). AllZip (IsWayOut net) front (ways ++ w ∷ [])) (sym (take_more exits i d within)) (zip_push (IsWayOut net) (take i exits) ways (get_or exits i d) w all one)
+    subst (λ (prefix : List Exit). AllZip (IsWayOut net) prefix (ways ++ w ∷ [])) (sym (take_more exits i d within)) (zip_push (IsWayOut net) (take i exits) ways (get_or exits i d) w all one)
 
 pub if_ok : {X E : Type 0} (P Q : X → Type 0) (r : Result X E) → ((x : X) → P x → Q x) → IfOk r P → IfOk r Q
 if_ok P Q (Ok x) further h = further x h

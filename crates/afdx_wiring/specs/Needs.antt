@@ -31,11 +31,11 @@ needed start None = 1000000000
 needed true (Some far) = far.0 / 1000
 needed false (Some far) = need_of far.1 far.0
 
-abbrev pub told : Row → (need : ℕ) → RowNeed
-told r need = record { switch = r.switch; link = r.link.id; has = r.link.jitter; need = need }
+abbrev pub reported : Row → (need : ℕ) → RowNeed
+reported r need = record { switch = r.switch; link = r.link.id; has = r.link.jitter; need = need }
 
 abbrev pub need_in : (start : Bool) → Network → Row → RowNeed
-need_in start net r = told r (needed start (way_within most_rows net r at_once))
+need_in start net r = reported r (needed start (way_within most_rows net r at_once))
 
 -- a table has a jitter of at most 10,000 microseconds
 abbrev pub is_past : RowNeed → Bool

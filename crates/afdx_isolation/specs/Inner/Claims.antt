@@ -82,7 +82,7 @@ pub record IsIsolatedSoFar (flows : List Flow) (arrivals : List Item) (c : Conte
   pub none_aged : aged_of (done c) ≡ []
   pub of_flows : All (λ (x : Sent). IsOfAFlow flows x.item) (sent_of (done c))
   pub in_bound : All (IsInBound c.settings (load_of c.settings flows)) (sent_of (done c))
-  pub front : PrefixLeaves flows arrivals c
+  pub prefix : PrefixLeaves flows arrivals c
 
 abbrev pub IsolatesSoFar : Type 0
 IsolatesSoFar = (c : Content) (flows : List Flow) (arrivals : List Item) → Arrive c.settings flows arrivals → Carries c.settings flows

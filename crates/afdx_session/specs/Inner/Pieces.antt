@@ -36,7 +36,7 @@ pub record WasTaken (v : Seen) (port : ℕ) (taken : List ℕ) : Type 0 where
   pub text : List ℕ
   pub gone : HasGoneOut v row text
   pub rest : List ℕ
-  pub front : text ≡ taken ++ rest
+  pub prefix : text ≡ taken ++ rest
 
 -- at first nothing was
 abbrev pub NothingWasTaken : Type 0

@@ -34,7 +34,7 @@ gone_out t begun streams p = if begun then text_so_far t streams p else []
 -- what counts of a lane's output is what has gone out and was not taken
 pub record IsShownAt {Z : Type 0} (text : List ℕ) (l : Lane Z) : Type 0 where
   pub taken : l.taken ≤ length text
-  pub front : take l.ready l.out.items ≡ drop l.taken text
+  pub prefix : take l.ready l.out.items ≡ drop l.taken text
   pub ready : l.ready ≤ length l.out.items
   pub bound : l.taken + l.ready < 2 ^ 128
 

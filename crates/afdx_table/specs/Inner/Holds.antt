@@ -1,4 +1,4 @@
--- A table holds what its text says: each number, word and list is told by the value under its key.
+-- A table holds what its text says: each number, word and list is reported by the value under its key.
 use Rattle.std.specs.Prelude.{◌≡◌, ◌⊎◌, ℕ, pos, codes, true, Bool, ◌*◌, ◌≤◌, List, [], ◌∷◌, Some, None, Ok}
 use Rattle.std.specs.List.{AllZip, count_by}
 use Rattle.hex.specs.Hex.{decode_sized}

@@ -25,7 +25,7 @@ full_ports offers = map (λ o. o.0) (filter (λ o. is_full o.1) offers)
 abbrev pub run_before : Run → List Row → Run
 run_before r before = record { table = r.table; rows = before; latest = r.latest; handed = r.handed; finished = false }
 
--- once all is carried out, the ports that are told to have refused a copy of an arrival are those that answered Full to it: whose
+-- once all is carried out, the ports that are reported to have refused a copy of an arrival are those that answered Full to it: whose
 -- buffer had no room for it
 abbrev pub FullIsExact : Type 0
 FullIsExact = (r : Run) → r.finished ≡ true → (before after : List Row) (row : Row) → r.rows ≡ before ++ row ∷ after

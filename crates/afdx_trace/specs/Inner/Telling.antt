@@ -1,4 +1,4 @@
--- What is kept of the arrivals before the one that is told, and what is told of it.
+-- What is kept of the arrivals before the one that is reported, and what is reported of it.
 use Rattle.std.specs.Prelude.{◌≡◌, ℕ, ◌<◌, ◌==◌, true, false, List, count_by, slice_index_or, Some}
 use Rattle.afdx_table.specs.Link.{Link}
 use Rattle.afdx_table.specs.Content.{Content}

@@ -1,4 +1,4 @@
-use Rattle.afdx_arguments.proofs.WordLemmas.{of_none}
+use Rattle.afdx_arguments.proofs.ArgumentLemmas.{of_none}
 use Rattle.afdx_arguments.proofs.arguments.alone_of.Goals as goal
 
 pub returns-in_err-id : goal.returns-in_err-id

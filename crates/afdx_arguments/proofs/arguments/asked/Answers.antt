@@ -1,7 +1,7 @@
 use Rattle.std.proofs.Common.{codes, sym}
 use Rattle.std.proofs.lemmas.Slice.Eq.{bytes_eq-Decides}
 use Rattle.clap.specs.Words.{found_of, rows_of, subcommand_rows_of}
-use Rattle.afdx_arguments.proofs.WordLemmas.{no_link, entered, of_none}
+use Rattle.afdx_arguments.proofs.ArgumentLemmas.{no_link, entered, of_none}
 use Rattle.afdx_arguments.proofs.arguments.asked.Goals as goal
 
 pub returns-in_err-link : goal.returns-in_err-link

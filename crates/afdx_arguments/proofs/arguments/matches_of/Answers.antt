@@ -1,4 +1,4 @@
-use Rattle.afdx_arguments.proofs.WordLemmas.{refused}
+use Rattle.afdx_arguments.proofs.ArgumentLemmas.{refused}
 use Rattle.afdx_arguments.proofs.arguments.matches_of.Goals as goal
 
 pub returns-in-Err : goal.returns-in-Err

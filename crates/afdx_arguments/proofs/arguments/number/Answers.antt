@@ -1,6 +1,6 @@
 use Rattle.std.specs.Str.Parse.{ParsesUnsigned, ExplainsUnsignedError, HasUnsignedDigitsIfOk}
 use Rattle.clap.specs.Words.{found_of}
-use Rattle.afdx_arguments.proofs.WordLemmas.{has_number}
+use Rattle.afdx_arguments.proofs.ArgumentLemmas.{has_number}
 use Rattle.afdx_arguments.proofs.arguments.number.Goals as goal
 
 pub returns : goal.returns

@@ -2,8 +2,8 @@ use Rattle.std.proofs.Common.{◌≡◌, ◌<◌, ◌≤◌, ◌==◌, false, le
 use Rattle.std.proofs.lemmas.Bool.Decides.{nat_tests}
 use Rattle.afdx_table.specs.declared.rows.PortRow.{PortRow}
 use Rattle.afdx_core.specs.State.{sent_in}
-use Rattle.afdx_measure.specs.Delays.{delays_of, told}
-use Rattle.afdx_measure.proofs.Gathered.{gathered_here, told_of, passed_on, none_there}
+use Rattle.afdx_measure.specs.Delays.{delays_of, reported}
+use Rattle.afdx_measure.proofs.Gathered.{gathered_here, reported_of, passed_on, none_there}
 use Rattle.afdx_measure.proofs.telling.delays_at.Goals as goal
 
 pub index-requires : goal.index-requires
@@ -21,7 +21,7 @@ returns-then-at-port g c =
     let small : c.args.link < 65536 = omega (arith, c.ranges.link.fits) in
     let yes = c.if-at-port.true in
     let same : c.at-item.result.port ≡ c.args.port = grind (arith, nat_tests) in
-    told_of r r.table.ports c.args.all.now c.loop-at.at-index c.at-item.result c.args.link c.from.result c.args.port c.index.result.now c.loop-at-test.true c.at-item.is place small c.index.ensures
+    reported_of r r.table.ports c.args.all.now c.loop-at.at-index c.at-item.result c.args.link c.from.result c.args.port c.index.result.now c.loop-at-test.true c.at-item.is place small c.index.ensures
     same c.requires
 
 pub loop-at-preserved : goal.loop-at-preserved
@@ -35,5 +35,5 @@ pub returns : goal.returns
 returns g c =
     let r = c.args.done.now.run in
     let past : length c.args.all.now ≤ c.loop-at.at-index = search rules in
-    c.none.ensures ∙ ap (λ (o : Option PortRow). told (delays_of c.args.link (sent_in r o)))
+    c.none.ensures ∙ ap (λ (o : Option PortRow). reported (delays_of c.args.link (sent_in r o)))
     (sym (c.loop-at.invariant ∙ none_there r r.table.ports c.args.all.now c.loop-at.at-index c.args.port past c.requires))

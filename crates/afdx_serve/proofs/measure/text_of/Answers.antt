@@ -8,5 +8,5 @@ tell-requires-clause-ports g c = rw c.deref.ensures.value c.in_ok-plan.ensures.g
 pub returns-clause-led : goal.returns-clause-led
 returns-clause-led g c =
     let of = c.in_ok-plan.ensures.got in
-    let told = rw c.deref.ensures.value at c.tell.ensures in
-    measured c.args.inputs.now (g.F.Folder.files c.args.folder.now) c.in_ok-plan.plan (texts_of c.in_ok-plan.captures.items) _ _ of.0 of.1 c.tell.result told
+    let reported = rw c.deref.ensures.value at c.tell.ensures in
+    measured c.args.inputs.now (g.F.Folder.files c.args.folder.now) c.in_ok-plan.plan (texts_of c.in_ok-plan.captures.items) _ _ of.0 of.1 c.tell.result reported

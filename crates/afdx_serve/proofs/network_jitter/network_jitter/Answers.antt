@@ -4,7 +4,7 @@ use Rattle.afdx_ways.specs.Lines.{jitter_text}
 use Rattle.afdx_serve.specs.declared.failure.Failure.TheVariants.{Write}
 use Rattle.afdx_serve.specs.Networks.{names_of}
 use Rattle.afdx_serve.proofs.RunLemmas.{of_error}
-use Rattle.afdx_serve.proofs.JitterLemmas.{not_got, not_fit, past_told}
+use Rattle.afdx_serve.proofs.JitterLemmas.{not_got, not_fit, past_reported}
 use Rattle.afdx_serve.proofs.network_jitter.network_jitter.Goals as goal
 
 pub returns-in_err-network : goal.returns-in_err-network
@@ -27,12 +27,12 @@ returns-in_err-write_bytes g c =
     let got = c.in_ok-network.ensures in
     let needs = c.in_ok-needs.needs in
     let prefix = rw c.as_bytes.ensures.value at c.in_err-write_bytes.ensures.prefix in
-    let told : string_bytes c.in_ok-text.text ≡ jitter_text (names_of net.layout.switches) needs.rows.items = search rules in
+    let reported : string_bytes c.in_ok-text.text ≡ jitter_text (names_of net.layout.switches) needs.rows.items = search rules in
     of_error _ _ _ Write c.from_residual-in_err-write_bytes.ensures (
       net,
       needs.past,
       string_bytes c.in_ok-text.text,
-      record { rows = needs.rows.items; has_network = got.got.0; fits = c.in_default.ensures.0; needs = c.in_ok-needs.ensures; told = told },
+      record { rows = needs.rows.items; has_network = got.got.0; fits = c.in_default.ensures.0; needs = c.in_ok-needs.ensures; reported = reported },
       prefix,
       (got.same, got.got.1),
     )
@@ -45,11 +45,11 @@ returns-in-Some g c =
     let named : map string_bytes c.in_ok-names.names.items ≡ names_of net.layout.switches = search rules in
     let refused = rw (c.deref-in-Some.ensures.value, named) at c.refused-in-Some.ensures in
     let all = rw c.as_bytes.ensures.value at c.in_ok-write_bytes.ensures.all in
-    let told : string_bytes c.in_ok-text.text ≡ jitter_text (names_of net.layout.switches) needs.rows.items = search rules in
+    let reported : string_bytes c.in_ok-text.text ≡ jitter_text (names_of net.layout.switches) needs.rows.items = search rules in
     let are = rw c.in-Some.is at c.in_ok-needs.ensures in
-    past_told c.args.path.now _ _ net c.in-Some.short (
+    past_reported c.args.path.now _ _ net c.in-Some.short (
       string_bytes c.in_ok-text.text,
-      record { rows = needs.rows.items; has_network = got.got.0; fits = c.in_default.ensures.0; needs = are; told = told },
+      record { rows = needs.rows.items; has_network = got.got.0; fits = c.in_default.ensures.0; needs = are; reported = reported },
       all,
       (got.same, got.got.1),
     )
@@ -61,12 +61,12 @@ returns g c =
     let got = c.in_ok-network.ensures in
     let needs = c.in_ok-needs.needs in
     let all = rw c.as_bytes.ensures.value at c.in_ok-write_bytes.ensures.all in
-    let told : string_bytes c.in_ok-text.text ≡ jitter_text (names_of net.layout.switches) needs.rows.items = search rules in
+    let reported : string_bytes c.in_ok-text.text ≡ jitter_text (names_of net.layout.switches) needs.rows.items = search rules in
     let are = rw c.in-None.is at c.in_ok-needs.ensures in (
       net,
       (
         string_bytes c.in_ok-text.text,
-        record { rows = needs.rows.items; has_network = got.got.0; fits = c.in_default.ensures.0; needs = are; told = told },
+        record { rows = needs.rows.items; has_network = got.got.0; fits = c.in_default.ensures.0; needs = are; reported = reported },
         all,
         (got.same, got.got.1),
       ),

@@ -94,10 +94,10 @@ put_all-requires g c =
     c.in_ok-outcomes.outcomes.items _
     got.got.0 accepted.0 c.network-2.ensures.network accepted.1 got.same given.got.0.0 given.got.0.1 c.in_ok-outcomes.ensures named in
     let out = paths.output.now in
-    let told = map string_bytes c.in_ok-names.names.items in
+    let reported = map string_bytes c.in_ok-names.names.items in
     let left = c.in_ok-outcomes.outcomes.items in
     let by = rw (c.deref-5.ensures.value, c.deref-6.ensures.value) at c.in_ok-files.ensures in
-    let files = files_named out told left c.in_ok-files.files.items led.count by in
+    let files = files_named out reported left c.in_ok-files.files.items led.count by in
     rw (c.deref-9.ensures.value, c.deref-10.ensures.value) files.1
 
 pub returns-in_err-put_all : goal.returns-in_err-put_all
@@ -112,10 +112,10 @@ returns-in_err-put_all g c =
     c.in_ok-outcomes.outcomes.items _
     got.got.0 accepted.0 c.network-2.ensures.network accepted.1 got.same given.got.0.0 given.got.0.1 c.in_ok-outcomes.ensures named in
     let out = paths.output.now in
-    let told = map string_bytes c.in_ok-names.names.items in
+    let reported = map string_bytes c.in_ok-names.names.items in
     let left = c.in_ok-outcomes.outcomes.items in
     let by = rw (c.deref-5.ensures.value, c.deref-6.ensures.value) at c.in_ok-files.ensures in
-    let files = files_named out told left c.in_ok-files.files.items led.count by in
+    let files = files_named out reported left c.in_ok-files.files.items led.count by in
     let names = files.0 ∙ ap (λ (all : Names). names_at out all (captures_of left)) led.named in
     let fails = rw (c.deref-9.ensures.value, c.deref-10.ensures.value) at c.in_err-put_all.ensures in
     of_error _ _ _ c.in_err-put_all.field-0.0 c.from_residual-in_err-put_all.ensures
@@ -133,10 +133,10 @@ returns-in_err-write_bytes g c =
     c.in_ok-outcomes.outcomes.items _
     got.got.0 accepted.0 c.network-2.ensures.network accepted.1 got.same given.got.0.0 given.got.0.1 c.in_ok-outcomes.ensures named in
     let out = paths.output.now in
-    let told = map string_bytes c.in_ok-names.names.items in
+    let reported = map string_bytes c.in_ok-names.names.items in
     let left = c.in_ok-outcomes.outcomes.items in
     let by = rw (c.deref-5.ensures.value, c.deref-6.ensures.value) at c.in_ok-files.ensures in
-    let files = files_named out told left c.in_ok-files.files.items led.count by in
+    let files = files_named out reported left c.in_ok-files.files.items led.count by in
     let names = files.0 ∙ ap (λ (all : Names). names_at out all (captures_of left)) led.named in
     let done = rw (c.deref-9.ensures.value, c.deref-10.ensures.value) at c.in_ok-put_all.ensures in
     let puts = puts_network paths net left _ _ _ _ _ _ _ _ led.leads names refl (KeepsFiles-trans _ _ _ got.same given.same) (given.got.1 ∙ got.got.1) done.0 done.1 None None in
@@ -156,10 +156,10 @@ returns g c =
     c.in_ok-outcomes.outcomes.items _
     got.got.0 accepted.0 c.network-2.ensures.network accepted.1 got.same given.got.0.0 given.got.0.1 c.in_ok-outcomes.ensures named in
     let out = paths.output.now in
-    let told = map string_bytes c.in_ok-names.names.items in
+    let reported = map string_bytes c.in_ok-names.names.items in
     let left = c.in_ok-outcomes.outcomes.items in
     let by = rw (c.deref-5.ensures.value, c.deref-6.ensures.value) at c.in_ok-files.ensures in
-    let files = files_named out told left c.in_ok-files.files.items led.count by in
+    let files = files_named out reported left c.in_ok-files.files.items led.count by in
     let names = files.0 ∙ ap (λ (all : Names). names_at out all (captures_of left)) led.named in
     let done = rw (c.deref-9.ensures.value, c.deref-10.ensures.value) at c.in_ok-put_all.ensures in
     let puts = puts_network paths net left _ _ _ _ _ _ _ _ led.leads names refl (KeepsFiles-trans _ _ _ got.same given.same) (given.got.1 ∙ got.got.1) done.0 done.1 None None in

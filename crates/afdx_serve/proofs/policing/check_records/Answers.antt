@@ -9,9 +9,9 @@ pub returns-in_err-_frame-clause-fault : goal.returns-in_err-_frame-clause-fault
 returns-in_err-_frame-clause-fault g c =
     let i = c.loop-frames.invariant in
     let fault = c.in_err-_frame.field-0.0 in
-    let told : fault ≢ Memory → IsFault c.args.input.now fault = λ other.
+    let reported : fault ≢ Memory → IsFault c.args.input.now fault = λ other.
     subst (λ (bytes : List ℕ). IsFault bytes fault) i.2 ((rw (i.0, i.1) at c.in_err-_frame.ensures.answer) other).1 in
-    let why = wrong_answer c.args.input.now fault told in
+    let why = wrong_answer c.args.input.now fault reported in
     search rules
 
 pub returns-clause-capture : goal.returns-clause-capture

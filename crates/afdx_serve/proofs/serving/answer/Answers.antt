@@ -4,5 +4,5 @@ use Rattle.afdx_serve.proofs.serving.answer.Goals as goal
 
 pub returns-in_err-write_passed : goal.returns-in_err-write_passed
 returns-in_err-write_passed g c =
-    let told = rw c.deref-2.ensures.value at c.in_err-write_passed.ensures in
-    of_error _ _ _ Write c.from_residual-in_err-write_passed.ensures (c.in_ok-bytes.bytes.items, told.0, c.in_ok-bytes.ensures.bytes, told.1, told.2)
+    let reported = rw c.deref-2.ensures.value at c.in_err-write_passed.ensures in
+    of_error _ _ _ Write c.from_residual-in_err-write_passed.ensures (c.in_ok-bytes.bytes.items, reported.0, c.in_ok-bytes.ensures.bytes, reported.1, reported.2)

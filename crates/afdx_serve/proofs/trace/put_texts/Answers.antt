@@ -14,6 +14,6 @@ pub returns : goal.returns
 returns g c =
     let named = ap (λ (n : List ℕ). n ∷ c.deref-2.result.now ∷ []) c.deref.ensures
     ∙ ap (λ (m : List ℕ). string_bytes c.names.inside.arrivals ∷ m ∷ []) c.deref-2.ensures ∙ c.names.view_is in
-    let told = ap (λ (x : List ℕ). x ∷ c.as_bytes-2.result.now ∷ []) c.as_bytes.ensures.value
+    let reported = ap (λ (x : List ℕ). x ∷ c.as_bytes-2.result.now ∷ []) c.as_bytes.ensures.value
     ∙ ap (λ (y : List ℕ). string_bytes c.texts.inside.arrivals ∷ y ∷ []) c.as_bytes-2.ensures.value ∙ c.texts.view_is in
-    second_put c.put-2.result _ _ _ _ _ _ _ _ _ _ _ _ c.in_ok-put.ensures.put.1 named told c.in_ok-put.ensures.put.0 c.put-2.ensures.others c.put-2.ensures.put
+    second_put c.put-2.result _ _ _ _ _ _ _ _ _ _ _ _ c.in_ok-put.ensures.put.1 named reported c.in_ok-put.ensures.put.0 c.put-2.ensures.others c.put-2.ensures.put

@@ -13,5 +13,5 @@ returns-in_err-plan-clause-led g c =
 pub returns-clause-led : goal.returns-clause-led
 returns-clause-led g c =
     let of = rw c.inputs_of.ensures at c.in_ok-plan.ensures.got in
-    let told = rw c.deref.ensures.value at c.tell.ensures in
-    traced c.args.paths.now (g.F.Folder.files c.args.folder.now) c.in_ok-plan.plan (texts_of c.in_ok-plan.captures.items) _ _ of.0 of.1 c.tell.result told
+    let reported = rw c.deref.ensures.value at c.tell.ensures in
+    traced c.args.paths.now (g.F.Folder.files c.args.folder.now) c.in_ok-plan.plan (texts_of c.in_ok-plan.captures.items) _ _ of.0 of.1 c.tell.result reported

@@ -1,4 +1,4 @@
-use Rattle.afdx_session.proofs.Pieces.{calls_go_on, nothing_was_taken, taken_stays, takes_join, taken_is_a_front, takes_and_rest}
+use Rattle.afdx_session.proofs.Pieces.{calls_go_on, nothing_was_taken, taken_stays, takes_join, taken_is_a_prefix, takes_and_rest}
 use Rattle.afdx_session.proofs.laws.takes_join_to_the_output.Goals as goal
 
 pub returns-clause-calls : goal.returns-clause-calls
@@ -17,7 +17,7 @@ returns-clause-joins c = takes_join c.whole_records_stay.ensures.stay c.whole_re
 
 pub returns-clause-prefix : goal.returns-clause-prefix
 returns-clause-prefix c =
-    taken_is_a_front c.arrivals_change_nothing_earlier.ensures.admission c.stamps_keep_their_order.ensures.instants c.events_follow_the_line.ensures.parts c.whole_records_stay.ensures.stay
+    taken_is_a_prefix c.arrivals_change_nothing_earlier.ensures.admission c.stamps_keep_their_order.ensures.instants c.events_follow_the_line.ensures.parts c.whole_records_stay.ensures.stay
     c.whole_records_stay.ensures.unique
 
 pub returns-clause-whole : goal.returns-clause-whole

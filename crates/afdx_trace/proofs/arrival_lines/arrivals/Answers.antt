@@ -3,7 +3,7 @@ use Rattle.afdx_core.specs.declared.step.Row.{Row}
 use Rattle.afdx_core.specs.Rows.{each_after}
 use Rattle.afdx_trace.specs.Arrivals.{arrivals_heading, arrival_line}
 use Rattle.afdx_trace.specs.Inner.Telling.{Tells}
-use Rattle.afdx_trace.proofs.Fated.{tells_later, take_next, comes_next, told_next, told_all}
+use Rattle.afdx_trace.proofs.Fated.{tells_later, take_next, comes_next, reported_next, reported_all}
 use Rattle.afdx_trace.proofs.arrival_lines.arrivals.Goals as goal
 
 pub tell-requires-clause-tells : goal.tell-requires-clause-tells
@@ -27,7 +27,7 @@ loop-number-preserved g c =
       x.stamp,
       subst (λ (before : List Row). Tells r before x.stamp c.tell.new.self) (sym (take_next rows n x lt is)) c.in_ok-tell.ensures.tells,
       (comes_next rows n x i.0 lt is i.2).1,
-      told_next (arrival_line r) rows n x (arrivals_heading ++ each_after (arrival_line r) [] rows) (string_bytes c.loop-number.text)
+      reported_next (arrival_line r) rows n x (arrivals_heading ++ each_after (arrival_line r) [] rows) (string_bytes c.loop-number.text)
           (string_bytes c.tell.new.text) lt is i.3 c.in_ok-tell.ensures.text,
     )
 
@@ -35,6 +35,6 @@ pub returns : goal.returns
 returns g c =
     let r = c.args.done.now.run in
     let rows = c.rows-rows.result.now in
-    told_all (arrival_line r) rows c.loop-number.number (arrivals_heading ++ each_after (arrival_line r) [] rows) (string_bytes c.loop-number.text)
+    reported_all (arrival_line r) rows c.loop-number.number (arrivals_heading ++ each_after (arrival_line r) [] rows) (string_bytes c.loop-number.text)
     (omega (arith, c.loop-number-test.false)) c.loop-number.invariant.3
     ∙ ap (λ (all : List Row). arrivals_heading ++ each_after (arrival_line r) [] all) c.rows-rows.ensures.rows

@@ -1,5 +1,5 @@
 use Rattle.std.proofs.Common.{rules, arith, sym, ◌∙◌, string_bytes}
-use Rattle.afdx_trace.proofs.Departing.{left_aged, left_sent, all_told}
+use Rattle.afdx_trace.proofs.Departing.{left_aged, left_sent, all_reported}
 use Rattle.afdx_trace.proofs.departure_lines.put_events.Goals as goal
 
 pub loop-sent-preserved-then-ages_next : goal.loop-sent-preserved-then-ages_next
@@ -20,5 +20,5 @@ loop-sent-preserved g c = record {
 
 pub returns : goal.returns
 returns g c =
-    all_told c.args.port c.args.settings.now c.args.sent.now c.loop-sent.sent.now c.args.aged.now c.loop-sent.aged.now c.loop-sent.number (string_bytes c.args.text.now) (string_bytes c.loop-sent.text)
+    all_reported c.args.port c.args.settings.now c.args.sent.now c.loop-sent.sent.now c.args.aged.now c.loop-sent.aged.now c.loop-sent.number (string_bytes c.args.text.now) (string_bytes c.loop-sent.text)
     (search rules) (search rules) c.loop-sent.invariant.lines

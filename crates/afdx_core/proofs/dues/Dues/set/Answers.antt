@@ -1,7 +1,7 @@
 use Rattle.std.proofs.Common.{◌≡◌, ◌≢◌, ℕ, ◌+◌, ◌/◌, ◌<◌, List, length, set, Option, ap, ◌∙◌, sym, refl, arith}
 use Rattle.std.proofs.lemmas.List.{length-set}
-use Rattle.afdx_core.specs.Dues.{told}
-use Rattle.afdx_core.proofs.DueTrees.{leaf_written, node_written, node_stays, leaves_kept, told_written, tree_written, place_within}
+use Rattle.afdx_core.specs.Dues.{reported}
+use Rattle.afdx_core.proofs.DueTrees.{leaf_written, node_written, node_stays, leaves_kept, reported_written, tree_written, place_within}
 use Rattle.afdx_core.proofs.dues.Dues.set.Goals as goal
 
 pub loop-node-init : goal.loop-node-init
@@ -42,7 +42,7 @@ returns c =
     let d = c.self.inside in
     let l = c.loop-node in
     let within : c.args.place < d.places = place_within d.places d.earliest _ c.args.place c.self.invariant c.self.view_is c.requires in
-    told_written d.places d.earliest l.tree c.args.place c.key.result c.args.due within c.key.ensures l.invariant.leaves
+    reported_written d.places d.earliest l.tree c.args.place c.key.result c.args.due within c.key.ensures l.invariant.leaves
     ∙ ap (λ (ds : List (Option ℕ)). set ds c.args.place c.args.due) c.self.view_is
 
 pub invariant_of-self-then-tree-node : goal.invariant_of-self-then-tree-node
@@ -58,5 +58,5 @@ returns-then-tree-node c =
     let d = c.self.inside in
     let l = c.loop-node in
     let within : c.args.place < d.places = place_within d.places d.earliest _ c.args.place c.self.invariant c.self.view_is c.requires in
-    told_written d.places d.earliest l.tree c.args.place c.key.result c.args.due within c.key.ensures l.invariant.leaves
+    reported_written d.places d.earliest l.tree c.args.place c.key.result c.args.due within c.key.ensures l.invariant.leaves
     ∙ ap (λ (ds : List (Option ℕ)). set ds c.args.place c.args.due) c.self.view_is

@@ -5,8 +5,8 @@ use Rattle.std.specs.List.{prefix_len, take_while}
 use Rattle.std.proofs.Math.Seq.{take-add}
 use Rattle.std.proofs.lemmas.List.Sums.{sum_by-append, prefix_len-le-length, prefix_len_passes}
 
-abbrev pub IsFront : {X : Type 0} → (X → Bool) → List X → Type 0
-IsFront {X} p xs = (i j : ℕ) (d : X) → i < j → j < length xs → p (get_or xs j d) ≡ true → p (get_or xs i d) ≡ true
+abbrev pub IsPrefix : {X : Type 0} → (X → Bool) → List X → Type 0
+IsPrefix {X} p xs = (i j : ℕ) (d : X) → i < j → j < length xs → p (get_or xs j d) ≡ true → p (get_or xs i d) ≡ true
 
 module _ {X : Type 0} (p : X → Bool) where
   none_passes : (xs : List X) → ((k : ℕ) (d : X) → k < length xs → p (get_or xs k d) ≡ true → ⊥) → filter p xs ≡ []
@@ -19,10 +19,10 @@ module _ {X : Type 0} (p : X → Bool) where
   apart : false ≡ true → ⊥
   apart e = absurd (cc)
 
-  front_is : (xs : List X) → IsFront p xs → filter p xs ≡ take (prefix_len p xs) xs
-  front_is [] h = refl
-  front_is (x ∷ xs) h =
-      by (p x) refl (front_is xs (λ i j d lt within. h (suc i) (suc j) d (omega (arith, lt)) (omega (arith, within))))
+  prefix_is : (xs : List X) → IsPrefix p xs → filter p xs ≡ take (prefix_len p xs) xs
+  prefix_is [] h = refl
+  prefix_is (x ∷ xs) h =
+      by (p x) refl (prefix_is xs (λ i j d lt within. h (suc i) (suc j) d (omega (arith, lt)) (omega (arith, within))))
       (λ no. none_passes xs (λ k d lt passes. apart (sym no ∙ h 0 (suc k) d (omega arith) (omega (arith, lt)) passes))) where
         by : (b : Bool) → p x ≡ b → filter p xs ≡ take (prefix_len p xs) xs → (p x ≡ false → filter p xs ≡ [])
             → cond b (x ∷ filter p xs) (filter p xs) ≡ take (cond b (1 + prefix_len p xs) 0) (x ∷ xs)
@@ -40,13 +40,13 @@ module _ {X : Type 0} (p : X → Bool) where
       omega (arith, more, here)
 
   -- the sum over those that pass
-  pub sum_of_front : (f : X → ℕ) (xs : List X) (i : ℕ) → IsFront p xs → i ≤ length xs → ((k : ℕ) (d : X) → k < i → p (get_or xs k d) ≡ true)
+  pub sum_of_prefix : (f : X → ℕ) (xs : List X) (i : ℕ) → IsPrefix p xs → i ≤ length xs → ((k : ℕ) (d : X) → k < i → p (get_or xs k d) ≡ true)
       → (sum_by f (filter p xs) ≡ sum_by f (take i xs) + sum_by f (take_while p (drop i xs)))
       × (sum_by f (take (i + prefix_len p (drop i xs)) xs) ≡ sum_by f (take i xs) + sum_by f (take_while p (drop i xs)))
-  sum_of_front f xs i front within passed =
+  sum_of_prefix f xs i prefix within passed =
       let n = prefix_len p (drop i xs) in
       let both = ap (sum_by f) (take-add i n xs) ∙ sum_by-append f (take i xs) (take n (drop i xs)) in
-      (ap (sum_by f) (front_is xs front ∙ ap (λ (m : ℕ). take m xs) (sym (from_a_place xs i within passed))) ∙ both, both)
+      (ap (sum_by f) (prefix_is xs prefix ∙ ap (λ (m : ℕ). take m xs) (sym (from_a_place xs i within passed))) ∙ both, both)
 
   -- those before the new place pass
   pub passed_more : (xs : List X) (i : ℕ) → i ≤ length xs → ((k : ℕ) (d : X) → k < i → p (get_or xs k d) ≡ true)

@@ -1,10 +1,10 @@
-//! `afdx alone` and the words. Values from outside: bytes of pcap 2.4 captures and of AFDX frames,
+//! `afdx alone` and the arguments. Values from outside: bytes of pcap 2.4 captures and of AFDX frames,
 //! printed lines.
 
 use crate::fixtures::{LINK_10, answer, captured, split};
+use afdx_arguments::{Alone, Request, parse};
 use afdx_samples::{HEADER, Sample, capture};
 use afdx_serve::alone;
-use afdx_arguments::{Alone, Request, parse};
 use std::alloc::{AllocError, Global};
 use std::test::Fail;
 
@@ -68,7 +68,7 @@ For each port with links: what they need and what the port has, by rule (the
 line's rate in parts, the buffer in bytes, the delays in ns), and the rules that
 it breaks.
 
-Status: 0 told, whether each port fits or not, 2 arguments, 3 no table, 5 memory
+Status: 0 done, whether each port fits or not, 2 arguments, 3 no table, 5 memory
 or a device.
 
 Example: afdx size table.toml
@@ -96,7 +96,7 @@ port sent or discarded. A file is written beside its name and then moved onto it
 Status: 0 done, 2 arguments, 3 no table or capture, 4 a port cannot give what its
 links ask for, 5 memory or a device.
 
-Example: mkdir told && afdx trace table.toml in told
+Example: mkdir rows && afdx trace table.toml in rows
 ";
 
 const HELP_MEASURE: &str = "Tells the delays of each link and how full each buffer was
@@ -117,7 +117,7 @@ the stamp to the end on the line, beside the port's bound. For each port: the mo
 bytes that its buffer held, and the stamp in ns of the first frame that filled it
 so.
 
-Status: 0 told, 2 arguments, 3 no table or capture, 4 a port cannot give what its
+Status: 0 done, 2 arguments, 3 no table or capture, 4 a port cannot give what its
 links ask for, 5 memory or a device.
 
 Example: afdx measure table.toml in
@@ -158,7 +158,7 @@ fn passes_what_conforms(rt: HostRuntime) -> Result<(), Fail> {
         original: 61,
         ..small
     };
-    let told_short = Sample {
+    let reported_short = Sample {
         original: 0,
         ..small
     };
@@ -190,7 +190,7 @@ fn passes_what_conforms(rt: HostRuntime) -> Result<(), Fail> {
         ),
         (
             "an original below the captured length",
-            [told_short].as_slice(),
+            [reported_short].as_slice(),
             [small].as_slice(),
         ),
     ] {
@@ -348,10 +348,10 @@ fn shows_help(rt: HostRuntime) -> Result<(), Fail> {
     Ok(())
 }
 
-/// What these words ask for, where it is the policing of one link.
+/// What these arguments ask for, where it is the policing of one link.
 fn link_in(alloc: Global, line: &str) -> Result<Option<Alone>, AllocError> {
-    let words = split(alloc, line)?;
-    match parse(alloc, &words) {
+    let arguments = split(alloc, line)?;
+    match parse(alloc, &arguments) {
         Ok(Request::Alone(link)) => Ok(Some(link)),
         _ => Ok(None),
     }

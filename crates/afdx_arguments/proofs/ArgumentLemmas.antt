@@ -111,70 +111,70 @@ refused kinds e Usage (inl memory) is = absurd (is.1 memory)
 refused kinds e Usage (inr among) is = (kind_of e, among, is.0)
 refused kinds e Memory h is = tt
 
--- ---- what one of the two programs makes of the words is what they are read as
+-- ---- what one of the two programs makes of the arguments is what they are read as
 
-module _ (words : List Text) (b : Bool) (is : is_network words ≡ b) where
-  faults : faults_of words ≡ fault_in b words
-  faults = ap (λ (x : Bool). fault_in x words) is
+module _ (arguments : List Text) (b : Bool) (is : is_network arguments ≡ b) where
+  faults : faults_of arguments ≡ fault_in b arguments
+  faults = ap (λ (x : Bool). fault_in x arguments) is
 
-  pub asks_by : (r : Request) → fault_in b words ≡ [] → AsksIn b words r → Reads words (Ok r)
-  asks_by r none asks = (faults ∙ none, subst (λ (x : Bool). AsksIn x words r) (sym is) asks)
+  pub asks_by : (r : Request) → fault_in b arguments ≡ [] → AsksIn b arguments r → Reads arguments (Ok r)
+  asks_by r none asks = (faults ∙ none, subst (λ (x : Bool). AsksIn x arguments r) (sym is) asks)
 
-  pub asks_nothing_by : fault_in b words ≡ [] → ((r : Request) → AsksIn b words r → ⊥) → Reads words (Err Usage)
-  asks_nothing_by none nothing = inr (faults ∙ none, λ r asks. nothing r (subst (λ (x : Bool). AsksIn x words r) is asks))
+  pub asks_nothing_by : fault_in b arguments ≡ [] → ((r : Request) → AsksIn b arguments r → ⊥) → Reads arguments (Err Usage)
+  asks_nothing_by none nothing = inr (faults ∙ none, λ r asks. nothing r (subst (λ (x : Bool). AsksIn x arguments r) is asks))
 
-  pub no_matches_by : (n : NoRequest) → HasNoMatches (fault_in b words) n → Reads words (Err n)
+  pub no_matches_by : (n : NoRequest) → HasNoMatches (fault_in b arguments) n → Reads arguments (Err n)
   no_matches_by (Help text) h = (h.0, subst (λ (k : Kinds). IsAmong h.0 k) (sym faults) h.1, h.2)
   no_matches_by Usage h = inl (h.0, subst (λ (k : Kinds). IsAmong h.0 k) (sym faults) h.1, h.2)
   no_matches_by Memory h = tt
 
--- where the words of networks ask for nothing, no request is asked for
-pub none_of_networks : (words : List Text) → ((r : NetworkRequest) → AsksOfNetwork (subcommand_of network_program (drop 1 words)) r → ⊥)
-    → (r : Request) → AsksIn true words r → ⊥
-none_of_networks words none (request.Network r) h = none r h
-none_of_networks words none (request.Alone link) h = h
-none_of_networks words none (request.Check path) h = h
-none_of_networks words none (request.Size path) h = h
-none_of_networks words none (request.Run paths) h = h
-none_of_networks words none (request.Measure inputs) h = h
-none_of_networks words none (request.Trace paths) h = h
+-- where the arguments of networks ask for nothing, no request is asked for
+pub none_of_networks : (arguments : List Text) → ((r : NetworkRequest) → AsksOfNetwork (subcommand_of network_program (drop 1 arguments)) r → ⊥)
+    → (r : Request) → AsksIn true arguments r → ⊥
+none_of_networks arguments none (request.Network r) h = none r h
+none_of_networks arguments none (request.Alone link) h = h
+none_of_networks arguments none (request.Check path) h = h
+none_of_networks arguments none (request.Size path) h = h
+none_of_networks arguments none (request.Run paths) h = h
+none_of_networks arguments none (request.Measure inputs) h = h
+none_of_networks arguments none (request.Trace paths) h = h
 
 -- an error that a call returned
-pub reads_error : (words : List Text) (r : Result Request NoRequest) (n : NoRequest) → IsErr r × IsErrAnd r (λ x. x ≡ n) → Reads words (Err n) → Reads words r
-reads_error words (Ok x) n e h = absurd e.1
-reads_error words (Err x) n e h = subst (λ (m : NoRequest). Reads words (Err m)) (sym e.1) h
+pub reads_error : (arguments : List Text) (r : Result Request NoRequest) (n : NoRequest) → IsErr r × IsErrAnd r (λ x. x ≡ n) → Reads arguments (Err n) → Reads arguments r
+reads_error arguments (Ok x) n e h = absurd e.1
+reads_error arguments (Err x) n e h = subst (λ (m : NoRequest). Reads arguments (Err m)) (sym e.1) h
 
--- the words of networks are those after the first
-module _ (words : List (String Global)) (c : Command) (app : app_of c ≡ network_program) (is : is_network (map string_bytes words) ≡ true) where
+-- the arguments of networks are those after the first
+module _ (arguments : List (String Global)) (c : Command) (app : app_of c ≡ network_program) (is : is_network (map string_bytes arguments) ≡ true) where
   rest : List Text
-  rest = map string_bytes (take (length words - 1) (drop 1 words))
+  rest = map string_bytes (take (length arguments - 1) (drop 1 arguments))
 
-  same : rest ≡ drop 1 (map string_bytes words)
+  same : rest ≡ drop 1 (map string_bytes arguments)
   unfolding rest
-  same = ap (map string_bytes) (take_rest words 1) ∙ sym (drop-map string_bytes 1 words)
+  same = ap (map string_bytes) (take_rest arguments 1) ∙ sym (drop-map string_bytes 1 arguments)
 
-  kinds : fault_of (app_of c) rest ≡ fault_in true (map string_bytes words)
+  kinds : fault_of (app_of c) rest ≡ fault_in true (map string_bytes arguments)
   kinds = ap (λ (a : App). fault_of a rest) app ∙ ap (fault_of network_program) same
 
-  entry : subcommand_of (app_of c) rest ≡ subcommand_of network_program (drop 1 (map string_bytes words))
+  entry : subcommand_of (app_of c) rest ≡ subcommand_of network_program (drop 1 (map string_bytes arguments))
   entry = ap (λ (a : App). subcommand_of a rest) app ∙ ap (subcommand_of network_program) same
 
-  pub network_without : (n : NoRequest) → HasNoMatches (fault_of (app_of c) (map string_bytes (take (length words - 1) (drop 1 words)))) n → Reads (map string_bytes words) (Err n)
+  pub network_without : (n : NoRequest) → HasNoMatches (fault_of (app_of c) (map string_bytes (take (length arguments - 1) (drop 1 arguments)))) n → Reads (map string_bytes arguments) (Err n)
   unfolding rest
-  network_without n h = no_matches_by (map string_bytes words) true is n (subst (λ (k : Kinds). HasNoMatches k n) kinds h)
+  network_without n h = no_matches_by (map string_bytes arguments) true is n (subst (λ (k : Kinds). HasNoMatches k n) kinds h)
 
-  pub network_found : (sub : Option (Text × List Row)) (r : NetworkRequest) → HasMatches (app_of c) (map string_bytes (take (length words - 1) (drop 1 words))) sub → AsksOfNetwork sub r
-      → Reads (map string_bytes words) (Ok (request.Network r))
+  pub network_found : (sub : Option (Text × List Row)) (r : NetworkRequest) → HasMatches (app_of c) (map string_bytes (take (length arguments - 1) (drop 1 arguments))) sub → AsksOfNetwork sub r
+      → Reads (map string_bytes arguments) (Ok (request.Network r))
   unfolding rest
   network_found sub r found asks =
-      asks_by (map string_bytes words) true is (request.Network r) (sym kinds ∙ found.0) (subst (λ (x : Option (Text × List Row)). AsksOfNetwork x r) (found.1 ∙ entry) asks)
+      asks_by (map string_bytes arguments) true is (request.Network r) (sym kinds ∙ found.0) (subst (λ (x : Option (Text × List Row)). AsksOfNetwork x r) (found.1 ∙ entry) asks)
 
-  pub network_nothing : (sub : Option (Text × List Row)) → HasMatches (app_of c) (map string_bytes (take (length words - 1) (drop 1 words))) sub → ((r : NetworkRequest) → AsksOfNetwork sub r → ⊥)
-      → Reads (map string_bytes words) (Err Usage)
+  pub network_nothing : (sub : Option (Text × List Row)) → HasMatches (app_of c) (map string_bytes (take (length arguments - 1) (drop 1 arguments))) sub → ((r : NetworkRequest) → AsksOfNetwork sub r → ⊥)
+      → Reads (map string_bytes arguments) (Err Usage)
   unfolding rest
   network_nothing sub found nothing =
-      asks_nothing_by (map string_bytes words) true is (sym kinds ∙ found.0)
-      (none_of_networks (map string_bytes words) (λ r asks. nothing r (subst (λ (x : Option (Text × List Row)). AsksOfNetwork x r) (sym (found.1 ∙ entry)) asks)))
+      asks_nothing_by (map string_bytes arguments) true is (sym kinds ∙ found.0)
+      (none_of_networks (map string_bytes arguments) (λ r asks. nothing r (subst (λ (x : Option (Text × List Row)). AsksOfNetwork x r) (sym (found.1 ∙ entry)) asks)))
 
 -- ---- a command with one more subcommand
 
