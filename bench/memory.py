@@ -4,10 +4,10 @@
 usage: bench/memory.py [AFDX]        the program that `./test` builds where none is said
 
 One link sends a frame each millisecond, so that one frame at most is in flight. Its peak beside what it reads and writes
-is told for each frame, for small frames and for large ones, and for runs that are twice as long. A frame's bytes lie in the
+is reported for each frame, for small frames and for large ones, and for runs that are twice as long. A frame's bytes lie in the
 input and in the output alone, so a large frame takes no more than a small one, and no more where the run is twice as long.
 A text that grows takes up to twice its length on the way: of eight counts of frames, up to the double of the first, the
-least number is told. Needs 1 GB under /tmp.
+least number is reported. Needs 1 GB under /tmp.
 """
 import os
 import sys

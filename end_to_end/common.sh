@@ -7,18 +7,22 @@ trap 'rm -rf "$room"' EXIT
 passed=0
 failed=0
 
-# install WORD..: has each Debian package whose command is missing installed; words are COMMAND=PACKAGE.
+# install COMMAND=PACKAGE..: has each Debian package installed whose command is missing. Scripts run side by side, and installing is
+# one at a time: who comes second finds the commands there.
 install() {
-    local word missing=()
-    for word in "$@"; do
-        command -v "${word%%=*}" >/dev/null || missing+=("${word#*=}")
+    local pair missing=() as_root=() lock
+    exec {lock}>"${TMPDIR:-/tmp}/afdx-install.lock"
+    flock "$lock"
+    for pair in "$@"; do
+        command -v "${pair%%=*}" >/dev/null || missing+=("${pair#*=}")
     done
-    [ "${#missing[@]}" -eq 0 ] && return
-    local as_root=()
-    [ "$(id -u)" -eq 0 ] || as_root=(sudo)
-    "${as_root[@]}" apt-get update -q >/dev/null &&
-        "${as_root[@]}" env DEBIAN_FRONTEND=noninteractive apt-get install -qy --no-install-recommends "${missing[@]}" >/dev/null ||
-        { echo "cannot install: ${missing[*]}"; exit 1; }
+    if [ "${#missing[@]}" -gt 0 ]; then
+        [ "$(id -u)" -eq 0 ] || as_root=(sudo)
+        "${as_root[@]}" apt-get update -q >/dev/null &&
+            "${as_root[@]}" env DEBIAN_FRONTEND=noninteractive apt-get install -qy --no-install-recommends "${missing[@]}" >/dev/null ||
+            { echo "cannot install: ${missing[*]}"; exit 1; }
+    fi
+    exec {lock}>&-
 }
 
 # check NAME COMMAND..: counts whether the command succeeds.

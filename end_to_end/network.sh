@@ -57,7 +57,7 @@ refused() {
     [ "$(cat line.txt)" = "$line" ] && ends "$wanted" "$line" /dev/null network check work/network.toml
 }
 
-# table_refused: a table that is none is told with the name of its switch; the model reads sound tables only.
+# table_refused: a table that is none is reported with the name of its switch; the model reads sound tables only.
 table_refused() {
     fresh && sed -i '0,/^mbit/ s/^mbit/mbits/' work/bay.toml &&
         ends 3 "afdx: table C3 UnknownKey, port 1, switch bay" /dev/null network check work/network.toml

@@ -91,7 +91,7 @@ check "1000 Mbit/s in version 1" refused 3 "afdx: table C6 Range, port 1, mbit" 
 check "no first capture" refused 5 "afdx: device get none/port-1.pcap" run table.toml none out --unchecked
 check "names are joined as they are" refused 5 "afdx: device get none//port-1.pcap" run table.toml none/ out --unchecked
 check "no second capture" refused 5 "afdx: device get half/port-2.pcap" run table.toml half out --unchecked
-check "is told before the first one's fault" \
+check "is reported before the first one's fault" \
     refused 5 "afdx: device get half_pcapng/port-2.pcap" run table.toml half_pcapng out --unchecked
 check "pcapng" refused 3 "afdx: capture P3 Magic, port 1" run table.toml pcapng out --unchecked
 check "no folder to write to" \

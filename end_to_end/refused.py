@@ -32,17 +32,17 @@ def answer(library, number, source, sink, words):
     """Status, standard output, standard error, files; and whether an allocation was refused."""
     for path in names():
         path.unlink()
-    told, tell = os.pipe()
-    os.dup2(tell, 9)
-    os.close(tell)
+    heard, say = os.pipe()
+    os.dup2(say, 9)
+    os.close(say)
     reads = os.open(source, os.O_RDONLY)
     writes = subprocess.PIPE if sink == "-" else os.open(sink, os.O_WRONLY)
     done = subprocess.run(words, stdin=reads, stdout=writes, stderr=subprocess.PIPE, pass_fds=[9], check=False,
                           env={**os.environ, "LD_PRELOAD": library, "REFUSE": str(number)})
     for file in [9, reads] + [writes] * (sink != "-"):
         os.close(file)
-    refused = os.read(told, 1) == b"!"
-    os.close(told)
+    refused = os.read(heard, 1) == b"!"
+    os.close(heard)
     return (done.returncode, done.stdout or b"", done.stderr), files(), refused
 
 

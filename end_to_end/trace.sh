@@ -10,9 +10,9 @@ cd "$room" || exit 1
 
 # as_modelled TABLE IN [--unchecked]: the two files are the model's, with status 0; nothing else was put, and nothing was said.
 as_modelled() {
-    rm -rf told wanted && mkdir told wanted
-    "$afdx" trace "$1" "$2" told "${@:3}" >lines.txt 2>said.txt &&
-        python3 "$top/end_to_end/answers.py" trace "$1" "$2" wanted "${@:3}" && diff -r wanted told && [ ! -s lines.txt ] && [ ! -s said.txt ]
+    rm -rf rows wanted && mkdir rows wanted
+    "$afdx" trace "$1" "$2" rows "${@:3}" >lines.txt 2>said.txt &&
+        python3 "$top/end_to_end/answers.py" trace "$1" "$2" wanted "${@:3}" && diff -r wanted rows && [ ! -s lines.txt ] && [ ! -s said.txt ]
 }
 
 # records: port, record, stamp in ns and size with check sequence of each frame in the captures that were put.
@@ -27,20 +27,20 @@ records() {
 # joined TABLE IN [--unchecked]: so; and what was sent are the records that afdx run puts, each under its number.
 joined() {
     as_modelled "$@" && rm -rf out && mkdir out && "$afdx" run "$1" "$2" out "${@:3}" >report.txt && records >seen.txt 2>complaints.txt &&
-        awk -F, -v OFS=, '$11 == "sent" { print $1, $2, $9, $6 }' told/departures.csv | cmp - seen.txt
+        awk -F, -v OFS=, '$11 == "sent" { print $1, $2, $9, $6 }' rows/departures.csv | cmp - seen.txt
 }
 
 # shows PATTERN..: a line of the two files is like each.
 shows() {
     local pattern
     for pattern in "$@"; do
-        grep -qE "$pattern" told/*.csv || { echo "no line like $pattern"; return 1; }
+        grep -qE "$pattern" rows/*.csv || { echo "no line like $pattern"; return 1; }
     done
 }
 
 # shows_readme: the lines that README shows are among them.
 shows_readme() {
-    [ "$(grep -cxFf told/arrivals.csv "$top/README.md")" -eq 2 ]
+    [ "$(grep -cxFf rows/arrivals.csv "$top/README.md")" -eq 2 ]
 }
 
 # tied_as_modelled: captures full of ties, most of them at ports where frames are lost.
@@ -57,7 +57,7 @@ drawn_as_modelled() {
     local seed
     for seed in 1 2 3 4; do
         python3 "$top/end_to_end/babbling.py" drawn "$seed" && joined drawn/table.toml drawn/in &&
-            ! grep -E ',passed,,.|,aged$' told/*.csv || return 1
+            ! grep -E ',passed,,.|,aged$' rows/*.csv || return 1
     done
 }
 
@@ -68,12 +68,12 @@ check "README shows two of these lines" shows_readme
 check "the same on a faster switch" joined "$network/faster.toml" "$network/in"
 check "tight ports" joined tight.toml "$network/in" --unchecked
 check "frames are policed, full and aged there" shows ',policed,[0-9]+,$' ',passed,,[0-9;]+$' ',aged$' ',sent$'
-check "every other fate is told" shows ',cut,,$' ',short,,$' ',foreign,,$' ',no-link,,$' ',201,.*,wrong-port,,$' ',too-big,,$'
+check "every other fate is reported" shows ',cut,,$' ',short,,$' ',foreign,,$' ',no-link,,$' ',201,.*,wrong-port,,$' ',too-big,,$'
 check "ends, arrivals, starts and ages at one instant, also with a latency" tied_as_modelled
 check "networks that are drawn by chance, with a port that babbles" drawn_as_modelled
-check "the load is checked first" ends 4 "$("$afdx" check tight.toml 2>&1 >/dev/null)" /dev/null trace tight.toml "$network/in" told
-check "no file" ends 5 "afdx: device get none.toml" /dev/null trace none.toml "$network/in" told
-check "no captures" ends 5 "afdx: device get nowhere/port-1.pcap" /dev/null trace "$network/table.toml" nowhere told
+check "the load is checked first" ends 4 "$("$afdx" check tight.toml 2>&1 >/dev/null)" /dev/null trace tight.toml "$network/in" rows
+check "no file" ends 5 "afdx: device get none.toml" /dev/null trace none.toml "$network/in" rows
+check "no captures" ends 5 "afdx: device get nowhere/port-1.pcap" /dev/null trace "$network/table.toml" nowhere rows
 check "no folder to put them in" ends 5 "afdx: device put nowhere/arrivals.csv" /dev/null trace "$network/table.toml" "$network/in" nowhere
 check "help of trace" helps trace --help
 finish

@@ -339,13 +339,13 @@ def judged(there, needed):
 
 def without_meaning(pages, kit):
     """The words of the kit that no table tells."""
-    told = set()
+    explained = set()
     for page in pages:
         for mark in KIT.finditer(page):
             for row in mark["table"].splitlines():
-                told |= set(re.findall(r"`([^`]+)`", row.split(" | ")[0].replace("\\|", "|")))
+                explained |= set(re.findall(r"`([^`]+)`", row.split(" | ")[0].replace("\\|", "|")))
     words = {path.rpartition(".")[2].replace("◌", " ").strip() for path in kit}
-    return [f"a word of the kit without a meaning: {word}" for word in sorted(words - told)]
+    return [f"a word of the kit without a meaning: {word}" for word in sorted(words - explained)]
 
 
 def main(words):

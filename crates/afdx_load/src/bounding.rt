@@ -7,7 +7,7 @@ use crate::delays::Bounds;
 use crate::sums::Load;
 use afdx_units::Speed;
 
-/// The whole of a line, in the parts in which rates are reported.
+/// The whole of a line, in the parts in which rates are given.
 pub const PARTS: u64 = 2_048_000_000;
 
 /// What may wait and be on the line at once, in parts of a nanosecond.

@@ -5,6 +5,7 @@ use Rattle.afdx_table.specs.declared.fault.At.TheVariants as place
 use Rattle.afdx_table.specs.declared.fault.Key.{Key}
 use Rattle.afdx_table.specs.declared.fault.Key.TheVariants as key
 use Rattle.afdx_table.specs.declared.fault.TableFault.{TableFault}
+use Rattle.afdx_table.specs.Refusal.{◌>>=◌}
 use Rattle.afdx_table.specs.Names.{key_text}
 use Rattle.afdx_table.specs.Fields.{known_at, optional_number_at, optional_text_at}
 use Rattle.afdx_table.specs.Top.{all_keys, top_keys, version_from, constant_from, latency_from}
