@@ -10,7 +10,7 @@ use std::marker::Model;
 /// So many places have a leaf of the tree.
 const LEAVES: usize = 32;
 
-/// What stands where nothing is due: later than all instants.
+/// What is there where nothing is due: later than all instants.
 const NEVER: u64 = u64::MAX;
 
 /// For each of at most 24 places the instant of what is due there next, with the place that is due first at hand.

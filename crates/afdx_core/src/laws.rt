@@ -38,7 +38,7 @@ pub fn copies_have_their_links_priority()
     service_is_of_items();
 }
 
-/// The accounts of the links stand as they did after an arrival that is no link's.
+/// The accounts of the links are as they were after an arrival that is no link's.
 pub fn filtered_touch_no_account()
     ensures { FilteredTouchNoAccount }
 {}

@@ -43,7 +43,7 @@ pub struct Row {
     pub verdict: Verdict,
     /// The number of the link that it names, where the filter found that link in the table.
     pub link: Option<u16>,
-    /// The port at which it came in; last, as fields stand in the order in which they are declared.
+    /// The port at which it came in; last, as fields are in the order in which they are declared.
     pub in_port: u8,
 }
 
@@ -60,7 +60,7 @@ pub struct Step<A: Allocator> {
     /// The ports that its link leads to, in the link's order, with the answer of each; none where
     /// it was not passed.
     pub offers: Vec<(u8, Offer), A>,
-    /// Where its link stands in the table's file order, from 0, as the filter found it; none where it is no link's.
+    /// Where its link is in the table's file order, from 0, as the filter found it; none where it is no link's.
     /// Contracts do not see it: it spares a look-up, and who uses it looks whether that link has the number.
     pub place: Option<usize>,
 }

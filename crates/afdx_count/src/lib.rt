@@ -1,6 +1,6 @@
 //! The counters of a run, and its report (profile).
 //!
-//! [`Counts`] stand at 0 for each port and link of a table. [`Counts::note`] counts what a switch did with an arrival, and
+//! [`Counts`] are 0 for each port and link of a table. [`Counts::note`] counts what a switch did with an arrival, and
 //! [`Counts::note_end`] what its ports sent and discarded. A counter stays at its greatest value.
 //!
 //! Contracts see the counters as two lists, and say of each call what it adds. The module `laws` has what they come to: after

@@ -148,7 +148,7 @@ impl<A: Allocator + Copy> Links<A> {
         }
     }
 
-    /// Counts a passed frame at the link of a number, which may stand at the place that is given, and gives the priority
+    /// Counts a passed frame at the link of a number, which may be at the place that is given, and gives the priority
     /// of its copies.
     fn note_passed(&mut self, id: u16, reported: Option<usize>) -> Option<Priority>
         ensures links { self.new ≡ changed_at (λ l. l.id) id one_passed self.old }
@@ -172,7 +172,7 @@ impl<A: Allocator + Copy> Links<A> {
         }
     }
 
-    /// Counts an arrival at its link, which may stand at the place that is given, and gives the priority of the copies of a
+    /// Counts an arrival at its link, which may be at the place that is given, and gives the priority of the copies of a
     /// passed frame.
     pub(crate) fn note(&mut self, fate: Fate, reported: Option<usize>) -> Option<Priority>
         ensures links { self.new ≡ map (noted_link fate) self.old }

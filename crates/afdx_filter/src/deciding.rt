@@ -14,7 +14,7 @@ use afdx_table::laws::{links_are_found, links_stand_at_their_places};
 use afdx_units::{GREATEST_SIZE, LEAST_SIZE, size};
 use std::alloc::Allocator;
 
-/// The verdict on a frame that arrives at a port, the link that it names, and where that link stands in the table.
+/// The verdict on a frame that arrives at a port, the link that it names, and where that link is in the table.
 ///
 /// One look-up gives both, so that what handles a clean frame needs no second one.
 #[derive(Clone, Copy, Debug, PartialEq, Eq)]

@@ -1,6 +1,6 @@
 //! The verdicts.
 
-/// What the filter says of a frame (profile). The first case that holds stands.
+/// What the filter says of a frame (profile). The first case that holds is given.
 ///
 /// Sizes are in bytes, with the frame check sequence counted and the line overhead not.
 #[derive(Clone, Copy, Debug, PartialEq, Eq)]

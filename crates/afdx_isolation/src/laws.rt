@@ -16,7 +16,7 @@ use afdx_port::laws::{
     work_bounds_bytes, work_is_of_the_line,
 };
 
-/// The laws of the crates below that these stand on.
+/// The laws of the crates below that these rest on.
 fn ground()
     ensures { Ground }
 {

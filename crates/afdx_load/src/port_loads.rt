@@ -17,7 +17,7 @@ pub(crate) const SLOTS: usize = 25;
 #[derive(Drop)]
 pub struct Loads<'a> {
     pub(crate) table: &'a Table,
-    /// Each port's load stands in the place of its number.
+    /// Each port's load is in the place of its number.
     pub(crate) slots: [Load; SLOTS],
 }
 

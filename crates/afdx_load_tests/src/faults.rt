@@ -1,4 +1,4 @@
-//! Tables that are refused, each with the fault that stands.
+//! Tables that are refused, each with the fault that is given.
 
 use crate::tables::{FIRST, HIGH, LOW, SECOND, broken, fault, fault_later, table};
 use afdx_load::{LoadFault, Rule, check};
@@ -94,7 +94,7 @@ fn buffer_of_one_frame(rt: HostRuntime) -> Result<(), Fail> {
     Ok(())
 }
 
-/// The lowest port stands, whatever the order of the text, and the table comes back.
+/// The lowest port is named, whatever the order of the text, and the table comes back.
 #[test]
 fn first_fault_stands(rt: HostRuntime) -> Result<(), Fail> {
     let alloc = rt.alloc();

@@ -1,6 +1,6 @@
 //! Tests of the load checker: tables, and what their ports' links ask for.
 //!
-//! They stand in a crate of their own, since a crate with tests is proved twice.
+//! They are in a crate of their own, since a crate with tests is proved twice.
 #![tactic(auto)]
 
 #[cfg(test)]

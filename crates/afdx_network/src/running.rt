@@ -25,7 +25,7 @@ const MAX_ROUNDS: usize = 64;
 ///
 /// # Errors
 ///
-/// The first that stands, in this order:
+/// The first that holds, in this order:
 ///
 /// - `WrongPorts` of the first switch for which something else is given, in file order.
 /// - `Capture` of the first given text that is no capture, by switch and then by port, with its first fault; else of what

@@ -31,7 +31,7 @@ fn misfit(alloc: Global, texts: &[String], wires: &[Ends]) -> Result<Option<Netw
 /// The links of A and of B, the wires, and what they are refused for.
 type Case = ([Link; 2], [Link; 2], [Ends; 2], Option<NetworkFault>);
 
-/// Rows of B that fit, and those that do not; of more faults that of the first rule stands.
+/// Rows of B that fit, and those that do not; of more faults that of the first rule is given.
 fn rows() -> [Case; 7] {
     let first = first();
     let [one, two] = second();

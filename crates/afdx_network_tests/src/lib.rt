@@ -1,7 +1,7 @@
 //! Tests of networks: files, and what they are read to or refused for; tables that fit together, and those that do not; jitters
 //! that are enough; runs of whole networks.
 //!
-//! They stand in a crate of their own, since a crate with tests is proved twice.
+//! They are in a crate of their own, since a crate with tests is proved twice.
 #![tactic(auto)]
 
 #[cfg(test)]

@@ -2,7 +2,7 @@
 
 use afdx_wiring::{At, Key, NetworkFault};
 
-/// A text of the file, and what is to stand in its place.
+/// A text of the file, and what is to be in its place.
 pub(crate) type Change = (&'static str, &'static str);
 
 /// Two switches, and a wire each way.

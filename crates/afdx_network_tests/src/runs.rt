@@ -128,7 +128,7 @@ fn backwards(alloc: Global) -> Result<Vec<String>, AllocError> {
     four_ports_each(alloc, &[&third, &second, &first])
 }
 
-/// A link over three switches, which stand in the file from the last to the first; at each a babbler comes in at port 2, and sends
+/// A link over three switches, which are in the file from the last to the first; at each a babbler comes in at port 2, and sends
 /// three frames at once.
 #[test]
 fn three_babblers(rt: HostRuntime) -> Result<(), Fail> {

@@ -8,7 +8,7 @@ use std::marker::Model;
 
 /// Different numbers in order, as the numbers of a table's links in the file's order.
 ///
-/// Contracts see their list. Beside it stands a table of places by number, so that a look-up reads two entries
+/// Contracts see their list. Beside it is a table of places by number, so that a look-up reads two entries
 /// and takes no hash; it is as long as the greatest number, at most 65,536 entries of two bytes.
 #[derive(Drop)]
 pub struct Numbers<A: Allocator> {

@@ -10,7 +10,7 @@ use thiserror::Error;
 /// The first fault of a capture, P1 to P11 in the order in which they are looked for.
 ///
 /// A file has P2 to P5 at its header, else P6 to P11 at the first record that is not sound; these have the
-/// record's number, from 1. P2, P6 and P11 are found only where the input ends. P1 stands at the growth that
+/// record's number, from 1. P2, P6 and P11 are found only where the input ends. P1 is given at the growth that
 /// was refused, before anything that lies later in the file. Each message is its variant's name.
 #[derive(Clone, Copy, Debug, PartialEq, Eq, Error)]
 pub enum PcapFault {

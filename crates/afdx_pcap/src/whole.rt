@@ -28,7 +28,7 @@ fn record_count<A: Allocator + Copy>(alloc: A, bytes: &[u8]) -> Result<usize, Pc
 /// The records of a capture, in file order; their bytes are lent from it.
 ///
 /// The format is pcap 2.4; all four magics are read, and zone, accuracy and snaplen are ignored. An original
-/// length below the captured one is taken as it stands.
+/// length below the captured one is taken as it is.
 ///
 /// # Errors
 ///

@@ -1,6 +1,6 @@
 //! Tests of captures: bytes of the format, whole and in pieces.
 //!
-//! They stand in a crate of their own, since a crate with tests is proved twice.
+//! They are in a crate of their own, since a crate with tests is proved twice.
 #![tactic(auto)]
 
 #[cfg(test)]

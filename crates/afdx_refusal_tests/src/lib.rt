@@ -1,6 +1,6 @@
 //! Tests of each call that takes memory, with each of its growths refused in turn, and of captures that are cut at each byte.
 //!
-//! They stand in a crate of their own, since a crate with tests is proved twice.
+//! They are in a crate of their own, since a crate with tests is proved twice.
 #![tactic(auto)]
 
 #[cfg(test)]

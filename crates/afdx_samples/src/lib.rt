@@ -1,6 +1,6 @@
 //! Tables, networks, frames and captures that the crates' tests start from.
 //!
-//! They stand in a crate of their own, so that each is written once. No program uses it.
+//! They are in a crate of their own, so that each is written once. No program uses it.
 #![tactic(auto)]
 
 mod captures;

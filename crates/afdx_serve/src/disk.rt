@@ -69,7 +69,7 @@ fn read_file<R: Files, A: Allocator + Copy>(
     Ok((FileId::of(&metadata), bytes))
 }
 
-/// Whether a name may be put: nothing stands there, or a file that may be written and is none of these.
+/// Whether a name may be put: nothing is there, or a file that may be written and is none of these.
 fn may_be_put<R: Files>(rt: &R, name: &str, got: &[FileId]) -> bool {
     match fs::metadata(rt, name) {
         Ok(metadata) => {

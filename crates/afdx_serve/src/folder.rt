@@ -51,14 +51,14 @@ impl From<InputFault> for FolderFault {
     }
 }
 
-/// A folder, by the bytes that stand under each name. It counts its failures, and tells the name of the last one.
+/// A folder, by the bytes that are under each name. It counts its failures, and tells the name of the last one.
 pub trait Folder {
     /// The files, where it tells them.
     ghost files: { Self → Option Files } = { λ _. None };
     /// How often it has failed, as far as 64 bits go, and the name that the last of these calls was for.
     ghost failed: { Self → DeviceLog };
 
-    /// The bytes that stand under a name.
+    /// The bytes that are under a name.
     ///
     /// # Errors
     ///
@@ -68,7 +68,7 @@ pub trait Folder {
         ensures same { KeepsFiles (files self.old) (files self.new) }
         ensures cause { HasCause name.now (failed self.old) (failed self.new) result };
 
-    /// Puts bytes under a name, in place of what stands there. After an error nothing is said of what stands there.
+    /// Puts bytes under a name, in place of what is there. After an error nothing is said of what is there.
     ///
     /// # Errors
     ///

@@ -219,7 +219,7 @@ fn put_all<F: Folder>(
 ///
 /// IN/A has the captures of the ports of switch A to which no wire goes; those of all its ports are put into OUT/A, which has
 /// to be there. The network is accepted before a capture is got, and all captures are got before the first switch runs. All
-/// names and reports are made before the first put. After a put that failed the files before it stand, and no later one is
+/// names and reports are made before the first put. After a put that failed the files before it are there, and no later one is
 /// put.
 ///
 /// # Errors

@@ -74,7 +74,7 @@ fn passes<A: Allocator>(link: &Alone, account: &mut ByteAccount, frame: &Record<
     is_own(link, frame) && account.offer(frame.stamp(), frame_size(frame))
 }
 
-/// The laws of the crates below that the loop of `alone` stands on.
+/// The laws of the crates below that the loop of `alone` rests on.
 fn ground<A: Allocator>()
     ensures { Ground }
 {

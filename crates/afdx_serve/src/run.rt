@@ -47,7 +47,7 @@ fn report_text(alloc: Global, carried: &Carried<'_, Global>) -> Result<String, A
 /// The table is got first and, unless the run is unchecked, its load checked; then each port's capture is got by rising
 /// number; then what they lead to is put in the same order, one output after the other, so that no more than one is held;
 /// then the report is written. All names and the report's text are made before the first put. After a put that failed, and
-/// where no memory is left for an output, the files before it stand, and no later one is put.
+/// where no memory is left for an output, the files before it are there, and no later one is put.
 ///
 /// # Errors
 ///

@@ -105,7 +105,7 @@ fn put_texts<F: Folder>(
 /// Runs the switch over the captures of a folder as `run` does, and puts two files into another: arrivals.csv, what became of
 /// each arrival, and then departures.csv, what became of each copy; both have a heading. Nothing is written.
 ///
-/// All names and texts are made before the first put. After a put that failed the files before it stand, and no later one is
+/// All names and texts are made before the first put. After a put that failed the files before it are there, and no later one is
 /// put.
 ///
 /// # Errors

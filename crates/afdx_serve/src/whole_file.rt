@@ -52,10 +52,10 @@ fn fill_and_move<R: Files>(
     }
 }
 
-/// Puts a file of these bytes in place of what stands under a name. Its folder is not made.
+/// Puts a file of these bytes in place of what is under a name. Its folder is not made.
 ///
 /// The bytes are written to a new file beside the name, which is moved onto the name once the device has them. Where one of
-/// these steps fails, what stands under the name is as it was, and the new file is removed where that can be done.
+/// these steps fails, what is under the name is as it was, and the new file is removed where that can be done.
 pub(crate) fn replace_file<R: Files, A: Allocator + Copy>(
     rt: &R,
     alloc: A,

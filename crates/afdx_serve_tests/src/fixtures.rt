@@ -110,7 +110,7 @@ impl OneFrame {
         self.folder(0, FolderFault::Device)
     }
 
-    /// Whether the program, over what is there, answers so, and the first so many of these files stand then and no others.
+    /// Whether the program, over what is there, answers so, and the first so many of these files are there then and no others.
     pub(crate) fn leaves(
         &self,
         arguments: &str,

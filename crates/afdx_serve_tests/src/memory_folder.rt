@@ -8,7 +8,7 @@ ghost use Rattle.afdx_serve_tests.specs.declared.memory_folder.File.{File};
 use afdx_serve::{DeviceLog, Folder, FolderFault};
 use std::alloc::{AllocError, Allocator};
 
-/// A name, and the bytes that stand under it.
+/// A name, and the bytes that are under it.
 #[derive(Debug, Drop)]
 struct File<A: Allocator> {
     name: String<A>,
@@ -86,7 +86,7 @@ impl<A: Allocator + Copy> MemoryFolder<A> {
         self.log.last()
     }
 
-    /// The bytes that stand under a name.
+    /// The bytes that are under a name.
     pub(crate) fn bytes(&self, name: &str) -> Option<&[u8]> {
         match find_file(&self.files, name) {
             Some(file) => Some(file.bytes.as_slice()),

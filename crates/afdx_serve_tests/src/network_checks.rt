@@ -148,7 +148,7 @@ fn no_network_file(rt: HostRuntime) -> Result<(), Fail> {
     Ok(())
 }
 
-/// Whether the network is accepted, where B's table stands elsewhere too and the network file names that one.
+/// Whether the network is accepted, where B's table is elsewhere too and the network file names that one.
 fn is_accepted_elsewhere(alloc: Global) -> Result<bool, AllocError> {
     let network = TwoSwitches::new(alloc, 14)?.rewired(("tables/B.toml", "/tables/B.toml"))?;
     let mut folder = network.folder()?;

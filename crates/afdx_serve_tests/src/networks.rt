@@ -19,7 +19,7 @@ to = \"B.1\"
 delay_ns = 25
 ";
 
-/// A text of a file, and what is to stand in its place.
+/// A text of a file, and what is to be in its place.
 pub(crate) type Change<'a> = (&'a str, &'a str);
 
 /// A link that says how it is policed.

@@ -151,7 +151,7 @@ fn stops_at_a_missing_capture(rt: HostRuntime) -> Result<(), Fail> {
     Ok(())
 }
 
-/// The calls of the run of one frame: the name that each is for, its line where it fails, and how many files stand then.
+/// The calls of the run of one frame: the name that each is for, its line where it fails, and how many files are there then.
 const CALLS: [(&str, &str, usize); 5] = [
     ("t", "afdx: device get t\n", 3),
     ("in/port-1.pcap", "afdx: device get in/port-1.pcap\n", 3),

@@ -10,7 +10,7 @@ use std::alloc::{AllocError, Global};
 use std::io::{ErrorKind, Read};
 use std::test::Fail;
 
-/// Each command, and how many files of the run of one frame stand where it is done.
+/// Each command, and how many files of the run of one frame are there where it is done.
 const COMMANDS: [(&str, usize); 6] = [
     ("afdx --help", 3),
     (LINK_10, 3),
@@ -58,7 +58,7 @@ fn reported(line: &'static str, writer: LineWriter) -> &'static [u8] {
 }
 
 /// What is to be seen of a command: its status, what standard output took, what a writer for the line took, and how many files of
-/// the run of one frame stand.
+/// the run of one frame are there.
 #[derive(Clone, Copy)]
 struct Wanted<'a> {
     status: u8,

@@ -99,7 +99,7 @@ fn tells_what_was_full_and_what_aged(rt: HostRuntime) -> Result<(), Fail> {
     Ok(())
 }
 
-/// The calls of the trace of one frame: the name that each is for, its line where it fails, and how many files stand then.
+/// The calls of the trace of one frame: the name that each is for, its line where it fails, and how many files are there then.
 const CALLS: [(&str, &str, usize); 5] = [
     ("t", "afdx: device get t\n", 3),
     ("in/port-1.pcap", "afdx: device get in/port-1.pcap\n", 3),

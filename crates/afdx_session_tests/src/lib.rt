@@ -1,6 +1,6 @@
 //! Tests of runs: captures in, captures out, with bytes and ends worked out by hand.
 //!
-//! They stand in a crate of their own, since a crate with tests is proved twice.
+//! They are in a crate of their own, since a crate with tests is proved twice.
 #![tactic(auto)]
 
 #[cfg(test)]

@@ -9,13 +9,13 @@ pub fn tables_are_well_formed()
     ensures { TablesAreWellFormed }
 {}
 
-/// Every table of a text has the constant field, the ports and the links that stand under their keys in the text, each field by
+/// Every table of a text has the constant field, the ports and the links that are under their keys in the text, each field by
 /// its own key, and nothing else.
 pub fn tables_hold_their_texts()
     ensures { TablesHoldTheirTexts }
 {}
 
-/// Each link of a well-formed table stands under its number, and what stands under a number is a link of the table with that
+/// Each link of a well-formed table is under its number, and what is under a number is a link of the table with that
 /// number.
 pub fn links_are_found()
     ensures { LinksAreFound }
@@ -26,7 +26,7 @@ pub fn links_stand_at_their_places()
     ensures { LinksStandAtTheirPlaces }
 {}
 
-/// Each port of a well-formed table stands under its number.
+/// Each port of a well-formed table is under its number.
 pub fn ports_are_found()
     ensures { PortsAreFound }
 {}

@@ -177,7 +177,7 @@ fn read_text(alloc: Global, bytes: &[u8]) -> Result<Tree, TableFault>
 
 /// Reads a configuration table, a text of TOML 1.1.
 ///
-/// The first refusal in this order stands, and `Memory` at the growth that was refused, before every test that comes
+/// The first refusal in this order is given, and `Memory` at the growth that was refused, before every test that comes
 /// later; never for bytes that are not UTF-8, nor for a text of white space and comments alone:
 ///
 /// 1. `Toml`: bytes that are not UTF-8, or a text that the library `toml` refuses for another cause than memory.

@@ -2,7 +2,7 @@
 
 use afdx_table::{At, Key, TableFault};
 
-/// A text of a table, and what is to stand in its place.
+/// A text of a table, and what is to be in its place.
 pub(crate) type Change = (&'static str, &'static str);
 
 /// The table with one link, changed.
@@ -151,7 +151,7 @@ pub(crate) const TOPS: &[(&str, TableFault)] = &[
     ("version = 9223372036854775808", TableFault::Toml),
     ("version = 1\nversion = 1", TableFault::Toml),
     ("port = []\n[[port]]", TableFault::Toml),
-    // two faults at once: the earlier stands
+    // two faults at once: the earlier is given
     ("color = 1\nx = ", TableFault::Toml),
     (
         "color = 1\nversion = \"1\"",
@@ -217,7 +217,7 @@ pub(crate) const TOPS: &[(&str, TableFault)] = &[
     ),
 ];
 
-/// The table with one link, with two faults of neighbouring steps: the earlier stands.
+/// The table with one link, with two faults of neighbouring steps: the earlier is given.
 pub(crate) const PAIRS: &[(Change, TableFault)] = &[
     (
         ("id = 2\n", "color = 1\n"),
@@ -384,7 +384,7 @@ pub(crate) const POLICED: &[(Change, TableFault)] = &[
         ("police = \"frame\"", "policy = \"frame\""),
         TableFault::UnknownKey(At::Link(1)),
     ),
-    // two faults at once: the earlier stands
+    // two faults at once: the earlier is given
     (
         (
             "priority = \"low\"\npolice = \"frame\"",

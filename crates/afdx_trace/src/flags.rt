@@ -11,7 +11,7 @@ use afdx_table::Table;
 use std::alloc::{AllocError, Allocator};
 use std::marker::Model;
 
-/// For the number of each arrival, from 0, whether a port took its copy; no flag stands for false.
+/// For the number of each arrival, from 0, whether a port took its copy; no flag means false.
 #[derive(Drop)]
 pub(crate) struct Flags<A: Allocator> {
     all: Vec<bool, A>,

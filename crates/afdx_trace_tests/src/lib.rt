@@ -1,6 +1,6 @@
 //! Tests of the lines of arrivals and departures, on small runs worked by hand.
 //!
-//! They stand in a crate of their own, since a crate with tests is proved twice.
+//! They are in a crate of their own, since a crate with tests is proved twice.
 #![tactic(auto)]
 
 #[cfg(test)]

@@ -1,6 +1,6 @@
 //! What is reported of a network: the ways of its links, the jitters of its rows, the reports of its switches.
 //!
-//! A switch is named by the name that stands at its place among these names; the lines are those of `specs/Lines.antt`.
+//! A switch is named by the name at its place among these names; the lines are those of `specs/Lines.antt`.
 #![tactic(auto)]
 
 mod accepted;

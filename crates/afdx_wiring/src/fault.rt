@@ -31,7 +31,7 @@ pub enum Key {
 }
 
 /// Why a network is refused. A wire is named by its place in the file, counted from 1; a switch by its place, counted from 0,
-/// under which its name stands.
+/// under which its name is.
 #[derive(Clone, Copy, Debug, PartialEq, Eq)]
 pub enum NetworkFault {
     /// No memory.

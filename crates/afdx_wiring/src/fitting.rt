@@ -14,7 +14,7 @@ impl Network {
     /// Whether the tables fit together: both ends of a wire agree, each link goes on behind the wires that it is sent on,
     /// and each row is fed by one end system's port at last.
     ///
-    /// The first refusal in this order stands, rule by rule; within one rule by wire and by the row that leads to it, or by
+    /// The first refusal in this order is given, rule by rule; within one rule by wire and by the row that leads to it, or by
     /// switch and row; and `Memory` at the growth that was refused:
     ///
     /// 1. By wire: `Constant`, `Speed`.

@@ -9,7 +9,7 @@ use std::marker::Model;
 pub struct Switch {
     /// From 1 to 16 ASCII letters, digits, `-` or `_`.
     pub name: String,
-    /// The name of its table's file, as it stands in the network file; it is not empty.
+    /// The name of its table's file, as it is in the network file; it is not empty.
     pub path: String,
 }
 
