@@ -169,7 +169,8 @@ module _ (arguments : List (String Global)) (c : Command) (app : app_of c ≡ ne
   network_found sub r found asks =
       asks_by (map string_bytes arguments) true is (request.Network r) (sym kinds ∙ found.0) (subst (λ (x : Option (Text × List Row)). AsksOfNetwork x r) (found.1 ∙ entry) asks)
 
-  pub network_nothing : (sub : Option (Text × List Row)) → HasMatches (app_of c) (map string_bytes (take (length arguments - 1) (drop 1 arguments))) sub → ((r : NetworkRequest) → AsksOfNetwork sub r → ⊥)
+  pub network_nothing : (sub : Option (Text × List Row)) → HasMatches (app_of c) (map string_bytes (take (length arguments - 1) (drop 1 arguments))) sub
+      → ((r : NetworkRequest) → AsksOfNetwork sub r → ⊥)
       → Reads (map string_bytes arguments) (Err Usage)
   unfolding rest
   network_nothing sub found nothing =

@@ -314,7 +314,8 @@ found_output f (q ∷ ports) port p found = by (q.id == port) refl (found_output
       ∙ more (sym (ap (λ b. cond b (Some q) (find (is_row_of port) ports)) other) ∙ found)
 
 pub taken_is_a_prefix : EarlierEventsStayAdmitted → ReachesInOrder → EventsAreInParts → RecordsStay → RecordsAreUnique → TakenIsAPrefix
-taken_is_a_prefix stay reaches parts records unique v port taken texts results was continued outcome = (was.rest ++ whole.0, at ∙ prefix_on out was.text taken was.rest whole.0 whole.1 was.prefix) where
+taken_is_a_prefix stay reaches parts records unique v port taken texts results was continued outcome =
+    (was.rest ++ whole.0, at ∙ prefix_on out was.text taken was.rest whole.0 whole.1 was.prefix) where
   out : List ℕ
   out = output_text v.table (merged outcome.read) was.row
 
