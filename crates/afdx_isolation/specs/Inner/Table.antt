@@ -7,7 +7,7 @@ use Rattle.afdx_port.specs.declared.Item.{Item}
 use Rattle.afdx_port.specs.declared.Sent.{Sent}
 use Rattle.afdx_port.specs.Service.{sent_of, aged_of}
 use Rattle.afdx_port.specs.Admission.{admitted, AllFitIn}
-use Rattle.afdx_port.specs.Content.{done}
+use Rattle.afdx_port.specs.Content.{Content as PortContent, done}
 use Rattle.afdx_table.specs.declared.rows.PortRow.{PortRow}
 use Rattle.afdx_table.specs.Link.{Link, leads_to}
 use Rattle.afdx_table.specs.Content.{Content}
