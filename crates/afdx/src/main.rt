@@ -6,7 +6,9 @@
 //! each port.
 #![tactic(auto)]
 
-use afdx_serve::{Disk, Failure, report, serve};
+use afdx_devices::Disk;
+use afdx_failures::{Failure, report};
+use afdx_serve::serve;
 use std::process::ExitCode;
 use std::{env, io};
 

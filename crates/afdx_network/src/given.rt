@@ -15,8 +15,8 @@ use afdx_table::Table;
 use afdx_wiring::{End, Network};
 use std::alloc::{AllocError, Global};
 
-/// Whether no wire goes to a port.
-fn is_open(network: &Network, switch: usize, port: u8) -> bool
+/// Whether no wire goes to this port of the switch at this place, so that its capture is one of those that are given. O(wires).
+pub fn is_open(network: &Network, switch: usize, port: u8) -> bool
     ensures { result ≡ is_open network.now switch port }
 {
     network.wire_to(End { switch, port }).is_none()

@@ -15,5 +15,6 @@ mod running;
 mod site;
 
 pub use fault::NetworkRunFault;
+pub use given::is_open;
 pub use running::run;
 pub use site::Texts;

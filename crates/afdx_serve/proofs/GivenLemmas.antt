@@ -15,14 +15,15 @@ use Rattle.afdx_wiring.specs.Net.{Network}
 use Rattle.afdx_network.specs.Runs.{Given}
 use Rattle.afdx_network.specs.Given.{given_of, is_open, AreOpen, IsGivenAt, AreGiven}
 use Rattle.afdx_ways.specs.Lines.{Names, name_of}
-use Rattle.afdx_serve.specs.declared.failure.Failure.{Failure}
-use Rattle.afdx_serve.specs.declared.failure.Failure.TheVariants as failure
-use Rattle.afdx_serve.specs.Files.{Files, Shows, ShowsAll, KeepsFiles, DeviceLog, one_more}
+use Rattle.afdx_failures.specs.declared.failure.Failure.{Failure}
+use Rattle.afdx_failures.specs.declared.failure.Failure.TheVariants as failure
+use Rattle.afdx_devices.specs.Files.{Files, Shows, ShowsAll, KeepsFiles, DeviceLog, one_more}
 use Rattle.afdx_serve.specs.Runs.{capture_name, names_in, bytes_of, FailsToGet}
 use Rattle.afdx_serve.specs.Networks.{names_of}
 use Rattle.afdx_serve.specs.NetworkRuns.{switch_folder, names_at, bytes_at, HasGiven, open_names, GetsGiven, FailsToGetGiven}
 use Rattle.afdx_serve.specs.Inner.OpenPorts.{HasOpen, GetsNamed, FailsToGetNamed}
-use Rattle.afdx_serve.proofs.FileLemmas.{ShowsAll-before, ShowsAll-nil, KeepsFiles-trans, one_more_got}
+use Rattle.afdx_serve.proofs.CaptureLemmas.{one_more_got}
+use Rattle.afdx_devices.proofs.FileLemmas.{ShowsAll-before, ShowsAll-nil, KeepsFiles-trans}
 
 -- ---- files that were got
 

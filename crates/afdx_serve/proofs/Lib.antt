@@ -1,9 +1,6 @@
-pub mod Progress
-pub mod TellingLemmas
-pub mod InputLemmas
 pub mod JitterLemmas
 pub mod NetworkCheckLemmas
-pub mod FileLemmas
+pub mod CaptureLemmas
 pub mod RunLemmas
 pub mod MeasureLemmas
 pub mod GetLemmas
@@ -12,7 +9,5 @@ pub mod NetworkLemmas
 pub mod VerdictLemmas
 pub mod ServingLemmas
 pub mod CheckLemmas
-pub mod OwnLemmas
-mod PartLemmas
 mod PutLemmas
 mod NetworkRunLemmas

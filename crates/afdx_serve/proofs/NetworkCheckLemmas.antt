@@ -1,9 +1,9 @@
 -- Why a network was not found to be accepted.
 use Rattle.std.proofs.Common.{◌≡◌, ℕ, List, inl, inr}
 use Rattle.afdx_wiring.specs.Net.{Network}
-use Rattle.afdx_serve.specs.declared.failure.Failure.{Failure}
-use Rattle.afdx_serve.specs.declared.failure.Failure.TheVariants as failure
-use Rattle.afdx_serve.specs.Files.{KeepsFiles}
+use Rattle.afdx_failures.specs.declared.failure.Failure.{Failure}
+use Rattle.afdx_failures.specs.declared.failure.Failure.TheVariants as failure
+use Rattle.afdx_devices.specs.Files.{KeepsFiles}
 use Rattle.afdx_serve.specs.Networks.{HasNetwork, FailsToGetNetwork, FailsToAcceptNetwork}
 use Rattle.afdx_serve.specs.Serving.{World, WritesNothing, FailsToCheckNetwork}
 

@@ -5,12 +5,12 @@ use Rattle.afdx_wiring.specs.declared.fault.NetworkFault.{NetworkFault}
 use Rattle.afdx_wiring.specs.declared.fault.NetworkFault.TheVariants as fault
 use Rattle.afdx_arguments.specs.declared.request.NetworkRequest.{NetworkRequest}
 use Rattle.afdx_arguments.specs.declared.request.NetworkRequest.TheVariants as ask
-use Rattle.afdx_serve.specs.declared.network_failure.NetworkFailure.TheVariants as network
-use Rattle.afdx_serve.specs.declared.failure.Failure.{Failure}
-use Rattle.afdx_serve.specs.declared.failure.Failure.TheVariants as failure
-use Rattle.afdx_serve.specs.Inner.Failures.{wiring_failure}
-use Rattle.afdx_serve.specs.Files.{Files, DeviceLog, KeepsFiles}
-use Rattle.afdx_serve.specs.Lines.{IsMade}
+use Rattle.afdx_lines.specs.declared.network_failure.NetworkFailure.TheVariants as network
+use Rattle.afdx_failures.specs.declared.failure.Failure.{Failure}
+use Rattle.afdx_failures.specs.declared.failure.Failure.TheVariants as failure
+use Rattle.afdx_failures.specs.Inner.Failures.{wiring_failure}
+use Rattle.afdx_devices.specs.Files.{Files, DeviceLog, KeepsFiles}
+use Rattle.afdx_failures.specs.Telling.{IsMade}
 use Rattle.afdx_serve.specs.Networks.{FailsToGetNetwork}
 use Rattle.afdx_serve.specs.Serving.{World, WritesNothing, FailsToPerformNetwork}
 

@@ -25,16 +25,17 @@ use Rattle.afdx_network.specs.Given.{AreGiven}
 use Rattle.afdx_network.specs.Laws.{IsOfFile, NetworkRunsDeliver}
 use Rattle.afdx_ways.specs.Lines.{Names, name_of, report_of}
 use Rattle.afdx_arguments.specs.declared.request.NetworkPaths.{NetworkPaths}
-use Rattle.afdx_serve.specs.declared.network_failure.NetworkFailure.TheVariants as network
-use Rattle.afdx_serve.specs.declared.failure.Failure.{Failure}
-use Rattle.afdx_serve.specs.declared.failure.Failure.TheVariants as failure
-use Rattle.afdx_serve.specs.Files.{Files, with_file, with_files, KeepsFiles, PutsFiles, DeviceLog, one_more}
+use Rattle.afdx_lines.specs.declared.network_failure.NetworkFailure.TheVariants as network
+use Rattle.afdx_failures.specs.declared.failure.Failure.{Failure}
+use Rattle.afdx_failures.specs.declared.failure.Failure.TheVariants as failure
+use Rattle.afdx_devices.specs.Files.{Files, with_file, with_files, KeepsFiles, PutsFiles, DeviceLog, one_more}
 use Rattle.afdx_serve.specs.Runs.{capture_name, names_in, bytes_of, report_in, StopsAt, FailsToPut}
 use Rattle.afdx_serve.specs.Networks.{names_of, HasNetwork}
 use Rattle.afdx_serve.specs.NetworkRuns.{switch_folder, names_at, bytes_at, captures_of, reports_of, HasGiven, LeadsToNetwork, GetsGiven, FailsToGetGiven, FailsToLeadNetwork, StopsNetwork}
 use Rattle.afdx_serve.specs.Serving.{world, PutsNetwork, FailsToRunNetwork}
 use Rattle.afdx_serve.specs.Inner.NetworkRunning.{names_by, held_names, AreAsMany, FailsToLeadGiven}
-use Rattle.afdx_serve.proofs.FileLemmas.{same_files, KeepsFiles-trans, ShowsAll-before, PutsFiles-before, StopsAt-before}
+use Rattle.afdx_serve.proofs.CaptureLemmas.{StopsAt-before}
+use Rattle.afdx_devices.proofs.FileLemmas.{same_files, KeepsFiles-trans, ShowsAll-before, PutsFiles-before}
 
 -- ---- names and reports of one switch more
 

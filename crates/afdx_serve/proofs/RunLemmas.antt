@@ -1,6 +1,6 @@
 -- What a run did, and why it was not done.
 use Rattle.std.proofs.Common.{◌≡◌, ℕ, Bool, true, false, not, List, Option, Result, Ok, Err, refl, sym, ap, subst, ◌∙◌, inl, inr}
-use Rattle.std.specs.Prelude.{MatchResult, IsErr, IsErrAnd}
+use Rattle.std.specs.Prelude.{MatchResult}
 use Rattle.std.proofs.Common.{map, length, String, Global}
 use Rattle.std.specs.Prelude.{string_bytes}
 use Rattle.std.proofs.lemmas.List.{length-map}
@@ -18,21 +18,17 @@ use Rattle.afdx_session.specs.Outcome.{Results, table_in, is_cleared, IsOutcome,
 use Rattle.afdx_session.specs.Headline.{AcceptedRunsIsolate}
 use Rattle.afdx_arguments.specs.declared.request.Paths.{Paths}
 use Rattle.afdx_arguments.specs.declared.request.Inputs.{Inputs}
-use Rattle.afdx_serve.specs.declared.failure.Failure.{Failure}
-use Rattle.afdx_serve.specs.declared.failure.Failure.TheVariants as failure
-use Rattle.afdx_serve.specs.Files.{Files, DeviceLog, KeepsFiles, PutsFiles, one_more}
+use Rattle.afdx_failures.specs.declared.failure.Failure.{Failure}
+use Rattle.afdx_failures.specs.declared.failure.Failure.TheVariants as failure
+use Rattle.afdx_devices.specs.Files.{Files, DeviceLog, KeepsFiles, PutsFiles, one_more}
 use Rattle.afdx_serve.specs.Measures.{IsMeasured, MeasuresTo}
 use Rattle.afdx_serve.specs.Runs.{inputs_of, IsRunOf, LeadsTo, names_in, bytes_of, StopsAt, StopsRun, FailsToPut, FailsToEnd, FailsToRun, HasPlan, FailsToGetAll, FailsToGather, FailsToLead}
 use Rattle.afdx_serve.specs.Runs.{capture_name}
 use Rattle.afdx_serve.specs.Traces.{trace_names, trace_texts, IsTraceIn, PutsTrace, StopsTrace, FailsToTrace}
 use Rattle.std.specs.Io.KnownBytes.{Keeps}
 use Rattle.afdx_serve.specs.Serving.{world, PutsResults, FailsToRunAll}
-use Rattle.afdx_serve.proofs.FileLemmas.{PutsFiles-before, StopsAt-before, GetsUpTo-before}
-
--- what holds of the error that a call returned
-pub of_error : {T E : Type 0} (r : Result T E) (P : T → Type 0) (Q : E → Type 0) (e : E) → IsErr r × IsErrAnd r (λ x. x ≡ e) → Q e → MatchResult r P Q
-of_error (Ok x) P Q e h q = absurd h.1
-of_error (Err x) P Q e h q = subst Q (sym h.1) q
+use Rattle.afdx_serve.proofs.CaptureLemmas.{StopsAt-before, GetsUpTo-before}
+use Rattle.afdx_devices.proofs.FileLemmas.{PutsFiles-before}
 
 -- what was led to was not all put
 module _ (paths : Paths) (names all : List (List ℕ)) (a b c : Option Files) (first before after : DeviceLog) (keeps : KeepsFiles a b) (same : before ≡ first)

@@ -6,7 +6,7 @@ use Rattle.afdx_table.specs.Link.{Link}
 use Rattle.afdx_table.specs.Content.{Content}
 use Rattle.afdx_load.specs.Sums.{Sums, load_of}
 use Rattle.afdx_load.specs.Bounds.{backlog, byte_time, high_bound, low_bound}
-use Rattle.afdx_serve.specs.Lines.{ended}
+use Rattle.afdx_lines.specs.Lines.{ended}
 
 -- the least buffer of a port, in bytes, that holds what may wait and be on the line at once
 abbrev pub IsLeastBuffer : PortRow → Sums → ℕ → Type 0

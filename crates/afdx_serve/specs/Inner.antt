@@ -1,6 +1,2 @@
-pub mod Failures
-pub mod Ground
 pub mod NetworkRunning
-pub mod Offer
 pub mod OpenPorts
-pub mod OwnClean

@@ -1,16 +1,10 @@
-pub mod Answer
 pub mod Checks
-pub mod Faults
-pub mod Files
 pub mod Inner
-pub mod Lines
 pub mod Measures
 pub mod NetworkChecks
 pub mod NetworkJitters
 pub mod NetworkRuns
 pub mod Networks
-pub mod Output
-pub mod Own
 pub mod Runs
 pub mod Serving
 pub mod Sizes

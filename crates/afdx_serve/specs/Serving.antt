@@ -1,5 +1,5 @@
 -- What serving arguments does: to what a reader gives, and to what a writer and a folder hold before and after.
-use Rattle.std.specs.Prelude.{string_bytes, Some, None, ◌≡◌, ◌⊎◌, ℕ, List, Option, IfSome}
+use Rattle.std.specs.Prelude.{string_bytes, Some, None, ◌≡◌, ◌⊎◌, ℕ, List, Option}
 use Rattle.std.specs.Io.KnownBytes.{Appends, Keeps}
 use Rattle.afdx_pcap.specs.Fault.{IsFault}
 use Rattle.afdx_arguments.specs.declared.alone.Alone.{Alone}
@@ -8,9 +8,9 @@ use Rattle.afdx_arguments.specs.declared.request.Inputs.{Inputs}
 use Rattle.afdx_arguments.specs.declared.request.Request.{Request}
 use Rattle.afdx_arguments.specs.declared.request.Request.TheVariants as request
 use Rattle.afdx_arguments.specs.Requests.{Asks, AskForHelp, AreRefused}
-use Rattle.afdx_serve.specs.declared.failure.Failure.{Failure}
-use Rattle.afdx_serve.specs.declared.failure.Failure.TheVariants as failure
-use Rattle.afdx_serve.specs.Answer.{IsAnswer}
+use Rattle.afdx_failures.specs.declared.failure.Failure.{Failure}
+use Rattle.afdx_failures.specs.declared.failure.Failure.TheVariants as failure
+use Rattle.afdx_alone.specs.Answer.{IsAnswer}
 use Rattle.afdx_table.specs.Content.{Content}
 use Rattle.afdx_load.specs.Accepted.{IsAccepted, first_fault}
 use Rattle.afdx_serve.specs.Checks.{IsCheckOf}
@@ -26,9 +26,10 @@ use Rattle.afdx_serve.specs.Networks.{names_of, HasNetwork, IsRefused, FailsToGe
 use Rattle.afdx_serve.specs.NetworkChecks.{IsNetworkCheck}
 use Rattle.afdx_serve.specs.NetworkJitters.{JittersAre, FailsToFit}
 use Rattle.afdx_serve.specs.NetworkRuns.{LeadsToNetwork, FailsToPutNetwork, names_at, bytes_at, captures_of, reports_of}
-use Rattle.afdx_serve.specs.Files.{Files, DeviceLog, KeepsFiles, PutsFiles, one_more}
+use Rattle.afdx_devices.specs.Files.{Files, DeviceLog, KeepsFiles, PutsFiles, one_more}
 use Rattle.afdx_session.specs.Outcome.{Results}
-use Rattle.afdx_serve.specs.Output.{AppendsPrefix}
+use Rattle.afdx_devices.specs.Input.{AreGiven}
+use Rattle.afdx_devices.specs.Output.{AppendsPrefix}
 use Rattle.afdx_serve.specs.Measures.{MeasuresTo}
 use Rattle.afdx_serve.specs.Traces.{PutsTrace, FailsToTrace}
 use Rattle.afdx_serve.specs.Runs.{HasTable, HasNoTable, LeadsTo, FailsToGather, FailsToRun, names_in, bytes_of, report_in}
@@ -54,10 +55,6 @@ abbrev pub WritesNothing : World → World → Type 0
 WritesNothing old new = Keeps old.written new.written
 
 -- ---- one link
-
--- these are all the bytes that a reader gives, where that is known
-abbrev pub AreGiven : Option (List ℕ) → List ℕ → Type 0
-AreGiven input bytes = IfSome input (λ all. bytes ≡ all)
 
 -- the answer to all that the reader gave was written
 abbrev pub Answers : Alone → Option (List ℕ) → Option (List ℕ) → Option (List ℕ) → Type 0

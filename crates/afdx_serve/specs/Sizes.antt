@@ -9,7 +9,7 @@ use Rattle.afdx_load.specs.Bounds.{high_bound, low_bound}
 use Rattle.afdx_load.specs.Fits.{broken_rules}
 use Rattle.afdx_load.specs.declared.fault.Rule.{Rule}
 use Rattle.afdx_load.specs.declared.fault.Rule.TheVariants.{Rate, Buffer, HighDelay, LowDelay}
-use Rattle.afdx_serve.specs.Lines.{ended}
+use Rattle.afdx_lines.specs.Lines.{ended}
 use Rattle.afdx_serve.specs.Checks.{IsLeastBuffer, AreTextsOf}
 
 -- a need beside its limit, in one unit

@@ -4,14 +4,13 @@ ghost use Rattle.std.specs.Prelude.{◌≡◌, ℕ, ◌++◌, Some, IfOk, OnOk, 
 ghost use Rattle.afdx_table.specs.Content.{port_row};
 ghost use Rattle.afdx_load.specs.Sums.{load_of};
 ghost use Rattle.afdx_load.specs.Accepted.{IsAccepted};
-ghost use Rattle.afdx_serve.specs.Lines.{ended};
+ghost use Rattle.afdx_lines.specs.Lines.{ended};
 ghost use Rattle.afdx_serve.specs.Checks.{IsLeastBuffer, bound_text, load_text, IsLineOf, AreLinesOf, IsCheckOf};
 ghost use Rattle.afdx_serve.specs.Serving.{world, FailsToAccept, Checks, FailsToCheck};
 
-use crate::failure::Failure;
-use crate::folder::Folder;
 use crate::get::get_table;
-use crate::output::write_bytes;
+use afdx_devices::{Folder, write_bytes};
+use afdx_failures::Failure;
 use afdx_load::laws::longest_shows_links;
 use afdx_load::{Load, Loads, bounds, least_buffer, loads};
 use afdx_table::laws::ports_are_found;

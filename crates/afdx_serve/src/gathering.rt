@@ -4,13 +4,13 @@ ghost use Rattle.std.specs.Prelude.{◌≡◌, false, not, MatchResult};
 ghost use Rattle.afdx_load.specs.Accepted.{IsAccepted};
 ghost use Rattle.afdx_session.specs.Texts.{texts_of};
 ghost use Rattle.afdx_session.specs.Outcome.{table_in, is_cleared};
-ghost use Rattle.afdx_serve.specs.Files.{KeepsFiles};
+ghost use Rattle.afdx_devices.specs.Files.{KeepsFiles};
 ghost use Rattle.afdx_serve.specs.Runs.{inputs_of, IsRunOf, FailsToPlan, FailsToGather};
 
-use crate::failure::Failure;
-use crate::folder::Folder;
 use crate::get::{get_captures, get_table};
 use afdx_arguments::{Inputs, Paths};
+use afdx_devices::Folder;
+use afdx_failures::Failure;
 use afdx_session::Plan;
 use afdx_table::Table;
 use std::alloc::Global;

@@ -3,12 +3,12 @@
 ghost use Rattle.std.specs.Prelude.{◌≡◌, MatchResult};
 ghost use Rattle.afdx_table.specs.WellFormed.{IsWellFormed};
 ghost use Rattle.afdx_session.specs.Texts.{texts_of};
-ghost use Rattle.afdx_serve.specs.Files.{Shows, KeepsFiles};
+ghost use Rattle.afdx_devices.specs.Files.{Shows, KeepsFiles};
 ghost use Rattle.afdx_serve.specs.Runs.{HasTable, HasCaptures, FailsToGet, FailsToGetAll, FailsToRead};
 
-use crate::failure::Failure;
-use crate::folder::{Folder, FolderFault};
 use crate::names::capture_name;
+use afdx_devices::{Folder, FolderFault};
+use afdx_failures::Failure;
 use afdx_table::Table;
 use std::alloc::Global;
 

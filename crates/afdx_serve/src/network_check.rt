@@ -7,10 +7,9 @@ ghost use Rattle.afdx_serve.specs.Networks.{names_of, judged, FailsToAcceptNetwo
 ghost use Rattle.afdx_serve.specs.NetworkChecks.{IsNetworkCheck};
 ghost use Rattle.afdx_serve.specs.Serving.{world, ChecksNetwork, FailsToCheckNetwork};
 
-use crate::failure::Failure;
-use crate::folder::Folder;
 use crate::network_get::{get_network, names_of, refused};
-use crate::output::write_bytes;
+use afdx_devices::{Folder, write_bytes};
+use afdx_failures::Failure;
 use afdx_ways::accepted_text;
 use afdx_wiring::{ClearedNetwork, Network, NetworkFault};
 use std::alloc::{AllocError, Global};

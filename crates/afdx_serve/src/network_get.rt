@@ -4,14 +4,14 @@ ghost use Rattle.std.specs.Prelude.{◌≡◌, ℕ, List, Ok, length, map, slice
 ghost use Rattle.std.specs.Path.{path_with_file_name};
 ghost use Rattle.afdx_table.specs.Content.{Content};
 ghost use Rattle.afdx_wiring.specs.Order.{lost_port};
-ghost use Rattle.afdx_serve.specs.Files.{KeepsFiles};
+ghost use Rattle.afdx_devices.specs.Files.{KeepsFiles};
 ghost use Rattle.afdx_serve.specs.Networks.{bytes_in, names_of, HasLayout, HasTexts, AreTables, HasNetwork, switch_of, IsRefused, IsRefusedTable};
 ghost use Rattle.afdx_serve.specs.Networks.{FailsToLayout, FailsToGetTexts, FailsToReadTables, FailsToJoin, FailsToGetNetwork};
 
-use crate::failure::Failure;
-use crate::folder::Folder;
 use crate::get::get;
-use crate::network_failure::NetworkFailure;
+use afdx_devices::Folder;
+use afdx_failures::Failure;
+use afdx_lines::NetworkFailure;
 use afdx_table::{Table, TableFault};
 use afdx_wiring::{Layout, Network, NetworkFault, Switch};
 use std::alloc::{AllocError, Global};

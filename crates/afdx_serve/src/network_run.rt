@@ -4,7 +4,7 @@ ghost use Rattle.std.specs.Prelude.{◌≡◌, List, length, map, filter, string
 ghost use Rattle.afdx_session.specs.Texts.{Text, texts_of};
 ghost use Rattle.afdx_network.specs.Given.{given_of, is_open, AreGiven};
 ghost use Rattle.afdx_network.specs.Runs.{IsRunOf};
-ghost use Rattle.afdx_serve.specs.Files.{KeepsFiles, PutsFiles};
+ghost use Rattle.afdx_devices.specs.Files.{KeepsFiles, PutsFiles};
 ghost use Rattle.afdx_serve.specs.Runs.{capture_name, bytes_of, FailsToPut};
 ghost use Rattle.afdx_serve.specs.Networks.{names_of};
 ghost use Rattle.afdx_serve.specs.NetworkRuns.{switch_folder, bytes_at, captures_of, reports_of, HasGiven, FailsToGetGiven};
@@ -12,24 +12,23 @@ ghost use Rattle.afdx_serve.specs.Inner.OpenPorts.{HasOpen, FailsToGetNamed};
 ghost use Rattle.afdx_serve.specs.Inner.NetworkRunning.{names_by, held_names, AreAsMany, IsRunFailure, FailsToLeadGiven};
 ghost use Rattle.afdx_serve.specs.Serving.{world, RunsNetwork, FailsToRunNetwork};
 
-use crate::failure::Failure;
-use crate::folder::Folder;
 use crate::get::get;
 use crate::names::{capture_name, names_in};
 use crate::network_check::accept;
-use crate::network_failure::NetworkFailure;
 use crate::network_get::{get_network, names_of};
-use crate::output::write_bytes;
 use crate::put::put;
 use afdx_arguments::NetworkPaths;
+use afdx_devices::{Folder, write_bytes};
+use afdx_failures::Failure;
+use afdx_lines::NetworkFailure;
 use afdx_network::laws::network_runs_deliver;
-use afdx_network::{NetworkRunFault, Texts};
+use afdx_network::{NetworkRunFault, Texts, is_open};
 use afdx_session::Outcome;
 use afdx_table::Table;
 use afdx_table::laws::tables_are_well_formed;
 use afdx_ways::{name_of, push_report};
 use afdx_wiring::laws::layouts_are_within_limits;
-use afdx_wiring::{ClearedNetwork, End, Network};
+use afdx_wiring::{ClearedNetwork, Network};
 use std::alloc::{AllocError, Global};
 use std::io::Write;
 
@@ -41,13 +40,6 @@ fn switch_folder(alloc: Global, folder: &str, name: &str) -> Result<String, Allo
     path.push_str("/")?;
     path.push_str(name)?;
     Ok(path)
-}
-
-/// Whether no wire goes to a port.
-fn is_open(network: &Network, switch: usize, port: u8) -> bool
-    ensures { result ≡ is_open network.now switch port }
-{
-    network.wire_to(End { switch, port }).is_none()
 }
 
 /// The captures of the ports of a switch to which no wire goes, by rising number, from this folder.

@@ -3,12 +3,12 @@
 ghost use Rattle.std.specs.Prelude.{MatchResult};
 ghost use Rattle.afdx_serve.specs.Serving.{world, PerformsNetwork, FailsToPerformNetwork};
 
-use crate::failure::Failure;
-use crate::folder::Folder;
 use crate::network_check::network_check;
 use crate::network_jitter::network_jitter;
 use crate::network_run::network_run;
 use afdx_arguments::NetworkRequest;
+use afdx_devices::Folder;
+use afdx_failures::Failure;
 use std::alloc::Global;
 use std::io::Write;
 

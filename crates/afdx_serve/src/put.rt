@@ -5,11 +5,11 @@ ghost use Rattle.afdx_table.specs.Content.{Content};
 ghost use Rattle.afdx_core.specs.Merge.{Arrival};
 ghost use Rattle.afdx_session.specs.Output.{outputs};
 ghost use Rattle.afdx_session.specs.Carried.{IsLeft};
-ghost use Rattle.afdx_serve.specs.Files.{KeepsOthers, PutsFile, PutsFiles, one_more};
+ghost use Rattle.afdx_devices.specs.Files.{KeepsOthers, PutsFile, PutsFiles, one_more};
 ghost use Rattle.afdx_serve.specs.Runs.{bytes_of, FailsToPut, FailsToPutOne};
 
-use crate::failure::Failure;
-use crate::folder::{Folder, FolderFault};
+use afdx_devices::{Folder, FolderFault};
+use afdx_failures::Failure;
 use afdx_session::Carried;
 use std::alloc::Global;
 

@@ -8,13 +8,12 @@ ghost use Rattle.afdx_session.specs.Carried.{IsCarried};
 ghost use Rattle.afdx_serve.specs.Runs.{FailsToLead};
 ghost use Rattle.afdx_serve.specs.Serving.{world, Runs, FailsToRunAll};
 
-use crate::failure::Failure;
-use crate::folder::Folder;
 use crate::gathering::{gather, inputs_of};
 use crate::names::names_in;
-use crate::output::write_bytes;
 use crate::put::put_outputs;
 use afdx_arguments::Paths;
+use afdx_devices::{Folder, write_bytes};
+use afdx_failures::Failure;
 use afdx_session::laws::accepted_runs_isolate;
 use afdx_session::{Carried, Plan};
 use std::alloc::{AllocError, Global};

@@ -2,25 +2,21 @@
 
 ghost use Rattle.std.specs.Prelude.{◌≡◌, ◌≢◌, map, string_bytes, MatchResult};
 ghost use Rattle.std.specs.Io.KnownBytes.{Keeps};
-ghost use Rattle.afdx_serve.specs.declared.failure.Failure.{Failure as Failing};
-ghost use Rattle.afdx_serve.specs.Lines.{line_of, status_of};
-ghost use Rattle.afdx_serve.specs.Output.{AppendsPrefix};
+ghost use Rattle.afdx_failures.specs.declared.failure.Failure.{Failure as Failing};
+ghost use Rattle.afdx_failures.specs.Telling.{line_of, status_of};
+ghost use Rattle.afdx_devices.specs.Output.{AppendsPrefix};
 ghost use Rattle.afdx_serve.specs.Serving.{world, Answers, FailsToAnswer, Performs, FailsToPerform, Serves, Fails};
 
 use crate::check::check;
-use crate::failure::Failure;
-use crate::folder::Folder;
-use crate::input::read_to_end;
 use crate::measure::measure;
 use crate::network_serving::perform_network;
-use crate::output::write_bytes;
-use crate::parts::Part;
-use crate::policing::{check_records, write_passed};
 use crate::run::run;
 use crate::size::size;
-use crate::telling::report;
 use crate::trace::trace;
+use afdx_alone::{Part, check_records, write_passed};
 use afdx_arguments::{Alone, NoRequest, Request, parse};
+use afdx_devices::{Folder, read_to_end, write_bytes};
+use afdx_failures::{Failure, report};
 use std::alloc::Global;
 use std::io::{Read, Write};
 

@@ -4,15 +4,14 @@ ghost use Rattle.std.specs.Prelude.{◌≡◌, ℕ, ◌++◌, [], Some, IfOk, On
 ghost use Rattle.afdx_table.specs.Content.{port_row};
 ghost use Rattle.afdx_load.specs.Sums.{load_of};
 ghost use Rattle.afdx_load.specs.Fits.{is_broken, broken_rules};
-ghost use Rattle.afdx_serve.specs.Lines.{ended};
+ghost use Rattle.afdx_lines.specs.Lines.{ended};
 ghost use Rattle.afdx_serve.specs.Checks.{IsLeastBuffer};
 ghost use Rattle.afdx_serve.specs.Sizes.{delay_text, letter_of, letters_of, verdict_text, amounts_text, delays_text, size_text, IsSizeOf, AreSizesOf};
 ghost use Rattle.afdx_serve.specs.Serving.{world, Sizes, FailsToSize};
 
-use crate::failure::Failure;
-use crate::folder::Folder;
 use crate::get::get_table;
-use crate::output::write_bytes;
+use afdx_devices::{Folder, write_bytes};
+use afdx_failures::Failure;
 use afdx_load::laws::longest_shows_links;
 use afdx_load::{Load, Loads, PARTS, Rule, bounds, breaks, least_buffer, loads};
 use afdx_table::laws::ports_are_found;

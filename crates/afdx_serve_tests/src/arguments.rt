@@ -2,9 +2,9 @@
 //! printed lines.
 
 use crate::fixtures::{LINK_10, answer, captured, split};
+use afdx_alone::alone;
 use afdx_arguments::{Alone, Request, parse};
 use afdx_samples::{HEADER, Sample, capture};
-use afdx_serve::alone;
 use std::alloc::{AllocError, Global};
 use std::test::Fail;
 

@@ -1,8 +1,9 @@
 //! What the tests share: frames, a run of one frame, and what the program answers.
 
 use crate::memory_folder::MemoryFolder;
+use afdx_devices::FolderFault;
 use afdx_samples::{HEADER, Port, Sample, capture, double, frame, large, port, single, small};
-use afdx_serve::{FolderFault, serve};
+use afdx_serve::serve;
 use std::alloc::{AllocError, Global};
 
 /// A frame of link 10, of which so many bytes are captured.

@@ -4,7 +4,7 @@
 use crate::fixtures::OneFrame;
 use crate::growths::{Calls, Memory, growths};
 use crate::memory_folder::MemoryFolder;
-use afdx_serve::{Folder, FolderFault};
+use afdx_devices::{Folder, FolderFault};
 use std::test::*;
 
 /// A call of a folder, for the file at this place.

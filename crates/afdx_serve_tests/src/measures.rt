@@ -1,8 +1,8 @@
 //! `afdx measure` over a folder in memory. Values from outside: a table, captures, and lines that were worked out by hand.
 
 use crate::fixtures::{Broken, OneFrame, crowd, crowded, early, refuses, tells};
+use afdx_devices::FolderFault;
 use afdx_samples::{HEADER, capture, later, mixed, single, small};
-use afdx_serve::FolderFault;
 use std::test::Fail;
 
 const MEASURE: &str = "afdx measure t in";

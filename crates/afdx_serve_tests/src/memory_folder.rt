@@ -2,10 +2,10 @@
 
 ghost use Rattle.std.specs.Prelude.{◌≡◌, Some, find, string_bytes, option_map, option_copied};
 ghost use Rattle.std.specs.Str.{bytes_eq};
-ghost use Rattle.afdx_serve.specs.Files.{HasCause};
+ghost use Rattle.afdx_devices.specs.Files.{HasCause};
 ghost use Rattle.afdx_serve_tests.specs.declared.memory_folder.File.{File};
 
-use afdx_serve::{DeviceLog, Folder, FolderFault};
+use afdx_devices::{DeviceLog, Folder, FolderFault};
 use std::alloc::{AllocError, Allocator};
 
 /// A name, and the bytes that are under it.

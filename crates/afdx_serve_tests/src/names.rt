@@ -1,8 +1,10 @@
 //! The messages of faults: each is its variant's name.
 
+use afdx_alone::AloneFault;
+use afdx_devices::FolderFault;
+use afdx_failures::Failure;
 use afdx_load::{LoadFault, Rule};
 use afdx_pcap::PcapFault;
-use afdx_serve::{AloneFault, Failure, FolderFault};
 use afdx_table::TableFault;
 use std::test::Fail;
 

@@ -3,8 +3,8 @@
 use crate::fixtures::answers;
 use crate::memory_folder::MemoryFolder;
 use crate::networks::{TwoSwitches, stated};
+use afdx_devices::FolderFault;
 use afdx_samples::{HEADER, Sample, capture, port, small, small_link, table};
-use afdx_serve::FolderFault;
 use std::alloc::{AllocError, Global};
 use std::test::Fail;
 

@@ -1,10 +1,10 @@
 //! The policing of one link, with each of its growths refused in turn, and of a capture that is cut at each byte.
 
 use crate::growths::{Calls, Memory, growths};
+use afdx_alone::{AloneFault, alone};
 use afdx_arguments::Alone;
 use afdx_pcap::PcapFault;
 use afdx_samples::{capture, large, small};
-use afdx_serve::{AloneFault, alone};
 use std::test::*;
 
 /// Link 10, which may send a large frame each millisecond.

@@ -5,8 +5,8 @@ use crate::fixtures::{
     refuses, tells,
 };
 use crate::memory_folder::MemoryFolder;
+use afdx_devices::FolderFault;
 use afdx_samples::{HEADER, Link, Port, capture, link, mixed, port, single, table};
-use afdx_serve::FolderFault;
 use std::alloc::{AllocError, Global};
 use std::test::Fail;
 

@@ -2,8 +2,8 @@
 
 use crate::fixtures::{answer_over, answers, tells};
 use crate::memory_folder::MemoryFolder;
+use afdx_devices::FolderFault;
 use afdx_samples::{Link, Port, link, mixed, port, single, table};
-use afdx_serve::FolderFault;
 use std::alloc::{AllocError, Global};
 use std::test::Fail;
 

@@ -2,8 +2,8 @@
 
 use crate::fixtures::{Broken, OneFrame, answers, crowd, crowded, early, folder_of, refuses};
 use crate::memory_folder::MemoryFolder;
+use afdx_devices::FolderFault;
 use afdx_samples::{HEADER, capture, later, mixed, single, small};
-use afdx_serve::FolderFault;
 use std::alloc::{AllocError, Global};
 use std::test::Fail;
 

@@ -7,9 +7,9 @@ use Rattle.afdx_network.specs.Given.{IsRefusal}
 use Rattle.afdx_network.specs.declared.fault.NetworkRunFault.{NetworkRunFault}
 use Rattle.afdx_network.specs.declared.fault.NetworkRunFault.TheVariants as run
 use Rattle.afdx_ways.specs.Lines.{Names, name_of}
-use Rattle.afdx_serve.specs.declared.network_failure.NetworkFailure.TheVariants as network
-use Rattle.afdx_serve.specs.declared.failure.Failure.{Failure}
-use Rattle.afdx_serve.specs.declared.failure.Failure.TheVariants as failure
+use Rattle.afdx_lines.specs.declared.network_failure.NetworkFailure.TheVariants as network
+use Rattle.afdx_failures.specs.declared.failure.Failure.{Failure}
+use Rattle.afdx_failures.specs.declared.failure.Failure.TheVariants as failure
 use Rattle.afdx_serve.specs.Runs.{names_in}
 use Rattle.afdx_serve.specs.Networks.{names_of}
 use Rattle.afdx_serve.specs.NetworkRuns.{switch_folder}

@@ -4,11 +4,11 @@ use Rattle.std.proofs.lemmas.List.{length-map}
 use Rattle.afdx_session.specs.Outcome.{Results}
 use Rattle.afdx_network.specs.Given.{given_of}
 use Rattle.afdx_ways.specs.Lines.{Names}
-use Rattle.afdx_serve.specs.declared.failure.Failure.TheVariants.{Memory, Write}
+use Rattle.afdx_failures.specs.declared.failure.Failure.TheVariants.{Memory, Write}
 use Rattle.afdx_serve.specs.Networks.{names_of}
 use Rattle.afdx_serve.specs.NetworkRuns.{names_at, captures_of, reports_of}
-use Rattle.afdx_serve.proofs.FileLemmas.{KeepsFiles-trans}
-use Rattle.afdx_serve.proofs.RunLemmas.{of_error}
+use Rattle.afdx_devices.proofs.FileLemmas.{KeepsFiles-trans}
+use Rattle.afdx_devices.proofs.Errors.{of_error}
 use Rattle.afdx_serve.proofs.NetworkRunLemmas.{is_led, files_named, no_run, not_given, not_led, not_put_network, puts_network}
 use Rattle.afdx_serve.proofs.network_run.network_run.Goals as goal
 

@@ -1,5 +1,5 @@
 use Rattle.std.proofs.Common.{◌≡◌, take}
-use Rattle.afdx_serve.specs.Files.{PutsFiles}
+use Rattle.afdx_devices.specs.Files.{PutsFiles}
 use Rattle.afdx_serve.specs.NetworkRuns.{bytes_at, captures_of}
 use Rattle.afdx_serve.specs.Inner.NetworkRunning.{held_names}
 use Rattle.afdx_serve.proofs.network_run.put_all.Given as goal

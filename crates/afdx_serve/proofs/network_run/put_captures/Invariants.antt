@@ -1,6 +1,6 @@
 use Rattle.std.proofs.Common.{◌≡◌, map, take, string_bytes}
 use Rattle.afdx_session.specs.Texts.{texts_of}
-use Rattle.afdx_serve.specs.Files.{PutsFiles}
+use Rattle.afdx_devices.specs.Files.{PutsFiles}
 use Rattle.afdx_serve.specs.Runs.{bytes_of}
 use Rattle.afdx_serve.proofs.network_run.put_captures.Given as goal
 

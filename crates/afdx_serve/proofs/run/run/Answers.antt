@@ -4,9 +4,10 @@ use Rattle.afdx_core.specs.Merge.{merged}
 use Rattle.afdx_session.specs.Texts.{texts_of}
 use Rattle.afdx_session.specs.Outcome.{table_in}
 use Rattle.afdx_session.specs.Carried.{IsCarried, results_of}
-use Rattle.afdx_serve.specs.declared.failure.Failure.TheVariants.{Write}
+use Rattle.afdx_failures.specs.declared.failure.Failure.TheVariants.{Write}
 use Rattle.afdx_serve.specs.Runs.{names_in}
-use Rattle.afdx_serve.proofs.RunLemmas.{of_error, not_gathered_run, not_led_run, leads_to, same_names, same_count, not_all, all_put}
+use Rattle.afdx_devices.proofs.Errors.{of_error}
+use Rattle.afdx_serve.proofs.RunLemmas.{not_gathered_run, not_led_run, leads_to, same_names, same_count, not_all, all_put}
 use Rattle.afdx_serve.proofs.run.run.Goals as goal
 
 pub lead-requires : goal.lead-requires

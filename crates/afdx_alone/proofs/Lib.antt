@@ -1,0 +1,3 @@
+mod PartLemmas
+pub mod OwnLemmas
+pub mod Progress

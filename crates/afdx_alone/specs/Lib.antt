@@ -1,0 +1,4 @@
+pub mod Answer
+pub mod Faults
+pub mod Inner
+pub mod Own

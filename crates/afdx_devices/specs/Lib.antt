@@ -1,0 +1,4 @@
+pub mod Files
+pub mod Inner
+pub mod Input
+pub mod Output

@@ -1,0 +1,89 @@
+//! A folder of files.
+
+ghost use Rattle.std.specs.Prelude.{◌≡◌, Option, None, IfOk, OnOk};
+ghost use Rattle.afdx_devices.specs.Files.{Files, DeviceLog, Shows, KeepsFiles, PutsFile, KeepsOthers, HasCause};
+
+use crate::input::InputFault;
+use std::alloc::{AllocError, AllocFailed, Allocator};
+use thiserror::Error;
+
+/// Why a file was not got or put. Each message is its variant's name.
+#[derive(Clone, Copy, Debug, PartialEq, Eq, Error)]
+pub enum FolderFault {
+    /// A growth was refused.
+    #[error("Memory")]
+    Memory,
+    /// The folder failed; a file that is not there is such a failure.
+    #[error("Device")]
+    Device,
+}
+
+impl From<AllocError> for FolderFault {
+    ghost use Rattle.afdx_devices.specs.declared.folder.FolderFault.TheVariants.{Memory};
+
+    ghost from_gives = { λ _ fault. fault ≡ Memory };
+
+    fn from(_e: AllocError) -> FolderFault {
+        FolderFault::Memory
+    }
+}
+
+impl<T: Drop> From<AllocFailed<T>> for FolderFault {
+    ghost use Rattle.afdx_devices.specs.declared.folder.FolderFault.TheVariants.{Memory};
+
+    ghost from_gives = { λ _ fault. fault ≡ Memory };
+
+    fn from(_e: AllocFailed<T>) -> FolderFault {
+        FolderFault::Memory
+    }
+}
+
+impl From<InputFault> for FolderFault {
+    ghost use Rattle.afdx_devices.specs.Inner.Faults.{folder_fault};
+
+    ghost from_gives = { λ fault given. given ≡ folder_fault fault };
+
+    fn from(e: InputFault) -> FolderFault {
+        match e {
+            InputFault::Memory => FolderFault::Memory,
+            InputFault::Device => FolderFault::Device,
+        }
+    }
+}
+
+/// A folder, by the bytes that are under each name. It counts its failures, and tells the name of the last one.
+pub trait Folder {
+    /// The files, where it tells them.
+    ghost files: { Self → Option Files } = { λ _. None };
+    /// How often it has failed, as far as 64 bits go, and the name that the last of these calls was for.
+    ghost failed: { Self → DeviceLog };
+
+    /// The bytes that are under a name.
+    ///
+    /// # Errors
+    ///
+    /// `Memory` where a growth was refused; `Device`, counted, where the folder failed or has no such file.
+    fn get<A: Allocator + Copy>(&mut self, alloc: A, name: &str) -> Result<Vec<u8, A>, FolderFault>
+        ensures bytes { IfOk result (λ v. Shows (files self.old) name.now v.items) }
+        ensures same { KeepsFiles (files self.old) (files self.new) }
+        ensures cause { HasCause name.now (failed self.old) (failed self.new) result };
+
+    /// Puts bytes under a name, in place of what is there. After an error nothing is said of what is there.
+    ///
+    /// # Errors
+    ///
+    /// `Memory` where a growth was refused; `Device`, counted, where the folder failed.
+    fn put<A: Allocator + Copy>(
+        &mut self,
+        alloc: A,
+        name: &str,
+        bytes: &[u8],
+    ) -> Result<(), FolderFault>
+        ensures bytes { OnOk result (PutsFile (files self.old) (files self.new) name.now bytes.now) }
+        ensures others { KeepsOthers (files self.old) (files self.new) name.now }
+        ensures cause { HasCause name.now (failed self.old) (failed self.new) result };
+
+    /// The count of failures, which stays at its greatest value.
+    fn failures(&self) -> u64
+        ensures { result ≡ (failed self.now).count };
+}

@@ -1,0 +1,39 @@
+-- The failure of a command that a fault below it leads to.
+use Rattle.std.specs.Prelude.{None}
+use Rattle.afdx_table.specs.declared.fault.TableFault.{TableFault}
+use Rattle.afdx_table.specs.declared.fault.TableFault.TheVariants as table
+use Rattle.afdx_wiring.specs.declared.fault.NetworkFault.{NetworkFault}
+use Rattle.afdx_wiring.specs.declared.fault.NetworkFault.TheVariants as wiring
+use Rattle.afdx_session.specs.declared.plan.RunFault.{RunFault}
+use Rattle.afdx_session.specs.declared.plan.RunFault.TheVariants as run
+use Rattle.afdx_alone.specs.declared.policing.AloneFault.{AloneFault}
+use Rattle.afdx_alone.specs.declared.policing.AloneFault.TheVariants as alone
+use Rattle.afdx_devices.specs.declared.input.InputFault.{InputFault}
+use Rattle.afdx_devices.specs.declared.input.InputFault.TheVariants as input
+use Rattle.afdx_lines.specs.declared.network_failure.NetworkFailure.TheVariants as network
+use Rattle.afdx_failures.specs.declared.failure.Failure.{Failure}
+use Rattle.afdx_failures.specs.declared.failure.Failure.TheVariants as failure
+
+abbrev pub input_failure : InputFault → Failure
+input_failure input.Memory = failure.Memory
+input_failure input.Device = failure.Read
+
+abbrev pub alone_failure : AloneFault → Failure
+alone_failure alone.Memory = failure.Memory
+alone_failure (alone.Capture fault) = failure.Capture fault
+
+abbrev pub table_failure : TableFault → Failure
+table_failure table.Memory = failure.Memory
+table_failure fault = failure.Table fault
+
+-- with no name of a switch
+abbrev pub wiring_failure : NetworkFault → Failure
+wiring_failure wiring.Memory = failure.Memory
+wiring_failure fault = failure.Network (network.Refused fault None)
+
+abbrev pub run_failure : RunFault → Failure
+run_failure run.Memory = failure.Memory
+run_failure (run.Capture port fault) = failure.PortCapture port fault
+run_failure run.WrongPorts = failure.Usage
+run_failure run.Closed = failure.Usage
+run_failure run.Failed = failure.Usage

@@ -1,0 +1,149 @@
+//! Why a command was not served.
+
+ghost use Rattle.std.specs.Prelude.{◌≡◌};
+
+use afdx_alone::AloneFault;
+use afdx_devices::{InputFault, WriteFault};
+use afdx_lines::NetworkFailure;
+use afdx_load::LoadFault;
+use afdx_pcap::PcapFault;
+use afdx_session::RunFault;
+use afdx_table::TableFault;
+use afdx_wiring::NetworkFault;
+use std::alloc::{AllocError, AllocFailed};
+use thiserror::Error;
+
+/// Why a command was not served. Each message is its variant's name.
+#[derive(Debug, Drop, Error)]
+pub enum Failure {
+    /// The arguments are refused.
+    #[error("Usage")]
+    Usage,
+    /// The file of the table holds none, and this is its first refusal.
+    #[error("Table")]
+    Table(TableFault),
+    /// The table asks for more than a port can give, and this is the first rule that is broken.
+    #[error("Load")]
+    Load(LoadFault),
+    /// The input is no capture, and this is its first fault.
+    #[error("Capture")]
+    Capture(PcapFault),
+    /// The file of this port is no capture, and this is its first fault.
+    #[error("PortCapture")]
+    PortCapture(u8, PcapFault),
+    /// What only commands of networks refuse.
+    #[error("Network")]
+    Network(NetworkFailure),
+    /// The folder failed to get the file of this name, or it is not there.
+    #[error("Get")]
+    Get(String),
+    /// The folder failed to put the file of this name.
+    #[error("Put")]
+    Put(String),
+    /// The input failed, or was not read to its end within the bounded number of reads.
+    #[error("Read")]
+    Read,
+    /// The output failed, was interrupted or took nothing.
+    #[error("Write")]
+    Write,
+    /// A growth was refused.
+    #[error("Memory")]
+    Memory,
+}
+
+impl From<AllocError> for Failure {
+    ghost use Rattle.afdx_failures.specs.declared.failure.Failure.TheVariants.{Memory};
+
+    ghost from_gives = { λ _ failure. failure ≡ Memory };
+
+    fn from(_e: AllocError) -> Failure {
+        Failure::Memory
+    }
+}
+
+impl<T: Drop> From<AllocFailed<T>> for Failure {
+    ghost use Rattle.afdx_failures.specs.declared.failure.Failure.TheVariants.{Memory};
+
+    ghost from_gives = { λ _ failure. failure ≡ Memory };
+
+    fn from(_e: AllocFailed<T>) -> Failure {
+        Failure::Memory
+    }
+}
+
+impl From<InputFault> for Failure {
+    ghost use Rattle.afdx_failures.specs.Inner.Failures.{input_failure};
+
+    ghost from_gives = { λ fault failure. failure ≡ input_failure fault };
+
+    fn from(e: InputFault) -> Failure {
+        match e {
+            InputFault::Memory => Failure::Memory,
+            InputFault::Device => Failure::Read,
+        }
+    }
+}
+
+impl From<WriteFault> for Failure {
+    ghost use Rattle.afdx_failures.specs.declared.failure.Failure.TheVariants.{Write as WriteFailed};
+
+    ghost from_gives = { λ _ failure. failure ≡ WriteFailed };
+
+    fn from(_e: WriteFault) -> Failure {
+        Failure::Write
+    }
+}
+
+impl From<AloneFault> for Failure {
+    ghost use Rattle.afdx_failures.specs.Inner.Failures.{alone_failure};
+
+    ghost from_gives = { λ fault failure. failure ≡ alone_failure fault };
+
+    fn from(e: AloneFault) -> Failure {
+        match e {
+            AloneFault::Memory => Failure::Memory,
+            AloneFault::Capture(fault) => Failure::Capture(fault),
+        }
+    }
+}
+
+impl From<TableFault> for Failure {
+    ghost use Rattle.afdx_failures.specs.Inner.Failures.{table_failure};
+
+    ghost from_gives = { λ fault failure. failure ≡ table_failure fault };
+
+    fn from(e: TableFault) -> Failure {
+        match e {
+            TableFault::Memory => Failure::Memory,
+            _ => Failure::Table(e),
+        }
+    }
+}
+
+impl From<NetworkFault> for Failure {
+    ghost use Rattle.afdx_failures.specs.Inner.Failures.{wiring_failure};
+
+    ghost from_gives = { λ fault failure. failure ≡ wiring_failure fault };
+
+    fn from(e: NetworkFault) -> Failure {
+        match e {
+            NetworkFault::Memory => Failure::Memory,
+            _ => Failure::Network(NetworkFailure::Refused(e, None)),
+        }
+    }
+}
+
+impl From<RunFault> for Failure {
+    ghost use Rattle.afdx_failures.specs.Inner.Failures.{run_failure};
+
+    ghost from_gives = { λ fault failure. failure ≡ run_failure fault };
+
+    fn from(e: RunFault) -> Failure {
+        match e {
+            RunFault::Memory => Failure::Memory,
+            RunFault::Capture(port, fault) => Failure::PortCapture(port, fault),
+            // Captures are got by the table's own ports, and given whole, so that none of these is met.
+            RunFault::WrongPorts | RunFault::Closed | RunFault::Failed => Failure::Usage,
+        }
+    }
+}

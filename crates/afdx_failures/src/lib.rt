@@ -1,0 +1,10 @@
+//! Why a command was not served, and what is reported of it.
+//!
+//! [`report`] writes the line of a [`Failure`] and gives its status.
+#![tactic(auto)]
+
+mod failure;
+mod telling;
+
+pub use failure::Failure;
+pub use telling::report;

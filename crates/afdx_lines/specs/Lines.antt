@@ -1,0 +1,162 @@
+-- The lines of faults, and the status of a network's.
+use Rattle.std.specs.Prelude.{ℕ, codes, List, [], ◌∷◌, ◌++◌, Option, Some, None, option_map, string_bytes}
+use Rattle.std.specs.Fmt.{decimal}
+use Rattle.afdx_pcap.specs.declared.fault.PcapFault.{PcapFault}
+use Rattle.afdx_pcap.specs.declared.fault.PcapFault.TheVariants as fault
+use Rattle.afdx_table.specs.Names.{key_text, place_text}
+use Rattle.afdx_table.specs.declared.fault.TableFault.{TableFault}
+use Rattle.afdx_table.specs.declared.fault.TableFault.TheVariants as table
+use Rattle.afdx_load.specs.declared.fault.Rule.{Rule}
+use Rattle.afdx_load.specs.declared.fault.Rule.TheVariants.{Rate, Buffer, HighDelay, LowDelay}
+use Rattle.afdx_load.specs.declared.fault.LoadFault.{LoadFault}
+use Rattle.afdx_wiring.specs.declared.fault.NetworkFault.{NetworkFault}
+use Rattle.afdx_wiring.specs.declared.fault.NetworkFault.TheVariants as net
+use Rattle.afdx_wiring.specs.declared.fault.Short.{Short}
+use Rattle.afdx_wiring.specs.Names.{key_text as wiring_key_text, place_text as wiring_place_text}
+use Rattle.afdx_lines.specs.declared.network_failure.NetworkFailure.{NetworkFailure}
+use Rattle.afdx_lines.specs.declared.network_failure.NetworkFailure.TheVariants as network
+
+-- each line ends with a line feed
+abbrev pub ended : List ℕ → List ℕ
+ended line = line ++ 10 ∷ []
+
+-- ---- of a table
+
+-- what is reported of the table: the refusal, its place and its key
+abbrev pub refusal_text : TableFault → List ℕ
+refusal_text table.Memory = codes "C1 Memory"
+refusal_text table.Toml = codes "C2 Toml"
+refusal_text (table.UnknownKey at) = codes "C3 UnknownKey, " ++ place_text at
+refusal_text (table.MissingKey at key) = codes "C4 MissingKey, " ++ place_text at ++ codes ", " ++ key_text key
+refusal_text (table.Kind at key) = codes "C5 Kind, " ++ place_text at ++ codes ", " ++ key_text key
+refusal_text (table.Range at key) = codes "C6 Range, " ++ place_text at ++ codes ", " ++ key_text key
+refusal_text table.Constant = codes "C7 Constant"
+refusal_text (table.TwicePort at) = codes "C8 TwicePort, " ++ place_text at
+refusal_text (table.TwiceLink at) = codes "C9 TwiceLink, " ++ place_text at
+refusal_text (table.NoSuchPort at) = codes "C10 NoSuchPort, " ++ place_text at
+refusal_text (table.ToEmpty at) = codes "C11 ToEmpty, " ++ place_text at
+refusal_text (table.ToTwice at) = codes "C12 ToTwice, " ++ place_text at
+refusal_text (table.ToOwnPort at) = codes "C13 ToOwnPort, " ++ place_text at
+refusal_text (table.TooMany key) = codes "C14 TooMany, " ++ key_text key
+
+abbrev pub table_text : TableFault → List ℕ
+table_text refusal = codes "afdx: table " ++ refusal_text refusal
+
+abbrev pub table_line : TableFault → List ℕ
+table_line refusal = ended (table_text refusal)
+
+-- ---- of a capture
+
+abbrev pub fault_text : PcapFault → List ℕ
+fault_text fault.Memory = codes "P1 Memory"
+fault_text fault.NoHeader = codes "P2 NoHeader"
+fault_text fault.Magic = codes "P3 Magic"
+fault_text fault.Version = codes "P4 Version"
+fault_text (fault.LinkType argument) = codes "P5 LinkType " ++ decimal argument
+fault_text (fault.CutHeader n) = codes "P6 CutHeader"
+fault_text (fault.Huge n) = codes "P7 Huge"
+fault_text (fault.Fraction n) = codes "P8 Fraction"
+fault_text (fault.Late n) = codes "P9 Late"
+fault_text (fault.Backwards n) = codes "P10 Backwards"
+fault_text (fault.CutData n) = codes "P11 CutData"
+
+-- the record that a fault lies in, counted from 1
+abbrev pub record_of : PcapFault → Option ℕ
+record_of (fault.CutHeader n) = Some n
+record_of (fault.Huge n) = Some n
+record_of (fault.Fraction n) = Some n
+record_of (fault.Late n) = Some n
+record_of (fault.Backwards n) = Some n
+record_of (fault.CutData n) = Some n
+record_of _ = None
+
+-- a further part of a line, where it has one
+abbrev pub part : List ℕ → Option ℕ → List ℕ
+part name None = []
+part name (Some n) = name ++ decimal n
+
+-- of a capture, which is a port's or not
+abbrev pub capture_text : Option ℕ → PcapFault → List ℕ
+capture_text port f = codes "afdx: capture " ++ fault_text f ++ part (codes ", port ") port ++ part (codes ", record ") (record_of f)
+
+abbrev pub capture_line : Option ℕ → PcapFault → List ℕ
+capture_line port f = ended (capture_text port f)
+
+-- ---- of a load
+
+abbrev pub rule_text : Rule → List ℕ
+rule_text Rate = codes "L1 Rate"
+rule_text Buffer = codes "L2 Buffer"
+rule_text HighDelay = codes "L3 HighDelay"
+rule_text LowDelay = codes "L4 LowDelay"
+
+abbrev pub load_fault_text : LoadFault → List ℕ
+load_fault_text f = codes "afdx: load " ++ rule_text f.rule ++ codes ", port " ++ decimal f.port ++ codes ", need " ++ decimal f.need ++ codes ", limit " ++ decimal f.limit
+
+abbrev pub load_line : LoadFault → List ℕ
+load_line f = ended (load_fault_text f)
+
+-- ---- of a network
+
+-- the name of a switch, where a refusal is of one
+abbrev pub switch_part : Option (List ℕ) → List ℕ
+switch_part None = []
+switch_part (Some name) = codes ", switch " ++ name
+
+abbrev pub link_part : ℕ → List ℕ
+link_part link = codes ", link " ++ decimal link
+
+abbrev pub network_rule : List ℕ → List ℕ
+network_rule rule = codes "afdx: network " ++ rule
+
+-- the row of a link at a switch, and the jitter in microseconds that it needs
+abbrev pub short_text : List ℕ → Option (List ℕ) → Short → List ℕ
+short_text rule name short = network_rule rule ++ switch_part name ++ link_part short.link ++ codes ", need " ++ decimal short.need
+
+-- what is reported of a refusal, which may be of the switch of this name
+abbrev pub network_text : Option (List ℕ) → NetworkFault → List ℕ
+network_text name net.Memory = codes "afdx: memory"
+network_text name net.Toml = network_rule (codes "G1 Toml")
+network_text name (net.UnknownKey at) = network_rule (codes "G2 UnknownKey") ++ codes ", " ++ wiring_place_text at
+network_text name (net.MissingKey at key) = network_rule (codes "G2 MissingKey") ++ codes ", " ++ wiring_place_text at ++ codes ", " ++ wiring_key_text key
+network_text name (net.Kind at key) = network_rule (codes "G2 Kind") ++ codes ", " ++ wiring_place_text at ++ codes ", " ++ wiring_key_text key
+network_text name (net.Range at key) = network_rule (codes "G2 Range") ++ codes ", " ++ wiring_place_text at ++ codes ", " ++ wiring_key_text key
+network_text name (net.TwiceSwitch at) = network_rule (codes "G3 TwiceSwitch") ++ codes ", " ++ wiring_place_text at
+network_text name (net.NoSuchSwitch at) = network_rule (codes "G3 NoSuchSwitch") ++ codes ", " ++ wiring_place_text at
+network_text name (net.TwiceFrom at) = network_rule (codes "G3 TwiceFrom") ++ codes ", " ++ wiring_place_text at
+network_text name (net.TwiceTo at) = network_rule (codes "G3 TwiceTo") ++ codes ", " ++ wiring_place_text at
+network_text name (net.OwnPort at) = network_rule (codes "G3 OwnPort") ++ codes ", " ++ wiring_place_text at
+network_text name (net.NoSuchPort at) = network_rule (codes "G3 NoSuchPort") ++ codes ", " ++ wiring_place_text at
+network_text name (net.Load switch why) = load_fault_text why ++ switch_part name
+network_text name (net.Constant at) = network_rule (codes "G4 Constant") ++ codes ", " ++ wiring_place_text at
+network_text name (net.Speed at) = network_rule (codes "G4 Speed") ++ codes ", " ++ wiring_place_text at
+network_text name (net.NoRow at link) = network_rule (codes "G5 NoRow") ++ codes ", " ++ wiring_place_text at ++ link_part link
+network_text name (net.From at link) = network_rule (codes "G6 From") ++ codes ", " ++ wiring_place_text at ++ link_part link
+network_text name (net.Size at link) = network_rule (codes "G7 Size") ++ codes ", " ++ wiring_place_text at ++ link_part link
+network_text name (net.Bag at link) = network_rule (codes "G7 Bag") ++ codes ", " ++ wiring_place_text at ++ link_part link
+network_text name (net.Police at link) = network_rule (codes "G7 Police") ++ codes ", " ++ wiring_place_text at ++ link_part link
+network_text name (net.NoSource switch link) = network_rule (codes "G8 NoSource") ++ switch_part name ++ link_part link
+network_text name (net.TwiceSource link) = network_rule (codes "G9 TwiceSource") ++ link_part link
+network_text name (net.Jitter short) = short_text (codes "J1 Jitter") name short ++ codes ", has " ++ decimal short.has
+network_text name (net.NoJitter short) = short_text (codes "J2 NoJitter") name short
+
+abbrev pub network_failure_text : NetworkFailure → List ℕ
+network_failure_text (network.Refused fault name) = network_text (option_map string_bytes name) fault
+network_failure_text (network.Table refusal name) = table_text refusal ++ switch_part (Some (string_bytes name))
+network_failure_text (network.Capture port fault name) = capture_text (Some port) fault ++ switch_part (Some (string_bytes name))
+network_failure_text network.Unsettled = network_rule (codes "R1 Unsettled")
+
+abbrev pub network_failure_line : NetworkFailure → List ℕ
+network_failure_line f = ended (network_failure_text f)
+
+abbrev pub fault_status : NetworkFault → ℕ
+fault_status net.Memory = 5
+fault_status (net.Load switch why) = 4
+fault_status (net.Jitter short) = 4
+fault_status (net.NoJitter short) = 4
+fault_status _ = 3
+
+abbrev pub network_status : NetworkFailure → ℕ
+network_status (network.Refused fault name) = fault_status fault
+network_status network.Unsettled = 4
+network_status _ = 3

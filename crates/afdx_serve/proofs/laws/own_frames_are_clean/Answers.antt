@@ -1,5 +1,0 @@
-use Rattle.afdx_serve.proofs.OwnLemmas.{own_is_clean}
-use Rattle.afdx_serve.proofs.laws.own_frames_are_clean.Goals as goal
-
-pub returns : goal.returns
-returns c = own_is_clean
