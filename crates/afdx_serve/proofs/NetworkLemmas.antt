@@ -1,26 +1,63 @@
 -- Why commands of networks were not served.
-use Rattle.std.proofs.Common.{◌≢◌, ℕ, List, Option, None, inl, inr}
+use Rattle.std.proofs.Common.{◌≢◌, ℕ, List, Option, None, Global, String, inl, inr}
 use Rattle.std.specs.Prelude.{◌⊎◌}
 use Rattle.afdx_wiring.specs.declared.fault.NetworkFault.{NetworkFault}
 use Rattle.afdx_wiring.specs.declared.fault.NetworkFault.TheVariants as fault
+use Rattle.afdx_ways.specs.Lines.{Names}
 use Rattle.afdx_arguments.specs.declared.request.NetworkRequest.{NetworkRequest}
 use Rattle.afdx_arguments.specs.declared.request.NetworkRequest.TheVariants as ask
+use Rattle.afdx_lines.specs.declared.network_failure.NetworkFailure.{NetworkFailure}
 use Rattle.afdx_lines.specs.declared.network_failure.NetworkFailure.TheVariants as network
 use Rattle.afdx_failures.specs.declared.failure.Failure.{Failure}
 use Rattle.afdx_failures.specs.declared.failure.Failure.TheVariants as failure
 use Rattle.afdx_failures.specs.Inner.Failures.{wiring_failure}
 use Rattle.afdx_devices.specs.Files.{Files, DeviceLog, KeepsFiles}
 use Rattle.afdx_failures.specs.Telling.{IsMade}
-use Rattle.afdx_serve.specs.Networks.{FailsToGetNetwork}
+use Rattle.afdx_serve.specs.Networks.{IsRefused, FailsToGetNetwork}
 use Rattle.afdx_serve.specs.Serving.{World, WritesNothing, FailsToPerformNetwork}
 
--- ---- of all commands of networks
+-- ---- a network that is not got, or is refused
 
--- they never refuse the arguments
+-- no other failure leaves a network to be got
 got : (files : Option Files) (path : List ℕ) (before after : DeviceLog) → FailsToGetNetwork failure.Usage files path before after → ⊥
 got files path before after (inl h) = h
 got files path before after (inr h) = h.2
 
+-- it is not got for want of memory or of a file, or because it is refused
+pub of_lost : (P : Failure → Type 0) (files : Option Files) (path : List ℕ) (before after : DeviceLog) → P failure.Memory
+    → ((e : NetworkFailure) → FailsToGetNetwork (failure.Network e) files path before after → P (failure.Network e))
+    → ((name : String Global) → FailsToGetNetwork (failure.Get name) files path before after → P (failure.Get name))
+    → (f : Failure) → FailsToGetNetwork f files path before after → P f
+of_lost P files path before after out refused unread failure.Memory h = out
+of_lost P files path before after out refused unread (failure.Network e) h = refused e h
+of_lost P files path before after out refused unread (failure.Get name) h = unread name h
+of_lost P files path before after out refused unread failure.Usage h = absurd (got files path before after h)
+of_lost P files path before after out refused unread (failure.Table e) h = absurd (got files path before after h)
+of_lost P files path before after out refused unread (failure.Load e) h = absurd (got files path before after h)
+of_lost P files path before after out refused unread (failure.Capture e) h = absurd (got files path before after h)
+of_lost P files path before after out refused unread (failure.PortCapture p e) h = absurd (got files path before after h)
+of_lost P files path before after out refused unread (failure.Put name) h = absurd (got files path before after h)
+of_lost P files path before after out refused unread failure.Read h = absurd (got files path before after h)
+of_lost P files path before after out refused unread failure.Write h = absurd (got files path before after h)
+
+-- a refusal leads to itself, or to memory
+pub of_refused : (P : Failure → Type 0) (names : Names) (e : NetworkFault) → P failure.Memory
+    → ((x : NetworkFailure) → IsRefused names e (failure.Network x) → P (failure.Network x)) → (f : Failure) → IsRefused names e f → P f
+of_refused P names e out refused failure.Memory h = out
+of_refused P names e out refused (failure.Network x) h = refused x h
+of_refused P names e out refused failure.Usage h = absurd h
+of_refused P names e out refused (failure.Table x) h = absurd h
+of_refused P names e out refused (failure.Load x) h = absurd h
+of_refused P names e out refused (failure.Capture x) h = absurd h
+of_refused P names e out refused (failure.PortCapture p x) h = absurd h
+of_refused P names e out refused (failure.Get name) h = absurd h
+of_refused P names e out refused (failure.Put name) h = absurd h
+of_refused P names e out refused failure.Read h = absurd h
+of_refused P names e out refused failure.Write h = absurd h
+
+-- ---- of all commands of networks
+
+-- they never refuse the arguments
 pub never_usage : (r : NetworkRequest) (old new : World) → FailsToPerformNetwork failure.Usage r old new → ⊥
 never_usage (ask.Check path) old new h = elim h.0 [
   | inl fails ↦ got old.files path.now old.failed new.failed fails

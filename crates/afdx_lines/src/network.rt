@@ -4,10 +4,10 @@ ghost use Rattle.std.specs.Prelude.{◌≡◌, ◌++◌, codes, option_map, stri
 ghost use Rattle.afdx_wiring.specs.Names.{key_text, place_text};
 ghost use Rattle.afdx_lines.specs.Lines.{load_fault_text, network_rule, switch_part, link_part, short_text, network_text, network_failure_text, network_failure_line, network_status};
 
-use crate::capture_line::capture_text;
-use crate::load_line::load_fault_text;
+use crate::capture::capture_text;
+use crate::load::load_fault_text;
 use crate::network_failure::NetworkFailure;
-use crate::table_line::table_text;
+use crate::table::table_text;
 use afdx_load::LoadFault;
 use afdx_wiring::{At, Key, NetworkFault, Short};
 use std::alloc::{AllocError, Global};
