@@ -1,42 +1,19 @@
-//! Captures whose bytes come from the format's description.
+//! Captures that are read and written, whole and in pieces.
 
-use afdx_pcap::{
-    PcapFault, Reader, Record, read_all, write_all, write_frame, write_header, write_record,
+use crate::bytes::{
+    AT_A_MILLION, AT_FIVE_MICROS, AT_ZERO, BEFORE_FAULT, FAULTS, FOR_GOOD, FRAME, HEADER,
+    HUGE_LENGTH, IN_THE_LAST_SECOND, LARGEST, LENGTHS, MAGICS, MESSAGES, PATCHES,
 };
+use crate::readers::{
+    answers_all, are_written_as, gives_one_record, is_early_fault, is_written_as, read_piece,
+    read_whole,
+};
+use afdx_pcap::{PcapFault, Record, read_all, write_all, write_frame, write_header, write_record};
 use afdx_units::Stamp;
-use std::alloc::Global;
+use std::alloc::{AllocError, Global};
 use std::test::Fail;
 
-/// A header as it is written: little-endian, nanoseconds.
-const HEADER: [u8; 24] = [
-    0x4d, 0x3c, 0xb2, 0xa1, 2, 0, 4, 0, 0, 0, 0, 0, 0, 0, 0, 0, 0, 0, 4, 0, 1, 0, 0, 0,
-];
-
-/// A header of big-endian microseconds.
-const BIG_MICROS: [u8; 24] = [
-    0xa1, 0xb2, 0xc3, 0xd4, 0, 2, 0, 4, 0, 0, 0, 0, 0, 0, 0, 0, 0, 0, 0xff, 0xff, 0, 0, 0, 1,
-];
-
-/// A header of little-endian microseconds.
-const LITTLE_MICROS: [u8; 24] = [
-    0xd4, 0xc3, 0xb2, 0xa1, 2, 0, 4, 0, 0, 0, 0, 0, 0, 0, 0, 0, 0, 0, 4, 0, 1, 0, 0, 0,
-];
-
-/// A header of big-endian nanoseconds.
-const BIG_NANOS: [u8; 24] = [
-    0xa1, 0xb2, 0x3c, 0x4d, 0, 2, 0, 4, 0, 0, 0, 0, 0, 0, 0, 0, 0, 0, 0xff, 0xff, 0, 0, 0, 1,
-];
-
-/// The record header of a frame of 60 bytes at 0, little-endian.
-const AT_ZERO: [u8; 16] = [0, 0, 0, 0, 0, 0, 0, 0, 60, 0, 0, 0, 60, 0, 0, 0];
-
-/// A frame of 60 captured bytes of link 10.
-const FRAME: [u8; 60] = [
-    3, 0, 0, 0, 0, 10, 2, 0, 0, 0, 0, 1, 8, 0, 0, 0, 0, 0, 0, 0, 0, 0, 0, 0, 0, 0, 0, 0, 0, 0, 0,
-    0, 0, 0, 0, 0, 0, 0, 0, 0, 0, 0, 0, 0, 0, 0, 0, 0, 0, 0, 0, 0, 0, 0, 0, 0, 0, 0, 0, 0,
-];
-
-fn joined(alloc: Global, parts: &[&[u8]]) -> Result<Vec<u8>, Fail> {
+fn joined(alloc: Global, parts: &[&[u8]]) -> Result<Vec<u8>, AllocError> {
     let mut bytes = Vec::new(alloc);
     for part in parts {
         bytes.extend_from_slice(part)?;
@@ -45,40 +22,208 @@ fn joined(alloc: Global, parts: &[&[u8]]) -> Result<Vec<u8>, Fail> {
 }
 
 /// The capture of one frame at 0.
-fn one_frame(alloc: Global) -> Result<Vec<u8>, Fail> {
-    joined(alloc, &[&HEADER, &AT_ZERO, &FRAME])
+fn one_frame(alloc: Global) -> Result<Vec<u8>, AllocError> {
+    joined(alloc, &[HEADER, AT_ZERO, FRAME])
 }
 
-/// That capture with these bytes written over it from a place on.
+/// The capture of two frames, at 0 and a million nanoseconds later.
+fn two_frames(alloc: Global) -> Result<Vec<u8>, AllocError> {
+    joined(alloc, &[HEADER, AT_ZERO, FRAME, AT_A_MILLION, FRAME])
+}
+
+/// The capture of one frame with these bytes written over it from a place on.
 fn patched(alloc: Global, place: usize, patch: &[u8]) -> Result<Vec<u8>, Fail> {
-    let mut bytes = one_frame(alloc)?;
-    for (i, byte) in patch.iter().enumerate() {
-        let at = bytes.get_mut(place.saturating_add(i)).ok_or("a place")?;
-        *at = *byte;
+    let bytes = one_frame(alloc)?;
+    let end = place.saturating_add(patch.len());
+    match (bytes.get(..place), bytes.get(end..)) {
+        (Some(head), Some(tail)) => Ok(joined(alloc, &[head, patch, tail])?),
+        _ => Err("a place".into()),
     }
-    Ok(bytes)
 }
 
-/// The number of records, or the fault.
-fn read_whole(alloc: Global, bytes: &[u8]) -> Result<usize, PcapFault> {
-    Ok(read_all(alloc, bytes)?.len())
+/// Whether this is the record of the frame at 0.
+fn is_the_frame_at_zero(record: &Record<Global>) -> bool {
+    record.stamp() == Stamp::ZERO && record.original() == 60 && record.bytes() == FRAME
 }
 
-fn take_records<'a>(
-    reader: &mut Reader<'a, Global>,
-    records: &mut Vec<Record<'a, Global>>,
-) -> Result<(), PcapFault> {
-    for _ in 0..u16::MAX {
-        let Some(record) = reader.next()? else {
-            return Ok(());
-        };
-        records.push(record)?;
+/// Whether a capture is that of the frame at 0 alone.
+fn is_of_the_frame_at_zero(alloc: Global, bytes: &[u8]) -> Result<bool, PcapFault> {
+    let records = read_all(alloc, bytes)?;
+    Ok(records.len() == 1 && records.iter().all(|record| is_the_frame_at_zero(record)))
+}
+
+#[test]
+fn first_capture(rt: HostRuntime) -> Result<(), Fail> {
+    let bytes = one_frame(rt.alloc())?;
+    assert!(rt; is_of_the_frame_at_zero(rt.alloc(), &bytes)?);
+    assert!(rt; is_written_as(rt.alloc(), &bytes, &bytes)?);
+    Ok(())
+}
+
+/// Appends the records of a capture one by one.
+fn append_records(alloc: Global, bytes: &[u8], written: &mut Vec<u8>) -> Result<(), PcapFault> {
+    for record in &read_all(alloc, bytes)? {
+        write_record(written, record)?;
     }
     Ok(())
 }
 
+/// A capture that is written record by record is the one that is written at once.
+#[test]
+fn written_record_by_record(rt: HostRuntime) -> Result<(), Fail> {
+    let bytes = joined(rt.alloc(), &[HEADER, AT_ZERO, FRAME, AT_ZERO, FRAME])?;
+    let mut written = Vec::new(rt.alloc());
+    write_header(&mut written)?;
+    append_records(rt.alloc(), &bytes, &mut written)?;
+    assert!(rt; written.as_slice() == bytes.as_slice());
+    written.truncate(100);
+    write_frame(&mut written, Stamp::ZERO, FRAME)?;
+    assert!(rt; written.as_slice() == bytes.as_slice());
+    Ok(())
+}
+
+/// Whether the first record of a capture has this stamp.
+fn begins_at(alloc: Global, bytes: &[u8], ns: u64) -> Result<bool, PcapFault> {
+    let records = read_all(alloc, bytes)?;
+    Ok(records.first().map(|record| record.stamp().ns()) == Some(ns))
+}
+
+#[test]
+fn four_magics(rt: HostRuntime) -> Result<(), Fail> {
+    let written = joined(rt.alloc(), &[HEADER, AT_FIVE_MICROS, FRAME])?;
+    for (header, head) in MAGICS {
+        let bytes = joined(rt.alloc(), &[header, head, FRAME])?;
+        assert!(rt;
+            begins_at(rt.alloc(), &bytes, 1_000_005_000)?,
+            "in {header:?}"
+        );
+        assert!(rt;
+            is_written_as(rt.alloc(), &bytes, &written)?,
+            "in {header:?}"
+        );
+    }
+    Ok(())
+}
+
+/// The number of records of so many bytes of the capture of two frames, or their fault.
+fn answer_of(length: usize) -> Result<usize, PcapFault> {
+    match length {
+        0..=23 => Err(PcapFault::NoHeader),
+        24 => Ok(0),
+        25..=39 => Err(PcapFault::CutHeader(1)),
+        40..=99 => Err(PcapFault::CutData(1)),
+        100 => Ok(1),
+        101..=115 => Err(PcapFault::CutHeader(2)),
+        116..=175 => Err(PcapFault::CutData(2)),
+        _ => Ok(2),
+    }
+}
+
+/// Whether this is the answer for some bytes, whole and by a reader.
+fn is_answer(alloc: Global, bytes: &[u8], answer: &Result<usize, PcapFault>) -> bool {
+    read_whole(alloc, bytes) == *answer && read_piece(alloc, bytes) == *answer
+}
+
+#[test]
+fn every_cut(rt: HostRuntime) -> Result<(), Fail> {
+    let bytes = two_frames(rt.alloc())?;
+    assert!(rt; bytes.len() == 176);
+    for length in 0usize..=176 {
+        let prefix = bytes.get(..length).unwrap_or(&[]);
+        assert!(rt;
+            is_answer(rt.alloc(), prefix, &answer_of(length)),
+            "{length} bytes"
+        );
+    }
+    Ok(())
+}
+
+/// Whether a whole capture has this fault.
+fn is_fault(alloc: Global, bytes: &[u8], fault: &PcapFault) -> bool {
+    read_whole(alloc, bytes) == Err(*fault)
+}
+
+#[test]
+fn capture_faults(rt: HostRuntime) -> Result<(), Fail> {
+    for (place, patch, fault) in PATCHES {
+        let bytes = patched(rt.alloc(), *place, patch)?;
+        assert!(rt; is_fault(rt.alloc(), &bytes, fault), "{patch:?} at {place}");
+        // An open reader answers each of them before the input has ended.
+        assert!(rt;
+            is_early_fault(rt.alloc(), &bytes, fault),
+            "{patch:?} at {place}"
+        );
+    }
+    Ok(())
+}
+
+#[test]
+fn faults_of_whole_captures(rt: HostRuntime) -> Result<(), Fail> {
+    for (parts, fault) in FAULTS {
+        let bytes = joined(rt.alloc(), parts)?;
+        assert!(rt; is_fault(rt.alloc(), &bytes, fault), "{fault}");
+    }
+    Ok(())
+}
+
+/// Whether the first record of a capture has these bytes.
+fn begins_with(alloc: Global, bytes: &[u8], data: &[u8]) -> Result<bool, PcapFault> {
+    let records = read_all(alloc, bytes)?;
+    Ok(records.first().is_some_and(|record| record.bytes() == data))
+}
+
+#[test]
+fn largest_record(rt: HostRuntime) -> Result<(), Fail> {
+    let data = vec![in rt.alloc(); 7u8; 262_144]?;
+    let bytes = joined(rt.alloc(), &[HEADER, LARGEST, &data])?;
+    assert!(rt; begins_with(rt.alloc(), &bytes, &data)?);
+    Ok(())
+}
+
+/// Whether these bytes come back where a record is made of them.
+fn come_back(bytes: Vec<u8>) -> bool {
+    let length = bytes.len();
+    match Record::new(Stamp::ZERO, 60, bytes) {
+        Ok(_) => false,
+        Err(back) => back.len() == length,
+    }
+}
+
+#[test]
+fn one_byte_too_many(rt: HostRuntime) -> Result<(), Fail> {
+    let data = vec![in rt.alloc(); 7u8; 262_145]?;
+    assert!(rt; Record::<Global>::lent(Stamp::ZERO, 60, &data).is_none());
+    assert!(rt; come_back(data));
+    Ok(())
+}
+
+/// The capture of the frame at this instant, of another original length.
+fn written_at(alloc: Global, stamp: Stamp) -> Result<Vec<u8>, Fail> {
+    let frame = Vec::from_slice(alloc, FRAME)?;
+    let record = Record::new(stamp, 1518, frame).ok().ok_or("a record")?;
+    Ok(write_all(alloc, &vec![in alloc; record]?)?)
+}
+
+#[test]
+fn last_second(rt: HostRuntime) -> Result<(), Fail> {
+    let stamp = Stamp::new(4_294_967_295, 6_719).unwrap();
+    let written = written_at(rt.alloc(), stamp)?;
+    let bytes = joined(rt.alloc(), &[HEADER, IN_THE_LAST_SECOND, FRAME])?;
+    assert!(rt; written.as_slice() == bytes.as_slice());
+    assert!(rt; is_fault(rt.alloc(), &bytes, &PcapFault::Late(1)));
+    Ok(())
+}
+
+#[test]
+fn byte_by_byte(rt: HostRuntime) -> Result<(), Fail> {
+    let bytes = one_frame(rt.alloc())?;
+    assert!(rt; bytes.len() == 100);
+    assert!(rt; gives_one_record(rt.alloc(), &bytes));
+    Ok(())
+}
+
 /// Pieces of these lengths, from the start of the bytes on.
-fn cut<'a>(alloc: Global, bytes: &'a [u8], lengths: &[usize]) -> Result<Vec<&'a [u8]>, Fail> {
+fn cut<'a>(alloc: Global, bytes: &'a [u8], lengths: &[usize]) -> Result<Vec<&'a [u8]>, AllocError> {
     let mut pieces = Vec::new(alloc);
     let mut rest = bytes;
     for length in lengths {
@@ -90,7 +235,7 @@ fn cut<'a>(alloc: Global, bytes: &'a [u8], lengths: &[usize]) -> Result<Vec<&'a 
 }
 
 /// As many random lengths, 0 to 49 each, that a seed determines.
-fn random_lengths(alloc: Global, count: usize, seed: u32) -> Result<Vec<usize>, Fail> {
+fn random_lengths(alloc: Global, count: usize, seed: u32) -> Result<Vec<usize>, AllocError> {
     let mut lengths = Vec::new(alloc);
     let mut state = seed;
     for _ in 0..count {
@@ -100,239 +245,32 @@ fn random_lengths(alloc: Global, count: usize, seed: u32) -> Result<Vec<usize>, 
     Ok(lengths)
 }
 
-/// The records of these pieces, each taken as soon as it is there; then the input ends.
-fn read_pieces(alloc: Global, pieces: &[&[u8]]) -> Result<Vec<Record<'static, Global>>, PcapFault> {
-    let mut records = Vec::new(alloc);
-    let mut reader = Reader::new(alloc);
-    for piece in pieces {
-        if !reader.is_closed() {
-            reader.feed(piece)?;
-        }
-        take_records(&mut reader, &mut records)?;
-    }
-    reader.close();
-    take_records(&mut reader, &mut records)?;
-    Ok(records)
-}
-
-/// Whether the text of these records is this one.
-fn are_written(alloc: Global, records: &[Record<Global>], text: &[u8]) -> Result<bool, PcapFault> {
-    Ok(write_all(alloc, records)?.as_slice() == text)
-}
-
-/// Whether a reader gives a record, or its fault.
-fn has_next(reader: &mut Reader<'_, Global>) -> Result<bool, PcapFault> {
-    Ok(reader.next()?.is_some())
-}
-
-/// The fault that an open reader answers once it was fed these bytes.
-fn early_fault(alloc: Global, bytes: &[u8]) -> Option<PcapFault> {
-    let mut reader = Reader::new(alloc);
-    match reader.feed(bytes) {
-        Ok(()) => has_next(&mut reader).err(),
-        Err(_) => None,
-    }
-}
-
-/// Whether this is the record of the frame at 0.
-fn is_the_frame_at_zero(record: &Record<Global>) -> bool {
-    record.stamp() == Stamp::ZERO && record.original() == 60 && record.bytes() == FRAME.as_slice()
-}
-
-#[test]
-fn first_capture(rt: HostRuntime) -> Result<(), Fail> {
-    let bytes = one_frame(rt.alloc())?;
-    let records = read_all(rt.alloc(), &bytes)?;
-    assert_eq!(rt; records.len(), 1);
-    for record in &records {
-        assert!(rt; is_the_frame_at_zero(record));
-    }
-    assert!(rt; are_written(rt.alloc(), &records, &bytes)?);
-    Ok(())
-}
-
-/// A capture that is written record by record is the one that is written at once.
-#[test]
-fn written_record_by_record(rt: HostRuntime) -> Result<(), Fail> {
-    let bytes = joined(rt.alloc(), &[&HEADER, &AT_ZERO, &FRAME, &AT_ZERO, &FRAME])?;
-    let mut written = Vec::new(rt.alloc());
-    write_header(&mut written)?;
-    for record in &read_all(rt.alloc(), &bytes)? {
-        write_record(&mut written, record)?;
-    }
-    assert_eq!(rt; written.as_slice(), bytes.as_slice());
-    written.truncate(100);
-    write_frame(&mut written, Stamp::ZERO, &FRAME)?;
-    assert_eq!(rt; written.as_slice(), bytes.as_slice());
-    Ok(())
-}
-
-#[test]
-fn four_magics(rt: HostRuntime) -> Result<(), Fail> {
-    let little = [1, 0, 0, 0, 0x88, 0x13, 0, 0, 60, 0, 0, 0, 60, 0, 0, 0];
-    let written = joined(rt.alloc(), &[&HEADER, &little, &FRAME])?;
-    for (header, head) in [
-        (HEADER, little),
-        (
-            BIG_MICROS,
-            [0, 0, 0, 1, 0, 0, 0, 5, 0, 0, 0, 60, 0, 0, 0, 60],
-        ),
-        (
-            LITTLE_MICROS,
-            [1, 0, 0, 0, 5, 0, 0, 0, 60, 0, 0, 0, 60, 0, 0, 0],
-        ),
-        (
-            BIG_NANOS,
-            [0, 0, 0, 1, 0, 0, 0x13, 0x88, 0, 0, 0, 60, 0, 0, 0, 60],
-        ),
-    ] {
-        let bytes = joined(rt.alloc(), &[&header, &head, &FRAME])?;
-        let records = read_all(rt.alloc(), &bytes)?;
-        let stamp = records.first().ok_or("a record")?.stamp();
-        assert_eq!(rt; stamp.ns(), 1_000_005_000, "in {header:?}");
-        assert!(rt; are_written(rt.alloc(), &records, &written)?);
-    }
-    Ok(())
-}
-
-#[test]
-fn every_cut(rt: HostRuntime) -> Result<(), Fail> {
-    let later = [0, 0, 0, 0, 0x40, 0x42, 0x0f, 0, 60, 0, 0, 0, 60, 0, 0, 0];
-    let bytes = joined(rt.alloc(), &[&HEADER, &AT_ZERO, &FRAME, &later, &FRAME])?;
-    for length in 0usize..=176 {
-        let prefix = bytes.get(..length).ok_or("a prefix")?;
-        let want = match length {
-            0..=23 => Err(PcapFault::NoHeader),
-            24 => Ok(0),
-            25..=39 => Err(PcapFault::CutHeader(1)),
-            40..=99 => Err(PcapFault::CutData(1)),
-            100 => Ok(1),
-            101..=115 => Err(PcapFault::CutHeader(2)),
-            116..=175 => Err(PcapFault::CutData(2)),
-            _ => Ok(2),
-        };
-        assert_eq!(rt; read_whole(rt.alloc(), prefix), want, "{length} bytes");
-        let whole = read_pieces(rt.alloc(), &[prefix]).map(|records| records.len());
-        assert_eq!(rt; whole, want, "{length} bytes");
-    }
-    Ok(())
-}
-
-#[test]
-fn capture_faults(rt: HostRuntime) -> Result<(), Fail> {
-    let cases: [(usize, &[u8], PcapFault); 10] = [
-        (0, &[0; 24], PcapFault::Magic),
-        (0, &[0x0a, 0x0d, 0x0d, 0x0a], PcapFault::Magic),
-        (6, &[3], PcapFault::Version),
-        (20, &[113], PcapFault::LinkType(113)),
-        (20, &[1, 0, 1], PcapFault::LinkType(65_537)),
-        (32, &[1, 0, 4, 0], PcapFault::Huge(1)),
-        (28, &[0, 0xca, 0x9a, 0x3b], PcapFault::Fraction(1)),
-        (28, &[0, 0xca, 0x9a, 0x3b, 1, 0, 4, 0], PcapFault::Huge(1)),
-        (24, &[0xff; 4], PcapFault::Late(1)),
-        (32, &[0xff; 4], PcapFault::Huge(1)),
-    ];
-    for (place, patch, fault) in cases {
-        let bytes = patched(rt.alloc(), place, patch)?;
-        assert_eq!(rt;
-            read_whole(rt.alloc(), &bytes),
-            Err(fault),
-            "{patch:?} at {place}"
-        );
-        // An open reader answers each of them before the input has ended.
-        assert_eq!(rt;
-            early_fault(rt.alloc(), &bytes),
-            Some(fault),
-            "{patch:?} at {place}"
-        );
-    }
-    assert_eq!(rt; read_whole(rt.alloc(), &[0; 23]), Err(PcapFault::NoHeader));
-    let micros = [0, 0, 0, 0, 0x40, 0x42, 0x0f, 0, 60, 0, 0, 0, 60, 0, 0, 0];
-    let bytes = joined(rt.alloc(), &[&LITTLE_MICROS, &micros, &FRAME])?;
-    assert_eq!(rt; read_whole(rt.alloc(), &bytes), Err(PcapFault::Fraction(1)));
-    let bytes = joined(
-        rt.alloc(),
-        &[&patched(rt.alloc(), 24, &[1])?, &AT_ZERO, &FRAME],
-    )?;
-    assert_eq!(rt;
-        read_whole(rt.alloc(), &bytes),
-        Err(PcapFault::Backwards(2))
-    );
-    Ok(())
-}
-
-#[test]
-fn largest_record(rt: HostRuntime) -> Result<(), Fail> {
-    let head = [0, 0, 0, 0, 0, 0, 0, 0, 0, 0, 4, 0, 0, 0, 4, 0];
-    let data = vec![in rt.alloc(); 7u8; 262_144]?;
-    let bytes = joined(rt.alloc(), &[&HEADER, &head, &data])?;
-    let records = read_all(rt.alloc(), &bytes)?;
-    let record = records.first().ok_or("a record")?;
-    assert_eq!(rt; record.bytes(), data.as_slice());
-    Ok(())
-}
-
-#[test]
-fn one_byte_too_many(rt: HostRuntime) -> Result<(), Fail> {
-    let data = vec![in rt.alloc(); 7u8; 262_145]?;
-    assert!(rt; Record::<Global>::lent(Stamp::ZERO, 60, &data).is_none());
-    let back = Record::new(Stamp::ZERO, 60, data)
-        .err()
-        .ok_or("too many bytes")?;
-    assert_eq!(rt; back.len(), 262_145);
-    Ok(())
-}
-
-#[test]
-fn last_second(rt: HostRuntime) -> Result<(), Fail> {
-    let head = [
-        0xff, 0xff, 0xff, 0xff, 0x3f, 0x1a, 0, 0, 60, 0, 0, 0, 60, 0, 0, 0,
-    ];
-    let bytes = joined(rt.alloc(), &[&HEADER, &head, &FRAME])?;
-    let stamp = Stamp::new(4_294_967_295, 6_719).ok_or("an instant")?;
-    let frame = Vec::from_slice(rt.alloc(), &FRAME)?;
-    let record = Record::new(stamp, 1518, frame).ok().ok_or("a record")?;
-    let written = write_all(rt.alloc(), &vec![in rt.alloc(); record]?)?;
-    assert_eq!(rt; written.as_slice(), bytes.as_slice());
-    assert_eq!(rt; read_whole(rt.alloc(), &bytes), Err(PcapFault::Late(1)));
-    Ok(())
-}
-
-#[test]
-fn byte_by_byte(rt: HostRuntime) -> Result<(), Fail> {
-    let bytes = one_frame(rt.alloc())?;
-    let mut reader = Reader::new(rt.alloc());
-    let mut fed = 0u32;
-    for byte in &bytes {
-        if !reader.is_closed() {
-            reader.feed(&[*byte])?;
-        }
-        fed = fed.saturating_add(1);
-        assert_eq!(rt; has_next(&mut reader), Ok(fed == 100), "{fed} bytes");
-    }
-    reader.close();
-    assert!(rt; reader.is_closed());
-    assert_eq!(rt; has_next(&mut reader), Ok(false));
-    Ok(())
+/// Whether a capture is read in pieces of these lengths.
+fn is_read_in(alloc: Global, bytes: &[u8], lengths: &[usize]) -> Result<bool, PcapFault> {
+    let pieces = cut(alloc, bytes, lengths)?;
+    are_written_as(alloc, &pieces, bytes)
 }
 
 #[test]
 fn any_pieces(rt: HostRuntime) -> Result<(), Fail> {
-    let later = [0, 0, 0, 0, 0x40, 0x42, 0x0f, 0, 60, 0, 0, 0, 60, 0, 0, 0];
-    let bytes = joined(rt.alloc(), &[&HEADER, &AT_ZERO, &FRAME, &later, &FRAME])?;
-    for length in [1, 2, 3, 5, 7, 16, 23, 24, 25, 39, 40, 64, 99, 100, 101, 176] {
-        let lengths = vec![in rt.alloc(); length; bytes.len()]?;
-        let records = read_pieces(rt.alloc(), &cut(rt.alloc(), &bytes, &lengths)?)?;
+    let bytes = two_frames(rt.alloc())?;
+    for length in LENGTHS {
+        let lengths = vec![in rt.alloc(); *length; bytes.len()]?;
         assert!(rt;
-            are_written(rt.alloc(), &records, &bytes)?,
+            is_read_in(rt.alloc(), &bytes, &lengths)?,
             "pieces of {length}"
         );
     }
+    Ok(())
+}
+
+#[test]
+fn random_pieces(rt: HostRuntime) -> Result<(), Fail> {
+    let bytes = two_frames(rt.alloc())?;
     for seed in 0..20 {
         let lengths = random_lengths(rt.alloc(), bytes.len(), seed)?;
-        let records = read_pieces(rt.alloc(), &cut(rt.alloc(), &bytes, &lengths)?)?;
         assert!(rt;
-            are_written(rt.alloc(), &records, &bytes)?,
+            is_read_in(rt.alloc(), &bytes, &lengths)?,
             "pieces of seed {seed}"
         );
     }
@@ -340,57 +278,29 @@ fn any_pieces(rt: HostRuntime) -> Result<(), Fail> {
 }
 
 #[test]
-fn faults_for_good(rt: HostRuntime) -> Result<(), Fail> {
-    let mut reader = Reader::new(rt.alloc());
-    reader.feed(&[0; 24])?;
-    for _ in 0..2 {
-        assert_eq!(rt; has_next(&mut reader), Err(PcapFault::Magic));
-        if !reader.is_closed() {
-            assert_eq!(rt; reader.feed(&HEADER), Err(PcapFault::Magic));
-        }
-    }
-    Ok(())
+fn faults_for_good(rt: HostRuntime) {
+    assert!(rt; answers_all(rt.alloc(), FOR_GOOD));
 }
 
 #[test]
-fn record_before_fault(rt: HostRuntime) -> Result<(), Fail> {
-    let huge = [0, 0, 0, 0, 0, 0, 0, 0, 1, 0, 4, 0, 60, 0, 0, 0];
-    let mut reader = Reader::new(rt.alloc());
-    reader.feed(&joined(rt.alloc(), &[&one_frame(rt.alloc())?, &huge])?)?;
-    assert_eq!(rt; has_next(&mut reader), Ok(true));
-    assert_eq!(rt; has_next(&mut reader), Err(PcapFault::Huge(2)));
-    Ok(())
+fn record_before_fault(rt: HostRuntime) {
+    assert!(rt; answers_all(rt.alloc(), BEFORE_FAULT));
 }
 
-/// A length of 4,294,967,295 is reported as soon as the record's header is whole.
 #[test]
-fn huge_length(rt: HostRuntime) -> Result<(), Fail> {
-    let bytes = patched(rt.alloc(), 32, &[0xff; 4])?;
-    let mut reader = Reader::new(rt.alloc());
-    reader.feed(bytes.get(..39).ok_or("a prefix")?)?;
-    assert_eq!(rt; has_next(&mut reader), Ok(false));
-    assert!(rt; !reader.is_closed());
-    reader.feed(&[0])?;
-    assert_eq!(rt; has_next(&mut reader), Err(PcapFault::Huge(1)));
-    Ok(())
+fn huge_length(rt: HostRuntime) {
+    assert!(rt; answers_all(rt.alloc(), HUGE_LENGTH));
+}
+
+/// Whether a fault is printed so.
+fn is_printed(alloc: Global, fault: &PcapFault, name: &str) -> Result<bool, AllocError> {
+    Ok(format!(in alloc; "{fault}")?.as_str() == name)
 }
 
 #[test]
 fn messages(rt: HostRuntime) -> Result<(), Fail> {
-    for (fault, name) in [
-        (PcapFault::Memory, "Memory"),
-        (PcapFault::NoHeader, "NoHeader"),
-        (PcapFault::Magic, "Magic"),
-        (PcapFault::Version, "Version"),
-        (PcapFault::LinkType(113), "LinkType"),
-        (PcapFault::CutHeader(1), "CutHeader"),
-        (PcapFault::Huge(1), "Huge"),
-        (PcapFault::Fraction(1), "Fraction"),
-        (PcapFault::Late(1), "Late"),
-        (PcapFault::Backwards(1), "Backwards"),
-        (PcapFault::CutData(1), "CutData"),
-    ] {
-        assert_eq!(rt; format!(in rt.alloc(); "{fault}")?.as_str(), name);
+    for (fault, name) in MESSAGES {
+        assert!(rt; is_printed(rt.alloc(), fault, name)?, "{name}");
     }
     Ok(())
 }

@@ -4,4 +4,8 @@
 #![tactic(auto)]
 
 #[cfg(test)]
+mod bytes;
+#[cfg(test)]
 mod captures;
+#[cfg(test)]
+mod readers;

@@ -1,23 +1,32 @@
 //! Tables that are read, to their rows.
 
-use crate::texts::{DOUBLE, FRAMED, MIXED, OTHER_FORMS, SINGLE};
-use afdx_table::{LinkRow, PortRow, read};
+use crate::texts::{
+    EMPTY, GREATEST_LINK, HEADS, OTHER_FORMS, POLICE, SINGLE, THOUSAND, WORKED_TABLES, WorkedLink,
+};
+use afdx_table::{LinkRow, PortRow, Table, read};
 use afdx_units::{Bag, Police, Priority, Speed};
-use std::alloc::Global;
+use std::alloc::{AllocError, Global};
 use std::test::Fail;
 
-/// A port of the worked tables.
-fn worked_port(id: u8) -> PortRow {
-    PortRow {
-        id,
-        speed: Speed::Hundred,
-        buffer: 100_000,
-        max_delay: 500_000_000,
+/// Whether a table has so many ports, from 1 on, each of them a port of the worked tables.
+fn has_worked_ports(table: &Table, count: u8) -> bool {
+    for id in 1..=count {
+        let worked = PortRow {
+            id,
+            speed: Speed::Hundred,
+            buffer: 100_000,
+            max_delay: 500_000_000,
+        };
+        if table.port(id).copied() != Some(worked) {
+            return false;
+        }
     }
+    table.ports().len() == usize::from(count) && table.port(count.saturating_add(1)).is_none()
 }
 
 /// Whether a row is that of a worked table's link: of this number, from a port to another, and of this priority.
-fn is_worked_link(row: &LinkRow, id: u16, from: u8, to: u8, priority: Priority) -> bool {
+fn is_worked_link(row: &LinkRow, link: &WorkedLink) -> bool {
+    let (id, from, to, priority) = *link;
     row.id == id
         && row.from == from
         && row.to.as_slice() == [to].as_slice()
@@ -28,157 +37,171 @@ fn is_worked_link(row: &LinkRow, id: u16, from: u8, to: u8, priority: Priority) 
         && row.police == Police::Byte
 }
 
+/// Whether a worked table's link is found by its number, and stands at this place.
+fn has_worked_link(table: &Table, place: usize, link: &WorkedLink) -> bool {
+    let Some(row) = table.link(link.0) else {
+        return false;
+    };
+    is_worked_link(row, link)
+        && table.link_at(place).map(|row| row.id) == Some(link.0)
+        && table.link_place(link.0) == Some(place)
+}
+
+/// Whether a table has exactly these links, in this order.
+fn has_worked_links(table: &Table, links: &[WorkedLink]) -> bool {
+    for (place, link) in links.iter().enumerate() {
+        if !has_worked_link(table, place, link) {
+            return false;
+        }
+    }
+    table.link_count() == links.len() && table.link_at(links.len()).is_none()
+}
+
+/// Whether a table has neither a link of this number nor a place for it.
+fn lacks_link(table: &Table, id: u16) -> bool {
+    table.link(id).is_none() && table.link_place(id).is_none()
+}
+
 #[test]
 fn worked_tables(rt: HostRuntime) -> Result<(), Fail> {
-    let alloc = rt.alloc();
-    let low = Priority::Low;
-    for (text, ports, links) in [
-        (SINGLE, 2u8, [(10, 1, 2, low)].as_slice()),
-        (DOUBLE, 3, [(10, 1, 3, low), (20, 2, 3, low)].as_slice()),
-        (
-            MIXED,
-            2,
-            [(10, 1, 2, low), (11, 1, 2, low), (12, 1, 2, Priority::High)].as_slice(),
-        ),
-    ] {
-        let table = read(alloc, text.as_bytes())?;
-        assert_eq!(rt; table.constant(), [3, 0, 0, 0]);
-        assert_eq!(rt; table.ports().len(), usize::from(ports));
-        for id in 1..=ports {
-            assert_eq!(rt; table.port(id).copied(), Some(worked_port(id)));
-        }
-        assert!(rt; table.port(ports + 1).is_none());
-        assert_eq!(rt; table.link_count(), links.len());
-        for (place, (id, from, to, priority)) in links.iter().enumerate() {
-            let row = table.link(*id).ok_or("the link of a number")?;
-            assert!(rt;
-                is_worked_link(row, *id, *from, *to, *priority),
-                "link {id}"
-            );
-            assert_eq!(rt; table.link_at(place).map(|l| l.id), Some(*id));
-            assert_eq!(rt; table.link_place(*id), Some(place));
-        }
-        assert!(rt; table.link(13).is_none());
-        assert!(rt; table.link_at(links.len()).is_none());
-        assert_eq!(rt; table.link_place(13), None);
+    for (text, ports, links) in WORKED_TABLES {
+        let table = read(rt.alloc(), text.as_bytes())?;
+        assert!(rt; table.constant() == [3, 0, 0, 0]);
+        assert!(rt; has_worked_ports(&table, *ports), "{ports} ports");
+        assert!(rt; has_worked_links(&table, links), "{ports} ports");
+        assert!(rt; lacks_link(&table, 13), "{ports} ports");
     }
     Ok(())
+}
+
+/// Whether link 10 of a table is policed so, with one text in place of another.
+fn is_policed(
+    alloc: Global,
+    table: &str,
+    old: &str,
+    new: &str,
+    police: Police,
+) -> Result<bool, Fail> {
+    let text = table.replace(alloc, old, new)?;
+    let table = read(alloc, text.as_bytes())?;
+    Ok(table.link(10).map(|link| link.police) == Some(police))
 }
 
 #[test]
 fn the_police_of_a_link(rt: HostRuntime) -> Result<(), Fail> {
-    let alloc = rt.alloc();
-    let stated = FRAMED.replace(alloc, "frame", "byte")?;
-    let silent = FRAMED.replace(alloc, "police = \"frame\"\n", "")?;
-    for (text, police) in [
-        (FRAMED, Police::Frame),
-        (stated.as_str(), Police::Byte),
-        (silent.as_str(), Police::Byte),
-        (SINGLE, Police::Byte),
-    ] {
-        let table = read(alloc, text.as_bytes())?;
-        assert_eq!(rt; table.link(10).map(|link| link.police), Some(police));
+    for (table, old, new, police) in POLICE {
+        assert!(rt;
+            is_policed(rt.alloc(), table, old, new, *police)?,
+            "{new} for {old}"
+        );
     }
     Ok(())
 }
 
+/// Whether the table with one link has this latency behind a head.
+fn has_latency(alloc: Global, head: &str, latency: u64) -> Result<bool, Fail> {
+    let text = format!(in alloc; "{head}{SINGLE}")?;
+    let table = read(alloc, text.as_bytes())?;
+    Ok(table.latency() == latency && table.link_count() == 1)
+}
+
 #[test]
 fn the_latency_of_the_switch(rt: HostRuntime) -> Result<(), Fail> {
-    let alloc = rt.alloc();
-    for (head, latency) in [
-        ("", 0),
-        ("version = 2\n", 0),
-        ("version = 3\n", 0),
-        ("version = 3\nlatency_us = 0\n", 0),
-        ("version = 3\nlatency_us = 100\n", 100_000),
-    ] {
-        let text = format!(in alloc; "{head}{SINGLE}")?;
-        let table = read(alloc, text.as_bytes())?;
-        assert_eq!(rt; table.latency(), latency, "at {head}");
-        assert_eq!(rt; table.link_count(), 1);
+    for (head, latency) in HEADS {
+        assert!(rt; has_latency(rt.alloc(), head, *latency)?, "at {head}");
     }
     Ok(())
 }
 
 #[test]
 fn a_line_of_1000_megabits(rt: HostRuntime) -> Result<(), Fail> {
-    let text = b"version = 3\nport = [{ id = 1, mbit = 1000, buffer = 0, max_delay_us = 1 }]";
-    let table = read(rt.alloc(), text)?;
-    assert_eq!(rt; table.port(1).map(|port| port.speed), Some(Speed::Thousand));
+    let table = read(rt.alloc(), THOUSAND.as_bytes())?;
+    assert!(rt; table.port(1).map(|port| port.speed) == Some(Speed::Thousand));
     Ok(())
 }
 
 #[test]
 fn no_rows(rt: HostRuntime) -> Result<(), Fail> {
-    for text in [
-        b"".as_slice(),
-        b"\xef\xbb\xbf# nothing",
-        b"port = []\nlink = []",
-    ] {
+    for (text, constant) in EMPTY {
         let table = read(rt.alloc(), text)?;
-        assert_eq!(rt; table.constant(), [3, 0, 0, 0]);
-        assert_eq!(rt; table.ports().len(), 0);
-        assert_eq!(rt; table.link_count(), 0);
+        assert!(rt; table.constant() == *constant, "{text:?}");
+        assert!(rt; table.ports().is_empty(), "{text:?}");
+        assert!(rt; table.link_count() == 0, "{text:?}");
     }
-    let table = read(rt.alloc(), b"constant = \"07000000\"")?;
-    assert_eq!(rt; table.constant(), [7, 0, 0, 0]);
     Ok(())
+}
+
+/// The ports of the table in other forms.
+const OTHER_PORTS: &[PortRow] = &[
+    PortRow {
+        id: 1,
+        speed: Speed::Hundred,
+        buffer: 16_777_216,
+        max_delay: 500_000_000,
+    },
+    PortRow {
+        id: 2,
+        speed: Speed::Ten,
+        buffer: 0,
+        max_delay: 1_000,
+    },
+];
+
+/// Whether a row is that of the link in other forms.
+fn is_other_link(row: &LinkRow) -> bool {
+    row.from == 2
+        && row.to.as_slice() == [1].as_slice()
+        && row.bag == Bag::Ms128
+        && row.jitter == 10_000_000
+        && row.max_size == 64
+        && row.priority == Priority::High
 }
 
 #[test]
 fn other_forms(rt: HostRuntime) -> Result<(), Fail> {
     let table = read(rt.alloc(), OTHER_FORMS.as_bytes())?;
-    assert_eq!(rt; table.constant(), [7, 0, 0xaa, 0xff]);
-    let fast = PortRow {
-        id: 1,
-        speed: Speed::Hundred,
-        buffer: 16_777_216,
-        max_delay: 500_000_000,
-    };
-    let slow = PortRow {
-        id: 2,
-        speed: Speed::Ten,
-        buffer: 0,
-        max_delay: 1_000,
-    };
-    assert_eq!(rt; table.ports(), [fast, slow].as_slice());
-    let row = table.link(65_535).ok_or("link 65535")?;
-    assert_eq!(rt; row.from, 2);
-    assert_eq!(rt; row.to.as_slice(), [1].as_slice());
-    assert_eq!(rt; row.bag, Bag::Ms128);
-    assert_eq!(rt; row.jitter, 10_000_000);
-    assert_eq!(rt; row.max_size, 64);
-    assert_eq!(rt; row.priority, Priority::High);
+    assert!(rt; table.constant() == [7, 0, 0xaa, 0xff]);
+    assert!(rt; table.ports() == OTHER_PORTS);
+    assert!(rt; table.link(65_535).is_some_and(|row| is_other_link(row)));
     Ok(())
 }
 
-/// The greatest table: 24 ports, and 4096 links from the first to all others.
-fn greatest(alloc: Global) -> Result<String, Fail> {
-    let mut text = String::new(alloc);
+/// Appends the ports of the greatest table.
+fn push_ports(alloc: Global, text: &mut String) -> Result<(), AllocError> {
     for id in 1..25u8 {
         let port = format!(in alloc;
             "[[port]]\nid = {id}\nmbit = 100\nbuffer = 16777216\nmax_delay_us = 500000\n"
         )?;
         text.push_str(port.as_str())?;
     }
+    Ok(())
+}
+
+/// Appends the links of the greatest table.
+fn push_links(alloc: Global, text: &mut String) -> Result<(), AllocError> {
     for id in 0..4096u16 {
-        let link = format!(in alloc;
-            "[[link]]\nid = {id}\nfrom = 1\nto = [2, 3, 4, 5, 6, 7, 8, 9, 10, 11, 12, 13, 14, 15, 16, 17, 18, 19, 20, 21, 22, 23, 24]\n"
-        )?;
+        let link = format!(in alloc; "[[link]]\nid = {id}\n")?;
         text.push_str(link.as_str())?;
-        text.push_str("bag_ms = 128\njitter_us = 10000\nmax_size = 64\npriority = \"high\"\n")?;
+        text.push_str(GREATEST_LINK)?;
     }
+    Ok(())
+}
+
+/// The greatest table: 24 ports, and 4096 links from the first to all others.
+fn greatest(alloc: Global) -> Result<String, AllocError> {
+    let mut text = String::new(alloc);
+    push_ports(alloc, &mut text)?;
+    push_links(alloc, &mut text)?;
     Ok(text)
 }
 
 #[test]
 fn greatest_table(rt: HostRuntime) -> Result<(), Fail> {
-    let alloc = rt.alloc();
-    let text = greatest(alloc)?;
-    let table = read(alloc, text.as_bytes())?;
-    assert_eq!(rt; table.ports().len(), 24);
-    assert_eq!(rt; table.link_count(), 4096);
-    assert_eq!(rt; table.link(4095).map(|l| l.to.len()), Some(23));
-    assert_eq!(rt; table.link_place(4095), Some(4095));
+    let text = greatest(rt.alloc())?;
+    let table = read(rt.alloc(), text.as_bytes())?;
+    assert!(rt; table.ports().len() == 24);
+    assert!(rt; table.link_count() == 4096);
+    assert!(rt; table.link(4095).map(|row| row.to.len()) == Some(23));
+    assert!(rt; table.link_place(4095) == Some(4095));
     Ok(())
 }

@@ -3,10 +3,16 @@
 use afdx_table::{At, Key, TableFault};
 
 /// A text of a table, and what is to be in its place.
-pub(crate) type Change = (&'static str, &'static str);
+type Change = (&'static str, &'static str);
+
+/// A change of a table, and what it is refused for.
+pub(crate) type Row = (Change, TableFault);
+
+/// A key of a port or of a link: its place, its value, a value of another kind, and values out of its range.
+type KeyRow = (At, Key, &'static str, &'static str, &'static [&'static str]);
 
 /// The table with one link, changed.
-pub(crate) const WORKED: &[(Change, TableFault)] = &[
+pub(crate) const WORKED: &[Row] = &[
     (("to = [2]", "to = [1]"), TableFault::ToOwnPort(At::Link(1))),
     (
         ("to = [2]", "to = [2, 2]"),
@@ -70,9 +76,8 @@ pub(crate) const WORKED: &[(Change, TableFault)] = &[
     (("id = 2\n", "id = 1\n"), TableFault::TwicePort(At::Port(2))),
 ];
 
-/// Each key of a port and of a link in the table with one link: its place, its value there, a value of another kind, and
-/// values out of its range.
-pub(crate) const KEYS: &[(At, Key, &str, &str, &[&str])] = &[
+/// Each key of the table with one link.
+pub(crate) const KEYS: &[KeyRow] = &[
     (At::Port(2), Key::Id, "2", "\"2\"", &["-1", "0", "25"]),
     (
         At::Port(1),
@@ -218,7 +223,7 @@ pub(crate) const TOPS: &[(&str, TableFault)] = &[
 ];
 
 /// The table with one link, with two faults of neighbouring steps: the earlier is given.
-pub(crate) const PAIRS: &[(Change, TableFault)] = &[
+pub(crate) const PAIRS: &[Row] = &[
     (
         ("id = 2\n", "color = 1\n"),
         TableFault::UnknownKey(At::Port(2)),
@@ -335,7 +340,7 @@ pub(crate) const PAIRS: &[(Change, TableFault)] = &[
 ];
 
 /// The table with two links, with one fault or two of its second link.
-pub(crate) const SECOND_LINKS: &[(Change, TableFault)] = &[
+pub(crate) const SECOND_LINKS: &[Row] = &[
     (
         ("id = 20\n", "id = 10\n"),
         TableFault::TwiceLink(At::Link(2)),
@@ -362,7 +367,7 @@ pub(crate) const SECOND_LINKS: &[(Change, TableFault)] = &[
 ];
 
 /// The table with one link in the second version, with another last key.
-pub(crate) const POLICED: &[(Change, TableFault)] = &[
+pub(crate) const POLICED: &[Row] = &[
     (
         ("police = \"frame\"", "police = 1"),
         TableFault::Kind(At::Link(1), Key::Police),
@@ -399,4 +404,44 @@ pub(crate) const POLICED: &[(Change, TableFault)] = &[
         ),
         TableFault::Range(At::Link(1), Key::Police),
     ),
+];
+
+/// Texts with empty rows: what stands before them, how many ports and links they have, and what stands behind.
+pub(crate) const TOO_MANY: &[(&str, usize, usize, &str, TableFault)] = &[
+    ("", 25, 0, "", TableFault::TooMany(Key::Port)),
+    ("", 0, 4097, "", TableFault::TooMany(Key::Link)),
+    // two faults at once: the earlier stands
+    ("", 25, 4097, "", TableFault::TooMany(Key::Port)),
+    (
+        "link = 1\n",
+        25,
+        0,
+        "",
+        TableFault::Kind(At::Top, Key::Link),
+    ),
+    (
+        "",
+        0,
+        4097,
+        "[[port]]\ncolor = 1\n",
+        TableFault::TooMany(Key::Link),
+    ),
+];
+
+/// Each fault, and how it is printed.
+pub(crate) const NAMES: &[(TableFault, &str)] = &[
+    (TableFault::Memory, "Memory"),
+    (TableFault::Toml, "Toml"),
+    (TableFault::UnknownKey(At::Link(1)), "UnknownKey"),
+    (TableFault::MissingKey(At::Link(1), Key::Id), "MissingKey"),
+    (TableFault::Kind(At::Link(1), Key::Id), "Kind"),
+    (TableFault::Range(At::Link(1), Key::Id), "Range"),
+    (TableFault::Constant, "Constant"),
+    (TableFault::TwicePort(At::Link(1)), "TwicePort"),
+    (TableFault::TwiceLink(At::Link(1)), "TwiceLink"),
+    (TableFault::NoSuchPort(At::Link(1)), "NoSuchPort"),
+    (TableFault::ToEmpty(At::Link(1)), "ToEmpty"),
+    (TableFault::ToTwice(At::Link(1)), "ToTwice"),
+    (TableFault::ToOwnPort(At::Link(1)), "ToOwnPort"),
+    (TableFault::TooMany(Key::Port), "TooMany"),
 ];

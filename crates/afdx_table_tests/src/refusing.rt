@@ -1,137 +1,162 @@
 //! Each refusal, and the order of two.
 
-use crate::refused::{Change, KEYS, PAIRS, POLICED, SECOND_LINKS, TOPS, WORKED};
+use crate::refused::{KEYS, NAMES, PAIRS, POLICED, Row, SECOND_LINKS, TOO_MANY, TOPS, WORKED};
 use crate::texts::{DOUBLE, FRAMED, SINGLE};
 use afdx_table::{At, Key, TableFault, read};
-use std::alloc::Global;
+use std::alloc::{AllocError, Global};
 use std::test::Fail;
 
-/// What a table is refused for with one text in place of another, which it has.
-fn refusal(alloc: Global, table: &str, old: &str, new: &str) -> Result<Option<TableFault>, Fail> {
+/// Whether this is what bytes are refused for.
+fn refuses(alloc: Global, bytes: &[u8], fault: &TableFault) -> bool {
+    match read(alloc, bytes) {
+        Ok(_) => false,
+        Err(found) => found == *fault,
+    }
+}
+
+/// Whether a table is refused for this with one text in place of another, which it has.
+fn is_refused(
+    alloc: Global,
+    table: &str,
+    old: &str,
+    new: &str,
+    fault: &TableFault,
+) -> Result<bool, Fail> {
     if !table.contains(old) {
         return Err("nothing is changed".into());
     }
     let text = table.replace(alloc, old, new)?;
-    Ok(read(alloc, text.as_bytes()).err())
+    Ok(refuses(alloc, text.as_bytes(), fault))
+}
+
+/// The text of the first row with which a table is not refused as it should be.
+fn first_wrong(alloc: Global, table: &str, rows: &[Row]) -> Result<Option<&'static str>, Fail> {
+    for ((old, new), fault) in rows {
+        if !is_refused(alloc, table, old, new, fault)? {
+            return Ok(Some(*new));
+        }
+    }
+    Ok(None)
 }
 
 #[test]
 fn changed_tables(rt: HostRuntime) -> Result<(), Fail> {
-    let alloc = rt.alloc();
-    for ((old, new), fault) in WORKED {
-        assert_eq!(rt; refusal(alloc, SINGLE, old, new)?, Some(*fault), "at {new}");
-    }
-    for ((old, new), fault) in PAIRS {
-        assert_eq!(rt; refusal(alloc, SINGLE, old, new)?, Some(*fault), "at {new}");
-    }
-    for ((old, new), fault) in SECOND_LINKS {
-        assert_eq!(rt; refusal(alloc, DOUBLE, old, new)?, Some(*fault), "at {new}");
+    for (table, rows) in [
+        (SINGLE, WORKED),
+        (SINGLE, PAIRS),
+        (DOUBLE, SECOND_LINKS),
+        (FRAMED, POLICED),
+    ] {
+        let wrong = first_wrong(rt.alloc(), table, rows)?;
+        assert!(rt; wrong.is_none(), "at {}", wrong.unwrap_or(""));
     }
     Ok(())
 }
 
-#[test]
-fn the_police_key(rt: HostRuntime) -> Result<(), Fail> {
-    let alloc = rt.alloc();
-    for ((old, new), fault) in POLICED {
-        assert_eq!(rt; refusal(alloc, FRAMED, old, new)?, Some(*fault), "at {new}");
+/// A line of a table.
+fn line_of(alloc: Global, key: Key, value: &str) -> Result<String, AllocError> {
+    format!(in alloc; "{key} = {value}\n")
+}
+
+/// Whether the table with one link is refused for this without the line of a key.
+fn is_missed(alloc: Global, key: Key, value: &str, fault: &TableFault) -> Result<bool, Fail> {
+    let line = line_of(alloc, key, value)?;
+    is_refused(alloc, SINGLE, line.as_str(), "", fault)
+}
+
+/// Whether the table with one link is refused for this with another value of a key.
+fn is_refused_with(
+    alloc: Global,
+    key: Key,
+    value: &str,
+    other: &str,
+    fault: &TableFault,
+) -> Result<bool, Fail> {
+    let line = line_of(alloc, key, value)?;
+    let changed = line_of(alloc, key, other)?;
+    is_refused(alloc, SINGLE, line.as_str(), changed.as_str(), fault)
+}
+
+/// The first of some values of a key that is not refused as out of its range.
+fn first_in_range(
+    alloc: Global,
+    at: At,
+    key: Key,
+    value: &str,
+    others: &[&'static str],
+) -> Result<Option<&'static str>, Fail> {
+    let fault = TableFault::Range(at, key);
+    for other in others {
+        if !is_refused_with(alloc, key, value, other, &fault)? {
+            return Ok(Some(*other));
+        }
     }
-    Ok(())
+    Ok(None)
 }
 
 #[test]
 fn each_key(rt: HostRuntime) -> Result<(), Fail> {
     let alloc = rt.alloc();
     for (at, key, value, other_kind, out_of_range) in KEYS {
-        let line = format!(in alloc; "{key} = {value}\n")?;
-        let line = line.as_str();
-        let missing = refusal(alloc, SINGLE, line, "")?;
-        assert_eq!(rt;
-            missing,
-            Some(TableFault::MissingKey(*at, *key)),
-            "without {line}"
+        let missing = TableFault::MissingKey(*at, *key);
+        assert!(rt; is_missed(alloc, *key, value, &missing)?, "without {key}");
+        let kind = TableFault::Kind(*at, *key);
+        assert!(rt;
+            is_refused_with(alloc, *key, value, other_kind, &kind)?,
+            "at {key} = {other_kind}"
         );
-        let changed = format!(in alloc; "{key} = {other_kind}\n")?;
-        let kind = refusal(alloc, SINGLE, line, changed.as_str())?;
-        assert_eq!(rt; kind, Some(TableFault::Kind(*at, *key)), "at {changed}");
-        for value in *out_of_range {
-            let changed = format!(in alloc; "{key} = {value}\n")?;
-            let range = refusal(alloc, SINGLE, line, changed.as_str())?;
-            assert_eq!(rt; range, Some(TableFault::Range(*at, *key)), "at {changed}");
-        }
+        let wrong = first_in_range(alloc, *at, *key, value, out_of_range)?;
+        assert!(rt; wrong.is_none(), "at {key} = {}", wrong.unwrap_or(""));
     }
     Ok(())
 }
 
 #[test]
-fn whole_texts(rt: HostRuntime) -> Result<(), Fail> {
-    let alloc = rt.alloc();
+fn whole_texts(rt: HostRuntime) {
     for (text, fault) in TOPS {
-        assert_eq!(rt;
-            read(alloc, text.as_bytes()).err(),
-            Some(*fault),
-            "at {text}"
-        );
+        assert!(rt; refuses(rt.alloc(), text.as_bytes(), fault), "at {text}");
     }
-    assert_eq!(rt;
-        read(alloc, b"constant = \"03\xff\"").err(),
-        Some(TableFault::Toml)
-    );
-    Ok(())
+    assert!(rt; refuses(rt.alloc(), b"constant = \"03\xff\"", &TableFault::Toml));
 }
 
-/// So many empty tables under a key, each on two lines.
-fn empty_tables(alloc: Global, key: Key, count: usize) -> Result<String, Fail> {
+/// A text between so many empty ports, then so many empty links, and another text.
+fn with_empty_rows(
+    alloc: Global,
+    head: &str,
+    ports: usize,
+    links: usize,
+    tail: &str,
+) -> Result<String, AllocError> {
     let mut text = String::new(alloc);
-    for _ in 0..count {
-        let header = format!(in alloc; "[[{key}]]\n")?;
-        text.push_str(header.as_str())?;
-    }
+    text.push_str(head)?;
+    text.push_str("[[port]]\n".repeat(alloc, ports)?.as_str())?;
+    text.push_str("[[link]]\n".repeat(alloc, links)?.as_str())?;
+    text.push_str(tail)?;
     Ok(text)
 }
 
 #[test]
 fn too_many(rt: HostRuntime) -> Result<(), Fail> {
     let alloc = rt.alloc();
-    let ports = empty_tables(alloc, Key::Port, 25)?;
-    let links = empty_tables(alloc, Key::Link, 4097)?;
-    let both = format!(in alloc; "{ports}{links}")?;
-    let other_kind = format!(in alloc; "link = 1\n{ports}")?;
-    let bad_port = format!(in alloc; "{links}[[port]]\ncolor = 1\n")?;
-    for (text, fault) in [
-        (&ports, TableFault::TooMany(Key::Port)),
-        (&links, TableFault::TooMany(Key::Link)),
-        (&both, TableFault::TooMany(Key::Port)),
-        (&other_kind, TableFault::Kind(At::Top, Key::Link)),
-        (&bad_port, TableFault::TooMany(Key::Link)),
-    ] {
-        assert_eq!(rt; read(alloc, text.as_bytes()).err(), Some(fault));
+    for (head, ports, links, tail, fault) in TOO_MANY {
+        let text = with_empty_rows(alloc, head, *ports, *links, tail)?;
+        assert!(rt;
+            refuses(alloc, text.as_bytes(), fault),
+            "{ports} ports, {links} links"
+        );
     }
     Ok(())
 }
 
+/// Whether a fault is printed so.
+fn is_printed(alloc: Global, fault: &TableFault, name: &str) -> Result<bool, AllocError> {
+    Ok(format!(in alloc; "{fault}")?.as_str() == name)
+}
+
 #[test]
 fn names(rt: HostRuntime) -> Result<(), Fail> {
-    let alloc = rt.alloc();
-    let at = At::Link(1);
-    for (fault, name) in [
-        (TableFault::Memory, "Memory"),
-        (TableFault::Toml, "Toml"),
-        (TableFault::UnknownKey(at), "UnknownKey"),
-        (TableFault::MissingKey(at, Key::Id), "MissingKey"),
-        (TableFault::Kind(at, Key::Id), "Kind"),
-        (TableFault::Range(at, Key::Id), "Range"),
-        (TableFault::Constant, "Constant"),
-        (TableFault::TwicePort(at), "TwicePort"),
-        (TableFault::TwiceLink(at), "TwiceLink"),
-        (TableFault::NoSuchPort(at), "NoSuchPort"),
-        (TableFault::ToEmpty(at), "ToEmpty"),
-        (TableFault::ToTwice(at), "ToTwice"),
-        (TableFault::ToOwnPort(at), "ToOwnPort"),
-        (TableFault::TooMany(Key::Port), "TooMany"),
-    ] {
-        let printed = format!(in alloc; "{fault}")?;
-        assert_eq!(rt; printed.as_str(), name);
+    for (fault, name) in NAMES {
+        assert!(rt; is_printed(rt.alloc(), fault, name)?, "{name}");
     }
     Ok(())
 }
