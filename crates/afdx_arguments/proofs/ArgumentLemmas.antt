@@ -1,15 +1,14 @@
 -- What an option's entry says, and that the program's command is one whose matches and faults are exact.
 use Rattle.std.proofs.Common.{◌≡◌, ℕ, ap, get_or, arith, Global, String, List, map, string_bytes, true, Option, Some, None, Result, Ok, Err, refl, sym, subst, ◌∙◌, inl, inr}
-use Rattle.std.specs.Prelude.{IfOk, IsErr, IsErrAnd, Bool, [], drop, false, MatchOption, Box, codes, option_map}
+use Rattle.std.specs.Prelude.{IsErr, IsErrAnd, Bool, [], drop, MatchOption, Box, codes, option_map}
 use Rattle.std.specs.List.{drop-map}
 use Rattle.std.proofs.Common.{◌-◌, length, take}
 use Rattle.std.proofs.lemmas.List.{take_rest}
 use Rattle.std.specs.Box.{box_value}
 use Rattle.std.specs.Str.Parse.{ParsesUnsigned}
-use Rattle.clap.specs.Words.{AddsSubcommand, App, app_of, shape_of, with_subcommand, HasKind, IsAmong, Kinds, Row, Text, fault_of, is_simple, is_simple_and_free, kind_of, one_text, rows_of}
+use Rattle.clap.specs.Words.{App, app_of, HasKind, IsAmong, Kinds, Row, Text, fault_of, is_simple, is_simple_and_free, kind_of, one_text, rows_of}
 use Rattle.clap.specs.Words.{subcommand_name_of, subcommand_of, subcommand_rows, subcommand_rows_of, ReadsOne}
 use Rattle.clap.specs.declared.builder.command.Command.{Command}
-use Rattle.clap.specs.declared.builder.command.Command.TheViews.{out-Command}
 use Rattle.clap.specs.declared.error.Error.{Error}
 use Rattle.clap.specs.declared.error.kind.ErrorKind.TheVariants.{DisplayHelp, DisplayVersion, OutOfMemory}
 use Rattle.clap.specs.declared.parser.matches.ArgMatches.{ArgMatches}
@@ -176,15 +175,3 @@ module _ (arguments : List (String Global)) (c : Command) (app : app_of c ≡ ne
   network_nothing sub found nothing =
       asks_nothing_by (map string_bytes arguments) true is (sym kinds ∙ found.0)
       (none_of_networks (map string_bytes arguments) (λ r asks. nothing r (subst (λ (x : Option (Text × List Row)). AsksOfNetwork x r) (sym (found.1 ∙ entry)) asks)))
-
--- ---- a command with one more subcommand
-
-pub with_one_more : (old sub new : Command) (app inner : App) → AddsSubcommand old sub new → (out-Command sub).has_globals ≡ false → app_of old ≡ app → app_of sub ≡ inner
-    → app_of new ≡ with_subcommand app inner.top
-with_one_more old sub new app inner adds local is_old is_sub =
-    adds.shape local ∙ ap (λ (a : App). with_subcommand a (shape_of sub)) is_old ∙ ap (λ (a : App). with_subcommand app a.top) is_sub
-
-pub if_one_more : {E : Type 0} (old sub : Command) (r : Result Command E) (app inner : App) → IfOk r (AddsSubcommand old sub) → (out-Command sub).has_globals ≡ false
-    → app_of old ≡ app → app_of sub ≡ inner → IfOk r (λ c. app_of c ≡ with_subcommand app inner.top)
-if_one_more old sub (Ok new) app inner adds local is_old is_sub = with_one_more old sub new app inner adds local is_old is_sub
-if_one_more old sub (Err e) app inner adds local is_old is_sub = tt

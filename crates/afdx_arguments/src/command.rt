@@ -123,7 +123,6 @@ pub(crate) fn with_no_arguments<'a>(
     Command::new(alloc, name).about(about).after_help(more)
 }
 
-#[tactic(auto, unfolding(crate::specs::Commands::alone_app))]
 fn alone<'a>(alloc: Global) -> Result<Command<'a>, AllocError>
     ensures app { IfOk result (λ c. app_of c ≡ alone_app) }
     ensures local { IfOk result (λ c. (out-Command c).has_globals ≡ false) }
@@ -178,7 +177,6 @@ fn size<'a>(alloc: Global) -> Result<Command<'a>, AllocError>
 }
 
 /// A command that goes by the files of a run, with what its help says of it, at its end and of OUT.
-#[tactic(auto, unfolding(crate::specs::Commands::paths_app))]
 fn with_paths<'a>(
     alloc: Global,
     name: &'a str,
@@ -205,7 +203,6 @@ fn run<'a>(alloc: Global) -> Result<Command<'a>, AllocError>
     with_paths(alloc, "run", about, RUN, output)
 }
 
-#[tactic(auto, unfolding(crate::specs::Commands::measure_app))]
 fn measure<'a>(alloc: Global) -> Result<Command<'a>, AllocError>
     ensures app { IfOk result (λ c. app_of c ≡ measure_app) }
     ensures local { IfOk result (λ c. (out-Command c).has_globals ≡ false) }

@@ -62,7 +62,6 @@ fn jitter<'a>(alloc: Global) -> Result<Command<'a>, AllocError>
     with_no_arguments(alloc, "jitter", about, JITTER).arg(path(alloc, "NET", "The network file"))
 }
 
-#[tactic(auto, unfolding(crate::specs::Commands::network_run_app))]
 fn run<'a>(alloc: Global) -> Result<Command<'a>, AllocError>
     ensures app { IfOk result (λ c. app_of c ≡ network_run_app) }
     ensures local { IfOk result (λ c. (out-Command c).has_globals ≡ false) }

@@ -1,7 +1,7 @@
 use Rattle.std.proofs.Common.{codes}
 use Rattle.clap.specs.Words.{with_subcommand}
 use Rattle.afdx_arguments.specs.Commands.{alone_app, check_app, size_app, paths_app, measure_app, network_app, bare_program, program}
-use Rattle.afdx_arguments.proofs.ArgumentLemmas.{with_one_more, if_one_more}
+use Rattle.afdx_arguments.proofs.CommandLemmas.{with_one_more, if_one_more}
 use Rattle.afdx_arguments.proofs.command.program.Goals as goal
 
 pub returns : goal.returns
