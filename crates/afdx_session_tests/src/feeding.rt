@@ -1,27 +1,12 @@
 //! Captures that are fed to a session piece by piece, while what goes out is taken.
 
-use crate::traffic::{checked, outcome_of, unchecked};
-use afdx_session::{Outcome, Plan, RunFault, Session};
+use crate::settings::{Setting, plan};
+use afdx_session::{Outcome, RunFault, Session, run};
 use std::alloc::{AllocError, Global};
-use std::test::Fail;
-
-/// A table, and whether it is checked.
-#[derive(Clone, Copy)]
-pub(crate) struct Setting<'a> {
-    pub(crate) table: &'a str,
-    pub(crate) checked: bool,
-}
-
-fn plan(alloc: Global, setting: Setting<'_>) -> Result<Plan, Fail> {
-    if setting.checked {
-        checked(alloc, setting.table)
-    } else {
-        unchecked(alloc, setting.table)
-    }
-}
+use std::test::*;
 
 /// A session over the table.
-pub(crate) fn open(alloc: Global, setting: Setting<'_>) -> Result<Session<Global>, Fail> {
+pub(crate) fn open(alloc: Global, setting: Setting) -> Result<Session<Global>, Fail> {
     let session = Session::new(alloc, plan(alloc, setting)?)?;
     Ok(session)
 }
@@ -30,7 +15,7 @@ pub(crate) fn open(alloc: Global, setting: Setting<'_>) -> Result<Session<Global
 #[derive(Drop)]
 pub(crate) struct Reported {
     pub(crate) captures: Vec<(u8, Vec<u8>)>,
-    report: String,
+    pub(crate) report: String,
 }
 
 fn tell(alloc: Global, outcome: Outcome<Global>) -> Result<Reported, AllocError> {
@@ -39,15 +24,25 @@ fn tell(alloc: Global, outcome: Outcome<Global>) -> Result<Reported, AllocError>
     Ok(Reported { captures, report })
 }
 
-/// What a run over the whole captures of the ports from 1 on tells.
+/// What a run over these whole captures tells.
 pub(crate) fn whole(
     alloc: Global,
-    setting: Setting<'_>,
-    texts: &[&[u8]],
+    setting: Setting,
+    captures: &[(u8, Vec<u8>)],
 ) -> Result<Reported, Fail> {
-    let outcome = outcome_of(alloc, plan(alloc, setting)?, texts)?;
+    let outcome = run(alloc, plan(alloc, setting)?, captures)?;
     let reported = tell(alloc, outcome)?;
     Ok(reported)
+}
+
+/// Whether what a port puts out is exactly these bytes.
+pub(crate) fn puts_out(whole: &Reported, port: u8, text: &[u8]) -> bool {
+    for (number, output) in &whole.captures {
+        if *number == port {
+            return output.as_slice() == text;
+        }
+    }
+    false
 }
 
 /// The next bytes of a port's capture.
@@ -89,23 +84,20 @@ pub(crate) struct Intake<'a> {
     taken: Vec<u8>,
 }
 
-/// These captures, of the ports from 1 on.
+/// Nothing of these captures has come yet.
 pub(crate) fn intakes<'a>(
     alloc: Global,
-    texts: &[&'a [u8]],
+    captures: &'a [(u8, Vec<u8>)],
 ) -> Result<Vec<Intake<'a>>, AllocError> {
     let mut intakes = Vec::new(alloc);
-    let mut port = 1u8;
-    for text in texts {
-        let left: &'a [u8] = *text;
+    for (port, text) in captures {
         let taken = Vec::new(alloc);
         intakes.push(Intake {
-            port,
-            left,
+            port: *port,
+            left: text,
             closed: false,
             taken,
         })?;
-        port = port.saturating_add(1);
     }
     Ok(intakes)
 }

@@ -1,108 +1,153 @@
 //! Lines of 1000 Mbit/s, and switches with a latency.
 
-use crate::traffic::{bounds_at, leaves, leaves_unchecked};
-use afdx_samples::{
-    HEADER, Port, Sample, capture, large, later, link, mixed, port, single, small, table,
-};
-use std::alloc::{AllocError, Global};
+use crate::runs::Wanted::Left;
+use crate::runs::{Row, all_go};
+use crate::settings::Content::Rows;
+use crate::settings::{LINK, MIXED, ONE, SINGLE, Setting, TWO};
+use crate::texts::Frame::{Large, Other, Small};
+use crate::texts::Text::Frames;
+use crate::texts::{EMPTY, SMALL};
+use afdx_samples::{Port, Sample};
 use std::test::*;
 
-/// Ports 1 and this one, and link 10 from 1 to 2.
-fn single_to(alloc: Global, second: Port) -> Result<String, AllocError> {
-    table(alloc, &[port(1), second], &[link(10, 1, "[2]")])
-}
+/// Port 2 sends 1000 Mbit/s, and the switch takes no time.
+pub(crate) const GIGABIT: Setting = Setting {
+    content: Rows(&[ONE, Port { mbit: 1000, ..TWO }], &[LINK]),
+    latency_us: Some(0),
+    ..SINGLE
+};
+
+/// The same behind 50 µs.
+pub(crate) const GIGABIT_BEHIND: Setting = Setting {
+    latency_us: Some(50),
+    ..GIGABIT
+};
+
+/// Ports 1 and 2 behind 50 µs, and links of both priorities.
+const MIXED_BEHIND: Setting = Setting {
+    latency_us: Some(50),
+    ..MIXED
+};
+
+const ROWS: &[Row] = &[
+    Row {
+        name: "gigabit",
+        setting: GIGABIT_BEHIND,
+        came: &[Frames(&[Small(10, 0)]), EMPTY],
+        wanted: Left(&[EMPTY, Frames(&[Small(10, 50_672)])], ""),
+    },
+    Row {
+        name: "a hundred megabits",
+        setting: Setting {
+            latency_us: Some(50),
+            ..SINGLE
+        },
+        came: &[Frames(&[Small(10, 0)]), EMPTY],
+        wanted: Left(&[EMPTY, Frames(&[Small(10, 56_720)])], ""),
+    },
+    // The high frame comes beside the second low one.
+    Row {
+        name: "latency on a mixed port",
+        setting: MIXED_BEHIND,
+        came: &[Frames(&[Large(10, 0), Small(11, 1), Small(12, 1)]), EMPTY],
+        wanted: Left(
+            &[
+                EMPTY,
+                Frames(&[Large(10, 173_040), Small(12, 179_760), Small(11, 186_480)]),
+            ],
+            "",
+        ),
+    },
+    // The high frame comes at the instant at which the first would end without latency.
+    Row {
+        name: "latency on a mixed port, late",
+        setting: MIXED_BEHIND,
+        came: &[
+            Frames(&[Large(10, 0), Small(11, 1), Small(12, 123_040)]),
+            EMPTY,
+        ],
+        wanted: Left(
+            &[
+                EMPTY,
+                Frames(&[Large(10, 173_040), Small(12, 179_760), Small(11, 186_480)]),
+            ],
+            "",
+        ),
+    },
+    Row {
+        name: "an age of the latency",
+        setting: Setting {
+            content: Rows(
+                &[
+                    ONE,
+                    Port {
+                        max_delay_us: 100,
+                        ..TWO
+                    },
+                ],
+                &[LINK],
+            ),
+            latency_us: Some(100),
+            checked: false,
+        },
+        came: &[Frames(&[Small(10, 0)]), EMPTY],
+        wanted: Left(
+            &[EMPTY, Frames(&[Small(10, 106_720)])],
+            "out 2 low offered 1 full 0 aged 0 sent 1\n",
+        ),
+    },
+    Row {
+        name: "an age below the latency",
+        setting: Setting {
+            content: Rows(
+                &[
+                    ONE,
+                    Port {
+                        max_delay_us: 99,
+                        ..TWO
+                    },
+                ],
+                &[LINK],
+            ),
+            latency_us: Some(100),
+            checked: false,
+        },
+        came: &[Frames(&[Small(10, 0)]), EMPTY],
+        wanted: Left(
+            &[EMPTY, EMPTY],
+            "out 2 low offered 1 full 0 aged 1 sent 0\n",
+        ),
+    },
+    // A frame of the last instant that is read leaves in the last second, which is only written.
+    Row {
+        name: "latency in the last second",
+        setting: Setting {
+            latency_us: Some(100),
+            ..SINGLE
+        },
+        came: &[
+            Frames(&[Other(Sample {
+                seconds: 4_294_967_294,
+                nanos: 999_999_999,
+                ..SMALL
+            })]),
+            EMPTY,
+        ],
+        wanted: Left(
+            &[
+                EMPTY,
+                Frames(&[Other(Sample {
+                    seconds: 4_294_967_295,
+                    nanos: 106_719,
+                    ..SMALL
+                })]),
+            ],
+            "",
+        ),
+    },
+];
 
 #[test]
-fn gigabit(rt: HostRuntime) -> Result<(), Fail> {
-    let alloc = rt.alloc();
-    let fast = Port {
-        mbit: 1000,
-        ..port(2)
-    };
-    let text = single_to(alloc, fast)?;
-    let came = capture(alloc, &[small(10, 0)])?;
-    let at_once = later(alloc, &text, 0)?;
-    assert_eq!(rt; bounds_at(alloc, &at_once, 2)?.low, Some(15_939));
-    let behind = later(alloc, &text, 50)?;
-    assert_eq!(rt; bounds_at(alloc, &behind, 2)?.low, Some(65_939));
-    assert!(rt;
-        leaves(
-            alloc,
-            &behind,
-            &[&came, &HEADER],
-            &[&[], &[small(10, 50_672)]],
-            ""
-        )?
-    );
-    let hundred = later(alloc, &single(alloc)?, 50)?;
-    assert!(rt;
-        leaves(
-            alloc,
-            &hundred,
-            &[&came, &HEADER],
-            &[&[], &[small(10, 56_720)]],
-            ""
-        )?
-    );
-    Ok(())
-}
-
-/// The high frame comes beside the second low one, or at the instant at which the first would end without latency.
-#[test]
-fn latency_on_a_mixed_port(rt: HostRuntime) -> Result<(), Fail> {
-    let alloc = rt.alloc();
-    let text = later(alloc, &mixed(alloc)?, 50)?;
-    let left = [large(10, 173_040), small(12, 179_760), small(11, 186_480)];
-    for high in [1, 123_040] {
-        let came = capture(alloc, &[large(10, 0), small(11, 1), small(12, high)])?;
-        assert!(rt; leaves(alloc, &text, &[&came, &HEADER], &[&[], &left], "")?);
-    }
-    Ok(())
-}
-
-#[test]
-fn latency_and_age(rt: HostRuntime) -> Result<(), Fail> {
-    let alloc = rt.alloc();
-    let came = capture(alloc, &[small(10, 0)])?;
-    let hasty = Port {
-        max_delay_us: 100,
-        ..port(2)
-    };
-    let text = later(alloc, &single_to(alloc, hasty)?, 100)?;
-    let line = "out 2 low offered 1 full 0 aged 0 sent 1\n";
-    assert!(rt;
-        leaves_unchecked(
-            alloc,
-            &text,
-            &[&came, &HEADER],
-            &[&[], &[small(10, 106_720)]],
-            line
-        )?
-    );
-    let hastier = Port {
-        max_delay_us: 99,
-        ..port(2)
-    };
-    let text = later(alloc, &single_to(alloc, hastier)?, 100)?;
-    let line = "out 2 low offered 1 full 0 aged 1 sent 0\n";
-    assert!(rt; leaves_unchecked(alloc, &text, &[&came, &HEADER], &[&[], &[]], line)?);
-    Ok(())
-}
-
-/// A frame of the last instant that is read leaves in the last second, which is only written.
-#[test]
-fn latency_in_the_last_second(rt: HostRuntime) -> Result<(), Fail> {
-    let alloc = rt.alloc();
-    let text = later(alloc, &single(alloc)?, 100)?;
-    let last = Sample {
-        seconds: 4_294_967_294,
-        ..small(10, 999_999_999)
-    };
-    let came = capture(alloc, &[last])?;
-    let left = [Sample {
-        seconds: 4_294_967_295,
-        ..small(10, 106_719)
-    }];
-    assert!(rt; leaves(alloc, &text, &[&came, &HEADER], &[&[], &left], "")?);
-    Ok(())
+fn latencies(rt: HostRuntime) -> Result<(), Fail> {
+    all_go(&rt, rt.alloc(), ROWS)
 }

@@ -12,8 +12,6 @@ mod formats;
 #[cfg(test)]
 mod latency;
 #[cfg(test)]
-mod latency_in_pieces;
-#[cfg(test)]
 mod pieces;
 #[cfg(test)]
 mod policing;
@@ -24,8 +22,12 @@ mod refused;
 #[cfg(test)]
 mod rest;
 #[cfg(test)]
+mod runs;
+#[cfg(test)]
 mod sessions;
+#[cfg(test)]
+mod settings;
 #[cfg(test)]
 mod single;
 #[cfg(test)]
-mod traffic;
+mod texts;

@@ -1,128 +1,146 @@
 //! Captures that come in pieces, in any order of ports, beside a run over the whole captures.
 
 use crate::feeding::{
-    Reported, Setting, agree, feed_all, feed_at, intakes, open, rest, take_at, whole,
+    Intake, Reported, agree, feed_all, feed_at, intakes, open, rest, take_at, whole,
 };
-use afdx_samples::{
-    FRAME, HEADER, Link, Port, Sample, capture, double, frame, joined, large, link, mixed, narrow,
-    one_of_each, port, single, slow, small, table,
-};
+use crate::formats::{AT_BIG_NANOS, AT_LITTLE_MICROS, BIG_NANOS, LITTLE_MICROS};
+use crate::settings::Content::Rows;
+use crate::settings::{DOUBLE, LINK, MIXED, NARROW, ONE, SINGLE, SLOW, Setting, THREE, TWO};
+use crate::texts::Frame::{Large, Small};
+use crate::texts::Text::{Frames, Parts};
+use crate::texts::{EMPTY, Text, captures};
+use afdx_samples::{FRAME, HEADER, Link, Port, Sample, capture, frame};
+use afdx_session::Session;
 use std::alloc::{AllocError, Global};
 use std::test::*;
 
-/// Whether these captures of the ports from 1 on, in pieces of this size round these places, lead where the whole run does.
+/// How the pieces of captures come.
+#[derive(Clone, Copy)]
+enum Pieces<'a> {
+    /// Of this size, round the captures at these places, while all that goes out is taken.
+    Round(&'a [usize], usize),
+    /// Of random sizes and captures, with takes at random; these are the numbers of this seed.
+    Random(u64),
+}
+
+/// The pieces come; whether none was refused.
+fn come(session: &mut Session<Global>, intakes: &mut [Intake<'_>], pieces: Pieces<'_>) -> bool {
+    match pieces {
+        Pieces::Round(places, size) => feed_all(session, intakes, places, size).is_ok(),
+        Pieces::Random(seed) => come_at_random(session, intakes, seed),
+    }
+}
+
+/// Whether these captures in such pieces lead where the whole run does.
 fn lead(
     alloc: Global,
-    setting: Setting<'_>,
-    texts: &[&[u8]],
-    places: &[usize],
-    size: usize,
+    setting: Setting,
+    captures: &[(u8, Vec<u8>)],
+    pieces: Pieces<'_>,
     whole: &Reported,
 ) -> Result<bool, Fail> {
-    let mut intakes = intakes(alloc, texts)?;
+    let mut intakes = intakes(alloc, captures)?;
     let mut session = open(alloc, setting)?;
-    let fed = feed_all(&mut session, &mut intakes, places, size).is_ok();
+    let fed = come(&mut session, &mut intakes, pieces);
     Ok(match rest(alloc, session) {
         Some(rest) => fed && agree(&intakes, &rest, whole),
         None => false,
     })
 }
 
-/// Whether pieces of 1, 7 and 64 bytes round the ports from the lowest, and from the highest, lead where the whole captures do.
-fn any_pieces_lead(alloc: Global, setting: Setting<'_>, texts: &[&[u8]]) -> Result<bool, Fail> {
-    let whole = whole(alloc, setting, texts)?;
-    let orders: [&[usize]; 2] = if texts.len() == 2 {
-        [&[0, 1], &[1, 0]]
-    } else {
-        [&[0, 1, 2], &[2, 1, 0]]
-    };
-    for places in orders {
-        for size in [1, 7, 64] {
-            if !lead(alloc, setting, texts, places, size, &whole)? {
-                return Ok(false);
-            }
-        }
+/// Whether these captures lead where the whole run does, in pieces of each of these kinds.
+fn all_lead(
+    alloc: Global,
+    setting: Setting,
+    captures: &[(u8, Vec<u8>)],
+    kinds: &[Pieces<'_>],
+) -> Result<bool, Fail> {
+    let whole = whole(alloc, setting, captures)?;
+    let mut right = true;
+    for pieces in kinds {
+        right = right && lead(alloc, setting, captures, *pieces, &whole)?;
     }
-    Ok(true)
+    Ok(right)
 }
 
-#[test]
-fn pieces_of_one_frame(rt: HostRuntime) -> Result<(), Fail> {
-    let alloc = rt.alloc();
-    let text = single(alloc)?;
-    let setting = Setting {
-        table: &text,
-        checked: true,
-    };
-    let came = capture(alloc, &[small(10, 0)])?;
-    assert!(rt; any_pieces_lead(alloc, setting, &[&came, &HEADER])?);
-    Ok(())
+/// Captures of the ports from 1 on.
+#[derive(Clone, Copy)]
+struct Row {
+    name: &'static str,
+    setting: Setting,
+    came: &'static [Text],
+    kinds: &'static [Pieces<'static>],
 }
 
-#[test]
-fn pieces_where_high_overtakes(rt: HostRuntime) -> Result<(), Fail> {
-    let alloc = rt.alloc();
-    let text = mixed(alloc)?;
-    let setting = Setting {
-        table: &text,
-        checked: true,
-    };
-    let came = capture(alloc, &[large(10, 0), small(11, 1), small(12, 1)])?;
-    assert!(rt; any_pieces_lead(alloc, setting, &[&came, &HEADER])?);
-    Ok(())
-}
-
-#[test]
-fn pieces_where_one_port_is_full(rt: HostRuntime) -> Result<(), Fail> {
-    let alloc = rt.alloc();
-    let text = slow(alloc)?;
-    let setting = Setting {
-        table: &text,
-        checked: false,
-    };
-    let came = capture(alloc, &[small(10, 0), small(10, 0)])?;
-    assert!(rt; any_pieces_lead(alloc, setting, &[&came, &HEADER, &HEADER])?);
-    Ok(())
-}
-
-#[test]
-fn pieces_of_every_verdict(rt: HostRuntime) -> Result<(), Fail> {
-    let alloc = rt.alloc();
-    let text = narrow(alloc)?;
-    let setting = Setting {
-        table: &text,
-        checked: true,
-    };
-    let first = capture(alloc, &one_of_each())?;
-    let second = capture(alloc, &[small(10, 0)])?;
-    assert!(rt; any_pieces_lead(alloc, setting, &[&first, &second, &HEADER])?);
-    Ok(())
-}
-
-/// Little-endian microseconds and big-endian nanoseconds; a record at 1 s and 5 us in each.
-const LITTLE_MICROS: [u8; 24] = [
-    0xd4, 0xc3, 0xb2, 0xa1, 2, 0, 4, 0, 0, 0, 0, 0, 0, 0, 0, 0, 0, 0, 4, 0, 1, 0, 0, 0,
+/// Pieces of 1, 7 and 64 bytes round two ports, from the lowest and from the highest.
+const ROUND_TWO: &[Pieces<'static>] = &[
+    Pieces::Round(&[0, 1], 1),
+    Pieces::Round(&[0, 1], 7),
+    Pieces::Round(&[0, 1], 64),
+    Pieces::Round(&[1, 0], 1),
+    Pieces::Round(&[1, 0], 7),
+    Pieces::Round(&[1, 0], 64),
 ];
 
-const AT_LITTLE_MICROS: [u8; 16] = [1, 0, 0, 0, 5, 0, 0, 0, 60, 0, 0, 0, 60, 0, 0, 0];
-
-const BIG_NANOS: [u8; 24] = [
-    0xa1, 0xb2, 0x3c, 0x4d, 0, 2, 0, 4, 0, 0, 0, 0, 0, 0, 0, 0, 0, 0, 0xff, 0xff, 0, 0, 0, 1,
+/// The same round three ports.
+const ROUND_THREE: &[Pieces<'static>] = &[
+    Pieces::Round(&[0, 1, 2], 1),
+    Pieces::Round(&[0, 1, 2], 7),
+    Pieces::Round(&[0, 1, 2], 64),
+    Pieces::Round(&[2, 1, 0], 1),
+    Pieces::Round(&[2, 1, 0], 7),
+    Pieces::Round(&[2, 1, 0], 64),
 ];
 
-const AT_BIG_NANOS: [u8; 16] = [0, 0, 0, 1, 0, 0, 0x13, 0x88, 0, 0, 0, 60, 0, 0, 0, 60];
+const ROWS: &[Row] = &[
+    Row {
+        name: "one frame",
+        setting: SINGLE,
+        came: &[Frames(&[Small(10, 0)]), EMPTY],
+        kinds: ROUND_TWO,
+    },
+    Row {
+        name: "a high frame overtakes",
+        setting: MIXED,
+        came: &[Frames(&[Large(10, 0), Small(11, 1), Small(12, 1)]), EMPTY],
+        kinds: ROUND_TWO,
+    },
+    Row {
+        name: "one port is full",
+        setting: SLOW,
+        came: &[Frames(&[Small(10, 0), Small(10, 0)]), EMPTY, EMPTY],
+        kinds: ROUND_THREE,
+    },
+    Row {
+        name: "every verdict",
+        setting: NARROW,
+        came: &[Text::OneOfEach, Frames(&[Small(10, 0)]), EMPTY],
+        kinds: ROUND_THREE,
+    },
+    // A record at 1 s and 5 us in each.
+    Row {
+        name: "two formats",
+        setting: DOUBLE,
+        came: &[
+            Parts(&[&LITTLE_MICROS, &AT_LITTLE_MICROS, &FRAME]),
+            Parts(&[&BIG_NANOS, &AT_BIG_NANOS, &FRAME]),
+            EMPTY,
+        ],
+        kinds: ROUND_THREE,
+    },
+];
+
+/// Whether the captures of a row lead where the whole run does.
+fn row_leads(alloc: Global, row: &Row) -> Result<bool, Fail> {
+    let captures = captures(alloc, row.came)?;
+    all_lead(alloc, row.setting, &captures, row.kinds)
+}
 
 #[test]
-fn pieces_of_two_formats(rt: HostRuntime) -> Result<(), Fail> {
-    let alloc = rt.alloc();
-    let text = double(alloc, port(3))?;
-    let setting = Setting {
-        table: &text,
-        checked: true,
-    };
-    let first = joined(alloc, &[&LITTLE_MICROS, &AT_LITTLE_MICROS, &FRAME])?;
-    let second = joined(alloc, &[&BIG_NANOS, &AT_BIG_NANOS, &FRAME])?;
-    assert!(rt; any_pieces_lead(alloc, setting, &[&first, &second, &HEADER])?);
+fn pieces_round_the_ports(rt: HostRuntime) -> Result<(), Fail> {
+    for row in ROWS {
+        assert!(rt; row_leads(rt.alloc(), row)?, "{}", row.name);
+    }
     Ok(())
 }
 
@@ -144,34 +162,73 @@ fn below(state: &mut u64, limit: u32) -> u32 {
 }
 
 /// A high link for small frames.
-fn quick(id: u16, from: u8, to: &'static str) -> Link {
-    Link {
-        max_size: 300,
-        jitter_us: 100,
-        priority: "high",
-        ..link(id, from, to)
-    }
-}
+const QUICK: Link = Link {
+    max_size: 300,
+    jitter_us: 100,
+    priority: "high",
+    ..LINK
+};
 
 /// The ports of the example network, and links as it has them: of both priorities, from each port to several.
-fn network(alloc: Global) -> Result<String, AllocError> {
-    let slow = Port {
-        mbit: 10,
-        buffer: 8192,
-        max_delay_us: 10_000,
-        ..port(4)
-    };
-    let links = [
-        quick(100, 1, "[2, 3]"),
-        link(104, 1, "[4]"),
-        quick(200, 2, "[1, 3]"),
-        link(202, 2, "[1, 3]"),
-        quick(30, 3, "[1, 4]"),
-        link(31, 3, "[1, 2]"),
-        link(40, 4, "[1, 2, 3]"),
-    ];
-    table(alloc, &[port(1), port(2), port(3), slow], &links)
-}
+const NETWORK: Setting = Setting {
+    content: Rows(
+        &[
+            ONE,
+            TWO,
+            THREE,
+            Port {
+                id: 4,
+                mbit: 10,
+                buffer: 8192,
+                max_delay_us: 10_000,
+            },
+        ],
+        &[
+            Link {
+                id: 100,
+                to: "[2, 3]",
+                ..QUICK
+            },
+            Link {
+                id: 104,
+                to: "[4]",
+                ..LINK
+            },
+            Link {
+                id: 200,
+                from: 2,
+                to: "[1, 3]",
+                ..QUICK
+            },
+            Link {
+                id: 202,
+                from: 2,
+                to: "[1, 3]",
+                ..LINK
+            },
+            Link {
+                id: 30,
+                from: 3,
+                to: "[1, 4]",
+                ..QUICK
+            },
+            Link {
+                id: 31,
+                from: 3,
+                to: "[1, 2]",
+                ..LINK
+            },
+            Link {
+                id: 40,
+                from: 4,
+                to: "[1, 2, 3]",
+                ..LINK
+            },
+        ],
+    ),
+    checked: false,
+    ..SINGLE
+};
 
 /// The links of the network.
 const LINKS: [u8; 7] = [100, 104, 200, 202, 30, 31, 40];
@@ -196,54 +253,48 @@ fn traffic(alloc: Global, state: &mut u64, count: usize) -> Result<Vec<u8>, Allo
     capture(alloc, &frames)
 }
 
-/// Whether random pieces of random ports, with takes at random, lead where the whole captures do.
-fn random_pieces_lead(
-    alloc: Global,
-    setting: Setting<'_>,
-    texts: &[&[u8]],
-    state: &mut u64,
-) -> Result<bool, Fail> {
-    let whole = whole(alloc, setting, texts)?;
-    let mut intakes = intakes(alloc, texts)?;
-    let mut session = open(alloc, setting)?;
-    let mut right = true;
-    for _ in 0..400 {
-        let size = below(state, 120) as usize;
-        right = feed_at(&mut session, &mut intakes, below(state, 4) as usize, size).is_ok()
-            && right;
-        right = take_at(&mut session, &mut intakes, below(state, 4) as usize).is_ok() && right;
-    }
-    right = feed_all(&mut session, &mut intakes, &[2, 0, 3, 1], 1000).is_ok() && right;
-    Ok(match rest(alloc, session) {
-        Some(rest) => right && agree(&intakes, &rest, &whole),
-        None => false,
-    })
+/// Captures of the four ports; nothing comes in at port 3.
+fn random_captures(alloc: Global, state: &mut u64) -> Result<Vec<(u8, Vec<u8>)>, AllocError> {
+    let mut captures = Vec::new(alloc);
+    captures.push((1, traffic(alloc, state, 40)?))?;
+    captures.push((2, traffic(alloc, state, 25)?))?;
+    captures.push((3, Vec::from_slice(alloc, &HEADER)?))?;
+    captures.push((4, traffic(alloc, state, 60)?))?;
+    Ok(captures)
 }
 
-/// The same of captures that the seed makes.
-fn random_captures_lead(alloc: Global, setting: Setting<'_>, seed: u64) -> Result<bool, Fail> {
+/// A piece of one capture comes, and what has gone out of one port is taken; whether neither was refused.
+fn step_at_random(
+    session: &mut Session<Global>,
+    intakes: &mut [Intake<'_>],
+    state: &mut u64,
+) -> bool {
+    let size = below(state, 120) as usize;
+    let fed = feed_at(session, intakes, below(state, 4) as usize, size).is_ok();
+    take_at(session, intakes, below(state, 4) as usize).is_ok() && fed
+}
+
+/// So it goes 400 times, and then what is left comes; whether none was refused.
+fn come_at_random(session: &mut Session<Global>, intakes: &mut [Intake<'_>], seed: u64) -> bool {
     let mut state = seed;
-    let first = traffic(alloc, &mut state, 40)?;
-    let second = traffic(alloc, &mut state, 25)?;
-    let fourth = traffic(alloc, &mut state, 60)?;
-    random_pieces_lead(
-        alloc,
-        setting,
-        &[&first, &second, &HEADER, &fourth],
-        &mut state,
-    )
+    let mut right = true;
+    for _ in 0..400 {
+        right = step_at_random(session, intakes, &mut state) && right;
+    }
+    feed_all(session, intakes, &[2, 0, 3, 1], 1000).is_ok() && right
+}
+
+/// Whether random pieces of random ports lead where the whole captures do. The seed makes the captures too.
+fn random_captures_lead(alloc: Global, seed: u64) -> Result<bool, Fail> {
+    let mut state = seed;
+    let captures = random_captures(alloc, &mut state)?;
+    all_lead(alloc, NETWORK, &captures, &[Pieces::Random(state)])
 }
 
 #[test]
 fn random_pieces(rt: HostRuntime) -> Result<(), Fail> {
-    let alloc = rt.alloc();
-    let text = network(alloc)?;
-    let setting = Setting {
-        table: &text,
-        checked: false,
-    };
     for seed in 1..=8u64 {
-        assert!(rt; random_captures_lead(alloc, setting, seed << 40)?, "{seed}");
+        assert!(rt; random_captures_lead(rt.alloc(), seed << 40)?, "{seed}");
     }
     Ok(())
 }

@@ -5,10 +5,13 @@ ghost use Rattle.afdx_table.specs.Content.{Content};
 ghost use Rattle.afdx_core.specs.Merge.{Arrival};
 ghost use Rattle.afdx_session.specs.Carried.{IsLeft};
 
-use crate::traffic::{checked, of_ports, puts_out};
+use crate::feeding::{Reported, puts_out, whole};
+use crate::settings::{DOUBLE, NARROW, SINGLE, Setting, plan};
+use crate::texts::Frame::Small;
+use crate::texts::Text::Frames;
+use crate::texts::{EMPTY, NOTHING, Text, captures};
 use afdx_pcap::PcapFault;
-use afdx_samples::{HEADER, capture, double, large, narrow, one_of_each, port, single, small};
-use afdx_session::{Carried, Outcome, RunFault, carried, run};
+use afdx_session::{Carried, RunFault, carried};
 use std::alloc::{AllocError, Global};
 use std::test::*;
 
@@ -17,7 +20,7 @@ fn are_those_of(
     rest: &mut Carried<'_, Global>,
     first: usize,
     captures: &[(u8, Vec<u8>)],
-    whole: &Outcome<Global>,
+    whole: &Reported,
     text: &mut Vec<u8>,
 ) -> Result<bool, AllocError>
     requires { (t : Content) × (arrivals : List Arrival) × IsLeft t arrivals 0 rest.old × (length captures.now ≡ length t.ports) }
@@ -31,66 +34,81 @@ fn are_those_of(
     Ok(true)
 }
 
-/// Whether the run that is over tells the same counts as the other one.
+/// Whether the run that is over tells the same counts as the whole one.
 fn counts_as(
     alloc: Global,
     rest: &Carried<'_, Global>,
-    whole: &Outcome<Global>,
+    whole: &Reported,
 ) -> Result<bool, AllocError> {
-    let reported = rest.counts().report(alloc)?;
-    let report = whole.counts.report(alloc)?;
-    Ok(reported.as_str() == report.as_str())
+    let report = rest.counts().report(alloc)?;
+    Ok(report.as_str() == whole.report.as_str())
 }
 
 /// Whether a run whose outputs are written one at a time, those from a place on, has the same outputs and counts as one that
 /// puts them out at once.
-fn agrees(alloc: Global, table: &str, texts: &[&[u8]], first: usize) -> Result<bool, Fail> {
-    let captures = of_ports(alloc, texts)?;
-    let whole = run(alloc, checked(alloc, table)?, &captures)?;
-    let mut rest = carried(alloc, checked(alloc, table)?, &captures)?;
+fn agrees(
+    alloc: Global,
+    setting: Setting,
+    captures: &[(u8, Vec<u8>)],
+    first: usize,
+) -> Result<bool, Fail> {
+    let whole = whole(alloc, setting, captures)?;
     let mut text = Vec::from_slice(alloc, b"what was there before")?;
-    Ok(
-        are_those_of(&mut rest, first, &captures, &whole, &mut text)?
-            && counts_as(alloc, &rest, &whole)?,
-    )
+    let mut rest = carried(alloc, plan(alloc, setting)?, captures)?;
+    let outputs = are_those_of(&mut rest, first, captures, &whole, &mut text);
+    let counts = counts_as(alloc, &rest, &whole);
+    Ok(outputs == Ok(true) && counts == Ok(true))
 }
 
-/// The fault of a run whose outputs would be written one at a time.
-fn refusal(alloc: Global, table: &str, texts: &[&[u8]]) -> Result<Option<RunFault>, Fail> {
-    let captures = of_ports(alloc, texts)?;
-    Ok(carried(alloc, checked(alloc, table)?, &captures).err())
+/// The same with these texts of the ports from 1 on.
+fn agrees_on(alloc: Global, setting: Setting, came: &[Text], first: usize) -> Result<bool, Fail> {
+    let captures = captures(alloc, came)?;
+    agrees(alloc, setting, &captures, first)
 }
 
-/// More frames than go to the switch between two looks at what has left, to a port that sends few of them.
+/// Runs over the table, each with the place of the first output that is asked for.
+const ROWS: &[(&str, Setting, &[Text], usize)] = &[
+    // More frames than go to the switch between two looks at what has left, to a port that sends few of them.
+    (
+        "outputs in turn",
+        DOUBLE,
+        &[Frames(&[Small(10, 0)]), Text::Babble, EMPTY],
+        0,
+    ),
+    // The outputs of the ports before are not asked for.
+    (
+        "the last output alone",
+        NARROW,
+        &[Text::OneOfEach, Frames(&[Small(10, 0)]), EMPTY],
+        2,
+    ),
+];
+
 #[test]
-fn outputs_in_turn(rt: HostRuntime) -> Result<(), Fail> {
-    let alloc = rt.alloc();
-    let table = double(alloc, port(3))?;
-    let quiet = capture(alloc, &[small(10, 0)])?;
-    let babble = capture(alloc, &[large(20, 0); 1000])?;
-    assert!(rt; agrees(alloc, &table, &[&quiet, &babble, &HEADER], 0)?);
+fn outputs_one_at_a_time(rt: HostRuntime) -> Result<(), Fail> {
+    for (name, setting, came, first) in ROWS {
+        assert!(rt; agrees_on(rt.alloc(), *setting, came, *first)?, "{name}");
+    }
     Ok(())
 }
 
-/// The outputs of the ports before are not asked for.
-#[test]
-fn last_output_alone(rt: HostRuntime) -> Result<(), Fail> {
-    let alloc = rt.alloc();
-    let table = narrow(alloc)?;
-    let first = capture(alloc, &one_of_each())?;
-    let second = capture(alloc, &[small(10, 0)])?;
-    assert!(rt; agrees(alloc, &table, &[&first, &second, &HEADER], 2)?);
-    Ok(())
+/// Whether a run whose outputs would be written one at a time has this fault.
+fn is_refused(alloc: Global, came: &[Text], fault: RunFault) -> Result<bool, Fail> {
+    let captures = captures(alloc, came)?;
+    let found = carried(alloc, plan(alloc, SINGLE)?, &captures).err();
+    Ok(found == Some(fault))
 }
+
+/// Runs that are refused, of which nothing is written.
+const REFUSED: &[(&[Text], RunFault)] = &[
+    (&[NOTHING], RunFault::WrongPorts),
+    (&[EMPTY, NOTHING], RunFault::Capture(2, PcapFault::NoHeader)),
+];
 
 #[test]
 fn nothing_is_written_of_refused_runs(rt: HostRuntime) -> Result<(), Fail> {
-    let alloc = rt.alloc();
-    let table = single(alloc)?;
-    let nothing: [u8; 0] = [];
-    let few = refusal(alloc, &table, &[&nothing])?;
-    assert_eq!(rt; few, Some(RunFault::WrongPorts));
-    let fault = refusal(alloc, &table, &[&HEADER, &nothing])?;
-    assert_eq!(rt; fault, Some(RunFault::Capture(2, PcapFault::NoHeader)));
+    for (came, fault) in REFUSED {
+        assert!(rt; is_refused(rt.alloc(), came, *fault)?, "{fault:?}");
+    }
     Ok(())
 }

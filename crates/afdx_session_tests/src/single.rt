@@ -1,10 +1,13 @@
 //! One link, or several from one port to another.
 
-use crate::traffic::{checked, leaves, leaves_unchecked, links_of, outcome, puts_out, unchecked};
-use afdx_samples::{
-    FRAME, HEADER, Link, Port, Sample, capture, joined, large, link, mixed, port, single, slow,
-    small, table,
-};
+use crate::runs::Wanted::{Left, Reported};
+use crate::runs::{Row, all_go};
+use crate::settings::Content::Rows;
+use crate::settings::{LINK, MIXED, ONE, SINGLE, SLOW, Setting, TWO};
+use crate::texts::Frame::{Large, Other, Small};
+use crate::texts::Text::{Frames, Parts};
+use crate::texts::{EMPTY, LARGE, bytes};
+use afdx_samples::{FRAME, HEADER, Link, Port, Sample};
 use std::test::*;
 
 /// The report of a run without frames.
@@ -21,156 +24,177 @@ out 2 low offered 0 full 0 aged 0 sent 0
 /// The header of the record that leaves.
 const AT_6720: [u8; 16] = [0, 0, 0, 0, 0x40, 0x1a, 0, 0, 60, 0, 0, 0, 60, 0, 0, 0];
 
-#[test]
-fn one_frame(rt: HostRuntime) -> Result<(), Fail> {
-    let alloc = rt.alloc();
-    let text = single(alloc)?;
-    let came = capture(alloc, &[small(10, 0)])?;
-    let done = outcome(alloc, &text, &[&came, &HEADER])?;
-    let left = joined(alloc, &[&HEADER, &AT_6720, &FRAME])?;
-    assert_eq!(rt; came.len(), 100);
-    assert_eq!(rt; done.captures.len(), 2);
-    assert!(rt; puts_out(&done, 1, &HEADER));
-    assert!(rt; puts_out(&done, 2, &left));
-    Ok(())
-}
-
-#[test]
-fn no_frames(rt: HostRuntime) -> Result<(), Fail> {
-    let alloc = rt.alloc();
-    let text = single(alloc)?;
-    let done = outcome(alloc, &text, &[&HEADER, &HEADER])?;
-    assert!(rt; puts_out(&done, 1, &HEADER));
-    assert!(rt; puts_out(&done, 2, &HEADER));
-    assert_eq!(rt; done.counts.report(alloc)?.as_str(), NO_FRAMES);
-    Ok(())
-}
-
-#[test]
-fn policed_a_nanosecond_early(rt: HostRuntime) -> Result<(), Fail> {
-    let alloc = rt.alloc();
-    let text = single(alloc)?;
-    let came = capture(
-        alloc,
-        &[large(10, 0), large(10, 999_999), large(10, 1_000_000)],
-    )?;
-    assert!(rt;
-        leaves(
-            alloc,
-            &text,
-            &[&came, &HEADER],
-            &[&[], &[large(10, 123_040), large(10, 1_123_040)]],
-            "link 10 passed 2 policed 1\n"
-        )?
-    );
-    Ok(())
-}
-
-#[test]
-fn far_apart(rt: HostRuntime) -> Result<(), Fail> {
-    let alloc = rt.alloc();
-    let text = single(alloc)?;
-    let late = Sample {
-        seconds: 4_000_000_000,
-        ..large(10, 0)
-    };
-    let came = capture(alloc, &[large(10, 0), late])?;
-    let late_end = Sample {
-        nanos: 123_040,
-        ..late
-    };
-    let left = [large(10, 123_040), late_end];
-    assert!(rt; leaves(alloc, &text, &[&came, &HEADER], &[&[], &left], "")?);
-    Ok(())
-}
-
-#[test]
-fn burst_of_small_frames(rt: HostRuntime) -> Result<(), Fail> {
-    let alloc = rt.alloc();
-    let text = single(alloc)?;
-    let came = capture(alloc, &[small(10, 0); 24])?;
-    let mut left = [small(10, 0); 23];
-    let mut end = 0u32;
-    for place in 0..23 {
-        end = end.saturating_add(6_720);
-        left[place].nanos = end;
-    }
-    assert_eq!(rt; end, 154_560);
-    assert!(rt; leaves(alloc, &text, &[&came, &HEADER], &[&[], &left], "")?);
-    Ok(())
-}
-
-#[test]
-fn high_overtakes(rt: HostRuntime) -> Result<(), Fail> {
-    let alloc = rt.alloc();
-    let text = mixed(alloc)?;
-    let came = capture(alloc, &[large(10, 0), small(11, 1), small(12, 1)])?;
-    let left = [large(10, 123_040), small(12, 129_760), small(11, 136_480)];
-    assert!(rt; leaves(alloc, &text, &[&came, &HEADER], &[&[], &left], "")?);
-    Ok(())
-}
-
-#[test]
-fn high_at_the_instant_of_the_end(rt: HostRuntime) -> Result<(), Fail> {
-    let alloc = rt.alloc();
-    let text = mixed(alloc)?;
-    let came = capture(alloc, &[large(10, 0), small(11, 1), small(12, 123_040)])?;
-    let left = [large(10, 123_040), small(12, 129_760), small(11, 136_480)];
-    assert!(rt; leaves(alloc, &text, &[&came, &HEADER], &[&[], &left], "")?);
-    Ok(())
-}
-
-#[test]
-fn buffer_of_one_frame(rt: HostRuntime) -> Result<(), Fail> {
-    let alloc = rt.alloc();
-    let narrow = Port {
-        buffer: 1518,
-        ..port(2)
-    };
-    let early = Link {
-        jitter_us: 1000,
-        ..link(10, 1, "[2]")
-    };
-    let text = table(alloc, &[port(1), narrow], &[early])?;
-    let came = capture(alloc, &[large(10, 0), large(10, 0), large(10, 1_000_000)])?;
-    assert!(rt;
-        leaves_unchecked(
-            alloc,
-            &text,
-            &[&came, &HEADER],
-            &[&[], &[large(10, 123_040), large(10, 1_123_040)]],
-            "out 2 low offered 3 full 1 aged 0 sent 2\n"
-        )?
-    );
-    Ok(())
-}
-
-#[test]
-fn full_at_one_port_only(rt: HostRuntime) -> Result<(), Fail> {
-    let alloc = rt.alloc();
-    let text = slow(alloc)?;
-    let came = capture(alloc, &[small(10, 0), small(10, 0)])?;
-    assert!(rt;
-        leaves_unchecked(
-            alloc,
-            &text,
-            &[&came, &HEADER, &HEADER],
+const ROWS: &[Row] = &[
+    Row {
+        name: "one frame",
+        setting: SINGLE,
+        came: &[Frames(&[Small(10, 0)]), Parts(&[&HEADER])],
+        wanted: Left(
+            &[Parts(&[&HEADER]), Parts(&[&HEADER, &AT_6720, &FRAME])],
+            "",
+        ),
+    },
+    Row {
+        name: "no frames",
+        setting: SINGLE,
+        came: &[Parts(&[&HEADER]), Parts(&[&HEADER])],
+        wanted: Reported(&[Parts(&[&HEADER]), Parts(&[&HEADER])], NO_FRAMES),
+    },
+    Row {
+        name: "policed a nanosecond early",
+        setting: SINGLE,
+        came: &[
+            Frames(&[Large(10, 0), Large(10, 999_999), Large(10, 1_000_000)]),
+            EMPTY,
+        ],
+        wanted: Left(
+            &[EMPTY, Frames(&[Large(10, 123_040), Large(10, 1_123_040)])],
+            "link 10 passed 2 policed 1\n",
+        ),
+    },
+    Row {
+        name: "far apart",
+        setting: SINGLE,
+        came: &[
+            Frames(&[
+                Large(10, 0),
+                Other(Sample {
+                    seconds: 4_000_000_000,
+                    ..LARGE
+                }),
+            ]),
+            EMPTY,
+        ],
+        wanted: Left(
             &[
-                &[],
-                &[small(10, 67_200)],
-                &[small(10, 6_720), small(10, 13_440)]
+                EMPTY,
+                Frames(&[
+                    Large(10, 123_040),
+                    Other(Sample {
+                        seconds: 4_000_000_000,
+                        nanos: 123_040,
+                        ..LARGE
+                    }),
+                ]),
             ],
-            "out 2 low offered 2 full 1 aged 0 sent 1\n"
-        )?
-    );
-    Ok(())
-}
+            "",
+        ),
+    },
+    Row {
+        name: "a burst of small frames",
+        setting: SINGLE,
+        came: &[Frames(&[Small(10, 0); 24]), EMPTY],
+        wanted: Left(
+            &[
+                EMPTY,
+                Frames(&[
+                    Small(10, 6_720),
+                    Small(10, 13_440),
+                    Small(10, 20_160),
+                    Small(10, 26_880),
+                    Small(10, 33_600),
+                    Small(10, 40_320),
+                    Small(10, 47_040),
+                    Small(10, 53_760),
+                    Small(10, 60_480),
+                    Small(10, 67_200),
+                    Small(10, 73_920),
+                    Small(10, 80_640),
+                    Small(10, 87_360),
+                    Small(10, 94_080),
+                    Small(10, 100_800),
+                    Small(10, 107_520),
+                    Small(10, 114_240),
+                    Small(10, 120_960),
+                    Small(10, 127_680),
+                    Small(10, 134_400),
+                    Small(10, 141_120),
+                    Small(10, 147_840),
+                    Small(10, 154_560),
+                ]),
+            ],
+            "",
+        ),
+    },
+    Row {
+        name: "a high frame overtakes",
+        setting: MIXED,
+        came: &[Frames(&[Large(10, 0), Small(11, 1), Small(12, 1)]), EMPTY],
+        wanted: Left(
+            &[
+                EMPTY,
+                Frames(&[Large(10, 123_040), Small(12, 129_760), Small(11, 136_480)]),
+            ],
+            "",
+        ),
+    },
+    Row {
+        name: "a high frame at the instant of the end",
+        setting: MIXED,
+        came: &[
+            Frames(&[Large(10, 0), Small(11, 1), Small(12, 123_040)]),
+            EMPTY,
+        ],
+        wanted: Left(
+            &[
+                EMPTY,
+                Frames(&[Large(10, 123_040), Small(12, 129_760), Small(11, 136_480)]),
+            ],
+            "",
+        ),
+    },
+    Row {
+        name: "a buffer of one frame",
+        setting: Setting {
+            content: Rows(
+                &[
+                    ONE,
+                    Port {
+                        buffer: 1518,
+                        ..TWO
+                    },
+                ],
+                &[Link {
+                    jitter_us: 1000,
+                    ..LINK
+                }],
+            ),
+            checked: false,
+            ..SINGLE
+        },
+        came: &[
+            Frames(&[Large(10, 0), Large(10, 0), Large(10, 1_000_000)]),
+            EMPTY,
+        ],
+        wanted: Left(
+            &[EMPTY, Frames(&[Large(10, 123_040), Large(10, 1_123_040)])],
+            "out 2 low offered 3 full 1 aged 0 sent 2\n",
+        ),
+    },
+    Row {
+        name: "full at one port only",
+        setting: SLOW,
+        came: &[Frames(&[Small(10, 0), Small(10, 0)]), EMPTY, EMPTY],
+        wanted: Left(
+            &[
+                EMPTY,
+                Frames(&[Small(10, 67_200)]),
+                Frames(&[Small(10, 6_720), Small(10, 13_440)]),
+            ],
+            "out 2 low offered 2 full 1 aged 0 sent 1\n",
+        ),
+    },
+];
 
 #[test]
-fn plans_have_their_table(rt: HostRuntime) -> Result<(), Fail> {
-    let alloc = rt.alloc();
-    let text = single(alloc)?;
-    assert_eq!(rt; links_of(checked(alloc, &text)?), 1);
-    assert_eq!(rt; links_of(unchecked(alloc, &text)?), 1);
+fn links_from_one_port(rt: HostRuntime) -> Result<(), Fail> {
+    all_go(&rt, rt.alloc(), ROWS)
+}
+
+/// A header of 24 bytes, a record's of 16, and the frame's 60.
+#[test]
+fn length_of_one_frame(rt: HostRuntime) -> Result<(), Fail> {
+    let text = bytes(rt.alloc(), Frames(&[Small(10, 0)]))?;
+    assert!(rt; text.len() == 100);
     Ok(())
 }
