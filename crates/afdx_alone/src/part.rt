@@ -50,17 +50,17 @@ impl<A: Allocator> Part<A> {
         Ok(Part { bytes })
     }
 
-    /// Appends a record, and writes the part where it is full then. O(bytes of the record), and of the part where that is written.
+    /// Appends the record of a frame, and writes the part where it is full then. O(bytes of the record), and of the part where that is written.
     pub(crate) fn append<W: Write, B: Allocator>(
         &mut self,
-        record: &Record<'_, B>,
+        frame: &Record<'_, B>,
         out: &mut W,
     ) -> Result<(), WriteFault>
-        ensures written { OnOk result ((prefix : List ℕ) × (self.old ++ record_text record.now ≡ prefix ++ self.new)
+        ensures written { OnOk result ((prefix : List ℕ) × (self.old ++ record_text frame.now ≡ prefix ++ self.new)
             × Appends (W.contents out.old) (W.contents out.new) prefix) }
-        ensures prefix { OnErr result (AppendsPrefix (W.contents out.old) (W.contents out.new) (self.old ++ record_text record.now)) }
+        ensures prefix { OnErr result (AppendsPrefix (W.contents out.old) (W.contents out.new) (self.old ++ record_text frame.now)) }
     {
-        if write_record(&mut self.bytes, record).is_err() {
+        if write_record(&mut self.bytes, frame).is_err() {
             unreachable!()
         }
         if self.bytes.len() < FULL {
