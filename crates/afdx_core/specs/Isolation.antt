@@ -6,7 +6,6 @@ use Rattle.afdx_table.specs.declared.rows.PortRow.{PortRow}
 use Rattle.afdx_table.specs.Link.{Link, leads_to}
 use Rattle.afdx_table.specs.Content.{Content}
 use Rattle.afdx_table.specs.WellFormed.{IsWellFormed}
-use Rattle.afdx_load.specs.Bounds.{backlog, byte_time}
 use Rattle.afdx_load.specs.Accepted.{IsAccepted}
 use Rattle.afdx_account.specs.declared.frame.Frame.{Frame}
 use Rattle.afdx_account.specs.Policing.{passed_of, passed_frames}
@@ -15,9 +14,8 @@ use Rattle.afdx_port.specs.declared.Item.{Item}
 use Rattle.afdx_port.specs.declared.Sent.{Sent}
 use Rattle.afdx_port.specs.declared.Offer.TheVariants.{Queued}
 use Rattle.afdx_isolation.specs.Arrivals.{own}
-use Rattle.afdx_port.specs.Admission.{AllFitIn}
-use Rattle.afdx_isolation.specs.Table.{settings_of, IsInBoundAt}
-use Rattle.afdx_load.specs.Sums.{terms_of, load_of}
+use Rattle.afdx_isolation.specs.Table.{IsInBoundAt}
+use Rattle.afdx_load.specs.Sums.{terms_of}
 use Rattle.afdx_core.specs.declared.step.Row.{Row}
 use Rattle.afdx_core.specs.Rows.{row_of, frame_of, account_frames, named, item_of, each_after, feed_of}
 use Rattle.afdx_core.specs.State.{Run, fresh_run, port_in, sent_in, aged_in, refusal_of, offers_of, after_row, after_advance, after_handing, after_finish}
@@ -78,12 +76,7 @@ pub record IsIsolatedRun (r : Run) : Type 0 where
 abbrev pub AcceptedTablesIsolate : Type 0
 AcceptedTablesIsolate = (r : Run) → IsRun r → IsWellFormed r.table → IsAccepted r.table → IsIsolatedRun r
 
--- whatever number of bytes holds all that a port's links may ask for at once, its buffer never held more
-abbrev pub BuffersHoldTheBacklog : Type 0
-BuffersHoldTheBacklog = (r : Run) → IsRun r → IsWellFormed r.table → IsAccepted r.table → (p : PortRow) → Contains r.table.ports p
-    → (bytes : ℕ) → backlog (load_of r.table.latency p.speed p.id r.table.links) ≤ byte_time p.speed bytes → AllFitIn bytes (settings_of r.table.latency p) [] (port_in r p).admitted
-
--- and no port answers Full to a copy of the next arrival
+-- no port answers Full to a copy of the next arrival
 abbrev pub NoStepIsFull : Type 0
 NoStepIsFull = (r : Run) (port : ℕ) (frame : Entry) → IsRun r → refusal_of r port frame.stamp ≡ None → IsWellFormed r.table → IsAccepted r.table
     → All (λ offer. offer.1 ≡ Queued) (offers_of r (row_of r.table port frame))

@@ -1,7 +1,8 @@
 //! Laws over the definitions.
 
 ghost use Rattle.afdx_core.specs.Inner.Agreement.{FeedIsPassed, VerdictsNameLinks, CopiesHaveTheirLinksPriority};
-ghost use Rattle.afdx_core.specs.Isolation.{PassedCopiesArePassedFrames, AcceptedTablesIsolate, BuffersHoldTheBacklog, NoStepIsFull, OthersChangeNothing, RunsBegin, RunsTakeArrivals, RunsAdvance};
+ghost use Rattle.afdx_core.specs.Inner.Backlog.{BuffersHoldTheBacklog};
+ghost use Rattle.afdx_core.specs.Isolation.{PassedCopiesArePassedFrames, AcceptedTablesIsolate, NoStepIsFull, OthersChangeNothing, RunsBegin, RunsTakeArrivals, RunsAdvance};
 ghost use Rattle.afdx_core.specs.Isolation.{RunsHandOut, RunsFinish};
 ghost use Rattle.afdx_core.specs.Kept.{FilteredTouchNoAccount};
 ghost use Rattle.afdx_core.specs.Merge.{MergedIsAMerge, MergedIsByStampAndPort};

@@ -19,7 +19,8 @@ use Rattle.afdx_load.specs.Accepted.{IsAccepted}
 use Rattle.afdx_isolation.specs.Table.{settings_of, bound_of, IsInBoundAt}
 use Rattle.afdx_core.specs.Rows.{feed_of}
 use Rattle.afdx_core.specs.Inner.Agreement.{CopiesHaveTheirLinksPriority}
-use Rattle.afdx_core.specs.Isolation.{IsRun, AcceptedTablesIsolate, BuffersHoldTheBacklog}
+use Rattle.afdx_core.specs.Inner.Backlog.{BuffersHoldTheBacklog}
+use Rattle.afdx_core.specs.Isolation.{IsRun, AcceptedTablesIsolate}
 use Rattle.afdx_core.specs.State.{Run, port_in, sent_in}
 use Rattle.afdx_measure.specs.declared.filling.Filling.{Filling}
 use Rattle.afdx_measure.specs.Delays.{delay_of, delays_of, range_of, reported}
