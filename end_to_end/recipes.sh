@@ -40,7 +40,7 @@ done <sections.txt
 
 check "the example network" "$afdx" run "$network/table.toml" "$network/in" plain
 for out in pcapng_and_gzip/out several_interfaces_in_one_capture/out frames_out_of_order/out \
-    frames_with_their_check_sequence/out clocks_that_stand_apart/out networks_a_and_b_in_one_capture/out-a; do
+    frames_with_their_check_sequence/out clocks_that_are_apart/out networks_a_and_b_in_one_capture/out-a; do
     check "$out: the example network's" diff -r plain "work/$out"
 done
 finish

@@ -181,7 +181,7 @@ RECORDINGS = {
     "frames_out_of_order": of_network(two_exchanged),
     "a_recording_that_breaks_off": network_broken_off,
     "frames_with_their_check_sequence": of_network(with_check_sequence),
-    "clocks_that_stand_apart": network_with_clocks_apart,
+    "clocks_that_are_apart": network_with_clocks_apart,
     "a_clock_that_drifts": one_link(20, [number * 999_950 for number in range(1000)]),
     "noise_on_the_stamps": one_link(0, noisy_stamps()),
     "stamps_of_the_frame_s_start": stamps_of_starts,

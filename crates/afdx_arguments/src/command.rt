@@ -1,7 +1,7 @@
 //! The command line, as `clap` reads it.
 
 ghost use Rattle.std.specs.Prelude.{◌≡◌, codes, false, IfOk};
-ghost use Rattle.clap.specs.Words.{app_of, new_app, rule_of};
+ghost use Rattle.clap.specs.Words.{app_of, new_app, rule_of, with_subcommand};
 ghost use Rattle.clap.specs.declared.builder.command.Command.TheViews.{out-Command};
 ghost use Rattle.afdx_arguments.specs.Commands.{number_rule, path_rule, flag_rule, alone_app, check_app, size_app, paths_app, measure_app, network_app, bare_program, program};
 
@@ -246,23 +246,42 @@ fn bare_program<'a>(alloc: Global) -> Command<'a>
         .subcommand_required(true)
 }
 
+/// The program with the commands of one link and of a table's load.
+fn with_checks<'a>(alloc: Global) -> Result<Command<'a>, AllocError>
+    ensures { IfOk result (λ c. app_of c ≡ with_subcommand (with_subcommand bare_program alone_app.top) check_app.top) }
+{
+    let alone = alone(alloc)?;
+    let program = bare_program(alloc).subcommand(alone)?;
+    let check = check(alloc)?;
+    program.subcommand(check)
+}
+
+/// A program with the commands `size` and `run` too.
+fn with_run<'a>(alloc: Global, program: Command<'a>) -> Result<Command<'a>, AllocError>
+    ensures { IfOk result (λ c. app_of c ≡ with_subcommand (with_subcommand (app_of program.entry) size_app.top) (paths_app (codes "run")).top) }
+{
+    let size = size(alloc)?;
+    let program = program.subcommand(size)?;
+    let run = run(alloc)?;
+    program.subcommand(run)
+}
+
+/// A program with the commands `measure` and `trace` too.
+fn with_rows<'a>(alloc: Global, program: Command<'a>) -> Result<Command<'a>, AllocError>
+    ensures { IfOk result (λ c. app_of c ≡ with_subcommand (with_subcommand (app_of program.entry) measure_app.top) (paths_app (codes "trace")).top) }
+{
+    let measure = measure(alloc)?;
+    let program = program.subcommand(measure)?;
+    let trace = trace(alloc)?;
+    program.subcommand(trace)
+}
+
 /// The whole program.
-#[tactic(auto, unfolding(crate::specs::Commands::program))]
 pub(crate) fn program<'a>(alloc: Global) -> Result<Command<'a>, AllocError>
     ensures { IfOk result (λ c. app_of c ≡ program) }
 {
-    let alone = alone(alloc)?;
-    let check = check(alloc)?;
-    let size = size(alloc)?;
-    let run = run(alloc)?;
-    let measure = measure(alloc)?;
-    let trace = trace(alloc)?;
-    bare_program(alloc)
-        .subcommand(alone)?
-        .subcommand(check)?
-        .subcommand(size)?
-        .subcommand(run)?
-        .subcommand(measure)?
-        .subcommand(trace)?
-        .subcommand(network(alloc))
+    let checks = with_checks(alloc)?;
+    let runs = with_run(alloc, checks)?;
+    let rows = with_rows(alloc, runs)?;
+    rows.subcommand(network(alloc))
 }

@@ -1,7 +1,7 @@
 //! The command line of networks, as `clap` reads it: the arguments after `afdx`.
 
 ghost use Rattle.std.specs.Prelude.{◌≡◌, false, IfOk};
-ghost use Rattle.clap.specs.Words.{app_of};
+ghost use Rattle.clap.specs.Words.{app_of, with_subcommand};
 ghost use Rattle.clap.specs.declared.builder.command.Command.TheViews.{out-Command};
 ghost use Rattle.afdx_arguments.specs.Commands.{network_check_app, network_jitter_app, network_run_app, bare_network, network_program};
 
@@ -91,16 +91,22 @@ fn bare_network<'a>(alloc: Global) -> Result<Command<'a>, AllocError>
         .bin_name("afdx network")
 }
 
+/// The program with the commands `check` and `jitter`.
+fn with_checks<'a>(alloc: Global) -> Result<Command<'a>, AllocError>
+    ensures { IfOk result (λ c. app_of c ≡ with_subcommand (with_subcommand bare_network network_check_app.top) network_jitter_app.top) }
+{
+    let bare = bare_network(alloc)?;
+    let check = check(alloc)?;
+    let program = bare.subcommand(check)?;
+    let jitter = jitter(alloc)?;
+    program.subcommand(jitter)
+}
+
 /// The program that reads the arguments after `afdx`, where the first of them is `network`.
-#[tactic(auto, unfolding(crate::specs::Commands::network_program))]
 pub(crate) fn network_program<'a>(alloc: Global) -> Result<Command<'a>, AllocError>
     ensures { IfOk result (λ c. app_of c ≡ network_program) }
 {
-    let check = check(alloc)?;
-    let jitter = jitter(alloc)?;
+    let checks = with_checks(alloc)?;
     let run = run(alloc)?;
-    bare_network(alloc)?
-        .subcommand(check)?
-        .subcommand(jitter)?
-        .subcommand(run)
+    checks.subcommand(run)
 }

@@ -1,6 +1,6 @@
 //! Frames that a switch appends to a capture. Each call that is out of memory is made once more.
 
-use crate::growths::{Calls, Memory, count, growths, made_again};
+use crate::growths::{Calls, Memory, count, made_again, refuse};
 use crate::switches::{advances, arrive};
 use crate::tables::table_of;
 use afdx_core::{Done, Switch};
@@ -98,8 +98,5 @@ fn frames_appended_to_a_capture(rt: HostRuntime) -> Result<(), Fail> {
         table: &table,
         text: &text,
     };
-    let refused = growths(&rt, alloc, &calls)?;
-    assert!(rt; refused >= 1);
-    println!(rt; "next_out_into: {refused} growths refused")?;
-    Ok(())
+    refuse(&rt, alloc, "next_out_into", &calls, 1)
 }

@@ -1,6 +1,6 @@
 //! Captures that are read and written.
 
-use crate::growths::{Calls, Memory, growths};
+use crate::growths::{Calls, Memory, refuse};
 use afdx_pcap::{PcapFault, Reader, Record, read_all, write_all};
 use afdx_samples::{Sample, capture, large, small};
 use std::alloc::{Allocator, Global};
@@ -41,11 +41,7 @@ impl Calls for Reading<'_> {
 fn reading_a_whole_capture(rt: HostRuntime) -> Result<(), Fail> {
     let alloc = rt.alloc();
     let text = capture(alloc, &three_frames())?;
-    let calls = Reading { alloc, text: &text };
-    let refused = growths(&rt, alloc, &calls)?;
-    assert!(rt; refused >= 1);
-    println!(rt; "read_all: {refused} growths refused")?;
-    Ok(())
+    refuse(&rt, alloc, "read_all", &Reading { alloc, text: &text }, 1)
 }
 
 /// `write_all` of records.
@@ -74,10 +70,7 @@ fn writing_a_whole_capture(rt: HostRuntime) -> Result<(), Fail> {
         records: &records,
         text: &text,
     };
-    let refused = growths(&rt, alloc, &calls)?;
-    assert!(rt; refused >= 1);
-    println!(rt; "write_all: {refused} growths refused")?;
-    Ok(())
+    refuse(&rt, alloc, "write_all", &calls, 1)
 }
 
 /// A reader that is fed a capture of one frame byte by byte.
@@ -144,8 +137,5 @@ impl Calls for Feeding<'_> {
 fn reader_byte_by_byte(rt: HostRuntime) -> Result<(), Fail> {
     let alloc = rt.alloc();
     let text = capture(alloc, &[small(10, 0)])?;
-    let refused = growths(&rt, alloc, &Feeding { text: &text })?;
-    assert!(rt; refused >= 2);
-    println!(rt; "Reader: {refused} growths refused")?;
-    Ok(())
+    refuse(&rt, alloc, "Reader", &Feeding { text: &text }, 2)
 }

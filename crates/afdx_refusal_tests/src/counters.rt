@@ -1,6 +1,6 @@
 //! Counters and their report. Each call that is out of memory is made once more.
 
-use crate::growths::{Calls, Memory, count, growths, made_again};
+use crate::growths::{Calls, Memory, count, made_again, refuse};
 use crate::tables::table_of;
 use afdx_core::{Fate, Step};
 use afdx_count::Counts;
@@ -104,14 +104,11 @@ fn one_step(alloc: Global) -> Result<Step<Global>, Fail> {
 #[test]
 fn reports_before_and_after_a_frame(rt: HostRuntime) -> Result<(), Fail> {
     let alloc = rt.alloc();
-    let step = one_step(alloc)?;
     let table = table_of(alloc, &single(alloc)?)?;
+    let step = one_step(alloc)?;
     let calls = Reporting {
         table: &table,
         step: &step,
     };
-    let refused = growths(&rt, alloc, &calls)?;
-    assert!(rt; refused >= 4);
-    println!(rt; "Counts: {refused} growths refused")?;
-    Ok(())
+    refuse(&rt, alloc, "Counts", &calls, 4)
 }

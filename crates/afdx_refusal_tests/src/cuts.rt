@@ -4,7 +4,9 @@ use crate::tables::plan_of;
 use afdx_pcap::{PcapFault, Reader, read_all};
 use afdx_samples::{HEADER, capture, joined, single, small};
 use afdx_session::{Outcome, Plan, RunFault, Session, run};
-use std::alloc::{Allocator, Global};
+use std::alloc::{AllocError, Allocator, Global};
+use std::io::Print;
+use std::process::Abort;
 use std::test::*;
 
 /// How many records the first bytes of a capture of two frames hold, by the format, or which fault they have.
@@ -47,37 +49,16 @@ fn read(alloc: Global, bytes: &[u8]) -> Result<usize, PcapFault> {
 }
 
 /// Both frames of link 10, a millisecond apart.
-fn two_frames(alloc: Global) -> Result<Vec<u8>, Fail> {
-    let text = capture(alloc, &[small(10, 0), small(10, 1_000_000)])?;
-    Ok(text)
+fn two_frames(alloc: Global) -> Result<Vec<u8>, AllocError> {
+    capture(alloc, &[small(10, 0), small(10, 1_000_000)])
 }
 
-#[test]
-fn each_cut_of_two_frames(rt: HostRuntime) -> Result<(), Fail> {
-    let alloc = rt.alloc();
-    let text = two_frames(alloc)?;
-    let mut cuts = 0usize;
-    for length in 0..=176usize {
-        let cut = text.get(..length).ok_or("so many bytes")?;
-        assert_eq!(rt; read(alloc, cut), records_in(length), "{length} bytes");
-        assert_eq!(rt; given(alloc, cut), records_in(length), "{length} bytes");
-        cuts = cuts.saturating_add(1);
-    }
-    println!(rt; "read_all, Reader: {cuts} cuts")?;
-    Ok(())
-}
-
-/// The outcome where these bytes came in at port 1, and nothing at port 2.
-fn outcome(
-    alloc: Global,
-    table: &str,
-    bytes: &[u8],
-) -> Result<Result<Outcome<Global>, RunFault>, Fail> {
-    let plan = plan_of(alloc, table)?;
+/// These bytes come in at port 1, and nothing at port 2.
+fn captures(alloc: Global, bytes: &[u8]) -> Result<Vec<(u8, Vec<u8>)>, AllocError> {
     let mut captures = Vec::new(alloc);
     captures.push((1, Vec::from_slice(alloc, bytes)?))?;
     captures.push((2, Vec::from_slice(alloc, &HEADER)?))?;
-    Ok(run(alloc, plan, &captures))
+    Ok(captures)
 }
 
 /// How many records leave port 2.
@@ -88,12 +69,12 @@ fn count_left(alloc: Global, outcome: &Outcome<Global>) -> Option<usize> {
     }
 }
 
-/// How many records leave port 2 then, or the fault.
-fn left(alloc: Global, table: &str, bytes: &[u8]) -> Result<Result<Option<usize>, RunFault>, Fail> {
-    Ok(match outcome(alloc, table, bytes)? {
+/// How many records leave port 2 in a run, or the fault.
+fn left(alloc: Global, plan: Plan, came: &[(u8, Vec<u8>)]) -> Result<Option<usize>, RunFault> {
+    match run(alloc, plan, came) {
         Ok(outcome) => Ok(count_left(alloc, &outcome)),
         Err(fault) => Err(fault),
-    })
+    }
 }
 
 /// The same, by the format.
@@ -104,57 +85,83 @@ fn left_of(length: usize) -> Result<Option<usize>, RunFault> {
     }
 }
 
-#[test]
-fn each_cut_of_two_frames_that_are_run(rt: HostRuntime) -> Result<(), Fail> {
-    let alloc = rt.alloc();
-    let table = single(alloc)?;
-    let text = two_frames(alloc)?;
-    let mut cuts = 0usize;
-    for length in 0..=176usize {
-        let cut = text.get(..length).ok_or("so many bytes")?;
-        let answer = left(alloc, &table, cut)?;
-        assert_eq!(rt; answer, left_of(length), "{length} bytes");
-        cuts = cuts.saturating_add(1);
+/// Brings these captures, and then their ends.
+fn bring(session: &mut Session<Global>, came: &[(u8, Vec<u8>)]) -> Result<(), RunFault> {
+    for (port, text) in came {
+        session.feed(*port, text)?;
     }
-    println!(rt; "run: {cuts} cuts")?;
+    for (port, _) in came {
+        session.close(*port)?;
+    }
     Ok(())
 }
 
-/// The end of a session.
-fn finish(session: Session<Global>) -> Result<Outcome<Global>, RunFault> {
+/// How many records leave port 2 at the end of a session, or the fault.
+fn finish(alloc: Global, session: Session<Global>) -> Result<Option<usize>, RunFault> {
     match session.finish() {
-        Ok(outcome) => Ok(outcome),
+        Ok(outcome) => Ok(count_left(alloc, &outcome)),
         Err((fault, _)) => Err(fault),
     }
 }
 
-/// The outcome of a session where these bytes came in at port 1, and nothing at port 2.
-fn fed(alloc: Global, plan: Plan, bytes: &[u8]) -> Result<Outcome<Global>, RunFault> {
+/// The same of a session that these captures are brought to, or the first fault.
+fn fed(alloc: Global, plan: Plan, came: &[(u8, Vec<u8>)]) -> Result<Option<usize>, RunFault> {
     let mut session = Session::new(alloc, plan)?;
-    session.feed(1, bytes)?;
-    session.feed(2, &HEADER)?;
-    session.close(1)?;
-    session.close(2)?;
-    finish(session)
+    let brought = bring(&mut session, came);
+    let left = finish(alloc, session);
+    brought.and(left)
+}
+
+/// Who reads a capture that is cut.
+#[derive(Clone, Copy)]
+enum Way {
+    ReadAll,
+    Reader,
+    Run,
+    Session,
+}
+
+/// Whether it has the records and the fault that the format gives.
+fn is_read(alloc: Global, table: &str, cut: &[u8], way: Way) -> Result<bool, Fail> {
+    let (records, left_of_cut) = (records_in(cut.len()), left_of(cut.len()));
+    let came = captures(alloc, cut)?;
+    Ok(match way {
+        Way::ReadAll => read(alloc, cut) == records,
+        Way::Reader => given(alloc, cut) == records,
+        Way::Run => left(alloc, plan_of(alloc, table)?, &came) == left_of_cut,
+        Way::Session => fed(alloc, plan_of(alloc, table)?, &came) == left_of_cut,
+    })
+}
+
+/// How many of the text's cuts are read so, from the one without bytes on, up to the first that is not.
+fn cuts_read(alloc: Global, table: &str, text: &[u8], way: Way) -> Result<usize, Fail> {
+    let mut cuts = 0usize;
+    for length in 0..=text.len() {
+        if !is_read(alloc, table, &text[..length], way)? {
+            break;
+        }
+        cuts = cuts.saturating_add(1);
+    }
+    Ok(cuts)
+}
+
+/// All 177 cuts of two frames are read so.
+fn each_cut<R: Abort + Print>(rt: &R, alloc: Global, name: &str, way: Way) -> Result<(), Fail> {
+    let table = single(alloc)?;
+    let text = two_frames(alloc)?;
+    let cuts = cuts_read(alloc, &table, &text, way)?;
+    assert!(rt; cuts == 177, "{name}: {cuts}");
+    println!(rt; "{name}: {cuts} cuts")?;
+    Ok(())
 }
 
 #[test]
-fn each_cut_of_two_frames_that_a_session_is_fed(rt: HostRuntime) -> Result<(), Fail> {
+fn each_cut_of_two_frames(rt: HostRuntime) -> Result<(), Fail> {
     let alloc = rt.alloc();
-    let table = single(alloc)?;
-    let text = two_frames(alloc)?;
-    let mut cuts = 0usize;
-    for length in 0..=176usize {
-        let cut = text.get(..length).ok_or("so many bytes")?;
-        let answer = match fed(alloc, plan_of(alloc, &table)?, cut) {
-            Ok(outcome) => Ok(count_left(alloc, &outcome)),
-            Err(fault) => Err(fault),
-        };
-        assert_eq!(rt; answer, left_of(length), "{length} bytes");
-        cuts = cuts.saturating_add(1);
-    }
-    println!(rt; "Session: {cuts} cuts")?;
-    Ok(())
+    each_cut(&rt, alloc, "read_all", Way::ReadAll)?;
+    each_cut(&rt, alloc, "Reader", Way::Reader)?;
+    each_cut(&rt, alloc, "run", Way::Run)?;
+    each_cut(&rt, alloc, "Session", Way::Session)
 }
 
 /// A record's header that tells 4,294,967,295 captured bytes.
@@ -187,15 +194,24 @@ fn reported<A: Allocator + Copy>(
     Ok((waits, reader.next().err()))
 }
 
+/// Whether a reader waits before the last byte of that header, and reports the length after it.
+fn reports_it(alloc: Global) -> bool {
+    let (first, rest) = HUGE.split_at(15);
+    let answer = reported(&mut Reader::new(alloc), first, rest);
+    answer == Ok((true, Some(PcapFault::Huge(1))))
+}
+
+/// Whether `read_all` has that fault.
+fn read_all_has_it(alloc: Global) -> Result<bool, AllocError> {
+    let text = joined(alloc, &[&HEADER, &HUGE])?;
+    Ok(read(alloc, &text) == Err(PcapFault::Huge(1)))
+}
+
 /// The length is reported as soon as the record's header is whole, while the reader is open.
 #[test]
 fn huge_length(rt: HostRuntime) -> Result<(), Fail> {
     let alloc = rt.alloc();
-    let huge = Some(PcapFault::Huge(1));
-    let (first, rest) = HUGE.split_at(15);
-    let answer = reported(&mut Reader::new(alloc), first, rest);
-    assert_eq!(rt; answer, Ok((true, huge)));
-    let text = joined(alloc, &[&HEADER, &HUGE])?;
-    assert_eq!(rt; read(alloc, &text).err(), huge);
+    assert!(rt; reports_it(alloc));
+    assert!(rt; read_all_has_it(alloc)?);
     Ok(())
 }

@@ -2,7 +2,7 @@
 
 ghost use Rattle.std.specs.Prelude.{◌≡◌, ◌+◌, ◌<◌, ◌≤◌, false, All};
 
-use crate::growths::{Calls, Memory, growths, made_again};
+use crate::growths::{Calls, Memory, made_again, refuse};
 use afdx_port::{Item, Offer, Port};
 use afdx_units::{Priority, Speed, Stamp};
 use std::alloc::{AllocError, Allocator};
@@ -54,8 +54,5 @@ impl Calls for Reserving {
 /// One growth at least for each queue and each list.
 #[test]
 fn room_for_two(rt: HostRuntime) -> Result<(), Fail> {
-    let refused = growths(&rt, rt.alloc(), &Reserving)?;
-    assert!(rt; refused >= 3);
-    println!(rt; "Port::reserve: {refused} growths refused")?;
-    Ok(())
+    refuse(&rt, rt.alloc(), "Port::reserve", &Reserving, 3)
 }

@@ -1,36 +1,44 @@
 //! Whole runs.
 
-use crate::growths::{Calls, Memory, growths};
+use crate::growths::{Calls, Memory, refuse};
 use crate::tables::plan_of;
 use afdx_refusing::Refusing;
-use afdx_samples::{HEADER, Link, Sample, capture, frame, link, port, single, small, table};
+use afdx_samples::{Link, Sample, capture, frame, link, port, single, small, table};
 use afdx_session::{Outcome, RunFault, run};
 use std::alloc::{AllocError, Allocator, Global};
-use std::process::Abort;
 use std::test::*;
 
-/// A run over a table that is checked and the captures of the ports from 1 on, with what they put out and the report.
+/// A run over a table that is checked and the captures of its ports, with what they put out and the report.
 #[derive(Clone, Copy)]
 struct Running<'a> {
     alloc: Global,
     table: &'a str,
-    came: &'a [&'a [u8]],
+    came: &'a [(u8, Vec<u8>)],
     left: &'a [(u8, Vec<u8>)],
     report: &'a str,
 }
 
-/// These captures, of the ports from 1 on.
-fn of_ports<A: Allocator + Copy>(
-    alloc: A,
-    texts: &[&[u8]],
-) -> Result<Vec<(u8, Vec<u8, A>), A>, AllocError> {
+/// The captures of these frames, of the ports from 1 on.
+fn of_ports(alloc: Global, rows: &[&[Sample]]) -> Result<Vec<(u8, Vec<u8>)>, AllocError> {
     let mut captures = Vec::new(alloc);
     let mut port = 1u8;
-    for text in texts {
-        captures.push((port, Vec::from_slice(alloc, text)?))?;
+    for samples in rows {
+        captures.push((port, capture(alloc, samples)?))?;
         port = port.saturating_add(1);
     }
     Ok(captures)
+}
+
+/// The same captures in other memory.
+fn copied<A: Allocator + Copy>(
+    alloc: A,
+    captures: &[(u8, Vec<u8>)],
+) -> Result<Vec<(u8, Vec<u8, A>), A>, AllocError> {
+    let mut copies = Vec::new(alloc);
+    for (port, text) in captures {
+        copies.push((*port, Vec::from_slice(alloc, text)?))?;
+    }
+    Ok(copies)
 }
 
 /// What a run answers whose captures take other memory.
@@ -39,11 +47,10 @@ fn ran<A: Allocator + Copy>(
     memory: A,
     ample: A,
     table: &str,
-    came: &[&[u8]],
+    came: &[(u8, Vec<u8>)],
 ) -> Result<Result<Outcome<A>, RunFault>, Fail> {
-    let plan = plan_of(alloc, table)?;
-    let captures = of_ports(ample, came)?;
-    Ok(run(memory, plan, &captures))
+    let captures = copied(ample, came)?;
+    Ok(run(memory, plan_of(alloc, table)?, &captures))
 }
 
 /// Whether the report of an outcome is this text.
@@ -67,18 +74,25 @@ fn puts<A: Allocator>(outcome: &Outcome<A>, left: &[(u8, Vec<u8>)]) -> bool {
     true
 }
 
+/// Whether a run has these outputs and this report; none where memory runs out.
+fn is_right<A: Allocator + Copy>(
+    running: &Running<'_>,
+    answer: Result<Outcome<A>, RunFault>,
+) -> Option<bool> {
+    match answer {
+        Ok(outcome) => Some(
+            puts(&outcome, running.left) && reports(running.alloc, &outcome, running.report),
+        ),
+        Err(RunFault::Memory) => None,
+        Err(_) => Some(false),
+    }
+}
+
 impl Calls for Running<'_> {
     fn answer(&self, memory: &Memory) -> Result<Option<bool>, Fail> {
         let ample = Refusing::new(self.alloc, 0);
-        Ok(
-            match ran(self.alloc, memory, &ample, self.table, self.came)? {
-                Ok(outcome) => Some(
-                    puts(&outcome, self.left) && reports(self.alloc, &outcome, self.report),
-                ),
-                Err(RunFault::Memory) => None,
-                Err(_) => Some(false),
-            },
-        )
+        let answer = ran(self.alloc, memory, &ample, self.table, self.came)?;
+        Ok(is_right(self, answer))
     }
 }
 
@@ -93,23 +107,17 @@ out 2 high offered 0 full 0 aged 0 sent 0
 out 2 low offered 1 full 0 aged 0 sent 1
 ";
 
-/// The growths of a run that puts these captures out.
-fn growths_of(
-    rt: &impl Abort,
-    alloc: Global,
-    table: &str,
-    came: &[&[u8]],
-    left: &[(u8, Vec<u8>)],
-    report: &str,
-) -> Result<u64, Fail> {
-    let calls = Running {
-        alloc,
-        table,
-        came,
-        left,
-        report,
-    };
-    growths(rt, alloc, &calls)
+/// The frame comes in at port 1, and leaves port 2.
+#[derive(Drop)]
+struct OneFrame {
+    came: Vec<(u8, Vec<u8>)>,
+    left: Vec<(u8, Vec<u8>)>,
+}
+
+fn of_one_frame(alloc: Global) -> Result<OneFrame, AllocError> {
+    let came = of_ports(alloc, &[&[small(10, 0)], &[]])?;
+    let left = of_ports(alloc, &[&[], &[small(10, 6_720)]])?;
+    Ok(OneFrame { came, left })
 }
 
 /// Growths for the counters, for the lists of the switch and of the arrivals, and for what leaves: the record is lent.
@@ -117,13 +125,15 @@ fn growths_of(
 fn one_frame(rt: HostRuntime) -> Result<(), Fail> {
     let alloc = rt.alloc();
     let table = single(alloc)?;
-    let came = capture(alloc, &[small(10, 0)])?;
-    let last = capture(alloc, &[small(10, 6_720)])?;
-    let left = of_ports(alloc, &[&HEADER, &last])?;
-    let refused = growths_of(&rt, alloc, &table, &[&came, &HEADER], &left, ONE_FRAME)?;
-    assert!(rt; refused >= 12);
-    println!(rt; "run of one frame: {refused} growths refused")?;
-    Ok(())
+    let captures = of_one_frame(alloc)?;
+    let calls = Running {
+        alloc,
+        table: &table,
+        came: &captures.came,
+        left: &captures.left,
+        report: ONE_FRAME,
+    };
+    refuse(&rt, alloc, "run of one frame", &calls, 12)
 }
 
 /// Ports 1, 2 and 3, and from each of them a link to the other two; that from port 3 goes first.
@@ -148,28 +158,55 @@ fn frames(alloc: Global, link: u8, count: u32, gap: u32) -> Result<Vec<Sample>, 
     Ok(all)
 }
 
-/// The growths of a run whose outcome is that of the same run with ample memory.
-fn growths_of_a_run(
-    rt: &impl Abort,
-    alloc: Global,
-    table: &str,
-    came: &[&[u8]],
-) -> Result<u64, Fail> {
-    let outcome = ran(alloc, alloc, alloc, table, came)??;
-    let report = outcome.counts.report(alloc)?;
-    growths_of(rt, alloc, table, came, &outcome.captures, &report)
+/// What each port gets: its link, so many frames, and the gap between them. Each link sends more than it may, all at once or one
+/// frame after the other.
+const TRAFFIC: &[(u8, u8, u32, u32)] = &[
+    (1, 10, 40, 100_000),
+    (2, 20, 30, 0),
+    (3, 30, 30, 700_000),
+];
+
+/// The captures of those frames.
+fn hundred(alloc: Global) -> Result<Vec<(u8, Vec<u8>)>, AllocError> {
+    let mut captures = Vec::new(alloc);
+    for (port, link, count, gap) in TRAFFIC {
+        let frames = frames(alloc, *link, *count, *gap)?;
+        captures.push((*port, capture(alloc, &frames)?))?;
+    }
+    Ok(captures)
 }
 
-/// Each port sends more than its link may, all at once or one frame after the other.
+/// What a run puts out, and its report.
+#[derive(Drop)]
+struct Reported {
+    left: Vec<(u8, Vec<u8>)>,
+    report: String,
+}
+
+/// What a run with ample memory tells.
+fn with_ample_memory(alloc: Global, table: &str, came: &[(u8, Vec<u8>)]) -> Result<Reported, Fail> {
+    let outcome = ran(alloc, alloc, alloc, table, came)??;
+    let report = outcome.counts.report(alloc)?;
+    let Outcome { captures, .. } = outcome;
+    Ok(Reported {
+        left: captures,
+        report,
+    })
+}
+
+/// The outcome is that of the same run with ample memory.
 #[test]
 fn hundred_frames_at_three_ports(rt: HostRuntime) -> Result<(), Fail> {
     let alloc = rt.alloc();
     let table = three_ports(alloc)?;
-    let first = capture(alloc, &frames(alloc, 10, 40, 100_000)?)?;
-    let second = capture(alloc, &frames(alloc, 20, 30, 0)?)?;
-    let third = capture(alloc, &frames(alloc, 30, 30, 700_000)?)?;
-    let refused = growths_of_a_run(&rt, alloc, &table, &[&first, &second, &third])?;
-    assert!(rt; refused >= 100);
-    println!(rt; "run of a hundred frames: {refused} growths refused")?;
-    Ok(())
+    let came = hundred(alloc)?;
+    let whole = with_ample_memory(alloc, &table, &came)?;
+    let calls = Running {
+        alloc,
+        table: &table,
+        came: &came,
+        left: &whole.left,
+        report: &whole.report,
+    };
+    refuse(&rt, alloc, "run of a hundred frames", &calls, 100)
 }

@@ -1,11 +1,10 @@
 //! A session that is fed in pieces, while what goes out is taken.
 
-use crate::growths::{Calls, Memory, growths};
+use crate::growths::{Calls, Memory, refuse};
 use crate::tables::plan_of;
-use afdx_samples::{HEADER, capture, double, port, small};
+use afdx_samples::{HEADER, Sample, capture, double, port, small};
 use afdx_session::{Outcome, RunFault, Session};
-use std::alloc::Global;
-use std::process::Abort;
+use std::alloc::{AllocError, Global};
 use std::test::*;
 
 /// A call that brings something.
@@ -24,8 +23,19 @@ const ONE: usize = 1;
 
 const TWO: usize = 2;
 
+const LEFT: usize = 3;
+
+/// The texts are captures of these frames of size 64: those that come, and what port 3 puts out in the end. Each has its link and
+/// its nanoseconds.
+const TEXTS: &[&[(u8, u32)]] = &[
+    &[],
+    &[(10, 0), (10, 1_000_000)],
+    &[(20, 500_000)],
+    &[(10, 6_720), (20, 506_720), (10, 1_006_720)],
+];
+
 /// Calls over a table of three ports, each with its answer and the number of bytes that port 3 has put out in all after it.
-const SESSION_ON_D: [(Call, Result<(), RunFault>, usize); 8] = [
+const SESSION_ON_D: &[(Call, Result<(), RunFault>, usize)] = &[
     (Call::Feed(1, ONE), Ok(()), 24),
     (Call::Feed(3, EMPTY), Ok(()), 24),
     (Call::Close(3), Ok(()), 24),
@@ -36,13 +46,20 @@ const SESSION_ON_D: [(Call, Result<(), RunFault>, usize); 8] = [
     (Call::Feed(9, TWO), Err(RunFault::WrongPorts), 252),
 ];
 
-/// These calls with these texts, and what port 3 puts out in the end.
+/// These calls with these texts.
 #[derive(Clone, Copy)]
 struct Feeding<'a> {
     alloc: Global,
     table: &'a str,
-    texts: &'a [&'a [u8]],
-    left: &'a [u8],
+    texts: &'a [Vec<u8>],
+}
+
+/// The text at a place.
+fn text(texts: &[Vec<u8>], place: usize) -> &[u8] {
+    match texts.get(place) {
+        Some(text) => text,
+        None => &[],
+    }
 }
 
 /// A session over a table that is checked; none where it is out of memory.
@@ -58,14 +75,11 @@ fn open<'a>(
 /// Makes a call.
 fn bring<'a>(
     session: &mut Session<&'a Memory>,
-    texts: &[&[u8]],
+    texts: &[Vec<u8>],
     call: Call,
 ) -> Result<(), RunFault> {
     match call {
-        Call::Feed(port, place) => match texts.get(place) {
-            Some(text) => session.feed(port, text),
-            None => Ok(()),
-        },
+        Call::Feed(port, place) => session.feed(port, text(texts, place)),
         Call::Close(port) => session.close(port),
     }
 }
@@ -80,16 +94,16 @@ fn take<'a>(session: &mut Session<&'a Memory>, taken: &mut Vec<u8>) -> bool {
 /// taken in all after it; none where the session is out of memory.
 fn bring_all<'a>(
     session: &mut Session<&'a Memory>,
-    texts: &[&[u8]],
+    texts: &[Vec<u8>],
     taken: &mut Vec<u8>,
 ) -> Option<bool> {
     let mut right = true;
     for (call, wanted, count) in SESSION_ON_D {
-        let answer = bring(session, texts, call);
+        let answer = bring(session, texts, *call);
         if answer == Err(RunFault::Memory) {
             return None;
         }
-        right = take(session, taken) && taken.len() == count && answer == wanted && right;
+        right = take(session, taken) && taken.len() == *count && answer == *wanted && right;
     }
     Some(right)
 }
@@ -109,6 +123,24 @@ fn finish<'a>(
     session.finish()
 }
 
+/// Whether a session that ended with this fault has failed, and what was taken in all are the text's first bytes.
+fn fails_so<'a>(
+    fault: RunFault,
+    session: &mut Session<&'a Memory>,
+    taken: &mut Vec<u8>,
+    text: &[u8],
+) -> bool {
+    take(session, taken) && fault == RunFault::Failed && text.starts_with(taken)
+}
+
+/// Whether a session has failed at its end too, and what was taken in all are the text's first bytes.
+fn ends_failed<'a>(session: Session<&'a Memory>, taken: &mut Vec<u8>, text: &[u8]) -> bool {
+    match finish(session) {
+        Ok(_) => false,
+        Err((fault, mut session)) => fails_so(fault, &mut session, taken, text),
+    }
+}
+
 /// What comes once a session is out of memory: none where it stays failed, and what was taken in all are the text's first
 /// bytes.
 fn after_failure<'a>(
@@ -117,15 +149,8 @@ fn after_failure<'a>(
     text: &[u8],
 ) -> Option<bool> {
     let failed = stays_failed(&mut session);
-    let Err((fault, mut session)) = finish(session) else {
-        return Some(false);
-    };
-    let taken_all = take(&mut session, taken);
-    if failed && fault == RunFault::Failed && taken_all && text.starts_with(taken) {
-        None
-    } else {
-        Some(false)
-    }
+    let ended = ends_failed(session, taken, text);
+    if failed && ended { None } else { Some(false) }
 }
 
 /// Whether what was taken, and then what is left of port 3, is this text.
@@ -140,12 +165,38 @@ fn completes<'a>(outcome: &Outcome<&'a Memory>, taken: &[u8], text: &[u8]) -> bo
     }
 }
 
+/// What comes after an end that was refused with this fault: where it is no want of memory, that is wrong.
+fn after_end<'a>(
+    fault: RunFault,
+    session: Session<&'a Memory>,
+    taken: &mut Vec<u8>,
+    text: &[u8],
+) -> Option<bool> {
+    if fault == RunFault::Memory {
+        after_failure(session, taken, text)
+    } else {
+        Some(false)
+    }
+}
+
 /// Whether a session ends with this text in all; none where it is out of memory, after which it stays failed.
 fn ends<'a>(session: Session<&'a Memory>, taken: &mut Vec<u8>, text: &[u8]) -> Option<bool> {
     match finish(session) {
         Ok(outcome) => Some(completes(&outcome, taken, text)),
-        Err((RunFault::Memory, session)) => after_failure(session, taken, text),
-        Err(_) => Some(false),
+        Err((fault, session)) => after_end(fault, session, taken, text),
+    }
+}
+
+/// What a session answers at its end, where its calls answered so.
+fn after_calls<'a>(
+    answered: Option<bool>,
+    session: Session<&'a Memory>,
+    taken: &mut Vec<u8>,
+    text: &[u8],
+) -> Option<bool> {
+    match answered {
+        Some(_) => ends(session, taken, text),
+        None => after_failure(session, taken, text),
     }
 }
 
@@ -155,11 +206,12 @@ fn answers<'a>(
     feeding: &Feeding<'_>,
     taken: &mut Vec<u8>,
 ) -> Option<bool> {
-    match bring_all(&mut session, feeding.texts, taken) {
-        Some(true) => ends(session, taken, feeding.left),
-        Some(false) => Some(false),
-        None => after_failure(session, taken, feeding.left),
+    let answered = bring_all(&mut session, feeding.texts, taken);
+    let ended = after_calls(answered, session, taken, text(feeding.texts, LEFT));
+    if answered == Some(false) {
+        return Some(false);
     }
+    ended
 }
 
 impl Calls for Feeding<'_> {
@@ -172,21 +224,22 @@ impl Calls for Feeding<'_> {
     }
 }
 
-/// The growths of these calls over this table, with these texts, where port 3 puts this out.
-fn growths_of(
-    rt: &impl Abort,
-    alloc: Global,
-    table: &str,
-    texts: &[&[u8]],
-    left: &[u8],
-) -> Result<u64, Fail> {
-    let feeding = Feeding {
-        alloc,
-        table,
-        texts,
-        left,
-    };
-    growths(rt, alloc, &feeding)
+/// The capture of these frames of size 64.
+fn of_small(alloc: Global, rows: &[(u8, u32)]) -> Result<Vec<u8>, AllocError> {
+    let mut frames: Vec<Sample> = Vec::new(alloc);
+    for (link, nanos) in rows {
+        frames.push(small(*link, *nanos))?;
+    }
+    capture(alloc, &frames)
+}
+
+/// The texts of all calls.
+fn all_texts(alloc: Global) -> Result<Vec<Vec<u8>>, AllocError> {
+    let mut texts = Vec::new(alloc);
+    for rows in TEXTS {
+        texts.push(of_small(alloc, rows)?)?;
+    }
+    Ok(texts)
 }
 
 /// Growths for the switch and the counters, for what came, for the records that wait, and for what goes out.
@@ -194,12 +247,11 @@ fn growths_of(
 fn session_on_d(rt: HostRuntime) -> Result<(), Fail> {
     let alloc = rt.alloc();
     let table = double(alloc, port(3))?;
-    let one = capture(alloc, &[small(10, 0), small(10, 1_000_000)])?;
-    let two = capture(alloc, &[small(20, 500_000)])?;
-    let sent = [small(10, 6_720), small(20, 506_720), small(10, 1_006_720)];
-    let left = capture(alloc, &sent)?;
-    let refused = growths_of(&rt, alloc, &table, &[&HEADER, &one, &two], &left)?;
-    assert!(rt; refused >= 20);
-    println!(rt; "Session: {refused} growths refused")?;
-    Ok(())
+    let texts = all_texts(alloc)?;
+    let calls = Feeding {
+        alloc,
+        table: &table,
+        texts: &texts,
+    };
+    refuse(&rt, alloc, "Session", &calls, 20)
 }

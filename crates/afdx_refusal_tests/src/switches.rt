@@ -3,7 +3,7 @@
 ghost use Rattle.std.specs.Prelude.{◌<◌};
 ghost use Rattle.afdx_units.specs.Time.{last_second};
 
-use crate::growths::{Calls, Memory, count, growths, made_again};
+use crate::growths::{Calls, Memory, count, made_again, refuse};
 use crate::tables::{cleared_of, table_of};
 use afdx_core::{CoreFault, Done, Fate, Step, Switch};
 use afdx_pcap::Record;
@@ -35,12 +35,45 @@ fn made<'a>(
     Ok(Switch::new(memory, table).ok())
 }
 
+/// The same, made once more where memory runs out; none where it does so again.
+fn made_or_again<'a>(
+    calls: &Switching,
+    memory: &'a Memory,
+    wants: &mut u64,
+) -> Result<Option<Switch<'static, &'a Memory>>, Fail> {
+    if let Some(switch) = made(calls, memory)? {
+        return Ok(Some(switch));
+    }
+    count(wants);
+    made(calls, memory)
+}
+
 /// The fate and the first offer, or the fault.
 type Answer = (Option<Fate>, Option<(u8, Offer)>, Option<CoreFault>);
 
 /// What a step tells.
 fn reported<A: Allocator>(step: &Step<A>) -> Answer {
     (Some(step.fate), step.offers.get(0).copied(), None)
+}
+
+/// The answer to a record that comes in once more, where memory ran out before; else the fault.
+fn answer_again<A: Allocator + Copy>(
+    switch: &mut Switch<'static, A>,
+    in_port: u8,
+    fault: CoreFault,
+    frame: Record<'static, A>,
+    wants: &mut u64,
+) -> Answer
+    requires { frame.stamp < last_second }
+{
+    if fault != CoreFault::Memory {
+        return (None, None, Some(fault));
+    }
+    count(wants);
+    match switch.arrive(in_port, frame) {
+        Ok(step) => reported(&step),
+        Err((fault, _)) => (None, None, Some(fault)),
+    }
 }
 
 /// The answer to a record that comes in at a port.
@@ -52,15 +85,9 @@ fn answer_to<A: Allocator + Copy>(
 ) -> Answer
     requires { frame.stamp < last_second }
 {
-    let back = match switch.arrive(in_port, frame) {
-        Ok(step) => return reported(&step),
-        Err((CoreFault::Memory, back)) => back,
-        Err((fault, _)) => return (None, None, Some(fault)),
-    };
-    count(wants);
-    match switch.arrive(in_port, back) {
+    match switch.arrive(in_port, frame) {
         Ok(step) => reported(&step),
-        Err((fault, _)) => (None, None, Some(fault)),
+        Err((fault, back)) => answer_again(switch, in_port, fault, back, wants),
     }
 }
 
@@ -153,12 +180,15 @@ fn hands_out_the_last<A: Allocator + Copy>(done: &mut Done<'static, A>, wants: &
     second == Ok(Some((13_445, 60))) && third == Ok(None) && done.fates().len() == 2
 }
 
-/// Whether a switch answers these calls so.
+/// Whether there is a switch, and answers these calls so.
 fn answers<'a>(
-    mut switch: Switch<'static, &'a Memory>,
+    made: Option<Switch<'static, &'a Memory>>,
     ample: &'a Memory,
     wants: &mut u64,
 ) -> bool {
+    let Some(mut switch) = made else {
+        return false;
+    };
     let taken = takes_two(&mut switch, ample, wants);
     let one = hands_out_one(&mut switch, wants);
     let mut done = switch.finish();
@@ -168,17 +198,9 @@ fn answers<'a>(
 
 impl Calls for Switching<'_> {
     fn answer(&self, memory: &Memory) -> Result<Option<bool>, Fail> {
-        let ample = Refusing::new(self.alloc, 0);
         let mut wants = 0u64;
-        if let Some(switch) = made(self, memory)? {
-            let right = answers(switch, &ample, &mut wants);
-            return Ok(made_again(right, wants));
-        }
-        count(&mut wants);
-        let right = match made(self, memory)? {
-            Some(switch) => answers(switch, &ample, &mut wants),
-            None => false,
-        };
+        let switch = made_or_again(self, memory, &mut wants)?;
+        let right = answers(switch, &Refusing::new(self.alloc, 0), &mut wants);
         Ok(made_again(right, wants))
     }
 }
@@ -188,15 +210,15 @@ impl Calls for Switching<'_> {
 fn switch_by_calls(rt: HostRuntime) -> Result<(), Fail> {
     let alloc = rt.alloc();
     let table = single(alloc)?;
-    for checked in [false, true] {
-        let calls = Switching {
-            alloc,
-            table: &table,
-            checked,
-        };
-        let refused = growths(&rt, alloc, &calls)?;
-        assert!(rt; refused >= 8);
-        println!(rt; "Switch by calls, checked {checked}: {refused} growths refused")?;
-    }
-    Ok(())
+    let plain = Switching {
+        alloc,
+        table: &table,
+        checked: false,
+    };
+    let checked = Switching {
+        checked: true,
+        ..plain
+    };
+    refuse(&rt, alloc, "Switch by calls", &plain, 8)?;
+    refuse(&rt, alloc, "Switch by calls, checked", &checked, 8)
 }

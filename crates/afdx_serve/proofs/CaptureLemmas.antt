@@ -12,7 +12,7 @@ use Rattle.afdx_failures.specs.declared.failure.Failure.{Failure}
 use Rattle.afdx_failures.specs.declared.failure.Failure.TheVariants as failure
 use Rattle.afdx_devices.specs.Files.{Files, Shows, ShowsAll, KeepsFiles, KeepsOthers, PutsFile, PutsFiles, DeviceLog, one_more}
 use Rattle.afdx_serve.specs.Runs.{capture_name, names_in, bytes_of, GetsUpTo, port_names, StopsAt, FailsToGet, FailsToGetAll, FailsToPutOne, FailsToPut}
-use Rattle.afdx_devices.proofs.FileLemmas.{KeepsFiles-trans, Shows-before, PutsFiles-before, ShowsAll-before, ShowsAll-push, PutsFiles-nil, one_put, two_put}
+use Rattle.afdx_serve.proofs.FileLemmas.{KeepsFiles-trans, Shows-before, PutsFiles-before, ShowsAll-before, ShowsAll-push, PutsFiles-nil, one_put, two_put}
 
 -- one more capture was got
 pub one_more_got : (a b : Option Files) (path : List ℕ) (captures : List Text) (c : Text) → KeepsFiles a b → ShowsAll a (names_in path captures) (bytes_of captures)

@@ -19,7 +19,7 @@ use Rattle.afdx_devices.specs.Files.{Files, Shows, ShowsAll, KeepsFiles, DeviceL
 use Rattle.afdx_serve.specs.Runs.{FailsToGet}
 use Rattle.afdx_serve.specs.Networks.{bytes_in, table_names, HasLayout, HasTexts, AreTables, GetsTables, IsRefusedTable, FailsToLayout, FailsToGetTexts, FailsToReadTables}
 use Rattle.afdx_serve.specs.Networks.{FailsToJoin, HasNetwork, FailsToGetNetwork}
-use Rattle.afdx_devices.proofs.FileLemmas.{ShowsAll-push, ShowsAll-before, Shows-before, KeepsFiles-trans}
+use Rattle.afdx_serve.proofs.FileLemmas.{ShowsAll-push, ShowsAll-before, Shows-before, KeepsFiles-trans}
 
 -- ---- the files of tables
 

@@ -23,7 +23,7 @@ use Rattle.afdx_serve.specs.Networks.{names_of}
 use Rattle.afdx_serve.specs.NetworkRuns.{switch_folder, names_at, bytes_at, HasGiven, open_names, GetsGiven, FailsToGetGiven}
 use Rattle.afdx_serve.specs.Inner.OpenPorts.{HasOpen, GetsNamed, FailsToGetNamed}
 use Rattle.afdx_serve.proofs.CaptureLemmas.{one_more_got}
-use Rattle.afdx_devices.proofs.FileLemmas.{ShowsAll-before, ShowsAll-nil, KeepsFiles-trans}
+use Rattle.afdx_serve.proofs.FileLemmas.{ShowsAll-before, ShowsAll-nil, KeepsFiles-trans}
 
 -- ---- files that were got
 

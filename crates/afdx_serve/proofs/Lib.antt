@@ -1,3 +1,5 @@
+mod Errors
+mod FileLemmas
 pub mod JitterLemmas
 pub mod NetworkCheckLemmas
 pub mod CaptureLemmas

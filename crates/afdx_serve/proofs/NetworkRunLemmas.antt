@@ -35,7 +35,7 @@ use Rattle.afdx_serve.specs.NetworkRuns.{switch_folder, names_at, bytes_at, capt
 use Rattle.afdx_serve.specs.Serving.{world, PutsNetwork, FailsToRunNetwork}
 use Rattle.afdx_serve.specs.Inner.NetworkRunning.{names_by, held_names, AreAsMany, FailsToLeadGiven}
 use Rattle.afdx_serve.proofs.CaptureLemmas.{StopsAt-before}
-use Rattle.afdx_devices.proofs.FileLemmas.{same_files, KeepsFiles-trans, ShowsAll-before, PutsFiles-before}
+use Rattle.afdx_serve.proofs.FileLemmas.{same_files, KeepsFiles-trans, ShowsAll-before, PutsFiles-before}
 
 -- ---- names and reports of one switch more
 

@@ -12,7 +12,7 @@ use Rattle.afdx_session.specs.Carried.{Rest, IsLeft}
 use Rattle.afdx_devices.specs.Files.{Files, PutsFile, PutsFiles, KeepsOthers, DeviceLog}
 use Rattle.afdx_serve.specs.Runs.{bytes_of, StopsAt}
 use Rattle.afdx_serve.proofs.CaptureLemmas.{stops_at}
-use Rattle.afdx_devices.proofs.FileLemmas.{PutsFiles-nil, one_more_file}
+use Rattle.afdx_serve.proofs.FileLemmas.{PutsFiles-nil, one_more_file}
 
 -- the outputs of the ports before a place were put, and the others are left
 pub record ArePut (t : Content) (arrivals : List Arrival) (names : List (String Global)) (n : ℕ) (old new : Option Files) (first now : DeviceLog) (rest : Rest) : Type 0 where

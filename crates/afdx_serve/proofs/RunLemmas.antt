@@ -28,7 +28,7 @@ use Rattle.afdx_serve.specs.Traces.{trace_names, trace_texts, IsTraceIn, PutsTra
 use Rattle.std.specs.Io.KnownBytes.{Keeps}
 use Rattle.afdx_serve.specs.Serving.{world, PutsResults, FailsToRunAll}
 use Rattle.afdx_serve.proofs.CaptureLemmas.{StopsAt-before, GetsUpTo-before}
-use Rattle.afdx_devices.proofs.FileLemmas.{PutsFiles-before}
+use Rattle.afdx_serve.proofs.FileLemmas.{PutsFiles-before}
 
 -- what was led to was not all put
 module _ (paths : Paths) (names all : List (List ℕ)) (a b c : Option Files) (first before after : DeviceLog) (keeps : KeepsFiles a b) (same : before ≡ first)

@@ -316,27 +316,27 @@ found_output f (q ∷ ports) port p found = by (q.id == port) refl (found_output
 pub taken_is_a_prefix : EarlierEventsStayAdmitted → ReachesInOrder → EventsAreInParts → RecordsStay → RecordsAreUnique → TakenIsAPrefix
 taken_is_a_prefix stay reaches parts records unique v port taken texts results was continued outcome =
     (was.rest ++ whole.0, at ∙ prefix_on out was.text taken was.rest whole.0 whole.1 was.prefix) where
-  out : List ℕ
-  out = output_text v.table (merged outcome.read) was.row
+      out : List ℕ
+      out = output_text v.table (merged outcome.read) was.row
 
-  at : capture_at port results.captures ≡ out
-  at =
-      ap (capture_at port) outcome.captures
-      ∙ ap bytes_in (found_output (output_text v.table (merged outcome.read)) v.table.ports port was.row was.row_is)
+      at : capture_at port results.captures ≡ out
+      at =
+          ap (capture_at port) outcome.captures
+          ∙ ap bytes_in (found_output (output_text v.table (merged outcome.read)) v.table.ports port was.row was.row_is)
 
-  on : GoOn was.gone.streams (map whole_of outcome.read)
-  on =
-      go_on records unique v.intakes (map ended_at texts) was.gone.streams (map whole_of outcome.read) (continued_fed v.intakes texts continued) was.gone.are
-      (captures_are_streams unique texts outcome.read outcome.are_read)
+      on : GoOn was.gone.streams (map whole_of outcome.read)
+      on =
+          go_on records unique v.intakes (map ended_at texts) was.gone.streams (map whole_of outcome.read) (continued_fed v.intakes texts continued) was.gone.are
+          (captures_are_streams unique texts outcome.read outcome.are_read)
 
-  by : (b : Bool) → v.begun ≡ b → (rest : List ℕ) × (out ≡ was.text ++ rest)
-  by false none = (out, ap (λ xs. xs ++ out) (sym (was.gone.text_is ∙ ap (gone v.table was.gone.streams was.row) none)))
-  by true some =
-      let more = prefix_of_output stay reaches parts v.table was.gone.streams outcome.read was.row on in
-      (more.0, more.1 ∙ ap (λ xs. xs ++ more.0) (sym (was.gone.text_is ∙ ap (gone v.table was.gone.streams was.row) some)))
+      by : (b : Bool) → v.begun ≡ b → (rest : List ℕ) × (out ≡ was.text ++ rest)
+      by false none = (out, ap (λ xs. xs ++ out) (sym (was.gone.text_is ∙ ap (gone v.table was.gone.streams was.row) none)))
+      by true some =
+          let more = prefix_of_output stay reaches parts v.table was.gone.streams outcome.read was.row on in
+          (more.0, more.1 ∙ ap (λ xs. xs ++ more.0) (sym (was.gone.text_is ∙ ap (gone v.table was.gone.streams was.row) some)))
 
-  whole : (rest : List ℕ) × (out ≡ was.text ++ rest)
-  whole = by v.begun refl
+      whole : (rest : List ℕ) × (out ≡ was.text ++ rest)
+      whole = by v.begun refl
 
 -- ---- the end
 

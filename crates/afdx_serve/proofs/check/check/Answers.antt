@@ -1,6 +1,6 @@
 use Rattle.std.proofs.Common.{string_bytes}
 use Rattle.afdx_failures.specs.declared.failure.Failure.TheVariants.{Write}
-use Rattle.afdx_devices.proofs.Errors.{of_error}
+use Rattle.afdx_serve.proofs.Errors.{of_error}
 use Rattle.afdx_serve.proofs.check.check.Goals as goal
 
 pub returns-in_err-write_bytes : goal.returns-in_err-write_bytes

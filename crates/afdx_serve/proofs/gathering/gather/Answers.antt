@@ -4,8 +4,8 @@ use Rattle.afdx_load.specs.Accepted.{IsAccepted}
 use Rattle.afdx_session.specs.Texts.{texts_of}
 use Rattle.afdx_session.specs.Outcome.{table_in}
 use Rattle.afdx_serve.specs.Runs.{HasTable, HasPlan, HasCaptures, FailsToGetAll}
-use Rattle.afdx_devices.proofs.FileLemmas.{ShowsAll-before}
-use Rattle.afdx_devices.proofs.Errors.{of_error}
+use Rattle.afdx_serve.proofs.FileLemmas.{ShowsAll-before}
+use Rattle.afdx_serve.proofs.Errors.{of_error}
 use Rattle.afdx_serve.proofs.RunLemmas.{not_gathered}
 use Rattle.afdx_serve.proofs.gathering.gather.Goals as goal
 

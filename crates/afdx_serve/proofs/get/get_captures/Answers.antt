@@ -1,7 +1,7 @@
 use Rattle.std.proofs.Common.{◌∙◌, ◌<◌, length, rules}
 use Rattle.afdx_session.specs.Texts.{texts_of}
 use Rattle.afdx_serve.proofs.CaptureLemmas.{gets_up_to, not_got, one_more_capture}
-use Rattle.afdx_devices.proofs.Errors.{of_error}
+use Rattle.afdx_serve.proofs.Errors.{of_error}
 use Rattle.afdx_serve.proofs.get.get_captures.Goals as goal
 
 pub returns-in_err-bytes-clause-got : goal.returns-in_err-bytes-clause-got

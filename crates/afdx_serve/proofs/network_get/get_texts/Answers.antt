@@ -3,7 +3,7 @@ use Rattle.std.specs.Path.{path_with_file_name}
 use Rattle.afdx_wiring.specs.File.{Switch}
 use Rattle.afdx_serve.specs.Networks.{bytes_in}
 use Rattle.afdx_serve.proofs.GetLemmas.{gets_tables, not_got_text, one_more_text}
-use Rattle.afdx_devices.proofs.Errors.{of_error}
+use Rattle.afdx_serve.proofs.Errors.{of_error}
 use Rattle.afdx_serve.proofs.network_get.get_texts.Goals as goal
 
 pub returns-in_err-text-clause-got : goal.returns-in_err-text-clause-got

@@ -3,7 +3,7 @@ use Rattle.std.proofs.KnownBytes.{Keeps-refl}
 use Rattle.afdx_ways.specs.Lines.{jitter_text}
 use Rattle.afdx_failures.specs.declared.failure.Failure.TheVariants.{Write}
 use Rattle.afdx_serve.specs.Networks.{names_of}
-use Rattle.afdx_devices.proofs.Errors.{of_error}
+use Rattle.afdx_serve.proofs.Errors.{of_error}
 use Rattle.afdx_serve.proofs.JitterLemmas.{not_got, not_fit, past_reported}
 use Rattle.afdx_serve.proofs.network_jitter.network_jitter.Goals as goal
 

@@ -4,9 +4,9 @@ use Rattle.afdx_session.specs.Texts.{texts_of}
 use Rattle.afdx_network.specs.Given.{given_of}
 use Rattle.afdx_ways.specs.Lines.{Names, name_of}
 use Rattle.afdx_serve.specs.NetworkRuns.{switch_folder}
-use Rattle.afdx_devices.proofs.FileLemmas.{KeepsFiles-refl, KeepsFiles-trans}
+use Rattle.afdx_serve.proofs.FileLemmas.{KeepsFiles-refl, KeepsFiles-trans}
 use Rattle.afdx_serve.proofs.GivenLemmas.{GotFirst, none_got, one_more_given, not_got_given, got_one_more, all_given}
-use Rattle.afdx_devices.proofs.Errors.{of_error}
+use Rattle.afdx_serve.proofs.Errors.{of_error}
 use Rattle.afdx_serve.proofs.network_run.get_given.Goals as goal
 
 pub loop-switch-init : goal.loop-switch-init

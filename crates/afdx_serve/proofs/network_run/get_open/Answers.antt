@@ -2,7 +2,7 @@ use Rattle.std.proofs.Common.{◌∙◌, ◌+◌, take}
 use Rattle.afdx_session.specs.Texts.{texts_of}
 use Rattle.afdx_network.specs.Given.{is_open}
 use Rattle.afdx_serve.proofs.GivenLemmas.{GotOpen, gets_open, one_more_open, one_more_wired, not_got_named}
-use Rattle.afdx_devices.proofs.Errors.{of_error}
+use Rattle.afdx_serve.proofs.Errors.{of_error}
 use Rattle.afdx_serve.proofs.network_run.get_open.Goals as goal
 use Rattle.afdx_serve.proofs.network_run.get_open.Goals.{then-is_open+in_ok-name+in_ok-text+in_ok-push, else-is_open}
 

@@ -4,13 +4,63 @@ use Rattle.std.proofs.lemmas.List.{length-map}
 use Rattle.afdx_session.specs.Outcome.{Results}
 use Rattle.afdx_network.specs.Given.{given_of}
 use Rattle.afdx_ways.specs.Lines.{Names}
+use Rattle.afdx_serve.proofs.Errors.{of_error}
+use Rattle.afdx_serve.proofs.FileLemmas.{KeepsFiles-trans}
 use Rattle.afdx_failures.specs.declared.failure.Failure.TheVariants.{Memory, Write}
 use Rattle.afdx_serve.specs.Networks.{names_of}
 use Rattle.afdx_serve.specs.NetworkRuns.{names_at, captures_of, reports_of}
-use Rattle.afdx_devices.proofs.FileLemmas.{KeepsFiles-trans}
-use Rattle.afdx_devices.proofs.Errors.{of_error}
-use Rattle.afdx_serve.proofs.NetworkRunLemmas.{is_led, files_named, no_run, not_given, not_led, not_put_network, puts_network}
+use Rattle.afdx_serve.specs.Inner.NetworkRunning.{held_names, AreAsMany}
+use Rattle.afdx_serve.specs.Serving.{world, PutsNetwork}
+use Rattle.afdx_serve.proofs.NetworkRunLemmas.{IsLed, is_led, files_named, no_run, not_given, not_led, not_put_network, puts_network}
+use Rattle.afdx_serve.proofs.network_run.network_run.Given.{Over}
+use Rattle.afdx_serve.proofs.network_run.network_run.Goals.{After-deref-6, After-deref-8, After-deref-11}
 use Rattle.afdx_serve.proofs.network_run.network_run.Goals as goal
+
+-- what was led to is a run of the file's network
+led : (g : Over) (c : After-deref-6 g)
+    → IsLed c.args.paths.now (g.F.Folder.files c.args.folder.now) c.in_ok-network.network (map string_bytes c.in_ok-names.names.items) c.in_ok-outcomes.outcomes.items
+led g c =
+    let net = c.in_ok-network.network in
+    let got = c.in_ok-network.ensures in
+    let accepted = c.in_ok-cleared.ensures in
+    let given = c.in_ok-given.ensures in
+    let named : map string_bytes c.in_ok-names.names.items ≡ names_of net.layout.switches = search rules in
+    is_led c.tables_are_well_formed.ensures c.layouts_are_within_limits.ensures c.network_runs_deliver.ensures c.args.paths.now _ _ net _ _ (given_of c.in_ok-given.given.items)
+    c.in_ok-outcomes.outcomes.items _
+    got.got.0 accepted.0 c.network-2.ensures.network accepted.1 got.same given.got.0.0 given.got.0.1 c.in_ok-outcomes.ensures named
+
+-- its captures have names, as many of each switch
+files_are : (g : Over) (c : After-deref-8 g)
+    → IsLed c.args.paths.now (g.F.Folder.files c.args.folder.now) c.in_ok-network.network (map string_bytes c.in_ok-names.names.items) c.in_ok-outcomes.outcomes.items
+    → (held_names c.in_ok-files.files.items ≡ names_at c.args.paths.now.output.now (names_of c.in_ok-network.network.layout.switches) (captures_of c.in_ok-outcomes.outcomes.items))
+    × AreAsMany c.in_ok-files.files.items (captures_of c.in_ok-outcomes.outcomes.items)
+files_are g c l =
+    let out = c.args.paths.now.output.now in
+    let left = c.in_ok-outcomes.outcomes.items in
+    let by = rw (c.deref-5.ensures.value, c.deref-6.ensures.value) at c.in_ok-files.ensures in
+    let files = files_named out (map string_bytes c.in_ok-names.names.items) left c.in_ok-files.files.items l.count by in
+    (files.0 ∙ ap (λ (all : Names). names_at out all (captures_of left)) l.named, files.1)
+
+-- all of them were put
+puts : (g : Over) (c : After-deref-11 g)
+    → IsLed c.args.paths.now (g.F.Folder.files c.args.folder.now) c.in_ok-network.network (map string_bytes c.in_ok-names.names.items) c.in_ok-outcomes.outcomes.items
+    → held_names c.in_ok-files.files.items ≡ names_at c.args.paths.now.output.now (names_of c.in_ok-network.network.layout.switches) (captures_of c.in_ok-outcomes.outcomes.items)
+    → PutsNetwork c.args.paths.now (world None (g.F.Folder.files c.args.folder.now) (g.F.Folder.failed c.args.folder.now))
+    (world None (g.F.Folder.files c.put_all.new.folder) (g.F.Folder.failed c.put_all.new.folder)) c.in_ok-network.network c.in_ok-outcomes.outcomes.items
+puts g c l names =
+    let got = c.in_ok-network.ensures in
+    let given = c.in_ok-given.ensures in
+    let done = rw (c.deref-9.ensures.value, c.deref-10.ensures.value) at c.in_ok-put_all.ensures in
+    puts_network c.args.paths.now c.in_ok-network.network c.in_ok-outcomes.outcomes.items _ _ _ _ _ _ _ _ l.leads names refl (KeepsFiles-trans _ _ _ got.same given.same)
+    (given.got.1 ∙ got.got.1) done.0 done.1 None None
+
+-- and these are the reports
+text_is : (g : Over) (c : After-deref-11 g)
+    → IsLed c.args.paths.now (g.F.Folder.files c.args.folder.now) c.in_ok-network.network (map string_bytes c.in_ok-names.names.items) c.in_ok-outcomes.outcomes.items
+    → c.deref-11.result.now ≡ reports_of (names_of c.in_ok-network.network.layout.switches) c.in_ok-outcomes.outcomes.items
+text_is g c l =
+    let report = rw (c.deref-7.ensures.value, c.deref-8.ensures.value) at c.in_ok-text.ensures in
+    c.deref-11.ensures.value ∙ report ∙ ap (λ (all : Names). reports_of all c.in_ok-outcomes.outcomes.items) l.named
 
 pub returns-in_err-network : goal.returns-in_err-network
 returns-in_err-network g c =
@@ -46,16 +96,8 @@ returns-in_err-outcomes g c =
 
 pub output_names-requires : goal.output_names-requires
 output_names-requires g c =
-    let paths = c.args.paths.now in
-    let net = c.in_ok-network.network in
-    let got = c.in_ok-network.ensures in
-    let accepted = c.in_ok-cleared.ensures in
-    let given = c.in_ok-given.ensures in
-    let named : map string_bytes c.in_ok-names.names.items ≡ names_of net.layout.switches = search rules in
-    let led = is_led c.tables_are_well_formed.ensures c.layouts_are_within_limits.ensures c.network_runs_deliver.ensures paths _ _ net _ _ (given_of c.in_ok-given.given.items)
-    c.in_ok-outcomes.outcomes.items _
-    got.got.0 accepted.0 c.network-2.ensures.network accepted.1 got.same given.got.0.0 given.got.0.1 c.in_ok-outcomes.ensures named in
-    ap (λ (l : List (String Global)). length l) c.deref-5.ensures.value ∙ sym (length-map c.in_ok-names.names.items (λ (s : String Global). string_bytes s)) ∙ led.count
+    let l = led g (goal.at.output_names-requires g c).After-deref-6 in
+    ap (λ (l : List (String Global)). length l) c.deref-5.ensures.value ∙ sym (length-map c.in_ok-names.names.items (λ (s : String Global). string_bytes s)) ∙ l.count
     ∙ sym (ap (λ (l : List Results). length l) c.deref-6.ensures.value)
 
 pub returns-in_err-files : goal.returns-in_err-files
@@ -65,16 +107,8 @@ returns-in_err-files g c =
 
 pub reports-requires : goal.reports-requires
 reports-requires g c =
-    let paths = c.args.paths.now in
-    let net = c.in_ok-network.network in
-    let got = c.in_ok-network.ensures in
-    let accepted = c.in_ok-cleared.ensures in
-    let given = c.in_ok-given.ensures in
-    let named : map string_bytes c.in_ok-names.names.items ≡ names_of net.layout.switches = search rules in
-    let led = is_led c.tables_are_well_formed.ensures c.layouts_are_within_limits.ensures c.network_runs_deliver.ensures paths _ _ net _ _ (given_of c.in_ok-given.given.items)
-    c.in_ok-outcomes.outcomes.items _
-    got.got.0 accepted.0 c.network-2.ensures.network accepted.1 got.same given.got.0.0 given.got.0.1 c.in_ok-outcomes.ensures named in
-    ap (λ (l : List (String Global)). length l) c.deref-7.ensures.value ∙ sym (length-map c.in_ok-names.names.items (λ (s : String Global). string_bytes s)) ∙ led.count
+    let l = led g (goal.at.reports-requires g c).After-deref-6 in
+    ap (λ (l : List (String Global)). length l) c.deref-7.ensures.value ∙ sym (length-map c.in_ok-names.names.items (λ (s : String Global). string_bytes s)) ∙ l.count
     ∙ sym (ap (λ (l : List Results). length l) c.deref-8.ensures.value)
 
 pub returns-in_err-text : goal.returns-in_err-text
@@ -84,85 +118,29 @@ returns-in_err-text g c =
 
 pub put_all-requires : goal.put_all-requires
 put_all-requires g c =
-    let paths = c.args.paths.now in
-    let net = c.in_ok-network.network in
-    let got = c.in_ok-network.ensures in
-    let accepted = c.in_ok-cleared.ensures in
-    let given = c.in_ok-given.ensures in
-    let named : map string_bytes c.in_ok-names.names.items ≡ names_of net.layout.switches = search rules in
-    let led = is_led c.tables_are_well_formed.ensures c.layouts_are_within_limits.ensures c.network_runs_deliver.ensures paths _ _ net _ _ (given_of c.in_ok-given.given.items)
-    c.in_ok-outcomes.outcomes.items _
-    got.got.0 accepted.0 c.network-2.ensures.network accepted.1 got.same given.got.0.0 given.got.0.1 c.in_ok-outcomes.ensures named in
-    let out = paths.output.now in
-    let reported = map string_bytes c.in_ok-names.names.items in
-    let left = c.in_ok-outcomes.outcomes.items in
-    let by = rw (c.deref-5.ensures.value, c.deref-6.ensures.value) at c.in_ok-files.ensures in
-    let files = files_named out reported left c.in_ok-files.files.items led.count by in
-    rw (c.deref-9.ensures.value, c.deref-10.ensures.value) files.1
+    let p = goal.at.put_all-requires g c in
+    rw (c.deref-9.ensures.value, c.deref-10.ensures.value) (files_are g p.After-deref-8 (led g p.After-deref-6)).1
 
 pub returns-in_err-put_all : goal.returns-in_err-put_all
 returns-in_err-put_all g c =
-    let paths = c.args.paths.now in
-    let net = c.in_ok-network.network in
+    let p = goal.at.returns-in_err-put_all g c in
+    let l = led g p.After-deref-6 in
     let got = c.in_ok-network.ensures in
-    let accepted = c.in_ok-cleared.ensures in
     let given = c.in_ok-given.ensures in
-    let named : map string_bytes c.in_ok-names.names.items ≡ names_of net.layout.switches = search rules in
-    let led = is_led c.tables_are_well_formed.ensures c.layouts_are_within_limits.ensures c.network_runs_deliver.ensures paths _ _ net _ _ (given_of c.in_ok-given.given.items)
-    c.in_ok-outcomes.outcomes.items _
-    got.got.0 accepted.0 c.network-2.ensures.network accepted.1 got.same given.got.0.0 given.got.0.1 c.in_ok-outcomes.ensures named in
-    let out = paths.output.now in
-    let reported = map string_bytes c.in_ok-names.names.items in
-    let left = c.in_ok-outcomes.outcomes.items in
-    let by = rw (c.deref-5.ensures.value, c.deref-6.ensures.value) at c.in_ok-files.ensures in
-    let files = files_named out reported left c.in_ok-files.files.items led.count by in
-    let names = files.0 ∙ ap (λ (all : Names). names_at out all (captures_of left)) led.named in
     let fails = rw (c.deref-9.ensures.value, c.deref-10.ensures.value) at c.in_err-put_all.ensures in
     of_error _ _ _ c.in_err-put_all.field-0.0 c.from_residual-in_err-put_all.ensures
-    (not_put_network paths net left _ _ _ _ _ _ _ _ led.leads names refl (KeepsFiles-trans _ _ _ got.same given.same) (given.got.1 ∙ got.got.1) c.in_err-put_all.field-0.0 _ _ (Keeps-refl _) fails)
+    (not_put_network c.args.paths.now c.in_ok-network.network c.in_ok-outcomes.outcomes.items _ _ _ _ _ _ _ _ l.leads (files_are g p.After-deref-8 l).0 refl
+    (KeepsFiles-trans _ _ _ got.same given.same) (given.got.1 ∙ got.got.1) c.in_err-put_all.field-0.0 _ _ (Keeps-refl _) fails)
 
 pub returns-in_err-write_bytes : goal.returns-in_err-write_bytes
 returns-in_err-write_bytes g c =
-    let paths = c.args.paths.now in
-    let net = c.in_ok-network.network in
-    let got = c.in_ok-network.ensures in
-    let accepted = c.in_ok-cleared.ensures in
-    let given = c.in_ok-given.ensures in
-    let named : map string_bytes c.in_ok-names.names.items ≡ names_of net.layout.switches = search rules in
-    let led = is_led c.tables_are_well_formed.ensures c.layouts_are_within_limits.ensures c.network_runs_deliver.ensures paths _ _ net _ _ (given_of c.in_ok-given.given.items)
-    c.in_ok-outcomes.outcomes.items _
-    got.got.0 accepted.0 c.network-2.ensures.network accepted.1 got.same given.got.0.0 given.got.0.1 c.in_ok-outcomes.ensures named in
-    let out = paths.output.now in
-    let reported = map string_bytes c.in_ok-names.names.items in
-    let left = c.in_ok-outcomes.outcomes.items in
-    let by = rw (c.deref-5.ensures.value, c.deref-6.ensures.value) at c.in_ok-files.ensures in
-    let files = files_named out reported left c.in_ok-files.files.items led.count by in
-    let names = files.0 ∙ ap (λ (all : Names). names_at out all (captures_of left)) led.named in
-    let done = rw (c.deref-9.ensures.value, c.deref-10.ensures.value) at c.in_ok-put_all.ensures in
-    let puts = puts_network paths net left _ _ _ _ _ _ _ _ led.leads names refl (KeepsFiles-trans _ _ _ got.same given.same) (given.got.1 ∙ got.got.1) done.0 done.1 None None in
-    let report = rw (c.deref-7.ensures.value, c.deref-8.ensures.value) at c.in_ok-text.ensures in
-    let text = c.deref-11.ensures.value ∙ report ∙ ap (λ (all : Names). reports_of all left) led.named in
-    of_error _ _ _ Write c.from_residual-in_err-write_bytes.ensures (net, left, puts, rw text at c.in_err-write_bytes.ensures.prefix)
+    let p = goal.at.returns-in_err-write_bytes g c in
+    let l = led g p.After-deref-6 in
+    of_error _ _ _ Write c.from_residual-in_err-write_bytes.ensures
+    (c.in_ok-network.network, c.in_ok-outcomes.outcomes.items, puts g p.After-deref-11 l (files_are g p.After-deref-8 l).0, rw (text_is g p.After-deref-11 l) at c.in_err-write_bytes.ensures.prefix)
 
 pub returns : goal.returns
 returns g c =
-    let paths = c.args.paths.now in
-    let net = c.in_ok-network.network in
-    let got = c.in_ok-network.ensures in
-    let accepted = c.in_ok-cleared.ensures in
-    let given = c.in_ok-given.ensures in
-    let named : map string_bytes c.in_ok-names.names.items ≡ names_of net.layout.switches = search rules in
-    let led = is_led c.tables_are_well_formed.ensures c.layouts_are_within_limits.ensures c.network_runs_deliver.ensures paths _ _ net _ _ (given_of c.in_ok-given.given.items)
-    c.in_ok-outcomes.outcomes.items _
-    got.got.0 accepted.0 c.network-2.ensures.network accepted.1 got.same given.got.0.0 given.got.0.1 c.in_ok-outcomes.ensures named in
-    let out = paths.output.now in
-    let reported = map string_bytes c.in_ok-names.names.items in
-    let left = c.in_ok-outcomes.outcomes.items in
-    let by = rw (c.deref-5.ensures.value, c.deref-6.ensures.value) at c.in_ok-files.ensures in
-    let files = files_named out reported left c.in_ok-files.files.items led.count by in
-    let names = files.0 ∙ ap (λ (all : Names). names_at out all (captures_of left)) led.named in
-    let done = rw (c.deref-9.ensures.value, c.deref-10.ensures.value) at c.in_ok-put_all.ensures in
-    let puts = puts_network paths net left _ _ _ _ _ _ _ _ led.leads names refl (KeepsFiles-trans _ _ _ got.same given.same) (given.got.1 ∙ got.got.1) done.0 done.1 None None in
-    let report = rw (c.deref-7.ensures.value, c.deref-8.ensures.value) at c.in_ok-text.ensures in
-    let text = c.deref-11.ensures.value ∙ report ∙ ap (λ (all : Names). reports_of all left) led.named in
-    (net, left, puts, rw text at c.in_ok-write_bytes.ensures.all)
+    let p = goal.at.returns g c in
+    let l = led g p.After-deref-6 in
+    (c.in_ok-network.network, c.in_ok-outcomes.outcomes.items, puts g p.After-deref-11 l (files_are g p.After-deref-8 l).0, rw (text_is g p.After-deref-11 l) at c.in_ok-write_bytes.ensures.all)

@@ -2,7 +2,7 @@ use Rattle.std.proofs.Common.{rules, ◌∙◌, ◌<◌, ℕ, List, Vec, String,
 use Rattle.std.proofs.lemmas.List.{length-map}
 use Rattle.afdx_session.specs.Texts.{Text, texts_of}
 use Rattle.afdx_session.specs.Outcome.{Results}
-use Rattle.afdx_devices.proofs.Errors.{of_error}
+use Rattle.afdx_serve.proofs.Errors.{of_error}
 use Rattle.afdx_serve.proofs.NetworkRunLemmas.{held_count, held_here, switch_put, switch_not_put}
 use Rattle.afdx_serve.proofs.network_run.put_all.Goals as goal
 

@@ -1,7 +1,7 @@
 use Rattle.std.proofs.Common.{rules, ◌≡◌, ◌∙◌, ◌<◌, ℕ, [], Vec, String, Global, length, get_or, string_bytes, sym, ap, arith}
 use Rattle.std.proofs.lemmas.List.{get_or-map, length-map}
 use Rattle.afdx_session.specs.Texts.{Text, texts_of}
-use Rattle.afdx_devices.proofs.FileLemmas.{one_more_file}
+use Rattle.afdx_serve.proofs.FileLemmas.{one_more_file}
 use Rattle.afdx_serve.proofs.network_run.put_captures.Goals as goal
 
 pub loop-place-preserved : goal.loop-place-preserved

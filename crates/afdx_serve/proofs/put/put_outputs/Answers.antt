@@ -2,7 +2,7 @@ use Rattle.std.proofs.Common.{◌∙◌, ◌<◌, Global, String, length, rules,
 use Rattle.std.proofs.lemmas.Option.{get_or_from_slice_get}
 use Rattle.afdx_failures.specs.declared.failure.Failure.TheVariants.{Memory}
 use Rattle.afdx_serve.proofs.CaptureLemmas.{not_put}
-use Rattle.afdx_devices.proofs.Errors.{of_error}
+use Rattle.afdx_serve.proofs.Errors.{of_error}
 use Rattle.afdx_serve.proofs.PutLemmas.{none_put, within_texts, within, more_put, stops_here, KeepsOthers-refl, all_are_put}
 use Rattle.afdx_serve.proofs.put.put_outputs.Goals as goal
 

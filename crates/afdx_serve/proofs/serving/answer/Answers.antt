@@ -1,5 +1,5 @@
 use Rattle.afdx_failures.specs.declared.failure.Failure.TheVariants.{Write}
-use Rattle.afdx_devices.proofs.Errors.{of_error}
+use Rattle.afdx_serve.proofs.Errors.{of_error}
 use Rattle.afdx_serve.proofs.serving.answer.Goals as goal
 
 pub returns-in_err-write_passed : goal.returns-in_err-write_passed

@@ -1,6 +1,6 @@
 use Rattle.std.proofs.Common.{ℕ, List, [], ◌∷◌, ap, ◌∙◌, string_bytes}
 use Rattle.afdx_serve.proofs.CaptureLemmas.{first_not_put, second_put}
-use Rattle.afdx_devices.proofs.Errors.{of_error}
+use Rattle.afdx_serve.proofs.Errors.{of_error}
 use Rattle.afdx_serve.proofs.trace.put_texts.Goals as goal
 
 pub returns-in_err-put : goal.returns-in_err-put

@@ -1,5 +1,5 @@
 use Rattle.afdx_session.specs.Texts.{texts_of}
-use Rattle.afdx_devices.proofs.Errors.{of_error}
+use Rattle.afdx_serve.proofs.Errors.{of_error}
 use Rattle.afdx_serve.proofs.RunLemmas.{traced}
 use Rattle.afdx_serve.proofs.trace.traced.Goals as goal
 

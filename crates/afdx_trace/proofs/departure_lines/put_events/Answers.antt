@@ -21,5 +21,5 @@ loop-sent-preserved g c = record {
 pub returns : goal.returns
 returns g c =
     all_reported c.args.port c.args.settings.now c.args.sent.now c.loop-sent.sent.now c.args.aged.now c.loop-sent.aged.now c.loop-sent.number
-        (string_bytes c.args.text.now) (string_bytes c.loop-sent.text)
+    (string_bytes c.args.text.now) (string_bytes c.loop-sent.text)
     (search rules) (search rules) c.loop-sent.invariant.lines
