@@ -136,7 +136,7 @@ new_ones() {
 }
 
 # each_fails CALL LINES: this call fails, the first time, the second and so on, until the program makes no more of them. What
-# the line and the status say stands, and so many of the lines are there.
+# the line and the status say is so, and so many of the lines are there.
 each_fails() {
     local number lines=0
     for number in $(seq 20); do

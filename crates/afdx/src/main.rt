@@ -1,7 +1,7 @@
 //! An AFDX switch (ARINC 664 Part 7) over captured traffic.
 //!
 //! `afdx alone` reads a capture of one ingress port on standard input and writes the capture of the
-//! frames that the account of one virtual link passes. `afdx check` and `afdx size` tell of a configuration table whether its
+//! frames that the account of one virtual link passes. `afdx check` and `afdx size` say of a configuration table whether its
 //! ports can give what the links ask for. `afdx run` gets a table and one capture for each port, and puts one capture for
 //! each port.
 #![tactic(auto)]

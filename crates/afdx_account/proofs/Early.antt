@@ -99,7 +99,7 @@ by_headroom t (g ∷ gs) f some sound =
 pub early_by_the_level : EarlyByTheLevel
 early_by_the_level t frames f some early = by_headroom t (passed_frames t frames) f some (passed_sound t [] frames f.stamp early tt)
 
--- an account that tells what its level lacks
+-- an account that says what its level lacks
 pub tells_early : (t : Terms) (since level at size now early : ℕ) → 0 < t.rate → since ≤ at
     → now ≡ credited_level t level (at - since) → early ≡ credit_time t (t.price size - now) → TellsEarly t since level at size early
 tells_early t since level at size now early some le now-is early-is frames stands =

@@ -14,7 +14,7 @@ fn account() -> ByteAccount
     ByteAccount::new(1518, Bag::Ms1, 0)
 }
 
-/// What any account tells at an instant: its cap, its rate, what 64 bytes cost, and its level.
+/// What any account gives at an instant: its cap, its rate, what 64 bytes cost, and its level.
 fn reported<M: Meter>(meter: &M, at: Stamp) -> [u64; 4]
     requires { M.since meter.now ≤ at }
 {

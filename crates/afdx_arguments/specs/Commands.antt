@@ -45,7 +45,7 @@ measure_app =
 abbrev pub network_app : App
 network_app = new_app (codes "network")
 
--- afdx, which wants a subcommand and tells its version
+-- afdx, which wants a subcommand and prints its version
 abbrev pub bare_program : App
 bare_program = on_top (λ s. record s { subcommand_required = true; has_version = true }) (new_app (codes "afdx"))
 

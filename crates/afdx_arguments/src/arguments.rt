@@ -33,7 +33,7 @@ pub(crate) fn argument<'a>(matches: &ArgMatches<'a>, name: &str) -> Option<&'a s
     matches.get_str(name)
 }
 
-/// Whether a flag is set: `clap` tells it as an argument.
+/// Whether a flag is set: `clap` gives it as an argument.
 fn flag(matches: &ArgMatches<'_>, name: &str) -> bool
     ensures { result ≡ is_set name.now (rows_of (found_of matches.now)) }
 {

@@ -227,7 +227,7 @@ fn trace<'a>(alloc: Global) -> Result<Command<'a>, AllocError>
     with_paths(alloc, "trace", about, TRACE, output)
 }
 
-/// What the program's help tells of the commands of networks.
+/// What the program's help says of the commands of networks.
 fn network<'a>(alloc: Global) -> Command<'a>
     ensures app { app_of result ≡ network_app }
     ensures local { (out-Command result).has_globals ≡ false }

@@ -19,7 +19,7 @@ use Rattle.afdx_core.specs.Rows.{frame_of, account_frames, says_clean, passes}
 use Rattle.afdx_core.specs.Kept.{AccountStands, AccountsStand, Polices}
 use Rattle.afdx_core.proofs.Feeds.{account-same, account-other}
 
--- what an account's offer of a row's frame is to tell
+-- what an account's offer of a row's frame is to say
 abbrev pub Conforming : Bool → Row → Account → Account → Type 0
 Conforming p row a b = PassesWhatConforms (account_terms a) (account_since a) (account_level a (account_since a)) row.stamp row.size p (account_level b row.stamp)
 

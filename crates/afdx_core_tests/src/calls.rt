@@ -11,7 +11,7 @@ use std::alloc::Global;
 use std::test::*;
 
 /// How many of eight calls a switch over a table of one link answers as it should, be its table checked or not, whether it then
-/// hands out the rest, and what it tells at the end.
+/// hands out the rest, and what it gives at the end.
 fn answers_calls(
     alloc: Global,
     mut switch: Switch<'static, Global>,
@@ -53,7 +53,7 @@ fn checked_switch_by_calls(rt: HostRuntime) -> Result<(), Fail> {
     Ok(())
 }
 
-/// What a switch tells of port 2, how many frames it sent and discarded, and of all arrivals, how many fates.
+/// What a switch says of port 2, how many frames it sent and discarded, and of all arrivals, how many fates.
 fn reported(switch: &Switch<'static, Global>) -> (usize, usize, usize) {
     let sent = switch.sent(2).len();
     let aged = switch.aged(2).len();

@@ -1,4 +1,4 @@
-//! What a switch keeps for each arrival and for each copy, in bytes: the numbers that `docs/develop/ARCHITECTURE.md` tells.
+//! What a switch keeps for each arrival and for each copy, in bytes: the numbers that `docs/develop/ARCHITECTURE.md` gives.
 
 use afdx_core::{Fate, Row};
 use afdx_pcap::Record;

@@ -1,4 +1,4 @@
-//! Switches, and what answers tell.
+//! Switches, and what answers say.
 
 use afdx_core::{CoreFault, Done, Fate, Switch};
 use afdx_load::check;

@@ -86,7 +86,7 @@ input-all rows row =
       by_verdict TooBig c = refl
       by_verdict (Clean i) c = refl
 
--- a fate tells the verdict, but for a clean frame's link
+-- a fate names the verdict, but for a clean frame's link
 fate-verdict : (t : Content) (before : List Row) (row : Row) (c : InCount) → with_verdict (verdict_in (fate_of t before row)) c ≡ with_verdict row.verdict c
 fate-verdict t before row c = by_verdict row.verdict refl where
   by_pass : (i : ℕ) (b : Bool) (j : ℕ) → with_verdict (verdict_in (cond b (Passed j) (Policed j))) c ≡ with_verdict (Clean i) c

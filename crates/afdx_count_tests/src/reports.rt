@@ -84,7 +84,7 @@ out 2 low offered 2 full 1 aged 1 sent 0
     Ok(())
 }
 
-/// What the readers tell of these counters.
+/// What the readers give of these counters.
 fn numbers_of(counts: &Counts<Global>) -> [Option<u64>; 9] {
     [
         counts.input(1).map(|count| count.clean),

@@ -1,4 +1,4 @@
--- A folder's files, where it tells them, and its failures.
+-- A folder's files, where it shows them, and its failures.
 use Rattle.std.specs.Prelude.{◌≡◌, ◌⊎◌, ◌+◌, ◌-◌, ◌^◌, min, ℕ, List, ◌∷◌, false, Option, Some, None, Result, MatchResult, map, ⊤, if◌then◌else◌}
 use Rattle.std.specs.Str.{bytes_eq}
 use Rattle.afdx_devices.specs.declared.folder.FolderFault.{FolderFault}
@@ -16,7 +16,7 @@ abbrev pub with_files : Files → List (List ℕ) → List (List ℕ) → Files
 with_files f (name ∷ names) (bytes ∷ rest) = with_files (with_file f name bytes) names rest
 with_files f _ _ = f
 
--- ---- of a folder that may not tell its files nothing is said
+-- ---- of a folder that may not show its files nothing is said
 
 -- these bytes stand under the name
 abbrev pub Shows : Option Files → List ℕ → List ℕ → Type 0

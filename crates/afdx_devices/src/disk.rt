@@ -29,7 +29,7 @@ impl FileId {
     }
 }
 
-/// The files of the system, by their paths. It does not tell their bytes.
+/// The files of the system, by their paths. It does not show their bytes.
 ///
 /// A put never harms a file: it replaces a file as a whole or leaves it as it is, and it fails where the name leads to a
 /// file that was got, to one that may not be written, or to what is no file.

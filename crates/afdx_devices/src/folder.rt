@@ -51,9 +51,9 @@ impl From<InputFault> for FolderFault {
     }
 }
 
-/// A folder, by the bytes that are under each name. It counts its failures, and tells the name of the last one.
+/// A folder, by the bytes that are under each name. It counts its failures, and keeps the name of the last one.
 pub trait Folder {
-    /// The files, where it tells them.
+    /// The files, where it shows them.
     ghost files: { Self → Option Files } = { λ _. None };
     /// How often it has failed, as far as 64 bits go, and the name that the last of these calls was for.
     ghost failed: { Self → DeviceLog };

@@ -1,6 +1,6 @@
 //! Readers, writers and folders of files, with what is known of them where they fail.
 //!
-//! [`read_to_end`] and [`write_bytes`] make a bounded number of calls and try none again. A [`Folder`] tells which file it
+//! [`read_to_end`] and [`write_bytes`] make a bounded number of calls and try none again. A [`Folder`] names which file it
 //! failed for at last; [`Disk`] is the one of real files.
 #![tactic(auto)]
 

@@ -29,7 +29,7 @@ status_of (failure.Load f) = 4
 status_of (failure.Network f) = network_status f
 status_of _ = 5
 
--- the line tells a number or a name, for which it takes memory
+-- the line holds a number or a name, for which it takes memory
 abbrev pub IsMade : Failure → Type 0
 IsMade failure.Usage = ⊥
 IsMade failure.Read = ⊥

@@ -1,4 +1,4 @@
--- The potentials in numbers: how they stand a wait, a start, a rest and an arrival.
+-- The potentials in numbers: that they hold after a wait, a start, a rest and an arrival.
 use Rattle.std.proofs.Common.{◌≡◌, ℕ, ◌+◌, ◌*◌, ◌<◌, ◌≤◌, List, [], ◌∷◌, ◌++◌, refl, ap, ◌∙◌, subst, arith, ⊎_elim}
 use Rattle.std.specs.Prelude.{max}
 use Rattle.std.specs.List.{AllByRecursion}

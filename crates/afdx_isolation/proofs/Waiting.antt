@@ -1,4 +1,4 @@
--- The potentials of what waits in line: they stand all starts before an instant.
+-- The potentials of what waits in line: they hold after all starts before an instant.
 use Rattle.std.proofs.Common.{◌≡◌, ℕ, ◌+◌, ◌-◌, ◌<◌, ◌≤◌, Bool, true, false, cond, List, [], ◌∷◌, ◌++◌, refl, ap, sym, ◌∙◌, subst, arith, ⊎_elim, append-nil}
 use Rattle.std.specs.Prelude.{max, not, nat_lt}
 use Rattle.std.specs.List.{AllByRecursion}

@@ -6,7 +6,7 @@ ghost use Rattle.afdx_lines.specs.Lines.{fault_text, part, capture_text, capture
 use afdx_pcap::PcapFault;
 use std::alloc::{AllocError, Global};
 
-/// What a fault is called, with the link type that it tells.
+/// What a fault is called, with the link type that it names.
 fn fault_text(alloc: Global, fault: PcapFault) -> Result<String, AllocError>
     ensures { IfOk result (λ text. string_bytes text ≡ fault_text fault) }
 {

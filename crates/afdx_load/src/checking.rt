@@ -68,7 +68,7 @@ fn first_fault_in(table: &Table, slots: &[Load; SLOTS]) -> Option<LoadFault>
     None
 }
 
-/// The fault of a table, as [`check`] tells it; none where the table is accepted. It costs as much as that.
+/// The fault of a table, as [`check`] names it; none where the table is accepted. It costs as much as that.
 pub fn first_fault(table: &Table) -> Option<LoadFault>
     ensures { result ≡ first_fault table.now.latency table.now.links table.now.ports }
 {

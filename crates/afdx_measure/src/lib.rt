@@ -1,6 +1,6 @@
 //! What an integrator asks of a run: how long frames took, and how full buffers were (profile).
 //!
-//! [`delays_by_link`] tells of each link how many copies a port sent, and their least and greatest delay; [`peak_at`] how
+//! [`delays_by_link`] says of each link how many copies a port sent, and their least and greatest delay; [`peak_at`] how
 //! full a port's buffer was, and when first; [`report`] all of it as text.
 //!
 //! Contracts say what the numbers are of the lists of what was admitted, sent and discarded.

@@ -1,4 +1,4 @@
-//! What a finished switch tells of its output ports.
+//! What a finished switch says of its output ports.
 
 ghost use Rattle.std.specs.Prelude.{◌≡◌, true, Some};
 ghost use Rattle.afdx_table.specs.Content.{port_row};

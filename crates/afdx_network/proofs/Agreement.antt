@@ -34,7 +34,7 @@ use Rattle.afdx_network.proofs.Rows.{wire_goes_there, rows_have, rows_on_have, r
 use Rattle.afdx_network.proofs.Lengths.{IsFound, found_row}
 use Rattle.afdx_network.proofs.Wired.{wired}
 
--- the laws that this stands on
+-- the laws that this rests on
 pub record Ground : Type 0 where
   pub exact : CleanExactly
   pub links : LinksAreFound

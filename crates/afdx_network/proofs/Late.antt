@@ -208,7 +208,7 @@ module _ (g : Ground) (short : WaysAreShort) (net : Network) (given : Given) (ru
 
 -- ---- what leaves can be read again
 
--- the laws that this stands on, beside those of agreement
+-- the laws that this rests on, beside those of agreement
 pub record Further : Type 0 where
   pub short : WaysAreShort
   pub readable : OutputsAreReadable

@@ -20,7 +20,7 @@ use Rattle.afdx_network.proofs.Lists.{all_weaken, zip_weaken}
 use Rattle.afdx_network.proofs.Clean.{IsOf, passed_clean, comes_to_the_next}
 use Rattle.afdx_network.proofs.Crossing.{same_bytes, hop, Within, at_first, and_a_port, and_a_cable, summed}
 
--- the laws that a way stands on
+-- the laws that a way rests on
 pub record Ground : Type 0 where
   pub exact : CleanExactly
   pub links : LinksAreFound

@@ -24,7 +24,7 @@ use Rattle.afdx_network.proofs.Lists.{all_weaken, all_kept}
 use Rattle.afdx_network.proofs.Texts.{written_at, numbers_rise, read_at, read_early}
 use Rattle.afdx_network.proofs.Leaves.{half, each_left, leave_later, leave_short}
 
--- a record as its text tells it
+-- a record as its text has it
 abbrev again : Entry → Entry
 again r = whole r.stamp r.bytes
 

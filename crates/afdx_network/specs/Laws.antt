@@ -72,7 +72,7 @@ RestIsAgreement = (net : Network) (given : Given) (came next : List (List Text))
 abbrev pub WaysAreShort : Type 0
 WaysAreShort = (net : Network) (r : Row) (backs : List Back) → All IsWellFormed net.tables → Contains (rows_of net) r → IsWayBack net r backs → length backs < length net.tables
 
--- no frame that was given came in the last 64 seconds that pcap can tell
+-- no frame that was given came in the last 64 seconds that pcap can hold
 abbrev pub NoneComesLate : Given → Type 0
 NoneComesLate given = (texts : List Text) (text : Text) (records : List Entry) → Contains given texts → Contains texts text → IsCapture text.1 records
     → All (λ r. r.stamp + 64 * second ≤ last_second) records

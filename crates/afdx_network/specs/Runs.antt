@@ -20,7 +20,7 @@ pub record SwitchRun : Type 0 where
   pub outcome : IsOutcome table texts results
   pub isolated : IsIsolated table texts results
 
--- what left at the start of a wire, as the capture there tells it, comes in at the wire's end, so much later
+-- what left at the start of a wire, as the capture there has it, comes in at the wire's end, so much later
 pub record Brings (left : List Results) (came : List (List Text)) (w : Wire) : Type 0 where
   pub here : Results
   pub there : List Text

@@ -93,7 +93,7 @@ pub fn ways_are_short()
     links_are_found();
 }
 
-/// Where no frame came in the last 64 seconds that a stamp can tell, each capture that a switch puts out can be read
+/// Where no frame came in the last 64 seconds that a stamp can hold, each capture that a switch puts out can be read
 /// again.
 pub fn none_is_late()
     ensures { NoneIsLate }

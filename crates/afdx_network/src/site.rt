@@ -125,7 +125,7 @@ impl Site {
         if self.outcome.is_some() {
             return Ok(());
         }
-        // The table is accepted, so that the law tells of this run what the session tells of one over a checked table.
+        // The table is accepted, so that the law says of this run what the session says of one over a checked table.
         let plan = Plan::Unchecked(table.copy(alloc)?);
         self.outcome = Some(afdx_session::run(alloc, plan, &self.came)?);
         Ok(())

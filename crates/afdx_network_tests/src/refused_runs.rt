@@ -128,7 +128,7 @@ fn refusal_of(alloc: Global, frame: Sample) -> Result<Option<NetworkRunFault>, F
     Ok(run(alloc, &network, given).err())
 }
 
-/// What leaves A ends in the last second that pcap can tell, so that B cannot read it.
+/// What leaves A ends in the last second that pcap can hold, so that B cannot read it.
 #[test]
 fn a_frame_that_is_too_late(rt: HostRuntime) -> Result<(), Fail> {
     let last = Sample {

@@ -1,4 +1,4 @@
--- A reader's place in its bytes, and what it tells of them.
+-- A reader's place in its bytes, and what it says of them.
 use Rattle.std.proofs.Common.{◌≡◌, ℕ, ◌+◌, ◌-◌, ◌<◌, Bool, true, false, List, [], ◌∷◌, ◌++◌, length, drop, Option, Some, None, Result, Ok, Err, sym, ap, subst, ◌∙◌, arith, inl, inr, refl, cond}
 use Rattle.std.proofs.Common.{not, ◌||◌}
 use Rattle.std.proofs.lemmas.List.{length-drop, length-append, drop-append-le, drop-drop, nil_from_length}

@@ -31,7 +31,7 @@ checked_header (Some f) bytes =
     then (if field f.endian 20 4 bytes == 1 then Ok f else Err (LinkType (field f.endian 20 4 bytes)))
     else Err Version
 
--- pcap 2.4: the format that the 24 bytes of a file's header tell, or the first thing that is wrong with them
+-- pcap 2.4: the format that the 24 bytes of a file's header give, or the first thing that is wrong with them
 unfoldable pub header_of : List ℕ → Result Format PcapFault
 header_of bytes =
     if nat_lt (length bytes) 24 then Err NoHeader
@@ -58,7 +58,7 @@ head_of e bytes = record {
   original = field e 12 4 bytes;
 }
 
--- nanoseconds of the stamp that a record's header tells
+-- nanoseconds of the stamp that a record's header gives
 abbrev pub stamp_of : Resolution → Head → ℕ
 stamp_of resolution h = h.seconds * second + h.fraction * nanos resolution
 

@@ -38,7 +38,7 @@ pub enum PcapFault {
     /// P8: the fraction makes a second or more.
     #[error("Fraction")]
     Fraction(usize),
-    /// P9: the stamp lies in the last second that pcap can tell.
+    /// P9: the stamp lies in the last second that pcap can hold.
     #[error("Late")]
     Late(usize),
     /// P10: the stamp is below that of the record before.

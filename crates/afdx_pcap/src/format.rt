@@ -26,7 +26,7 @@ pub enum Resolution {
     Nanos,
 }
 
-/// What a file's magic tells.
+/// What a file's magic says.
 #[derive(Clone, Copy, Debug, PartialEq, Eq)]
 pub struct Format {
     pub endian: Endian,

@@ -14,7 +14,7 @@ use std::alloc::Allocator;
 /// The greatest seconds of a stamp that is read (profile).
 const GREATEST_SECONDS: u32 = 4_294_967_294;
 
-/// The format that a file's header tells.
+/// The format that a file's header names.
 #[tactic(auto, unfolding(crate::specs::Capture::header_of))]
 pub fn read_header(bytes: &[u8]) -> Result<Format, PcapFault>
     ensures header { result ≡ header_of bytes.now }

@@ -89,7 +89,7 @@ impl<'a, A: Allocator> Record<'a, A> {
         self.stamp
     }
 
-    /// The number of bytes that the frame had on the line, as the capture tells it. O(1).
+    /// The number of bytes that the frame had on the line, as the capture says. O(1).
     pub fn original(&self) -> u32
         ensures { result ≡ self.now.original }
     {

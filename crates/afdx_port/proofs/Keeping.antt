@@ -157,7 +157,7 @@ kept_queued {Z} p line admitted x room kept open' at less sound has settings sta
       state = λ _. rw (items', settings) follows;
     }
 
--- the sum of what is on the line and what waits tells whether x fits
+-- whether x fits, by the sum of what is on the line and what waits
 pub fits_kept : {Z : Type 0} (p : Inside Z) (c : Content) (x : Item) → IsKeptPort p → content_of p ≡ c → c.finished ≡ false → c.horizon ≡ x.stamp
     → nat_le (x.size + (on_line (came p.line.settings x) p.line.sent.items + sum_by (λ (other : Item). other.size) (queue_of p.line))) p.line.settings.buffer ≡ fits c.settings c.admitted x
 fits_kept p c x kept view is_open is_at =

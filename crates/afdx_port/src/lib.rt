@@ -41,7 +41,7 @@ pub struct Settings {
 /// A copy of a frame that is offered to a port.
 #[derive(Clone, Copy, Debug, PartialEq, Eq)]
 pub struct Item {
-    /// Tells the frame from all others: each is offered with a greater number than those admitted before it.
+    /// The frame's own number: each is offered with a greater number than those admitted before it.
     pub number: usize,
     /// The instant at which the frame had wholly come.
     pub stamp: Stamp,

@@ -164,7 +164,7 @@ fn each_cut_of_two_frames(rt: HostRuntime) -> Result<(), Fail> {
     each_cut(&rt, alloc, "Session", Way::Session)
 }
 
-/// A record's header that tells 4,294,967,295 captured bytes.
+/// A record's header that says 4,294,967,295 captured bytes.
 const HUGE: [u8; 16] = [
     0, 0, 0, 0, 0, 0, 0, 0, 0xff, 0xff, 0xff, 0xff, 0xff, 0xff, 0xff, 0xff,
 ];
@@ -180,7 +180,7 @@ fn feed<A: Allocator + Copy>(
     reader.feed(piece)
 }
 
-/// A reader that was fed the header and the first bytes of the record's header waits for more, and tells this fault with the
+/// A reader that was fed the header and the first bytes of the record's header waits for more, and answers this fault with the
 /// rest.
 fn reported<A: Allocator + Copy>(
     reader: &mut Reader<'static, A>,

@@ -183,7 +183,7 @@ struct Reported {
     report: String,
 }
 
-/// What a run with ample memory tells.
+/// What a run with ample memory gives.
 fn with_ample_memory(alloc: Global, table: &str, came: &[(u8, Vec<u8>)]) -> Result<Reported, Fail> {
     let outcome = ran(alloc, alloc, alloc, table, came)??;
     let report = outcome.counts.report(alloc)?;

@@ -165,7 +165,7 @@ fn completes<'a>(outcome: &Outcome<&'a Memory>, taken: &[u8], text: &[u8]) -> bo
     }
 }
 
-/// What comes after an end that was refused with this fault: where it is no want of memory, that is wrong.
+/// What comes after an end that was refused with this fault: where it is not out of memory, that is wrong.
 fn after_end<'a>(
     fault: RunFault,
     session: Session<&'a Memory>,

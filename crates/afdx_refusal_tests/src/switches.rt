@@ -51,7 +51,7 @@ fn made_or_again<'a>(
 /// The fate and the first offer, or the fault.
 type Answer = (Option<Fate>, Option<(u8, Offer)>, Option<CoreFault>);
 
-/// What a step tells.
+/// What a step gives.
 fn reported<A: Allocator>(step: &Step<A>) -> Answer {
     (Some(step.fate), step.offers.get(0).copied(), None)
 }

@@ -72,8 +72,8 @@ pub fn one_of_each() -> [Sample; 9] {
     ]
 }
 
-/// The record of a frame; none where its stamp is no stamp or in the last second, where it is too long, and for want of
-/// memory.
+/// The record of a frame; none where its stamp is no stamp or in the last second, where it is too long, and where memory
+/// is out.
 pub fn record<A: Allocator + Copy>(alloc: A, sample: Sample) -> Option<Record<'static, A>>
     ensures { IfSome result (λ frame. frame.stamp < last_second) }
 {

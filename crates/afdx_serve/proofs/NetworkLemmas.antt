@@ -23,7 +23,7 @@ got : (files : Option Files) (path : List ℕ) (before after : DeviceLog) → Fa
 got files path before after (inl h) = h
 got files path before after (inr h) = h.2
 
--- it is not got for want of memory or of a file, or because it is refused
+-- it is not got where memory or a file is missing, or where it is refused
 pub of_lost : (P : Failure → Type 0) (files : Option Files) (path : List ℕ) (before after : DeviceLog) → P failure.Memory
     → ((e : NetworkFailure) → FailsToGetNetwork (failure.Network e) files path before after → P (failure.Network e))
     → ((name : String Global) → FailsToGetNetwork (failure.Get name) files path before after → P (failure.Get name))

@@ -141,7 +141,7 @@ impl OneFrame {
     }
 }
 
-/// A call of the folder that fails: its number, from 1, how it fails, the name that the folder then tells, and the program's line.
+/// A call of the folder that fails: its number, from 1, how it fails, the name that the folder then gives, and the program's line.
 #[derive(Clone, Copy)]
 pub(crate) struct Broken<'a> {
     pub(crate) call: u64,
@@ -151,7 +151,7 @@ pub(crate) struct Broken<'a> {
 }
 
 impl Broken<'_> {
-    /// Whether the folder was given no call after that one, and tells this name.
+    /// Whether the folder was given no call after that one, and gives this name.
     fn is_of(&self, folder: &MemoryFolder<Global>) -> bool {
         folder.calls() == self.call && folder.last_failure() == self.name
     }

@@ -55,7 +55,7 @@ fn has_put(folder: &MemoryFolder<Global>, at_a: &[u8], at_b: &[u8]) -> bool {
         && folder.bytes("out/B/port-2.pcap") == Some(at_b)
 }
 
-/// Whether a run over a frame at port 1 of A tells the reports, and puts these frames at ports 2 of A and of B.
+/// Whether a run over a frame at port 1 of A prints the reports, and puts these frames at ports 2 of A and of B.
 fn puts(alloc: Global, came: Sample, at_a: Sample, at_b: Sample) -> Result<bool, AllocError> {
     let first = capture(alloc, &[at_a])?;
     let second = capture(alloc, &[at_b])?;

@@ -106,7 +106,7 @@ fn is_reported(got: &Served, status: u8, line: &str, put: bool) -> bool {
 }
 
 /// Whether the run of one frame, at a port that is short of room, has this status and this line after so many calls of the folder,
-/// and puts captures and tells something or does neither.
+/// and puts captures and prints something or does neither.
 fn runs_short_of_room(
     run: &OneFrame,
     alloc: Global,

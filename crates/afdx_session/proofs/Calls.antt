@@ -60,7 +60,7 @@ pub machine_no_back : {Z : Type 0} (mid : Machine Z) (limit : Option (ℕ × ℕ
 machine_no_back mid limit to going is to_is lt =
     no_going_back mid.switch.run.table mid.lanes.items mid.switch mid.counts to going (to_is ∙ ap (λ o. come_to (option_map (λ (p : ℕ × ℕ). p.0) o)) is) lt
 
--- what a call's answer tells
+-- what a call's answer says
 pub ok_reported : {T E : Type 0} (r : Result T E) (P : Type 0) → is_err r ≡ false → OnOk r P → P
 ok_reported (Ok x) P reported holds = holds
 ok_reported (Err e) P reported holds = absurd cc

@@ -51,7 +51,7 @@ same_both a b c one two = record { table = two.table ∙ one.table; accepted = t
 
 -- ---- one round
 
--- where the first goes within what tells the same as the limit, it goes within the limit
+-- where the first goes within what says the same as the limit, it goes within the limit
 goes_as_limit : {Z : Type 0} (limit : Option (ℕ × ℕ)) (lanes new : List (Lane Z)) (port : ℕ) (frame : Entry) → IsLimit limit lanes → Goes limit lanes new port frame
     → Goes (limit_at lanes) lanes new port frame
 goes_as_limit {Z = Z} limit lanes new port frame is goes = record {

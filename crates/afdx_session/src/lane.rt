@@ -23,7 +23,7 @@ use std::mem;
 
 /// A port's capture as far as it has come, and its output as far as it was not taken.
 ///
-/// `undone`, `closed`, `ready` and `taken` tell of the calls that answered Ok: what a call that failed has
+/// `undone`, `closed`, `ready` and `taken` speak of the calls that answered Ok: what a call that failed has
 /// changed besides does not count.
 #[derive(Drop)]
 pub(crate) struct Lane<'a, A: Allocator> {

@@ -129,7 +129,7 @@ pub fn takes_join_to_the_output()
     whole_records_stay();
 }
 
-/// Whatever is sent starts before the last instant that a stamp can tell.
+/// Whatever is sent starts before the last instant that a stamp can hold.
 pub fn all_start_before_the_last_instant()
     ensures { AllStartBeforeTheLastInstant }
 {
@@ -138,7 +138,7 @@ pub fn all_start_before_the_last_instant()
     verdicts_name_links();
 }
 
-/// What leaves can be read again, where no frame came in the last two seconds that a stamp can tell.
+/// What leaves can be read again, where no frame came in the last two seconds that a stamp can hold.
 pub fn outputs_are_readable()
     ensures { OutputsAreReadable }
 {

@@ -63,7 +63,7 @@ fn out_of_memory(fault: CoreFault) -> AllocError
     }
 }
 
-/// The last instant that a stamp can tell: whatever is sent starts before it.
+/// The last instant that a stamp can hold: whatever is sent starts before it.
 fn last_instant() -> Stamp
     ensures { result ≡ 4294967295999999999 }
 {

@@ -24,7 +24,7 @@ fn tell(alloc: Global, outcome: Outcome<Global>) -> Result<Reported, AllocError>
     Ok(Reported { captures, report })
 }
 
-/// What a run over these whole captures tells.
+/// What a run over these whole captures gives.
 pub(crate) fn whole(
     alloc: Global,
     setting: Setting,
@@ -67,7 +67,7 @@ pub(crate) fn finish(
     session.finish()
 }
 
-/// What the end of a session tells, where it has an outcome.
+/// What the end of a session gives, where it has an outcome.
 pub(crate) fn rest(alloc: Global, session: Session<Global>) -> Option<Reported> {
     match finish(session) {
         Ok(outcome) => tell(alloc, outcome).ok(),
@@ -206,7 +206,7 @@ fn is_joined(taken: &[u8], rest: &[u8], text: &[u8]) -> bool {
     text.len() == taken.len() + rest.len() && text.starts_with(taken) && text.ends_with(rest)
 }
 
-/// Whether what was taken of each port, and then what the end tells, is what the whole run tells.
+/// Whether what was taken of each port, and then what the end gives, is what the whole run gives.
 pub(crate) fn agree(intakes: &[Intake<'_>], rest: &Reported, whole: &Reported) -> bool {
     if rest.captures.len() != intakes.len() || whole.captures.len() != intakes.len() {
         return false;

@@ -34,7 +34,7 @@ fn are_those_of(
     Ok(true)
 }
 
-/// Whether the run that is over tells the same counts as the whole one.
+/// Whether the run that is over gives the same counts as the whole one.
 fn counts_as(
     alloc: Global,
     rest: &Carried<'_, Global>,

@@ -410,7 +410,7 @@ pub(crate) const POLICED: &[Row] = &[
 pub(crate) const TOO_MANY: &[(&str, usize, usize, &str, TableFault)] = &[
     ("", 25, 0, "", TableFault::TooMany(Key::Port)),
     ("", 0, 4097, "", TableFault::TooMany(Key::Link)),
-    // two faults at once: the earlier stands
+    // two faults at once: the earlier is named
     ("", 25, 4097, "", TableFault::TooMany(Key::Port)),
     (
         "link = 1\n",

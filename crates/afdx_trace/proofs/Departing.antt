@@ -108,7 +108,7 @@ one_sent port s all (sending y ∷ events) x sent aged number start text longer 
       (is ∙ ap (λ (xs : List Sent). text ++ sent_line port s (number + 1) (get_or xs 0 x)) (sym sent_is));
 }
 
--- what the lists tell of the events
+-- what the lists say of the events
 reported : (port : ℕ) (s : Settings) (all : List Event) (sent : List Sent) (aged : List Aged) (number : ℕ) (start text : List ℕ) (l : Left port s all sent aged number start text)
     → ages_next sent aged ≡ starts_aged l.events
 reported port s all sent aged number start text l = sym (ap (λ (xs : List Sent). ages_next xs aged) l.sent_is) ∙ sym (ap (ages_next (sent_of l.events)) l.aged_is) ∙ tells_next l.events l.order

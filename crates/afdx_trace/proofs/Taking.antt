@@ -19,7 +19,7 @@ use Rattle.afdx_trace.specs.Inner.Taken.{flag_at, unflagged, AreTaken}
 abbrev pub AreTakenBelow : Run → ℕ → List (List Bool) → Type 0
 AreTakenBelow r ports flags = (port number : ℕ) → port < ports → number < length r.rows → flag_at flags port number ≡ took r port number
 
--- what a port sent and discarded tells what it took
+-- what a port took, by what it sent and discarded
 pub took_is : (r : Run) (port number : ℕ) (sent : List Sent) (aged : List Aged) → sent ≡ sent_in r (port_row r.table port) → aged ≡ aged_in r (port_row r.table port)
     → (list_any (λ (x : Sent). x.item.number == number) sent || list_any (λ (x : Aged). x.item.number == number) aged) ≡ took r port number
 took_is r port number sent aged sent_is aged_is = rw (sent_is, aged_is) refl

@@ -55,7 +55,7 @@ abbrev pub full_in : Run → Option Link → List Row → Row → List ℕ
 full_in r None before row = []
 full_in r (Some l) before row = if passes l before row then refusing r (length before) l.to else []
 
--- the fields that tell what became of an arrival
+-- the fields that say what became of an arrival
 abbrev pub fate_fields : Run → List Row → Row → List (List ℕ)
 fate_fields r before row =
     let link = named r.table row.verdict in

@@ -11,11 +11,11 @@ second = 1000000000
 abbrev pub stamp_end : ℕ
 stamp_end = 4294967296000000000
 
--- profile: the last second that pcap can tell begins here; it is written, and never read
+-- profile: the last second that pcap can hold begins here; it is written, and never read
 abbrev pub last_second : ℕ
 last_second = 4294967295000000000
 
--- an instant that pcap can tell
+-- an instant that pcap can hold
 abbrev pub IsInstant : ℕ → Type 0
 IsInstant ns = ns < stamp_end
 

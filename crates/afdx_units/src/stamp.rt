@@ -7,13 +7,13 @@ use std::marker::Model;
 
 const NANOS_PER_SECOND: u64 = 1_000_000_000;
 
-/// The first instant that 32 bits of seconds cannot tell, in nanoseconds.
+/// The first instant that 32 bits of seconds cannot hold, in nanoseconds.
 const END: u64 = 4_294_967_296 * NANOS_PER_SECOND;
 
 /// The start of the last second, in nanoseconds.
 const LAST_SECOND: u64 = 4_294_967_295 * NANOS_PER_SECOND;
 
-/// An instant as pcap 2.4 tells it: nanoseconds from the start of 1970, whose whole seconds fit 32 bits.
+/// An instant as pcap 2.4 holds it: nanoseconds from the start of 1970, whose whole seconds fit 32 bits.
 ///
 /// Contracts see it as its number of nanoseconds, which is below `2^32 * 10^9`.
 #[derive(Clone, Copy, Debug, PartialEq, Eq, PartialOrd, Ord)]

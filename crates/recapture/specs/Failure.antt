@@ -1,4 +1,4 @@
--- What a failure tells of the input and the output.
+-- What a failure says of the input and the output.
 use Rattle.std.specs.Prelude.{◌≢◌, ℕ, List, Option, IfSome, ⊤}
 use Rattle.std.specs.Io.KnownBytes.{Keeps}
 use Rattle.afdx_pcap.specs.declared.fault.PcapFault.TheVariants.{Memory}

@@ -1,4 +1,4 @@
--- The laws of accounts and of captures on which the policing of a capture stands.
+-- The laws of accounts and of captures on which the policing of a capture rests.
 use Rattle.std.specs.Prelude.{◌≡◌, ◌≤◌, List, [], ◌∷◌, ◌++◌, true}
 use Rattle.afdx_account.specs.Inner.Laws.{NextJoinsWhereItConforms, PassedByTheirFrames}
 use Rattle.afdx_pcap.specs.Entry.{Entry}

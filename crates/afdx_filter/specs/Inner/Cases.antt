@@ -1,4 +1,4 @@
--- When each verdict stands: its own case holds, and none of those before it does.
+-- When each verdict is given: its own case holds, and none of those before it does.
 use Rattle.std.specs.Prelude.{◌≡◌, ◌≢◌, ◌↔◌, ℕ, ◌<◌, length, Some, None}
 use Rattle.afdx_units.specs.Line.{size_of}
 use Rattle.afdx_pcap.specs.Entry.{Entry}

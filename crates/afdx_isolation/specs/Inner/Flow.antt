@@ -8,8 +8,8 @@ use Rattle.afdx_port.specs.declared.Settings.{Settings}
 use Rattle.afdx_port.specs.Service.{is_high}
 use Rattle.afdx_load.specs.Sums.{parts}
 
--- a virtual link as an output port sees it: the terms by which it is policed, the line time that a unit of them stands
--- for on this port's line, in parts of a nanosecond, and its largest frame in bytes
+-- a virtual link as an output port sees it: the terms by which it is policed, the line time that a unit of them
+-- stands for on this port's line, in parts of a nanosecond, and its largest frame in bytes
 pub record Flow : Type 0 where
   pub id : ℕ
   pub terms : Terms

@@ -1,4 +1,4 @@
--- The laws of the accounts and of the port on which the laws of this crate stand.
+-- The laws of the accounts and of the port on which the laws of this crate rest.
 use Rattle.afdx_account.specs.Inner.Laws.{NextFrameJoinsWhereItConforms, PassedByTheirFrames, HeadroomIsCredited, HeadroomDecides, HeadroomIsDebited}
 use Rattle.afdx_port.specs.declared.Item.{Item}
 use Rattle.afdx_port.specs.Admission.{EarlierEventsStay}

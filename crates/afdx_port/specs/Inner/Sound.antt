@@ -15,7 +15,7 @@ IsSmall item = (item.stamp < last_second) × (item.size ≤ 1518)
 abbrev pub queue_of : {Z : Type 0} → Line Z → List Item
 queue_of line = line_of line.waiting
 
--- the settings are in their limits, what waits is small and within the buffer, and its next start is an instant that pcap can tell
+-- the settings are in their limits, what waits is small and within the buffer, and its next start is an instant that pcap can hold
 pub record IsSound {Z : Type 0} (line : Line Z) : Type 0 where
   pub delay : line.settings.max_delay ≤ 500000000
   pub latency : line.settings.latency ≤ 100000

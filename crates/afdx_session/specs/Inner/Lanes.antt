@@ -154,7 +154,7 @@ pub record NoneGoes {Z : Type 0} (limit : Option (ℕ × ℕ)) (old : List (Lane
   pub is : IsFirstOf old first
   pub past : (place stamp : ℕ) (lane : Lane Z) → first ≡ Some (place, stamp) → slice_get old place ≡ Some lane → IsWithinPlace limit stamp lane.port → ⊥
 
--- it tells of the first of what waits the same as the least place that a lane that has not ended has come to
+-- it says of the first of what waits the same as the least place that a lane that has not ended has come to
 abbrev pub IsLimit : {Z : Type 0} → Option (ℕ × ℕ) → List (Lane Z) → Type 0
 IsLimit {Z} limit lanes = (place stamp : ℕ) (lane : Lane Z) → IsFirstUpTo lanes (length lanes) place stamp → slice_get lanes place ≡ Some lane
     → IsWithinPlace limit stamp lane.port ↔ IsWithinPlace (limit_at lanes) stamp lane.port

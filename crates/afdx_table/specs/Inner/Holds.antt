@@ -72,7 +72,7 @@ abbrev pub priority_text : Priority → List ℕ
 priority_text High = codes "high"
 priority_text Low = codes "low"
 
--- the port that these members tell, whose delay is written in microseconds and kept in nanoseconds
+-- the port that these members give, whose delay is written in microseconds and kept in nanoseconds
 pub record IsPortOf (version : ℕ) (ms : Members) (p : PortRow) : Type 0 where
   pub id : HasNumber ms key.Id p.id
   pub speed : HasNumber ms key.Mbit (mbit_of p.speed)
@@ -90,7 +90,7 @@ police_text Frame = codes "frame"
 abbrev pub HasPolice : Members → Police → Type 0
 HasPolice ms police = (HasNone ms key.Police × (police ≡ Byte)) ⊎ HasText ms key.Police (police_text police)
 
--- the link that these members tell, whose jitter is written in microseconds and kept in nanoseconds
+-- the link that these members give, whose jitter is written in microseconds and kept in nanoseconds
 pub record IsLinkOf (version : ℕ) (ms : Members) (l : Link) : Type 0 where
   pub id : HasNumber ms key.Id l.id
   pub from : HasNumber ms key.From l.from
