@@ -3,7 +3,8 @@
 //! `afdx alone` reads a capture of one ingress port on standard input and writes the capture of the
 //! frames that the account of one virtual link passes. `afdx check` and `afdx size` say of a configuration table whether its
 //! ports can give what the links ask for. `afdx run` gets a table and one capture for each port, and puts one capture for
-//! each port.
+//! each port; `afdx measure` says of such a run how long frames took and how full buffers were, `afdx trace` what became
+//! of each frame and copy. `afdx network` checks a network of switches, finds its jitters and runs it.
 #![tactic(auto)]
 
 use afdx_devices::Disk;

@@ -87,6 +87,7 @@ impl Meter for ByteAccount {
     }
 
     fn weight(&self, speed: Speed) -> u64 {
+        // 21/16 of a tick covers a byte and its part of the overhead; a nanosecond is 16 * 128,000,000 parts.
         21 * speed.tick() * (128 / self.bag.ms())
     }
 

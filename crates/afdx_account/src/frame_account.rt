@@ -83,6 +83,7 @@ impl Meter for FrameAccount {
     }
 
     fn weight(&self, speed: Speed) -> u64 {
+        // A frame costs the line time of the link's longest; a nanosecond is 16 * 128,000,000 parts.
         16 * cost(speed, self.max_size) * (128 / self.bag.ms())
     }
 

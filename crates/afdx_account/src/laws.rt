@@ -40,12 +40,12 @@ pub fn headroom_is_a_level()
     ensures debited { HeadroomIsDebited }
 {}
 
-/// What a frame costs in bytes pays for its line time, at both speeds.
+/// What a frame costs in bytes pays for its line time, at each speed.
 pub fn byte_prices_pay()
     ensures { BytePricesPay }
 {}
 
-/// What a frame costs by frames pays for its line time, at both speeds, where it is no longer than the link allows.
+/// What a frame costs by frames pays for its line time, at each speed, where it is no longer than the link allows.
 pub fn frame_prices_pay()
     ensures { FramePricesPay }
 {}

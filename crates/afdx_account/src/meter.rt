@@ -62,7 +62,7 @@ pub trait Meter {
         ensures weight { weight_of self.new ≡ weight_of self.old }
         ensures greatest { greatest self.new ≡ greatest self.old }
 
-        // A frame of the link that is passed adds its line time to a port's work, and the level gives up at least as much.
+        // A frame of the link that is passed adds its line time to a port's work, and the level falls by at least as much.
         ensures paid { IsTrue result → (speed : Speed) → 64 ≤ size → size ≤ greatest self.old
             → 2048000000 * cost_of speed size + weight_of self.new speed * level self.new at ≤ weight_of self.old speed * level self.old at }
 

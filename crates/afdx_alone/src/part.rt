@@ -19,7 +19,7 @@ const LONGEST: usize = 16 + 262_144;
 
 /// What was not written so far of a capture. Contracts see its bytes.
 ///
-/// It is not full, and there is room for one more record, so that a write is never followed by a refused growth.
+/// It is not full, and there is room for one more record, so that memory never runs out after a write.
 #[derive(Drop)]
 pub struct Part<A: Allocator> {
     bytes: Vec<u8, A>,

@@ -32,7 +32,7 @@ use thiserror::Error;
 /// Why there is no answer. Each message is its variant's name.
 #[derive(Clone, Copy, Debug, PartialEq, Eq, Error)]
 pub enum AloneFault {
-    /// A growth was refused.
+    /// Out of memory.
     #[error("Memory")]
     Memory,
     /// The input is no capture, and this is its first fault.
@@ -92,7 +92,7 @@ fn ground<A: Allocator>()
 ///
 /// # Errors
 ///
-/// `Capture` with the first fault of an input that is no capture; `Memory` where a growth was refused.
+/// `Capture` with the first fault of an input that is no capture; `Memory` where memory ran out.
 ///
 /// One pass; a frame's bytes are copied once, into the answer, where it passes. O(frames + bytes of the answer).
 pub fn alone<A: Allocator + Copy>(

@@ -198,8 +198,10 @@ fn parse_other<'a>(alloc: Global, arguments: &'a [String]) -> Result<Request<'a>
 ///
 /// # Errors
 ///
-/// `Help` with its text where `clap` is asked for help or the version; `Memory` where a growth was refused; `Usage` where `clap` refuses
+/// `Help` with its text where `clap` is asked for help or the version; `Memory` where memory ran out; `Usage` where `clap` refuses
 /// the arguments for another cause, an option's number is out of its limits, or IN or OUT is empty.
+///
+/// O(arguments).
 pub fn parse<'a>(alloc: Global, arguments: &'a [String]) -> Result<Request<'a>, NoRequest>
     ensures { Reads (map string_bytes arguments.entry.now) result }
 {

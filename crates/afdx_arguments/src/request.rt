@@ -74,6 +74,6 @@ pub enum NoRequest {
     Help(String),
     /// They are refused.
     Usage,
-    /// A growth was refused.
+    /// Out of memory.
     Memory,
 }

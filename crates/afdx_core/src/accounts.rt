@@ -12,7 +12,7 @@ use std::alloc::{AllocError, Allocator};
 
 /// The accounts of a table's links by their places, all full.
 ///
-/// An error says that a growth was refused. O(links).
+/// An error says that memory ran out. O(links).
 pub fn accounts_of<A: Allocator + Copy>(
     alloc: A,
     table: &Table,
@@ -27,7 +27,7 @@ pub fn accounts_of<A: Allocator + Copy>(
     Ok(accounts)
 }
 
-/// Offers the frame of a row to the account at a place. O(1).
+/// Offers the frame of a row to the account at a place, and answers whether it is passed. O(1).
 pub fn police(accounts: &mut [Account], place: usize, row: &Row) -> bool
     requires place { place < length accounts.old }
     requires in_order { (a : Account) → account_since (slice_index_or accounts.old place a) ≤ row.now.stamp }

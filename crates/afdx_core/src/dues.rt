@@ -7,7 +7,7 @@ ghost use Rattle.afdx_core.specs.Dues.{due_of, IsFirstBefore};
 use afdx_units::Stamp;
 use std::marker::Model;
 
-/// So many places have a leaf of the tree.
+/// Leaves of the tree: the least power of two that is no less than 24 places.
 const LEAVES: usize = 32;
 
 /// What is there where nothing is due: later than all instants.

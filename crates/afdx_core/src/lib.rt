@@ -1,7 +1,8 @@
 //! The switch over any merge of arrivals (ARINC 664 Part 7: filtering, policing and switching of frames).
 //!
-//! One event is the arrival of one record at one port. Each output port first carries out its starts
-//! before the record's stamp; then the frame is filtered, policed and offered to its link's ports.
+//! One event is the arrival of one record at one port. Each output port first carries out its starts before
+//! the instant that the record's stamp reaches, one latency later; then the frame is filtered, policed and
+//! offered to its link's ports.
 //! Arrivals may come in any order whose stamps do not fall, so contracts hold for every merge of the
 //! ports' records, ties in any order.
 //!

@@ -10,7 +10,7 @@ use thiserror::Error;
 /// Why an arrival or an advance was refused. Each message is its variant's name.
 #[derive(Clone, Copy, Debug, PartialEq, Eq, Error)]
 pub enum CoreFault {
-    /// Memory refused a growth.
+    /// Out of memory.
     #[error("Memory")]
     Memory,
     /// The stamp is below that of an earlier arrival or advance.

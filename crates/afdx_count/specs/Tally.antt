@@ -1,4 +1,4 @@
--- The counters of a table's ports and links, and what the calls add to them.
+-- The counters of a table's ports and links, and what the calls add to them (profile).
 use Rattle.std.specs.Prelude.{ℕ, ◌==◌, List, map, find, Option, Some, None, option_map, if◌then◌else◌}
 use Rattle.afdx_units.specs.declared.line.Priority.{Priority}
 use Rattle.afdx_units.specs.declared.line.Priority.TheVariants.{High, Low}

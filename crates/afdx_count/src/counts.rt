@@ -34,7 +34,7 @@ impl<A: Allocator> Model for Counts<A> {
 impl<A: Allocator + Copy> Counts<A> {
     /// Counters of all ports and links of a table, at 0.
     ///
-    /// An error says that a growth was refused. O(ports + links).
+    /// An error says that memory ran out. O(ports + links).
     pub fn new(alloc: A, table: &Table) -> Result<Self, AllocError>
         ensures { IfOk result (λ counts. counts ≡ fresh table.now) }
     {
@@ -92,7 +92,7 @@ impl<A: Allocator + Copy> Counts<A> {
     /// The report: for each port by rising number a line of its arrivals, for each link in the file's order a line of its
     /// clean frames, then for each port by rising number a line of its high copies and one of its low ones.
     ///
-    /// An error says that a growth was refused. O(ports + links).
+    /// An error says that memory ran out. O(ports + links).
     pub fn report<B: Allocator + Copy>(&self, alloc: B) -> Result<String<B>, AllocError>
         ensures { IfOk result (λ text. string_bytes text ≡ report_of self.now) }
     {

@@ -10,7 +10,7 @@ use thiserror::Error;
 /// Why a file was not got or put. Each message is its variant's name.
 #[derive(Clone, Copy, Debug, PartialEq, Eq, Error)]
 pub enum FolderFault {
-    /// A growth was refused.
+    /// Out of memory.
     #[error("Memory")]
     Memory,
     /// The folder failed; a file that is not there is such a failure.
@@ -62,7 +62,9 @@ pub trait Folder {
     ///
     /// # Errors
     ///
-    /// `Memory` where a growth was refused; `Device`, counted, where the folder failed or has no such file.
+    /// `Memory` where memory ran out; `Device`, counted, where the folder failed or has no such file.
+    ///
+    /// O(bytes of the file).
     fn get<A: Allocator + Copy>(&mut self, alloc: A, name: &str) -> Result<Vec<u8, A>, FolderFault>
         ensures bytes { IfOk result (λ v. Shows (files self.old) name.now v.items) }
         ensures same { KeepsFiles (files self.old) (files self.new) }
@@ -72,7 +74,9 @@ pub trait Folder {
     ///
     /// # Errors
     ///
-    /// `Memory` where a growth was refused; `Device`, counted, where the folder failed.
+    /// `Memory` where memory ran out; `Device`, counted, where the folder failed.
+    ///
+    /// O(bytes).
     fn put<A: Allocator + Copy>(
         &mut self,
         alloc: A,
@@ -83,7 +87,7 @@ pub trait Folder {
         ensures others { KeepsOthers (files self.old) (files self.new) name.now }
         ensures cause { HasCause name.now (failed self.old) (failed self.new) result };
 
-    /// The count of failures, which stays at its greatest value.
+    /// The count of failures, which stays at its greatest value. O(1).
     fn failures(&self) -> u64
         ensures { result ≡ (failed self.now).count };
 }

@@ -16,7 +16,7 @@ const CHUNK: usize = 65_536;
 /// Why input was not read to its end.
 #[derive(Clone, Copy, Debug, PartialEq, Eq)]
 pub enum InputFault {
-    /// A growth was refused.
+    /// Out of memory.
     Memory,
     /// A read failed, or all turns were used up.
     Device,
@@ -73,7 +73,7 @@ fn read_turns<R: Read, A: Allocator + Copy>(
 ///
 /// # Errors
 ///
-/// `Device` where a read fails or all reads are used up; `Memory` where a growth was refused. Some of the input may then have
+/// `Device` where a read fails or all reads are used up; `Memory` where memory ran out. Some of the input may then have
 /// been read.
 ///
 /// O(input).

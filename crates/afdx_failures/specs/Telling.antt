@@ -1,4 +1,4 @@
--- The line and the status of any failure.
+-- The line and the status of any failure (profile).
 use Rattle.std.specs.Prelude.{◌≡◌, ◌⊎◌, ℕ, codes, List, ◌++◌, Some, None, string_bytes}
 use Rattle.afdx_failures.specs.declared.failure.Failure.{Failure}
 use Rattle.afdx_failures.specs.declared.failure.Failure.TheVariants as failure

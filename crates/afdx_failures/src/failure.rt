@@ -46,7 +46,7 @@ pub enum Failure {
     /// The output failed, was interrupted or took nothing.
     #[error("Write")]
     Write,
-    /// A growth was refused.
+    /// Out of memory.
     #[error("Memory")]
     Memory,
 }

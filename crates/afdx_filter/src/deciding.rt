@@ -16,7 +16,7 @@ use std::alloc::Allocator;
 
 /// The verdict on a frame that arrives at a port, the link that it names, and where that link is in the table.
 ///
-/// One look-up gives both, so that what handles a clean frame needs no second one.
+/// One look-up gives all three, so that what handles a clean frame needs no second one.
 #[derive(Clone, Copy, Debug, PartialEq, Eq)]
 pub struct Judged {
     /// The first case of [`Verdict`] that holds.

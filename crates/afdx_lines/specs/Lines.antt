@@ -1,4 +1,4 @@
--- The lines of faults, and the status of a network's.
+-- The lines of faults, and the status of a network's (profile).
 use Rattle.std.specs.Prelude.{ℕ, codes, List, [], ◌∷◌, ◌++◌, Option, Some, None, option_map, string_bytes}
 use Rattle.std.specs.Fmt.{decimal}
 use Rattle.afdx_pcap.specs.declared.fault.PcapFault.{PcapFault}

@@ -70,7 +70,7 @@ pub(crate) fn capture_text(
 
 /// The line of a fault of a capture, which is a port's or not.
 ///
-/// An error says that a growth was refused. O(line).
+/// An error says that memory ran out. O(line).
 pub fn capture_line(alloc: Global, port: Option<u8>, fault: PcapFault) -> Result<String, AllocError>
     ensures { IfOk result (λ line. string_bytes line ≡ capture_line port fault) }
 {

@@ -32,7 +32,7 @@ pub(crate) fn load_fault_text(alloc: Global, fault: LoadFault) -> Result<String,
 
 /// The line of a rule that is broken.
 ///
-/// An error says that a growth was refused. O(line).
+/// An error says that memory ran out. O(line).
 pub fn load_line(alloc: Global, fault: LoadFault) -> Result<String, AllocError>
     ensures { IfOk result (λ line. string_bytes line ≡ load_line fault) }
 {

@@ -159,7 +159,7 @@ fn network_failure_text(alloc: Global, failure: &NetworkFailure) -> Result<Strin
 
 /// The line of a failure, with the name of its switch where it is of one.
 ///
-/// An error says that a growth was refused. O(line).
+/// An error says that memory ran out. O(line).
 pub fn network_failure_line(alloc: Global, failure: &NetworkFailure) -> Result<String, AllocError>
     ensures { IfOk result (λ line. string_bytes line ≡ network_failure_line failure.now) }
 {

@@ -53,7 +53,7 @@ pub(crate) fn table_text(alloc: Global, refusal: TableFault) -> Result<String, A
 
 /// The line of a table's refusal.
 ///
-/// An error says that a growth was refused. O(line).
+/// An error says that memory ran out. O(line).
 pub fn table_line(alloc: Global, refusal: TableFault) -> Result<String, AllocError>
     ensures { IfOk result (λ line. string_bytes line ≡ table_line refusal) }
 {

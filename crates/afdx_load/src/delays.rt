@@ -6,6 +6,6 @@
 pub struct Bounds {
     /// Of high frames; none where no high link leads to the port.
     pub high: Option<u128>,
-    /// Of low frames; none where no low link leads to the port, or the high links ask for the whole line.
+    /// Of low frames; none where no low link leads to the port, or the high links ask for the whole line or more.
     pub low: Option<u128>,
 }

@@ -8,7 +8,7 @@ use crate::sums::Load;
 use afdx_table::Table;
 use std::marker::Model;
 
-/// The greatest number of a port, and one.
+/// One more than the greatest number of a port, so that each number is a place.
 pub(crate) const SLOTS: usize = 25;
 
 /// The loads of all ports of a table. [`loads`](crate::loads) makes it.

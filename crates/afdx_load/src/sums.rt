@@ -10,7 +10,7 @@ use afdx_table::LinkRow;
 use afdx_units::{Priority, Speed};
 use std::marker::Model;
 
-/// The load of a port: what its links may ask of its line. [`load`](crate::load) makes it.
+/// The load of a port: what its links may ask of its line. [`load`](crate::load) makes it. Each reader is O(1).
 #[derive(Clone, Copy, Debug, PartialEq, Eq)]
 pub struct Load {
     highs: u32,

@@ -71,7 +71,7 @@ fn delay_of(sent: &Sent) -> u64
 
 /// The delays of each link's copies among what a port sent, by the links' numbers, from 0 to 65,535.
 ///
-/// An error says that a growth was refused. O(sent copies), and 2 MiB.
+/// An error says that memory ran out. O(sent copies), and 2 MiB.
 pub fn delays_by_link<A: Allocator + Copy>(
     alloc: A,
     sent: &[Sent],

@@ -47,7 +47,7 @@ fn put_line<A: Allocator + Copy>(
 
 /// Appends the line of a link at a port, whose bound for the link's priority is this, where one is promised.
 ///
-/// An error says that a growth was refused; the text is then of no use.
+/// An error says that memory ran out; the text is then of no use. O(line).
 pub fn put_link_line<A: Allocator + Copy>(
     text: &mut String<A>,
     link: u16,
@@ -79,7 +79,7 @@ pub fn put_link_line<A: Allocator + Copy>(
 
 /// Appends the line of a port with a buffer of so many bytes.
 ///
-/// An error says that a growth was refused; the text is then of no use.
+/// An error says that memory ran out; the text is then of no use. O(line).
 pub fn put_peak_line<A: Allocator + Copy>(
     text: &mut String<A>,
     port: u8,

@@ -139,7 +139,7 @@ fn put_ports<A: Allocator + Copy>(
 /// What is reported of a finished switch: a line for each link and each of its output ports, then a line for each port.
 /// Bounds are reported where they are promised: where the table was checked, and accepted.
 ///
-/// An error says that a growth was refused. O(copies) and O(ports) for each line; 2 MiB for each port.
+/// An error says that memory ran out. O(copies) and O(ports) for each line; 2 MiB for each port.
 pub fn report<A: Allocator + Copy>(
     alloc: A,
     done: &Done<'_, A>,

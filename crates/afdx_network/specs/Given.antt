@@ -63,7 +63,7 @@ pub record IsWired (net : Network) (switch port : ℕ) : Type 0 where
   pub wire_is : wire_to net (record { switch = switch; port = port }) ≡ Some wire
 
 -- why there is no run: what is given is not for the ports without a wire; a given text is no capture, or all are and what comes over
--- a wire is none; the wires do not agree. A growth may be refused at any time after the first
+-- a wire is none; the wires do not agree. Memory may run out at any time after the first
 abbrev pub IsRefusal : Network → Given → NetworkRunFault → Type 0
 IsRefusal net given fault.Memory = AreGiven net given
 IsRefusal net given (fault.WrongPorts switch) = IsFirstUngiven net given switch

@@ -10,7 +10,7 @@ use std::alloc::{AllocError, AllocFailed};
 /// Why there is no run of a network. A switch is named by its place in the network file, from 0.
 #[derive(Clone, Copy, Debug, PartialEq, Eq)]
 pub enum NetworkRunFault {
-    /// A growth was refused.
+    /// Out of memory.
     Memory,
     /// The captures that are given for a switch are not exactly those of its ports without a wire, by rising number.
     WrongPorts(usize),

@@ -1,5 +1,7 @@
 //! A network of switches: delivery and delay from end to end.
 //!
+//! [`run`] runs each switch over captures that agree with the wires.
+//!
 //! `specs/Way.antt` says what is delivered at the end of a link's way, over the headline of each switch on it;
 //! `specs/Runs.antt` what a run of a network is, `specs/Ways.antt` which ways it has. The module `laws` says that each of
 //! them delivers.

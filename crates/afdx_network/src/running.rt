@@ -32,7 +32,7 @@ const MAX_ROUNDS: usize = 64;
 ///   comes over a wire and cannot be read, in the order in which the switches run.
 /// - `Unsettled` where the wires do not agree after 64 rounds.
 ///
-/// `Memory` where a growth was refused, before anything that comes after `WrongPorts`.
+/// `Memory` where memory ran out, before anything that comes after `WrongPorts`.
 ///
 /// A switch's run for each time that what comes in there changes, once in a network without a ring; O(bytes) of what the
 /// wires bring, twice for each round; all captures are kept.

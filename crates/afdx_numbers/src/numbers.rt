@@ -73,7 +73,7 @@ impl<A: Allocator + Copy> Numbers<A> {
         Ok(Numbers { list, places })
     }
 
-    /// Adds a new number at the end. An error says that a growth was refused; the list is as before then.
+    /// Adds a new number at the end. An error says that memory ran out; the list is as before then.
     ///
     /// O(1) on average over as many calls as the greatest number.
     pub fn push(&mut self, number: u16) -> Result<(), AllocError>

@@ -1,4 +1,4 @@
--- What is wrong with a file that is no capture. The rules are those of the grammar; which of them stands where
+-- What is wrong with a file that is no capture. The rules are those of the grammar; which of them is the fault where
 -- several are broken is profile.
 use Rattle.std.specs.Prelude.{◌≡◌, ℕ, ◌+◌, ◌<◌, List, [], ◌∷◌, length, drop, Option, Some, None, Ok, Err, ◌⊎◌, nat_lt, nat_le, if◌then◌else◌, Bool, true, false}
 use Rattle.afdx_pcap.specs.declared.fault.PcapFault.{PcapFault}

@@ -1,4 +1,4 @@
--- pcap 2.4: every number of a file stands in the byte order of its magic.
+-- pcap 2.4: every number of a file is in the byte order of its magic.
 use Rattle.std.specs.Prelude.{ℕ, List, drop}
 use Rattle.byteorder.specs.Endian.{big_number, little_number}
 use Rattle.afdx_pcap.specs.declared.format.Endian.{Endian}

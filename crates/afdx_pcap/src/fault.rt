@@ -10,11 +10,11 @@ use thiserror::Error;
 /// The first fault of a capture, P1 to P11 in the order in which they are looked for.
 ///
 /// A file has P2 to P5 at its header, else P6 to P11 at the first record that is not sound; these have the
-/// record's number, from 1. P2, P6 and P11 are found only where the input ends. P1 is given at the growth that
-/// was refused, before anything that lies later in the file. Each message is its variant's name.
+/// record's number, from 1. P2, P6 and P11 are found only where the input ends. P1 is given where memory ran
+/// out, before anything that lies later in the file. Each message is its variant's name.
 #[derive(Clone, Copy, Debug, PartialEq, Eq, Error)]
 pub enum PcapFault {
-    /// P1: memory was refused.
+    /// P1: out of memory.
     #[error("Memory")]
     Memory,
     /// P2: fewer than 24 bytes, whatever they are.
@@ -26,7 +26,7 @@ pub enum PcapFault {
     /// P4: another version than 2.4.
     #[error("Version")]
     Version,
-    /// P5: another link type than 1, with its word.
+    /// P5: another link type than 1, which it has.
     #[error("LinkType")]
     LinkType(u32),
     /// P6: fewer than the 16 bytes of a record's header are left.

@@ -120,7 +120,7 @@ impl<'a, A: Allocator + Copy> Reader<'a, A> {
         }) }
         ensures err { IfErr result (λ fault. self.new ≡ record self.old { fault = Some fault }) }
 
-        // A fault that was answered stays the answer; else this is what the bytes say, and memory is wanted for
+        // A fault that was answered stays the answer; else this is what the bytes say, and memory is taken for
         // the copy of a whole record alone.
         ensures failed { IfSome self.old.fault (λ fault. result ≡ Err fault) }
         ensures answer { IfNone self.old.fault (Answers self.old.bytes self.old.given self.old.closed result) }

@@ -75,7 +75,7 @@ impl<A: Allocator + Copy> Port<A> {
     /// Makes room for so many further offers, in the queues and in the lists of what was admitted,
     /// sent and discarded, so that no other call takes memory.
     ///
-    /// An error says that a growth was refused; the content is as before then. O(items held) where a
+    /// An error says that memory ran out; the content is as before then. O(items held) where a
     /// list moves.
     pub fn reserve(&mut self, n: usize) -> Result<(), AllocError>
         ensures ok { OnOk result (n ≤ self.new.room) }

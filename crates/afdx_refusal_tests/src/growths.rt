@@ -19,7 +19,7 @@ pub(crate) trait Calls {
 }
 
 /// Refuses the first growth of these calls, then the second, and so on until none is refused: how many there were. Each time
-/// they want memory exactly where a growth was refused, and answer as they should elsewhere.
+/// they are out of memory exactly where an allocation was refused, and answer as they should elsewhere.
 fn growths(rt: &impl Abort, alloc: Global, calls: &impl Calls) -> Result<u64, Fail> {
     let mut refused = 0u64;
     for n in 1..MOST {

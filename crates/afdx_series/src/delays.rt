@@ -22,7 +22,7 @@ impl Delays {
         Delays { least: 0, most: 0 }
     }
 
-    /// This part of the way and then another. Either is at most 2^60 ns, which is more than 36 years.
+    /// This part of the way and then another. Either sum is at most 2^60 ns, which is more than 36 years.
     pub fn join(self, next: Delays) -> Delays
         requires least { self.least + next.least ≤ 1152921504606846976 }
         requires most { self.most + next.most ≤ 1152921504606846976 }

@@ -1,4 +1,4 @@
--- What a check writes of an accepted table.
+-- What a check writes of an accepted table (profile).
 use Rattle.std.specs.Prelude.{◌≡◌, ◌↔◌, ℕ, codes, ◌<◌, ◌≤◌, ◌+◌, List, [], ◌∷◌, ◌++◌, Option, Some, None}
 use Rattle.std.specs.Fmt.{decimal}
 use Rattle.afdx_table.specs.declared.rows.PortRow.{PortRow}

@@ -1,4 +1,4 @@
--- What is reported of the run of a folder's captures, of which nothing is put.
+-- What is reported of the run of a folder's captures, of which nothing is put (profile).
 use Rattle.std.specs.Prelude.{◌≡◌, ℕ, Bool, true, not, List, Option, Contains}
 use Rattle.afdx_table.specs.declared.rows.PortRow.{PortRow}
 use Rattle.afdx_table.specs.Content.{Content}

@@ -1,4 +1,4 @@
--- What the check of a network writes.
+-- What the check of a network writes (profile).
 use Rattle.std.specs.Prelude.{◌≡◌, ℕ, List}
 use Rattle.afdx_wiring.specs.Net.{Network}
 use Rattle.afdx_wiring.specs.Ways.{AreWaysOf}

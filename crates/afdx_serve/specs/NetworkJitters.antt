@@ -1,4 +1,4 @@
--- What is reported of the jitters that the rows of a network need.
+-- What is reported of the jitters that the rows of a network need (profile).
 use Rattle.std.specs.Prelude.{◌≡◌, ◌≢◌, ℕ, ◌+◌, List, [], ◌∷◌, Option, None, Ok, Err}
 use Rattle.std.specs.Option.{option_or}
 use Rattle.afdx_table.specs.declared.rows.PortRow.{PortRow}

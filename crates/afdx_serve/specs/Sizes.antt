@@ -1,4 +1,4 @@
--- What is reported of the size of a table's ports: what each needs and has, and the rules that it breaks.
+-- What is reported of the size of a table's ports: what each needs and has, and the rules that it breaks (profile).
 use Rattle.std.specs.Prelude.{◌≡◌, ℕ, codes, nat_lt, ◌<◌, ◌+◌, List, [], ◌∷◌, ◌++◌, Option, Some, None, if◌then◌else◌}
 use Rattle.std.specs.Fmt.{decimal}
 use Rattle.afdx_table.specs.declared.rows.PortRow.{PortRow}
@@ -16,7 +16,7 @@ use Rattle.afdx_serve.specs.Checks.{IsLeastBuffer, AreTextsOf}
 abbrev pub pair_text : List ℕ → ℕ → List ℕ
 pair_text need limit = need ++ codes " of " ++ decimal limit
 
--- a bound in nanoseconds; there is none where the high links ask for the whole line
+-- a bound in nanoseconds; there is none where the high links ask for the whole line or more
 abbrev pub need_text : Option ℕ → List ℕ
 need_text None = codes "none"
 need_text (Some bound) = decimal bound

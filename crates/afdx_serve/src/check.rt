@@ -91,7 +91,7 @@ fn check_text(alloc: Global, table: Table) -> Result<String, Failure>
 ///
 /// # Errors
 ///
-/// What is met first: `Get`, `Table`, `Load`, `Write`; `Memory` where a growth was refused.
+/// What is met first: `Get`, `Table`, `Load`, `Write`; `Memory` where memory ran out.
 pub(crate) fn check<O: Write, F: Folder>(
     alloc: Global,
     path: &str,

@@ -53,8 +53,8 @@ fn text_of<F: Folder>(alloc: Global, inputs: &Inputs<'_>, folder: &mut F) -> Res
 ///
 /// # Errors
 ///
-/// What is met first: `Get` of the table, `Table`, `Load`, `Get` of a capture, `PortCapture`, `Write`; `Memory` where a
-/// growth was refused.
+/// What is met first: `Get` of the table, `Table`, `Load`, `Get` of a capture, `PortCapture`, `Write`; `Memory` where memory
+/// ran out.
 ///
 /// O(files), beside the switch's own work, and 2 MiB for each port.
 pub(crate) fn measure<O: Write, F: Folder>(

@@ -78,7 +78,7 @@ fn network_text(alloc: Global, network: Network) -> Result<String, Failure>
 /// # Errors
 ///
 /// What is met first: `Get`; `Network`, in the order of the network file, its tables, the ports of its wires, the loads by
-/// switch, what the tables agree on, the jitters; `Write`; `Memory` where a growth was refused.
+/// switch, what the tables agree on, the jitters; `Write`; `Memory` where memory ran out.
 ///
 /// O(files), beside the checks.
 pub(crate) fn network_check<O: Write, F: Folder>(

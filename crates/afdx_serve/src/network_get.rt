@@ -166,7 +166,7 @@ fn join<F: Folder>(
 /// # Errors
 ///
 /// What is met first: `Get` of the network file, `Refused` of its text, `Get` of a table, `Table`, `Refused` where an end of
-/// a wire is no port; `Memory` where a growth was refused. O(files).
+/// a wire is no port; `Memory` where memory ran out. O(files).
 pub(crate) fn get_network<F: Folder>(
     alloc: Global,
     folder: &mut F,

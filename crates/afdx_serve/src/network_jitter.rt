@@ -93,7 +93,7 @@ fn needs_of(alloc: Global, network: Network) -> Result<Needs, Failure>
 ///
 /// What is met first: `Get`; `Network`, in the order of the network file, its tables, the ports of its wires, the rates of
 /// the ports by switch, what the tables agree on; `Write`; `Network` with `NoJitter` after the lines, where a row needs more
-/// than a table can have; `Memory` where a growth was refused.
+/// than a table can have; `Memory` where memory ran out.
 ///
 /// O(files), beside what the jitters take.
 pub(crate) fn network_jitter<O: Write, F: Folder>(

@@ -217,7 +217,7 @@ fn put_all<F: Folder>(
 /// # Errors
 ///
 /// What is met first: as `network check`; `Get` of a capture, by switch and then by port; `Network` with the fault of a
-/// capture, or `Unsettled`; `Put`; `Write`; `Memory` where a growth was refused.
+/// capture, or `Unsettled`; `Put`; `Write`; `Memory` where memory ran out.
 ///
 /// O(files), beside the runs of the switches.
 pub(crate) fn network_run<O: Write, F: Folder>(

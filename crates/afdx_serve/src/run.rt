@@ -51,7 +51,7 @@ fn report_text(alloc: Global, carried: &Carried<'_, Global>) -> Result<String, A
 /// # Errors
 ///
 /// What is met first: `Get` of the table, `Table`, `Load`, `Get` of a capture, `PortCapture`, `Put`, `Write`; `Memory`
-/// where a growth was refused.
+/// where memory ran out.
 ///
 /// O(files), beside the switch's own work.
 pub(crate) fn run<O: Write, F: Folder>(

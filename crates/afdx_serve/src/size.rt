@@ -164,7 +164,7 @@ fn sizes_text(alloc: Global, table: &Table) -> Result<String, AllocError>
 ///
 /// # Errors
 ///
-/// What is met first: `Get`, `Table`, `Write`; `Memory` where a growth was refused.
+/// What is met first: `Get`, `Table`, `Write`; `Memory` where memory ran out.
 pub(crate) fn size<O: Write, F: Folder>(
     alloc: Global,
     path: &str,

@@ -110,8 +110,8 @@ fn put_texts<F: Folder>(
 ///
 /// # Errors
 ///
-/// What is met first: `Get` of the table, `Table`, `Load`, `Get` of a capture, `PortCapture`, `Put`; `Memory` where a growth
-/// was refused.
+/// What is met first: `Get` of the table, `Table`, `Load`, `Get` of a capture, `PortCapture`, `Put`; `Memory` where memory
+/// ran out.
 ///
 /// O(files), beside the switch's own work, and a byte for each arrival and each port that was offered copies.
 pub(crate) fn trace<F: Folder>(

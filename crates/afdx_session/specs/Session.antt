@@ -1,4 +1,4 @@
--- A session as contracts see it: what it was fed, and what its calls do to that.
+-- A session as contracts see it: what it was fed, and what its calls do to that (profile).
 use Rattle.std.specs.Prelude.{ℕ, ◌≡◌, ◌⊎◌, ◌==◌, Bool, true, false, if◌then◌else◌, List, [], ◌∷◌, ◌++◌, map, find, Option, Some, None}
 use Rattle.afdx_table.specs.declared.rows.PortRow.{PortRow}
 use Rattle.afdx_table.specs.Content.{Content}

@@ -52,7 +52,7 @@ impl Plan {
 /// Why there is no outcome.
 #[derive(Clone, Copy, Debug, PartialEq, Eq, Error)]
 pub enum RunFault {
-    /// A growth was refused.
+    /// Out of memory.
     #[error("Memory")]
     Memory,
     /// The port's text is no capture, and this is its first fault.

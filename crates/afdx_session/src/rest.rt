@@ -64,7 +64,7 @@ impl<'a, A: Allocator + Copy> Carried<'a, A> {
     /// Writes the output of the port at a place in the table's order, as a capture, in place of what the text holds.
     /// It can be written once, and after those of the ports before it.
     ///
-    /// An error says that a growth was refused; nothing is promised then of this output or of a later one. O(bytes of the
+    /// An error says that memory ran out; nothing is promised then of this output or of a later one. O(bytes of the
     /// capture), beside what the text takes to grow.
     pub fn write<B: Allocator>(
         &mut self,

@@ -51,7 +51,7 @@ fn empty<A: Allocator + Copy>(slots: &mut Slab<Slot<'_, A>, A>, key: usize)
 }
 
 impl<'a, A: Allocator + Copy> Store<'a, A> {
-    /// A store that holds nothing.
+    /// A store that holds nothing. It takes no memory. O(1).
     pub fn new(alloc: A) -> Self
         ensures { result ≡ record { held = []; room = 0 } }
     {
@@ -62,7 +62,7 @@ impl<'a, A: Allocator + Copy> Store<'a, A> {
         }
     }
 
-    /// Makes room for one more arrival.
+    /// Makes room for one more arrival. An error says that memory ran out; what is held is as before then. O(1) on average.
     pub fn make_room(&mut self) -> Result<(), AllocError>
         ensures ok { OnOk result (0 < self.new.room) }
         ensures held { self.new.held ≡ self.old.held }

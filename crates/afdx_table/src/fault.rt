@@ -42,7 +42,7 @@ pub enum Key {
 /// Why a table is refused; each is printed as its name.
 #[derive(Clone, Copy, Debug, PartialEq, Eq, Error)]
 pub enum TableFault {
-    /// C1: no memory.
+    /// C1: out of memory.
     #[error("Memory")]
     Memory,
     /// C2: the bytes are not UTF-8, or no TOML text.
@@ -87,7 +87,7 @@ pub enum TableFault {
 }
 
 impl Key {
-    /// The key as it is written in the table.
+    /// The key as it is written in the table. O(1).
     pub fn as_str(self) -> &'static str
         ensures { result.now ≡ key_text self }
     {

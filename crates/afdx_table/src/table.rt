@@ -81,7 +81,7 @@ impl Table {
         self.constant
     }
 
-    /// The latency: nanoseconds from the instant at which a frame has come until its copies are queued. O(1).
+    /// The latency: nanoseconds from the instant at which a frame has come until its copies are queued, at most 100,000. O(1).
     pub fn latency(&self) -> u64
         ensures latency { result ≡ self.now.latency }
         ensures well_formed { IsWellFormed self.now }
@@ -97,7 +97,7 @@ impl Table {
         self.ports.as_slice()
     }
 
-    /// The port of a number. It looks at each of the at most 24 ports.
+    /// The port of a number. O(ports), at most 24.
     pub fn port(&self, id: u8) -> Option<&PortRow>
         ensures port { option_copied result ≡ port_row self.now id }
         ensures limits { IfSome result (λ p. IsPort p.now) }
@@ -177,7 +177,7 @@ fn read_text(alloc: Global, bytes: &[u8]) -> Result<Tree, TableFault>
 
 /// Reads a configuration table, a text of TOML 1.1.
 ///
-/// The first refusal in this order is given, and `Memory` at the growth that was refused, before every test that comes
+/// The first refusal in this order is given, and `Memory` where memory ran out, before every test that comes
 /// later; never for bytes that are not UTF-8, nor for a text of white space and comments alone:
 ///
 /// 1. `Toml`: bytes that are not UTF-8, or a text that the library `toml` refuses for another cause than memory.

@@ -29,7 +29,7 @@ verdict_word WrongPort = codes "wrong-port"
 verdict_word TooBig = codes "too-big"
 verdict_word (Clean i) = codes "clean"
 
--- a port took the copy of the arrival of this number: it sent it or gave it up
+-- a port took the copy of the arrival of this number: it sent it or discarded it
 abbrev pub took : Run → ℕ → ℕ → Bool
 took r port number =
     list_any (λ x. x.item.number == number) (sent_in r (port_row r.table port)) || list_any (λ x. x.item.number == number) (aged_in r (port_row r.table port))

@@ -12,7 +12,7 @@ const HEADING: &str = "frame,port,record,stamp,link,size,fate,early,full\n";
 
 /// A line for each arrival in the order in which the switch took them, after a heading.
 ///
-/// An error says that a growth was refused. O(arrivals), each port of the table that was offered copies with a byte for
+/// An error says that memory ran out. O(arrivals), each port of the table that was offered copies with a byte for
 /// each arrival.
 pub fn arrivals<A: Allocator + Copy, B: Allocator + Copy>(
     alloc: A,

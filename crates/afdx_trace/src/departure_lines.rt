@@ -170,7 +170,7 @@ fn put_port<A: Allocator + Copy, B: Allocator + Copy>(
 
 /// A line for each copy that a port sent or discarded, after a heading: for each port by rising number its events in order.
 ///
-/// An error says that a growth was refused. O(copies + ports).
+/// An error says that memory ran out. O(copies + ports).
 pub fn departures<A: Allocator + Copy, B: Allocator + Copy>(
     alloc: A,
     done: &Done<'_, B>,

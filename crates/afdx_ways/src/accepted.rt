@@ -99,7 +99,7 @@ fn put_greatest(text: &mut String, names: &[String], way: &Way) -> Result<(), Al
 /// What is reported of an accepted network, of switches of these names and of these ways: a line for each switch, one for each
 /// way, the first way that may take as long as any, where there is one, and that the network is accepted.
 ///
-/// An error says that a growth was refused. O(text).
+/// An error says that memory ran out. O(text).
 pub fn accepted_text(alloc: Global, names: &[String], ways: &[Way]) -> Result<String, AllocError>
     ensures { IfOk result (λ text. string_bytes text ≡ accepted_text (map string_bytes names.now) ways.now) }
 {

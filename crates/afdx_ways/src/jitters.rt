@@ -19,7 +19,7 @@ fn put_need(text: &mut String, names: &[String], row: &RowNeed) -> Result<(), Al
 
 /// A line for each row, with the jitter in microseconds that it needs, of switches of these names.
 ///
-/// An error says that a growth was refused. O(text).
+/// An error says that memory ran out. O(text).
 pub fn jitter_text(alloc: Global, names: &[String], rows: &[RowNeed]) -> Result<String, AllocError>
     ensures { IfOk result (λ text. string_bytes text ≡ jitter_text (map string_bytes names.now) rows.now) }
 {

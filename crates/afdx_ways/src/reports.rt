@@ -7,7 +7,7 @@ use std::alloc::AllocError;
 
 /// Appends the report of the switch of this name: its name and a space before each line.
 ///
-/// An error says that a growth was refused. O(report), the name with each line.
+/// An error says that memory ran out. O(report), the name with each line.
 pub fn push_report(text: &mut Vec<u8>, name: &str, report: &str) -> Result<(), AllocError>
     ensures { OnOk result (text.new.items ≡ text.old.items ++ report_of name.now report.now) }
 {

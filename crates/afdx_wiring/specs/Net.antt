@@ -1,4 +1,4 @@
--- A network: what its file says, and the tables of its switches. The wires of a link's way are found from its end.
+-- A network: what its file says, and the tables of its switches (profile). The wires of a link's way are found from its end.
 use Rattle.std.specs.Prelude.{◌≡◌, ℕ, true, List, [], ◌∷◌, map, filter, find, flat_map, slice_get, Option, Some, None, option_map, option_and_then}
 use Rattle.std.specs.List.{enumerate_from}
 use Rattle.afdx_units.specs.declared.line.Priority.{Priority}

@@ -34,7 +34,7 @@ pub enum Key {
 /// under which its name is.
 #[derive(Clone, Copy, Debug, PartialEq, Eq)]
 pub enum NetworkFault {
-    /// No memory.
+    /// Out of memory.
     Memory,
     /// G1: the bytes are not UTF-8, or no TOML text.
     Toml,
@@ -98,7 +98,7 @@ pub struct Short {
 }
 
 impl Key {
-    /// The key as it is written in the network file.
+    /// The key as it is written in the network file. O(1).
     pub fn as_str(self) -> &'static str
         ensures { result.now ≡ key_text self }
     {

@@ -15,7 +15,7 @@ impl Network {
     /// and each row is fed by one end system's port at last.
     ///
     /// The first refusal in this order is given, rule by rule; within one rule by wire and by the row that leads to it, or by
-    /// switch and row; and `Memory` at the growth that was refused:
+    /// switch and row; and `Memory` where memory ran out:
     ///
     /// 1. By wire: `Constant`, `Speed`.
     /// 2. By wire and row: `NoRow`.

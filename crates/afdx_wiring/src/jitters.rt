@@ -149,6 +149,7 @@ impl Network {
             }
             network = network.with_jitters(&rows)?;
         }
+        // A loop has to end, and no search comes to so many turns.
         Err(NetworkFault::Memory)
     }
 }

@@ -1,6 +1,8 @@
 //! The wiring of a network: which output port of a switch leads to which ingress port of another, read from TOML.
 //!
-//! [`read`] is the one way to make a [`Layout`] of a text.
+//! [`read`] is the one way to make a [`Layout`] of a text. With the tables of its switches it is a [`Network`]: `fit` says
+//! whether these fit together, `clear` checks their loads, `jitters` finds jitters; `check` and `ways` of a
+//! [`ClearedNetwork`] judge them and give each link's ways.
 #![tactic(auto)]
 
 mod arrays;

@@ -141,7 +141,7 @@ impl Network {
         Some(Row { switch, link })
     }
 
-    /// The wire that goes to a port. It looks at each of the wires.
+    /// The wire that goes to a port. O(wires).
     pub fn wire_to(&self, end: End) -> Option<&Wire>
         ensures { option_copied result ≡ wire_to self.now end }
     {

@@ -76,7 +76,7 @@ fn read_text(alloc: Global, bytes: &[u8]) -> Result<Tree, NetworkFault>
 
 /// Reads a network file, a text of TOML 1.1.
 ///
-/// The first refusal in this order is given, and `Memory` at the growth that was refused:
+/// The first refusal in this order is given, and `Memory` where memory ran out:
 ///
 /// 1. `Toml`: bytes that are not UTF-8, or a text that the library `toml` refuses for another cause than memory.
 /// 2. At the top: `UnknownKey`; of `version` `Kind`, `Range`; of `switch`, then of `wire`, `Kind`; of `switch` `Range`,

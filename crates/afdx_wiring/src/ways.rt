@@ -29,7 +29,7 @@ pub struct Way {
     pub ports: Vec<End>,
     /// The jitter in whole microseconds that the link needs at each switch; its own at the first.
     pub jitters: Vec<u64>,
-    /// What a frame takes, at least one of 64 bytes, from its arrival to its end on the last line.
+    /// What a frame of 64 bytes or more takes, in nanoseconds, from its arrival to its end on the last line.
     pub delays: Delays,
 }
 

@@ -15,7 +15,7 @@ use Rattle.afdx_session.specs.Streams.{Stream, frontier, sent_up_to, last_instan
 use Rattle.afdx_session.specs.Inner.Settled.{IsSettling, IsGiven}
 use Rattle.afdx_session.specs.Inner.Lanes.{HasRead, waiting_of}
 
--- a lane stands for the records that were read of its capture
+-- a lane agrees with the records that were read of its capture
 pub record IsLaneOf {Z : Type 0} (l : Lane Z) (s : Stream) : Type 0 where
   pub port : s.port ≡ l.port
   pub ended : s.closed ≡ l.ended
@@ -55,7 +55,7 @@ AreOut {Z} t given h s lanes In = (place : ℕ) (p : PortRow) (l : Lane Z) → I
 abbrev pub Every : ℕ → Type 0
 Every place = Unit {0}
 
--- how lanes, switch and counters stand for what came: these arrivals were given to the switch, and all that they lead to up to an
+-- how lanes, switch and counters agree with what came: these arrivals were given to the switch, and all that they lead to up to an
 -- instant has gone out
 pub record IsGoing {Z : Type 0} (t : Content) (lanes : List (Lane Z)) (s : State) (counts : Tally) : Type 0 where
   pub streams : List Stream
