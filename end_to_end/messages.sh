@@ -1,5 +1,5 @@
 #!/usr/bin/env bash
-# The lines of docs/use/MESSAGES.md: each is provoked, with its status, and the page has no other; and the page's report.
+# The lines of docs/use/MESSAGES.md but those of networks (network.sh): each is provoked, with its status, and the page has no other; and the page's report.
 . "$(dirname "$0")/common.sh"
 install python3=python3 text2pcap=wireshark-common editcap=wireshark-common mergecap=wireshark-common
 export PYTHONDONTWRITEBYTECODE=1 LC_ALL=C
