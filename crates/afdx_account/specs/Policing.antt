@@ -14,6 +14,11 @@ pub record Terms : Type 0 where
   pub rate : ℕ
   pub price : ℕ → ℕ
 
+-- profile: the parts of a nanosecond of line time, of which rates are numbers in each nanosecond; they are 16 * 128,000,000, so that
+-- a byte's share is a whole number of them for each gap
+abbrev pub parts : ℕ
+parts = 2048000000
+
 -- profile: policing by bytes, where a byte is as many units as the gap has ns;
 -- Smax units are credited in each ns, and at most Smax * (BAG + J) units are held
 abbrev pub byte_terms : ℕ → Bag → ℕ → Terms
@@ -23,7 +28,7 @@ byte_terms max_size bag jitter = record {
   price = λ size. size * bag_ns bag;
 }
 
--- profile: line time that a unit stands for, in the 2,048,000,000th part of a ns; the factor 21 / 16 is there because
+-- profile: line time that a unit stands for, in parts of a ns; the factor 21 / 16 is there because
 -- size + 20 <= size * 21 / 16 for sizes of at least 64
 abbrev pub byte_weight : Bag → Speed → ℕ
 byte_weight bag speed = 21 * tick_of speed * (128 / bag_ms bag)
@@ -37,7 +42,7 @@ frame_terms bag jitter = record {
   price = λ size. bag_ns bag;
 }
 
--- profile: line time that a unit stands for, in the 2,048,000,000th part of a ns: a gap's units are the line time of the longest frame
+-- profile: line time that a unit stands for, in parts of a ns: a gap's units are the line time of the longest frame
 abbrev pub frame_weight : ℕ → Bag → Speed → ℕ
 frame_weight max_size bag speed = 16 * cost_of speed max_size * (128 / bag_ms bag)
 

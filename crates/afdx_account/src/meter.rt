@@ -3,7 +3,7 @@
 ghost use Rattle.std.specs.Prelude.{◌≡◌, ◌↔◌, ℕ, ◌+◌, ◌*◌, ◌-◌, ◌≤◌, IsTrue, if◌then◌else◌};
 ghost use Rattle.afdx_units.specs.declared.line.Speed.{Speed};
 ghost use Rattle.afdx_units.specs.Line.{cost_of};
-ghost use Rattle.afdx_account.specs.Policing.{Terms};
+ghost use Rattle.afdx_account.specs.Policing.{parts, Terms};
 ghost use Rattle.afdx_account.specs.Level.{PassesWhatConforms, credited_level};
 
 use afdx_units::{Speed, Stamp};
@@ -64,7 +64,7 @@ pub trait Meter {
 
         // A frame of the link that is passed adds its line time to a port's work, and the level falls by at least as much.
         ensures paid { IsTrue result → (speed : Speed) → 64 ≤ size → size ≤ greatest self.old
-            → 2048000000 * cost_of speed size + weight_of self.new speed * level self.new at ≤ weight_of self.old speed * level self.old at }
+            → parts * cost_of speed size + weight_of self.new speed * level self.new at ≤ weight_of self.old speed * level self.old at }
 
         // Whatever frames were offered to a full account before, the frame is passed exactly where it
         // conforms to those that were passed.
@@ -79,5 +79,5 @@ pub trait Meter {
 
     /// What a frame costs pays for its line time, where the link allows its size.
     ghost pays: { (m : Self) (speed : Speed) (size : ℕ) → 64 ≤ size → size ≤ greatest m
-        → 2048000000 * cost_of speed size ≤ weight_of m speed * (terms m).price size };
+        → parts * cost_of speed size ≤ weight_of m speed * (terms m).price size };
 }

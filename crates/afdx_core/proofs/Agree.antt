@@ -14,7 +14,7 @@ use Rattle.afdx_port.specs.declared.Item.{Item}
 use Rattle.afdx_load.specs.Sums.{terms_of}
 use Rattle.afdx_core.specs.declared.step.Row.{Row}
 use Rattle.afdx_core.specs.Rows.{frame_of, account_frames, says_clean, passes, named, item_of, copies_by, copies, each_after, feed_of}
-use Rattle.afdx_core.specs.Agreement.{frame_in}
+use Rattle.afdx_isolation.specs.Arrivals.{frame_in}
 use Rattle.afdx_core.specs.Inner.Agreement.{part_of}
 use Rattle.afdx_core.proofs.Feeds.{account-same, account-other}
 

@@ -21,7 +21,7 @@ use Rattle.afdx_account.specs.Level.{InOrder}
 use Rattle.afdx_account.specs.Inner.Laws.{NextJoinsWhereItConforms, PassedByTheirFrames}
 use Rattle.afdx_port.specs.declared.Item.{Item}
 use Rattle.afdx_port.specs.Admission.{admitted, AllFitIn}
-use Rattle.afdx_isolation.specs.Arrivals.{own}
+use Rattle.afdx_isolation.specs.Arrivals.{own, frame_in}
 use Rattle.afdx_isolation.specs.Inner.Arrivals.{joins, feed_after, feed_of as offered_of}
 use Rattle.afdx_isolation.specs.Inner.Table.{flows_at, IsCleanIn, OffersWhatThePolicingPasses, AcceptedTablesIsolate as TablesIsolate, BuffersHoldTheBacklog as TablesHoldTheBacklog, ArriveAt}
 use Rattle.afdx_isolation.specs.Table.{settings_of}
@@ -30,7 +30,6 @@ use Rattle.afdx_load.specs.Sums.{terms_of, load_of}
 use Rattle.afdx_core.specs.declared.step.Row.{Row}
 use Rattle.afdx_core.specs.Rows.{frame_of, account_frames, says_clean, passes, named, item_of, copies_by, copies, each_after, feed_of}
 use Rattle.afdx_core.specs.State.{Run, port_in}
-use Rattle.afdx_core.specs.Agreement.{frame_in}
 use Rattle.afdx_core.specs.Isolation.{IsOfAnArrival, IsRun, copy_by, clean_copies, sent_copies, PassedCopiesArePassedFrames, IsIsolatedRun, AcceptedTablesIsolate, with_bytes, OthersChangeNothing}
 use Rattle.afdx_core.proofs.Lists.{each-push}
 

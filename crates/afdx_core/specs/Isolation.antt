@@ -13,13 +13,12 @@ use Rattle.afdx_account.specs.Level.{InOrder}
 use Rattle.afdx_port.specs.declared.Item.{Item}
 use Rattle.afdx_port.specs.declared.Sent.{Sent}
 use Rattle.afdx_port.specs.declared.Offer.TheVariants.{Queued}
-use Rattle.afdx_isolation.specs.Arrivals.{own}
+use Rattle.afdx_isolation.specs.Arrivals.{own, frame_in}
 use Rattle.afdx_isolation.specs.Table.{IsInBoundAt}
 use Rattle.afdx_load.specs.Sums.{terms_of}
 use Rattle.afdx_core.specs.declared.step.Row.{Row}
 use Rattle.afdx_core.specs.Rows.{row_of, frame_of, account_frames, named, item_of, each_after, feed_of}
 use Rattle.afdx_core.specs.State.{Run, fresh_run, port_in, sent_in, aged_in, refusal_of, offers_of, after_row, after_advance, after_handing, after_finish}
-use Rattle.afdx_core.specs.Agreement.{frame_in}
 
 -- ---- runs
 

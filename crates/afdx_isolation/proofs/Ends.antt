@@ -9,13 +9,13 @@ use Rattle.std.proofs.lemmas.List.Elements.{All-nil, All-cons, filter_passes, re
 use Rattle.std.proofs.Math.Nat.{mul-le-mul_left}
 use Rattle.afdx_units.specs.declared.line.Priority.{Priority}
 use Rattle.afdx_units.specs.declared.line.Priority.TheVariants.{High, Low}
-use Rattle.afdx_units.specs.Line.{cost_of}
+use Rattle.afdx_units.specs.Line.{cost_of, is_high}
 use Rattle.afdx_port.specs.declared.Settings.{Settings}
 use Rattle.afdx_port.specs.declared.Item.{Item}
-use Rattle.afdx_port.specs.Service.{came, Event, sending, aging, item_of, free_after, fate, is_high}
+use Rattle.afdx_port.specs.Service.{came, Event, sending, aging, item_of, free_after, fate}
 use Rattle.afdx_port.specs.Inner.Order.{in_line, highs, lows, line_up}
 use Rattle.afdx_port.specs.Inner.Work.{item_cost}
-use Rattle.afdx_load.specs.Sums.{parts}
+use Rattle.afdx_account.specs.Policing.{parts}
 use Rattle.afdx_isolation.specs.Inner.Flow.{Load, queue_bound, bound}
 use Rattle.afdx_isolation.specs.Inner.Potential.{costs, Ahead, HighEnds, LowEnds, EndsBy, IsWithinPotentials, BeginsAs}
 use Rattle.afdx_isolation.specs.Inner.Claims.{IsTimely}

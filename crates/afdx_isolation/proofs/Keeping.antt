@@ -11,15 +11,15 @@ use Rattle.afdx_units.specs.declared.line.Priority.{Priority}
 use Rattle.afdx_units.specs.declared.line.Priority.TheVariants.{High, Low}
 use Rattle.afdx_units.specs.declared.line.Speed.{Speed}
 use Rattle.afdx_units.specs.declared.line.Speed.TheVariants.{Ten, Hundred, Thousand}
-use Rattle.afdx_units.specs.Line.{tick_of}
+use Rattle.afdx_units.specs.Line.{tick_of, is_high}
 use Rattle.afdx_port.specs.declared.Settings.{Settings}
 use Rattle.afdx_port.specs.declared.Item.{Item}
-use Rattle.afdx_port.specs.Service.{came, instant, item_of, is_high, service, before}
+use Rattle.afdx_port.specs.Service.{came, instant, item_of, service, before}
 use Rattle.afdx_port.specs.Admission.{occupied, fits}
 use Rattle.afdx_port.specs.Inner.Order.{highs, lows, line_up, in_line}
 use Rattle.afdx_port.specs.Inner.Course.{line_at}
 use Rattle.afdx_port.specs.Inner.Work.{item_cost, work, HaveCome}
-use Rattle.afdx_load.specs.Sums.{parts}
+use Rattle.afdx_account.specs.Policing.{parts}
 use Rattle.afdx_isolation.specs.Inner.Flow.{Flow, Load, IsPaidFor, IsWithinRate, HasBuffer, IsWithinDelay, Carries, AreDistinct, high_flows, low_flows, load_of, bound}
 use Rattle.afdx_isolation.specs.Inner.Potential.{costs, IsWithinPotentials, KeepsPotentials, EndsBy, BeginsAs, held}
 use Rattle.afdx_isolation.specs.Inner.Account.{AreWithinCaps, Grow, AreDebited, IsOfAFlow, charge}

@@ -12,8 +12,8 @@ use Rattle.afdx_port.specs.Admission.{admitted}
 use Rattle.afdx_port.specs.Content.{Content, done}
 use Rattle.afdx_isolation.specs.Inner.Flow.{Flow, Load, Carries, load_of}
 use Rattle.afdx_isolation.specs.Inner.Account.{IsOfAFlow}
-use Rattle.afdx_isolation.specs.Arrivals.{own}
-use Rattle.afdx_isolation.specs.Inner.Arrivals.{frame_of, passed, feed_of}
+use Rattle.afdx_isolation.specs.Arrivals.{own, frame_in}
+use Rattle.afdx_isolation.specs.Inner.Arrivals.{passed, feed_of}
 use Rattle.afdx_isolation.specs.Inner.Claims.{Arrive, IsInBound, IsTimely, IsIsolatedPort, IsIsolatedSoFar, OthersChangeNothing}
 use Rattle.afdx_isolation.specs.Inner.Ground.{Ground}
 use Rattle.afdx_isolation.proofs.Keeping.{all_in_time, ordered}
@@ -104,9 +104,9 @@ isolated_so_far g c flows arrivals arrive carries is =
 
 pub others_nothing : Ground → OthersChangeNothing
 others_nothing g s s' flows flows' flow flow' arrivals arrivals' arrive carries arrive' carries' among among' terms same =
-    ap (map frame_of) ((isolated g s flows arrivals arrive carries).exactly_passed flow among)
-    ∙ g.by_frames frame_of flow.terms (own flow.id arrivals)
+    ap (map frame_in) ((isolated g s flows arrivals arrive carries).exactly_passed flow among)
+    ∙ g.by_frames frame_in flow.terms (own flow.id arrivals)
     ∙ ap (passed_frames flow.terms) same
-    ∙ ap (λ t. passed_frames t (map frame_of (own flow'.id arrivals'))) terms
-    ∙ sym (g.by_frames frame_of flow'.terms (own flow'.id arrivals'))
-    ∙ sym (ap (map frame_of) ((isolated g s' flows' arrivals' arrive' carries').exactly_passed flow' among'))
+    ∙ ap (λ t. passed_frames t (map frame_in (own flow'.id arrivals'))) terms
+    ∙ sym (g.by_frames frame_in flow'.terms (own flow'.id arrivals'))
+    ∙ sym (ap (map frame_in) ((isolated g s' flows' arrivals' arrive' carries').exactly_passed flow' among'))

@@ -8,10 +8,9 @@ use Rattle.std.proofs.lemmas.List.Sums.{sum_by-cons, get_or-le-sum_by}
 use Rattle.std.proofs.lemmas.List.Elements.{All-head, All-tail, All-nil, All-cons, All-weaker, All-from_get_or, All-contains, Contains-append_right}
 use Rattle.std.proofs.Math.Nat.{mul-le-mul_left, mul-le-mul_right}
 use Rattle.afdx_units.specs.declared.line.Speed.{Speed}
-use Rattle.afdx_units.specs.Line.{cost_of, tick_of}
+use Rattle.afdx_units.specs.Line.{cost_of, tick_of, is_high}
 use Rattle.afdx_port.specs.declared.Settings.{Settings}
 use Rattle.afdx_port.specs.declared.Item.{Item}
-use Rattle.afdx_port.specs.Service.{is_high}
 use Rattle.afdx_isolation.specs.Inner.Flow.{Flow, high_flows, low_flows, rates, bursts, longest}
 use Rattle.afdx_isolation.specs.Inner.Account.{Grow, AreDebited, AreWithinCaps, charge}
 

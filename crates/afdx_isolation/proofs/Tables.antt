@@ -11,24 +11,25 @@ use Rattle.std.proofs.lemmas.List.Elements.{filter_passes, All-nil, All-cons, Al
 use Rattle.afdx_units.specs.declared.line.Priority.{Priority}
 use Rattle.afdx_units.specs.declared.line.Priority.TheVariants.{High, Low}
 use Rattle.afdx_units.specs.declared.line.Speed.{Speed}
-use Rattle.afdx_account.specs.Policing.{conforms, passed_frames}
+use Rattle.afdx_account.specs.Policing.{conforms, passed_frames, parts}
 use Rattle.afdx_account.specs.Inner.Laws.{PassedByTheirFrames, PricesPay}
 use Rattle.afdx_port.specs.declared.Item.{Item}
 use Rattle.afdx_port.specs.declared.Sent.{Sent}
-use Rattle.afdx_port.specs.Service.{sent_of, is_high}
+use Rattle.afdx_port.specs.Service.{sent_of}
+use Rattle.afdx_units.specs.Line.{is_high}
 use Rattle.afdx_port.specs.Admission.{admitted, AdmittedFit, AllFitIn, with_buffer, BuffersServeAlike}
 use Rattle.afdx_port.specs.Content.{Content as PortContent, done}
 use Rattle.afdx_table.specs.declared.rows.PortRow.{PortRow}
 use Rattle.afdx_table.specs.Link.{Link, leads_to}
 use Rattle.afdx_table.specs.Content.{Content}
 use Rattle.afdx_table.specs.WellFormed.{IsLink, IsWellFormed}
-use Rattle.afdx_load.specs.Sums.{behind, parts, is_high_priority, is_high as is_high_link, is_low as is_low_link, routed, rate_of, burst_of, time_of, greatest, sums_of, load_of as sums_at, terms_of}
+use Rattle.afdx_load.specs.Sums.{behind, is_high_link, is_low_link, routed, rate_of, burst_of, time_of, greatest, sums_of, load_of as sums_at, terms_of}
 use Rattle.afdx_load.specs.Bounds.{backlog, byte_time}
 use Rattle.afdx_load.specs.Accepted.{Carries as CarriesSums}
 use Rattle.afdx_load.specs.Inner.Laws.{AsksWhatItsAccountGives, EachLinkAsks, AcceptedKeepsBounds}
 use Rattle.afdx_isolation.specs.Inner.Flow.{Flow, IsPaidFor, Carries, AreDistinct, high_flows, low_flows, rates, bursts, longest, load_of, bound}
-use Rattle.afdx_isolation.specs.Arrivals.{own}
-use Rattle.afdx_isolation.specs.Inner.Arrivals.{frame_of, IsClean, is_passed, joins, feed_of}
+use Rattle.afdx_isolation.specs.Arrivals.{own, frame_in}
+use Rattle.afdx_isolation.specs.Inner.Arrivals.{IsClean, is_passed, joins, feed_of}
 use Rattle.afdx_isolation.specs.Inner.Claims.{Arrive, IsInBound, IsIsolatedSoFar, IsolatesSoFar, NoneIsFull}
 use Rattle.afdx_isolation.specs.Table.{settings_of, bound_of}
 use Rattle.afdx_isolation.specs.Inner.Table.{flow_of, frames_for, flows_at, IsCleanIn, ArriveAt, AcceptedTablesIsolate, OthersChangeNothingInTables}
@@ -52,10 +53,6 @@ filter_true p xs x among = All-contains (λ x. p x ≡ true) (filter p xs) x (fi
 
 -- ---- the load
 
-same_high : (p : Priority) → is_high p ≡ is_high_priority p
-same_high High = refl
-same_high Low = refl
-
 module _ (speed : Speed) where
   abbrev seen : Link → Flow
   seen link = flow_of speed link
@@ -64,8 +61,7 @@ module _ (speed : Speed) where
   highs_seen : (links : List Link) → high_flows (map seen links) ≡ map seen (filter is_high_link links)
   highs_seen [] = refl
   highs_seen (l ∷ links) =
-      ap (λ v. cond v (seen l ∷ high_flows (map seen links)) (high_flows (map seen links))) (same_high l.priority)
-      ∙ ap (λ fs. cond (is_high_link l) (seen l ∷ fs) fs) (highs_seen links)
+      ap (λ fs. cond (is_high_link l) (seen l ∷ fs) fs) (highs_seen links)
       ∙ out (is_high_link l) (filter is_high_link links) where
         out : (v : Bool) (ls : List Link) → cond v (seen l ∷ map seen ls) (map seen ls) ≡ map seen (cond v (l ∷ ls) ls)
         out true ls = refl
@@ -74,8 +70,7 @@ module _ (speed : Speed) where
   lows_seen : (links : List Link) → low_flows (map seen links) ≡ map seen (filter is_low_link links)
   lows_seen [] = refl
   lows_seen (l ∷ links) =
-      ap (λ v. cond (not v) (seen l ∷ low_flows (map seen links)) (low_flows (map seen links))) (same_high l.priority)
-      ∙ ap (λ fs. cond (is_low_link l) (seen l ∷ fs) fs) (lows_seen links)
+      ap (λ fs. cond (is_low_link l) (seen l ∷ fs) fs) (lows_seen links)
       ∙ out (is_low_link l) (filter is_low_link links) where
         out : (v : Bool) (ls : List Link) → cond v (seen l ∷ map seen ls) (map seen ls) ≡ map seen (cond v (l ∷ ls) ls)
         out true ls = refl
@@ -146,13 +141,13 @@ module _ (latency : ℕ) (row : PortRow) (asks : AsksWhatItsAccountGives) where
   some_high : (links : List Link) → All (λ (flow : Flow). flow.priority ≡ High → 0 < (sums_of row.speed links).highs) (map (flow_of row.speed) links)
   unfolding sums_of
   some_high links = All-map (λ (flow : Flow). flow.priority ≡ High → 0 < count_by is_high_link links) (flow_of row.speed) links
-      (All-weaker (λ l. is_high_link l ≡ true → 0 < count_by is_high_link links) (λ l. l.priority ≡ High → 0 < count_by is_high_link links) (λ l h is. h (ap is_high_priority is)) links
+      (All-weaker (λ l. is_high_link l ≡ true → 0 < count_by is_high_link links) (λ l. l.priority ≡ High → 0 < count_by is_high_link links) (λ l h is. h (ap is_high is)) links
       (counted is_high_link links))
 
   some_low : (links : List Link) → All (λ (flow : Flow). flow.priority ≡ Low → 0 < (sums_of row.speed links).lows) (map (flow_of row.speed) links)
   unfolding sums_of
   some_low links = All-map (λ (flow : Flow). flow.priority ≡ Low → 0 < count_by is_low_link links) (flow_of row.speed) links
-      (All-weaker (λ l. is_low_link l ≡ true → 0 < count_by is_low_link links) (λ l. l.priority ≡ Low → 0 < count_by is_low_link links) (λ l h is. h (ap (λ p. not (is_high_priority p)) is)) links
+      (All-weaker (λ l. is_low_link l ≡ true → 0 < count_by is_low_link links) (λ l. l.priority ≡ Low → 0 < count_by is_low_link links) (λ l h is. h (ap (λ p. not (is_high p)) is)) links
       (counted is_low_link links))
 
   some_link : (l : Link) (links : List Link) → 0 < (sums_of row.speed (l ∷ links)).highs + (sums_of row.speed (l ∷ links)).lows
@@ -265,13 +260,13 @@ module _ (t : Content) (row : PortRow) (well : IsWellFormed t) where
 
   -- a link's own flow decides of its arrivals
   pub offers : (link : Link) → Contains t.links link → (before : List Item) (x : Item) → x.link ≡ link.id
-      → joins (flows_at t row) before x ≡ (leads_to row.id link && conforms (terms_of link) (passed_frames (terms_of link) (map frame_of (own link.id before))) (frame_of x))
-  offers link in_table before x same = decide (leads_to row.id link) (conforms (terms_of link) (passed_frames (terms_of link) (map frame_of (own link.id before))) (frame_of x)) refl refl where
+      → joins (flows_at t row) before x ≡ (leads_to row.id link && conforms (terms_of link) (passed_frames (terms_of link) (map frame_in (own link.id before))) (frame_in x))
+  offers link in_table before x same = decide (leads_to row.id link) (conforms (terms_of link) (passed_frames (terms_of link) (map frame_in (own link.id before))) (frame_in x)) refl refl where
     equal : (m n : ℕ) → m ≡ n → nat_eq m n ≡ true
     equal m n h = grind (arith, nat_tests)
 
-    own_passes : (c : Bool) → conforms (terms_of link) (passed_frames (terms_of link) (map frame_of (own link.id before))) (frame_of x) ≡ c → is_passed before x (flow_of row.speed link) ≡ c
-    own_passes c is = ap (λ v. v && conforms (terms_of link) (passed_frames (terms_of link) (map frame_of (own link.id before))) (frame_of x)) (equal x.link link.id same) ∙ is
+    own_passes : (c : Bool) → conforms (terms_of link) (passed_frames (terms_of link) (map frame_in (own link.id before))) (frame_in x) ≡ c → is_passed before x (flow_of row.speed link) ≡ c
+    own_passes c is = ap (λ v. v && conforms (terms_of link) (passed_frames (terms_of link) (map frame_in (own link.id before))) (frame_in x)) (equal x.link link.id same) ∙ is
 
     one : (flow : Flow) → Contains (flows_at t row) flow → is_passed before x flow ≡ true → (leads_to row.id link ≡ true) × (is_passed before x (flow_of row.speed link) ≡ true)
     one flow among passes =
@@ -289,7 +284,7 @@ module _ (t : Content) (row : PortRow) (well : IsWellFormed t) where
         (λ (is : joins (flows_at t row) before x ≡ false). is)
         (cases_Bool (joins (flows_at t row) before x))
 
-    decide : (v c : Bool) → leads_to row.id link ≡ v → conforms (terms_of link) (passed_frames (terms_of link) (map frame_of (own link.id before))) (frame_of x) ≡ c → joins (flows_at t row) before x
+    decide : (v c : Bool) → leads_to row.id link ≡ v → conforms (terms_of link) (passed_frames (terms_of link) (map frame_in (own link.id before))) (frame_in x) ≡ c → joins (flows_at t row) before x
         ≡ (v && c)
     decide false c leads is = never (λ yes _. absurd (both_ways (leads_to row.id link) leads yes))
     decide true false leads is = never (λ _ yes. absurd (both_ways (is_passed before x (flow_of row.speed link)) (own_passes false is) yes))
@@ -375,13 +370,13 @@ pub others_in_tables : PassedByTheirFrames Item → AcceptedTablesIsolate → Ot
 others_in_tables by_frames isolate t t' arrivals arrivals' h h' row row' among among' link link' in_table in_table' leads leads' terms same c c' settings settings' admits admits' ends ends' =
     all t arrivals h row among link in_table leads c settings admits ends
     ∙ ap (passed_frames (terms_of link)) same
-    ∙ ap (λ terms. passed_frames terms (map frame_of (own link'.id arrivals'))) terms
+    ∙ ap (λ terms. passed_frames terms (map frame_in (own link'.id arrivals'))) terms
     ∙ sym (all t' arrivals' h' row' among' link' in_table' leads' c' settings' admits' ends') where
       all : (t : Content) (arrivals : List Item) → ArriveAt t arrivals → (row : PortRow) → Contains t.ports row → (link : Link) → Contains t.links link → leads_to row.id link ≡ true
           → (c : PortContent) → c.settings ≡ settings_of t.latency row → c.admitted ≡ admitted (settings_of t.latency row) (feed_of (flows_at t row) arrivals) → c.finished ≡ true
-          → frames_for link.id c ≡ passed_frames (terms_of link) (map frame_of (own link.id arrivals))
+          → frames_for link.id c ≡ passed_frames (terms_of link) (map frame_in (own link.id arrivals))
       all t arrivals h row among link in_table leads c settings admits ends =
           let prefix = (isolate t arrivals h row among c settings admits).prefix_of_passed link in_table leads in
           let sent' = own link.id (map (λ (x : Sent). x.item) (sent_of (done c))) in
-          ap (map frame_of) (sym (append-nil sent') ∙ ap (λ ys. sent' ++ ys) (sym (prefix.2 ends)) ∙ prefix.1)
-          ∙ by_frames frame_of (terms_of link) (own link.id arrivals)
+          ap (map frame_in) (sym (append-nil sent') ∙ ap (λ ys. sent' ++ ys) (sym (prefix.2 ends)) ∙ prefix.1)
+          ∙ by_frames frame_in (terms_of link) (own link.id arrivals)

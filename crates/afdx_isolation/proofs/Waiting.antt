@@ -5,10 +5,10 @@ use Rattle.std.specs.List.{AllByRecursion}
 use Rattle.std.proofs.lemmas.Bool.{cases_Bool, cases_lt, both_ways}
 use Rattle.std.proofs.lemmas.Bool.Decides.{nat_tests}
 use Rattle.std.proofs.lemmas.List.Elements.{filter_passes, filter-append, recursion_from_All}
-use Rattle.afdx_units.specs.Line.{cost_of}
+use Rattle.afdx_units.specs.Line.{cost_of, is_high}
 use Rattle.afdx_port.specs.declared.Settings.{Settings}
 use Rattle.afdx_port.specs.declared.Item.{Item}
-use Rattle.afdx_port.specs.Service.{sending, aging, free_after, fate, is_high}
+use Rattle.afdx_port.specs.Service.{sending, aging, free_after, fate}
 use Rattle.afdx_port.specs.Inner.Progress.{LineState, left}
 use Rattle.afdx_port.specs.Inner.Order.{highs, lows, line_up}
 use Rattle.afdx_port.specs.Inner.Course.{rest_in_line, line_at}

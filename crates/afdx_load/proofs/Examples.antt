@@ -7,7 +7,8 @@ use Rattle.afdx_units.specs.declared.line.Priority.TheVariants.{High, Low}
 use Rattle.afdx_units.specs.declared.police.Police.TheVariants.{Byte, Frame}
 use Rattle.afdx_table.specs.Link.{Link}
 use Rattle.afdx_table.specs.declared.rows.PortRow.{PortRow}
-use Rattle.afdx_load.specs.Sums.{rate_of, burst_of, time_of, sums_of, load_of, parts}
+use Rattle.afdx_load.specs.Sums.{rate_of, burst_of, time_of, sums_of, load_of}
+use Rattle.afdx_account.specs.Policing.{parts}
 use Rattle.afdx_load.specs.Bounds.{high_bound, low_bound}
 use Rattle.afdx_load.specs.Accepted.{fault_at, first_fault}
 use Rattle.afdx_load.specs.declared.fault.Rule.TheVariants.{Rate, LowDelay}

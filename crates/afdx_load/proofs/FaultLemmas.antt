@@ -11,7 +11,8 @@ use Rattle.afdx_units.specs.declared.line.Speed.{Speed}
 use Rattle.afdx_load.specs.declared.fault.Rule.{Rule}
 use Rattle.afdx_load.specs.declared.fault.Rule.TheVariants.{Rate, Buffer, HighDelay, LowDelay}
 use Rattle.afdx_load.specs.declared.fault.LoadFault.{LoadFault}
-use Rattle.afdx_load.specs.Sums.{parts, Sums, sums_of, behind, load_of, routed}
+use Rattle.afdx_load.specs.Sums.{Sums, sums_of, behind, load_of, routed}
+use Rattle.afdx_account.specs.Policing.{parts}
 use Rattle.afdx_load.specs.Bounds.{high_bound, low_bound, backlog, byte_time}
 use Rattle.afdx_load.specs.Accepted.{Carries, IsAccepted, past, past_bound, fault_at, first_fault}
 use Rattle.afdx_load.proofs.SumLemmas.{load_none, all_counted}

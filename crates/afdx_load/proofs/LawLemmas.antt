@@ -8,7 +8,8 @@ use Rattle.std.proofs.lemmas.List.Elements.{All-filter, All-head}
 use Rattle.afdx_units.specs.declared.line.Speed.{Speed}
 use Rattle.afdx_units.specs.declared.line.Speed.TheVariants.{Ten, Hundred, Thousand}
 use Rattle.afdx_table.specs.Link.{Link, leads_to}
-use Rattle.afdx_load.specs.Sums.{parts, is_high, is_low, routed, rate_of, burst_of, time_of, Sums, sums_of, load_of}
+use Rattle.afdx_load.specs.Sums.{is_high_link, is_low_link, routed, rate_of, burst_of, time_of, Sums, sums_of, load_of}
+use Rattle.afdx_account.specs.Policing.{parts}
 use Rattle.afdx_load.specs.Bounds.{high_bound, low_bound}
 use Rattle.afdx_load.specs.Accepted.{Carries}
 use Rattle.afdx_load.specs.Inner.Laws.{FactorCoversOverhead, AsksWhatItsAccountGives, SumsTakeEachLinkOnce, LongestShowsLinks, HighLinksLeaveAPart, AcceptedMeansNoFault, AcceptedKeepsBounds}
@@ -44,8 +45,8 @@ filter-filter p q (link ∷ links) = filter_at p q link links (p link) ∙ ap (�
     filter_at p q link links true = refl
     filter_at p q link links false = refl
 
-high-sum : (f : Link → ℕ) (port : ℕ) (links : List Link) → sum_by f (filter is_high (routed port links)) ≡ sum_by (λ link. cond (leads_to port link && is_high link) (f link) 0) links
-high-sum f port links = ap (sum_by f) (filter-filter (leads_to port) is_high links) ∙ sum-filter f (λ (l : Link). leads_to port l && is_high l) links
+high-sum : (f : Link → ℕ) (port : ℕ) (links : List Link) → sum_by f (filter is_high_link (routed port links)) ≡ sum_by (λ link. cond (leads_to port link && is_high_link link) (f link) 0) links
+high-sum f port links = ap (sum_by f) (filter-filter (leads_to port) is_high_link links) ∙ sum-filter f (λ (l : Link). leads_to port l && is_high_link l) links
 
 pub each_once : SumsTakeEachLinkOnce
 unfolding sums_of
@@ -76,8 +77,8 @@ sum_above speed (link ∷ links) long some = omega (arith, sum_by-cons (rate_of 
 part_left : (speed : Speed) (links : List Link) → All IsLong links → (sums_of speed links).rate ≤ parts → 0 < (sums_of speed links).lows → (sums_of speed links).high_rate < parts
 unfolding sums_of
 part_left speed links long rate lows =
-    let low : 0 < sum_by (rate_of speed) (filter is_low links) = sum_above speed (filter is_low links) (All-filter is_low IsLong links long) (omega (arith, length-filter is_low links)) in
-    omega (arith, low, sum_by-filter_both is_high is_low (λ _. refl) (rate_of speed) links)
+    let low : 0 < sum_by (rate_of speed) (filter is_low_link links) = sum_above speed (filter is_low_link links) (All-filter is_low_link IsLong links long) (omega (arith, length-filter is_low_link links)) in
+    omega (arith, low, sum_by-filter_both is_high_link is_low_link (λ _. refl) (rate_of speed) links)
 
 pub leave_a_part : HighLinksLeaveAPart
 leave_a_part c speed port well rate lows = part_left speed (routed port c.links) (All-filter (leads_to port) IsLong c.links (all_long c well)) rate lows

@@ -10,7 +10,8 @@ use Rattle.afdx_units.specs.declared.line.Speed.{Speed}
 use Rattle.afdx_units.specs.declared.line.Priority.{Priority}
 use Rattle.afdx_units.specs.declared.line.Priority.TheVariants.{High, Low}
 use Rattle.afdx_table.specs.Link.{Link, leads_to}
-use Rattle.afdx_load.specs.Sums.{is_high_priority, is_high, is_low, routed, rate_of, burst_of, time_of, greatest, Sums, sums_of, asked_of}
+use Rattle.afdx_units.specs.Line.{is_high}
+use Rattle.afdx_load.specs.Sums.{is_high_link, is_low_link, routed, rate_of, burst_of, time_of, greatest, Sums, sums_of, asked_of}
 use Rattle.afdx_load.specs.Inner.Adding.{counted, with_link}
 
 count-push : (p : Link → Bool) (links : List Link) (link : Link) (b : Bool) → p link ≡ b → count_by p (links ++ link ∷ []) ≡ count_by p links + cond b 1 0
@@ -37,29 +38,29 @@ push_as : (speed : Speed) (links : List Link) (link : Link) (priority : Priority
     → sums_of speed (links ++ link ∷ []) ≡ counted priority (rate_of speed link) (burst_of speed link) (time_of speed link) (sums_of speed links)
 unfolding sums_of
 push_as speed links link High is =
-    let high : is_high link ≡ true = ap is_high_priority is in
-    let low : is_low link ≡ false = ap not high in
+    let high : is_high_link link ≡ true = ap is_high is in
+    let low : is_low_link link ≡ false = ap not high in
     same _ _ _ _ _ _ _ _ _ _ _ _ _ _ _ _
-    (count-push is_high links link true high)
-    (count-push is_low links link false low ∙ omega arith)
+    (count-push is_high_link links link true high)
+    (count-push is_low_link links link false low ∙ omega arith)
     (sum_by_push (rate_of speed) links link)
-    (ap (sum_by (rate_of speed)) (kept is_high links link high) ∙ sum_by_push (rate_of speed) (filter is_high links) link)
+    (ap (sum_by (rate_of speed)) (kept is_high_link links link high) ∙ sum_by_push (rate_of speed) (filter is_high_link links) link)
     (sum_by_push (burst_of speed) links link)
-    (ap (sum_by (burst_of speed)) (kept is_high links link high) ∙ sum_by_push (burst_of speed) (filter is_high links) link)
+    (ap (sum_by (burst_of speed)) (kept is_high_link links link high) ∙ sum_by_push (burst_of speed) (filter is_high_link links) link)
     (greatest-push (time_of speed) links link)
-    (ap (greatest (time_of speed)) (left is_low links link low))
+    (ap (greatest (time_of speed)) (left is_low_link links link low))
 push_as speed links link Low is =
-    let high : is_high link ≡ false = ap is_high_priority is in
-    let low : is_low link ≡ true = ap not high in
+    let high : is_high_link link ≡ false = ap is_high is in
+    let low : is_low_link link ≡ true = ap not high in
     same _ _ _ _ _ _ _ _ _ _ _ _ _ _ _ _
-    (count-push is_high links link false high ∙ omega arith)
-    (count-push is_low links link true low)
+    (count-push is_high_link links link false high ∙ omega arith)
+    (count-push is_low_link links link true low)
     (sum_by_push (rate_of speed) links link)
-    (ap (sum_by (rate_of speed)) (left is_high links link high))
+    (ap (sum_by (rate_of speed)) (left is_high_link links link high))
     (sum_by_push (burst_of speed) links link)
-    (ap (sum_by (burst_of speed)) (left is_high links link high))
+    (ap (sum_by (burst_of speed)) (left is_high_link links link high))
     (greatest-push (time_of speed) links link)
-    (ap (greatest (time_of speed)) (kept is_low links link low) ∙ greatest-push (time_of speed) (filter is_low links) link)
+    (ap (greatest (time_of speed)) (kept is_low_link links link low) ∙ greatest-push (time_of speed) (filter is_low_link links) link)
 
 pub sums-push : (speed : Speed) (links : List Link) (link : Link) → sums_of speed (links ++ link ∷ []) ≡ with_link speed (sums_of speed links) link
 sums-push speed links link = push_as speed links link link.priority refl
@@ -83,7 +84,7 @@ load_none speed = refl
 -- the links of a load are all that are counted
 pub all_counted : (speed : Speed) (links : List Link) → (sums_of speed links).highs + (sums_of speed links).lows ≡ length links
 unfolding sums_of
-all_counted speed links = omega (arith, length-filter is_high links, length-filter is_low links, length-filter_both is_high is_low (λ _. refl) links)
+all_counted speed links = omega (arith, length-filter is_high_link links, length-filter is_low_link links, length-filter_both is_high_link is_low_link (λ _. refl) links)
 
 pub few : (speed : Speed) (port : ℕ) (links : List Link) → (asked_of speed port links).highs + (asked_of speed port links).lows ≤ length links
 few speed port links = omega (arith, all_counted speed (routed port links), length-filter (leads_to port) links, count_by-le-length (leads_to port) links)

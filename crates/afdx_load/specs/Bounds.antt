@@ -2,7 +2,8 @@
 use Rattle.std.specs.Prelude.{ℕ, ◌+◌, ◌-◌, ◌*◌, ◌/◌, nat_lt, ◌&&◌, Option, Some, None, if◌then◌else◌}
 use Rattle.afdx_units.specs.declared.line.Speed.{Speed}
 use Rattle.afdx_units.specs.Line.{tick_of}
-use Rattle.afdx_load.specs.Sums.{parts, Sums}
+use Rattle.afdx_load.specs.Sums.{Sums}
+use Rattle.afdx_account.specs.Policing.{parts}
 use Rattle.afdx_load.specs.declared.delays.Bounds.{Bounds}
 
 -- nanoseconds from the arrival of a high frame to its end on the line: the latency, and, rounded down, all that high links may

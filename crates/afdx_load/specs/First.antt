@@ -1,7 +1,8 @@
 -- What the refusal of a load shows.
 use Rattle.std.specs.Prelude.{ℕ, Option, Some}
 use Rattle.afdx_table.specs.declared.rows.PortRow.{PortRow}
-use Rattle.afdx_load.specs.Sums.{parts, Sums}
+use Rattle.afdx_load.specs.Sums.{Sums}
+use Rattle.afdx_account.specs.Policing.{parts}
 use Rattle.afdx_load.specs.Bounds.{high_bound, low_bound, backlog, byte_time}
 use Rattle.afdx_load.specs.declared.fault.Rule.{Rule}
 use Rattle.afdx_load.specs.declared.fault.Rule.TheVariants.{Rate, Buffer, HighDelay, LowDelay}

@@ -2,31 +2,20 @@
 use Rattle.std.specs.Prelude.{ℕ, ◌+◌, ◌*◌, ◌/◌, Bool, true, false, not, List, [], ◌∷◌, filter, sum_by, count_by, max, Option, option_map}
 use Rattle.afdx_units.specs.declared.bag.Bag.{Bag}
 use Rattle.afdx_units.specs.declared.line.Speed.{Speed}
-use Rattle.afdx_units.specs.declared.line.Priority.{Priority}
-use Rattle.afdx_units.specs.declared.line.Priority.TheVariants.{High, Low}
 use Rattle.afdx_units.specs.declared.police.Police.{Police}
 use Rattle.afdx_units.specs.declared.police.Police.TheVariants.{Byte, Frame}
-use Rattle.afdx_units.specs.Line.{tick_of, cost_of}
+use Rattle.afdx_units.specs.Line.{tick_of, cost_of, is_high}
 use Rattle.afdx_units.specs.Time.{bag_ms, bag_ns}
 use Rattle.afdx_account.specs.Policing.{Terms, terms_by, weight_by}
 use Rattle.afdx_table.specs.Link.{Link, leads_to}
 use Rattle.afdx_table.specs.Content.{Content, port_row}
 
--- profile: the whole of a line, in the parts in which rates are reported; they are 16 * 128,000,000, so that a byte's part
--- is a whole number for each gap
-abbrev pub parts : ℕ
-parts = 2048000000
+-- ARINC 664 Part 7: a link has one of the two priorities
+abbrev pub is_high_link : Link → Bool
+is_high_link link = is_high link.priority
 
--- ARINC 664 Part 7: the two priorities
-abbrev pub is_high_priority : Priority → Bool
-is_high_priority High = true
-is_high_priority Low = false
-
-abbrev pub is_high : Link → Bool
-is_high link = is_high_priority link.priority
-
-abbrev pub is_low : Link → Bool
-is_low link = not (is_high link)
+abbrev pub is_low_link : Link → Bool
+is_low_link link = not (is_high_link link)
 
 -- the links that lead to a port, each once
 abbrev pub routed : ℕ → List Link → List Link
@@ -79,14 +68,14 @@ pub record Sums : Type 0 where
 -- the load of some links, each frame of which is queued at once
 unfoldable pub sums_of : Speed → List Link → Sums
 sums_of speed links = record {
-  highs = count_by is_high links;
-  lows = count_by is_low links;
+  highs = count_by is_high_link links;
+  lows = count_by is_low_link links;
   rate = sum_by (rate_of speed) links;
-  high_rate = sum_by (rate_of speed) (filter is_high links);
+  high_rate = sum_by (rate_of speed) (filter is_high_link links);
   burst = sum_by (burst_of speed) links;
-  high_burst = sum_by (burst_of speed) (filter is_high links);
+  high_burst = sum_by (burst_of speed) (filter is_high_link links);
   largest = greatest (time_of speed) links;
-  low_largest = greatest (time_of speed) (filter is_low links);
+  low_largest = greatest (time_of speed) (filter is_low_link links);
   latency = 0;
 }
 

@@ -7,11 +7,13 @@ use Rattle.std.proofs.lemmas.List.Elements.{All-contains}
 use Rattle.std.proofs.lemmas.List.Sums.{length-filter}
 use Rattle.afdx_units.specs.declared.line.Priority.{Priority}
 use Rattle.afdx_units.specs.declared.line.Priority.TheVariants.{High, Low}
+use Rattle.afdx_units.specs.Line.{is_high}
 use Rattle.afdx_table.specs.declared.rows.PortRow.{PortRow}
 use Rattle.afdx_table.specs.Link.{Link, leads_to}
 use Rattle.afdx_table.specs.Content.{Content}
 use Rattle.afdx_table.specs.WellFormed.{IsWellFormed}
-use Rattle.afdx_load.specs.Sums.{Sums, parts, is_high_priority, is_high, is_low, routed, sums_of, load_of}
+use Rattle.afdx_load.specs.Sums.{Sums, is_high_link, is_low_link, routed, sums_of, load_of}
+use Rattle.afdx_account.specs.Policing.{parts}
 use Rattle.afdx_load.specs.Bounds.{high_bound, low_bound, bounds_of}
 use Rattle.afdx_load.specs.Accepted.{IsAccepted}
 use Rattle.afdx_load.specs.Inner.Laws.{AcceptedKeepsBounds}
@@ -33,13 +35,13 @@ counted q links l among is =
     let same = length-filter q links in
     omega (arith, place, same)
 
-highs : (latency : ℕ) (t : Content) (p : PortRow) (l : Link) → Contains (routed p.id t.links) l → is_high l ≡ true → 0 < (load_of latency p.speed p.id t.links).highs
+highs : (latency : ℕ) (t : Content) (p : PortRow) (l : Link) → Contains (routed p.id t.links) l → is_high_link l ≡ true → 0 < (load_of latency p.speed p.id t.links).highs
 unfolding sums_of
-highs latency t p l among high = counted is_high (routed p.id t.links) l among high
+highs latency t p l among high = counted is_high_link (routed p.id t.links) l among high
 
-lows : (latency : ℕ) (t : Content) (p : PortRow) (l : Link) → Contains (routed p.id t.links) l → is_low l ≡ true → 0 < (load_of latency p.speed p.id t.links).lows
+lows : (latency : ℕ) (t : Content) (p : PortRow) (l : Link) → Contains (routed p.id t.links) l → is_low_link l ≡ true → 0 < (load_of latency p.speed p.id t.links).lows
 unfolding sums_of
-lows latency t p l among low = counted is_low (routed p.id t.links) l among low
+lows latency t p l among low = counted is_low_link (routed p.id t.links) l among low
 
 abbrev load_at : Content → PortRow → Sums
 load_at t p = load_of t.latency p.speed p.id t.links
@@ -68,9 +70,9 @@ has_bound keeps t p l formed accepted among known leads = by l.priority refl whe
   here = contains_filter (leads_to p.id) t.links l known leads
 
   by : (priority : Priority) → l.priority ≡ priority → (bound : ℕ) × (bound_of (load_at t p) priority ≡ Some bound)
-  by High is = some_high (load_at t p) (highs t.latency t p l here (ap is_high_priority is))
+  by High is = some_high (load_at t p) (highs t.latency t p l here (ap is_high is))
   by Low is =
-      let there = lows t.latency t p l here (ap (λ priority. not (is_high_priority priority)) is) in
+      let there = lows t.latency t p l here (ap (λ priority. not (is_high priority)) is) in
       some_low (load_at t p) there (a_part_is_left keeps t p formed accepted among there)
 
 -- ---- ways

@@ -14,7 +14,8 @@ use Rattle.afdx_table.specs.Content.{Content}
 use Rattle.afdx_table.specs.WellFormed.{IsPort, IsWellFormed}
 use Rattle.afdx_table.specs.Inner.Found.{LinksAreFound}
 use Rattle.afdx_filter.specs.Inner.Exactly.{CleanExactly}
-use Rattle.afdx_load.specs.Sums.{Sums, load_of, terms_of, parts}
+use Rattle.afdx_load.specs.Sums.{Sums, load_of, terms_of}
+use Rattle.afdx_account.specs.Policing.{parts}
 use Rattle.afdx_load.specs.Bounds.{high_bound, low_bound}
 use Rattle.afdx_load.specs.Accepted.{Carries, IsAccepted}
 use Rattle.afdx_isolation.specs.Table.{bound_of}

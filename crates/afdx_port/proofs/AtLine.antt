@@ -5,7 +5,8 @@ use Rattle.std.specs.Option.{option_map}
 use Rattle.std.proofs.lemmas.List.Elements.{All-head, All-weaker, All-append, All-filter, Contains-get_or, filter-append}
 use Rattle.afdx_port.specs.declared.Settings.{Settings}
 use Rattle.afdx_port.specs.declared.Item.{Item}
-use Rattle.afdx_port.specs.Service.{Event, instant, came, item_of, free_after, fate, next, others, is_high, in_turn, service, before}
+use Rattle.afdx_port.specs.Service.{Event, instant, came, item_of, free_after, fate, next, others, in_turn, service, before}
+use Rattle.afdx_units.specs.Line.{is_high}
 use Rattle.afdx_port.specs.Inner.Progress.{LineState, left, is_due}
 use Rattle.afdx_port.specs.Inner.Order.{in_line, highs, lows, line_up}
 use Rattle.afdx_port.specs.Inner.Course.{rest_in_line, reached, first_start, line_at}

@@ -9,11 +9,11 @@ use Rattle.std.proofs.lemmas.Bool.{cases_lt}
 use Rattle.std.proofs.lemmas.Bool.Decides.{nat_tests}
 use Rattle.std.proofs.lemmas.List.Sums.{sum_by-cons, sum_by_push}
 use Rattle.std.proofs.lemmas.List.Elements.{All-head, All-tail, All-cons, All-get_or, All-nil, All-filter, All-same, All-weaker}
-use Rattle.afdx_units.specs.Line.{tick_of}
+use Rattle.afdx_units.specs.Line.{tick_of, is_high}
 use Rattle.afdx_port.specs.declared.Settings.{Settings}
 use Rattle.afdx_port.specs.declared.Item.{Item}
 use Rattle.afdx_port.specs.declared.Sent.{Sent}
-use Rattle.afdx_port.specs.Service.{came, Event, sending, aging, instant, item_of, free_after, next, others, turn, is_high, is_urgent, service, before, sent_of, aged_of}
+use Rattle.afdx_port.specs.Service.{came, Event, sending, aging, instant, item_of, free_after, next, others, turn, is_urgent, service, before, sent_of, aged_of}
 use Rattle.afdx_port.specs.Admission.{occupied}
 use Rattle.afdx_port.specs.Inner.Progress.{left, is_due, on_line}
 use Rattle.afdx_port.specs.Inner.Work.{item_cost, work, NoneAged, HaveCome, high_work, high_cost}

@@ -7,7 +7,8 @@ use Rattle.std.proofs.lemmas.List.Sums.{sum_by_push, sum_by-cons}
 use Rattle.std.proofs.Math.Nat.{mul-le-mul_left, mul-le-mul_right}
 use Rattle.afdx_port.specs.declared.Settings.{Settings}
 use Rattle.afdx_port.specs.declared.Item.{Item}
-use Rattle.afdx_port.specs.Service.{came, aged_of, is_high}
+use Rattle.afdx_port.specs.Service.{came, aged_of}
+use Rattle.afdx_units.specs.Line.{is_high}
 use Rattle.afdx_port.specs.Inner.Progress.{LineState, left}
 use Rattle.afdx_port.specs.Inner.Order.{InOrder}
 use Rattle.afdx_port.specs.Inner.Work.{item_cost, high_cost, high_work, NoneAged, HaveCome, HighWithinCurve}

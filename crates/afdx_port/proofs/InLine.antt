@@ -9,7 +9,8 @@ use Rattle.std.proofs.lemmas.List.Elements.{All-head, All-tail, All-get_or, All-
 use Rattle.std.proofs.lemmas.List.Quantifiers.{position-Some}
 use Rattle.afdx_port.specs.declared.Settings.{Settings}
 use Rattle.afdx_port.specs.declared.Item.{Item}
-use Rattle.afdx_port.specs.Service.{came, free_after, fate, next, others, turn, is_high, is_urgent, service, in_turn}
+use Rattle.afdx_port.specs.Service.{came, free_after, fate, next, others, turn, is_urgent, service, in_turn}
+use Rattle.afdx_units.specs.Line.{is_high}
 use Rattle.afdx_port.specs.Inner.Progress.{start_of}
 use Rattle.afdx_port.specs.Inner.Order.{in_line, highs, lows, line_up, HighTurn, LowTurn}
 use Rattle.afdx_port.proofs.Turns.{length-others, service-step, position_none, free_after-next}

@@ -10,7 +10,8 @@ use Rattle.std.proofs.lemmas.List.Quantifiers.{position-Some, all_pairs_remove}
 use Rattle.afdx_units.specs.declared.line.Priority.{Priority}
 use Rattle.afdx_port.specs.declared.Settings.{Settings}
 use Rattle.afdx_port.specs.declared.Item.{Item}
-use Rattle.afdx_port.specs.Service.{came, item_of, free_after, next, others, turn, is_high, is_urgent, service}
+use Rattle.afdx_port.specs.Service.{came, item_of, free_after, next, others, turn, is_urgent, service}
+use Rattle.afdx_units.specs.Line.{is_high}
 use Rattle.afdx_port.specs.Inner.Order.{InOrder}
 use Rattle.afdx_port.proofs.Turns.{item_of-next, length-others, service-step, turn-lt, position_none}
 use Rattle.afdx_port.proofs.Working.{others_all}

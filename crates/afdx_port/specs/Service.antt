@@ -2,9 +2,7 @@
 -- ARINC 664 Part 7: high goes before low without preemption, each in order of arrival, and age is limited.
 -- What it leaves open is chosen here (profile).
 use Rattle.std.specs.Prelude.{ℕ, ◌+◌, ◌-◌, max, zero, suc, Bool, true, false, ◌&&◌, nat_lt, nat_le, if◌then◌else◌, List, [], ◌∷◌, length, filter, position, unwrap_or, slice_index_or, remove}
-use Rattle.afdx_units.specs.declared.line.Priority.{Priority}
-use Rattle.afdx_units.specs.declared.line.Priority.TheVariants.{High, Low}
-use Rattle.afdx_units.specs.Line.{cost_of}
+use Rattle.afdx_units.specs.Line.{cost_of, is_high}
 use Rattle.afdx_port.specs.declared.Settings.{Settings}
 use Rattle.afdx_port.specs.declared.Item.{Item}
 use Rattle.afdx_port.specs.declared.Sent.{Sent}
@@ -29,11 +27,6 @@ free_after (aging a) = a.at
 abbrev pub item_of : Event → Item
 item_of (sending s) = s.item
 item_of (aging a) = a.item
-
--- ARINC 664 Part 7: the two priorities of an output port
-abbrev pub is_high : Priority → Bool
-is_high High = true
-is_high Low = false
 
 -- profile: the instant by which all is queued that came by the stamp t, one latency later
 unfoldable pub reach : Settings → ℕ → ℕ

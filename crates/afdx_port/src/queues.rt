@@ -2,7 +2,7 @@
 
 ghost use Rattle.std.specs.Prelude.{◌≡◌, ℕ, ◌+◌, ◌<◌, ◌≤◌, ◌++◌, [], ◌∷◌, IsTrue, IsSome, ◌↔◌, true, false, length, option_to_list, sum_by, All, OnOk};
 ghost use Rattle.std.specs.VecDeque.{deque_len, deque_capacity};
-ghost use Rattle.afdx_port.specs.Service.{is_high};
+ghost use Rattle.afdx_units.specs.Line.{is_high};
 ghost use Rattle.afdx_port.specs.Inner.Queued.{line_of, count_of, queued, IsQueued, HasPlace};
 
 use crate::Item;

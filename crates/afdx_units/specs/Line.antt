@@ -1,5 +1,7 @@
 -- Sizes of frames, and the time that they take on a line.
-use Rattle.std.specs.Prelude.{ℕ, ◌+◌, ◌*◌}
+use Rattle.std.specs.Prelude.{ℕ, ◌+◌, ◌*◌, Bool, true, false}
+use Rattle.afdx_units.specs.declared.line.Priority.{Priority}
+use Rattle.afdx_units.specs.declared.line.Priority.TheVariants.{High, Low}
 use Rattle.afdx_units.specs.declared.line.Speed.{Speed}
 use Rattle.afdx_units.specs.declared.line.Speed.TheVariants.{Ten, Hundred, Thousand}
 
@@ -17,3 +19,8 @@ tick_of Thousand = 8
 -- delimiter and 12 of gap to the next frame go with each
 abbrev pub cost_of : Speed → ℕ → ℕ
 cost_of speed size = (size + 20) * tick_of speed
+
+-- ARINC 664 Part 7: the two priorities of an output port
+abbrev pub is_high : Priority → Bool
+is_high High = true
+is_high Low = false

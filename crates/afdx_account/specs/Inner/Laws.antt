@@ -6,7 +6,7 @@ use Rattle.afdx_units.specs.declared.line.Speed.{Speed}
 use Rattle.afdx_units.specs.declared.police.Police.{Police}
 use Rattle.afdx_units.specs.Line.{cost_of}
 use Rattle.afdx_account.specs.declared.frame.Frame.{Frame}
-use Rattle.afdx_account.specs.Policing.{Terms, Conforms, byte_terms, byte_weight, frame_terms, frame_weight, terms_by, weight_by, conforms, passed_of, passed_frames}
+use Rattle.afdx_account.specs.Policing.{parts, Terms, Conforms, byte_terms, byte_weight, frame_terms, frame_weight, terms_by, weight_by, conforms, passed_of, passed_frames}
 use Rattle.afdx_account.specs.Level.{InOrder, headroom, credited_level, stepped}
 
 -- a full account that goes step by step passes exactly the frames that keep to their allowances in all windows
@@ -56,14 +56,14 @@ HeadroomIsDebited = (t : Terms) (passed : List Frame) (f : Frame)
 -- what a frame costs in bytes pays for its line time
 abbrev pub BytePricesPay : Type 0
 BytePricesPay = (max_size : ℕ) (bag : Bag) (jitter : ℕ) (speed : Speed) (size : ℕ) → 64 ≤ size
-    → 2048000000 * cost_of speed size ≤ byte_weight bag speed * (byte_terms max_size bag jitter).price size
+    → parts * cost_of speed size ≤ byte_weight bag speed * (byte_terms max_size bag jitter).price size
 
 -- by frames, the price pays for the line time of each frame that the link allows
 abbrev pub FramePricesPay : Type 0
 FramePricesPay = (max_size : ℕ) (bag : Bag) (jitter : ℕ) (speed : Speed) (size : ℕ) → size ≤ max_size
-    → 2048000000 * cost_of speed size ≤ frame_weight max_size bag speed * (frame_terms bag jitter).price size
+    → parts * cost_of speed size ≤ frame_weight max_size bag speed * (frame_terms bag jitter).price size
 
 -- by either kind
 abbrev pub PricesPay : Type 0
 PricesPay = (police : Police) (max_size : ℕ) (bag : Bag) (jitter : ℕ) (speed : Speed) (size : ℕ) → 64 ≤ size → size ≤ max_size
-    → 2048000000 * cost_of speed size ≤ weight_by police max_size bag speed * (terms_by police max_size bag jitter).price size
+    → parts * cost_of speed size ≤ weight_by police max_size bag speed * (terms_by police max_size bag jitter).price size

@@ -8,7 +8,7 @@ use Rattle.afdx_units.specs.Time.{bag_ms, bag_ns}
 use Rattle.afdx_units.specs.Line.{tick_of, cost_of}
 use Rattle.afdx_account.specs.declared.account.Account.{Account}
 use Rattle.afdx_account.specs.declared.account.Account.TheVariants.{Byte, Frame}
-use Rattle.afdx_account.specs.Policing.{Terms, byte_weight, frame_weight}
+use Rattle.afdx_account.specs.Policing.{parts, Terms, byte_weight, frame_weight}
 use Rattle.afdx_account.specs.Level.{credited_level}
 use Rattle.afdx_account.specs.Account.{account_terms, account_since, account_level, account_weight, account_greatest}
 
@@ -46,11 +46,11 @@ frames_pay t k b max_size size is h =
     omega (arith, more, whole, parts)
 
 pub pays_for : (bag : Bag) (speed : Speed) (size : ℕ) → 64 ≤ size
-    → 2048000000 * cost_of speed size ≤ byte_weight bag speed * (size * bag_ns bag)
+    → parts * cost_of speed size ≤ byte_weight bag speed * (size * bag_ns bag)
 pays_for bag speed size h = bytes_pay (tick_of speed) (128 / bag_ms bag) (bag_ns bag) size (parts_of_gap bag) h
 
 pub frame_pays_for : (bag : Bag) (speed : Speed) (max_size size : ℕ) → size ≤ max_size
-    → 2048000000 * cost_of speed size ≤ frame_weight max_size bag speed * bag_ns bag
+    → parts * cost_of speed size ≤ frame_weight max_size bag speed * bag_ns bag
 frame_pays_for bag speed max_size size h = frames_pay (tick_of speed) (128 / bag_ms bag) (bag_ns bag) max_size size (parts_of_gap bag) h
 
 pub capped_by : (cap n : ℕ) → min cap n ≤ cap
@@ -68,6 +68,6 @@ account_credited (Byte a) at later h k = fills (a.max_size * (bag_ns a.bag + a.j
 account_credited (Frame a) at later h k = fills (bag_ns a.bag + a.jitter) 1 a.level a.since at later h k
 
 pub account_pays : (a : Account) (speed : Speed) (size : ℕ) → 64 ≤ size → size ≤ account_greatest a
-    → 2048000000 * cost_of speed size ≤ account_weight a speed * (account_terms a).price size
+    → parts * cost_of speed size ≤ account_weight a speed * (account_terms a).price size
 account_pays (Byte a) speed size h k = pays_for a.bag speed size h
 account_pays (Frame a) speed size h k = frame_pays_for a.bag speed a.max_size size k

@@ -13,7 +13,7 @@ use Rattle.afdx_load.specs.Sums.{terms_of}
 use Rattle.afdx_core.specs.declared.step.Row.{Row}
 use Rattle.afdx_core.specs.Rows.{says_clean, named, account_frames, feed_of}
 use Rattle.afdx_core.specs.State.{Run, sent_in}
-use Rattle.afdx_core.specs.Agreement.{frame_in}
+use Rattle.afdx_isolation.specs.Arrivals.{frame_in}
 
 -- the frames of a link among these items
 abbrev pub part_of : ℕ → List Item → List Frame

@@ -14,8 +14,8 @@ use Rattle.afdx_port.specs.Inner.Work.{item_cost}
 use Rattle.afdx_isolation.specs.Inner.Flow.{Flow, Load, IsPaidFor, IsWithinRate, HasBuffer, IsWithinDelay, Carries, AreDistinct, load_of, bound}
 use Rattle.afdx_isolation.specs.Inner.Potential.{KeepsPotentials}
 use Rattle.afdx_isolation.specs.Inner.Account.{IsOfAFlow}
-use Rattle.afdx_isolation.specs.Arrivals.{own}
-use Rattle.afdx_isolation.specs.Inner.Arrivals.{frame_of, StampsDoNotFall, IsClean, passed, feed_of, level_after}
+use Rattle.afdx_isolation.specs.Arrivals.{own, frame_in}
+use Rattle.afdx_isolation.specs.Inner.Arrivals.{StampsDoNotFall, IsClean, passed, feed_of, level_after}
 
 -- arrivals at the switch of this port: the flows are policed at prices that pay for line time, no two have one number,
 -- and of all clean arrivals, of these flows and of others, the stamps do not fall
@@ -90,12 +90,12 @@ IsolatesSoFar = (c : Content) (flows : List Flow) (arrivals : List Item) → Arr
 
 -- the frames that leave a port for a link
 abbrev pub frames_for : ℕ → Settings → List Flow → List Item → List Frame
-frames_for id s flows arrivals = map frame_of (own id (map item_of (service s 0 (admitted s (feed_of flows arrivals)))))
+frames_for id s flows arrivals = map frame_in (own id (map item_of (service s 0 (admitted s (feed_of flows arrivals)))))
 
 -- they are the same at two ports, of two tables and two lists of arrivals, where the link's terms and its own frames are the
 -- same, whatever the other links are and send
 abbrev pub OthersChangeNothing : Type 0
 OthersChangeNothing = (s s' : Settings) (flows flows' : List Flow) (flow flow' : Flow) (arrivals arrivals' : List Item)
     → Arrive s flows arrivals → Carries s flows → Arrive s' flows' arrivals' → Carries s' flows'
-    → Contains flows flow → Contains flows' flow' → flow.terms ≡ flow'.terms → map frame_of (own flow.id arrivals) ≡ map frame_of (own flow'.id arrivals')
+    → Contains flows flow → Contains flows' flow' → flow.terms ≡ flow'.terms → map frame_in (own flow.id arrivals) ≡ map frame_in (own flow'.id arrivals')
     → frames_for flow.id s flows arrivals ≡ frames_for flow'.id s' flows' arrivals'

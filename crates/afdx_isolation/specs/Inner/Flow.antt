@@ -2,11 +2,9 @@
 use Rattle.std.specs.Prelude.{ℕ, ◌+◌, ◌-◌, ◌*◌, ◌/◌, ◌<◌, ◌≤◌, ◌≡◌, max, not, filter, List, [], ◌∷◌, sum_by, All, Contains}
 use Rattle.afdx_units.specs.declared.line.Priority.{Priority}
 use Rattle.afdx_units.specs.declared.line.Priority.TheVariants.{High, Low}
-use Rattle.afdx_units.specs.Line.{cost_of, tick_of}
-use Rattle.afdx_account.specs.Policing.{Terms}
+use Rattle.afdx_units.specs.Line.{cost_of, tick_of, is_high}
+use Rattle.afdx_account.specs.Policing.{Terms, parts}
 use Rattle.afdx_port.specs.declared.Settings.{Settings}
-use Rattle.afdx_port.specs.Service.{is_high}
-use Rattle.afdx_load.specs.Sums.{parts}
 
 -- a virtual link as an output port sees it: the terms by which it is policed, the line time that a unit of them
 -- stands for on this port's line, in parts of a nanosecond, and its largest frame in bytes

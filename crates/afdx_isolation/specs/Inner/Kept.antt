@@ -7,7 +7,7 @@ use Rattle.afdx_port.specs.Admission.{fits}
 use Rattle.afdx_port.specs.Inner.Course.{line_at}
 use Rattle.afdx_port.specs.Inner.Order.{InOrder}
 use Rattle.afdx_port.specs.Inner.Work.{HaveCome}
-use Rattle.afdx_load.specs.Sums.{parts}
+use Rattle.afdx_account.specs.Policing.{parts}
 use Rattle.afdx_isolation.specs.Inner.Flow.{Flow, IsPaidFor, IsWithinRate, HasBuffer, load_of}
 use Rattle.afdx_isolation.specs.Inner.Potential.{KeepsPotentials, EndsBy, BeginsAs}
 use Rattle.afdx_isolation.specs.Inner.Account.{AreWithinCaps, Grow, AreDebited, IsOfAFlow}

@@ -4,11 +4,12 @@
 use Rattle.std.specs.Prelude.{ℕ, ◌+◌, ◌*◌, ◌≤◌, ◌≡◌, true, false, List, [], ◌∷◌, sum_by}
 use Rattle.afdx_port.specs.declared.Settings.{Settings}
 use Rattle.afdx_port.specs.declared.Item.{Item}
-use Rattle.afdx_port.specs.Service.{came, Event, is_high, fate}
+use Rattle.afdx_port.specs.Service.{came, Event, fate}
+use Rattle.afdx_units.specs.Line.{is_high}
 use Rattle.afdx_port.specs.Inner.Progress.{LineState}
 use Rattle.afdx_port.specs.Inner.Order.{highs, lows}
 use Rattle.afdx_port.specs.Inner.Work.{item_cost}
-use Rattle.afdx_load.specs.Sums.{parts}
+use Rattle.afdx_account.specs.Policing.{parts}
 use Rattle.afdx_isolation.specs.Inner.Flow.{Flow, Load, high_flows, load_of}
 
 abbrev pub costs : Settings → List Item → ℕ

@@ -16,8 +16,8 @@ use Rattle.afdx_load.specs.Sums.{routed, load_of, terms_of, weight_of}
 use Rattle.afdx_load.specs.Bounds.{backlog, byte_time}
 use Rattle.afdx_load.specs.Accepted.{IsAccepted}
 use Rattle.afdx_isolation.specs.Inner.Flow.{Flow}
-use Rattle.afdx_isolation.specs.Arrivals.{own}
-use Rattle.afdx_isolation.specs.Inner.Arrivals.{frame_of, StampsDoNotFall, joins, feed_of}
+use Rattle.afdx_isolation.specs.Arrivals.{own, frame_in}
+use Rattle.afdx_isolation.specs.Inner.Arrivals.{StampsDoNotFall, joins, feed_of}
 use Rattle.afdx_isolation.specs.Table.{IsInBoundAt, settings_of}
 
 -- a link as a port of this speed sees it
@@ -41,7 +41,7 @@ pub record ArriveAt (t : Content) (arrivals : List Item) : Type 0 where
 
 -- the arrivals of a link that its policing passes
 abbrev pub passed_by : Link → List Item → List Item
-passed_by link arrivals = passed_of frame_of (terms_of link) (own link.id arrivals)
+passed_by link arrivals = passed_of frame_in (terms_of link) (own link.id arrivals)
 
 -- what a port of the table has done so far, that was offered what these arrivals gave it
 pub record IsIsolatedAt (t : Content) (row : PortRow) (arrivals : List Item) (c : PortContent) : Type 0 where
@@ -70,11 +70,11 @@ BuffersHoldTheBacklog = (t : Content) (arrivals : List Item) → ArriveAt t arri
 -- a copy of an arrival of a link is offered to a port exactly where the link leads there and its policing passes the frame
 abbrev pub OffersWhatThePolicingPasses : Type 0
 OffersWhatThePolicingPasses = (t : Content) → IsWellFormed t → (row : PortRow) (link : Link) → Contains t.links link → (before : List Item) (x : Item) → x.link ≡ link.id
-    → joins (flows_at t row) before x ≡ (leads_to row.id link && conforms (terms_of link) (passed_frames (terms_of link) (map frame_of (own link.id before))) (frame_of x))
+    → joins (flows_at t row) before x ≡ (leads_to row.id link && conforms (terms_of link) (passed_frames (terms_of link) (map frame_in (own link.id before))) (frame_in x))
 
 -- the frames that a port has sent for a link once it is finished
 abbrev pub frames_for : ℕ → PortContent → List Frame
-frames_for id c = map frame_of (own id (map (λ (x : Sent). x.item) (sent_of (done c))))
+frames_for id c = map frame_in (own id (map (λ (x : Sent). x.item) (sent_of (done c))))
 
 -- in two tables, and after two lists of arrivals, these are the same at the ports of a link whose terms and whose own frames are
 -- the same, whatever the other links are and send
@@ -82,7 +82,7 @@ abbrev pub OthersChangeNothingInTables : Type 0
 OthersChangeNothingInTables = (t t' : Content) (arrivals arrivals' : List Item) → ArriveAt t arrivals → ArriveAt t' arrivals'
     → (row row' : PortRow) → Contains t.ports row → Contains t'.ports row'
     → (link link' : Link) → Contains t.links link → Contains t'.links link' → leads_to row.id link ≡ true → leads_to row'.id link' ≡ true
-    → terms_of link ≡ terms_of link' → map frame_of (own link.id arrivals) ≡ map frame_of (own link'.id arrivals')
+    → terms_of link ≡ terms_of link' → map frame_in (own link.id arrivals) ≡ map frame_in (own link'.id arrivals')
     → (c c' : PortContent) → c.settings ≡ settings_of t.latency row → c'.settings ≡ settings_of t'.latency row'
     → c.admitted ≡ admitted (settings_of t.latency row) (feed_of (flows_at t row) arrivals) → c'.admitted ≡ admitted (settings_of t'.latency row') (feed_of (flows_at t' row') arrivals')
     → c.finished ≡ true → c'.finished ≡ true → frames_for link.id c ≡ frames_for link'.id c'

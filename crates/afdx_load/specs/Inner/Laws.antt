@@ -5,7 +5,8 @@ use Rattle.afdx_units.specs.Line.{tick_of, cost_of}
 use Rattle.afdx_table.specs.Link.{Link, leads_to}
 use Rattle.afdx_table.specs.Content.{Content}
 use Rattle.afdx_table.specs.WellFormed.{IsWellFormed}
-use Rattle.afdx_load.specs.Sums.{parts, is_high, terms_of, weight_of, rate_of, burst_of, asked_of, load_of}
+use Rattle.afdx_load.specs.Sums.{is_high_link, terms_of, weight_of, rate_of, burst_of, asked_of, load_of}
+use Rattle.afdx_account.specs.Policing.{parts}
 use Rattle.afdx_load.specs.Accepted.{IsAccepted, first_fault}
 
 -- profile: the factor 21/16 of the rate of a link policed by bytes covers the 20 bytes that go with each frame exactly for frames of 64 bytes
@@ -30,8 +31,8 @@ abbrev pub SumsTakeEachLinkOnce : Type 0
 SumsTakeEachLinkOnce = (latency : ℕ) (speed : Speed) (port : ℕ) (links : List Link) → let s = load_of latency speed port links in
     (s.rate ≡ sum_by (λ link. if leads_to port link then rate_of speed link else 0) links)
     × (s.burst ≡ sum_by (λ link. if leads_to port link then burst_of speed link else 0) links)
-    × (s.high_rate ≡ sum_by (λ link. if leads_to port link && is_high link then rate_of speed link else 0) links)
-    × (s.high_burst ≡ sum_by (λ link. if leads_to port link && is_high link then burst_of speed link else 0) links)
+    × (s.high_rate ≡ sum_by (λ link. if leads_to port link && is_high_link link then rate_of speed link else 0) links)
+    × (s.high_burst ≡ sum_by (λ link. if leads_to port link && is_high_link link then burst_of speed link else 0) links)
 
 -- a port has links exactly where its longest frame takes time
 abbrev pub LongestShowsLinks : Type 0

@@ -4,7 +4,8 @@ use Rattle.std.specs.List.{AllByRecursion}
 use Rattle.afdx_units.specs.declared.line.Priority.{Priority}
 use Rattle.afdx_port.specs.declared.Settings.{Settings}
 use Rattle.afdx_port.specs.declared.Item.{Item}
-use Rattle.afdx_port.specs.Service.{reach, came, Event, item_of, free_after, is_high, in_turn, fate, others, service, sent_of}
+use Rattle.afdx_port.specs.Service.{reach, came, Event, item_of, free_after, in_turn, fate, others, service, sent_of}
+use Rattle.afdx_units.specs.Line.{is_high}
 use Rattle.afdx_port.specs.Inner.Progress.{start_of}
 
 -- the instants at which the items are queued do not fall

@@ -1,10 +1,10 @@
 -- The work of a port: the line time that what it admitted still needs.
 use Rattle.std.specs.Prelude.{ℕ, ◌+◌, ◌-◌, ◌*◌, ◌<◌, ◌≤◌, ◌≡◌, min, max, false, nat_lt, if◌then◌else◌, List, [], ◌∷◌, ◌++◌, sum_by, filter, All}
-use Rattle.afdx_units.specs.Line.{cost_of, tick_of}
+use Rattle.afdx_units.specs.Line.{cost_of, tick_of, is_high}
 use Rattle.afdx_units.specs.Time.{second}
 use Rattle.afdx_port.specs.declared.Settings.{Settings}
 use Rattle.afdx_port.specs.declared.Item.{Item}
-use Rattle.afdx_port.specs.Service.{came, Event, sending, aging, service, before, sent_of, aged_of, is_high}
+use Rattle.afdx_port.specs.Service.{came, Event, sending, aging, service, before, sent_of, aged_of}
 use Rattle.afdx_port.specs.Admission.{occupied}
 use Rattle.afdx_port.specs.Inner.Progress.{left}
 use Rattle.afdx_port.specs.Inner.Order.{InOrder}
