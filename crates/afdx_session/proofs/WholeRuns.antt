@@ -6,9 +6,7 @@ use Rattle.afdx_table.specs.declared.rows.PortRow.{PortRow}
 use Rattle.afdx_table.specs.Content.{Content}
 use Rattle.afdx_port.specs.Admission.{EarlierEventsStayAdmitted}
 use Rattle.afdx_port.specs.Inner.Order.{ReachesInOrder}
-use Rattle.afdx_core.specs.State.{Run, State, after_finish}
-use Rattle.afdx_core.specs.Isolation.{IsRun}
-use Rattle.afdx_core.specs.Merge.{merged}
+use Rattle.afdx_core.specs.State.{after_finish}
 use Rattle.afdx_count.specs.Tally.{ended}
 use Rattle.afdx_count.specs.Inner.Laws.{EndCountsTheRun}
 use Rattle.afdx_session.specs.declared.lane.Lane.{Lane}
@@ -16,19 +14,18 @@ use Rattle.afdx_session.specs.declared.machine.Machine.{Machine}
 use Rattle.afdx_session.specs.declared.plan.RunFault.{RunFault}
 use Rattle.afdx_session.specs.declared.plan.RunFault.TheVariants as run
 use Rattle.afdx_session.specs.Texts.{Text, AreOfPorts}
-use Rattle.afdx_session.specs.Reading.{AreCaptures, IsReadFault}
-use Rattle.afdx_session.specs.Outcome.{Results, IsOutcome, IsDoneOf, IsRefusal}
+use Rattle.afdx_session.specs.Reading.{IsReadFault}
+use Rattle.afdx_session.specs.Outcome.{Results, IsOutcome, IsRefusal}
 use Rattle.afdx_session.specs.Headline.{AcceptedRunsIsolate, IsIsolated}
-use Rattle.afdx_session.specs.Output.{rows_of}
-use Rattle.afdx_session.specs.Streams.{captures_of, AllStartBeforeTheLastInstant}
+use Rattle.afdx_session.specs.Streams.{AllStartBeforeTheLastInstant}
 use Rattle.afdx_session.specs.Session.{Intake, Seen, taken_in, taken_of}
 use Rattle.afdx_session.specs.Finish.{rest_of, IsFinished}
 use Rattle.afdx_session.specs.Inner.Lanes.{intake_of}
-use Rattle.afdx_session.specs.Inner.Kept.{IsMarked, IsOfSameTable, IsGoing}
+use Rattle.afdx_session.specs.Inner.Kept.{IsMarked, IsOfSameTable}
 use Rattle.afdx_session.specs.Inner.View.{texts_at, seen_of, intakes_of, IsReady, IsKeptMachine, AreLent, HasCarried}
 use Rattle.afdx_session.proofs.Intakes.{marked_bytes}
 use Rattle.afdx_session.proofs.Shown.{kept_ready}
-use Rattle.afdx_session.proofs.Ending.{TakenAreTheCapture, are_captures, given_all}
+use Rattle.afdx_session.proofs.Ending.{TakenAreTheCapture}
 use Rattle.afdx_session.proofs.Finishing.{finished}
 
 -- ---- the captures
@@ -115,32 +112,3 @@ lent_outcome {Z} stay reaches ends takes law isolate accepted t texts new result
           subst (λ (c : Content). P c texts results) carried.table
           (subst (λ (ts : List Text). P old.switch.run.table ts results) (texts_are true texts old.lanes.items carried.captures (carried.kept.ready refl).marked)
           (subst (λ (r : Results). P old.switch.run.table (texts_at old.lanes.items) r) (sym all) is))
-
--- the switch of such a machine, once it is finished, took the program's merge of the records
-pub lent_done : {Z : Type 0} → TakenAreTheCapture → (accepted : Bool) (t : Content) (texts : List Text) (m : Machine Z) (s : State) → HasCarried accepted t texts m → s.run ≡ after_finish m.switch.run
-    → s.accepted ≡ m.switch.accepted
-    → IsRun s.run → IsDoneOf accepted t texts s
-lent_done {Z} takes accepted t texts m s carried run same_accepted is_run = record {
-  ports = carried.ports;
-  read = captures_of going.streams;
-  are_read = subst (λ (ts : List Text). AreCaptures ts (captures_of going.streams)) (texts_are true texts old.lanes.items carried.captures marked)
-      (are_captures takes true old.lanes.items m.lanes.items going.streams marked carried.ended going.lanes_are);
-  table = ap (λ (r : Run). r.table) run ∙ table;
-  rows = ap (λ (r : Run). r.rows) run ∙ going.is_given.rows ∙ ap (rows_of m.switch.run.table)
-      (sym (given_all m.switch.run.table old.lanes.items m.lanes.items m.switch m.counts carried.running carried.ended))
-      ∙ ap (λ (c : Content). rows_of c (merged (captures_of going.streams))) table;
-  is_run = is_run;
-  all = ap (λ (r : Run). r.finished) run;
-  accepted = same_accepted ∙ carried.same.accepted ∙ carried.accepted;
-} where
-  old : Machine Z
-  old = carried.lent
-
-  going : IsGoing m.switch.run.table m.lanes.items m.switch m.counts
-  going = carried.running.going
-
-  table : m.switch.run.table ≡ t
-  table = carried.same.table ∙ carried.table
-
-  marked : AllByRecursion (IsMarked true) old.lanes.items
-  marked = (carried.kept.ready refl).marked

@@ -14,6 +14,7 @@ use Rattle.afdx_port.specs.Inner.Course.{EventsAreInParts}
 use Rattle.afdx_core.specs.declared.step.Row.{Row}
 use Rattle.afdx_core.specs.State.{Run, State, sent_in, port_after, place_of, next_by, after_finish}
 use Rattle.afdx_core.specs.Held.{Keeps}
+use Rattle.afdx_core.specs.Isolation.{IsRun}
 use Rattle.afdx_core.specs.Merge.{Arrival, arrivals_of, by_stamp, merged}
 use Rattle.afdx_count.specs.Tally.{ended}
 use Rattle.afdx_count.specs.Run.{counts_so_far, counts_of}
@@ -22,12 +23,13 @@ use Rattle.afdx_session.specs.declared.lane.Lane.{Lane}
 use Rattle.afdx_session.specs.declared.machine.Machine.{Machine}
 use Rattle.afdx_session.specs.Texts.{Text, AreOfPorts}
 use Rattle.afdx_session.specs.Reading.{AreCaptures}
+use Rattle.afdx_session.specs.Outcome.{IsDoneOf}
 use Rattle.afdx_session.specs.Output.{rows_of, written, output_text, sent_by}
 use Rattle.afdx_session.specs.Replay.{HasBytesOf, left_at, IsDrained}
 use Rattle.afdx_session.specs.Streams.{Stream, captures_of, sent_up_to}
 use Rattle.afdx_session.specs.Inner.Settled.{Draws}
 use Rattle.afdx_session.specs.Inner.Lanes.{waiting_of}
-use Rattle.afdx_session.specs.Inner.Lent.{IsOver, texts_over, HaveGone}
+use Rattle.afdx_session.specs.Inner.Lent.{IsOver, texts_over, HaveGone, HasPassed}
 use Rattle.afdx_session.specs.Inner.Kept.{AreLanesOf, text_up_to, IsOut, IsGoing}
 use Rattle.afdx_session.specs.Carried.{Rest, IsLeft, IsCarried}
 use Rattle.afdx_session.proofs.Draining.{none_left}
@@ -193,14 +195,45 @@ rest_of_port {Z} parts reaches given since s p place l rows is_port taken out =
           ∙ ap (drop (length first)) (sent_in_the_end given s.run p rows ∙ rest.1)
           ∙ sent-prefix first rest.0
 
--- what is left of a machine whose switch took all records of these captures
+-- ---- a machine whose switch took all records of these captures
+
+-- what it was given is the program's merge of them
+all_given : {Z : Type 0} (texts : List Text) (m : Machine Z) (gone : HaveGone texts m) → merged (captures_of gone.carrying.going.streams) ≡ gone.carrying.going.given
+all_given texts m gone =
+    let going = gone.carrying.going in
+    going.settling.whole ∙ ap (λ xs. going.given ++ by_stamp xs) (none_waits m.lanes.items gone.carrying.over gone.all) ∙ append-nil going.given
+
+-- they are what was read
+all_read : {Z : Type 0} → TakenAreTheCapture → (texts : List Text) (m : Machine Z) (gone : HaveGone texts m) → AreCaptures texts (captures_of gone.carrying.going.streams)
+all_read takes texts m gone =
+    let streams = gone.carrying.going.streams in
+    subst (λ ts. AreCaptures ts (captures_of streams)) gone.over (over_captures takes m.lanes.items streams gone.carrying.over gone.all gone.carrying.going.lanes_are)
+
+-- its switch, once it is finished
+pub passed_done : {Z : Type 0} → TakenAreTheCapture → (cleared : Bool) (t : Content) (texts : List Text) (m : Machine Z) (s : State) → HasPassed cleared t texts m → s.run ≡ after_finish m.switch.run
+    → s.accepted ≡ m.switch.accepted → IsRun s.run → IsDoneOf cleared t texts s
+passed_done takes cleared t texts m s passed run accepted is_run =
+    let going = passed.gone.carrying.going in
+    record {
+      ports = passed.ports;
+      read = captures_of going.streams;
+      are_read = all_read takes texts m passed.gone;
+      table = ap (λ (r : Run). r.table) run ∙ passed.table;
+      rows = ap (λ (r : Run). r.rows) run ∙ going.is_given.rows ∙ ap (rows_of m.switch.run.table) (sym (all_given texts m passed.gone))
+          ∙ ap (λ (c : Content). rows_of c (merged (captures_of going.streams))) passed.table;
+      is_run = is_run;
+      all = ap (λ (r : Run). r.finished) run;
+      accepted = accepted ∙ passed.accepted;
+    }
+
+-- what is left of it
 pub carried : {Z : Type 0} → EventsAreInParts → ReachesInOrder → TakenAreTheCapture → EndCountsTheRun → (t : Content) (texts : List Text) (m : Machine Z) (r : Rest) → AreOfPorts t texts
     → m.switch.run.table ≡ t → HaveGone texts m → r.state.run ≡ after_finish m.switch.run → Keeps m.switch r.state → r.counts ≡ ended (after_finish m.switch.run) m.counts
     → r.texts ≡ map (λ (l : Lane Z). (l.port, l.out.items)) m.lanes.items → IsCarried t texts r
 carried {Z} parts reaches takes law t texts m r ports table gone run keeps counts outs = record {
   ports = ports;
   read = captures_of going.streams;
-  are_read = subst (λ ts. AreCaptures ts (captures_of going.streams)) gone.over (over_captures takes lanes going.streams gone.carrying.over gone.all going.lanes_are);
+  are_read = all_read takes texts m gone;
   left = subst (λ (c : Content). IsLeft c (merged (captures_of going.streams)) 0 r) table (subst (λ xs. IsLeft u xs 0 r) (sym given_is) left);
 } where
   u : Content
@@ -216,7 +249,7 @@ carried {Z} parts reaches takes law t texts m r ports table gone run keeps count
   given = going.given
 
   given_is : merged (captures_of going.streams) ≡ given
-  given_is = going.settling.whole ∙ ap (λ xs. given ++ by_stamp xs) (none_waits lanes gone.carrying.over gone.all) ∙ append-nil given
+  given_is = all_given texts m gone
 
   rows : m.switch.run.rows ≡ rows_of u given
   rows = going.is_given.rows

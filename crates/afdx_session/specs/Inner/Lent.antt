@@ -3,11 +3,12 @@ use Rattle.std.specs.Prelude.{ℕ, ◌+◌, ◌-◌, ◌<◌, ◌≡◌, Bool, t
 use Rattle.std.specs.List.{AllByRecursion}
 use Rattle.afdx_pcap.specs.Entry.{Entry}
 use Rattle.afdx_pcap.specs.Fault.{IsFault}
+use Rattle.afdx_table.specs.Content.{Content}
 use Rattle.afdx_session.specs.declared.lane.Lane.{Lane}
 use Rattle.afdx_session.specs.declared.machine.Machine.{Machine}
 use Rattle.afdx_session.specs.declared.plan.RunFault.{RunFault}
 use Rattle.afdx_session.specs.declared.plan.RunFault.TheVariants as run
-use Rattle.afdx_session.specs.Texts.{Text}
+use Rattle.afdx_session.specs.Texts.{Text, AreOfPorts}
 use Rattle.afdx_session.specs.Reading.{IsSound}
 use Rattle.afdx_session.specs.Inner.Lanes.{HasReadAll}
 use Rattle.afdx_session.specs.Inner.Kept.{AreOfTable, IsGoing, IsOfSameTable}
@@ -69,3 +70,10 @@ pub record HaveGone {Z : Type 0} (texts : List Text) (m : Machine Z) : Type 0 wh
   pub carrying : IsCarrying m
   pub over : texts_over m.lanes.items ≡ texts
   pub all : AllByRecursion (λ (l : Lane Z). l.ended ≡ true) m.lanes.items
+
+-- the machine of a plan over this table, whose switch took all records of these captures of the table's ports
+pub record HasPassed {Z : Type 0} (cleared : Bool) (t : Content) (texts : List Text) (m : Machine Z) : Type 0 where
+  pub ports : AreOfPorts t texts
+  pub table : m.switch.run.table ≡ t
+  pub accepted : m.switch.accepted ≡ cleared
+  pub gone : HaveGone texts m
