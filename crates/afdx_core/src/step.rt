@@ -1,5 +1,7 @@
 //! What the switch answers.
 
+ghost use Rattle.std.specs.Prelude.{◌≡◌};
+
 use afdx_filter::Verdict;
 use afdx_port::Offer;
 use afdx_units::Stamp;
@@ -63,6 +65,27 @@ pub struct Step<A: Allocator> {
     /// Where its link is in the table's file order, from 0, as the filter found it; none where it is no link's.
     /// Contracts do not see it: it spares a look-up, and who uses it looks whether that link has the number.
     pub place: Option<usize>,
+}
+
+impl<A: Allocator> Step<A> {
+    /// What became of the arrival of this row.
+    pub(crate) fn of(
+        number: usize,
+        row: &Row,
+        fate: Fate,
+        offers: Vec<(u8, Offer), A>,
+        place: Option<usize>,
+    ) -> Step<A>
+        ensures { result ≡ record { number = number; in_port = row.now.in_port; fate = fate; offers = offers.items } }
+    {
+        Step {
+            number,
+            in_port: row.in_port,
+            fate,
+            offers,
+            place,
+        }
+    }
 }
 
 impl<A: Allocator> Model for Step<A> {
