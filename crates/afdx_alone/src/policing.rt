@@ -45,7 +45,7 @@ impl From<AllocError> for AloneFault {
 
     ghost from_gives = { λ _ e. e ≡ Memory };
 
-    fn from(_e: AllocError) -> AloneFault {
+    fn from(_error: AllocError) -> AloneFault {
         AloneFault::Memory
     }
 }

@@ -117,7 +117,7 @@ impl<A: Allocator + Copy> Links<A> {
     }
 
     /// Whether the link at a place has the number.
-    fn stands_at(&self, place: usize, id: u16) -> bool
+    fn has_number_at(&self, place: usize, id: u16) -> bool
         ensures at { IsTrue result → IsPlaceOf (λ l. l.id) id self.now place }
         ensures distinct { IsDistinct nat_eq (map (λ l. l.id) self.now) }
     {
@@ -133,7 +133,7 @@ impl<A: Allocator + Copy> Links<A> {
         ensures distinct { IsDistinct nat_eq (map (λ l. l.id) self.now) }
     {
         match reported {
-            Some(place) if self.stands_at(place, id) => reported,
+            Some(place) if self.has_number_at(place, id) => reported,
             _ => self.place(id),
         }
     }

@@ -23,7 +23,7 @@ impl From<AllocError> for FolderFault {
 
     ghost from_gives = { λ _ fault. fault ≡ Memory };
 
-    fn from(_e: AllocError) -> FolderFault {
+    fn from(_error: AllocError) -> FolderFault {
         FolderFault::Memory
     }
 }
@@ -33,7 +33,7 @@ impl<T: Drop> From<AllocFailed<T>> for FolderFault {
 
     ghost from_gives = { λ _ fault. fault ≡ Memory };
 
-    fn from(_e: AllocFailed<T>) -> FolderFault {
+    fn from(_error: AllocFailed<T>) -> FolderFault {
         FolderFault::Memory
     }
 }

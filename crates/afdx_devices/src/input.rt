@@ -27,7 +27,7 @@ impl From<AllocError> for InputFault {
 
     ghost from_gives = { λ _ fault. fault ≡ Memory };
 
-    fn from(_e: AllocError) -> InputFault {
+    fn from(_error: AllocError) -> InputFault {
         InputFault::Memory
     }
 }

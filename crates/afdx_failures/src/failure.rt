@@ -56,7 +56,7 @@ impl From<AllocError> for Failure {
 
     ghost from_gives = { λ _ failure. failure ≡ Memory };
 
-    fn from(_e: AllocError) -> Failure {
+    fn from(_error: AllocError) -> Failure {
         Failure::Memory
     }
 }
@@ -66,7 +66,7 @@ impl<T: Drop> From<AllocFailed<T>> for Failure {
 
     ghost from_gives = { λ _ failure. failure ≡ Memory };
 
-    fn from(_e: AllocFailed<T>) -> Failure {
+    fn from(_error: AllocFailed<T>) -> Failure {
         Failure::Memory
     }
 }
@@ -89,7 +89,7 @@ impl From<WriteFault> for Failure {
 
     ghost from_gives = { λ _ failure. failure ≡ WriteFailed };
 
-    fn from(_e: WriteFault) -> Failure {
+    fn from(_error: WriteFault) -> Failure {
         Failure::Write
     }
 }

@@ -41,7 +41,7 @@ impl From<AllocError> for NetworkRunFault {
 
     ghost from_gives = { λ _ fault. fault ≡ Memory };
 
-    fn from(_e: AllocError) -> NetworkRunFault {
+    fn from(_error: AllocError) -> NetworkRunFault {
         NetworkRunFault::Memory
     }
 }
@@ -51,7 +51,7 @@ impl<T: Drop> From<AllocFailed<T>> for NetworkRunFault {
 
     ghost from_gives = { λ _ fault. fault ≡ Memory };
 
-    fn from(_e: AllocFailed<T>) -> NetworkRunFault {
+    fn from(_error: AllocFailed<T>) -> NetworkRunFault {
         NetworkRunFault::Memory
     }
 }

@@ -64,7 +64,7 @@ impl PcapFault {
 impl From<AllocError> for PcapFault {
     ghost from_gives = { λ _ e. e ≡ Memory };
 
-    fn from(_e: AllocError) -> PcapFault {
+    fn from(_error: AllocError) -> PcapFault {
         PcapFault::Memory
     }
 }
@@ -72,7 +72,7 @@ impl From<AllocError> for PcapFault {
 impl<T: Drop> From<AllocFailed<T>> for PcapFault {
     ghost from_gives = { λ _ e. e ≡ Memory };
 
-    fn from(_e: AllocFailed<T>) -> PcapFault {
+    fn from(_error: AllocFailed<T>) -> PcapFault {
         PcapFault::Memory
     }
 }

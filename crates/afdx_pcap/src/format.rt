@@ -83,7 +83,7 @@ impl Endian {
 
     /// The numbers of the record's header at the start.
     #[tactic(auto, unfolding(crate::specs::Capture::head_of))]
-    pub fn head_at_prefix(self, bytes: &[u8]) -> Head
+    pub fn head_at_start(self, bytes: &[u8]) -> Head
         requires { 16 ≤ length bytes.now }
         ensures { result ≡ head_of self bytes.now }
     {

@@ -86,7 +86,7 @@ pub fn read_record<'b, A: Allocator>(
     if bytes.len() < HEAD_LENGTH {
         return Err(PcapFault::CutHeader(number));
     }
-    let head = format.endian.head_at_prefix(bytes);
+    let head = format.endian.head_at_start(bytes);
     let stamp = stamp_of_head(format.resolution, last, number, head)?;
     let end = HEAD_LENGTH + head.captured as usize;
     if bytes.len() < end {

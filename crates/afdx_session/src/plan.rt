@@ -74,7 +74,7 @@ impl From<AllocError> for RunFault {
 
     ghost from_gives = { λ _ e. e ≡ Memory };
 
-    fn from(_e: AllocError) -> RunFault {
+    fn from(_error: AllocError) -> RunFault {
         RunFault::Memory
     }
 }
@@ -84,7 +84,7 @@ impl<T: Drop> From<AllocFailed<T>> for RunFault {
 
     ghost from_gives = { λ _ e. e ≡ Memory };
 
-    fn from(_e: AllocFailed<T>) -> RunFault {
+    fn from(_error: AllocFailed<T>) -> RunFault {
         RunFault::Memory
     }
 }

@@ -43,7 +43,7 @@ fn are_known(keys: &[Key], table: &Table) -> bool
 #[tactic(auto, unfolding(crate::specs::Fields::number_in))]
 fn number_in(at: At, key: Key, value: &Value) -> Result<u64, TableFault>
     ensures number { Gives (λ n. n) result (number_in at key (view value.now)) }
-    ensures keeps_nothing { IfErr result (λ e. e ≢ Memory) }
+    ensures no_memory { IfErr result (λ e. e ≢ Memory) }
 {
     let Some(number) = value.as_integer() else {
         return Err(TableFault::Kind(at, key));
@@ -55,7 +55,7 @@ fn number_in(at: At, key: Key, value: &Value) -> Result<u64, TableFault>
 #[tactic(auto, unfolding(crate::specs::Fields::text_in))]
 fn text_in(at: At, key: Key, value: &Value) -> Result<&str, TableFault>
     ensures text { Gives (λ s. s.now) result (text_in at key (view value.now)) }
-    ensures keeps_nothing { IfErr result (λ e. e ≢ Memory) }
+    ensures no_memory { IfErr result (λ e. e ≢ Memory) }
 {
     value.as_str().ok_or(TableFault::Kind(at, key))
 }
@@ -64,7 +64,7 @@ fn text_in(at: At, key: Key, value: &Value) -> Result<&str, TableFault>
 #[tactic(auto, unfolding(crate::specs::Fields::bounded))]
 pub(crate) fn bounded(at: At, key: Key, low: u64, high: u64, number: u64) -> Result<u64, TableFault>
     ensures value { result ≡ bounded at key low high number }
-    ensures keeps_nothing { IfErr result (λ e. e ≢ Memory) }
+    ensures no_memory { IfErr result (λ e. e ≢ Memory) }
     ensures within { IfOk result (λ n. n ≤ high) }
 {
     if low <= number && number <= high {
@@ -126,7 +126,7 @@ impl<'a> Fields<'a> {
     #[tactic(auto, unfolding(crate::specs::Fields::known_at))]
     pub(crate) fn known(&self, keys: &[Key]) -> Result<(), TableFault>
         ensures known { result ≡ known_at self.now.at keys.now (table_view self.now.table.now) }
-        ensures keeps_nothing { IfErr result (λ e. e ≢ Memory) }
+        ensures no_memory { IfErr result (λ e. e ≢ Memory) }
     {
         if are_known(keys, self.table) {
             Ok(())
@@ -162,7 +162,7 @@ impl<'a> Fields<'a> {
     #[tactic(auto, unfolding(crate::specs::Fields::optional_number_at))]
     pub(crate) fn optional_number(&self, key: Key) -> Result<Option<u64>, TableFault>
         ensures number { Gives (λ n. n) result (optional_number_at self.now.at key (table_view self.now.table.now)) }
-        ensures keeps_nothing { IfErr result (λ e. e ≢ Memory) }
+        ensures no_memory { IfErr result (λ e. e ≢ Memory) }
     {
         let Some(value) = self.find(key) else {
             return Ok(None);
@@ -200,7 +200,7 @@ impl<'a> Fields<'a> {
     #[tactic(auto, unfolding(crate::specs::Fields::optional_text_at))]
     pub(crate) fn optional_text(&self, key: Key) -> Result<Option<&'a str>, TableFault>
         ensures text { Gives (λ o. option_map (λ s. s.now) o) result (optional_text_at self.now.at key (table_view self.now.table.now)) }
-        ensures keeps_nothing { IfErr result (λ e. e ≢ Memory) }
+        ensures no_memory { IfErr result (λ e. e ≢ Memory) }
     {
         let Some(value) = self.find(key) else {
             return Ok(None);

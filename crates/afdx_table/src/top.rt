@@ -30,7 +30,7 @@ pub(crate) struct Top<'a> {
 /// The version that is stated; a missing one is the first.
 fn version_from(stated: Option<u64>) -> Result<u64, TableFault>
     ensures version { Gives (λ n. n) result (version_from stated) }
-    ensures keeps_nothing { IfErr result (λ e. e ≢ Memory) }
+    ensures no_memory { IfErr result (λ e. e ≢ Memory) }
 {
     match stated {
         Some(version) => bounded(At::Top, Key::Version, 1, MAX_VERSION, version),
@@ -41,7 +41,7 @@ fn version_from(stated: Option<u64>) -> Result<u64, TableFault>
 /// The four bytes that a text is, of which the first has its two lowest bits set (ARINC 664 Part 7).
 fn group_address(text: &str) -> Result<[u8; 4], TableFault>
     ensures constant { Gives (λ c. c) result (group_address (decode_sized text.now 4)) }
-    ensures keeps_nothing { IfErr result (λ e. e ≢ Memory) }
+    ensures no_memory { IfErr result (λ e. e ≢ Memory) }
 {
     match <[u8; 4] as FromHex>::from_hex(text) {
         Ok(constant) if constant[0] % 4 == 3 => Ok(constant),
@@ -52,7 +52,7 @@ fn group_address(text: &str) -> Result<[u8; 4], TableFault>
 /// The constant field that is stated; a missing one is 03 00 00 00.
 fn constant_from(stated: Option<&str>) -> Result<[u8; 4], TableFault>
     ensures constant { Gives (λ c. c) result (constant_from (option_map (λ s. s.now) stated.entry)) }
-    ensures keeps_nothing { IfErr result (λ e. e ≢ Memory) }
+    ensures no_memory { IfErr result (λ e. e ≢ Memory) }
 {
     match stated {
         Some(text) => group_address(text),
@@ -63,7 +63,7 @@ fn constant_from(stated: Option<&str>) -> Result<[u8; 4], TableFault>
 /// Refuses a key that the top has not in this version.
 fn known_keys(version: u64, fields: &Fields<'_>) -> Result<(), TableFault>
     ensures known { result ≡ known_at fields.now.at (top_keys version) (table_view fields.now.table.now) }
-    ensures keeps_nothing { IfErr result (λ e. e ≢ Memory) }
+    ensures no_memory { IfErr result (λ e. e ≢ Memory) }
 {
     if version < LATENCY_VERSION {
         fields.known(&[Key::Version, Key::Constant, Key::Port, Key::Link])
@@ -81,7 +81,7 @@ fn known_keys(version: u64, fields: &Fields<'_>) -> Result<(), TableFault>
 /// The latency in microseconds that is stated; a missing one is 0.
 fn latency_from(stated: Option<u64>) -> Result<u64, TableFault>
     ensures latency { Gives (λ n. n) result (latency_from stated) }
-    ensures keeps_nothing { IfErr result (λ e. e ≢ Memory) }
+    ensures no_memory { IfErr result (λ e. e ≢ Memory) }
     ensures within { IfOk result (λ n. n ≤ 100) }
 {
     match stated {
@@ -94,7 +94,7 @@ fn latency_from(stated: Option<u64>) -> Result<u64, TableFault>
 #[tactic(auto, unfolding(crate::specs::Top::at_most))]
 fn at_most(limit: usize, key: Key, tables: &[&Tree]) -> Result<(), TableFault>
     ensures tables { result ≡ at_most limit key (map (λ t. table_view t.now) tables.now) }
-    ensures keeps_nothing { IfErr result (λ e. e ≢ Memory) }
+    ensures no_memory { IfErr result (λ e. e ≢ Memory) }
 {
     if tables.len() > limit {
         return Err(TableFault::TooMany(key));
