@@ -13,7 +13,7 @@ use Rattle.afdx_account.specs.Inner.Laws.{NextFrameJoinsWhereItConforms}
 use Rattle.afdx_port.specs.declared.Item.{Item}
 use Rattle.afdx_load.specs.Sums.{terms_of}
 use Rattle.afdx_core.specs.declared.step.Row.{Row}
-use Rattle.afdx_core.specs.Rows.{frame_of, account_frames, says_clean, passes, named, item_of, copies_by, copies, each_after, feed_of}
+use Rattle.afdx_core.specs.Rows.{frame_of, account_frames, says_clean, passes, named, copy_of, copies_by, copies, each_after, feed_of}
 use Rattle.afdx_isolation.specs.Arrivals.{frame_in}
 use Rattle.afdx_core.specs.Inner.Agreement.{part_of}
 use Rattle.afdx_core.proofs.Feeds.{account-same, account-other}
@@ -45,8 +45,8 @@ other_by i j port (Some m) before row ne is = by_copy (passes m before row && le
   differs : (a : ℕ) → (a == j) ≡ true → (a == i) ≡ false
   differs a e = grind (arith, nat_tests)
 
-  by_copy : (b : Bool) → part_of i (cond b (item_of m before row ∷ []) []) ≡ []
-  by_copy true = ap (λ v. map frame_in (cond v (item_of m before row ∷ []) [])) (differs m.id (is m refl))
+  by_copy : (b : Bool) → part_of i (cond b (copy_of m before row ∷ []) []) ≡ []
+  by_copy true = ap (λ v. map frame_in (cond v (copy_of m before row ∷ []) [])) (differs m.id (is m refl))
   by_copy false = refl
 
 others : (t : Content) (i port : ℕ) (before : List Row) (row : Row) (v : Verdict) → says_clean i v ≡ false → part_of i (copies_by (named t v) port before row) ≡ []
@@ -71,18 +71,18 @@ one_more next t i port l before row found leads = by_clean (says_clean i row.ver
   before_own = account_frames i before
 
   by_pass : (b : Bool) → cond b (passed_frames (terms_of l) (account_frames i before) ++ frame_of row ∷ []) (passed_frames (terms_of l) (account_frames i before))
-      ≡ passed_frames (terms_of l) (account_frames i before) ++ part_of i (cond (b && true) (item_of l before row ∷ []) [])
-  by_pass true = ap (λ v. passed_frames (terms_of l) (account_frames i before) ++ map frame_in (cond v (item_of l before row ∷ []) [])) (sym id)
+      ≡ passed_frames (terms_of l) (account_frames i before) ++ part_of i (cond (b && true) (copy_of l before row ∷ []) [])
+  by_pass true = ap (λ v. passed_frames (terms_of l) (account_frames i before) ++ map frame_in (cond v (copy_of l before row ∷ []) [])) (sym id)
   by_pass false = sym (append-nil (passed_frames (terms_of l) (account_frames i before)))
 
   by_clean : (b : Bool) → says_clean i row.verdict ≡ b → passed_frames (terms_of l) (account_frames i (before ++ row ∷ [])) ≡ passed_frames (terms_of l) (account_frames i before)
       ++ part_of i (copies t port before row)
   by_clean true is =
       let clean = clean_true i row.verdict is in
-      let copied : copies t port before row ≡ cond (conforms (terms_of l) (passed_frames (terms_of l) (account_frames i before)) (frame_of row) && true) (item_of l before row ∷ []) [] =
+      let copied : copies t port before row ≡ cond (conforms (terms_of l) (passed_frames (terms_of l) (account_frames i before)) (frame_of row) && true) (copy_of l before row ∷ []) [] =
       ap (λ v. copies_by (named t v) port before row) clean ∙ ap (λ m. copies_by m port before row) found
-      ∙ ap (λ n. cond (conforms (terms_of l) (passed_frames (terms_of l) (account_frames n before)) (frame_of row) && leads_to port l) (item_of l before row ∷ []) []) (equal l.id i id)
-      ∙ ap (λ v. cond (conforms (terms_of l) (passed_frames (terms_of l) (account_frames i before)) (frame_of row) && v) (item_of l before row ∷ []) []) leads in
+      ∙ ap (λ n. cond (conforms (terms_of l) (passed_frames (terms_of l) (account_frames n before)) (frame_of row) && leads_to port l) (copy_of l before row ∷ []) []) (equal l.id i id)
+      ∙ ap (λ v. cond (conforms (terms_of l) (passed_frames (terms_of l) (account_frames i before)) (frame_of row) && v) (copy_of l before row ∷ []) []) leads in
       ap (passed_frames (terms_of l)) (account-same i before row clean) ∙ next (terms_of l) (account_frames i before) (frame_of row)
       ∙ by_pass (conforms (terms_of l) (passed_frames (terms_of l) (account_frames i before)) (frame_of row))
       ∙ ap (λ items. passed_frames (terms_of l) (account_frames i before) ++ part_of i items) (sym copied)

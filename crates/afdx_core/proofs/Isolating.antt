@@ -28,7 +28,7 @@ use Rattle.afdx_isolation.specs.Table.{settings_of}
 use Rattle.afdx_isolation.specs.Inner.Table.{IsIsolatedAt}
 use Rattle.afdx_load.specs.Sums.{terms_of, load_of}
 use Rattle.afdx_core.specs.declared.step.Row.{Row}
-use Rattle.afdx_core.specs.Rows.{frame_of, account_frames, says_clean, passes, named, item_of, copies_by, copies, each_after, feed_of}
+use Rattle.afdx_core.specs.Rows.{frame_of, account_frames, says_clean, passes, named, copy_of, copies_by, copies, each_after, feed_of}
 use Rattle.afdx_core.specs.State.{Run, port_in}
 use Rattle.afdx_core.specs.Isolation.{IsOfAnArrival, IsRun, copy_by, clean_copies, sent_copies, PassedCopiesArePassedFrames, IsIsolatedRun, AcceptedTablesIsolate, with_bytes, OthersChangeNothing}
 use Rattle.afdx_core.proofs.Lists.{each-push}
@@ -76,7 +76,7 @@ module _ (links : LinksAreFound) (t : Content) where
     by (Some m) is =
         let same = (links.is_row t j m is).0 in
         out (nat_eq m.id l.id) ∙ ap (λ b. map frame_of (cond b (row ∷ []) [])) (turned m.id l.id j same) where
-          out : (b : Bool) → map frame_in (cond b (item_of m before row ∷ []) []) ≡ map frame_of (cond b (row ∷ []) [])
+          out : (b : Bool) → map frame_in (cond b (copy_of m before row ∷ []) []) ≡ map frame_of (cond b (row ∷ []) [])
           out true = refl
           out false = refl
 
@@ -110,10 +110,10 @@ module _ (links : LinksAreFound) (t : Content) where
 
   module _ (well : IsWellFormed t) (offers : OffersWhatThePolicingPasses) (p : PortRow) where
     offered_one : (l : Link) → link_row t l.id ≡ Some l → Contains t.links l → (before : List Row) (row : Row)
-        → joins (flows_at t p) (clean_copies t before) (item_of l before row) ≡ (passes l before row && leads_to p.id l)
+        → joins (flows_at t p) (clean_copies t before) (copy_of l before row) ≡ (passes l before row && leads_to p.id l)
     unfolding passes
     offered_one l found among before row =
-        offers t well p l among (clean_copies t before) (item_of l before row) refl
+        offers t well p l among (clean_copies t before) (copy_of l before row) refl
         ∙ ap (λ fs. leads_to p.id l && conforms (terms_of l) (passed_frames (terms_of l) fs) (frame_of row)) (own_frames_are l found before)
         ∙ turned (leads_to p.id l) (conforms (terms_of l) (passed_frames (terms_of l) (account_frames l.id before)) (frame_of row)) where
           turned : (a b : Bool) → (a && b) ≡ (b && a)
@@ -133,7 +133,7 @@ module _ (links : LinksAreFound) (t : Content) where
           (clean-push before row ∙ ap (λ o. clean_copies t before ++ copy_by o before row) is ∙ append-nil (clean_copies t before))
       by ih (Some l) is =
           let names = named_by links t row.verdict l is in
-          let x = item_of l before row in
+          let x = copy_of l before row in
           let rest = feed_after (flows_at t p) (clean_copies t before ++ x ∷ []) (each_after copy (before ++ row ∷ []) rows) in
           let more : each_after (copies t p.id) (before ++ row ∷ []) rows ≡ rest =
           ih ∙ ap (λ bs. feed_after (flows_at t p) bs (each_after copy (before ++ row ∷ []) rows)) (clean-push before row ∙ ap (λ o. clean_copies t before ++ copy_by o before row) is) in
@@ -151,7 +151,7 @@ module _ (links : LinksAreFound) (t : Content) where
   -- ---- the clean copies are clean, in order
 
   module _ (well : IsWellFormed t) (have_link : CleanFramesHaveALink) where
-    clean_one : (before : List Row) (row : Row) → IsOfAnArrival t row → (l : Link) → named t row.verdict ≡ Some l → IsCleanIn t (item_of l before row)
+    clean_one : (before : List Row) (row : Row) → IsOfAnArrival t row → (l : Link) → named t row.verdict ≡ Some l → IsCleanIn t (copy_of l before row)
     clean_one before row arrival l is = λ k d lt same.
         let names = named_by links t row.verdict l is in
         let m = get_or t.links k d in
@@ -170,7 +170,7 @@ module _ (links : LinksAreFound) (t : Content) where
         (clean_after (before ++ row ∷ []) rows (All-tail (IsOfAnArrival t) row rows h)) where
           by : (o : Option Link) → named t row.verdict ≡ o → All (IsCleanIn t) (copy_by o before row)
           by None is = All-nil (IsCleanIn t)
-          by (Some l) is = All-cons (IsCleanIn t) (item_of l before row) [] (clean_one before row (All-head (IsOfAnArrival t) row rows h) l is) (All-nil (IsCleanIn t))
+          by (Some l) is = All-cons (IsCleanIn t) (copy_of l before row) [] (clean_one before row (All-head (IsOfAnArrival t) row rows h) l is) (All-nil (IsCleanIn t))
 
     pub all_clean : (rows : List Row) → All (IsOfAnArrival t) rows → All (IsCleanIn t) (clean_copies t rows)
     unfolding clean_copies

@@ -11,7 +11,7 @@ use Rattle.afdx_port.specs.declared.Item.{Item}
 use Rattle.afdx_port.specs.Admission.{AdmittedInOrder}
 use Rattle.afdx_isolation.specs.Table.{settings_of}
 use Rattle.afdx_core.specs.declared.step.Row.{Row}
-use Rattle.afdx_core.specs.Rows.{frame_of, named, passes, item_of, copies_by, copies, each_after, feed_of}
+use Rattle.afdx_core.specs.Rows.{frame_of, named, passes, copy_of, copies_by, copies, each_after, feed_of}
 use Rattle.afdx_core.specs.State.{Run, admitted_in}
 use Rattle.afdx_core.specs.Isolation.{IsRun}
 
@@ -38,8 +38,8 @@ offered_from t port from before (row ∷ rows) order = by_link (named t row.verd
     more : List Item
     more = each_after (copies t port) (before ++ row ∷ []) rows
 
-    by_copy : (l : Link) (b : Bool) → From row.stamp more → From from (cond b (item_of l before row ∷ []) [] ++ more)
-    by_copy l true h = one_more from (item_of l before row) more order.0 h
+    by_copy : (l : Link) (b : Bool) → From row.stamp more → From from (cond b (copy_of l before row ∷ []) [] ++ more)
+    by_copy l true h = one_more from (copy_of l before row) more order.0 h
     by_copy l false h = sooner from row.stamp more order.0 h
 
     by_link : (o : Option Link) → From row.stamp more → From from (copies_by o port before row ++ more)

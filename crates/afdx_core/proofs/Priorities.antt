@@ -15,7 +15,7 @@ use Rattle.afdx_port.specs.Admission.{fits, admit, admit_all}
 use Rattle.afdx_port.specs.Inner.Course.{EventsAreOfItems}
 use Rattle.afdx_isolation.specs.Table.{settings_of}
 use Rattle.afdx_core.specs.declared.step.Row.{Row}
-use Rattle.afdx_core.specs.Rows.{named, passes, item_of as copy_of, copies_by, copies, each_after, feed_of}
+use Rattle.afdx_core.specs.Rows.{named, passes, copy_of, copies_by, copies, each_after, feed_of}
 use Rattle.afdx_core.specs.State.{Run, port_in, sent_in}
 use Rattle.afdx_core.proofs.Isolating.{named_by}
 

@@ -23,7 +23,7 @@ use Rattle.afdx_isolation.specs.Table.{settings_of}
 use Rattle.afdx_core.specs.declared.step.Row.{Row}
 use Rattle.afdx_core.specs.declared.step.CoreFault.{CoreFault}
 use Rattle.afdx_core.specs.declared.step.CoreFault.TheVariants.{NoSuchPort, Earlier}
-use Rattle.afdx_core.specs.Rows.{row_of, frame_of, named, passes, item_of, feed_of}
+use Rattle.afdx_core.specs.Rows.{row_of, frame_of, named, passes, copy_of, feed_of}
 use Rattle.afdx_core.specs.Handling.{Handling}
 use Rattle.afdx_core.specs.Held.{IsTaken, IsRefused, IsNext, IsAppended}
 use Rattle.afdx_core.specs.State.{Run, State, fresh_run, aged_in, answer_of, offers_by, refusal_of, after_row, after_advance, after_finish}
@@ -123,10 +123,10 @@ module _ (links : LinksAreFound) (isolate : AcceptedTablesIsolate) (r : Run) (po
   row = row_of r.table port frame
 
   queued : (l : Link) → named r.table row.verdict ≡ Some l → passes l r.rows row ≡ true → (q : ℕ) → leads_to q l ≡ true → (p : PortRow) → port_row r.table q ≡ Some p
-      → answer_of r (item_of l r.rows row) (Some p) ≡ Queued
+      → answer_of r (copy_of l r.rows row) (Some p) ≡ Queued
   queued l is pass q leads p found =
       let s = settings_of r.table.latency p in
-      let x = item_of l r.rows row in
+      let x = copy_of l r.rows row in
       let at = port_true q r.table.ports p found in
       let same : p.id ≡ q = equal p.id q at.0 in
       let before = (isolate r run well accepted).none_full p at.1 in
@@ -140,15 +140,15 @@ module _ (links : LinksAreFound) (isolate : AcceptedTablesIsolate) (r : Run) (po
   all_queued : (o : Option Link) → named r.table row.verdict ≡ o → All (λ (offer : ℕ × Offer). offer.1 ≡ Queued) (offers_by r o row)
   all_queued None is = All-nil (λ (offer : ℕ × Offer). offer.1 ≡ Queued)
   all_queued (Some l) is = by (passes l r.rows row) refl where
-    one : passes l r.rows row ≡ true → (q : ℕ) → leads_to q l ≡ true → (p : PortRow) × (port_row r.table q ≡ Some p) → answer_of r (item_of l r.rows row) (port_row r.table q) ≡ Queued
-    one pass q leads found = ap (answer_of r (item_of l r.rows row)) found.1 ∙ queued l is pass q leads found.0 found.1
+    one : passes l r.rows row ≡ true → (q : ℕ) → leads_to q l ≡ true → (p : PortRow) × (port_row r.table q ≡ Some p) → answer_of r (copy_of l r.rows row) (port_row r.table q) ≡ Queued
+    one pass q leads found = ap (answer_of r (copy_of l r.rows row)) found.1 ∙ queued l is pass q leads found.0 found.1
 
-    by : (b : Bool) → passes l r.rows row ≡ b → All (λ (offer : ℕ × Offer). offer.1 ≡ Queued) (cond b (map (λ port. (port, answer_of r (item_of l r.rows row) (port_row r.table port))) l.to) [])
+    by : (b : Bool) → passes l r.rows row ≡ b → All (λ (offer : ℕ × Offer). offer.1 ≡ Queued) (cond b (map (λ port. (port, answer_of r (copy_of l r.rows row) (port_row r.table port))) l.to) [])
     by false pass = All-nil (λ (offer : ℕ × Offer). offer.1 ≡ Queued)
     by true pass =
         let link = All-contains (IsLink r.table.ports) r.table.links l (All-from_recursion (IsLink r.table.ports) r.table.links well.links) (named_by links r.table row.verdict l is).2 in
         let ports = All-from_recursion (λ q. has_port r.table.ports q ≡ true) l.to link.targets.are_ports in
-        All-map (λ (offer : ℕ × Offer). offer.1 ≡ Queued) (λ port. (port, answer_of r (item_of l r.rows row) (port_row r.table port))) l.to
+        All-map (λ (offer : ℕ × Offer). offer.1 ≡ Queued) (λ port. (port, answer_of r (copy_of l r.rows row) (port_row r.table port))) l.to
         (λ k d lt. one pass (get_or l.to k d) (leads_itself l.to k d lt) (row_found r.table.ports (get_or l.to k d) (ports k d lt)))
 
 pub none_full : LinksAreFound → AcceptedTablesIsolate → NoStepIsFull

@@ -17,7 +17,7 @@ use Rattle.afdx_isolation.specs.Arrivals.{own, frame_in}
 use Rattle.afdx_isolation.specs.Table.{IsInBoundAt}
 use Rattle.afdx_load.specs.Sums.{terms_of}
 use Rattle.afdx_core.specs.declared.step.Row.{Row}
-use Rattle.afdx_core.specs.Rows.{row_of, frame_of, account_frames, named, item_of, each_after, feed_of}
+use Rattle.afdx_core.specs.Rows.{row_of, frame_of, account_frames, named, copy_of, each_after, feed_of}
 use Rattle.afdx_core.specs.State.{Run, fresh_run, port_in, sent_in, aged_in, refusal_of, offers_of, after_row, after_advance, after_handing, after_finish}
 
 -- ---- runs
@@ -37,7 +37,7 @@ pub record IsRun (r : Run) : Type 0 where
 -- the copy of a frame of this link
 abbrev pub copy_by : Option Link → List Row → Row → List Item
 copy_by None before row = []
-copy_by (Some l) before row = item_of l before row ∷ []
+copy_by (Some l) before row = copy_of l before row ∷ []
 
 -- those of all clean frames, each numbered by the arrivals before it
 unfoldable pub clean_copies : Content → List Row → List Item

@@ -76,13 +76,13 @@ abbrev pub fate_of : Content → List Row → Row → Fate
 fate_of t before row = fate_by (named t row.verdict) before row
 
 -- a frame's copy, numbered by the arrivals before it
-abbrev pub item_of : Link → List Row → Row → Item
-item_of l before row = record { number = length before; link = l.id; stamp = row.stamp; size = row.size; priority = l.priority }
+abbrev pub copy_of : Link → List Row → Row → Item
+copy_of l before row = record { number = length before; link = l.id; stamp = row.stamp; size = row.size; priority = l.priority }
 
 -- the copy of a frame that a port is offered, if any: that of a passed frame whose link leads there
 abbrev pub copies_by : Option Link → ℕ → List Row → Row → List Item
 copies_by None port before row = []
-copies_by (Some l) port before row = if passes l before row && leads_to port l then item_of l before row ∷ [] else []
+copies_by (Some l) port before row = if passes l before row && leads_to port l then copy_of l before row ∷ [] else []
 
 abbrev pub copies : Content → ℕ → List Row → Row → List Item
 copies t port before row = copies_by (named t row.verdict) port before row

@@ -17,7 +17,7 @@ use Rattle.afdx_core.specs.declared.step.Row.{Row}
 use Rattle.afdx_core.specs.declared.step.CoreFault.{CoreFault}
 use Rattle.afdx_core.specs.declared.step.CoreFault.TheVariants.{NoSuchPort, Earlier}
 use Rattle.afdx_core.specs.Handling.{Handling}
-use Rattle.afdx_core.specs.Rows.{named, passes, item_of, fate_of, feed_of}
+use Rattle.afdx_core.specs.Rows.{named, passes, copy_of, fate_of, feed_of}
 
 -- what a switch answers rests on this, and on the bytes of the frames that it holds
 pub record Run : Type 0 where
@@ -78,7 +78,7 @@ answer_of r item (Some p) = answer item (port_in r p)
 -- the answers of a link's ports, in its order
 abbrev pub offers_by : Run → Option Link → Row → List (ℕ × Offer)
 offers_by r None row = []
-offers_by r (Some l) row = if passes l r.rows row then map (λ port. (port, answer_of r (item_of l r.rows row) (port_row r.table port))) l.to else []
+offers_by r (Some l) row = if passes l r.rows row then map (λ port. (port, answer_of r (copy_of l r.rows row) (port_row r.table port))) l.to else []
 
 abbrev pub offers_of : Run → Row → List (ℕ × Offer)
 offers_of r row = offers_by r (named r.table row.verdict) row

@@ -22,7 +22,7 @@ use Rattle.afdx_port.specs.declared.Offer.{Offer}
 use Rattle.afdx_port.specs.Service.{Event, sent_of, aged_of}
 use Rattle.afdx_core.specs.declared.step.Row.{Row}
 use Rattle.afdx_core.specs.declared.step.Fate.TheVariants.{Passed, Policed}
-use Rattle.afdx_core.specs.Rows.{each_after, fates_of, feed_of, fate_of, fate_by, named, passes, item_of, copies_by, copies}
+use Rattle.afdx_core.specs.Rows.{each_after, fates_of, feed_of, fate_of, fate_by, named, passes, copy_of, copies_by, copies}
 use Rattle.afdx_core.specs.State.{Run, answer_of, offers_by, offers_of, handling_of, sent_in, aged_in, after_finish}
 use Rattle.afdx_isolation.specs.Table.{settings_of}
 use Rattle.afdx_count.specs.declared.counters.InCount.{InCount}
@@ -156,19 +156,19 @@ module _ (r : Run) (row : Row) (p : PortRow) where
     links = map (link_tally r.table r.rows) r.table.links
 
     answers : Link → ℕ → Offer
-    answers l port = answer_of r (item_of l r.rows row) (port_row r.table port)
+    answers l port = answer_of r (copy_of l r.rows row) (port_row r.table port)
 
     by_pass : (l : Link) (b : Bool) → link_row r.table l.id ≡ Some l
         → with_class (class_of (cond b (Passed l.id) (Policed l.id)) links) (cond b (map (λ port. (port, answers l port)) l.to) []) (with_feed input feed)
-        ≡ with_feed input (feed ++ cond (b && leads_to p.id l) (item_of l r.rows row ∷ []) [])
+        ≡ with_feed input (feed ++ cond (b && leads_to p.id l) (copy_of l r.rows row ∷ []) [])
     by_pass l false is = ap (with_feed input) (sym (append-nil feed))
     by_pass l true is =
         ap (λ o. with_class o (map (λ port. (port, answers l port)) l.to) (with_feed input feed)) (class-is r.table r.rows l is)
         ∙ added-is l.priority (map (λ port. (port, answers l port)) l.to) (with_feed input feed)
         ∙ ap (λ offers. added l.priority offers (with_feed input feed))
         (answers_once (answers l) p.id l.to (targets_once r.table l formed is)
-        ∙ ap (λ o. cond (leads_to p.id l) (answer_of r (item_of l r.rows row) o ∷ []) []) found)
-        ∙ one_added l.priority (leads_to p.id l) input (item_of l r.rows row) refl
+        ∙ ap (λ o. cond (leads_to p.id l) (answer_of r (copy_of l r.rows row) o ∷ []) []) found)
+        ∙ one_added l.priority (leads_to p.id l) input (copy_of l r.rows row) refl
 
     by_link : (m : Option Link) → named r.table row.verdict ≡ m
         → with_class (class_of (fate_by m r.rows row) links) (offers_by r m row) (with_feed input feed) ≡ with_feed input (feed ++ copies_by m p.id r.rows row)

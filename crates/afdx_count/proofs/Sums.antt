@@ -16,17 +16,17 @@ use Rattle.afdx_core.specs.declared.step.Row.{Row}
 use Rattle.afdx_core.specs.declared.step.Fate.{Fate}
 use Rattle.afdx_core.specs.declared.step.Fate.TheVariants.{Passed, Policed}
 use Rattle.afdx_core.specs.Rows.{each_after, fates_of, fate_of, fate_by, named, passes, says_clean, own_frames}
-use Rattle.afdx_count.specs.Counting.{greatest, capped, is_of}
+use Rattle.afdx_count.specs.Counting.{greatest_count, capped, is_of}
 use Rattle.afdx_count.specs.Run.{is_cut, is_short, is_long, is_foreign, has_no_link, is_at_wrong_port, is_too_big, is_clean, is_passed, is_policed, turned_away}
 use Rattle.afdx_count.specs.Inner.Laws.{SeenIsTheSum, PassedAndPolicedAreClean, OfferedIsTheSum}
 use Rattle.afdx_count.proofs.Placed.{equal}
 use Rattle.afdx_count.proofs.Copies.{find_true}
 
 -- a part of a number that a counter holds
-below : (n m : ℕ) → capped n < greatest → m ≤ n → capped m ≡ m
+below : (n m : ℕ) → capped n < greatest_count → m ≤ n → capped m ≡ m
 below n m lt le = omega (arith, lt, le)
 
-below_itself : (n : ℕ) → capped n < greatest → capped n ≡ n
+below_itself : (n : ℕ) → capped n < greatest_count → capped n ≡ n
 below_itself n lt = omega (arith, lt)
 
 one_more : {X : Type 0} (test : X → Bool) (x : X) (xs : List X) → count_by test (x ∷ xs) ≡ cond (test x) 1 0 + count_by test xs
@@ -69,7 +69,7 @@ all_verdicts (row ∷ rows) =
       number-cons is_clean row rows,
     )
 
-sum_below : (n a b c d e f g h : ℕ) → n ≡ a + b + c + d + e + f + g + h → capped n < greatest
+sum_below : (n a b c d e f g h : ℕ) → n ≡ a + b + c + d + e + f + g + h → capped n < greatest_count
     → capped n ≡ capped a + capped b + capped c + capped d + capped e + capped f + capped g + capped h
 sum_below n a b c d e f g h is lt =
     below_itself n lt ∙ is
@@ -194,7 +194,7 @@ sent_or_aged kind (sending s ∷ events) =
 sent_or_aged kind (aging a ∷ events) =
     omega (arith, sent_or_aged kind events, one_more (λ e. kind (item_of e)) (aging a) events, one_more (λ x. kind x.item) a (aged_of events))
 
-three_below : (n a b c : ℕ) → n ≡ a + b + c → capped n < greatest → capped n ≡ capped a + capped b + capped c
+three_below : (n a b c : ℕ) → n ≡ a + b + c → capped n < greatest_count → capped n ≡ capped a + capped b + capped c
 three_below n a b c is lt =
     below_itself n lt ∙ is ∙ (λ j. sym (below n a lt (omega (arith, is))) j + sym (below n b lt (omega (arith, is))) j + sym (below n c lt (omega (arith, is))) j)
 

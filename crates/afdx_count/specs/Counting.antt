@@ -15,11 +15,11 @@ use Rattle.afdx_count.specs.declared.counters.LinkCount.{LinkCount}
 use Rattle.afdx_count.specs.declared.counters.OutCount.{OutCount}
 
 -- a counter of 64 bits stays at its greatest value
-abbrev pub greatest : ℕ
-greatest = 18446744073709551615
+abbrev pub greatest_count : ℕ
+greatest_count = 18446744073709551615
 
 abbrev pub capped : ℕ → ℕ
-capped n = min n greatest
+capped n = min n greatest_count
 
 abbrev pub up : ℕ → ℕ
 up n = capped (n + 1)

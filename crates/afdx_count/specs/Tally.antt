@@ -53,8 +53,8 @@ input_of id t = option_map (λ p. p.input) (port_in id t.ports)
 abbrev pub count_of : ℕ → Tally → Option LinkCount
 count_of id t = option_map (λ l. l.count) (link_in id t.links)
 
-abbrev pub output_of : ℕ → Priority → Tally → Option OutCount
-output_of id priority t = option_map (out_of priority) (port_in id t.ports)
+abbrev pub out_count_of : ℕ → Priority → Tally → Option OutCount
+out_count_of id priority t = option_map (out_of priority) (port_in id t.ports)
 
 -- ---- an arrival
 

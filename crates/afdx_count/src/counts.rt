@@ -1,7 +1,7 @@
 //! The counters of a run.
 
 ghost use Rattle.std.specs.Prelude.{◌≡◌, string_bytes, IfOk};
-ghost use Rattle.afdx_count.specs.Tally.{fresh, noted, ended, input_of, count_of, output_of};
+ghost use Rattle.afdx_count.specs.Tally.{fresh, noted, ended, input_of, count_of, out_count_of};
 ghost use Rattle.afdx_count.specs.Report.{report_of};
 
 use crate::counters::{InCount, LinkCount, OutCount};
@@ -80,7 +80,7 @@ impl<A: Allocator + Copy> Counts<A> {
 
     /// The counters of the copies of a priority at an output port; none where the table has no such port. O(1).
     pub fn output(&self, port: u8, priority: Priority) -> Option<OutCount>
-        ensures { result ≡ output_of port priority self.now }
+        ensures { result ≡ out_count_of port priority self.now }
     {
         let tally = self.ports.get(port)?;
         match priority {

@@ -9,7 +9,7 @@ use Rattle.afdx_pcap.specs.declared.format.Resolution.{Resolution}
 use Rattle.afdx_pcap.specs.declared.format.Resolution.TheVariants.{Micros, Nanos}
 use Rattle.afdx_pcap.specs.Entry.{Entry}
 use Rattle.afdx_pcap.specs.Text.{capture_text}
-use Rattle.afdx_pcap.specs.Capture.{IsCapture, Splits, after, parts, head_of, stamp_of}
+use Rattle.afdx_pcap.specs.Capture.{IsCapture, Splits, after, parts_of_second, head_of, stamp_of}
 use Rattle.afdx_table.specs.declared.rows.PortRow.{PortRow}
 use Rattle.afdx_table.specs.Content.{Content}
 use Rattle.afdx_table.specs.WellFormed.{Rises, IsWellFormed}
@@ -88,7 +88,7 @@ read_at texts read port bytes are rise among = at_place texts read port bytes ar
 
 -- ---- records that were read are early
 
-stamp_early : (resolution : Resolution) (h : Head) → h.seconds ≤ 4294967294 → h.fraction < parts resolution → stamp_of resolution h < last_second
+stamp_early : (resolution : Resolution) (h : Head) → h.seconds ≤ 4294967294 → h.fraction < parts_of_second resolution → stamp_of resolution h < last_second
 stamp_early Micros h seconds fraction = omega (arith, seconds, fraction)
 stamp_early Nanos h seconds fraction = omega (arith, seconds, fraction)
 

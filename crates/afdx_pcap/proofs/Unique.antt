@@ -6,7 +6,7 @@ use Rattle.std.proofs.lemmas.List.{length-drop, length-take}
 use Rattle.afdx_pcap.specs.declared.format.Format.{Format}
 use Rattle.afdx_pcap.specs.declared.fault.PcapFault.{PcapFault}
 use Rattle.afdx_pcap.specs.Entry.{Entry}
-use Rattle.afdx_pcap.specs.Capture.{header_of, head_of, stamp_of, parts, Begins, after, Splits, Holds, IsCapture}
+use Rattle.afdx_pcap.specs.Capture.{header_of, head_of, stamp_of, parts_of_second, Begins, after, Splits, Holds, IsCapture}
 use Rattle.afdx_pcap.specs.Reading.{IsNext}
 use Rattle.afdx_pcap.specs.Fault.{head_fault, data_fault, first_of, record_fault, IsFault, Breaks, last_stamp}
 
@@ -40,7 +40,7 @@ begins_fine f last n bytes r b =
     let h = head_of f.endian bytes in
     let e0 : nat_lt (length bytes) 16 ≡ false = le-ltb _ _ (omega arith) in
     let e1 : nat_lt 262144 h.captured ≡ false = le-ltb _ _ (omega arith) in
-    let e2 : nat_le (parts f.resolution) h.fraction ≡ false = lt-leb _ _ fraction in
+    let e2 : nat_le (parts_of_second f.resolution) h.fraction ≡ false = lt-leb _ _ fraction in
     let e3 : nat_lt 4294967294 h.seconds ≡ false = le-ltb _ _ not_late in
     let e4 : nat_lt (stamp_of f.resolution h) last ≡ false = le-ltb _ _ (omega arith) in
     let e5 : nat_lt (length bytes) (16 + h.captured) ≡ false = le-ltb _ _ (omega arith) in
@@ -66,7 +66,7 @@ fine_begins f last n bytes none =
     let p0 = passed (nat_lt (length bytes) 16) _ _ none in
     let p = both_passed (head_fault f.resolution last n h) (data_fault n h (length bytes)) p0.1 in
     let p1 = passed (nat_lt 262144 h.captured) _ _ p.0 in
-    let p2 = passed (nat_le (parts f.resolution) h.fraction) _ _ p1.1 in
+    let p2 = passed (nat_le (parts_of_second f.resolution) h.fraction) _ _ p1.1 in
     let p3 = passed (nat_lt 4294967294 h.seconds) _ _ p2.1 in
     let p4 = passed (nat_lt (stamp_of f.resolution h) last) _ _ p3.1 in
     let p5 = passed (nat_lt (length bytes) (16 + h.captured)) _ _ p.1 in

@@ -40,9 +40,9 @@ header_of bytes =
 -- ---- a record
 
 -- pcap 2.4: the parts of a second that a fraction counts
-abbrev pub parts : Resolution → ℕ
-parts Micros = 1000000
-parts Nanos = 1000000000
+abbrev pub parts_of_second : Resolution → ℕ
+parts_of_second Micros = 1000000
+parts_of_second Nanos = 1000000000
 
 -- nanoseconds of such a part
 abbrev pub nanos : Resolution → ℕ
@@ -72,7 +72,7 @@ pub record Begins (f : Format) (last : ℕ) (bytes : List ℕ) (r : Entry) : Typ
   pub whole : 16 + length r.bytes ≤ length bytes
   pub captured : (head_of f.endian bytes).captured ≡ length r.bytes
   pub not_huge : length r.bytes ≤ captured_limit
-  pub fraction : (head_of f.endian bytes).fraction < parts f.resolution
+  pub fraction : (head_of f.endian bytes).fraction < parts_of_second f.resolution
   pub not_late : (head_of f.endian bytes).seconds ≤ greatest_seconds
   pub stamp : r.stamp ≡ stamp_of f.resolution (head_of f.endian bytes)
   pub in_order : last ≤ r.stamp

@@ -7,7 +7,7 @@ use Rattle.afdx_pcap.specs.declared.format.Resolution.{Resolution}
 use Rattle.afdx_pcap.specs.declared.format.Format.{Format}
 use Rattle.afdx_pcap.specs.declared.format.Head.{Head}
 use Rattle.afdx_pcap.specs.Entry.{Entry, captured_limit}
-use Rattle.afdx_pcap.specs.Capture.{header_of, head_of, parts, greatest_seconds, stamp_of, Splits}
+use Rattle.afdx_pcap.specs.Capture.{header_of, head_of, parts_of_second, greatest_seconds, stamp_of, Splits}
 
 -- ---- a record
 
@@ -15,7 +15,7 @@ use Rattle.afdx_pcap.specs.Capture.{header_of, head_of, parts, greatest_seconds,
 abbrev pub head_fault : Resolution → ℕ → ℕ → Head → Option PcapFault
 head_fault resolution last n h =
     if nat_lt captured_limit h.captured then Some (Huge n)
-    else if nat_le (parts resolution) h.fraction then Some (Fraction n)
+    else if nat_le (parts_of_second resolution) h.fraction then Some (Fraction n)
     else if nat_lt greatest_seconds h.seconds then Some (Late n)
     else if nat_lt (stamp_of resolution h) last then Some (Backwards n)
     else None

@@ -2,7 +2,7 @@
 
 ghost use Rattle.std.specs.Prelude.{◌≡◌, ◌+◌, ◌≤◌, length};
 ghost use Rattle.afdx_pcap.specs.Number.{field};
-ghost use Rattle.afdx_pcap.specs.Capture.{format_of, head_of, parts, nanos};
+ghost use Rattle.afdx_pcap.specs.Capture.{format_of, head_of, parts_of_second, nanos};
 
 use byteorder::{BigEndian, ByteOrder, LittleEndian};
 
@@ -98,8 +98,8 @@ impl Endian {
 
 impl Resolution {
     /// Parts of a second that the fraction counts.
-    pub fn parts(self) -> u32
-        ensures { result ≡ parts self }
+    pub fn parts_of_second(self) -> u32
+        ensures { result ≡ parts_of_second self }
     {
         match self {
             Resolution::Micros => 1_000_000,

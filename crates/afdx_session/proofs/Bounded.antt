@@ -17,7 +17,7 @@ use Rattle.afdx_port.specs.Admission.{admit_all, admitted, fits}
 use Rattle.afdx_port.specs.Service.{Event, sending, aging, reach, next, others, free_after, serve, service, before, instant, sent_of}
 use Rattle.afdx_isolation.specs.Table.{settings_of}
 use Rattle.afdx_core.specs.declared.step.Row.{Row}
-use Rattle.afdx_core.specs.Rows.{row_of, named, passes, item_of, copies_by, copies, each_after, feed_of}
+use Rattle.afdx_core.specs.Rows.{row_of, named, passes, copy_of, copies_by, copies, each_after, feed_of}
 use Rattle.afdx_core.specs.State.{State}
 use Rattle.afdx_core.specs.Merge.{Arrival, arrivals_of, merged}
 use Rattle.afdx_count.specs.Tally.{Tally}
@@ -89,7 +89,7 @@ length-admit_all s earlier (x ∷ feed) = by (fits s earlier x) (length-append e
 length-copies : (l : Option Link) (port : ℕ) (earlier : List Row) (row : Row) → length (copies_by l port earlier row) ≤ 1
 length-copies None port earlier row = omega arith
 length-copies (Some l) port earlier row = by (passes l earlier row && leads_to port l) where
-  by : (b : Bool) → length (cond b (item_of l earlier row ∷ []) []) ≤ 1
+  by : (b : Bool) → length (cond b (copy_of l earlier row ∷ []) []) ≤ 1
   by true = omega arith
   by false = omega arith
 

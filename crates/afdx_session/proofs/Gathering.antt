@@ -11,7 +11,7 @@ use Rattle.afdx_pcap.specs.declared.format.Resolution.{Resolution}
 use Rattle.afdx_pcap.specs.declared.format.Resolution.TheVariants.{Micros, Nanos}
 use Rattle.afdx_pcap.specs.declared.format.Head.{Head}
 use Rattle.afdx_pcap.specs.Entry.{Entry}
-use Rattle.afdx_pcap.specs.Capture.{Splits, IsCapture, after, parts, stamp_of, head_of}
+use Rattle.afdx_pcap.specs.Capture.{Splits, IsCapture, after, parts_of_second, stamp_of, head_of}
 use Rattle.afdx_core.specs.Merge.{Arrival, Capture, Rises, arrivals_of, placed, by_stamp}
 use Rattle.afdx_session.specs.Texts.{Text}
 use Rattle.afdx_session.specs.Inner.Merging.{AreInOrder}
@@ -34,7 +34,7 @@ splits_rise f last bytes (r ∷ rs) rest splits =
 pub capture_rises : (bytes : List ℕ) (rs : List Entry) → IsCapture bytes rs → Rises rs
 capture_rises bytes rs capture = (splits_rise capture.format 0 (drop 24 bytes) rs [] capture.records).1
 
-stamp_early : (resolution : Resolution) (h : Head) → h.seconds ≤ 4294967294 → h.fraction < parts resolution → stamp_of resolution h < last_second
+stamp_early : (resolution : Resolution) (h : Head) → h.seconds ≤ 4294967294 → h.fraction < parts_of_second resolution → stamp_of resolution h < last_second
 stamp_early Micros h seconds fraction = omega (arith, seconds, fraction)
 stamp_early Nanos h seconds fraction = omega (arith, seconds, fraction)
 

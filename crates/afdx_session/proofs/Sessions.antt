@@ -22,7 +22,7 @@ use Rattle.afdx_session.specs.Outcome.{Results}
 use Rattle.afdx_session.specs.Headline.{AcceptedRunsIsolate}
 use Rattle.afdx_session.specs.Finish.{IsFinished, IsNotFinished}
 use Rattle.afdx_session.specs.Streams.{AllStartBeforeTheLastInstant}
-use Rattle.afdx_session.specs.Session.{Intake, Seen, bytes_in, taken_in, taken_of, refusal_at, refusal, bytes_of, changed, fed, ended, took, after_feed, after_close, after_take, after_failure}
+use Rattle.afdx_session.specs.Session.{Intake, Seen, intake_bytes, taken_in, taken_of, refusal_at, refusal, fed_bytes, changed, fed, ended, took, after_feed, after_close, after_take, after_failure}
 use Rattle.afdx_session.specs.Session.{IsRefused, IsSoundSoFar, HasGoneOut}
 use Rattle.afdx_session.specs.Lanes.{IsPieceFault}
 use Rattle.afdx_session.specs.Inner.Lanes.{intake_of}
@@ -58,11 +58,11 @@ may_go_on m begun port place of is_open =
 -- the bytes of its port are those of its lane
 pub bytes_are : {Z : Type 0} (m : Machine Z) (begun failed : Bool) (port place : ℕ) (l : Lane Z) → AreOfTable m.switch.run.table m.lanes.items → IsOpenAt m.lanes.items port place
     → slice_get m.lanes.items place ≡ Some l
-    → ((intake_of l).bytes ≡ bytes_of (seen_of m begun failed) port) × (l.port ≡ port)
+    → ((intake_of l).bytes ≡ fed_bytes (seen_of m begun failed) port) × (l.port ≡ port)
 bytes_are {Z = Z} m begun failed port place l of is_open at =
     let is = open_is m.switch.run.table m.lanes.items port place of is_open in
     let same : l ≡ is.lane = some_same l is.lane (sym at ∙ is.at) in
-    (ap (λ (x : Lane Z). (intake_of x).bytes) same ∙ sym (ap bytes_in is.intake_is), ap (λ (x : Lane Z). x.port) same ∙ number_is is.lane.port port is.port_is)
+    (ap (λ (x : Lane Z). (intake_of x).bytes) same ∙ sym (ap intake_bytes is.intake_is), ap (λ (x : Lane Z). x.port) same ∙ number_is is.lane.port port is.port_is)
 
 -- what is seen, from its parts
 abbrev seen : Content → Bool → List Intake → Bool → Bool → Seen
@@ -109,24 +109,24 @@ seen_failed old new begun same half =
 pub refused_piece : {Z : Type 0} (old new : Machine Z) (begun : Bool) (port place : ℕ) (piece : List ℕ) (fault : RunFault) → AreOfTable old.switch.run.table old.lanes.items
     → IsOpenAt old.lanes.items port place → IsOfSameTable old.switch new.switch
     → IsNotFed old.lanes.items new.lanes.items place piece fault → IsRefused (seen_of old begun false) (seen_of new begun true) port fault
-    (IsPieceFault (bytes_of (seen_of old begun false) port ++ piece) port fault)
+    (IsPieceFault (fed_bytes (seen_of old begun false) port ++ piece) port fault)
 refused_piece old new begun port place piece fault of is_open same is =
     let own = bytes_are old begun false port place is.lane of is_open is.at in
     inr (
       may_go_on old begun port place of is_open,
       seen_failed old new begun same is.half,
-      subst (λ n. IsPieceFault (bytes_of (seen_of old begun false) port ++ piece) n fault) own.1 (subst (λ xs. IsPieceFault (xs ++ piece) is.lane.port fault) own.0 is.why),
+      subst (λ n. IsPieceFault (fed_bytes (seen_of old begun false) port ++ piece) n fault) own.1 (subst (λ xs. IsPieceFault (xs ++ piece) is.lane.port fault) own.0 is.why),
     )
 
 pub refused_end : {Z : Type 0} (old new : Machine Z) (begun : Bool) (port place : ℕ) (fault : RunFault) → AreOfTable old.switch.run.table old.lanes.items → IsOpenAt old.lanes.items port place
     → IsOfSameTable old.switch new.switch
-    → IsNotEnded old.lanes.items new.lanes.items place fault → IsRefused (seen_of old begun false) (seen_of new begun true) port fault (IsFaultAt (bytes_of (seen_of old begun false) port) port fault)
+    → IsNotEnded old.lanes.items new.lanes.items place fault → IsRefused (seen_of old begun false) (seen_of new begun true) port fault (IsFaultAt (fed_bytes (seen_of old begun false) port) port fault)
 refused_end old new begun port place fault of is_open same is =
     let own = bytes_are old begun false port place is.lane of is_open is.at in
     inr (
       may_go_on old begun port place of is_open,
       seen_failed old new begun same is.half,
-      subst (λ n. IsFaultAt (bytes_of (seen_of old begun false) port) n fault) own.1 (subst (λ xs. IsFaultAt xs is.lane.port fault) own.0 is.why),
+      subst (λ n. IsFaultAt (fed_bytes (seen_of old begun false) port) n fault) own.1 (subst (λ xs. IsFaultAt xs is.lane.port fault) own.0 is.why),
     )
 
 -- ---- calls of a session, as contracts see it
@@ -197,10 +197,10 @@ kept_half old new begun failed not_failed same half kept = kept_failed old new b
 pub answers_fed : {Z : Type 0} (old new : Machine Z) (begun failed : Bool) (v : Seen) (port place : ℕ) (piece : List ℕ) → seen_of old begun failed ≡ v → failed ≡ false
     → AreOfTable old.switch.run.table old.lanes.items → IsOpenAt old.lanes.items port place
     → IsOfSameTable old.switch new.switch → IsFed old.lanes.items new.lanes.items place piece
-    → (refusal v port ≡ None) × (seen_of new true failed ≡ after_feed v port piece) × IsSoundSoFar (bytes_of v port ++ piece)
+    → (refusal v port ≡ None) × (seen_of new true failed ≡ after_feed v port piece) × IsSoundSoFar (fed_bytes v port ++ piece)
 answers_fed old new begun failed v port place piece view not_failed of is_open same is =
     let so_far = seen_so_far old begun failed v view not_failed in
-    subst (λ w. (refusal w port ≡ None) × (seen_of new true failed ≡ after_feed w port piece) × IsSoundSoFar (bytes_of w port ++ piece)) so_far (
+    subst (λ w. (refusal w port ≡ None) × (seen_of new true failed ≡ after_feed w port piece) × IsSoundSoFar (fed_bytes w port ++ piece)) so_far (
       may_go_on old begun port place of is_open,
       ap (λ b. seen_of new true b) not_failed ∙ seen_fed old new begun port place piece of is_open same is,
       subst (λ xs. IsSoundSoFar (xs ++ piece)) (bytes_are old begun false port place is.lane of is_open is.at).0 is.sound,
@@ -209,10 +209,10 @@ answers_fed old new begun failed v port place piece view not_failed of is_open s
 pub answers_ended : {Z : Type 0} (old new : Machine Z) (begun failed : Bool) (v : Seen) (port place : ℕ) → seen_of old begun failed ≡ v → failed ≡ false
     → AreOfTable old.switch.run.table old.lanes.items → IsOpenAt old.lanes.items port place
     → IsOfSameTable old.switch new.switch → IsEnded old.lanes.items new.lanes.items place
-    → (refusal v port ≡ None) × (seen_of new true failed ≡ after_close v port) × ((records : List Entry) × IsCapture (bytes_of v port) records)
+    → (refusal v port ≡ None) × (seen_of new true failed ≡ after_close v port) × ((records : List Entry) × IsCapture (fed_bytes v port) records)
 answers_ended old new begun failed v port place view not_failed of is_open same is =
     let so_far = seen_so_far old begun failed v view not_failed in
-    subst (λ w. (refusal w port ≡ None) × (seen_of new true failed ≡ after_close w port) × ((records : List Entry) × IsCapture (bytes_of w port) records)) so_far (
+    subst (λ w. (refusal w port ≡ None) × (seen_of new true failed ≡ after_close w port) × ((records : List Entry) × IsCapture (fed_bytes w port) records)) so_far (
       may_go_on old begun port place of is_open,
       ap (λ b. seen_of new true b) not_failed ∙ seen_ended old new begun port place of is_open same is,
       (is.records, subst (λ xs. IsCapture xs is.records) (bytes_are old begun false port place is.lane of is_open is.at).0 is.capture),
@@ -221,17 +221,17 @@ answers_ended old new begun failed v port place view not_failed of is_open same 
 pub answers_not_fed : {Z : Type 0} (old new : Machine Z) (begun failed : Bool) (v : Seen) (port place : ℕ) (piece : List ℕ) (fault : RunFault) → seen_of old begun failed ≡ v → failed ≡ false
     → AreOfTable old.switch.run.table old.lanes.items
     → IsOpenAt old.lanes.items port place → IsOfSameTable old.switch new.switch → IsNotFed old.lanes.items new.lanes.items place piece fault
-    → IsRefused v (seen_of new begun true) port fault (IsPieceFault (bytes_of v port ++ piece) port fault)
+    → IsRefused v (seen_of new begun true) port fault (IsPieceFault (fed_bytes v port ++ piece) port fault)
 answers_not_fed old new begun failed v port place piece fault view not_failed of is_open same is =
-    subst (λ w. IsRefused w (seen_of new begun true) port fault (IsPieceFault (bytes_of w port ++ piece) port fault)) (seen_so_far old begun failed v view not_failed)
+    subst (λ w. IsRefused w (seen_of new begun true) port fault (IsPieceFault (fed_bytes w port ++ piece) port fault)) (seen_so_far old begun failed v view not_failed)
     (refused_piece old new begun port place piece fault of is_open same is)
 
 pub answers_not_ended : {Z : Type 0} (old new : Machine Z) (begun failed : Bool) (v : Seen) (port place : ℕ) (fault : RunFault) → seen_of old begun failed ≡ v → failed ≡ false
     → AreOfTable old.switch.run.table old.lanes.items
     → IsOpenAt old.lanes.items port place → IsOfSameTable old.switch new.switch → IsNotEnded old.lanes.items new.lanes.items place fault
-    → IsRefused v (seen_of new begun true) port fault (IsFaultAt (bytes_of v port) port fault)
+    → IsRefused v (seen_of new begun true) port fault (IsFaultAt (fed_bytes v port) port fault)
 answers_not_ended old new begun failed v port place fault view not_failed of is_open same is =
-    subst (λ w. IsRefused w (seen_of new begun true) port fault (IsFaultAt (bytes_of w port) port fault)) (seen_so_far old begun failed v view not_failed)
+    subst (λ w. IsRefused w (seen_of new begun true) port fault (IsFaultAt (fed_bytes w port) port fault)) (seen_so_far old begun failed v view not_failed)
     (refused_end old new begun port place fault of is_open same is)
 
 -- ---- a take

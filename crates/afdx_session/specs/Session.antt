@@ -60,17 +60,17 @@ pub record HasGoneOut (v : Seen) (p : PortRow) (text : List ℕ) : Type 0 where
 abbrev pub intake_at : Seen → ℕ → Option Intake
 intake_at v port = find (λ i. i.port == port) v.intakes
 
-abbrev pub bytes_in : Option Intake → List ℕ
-bytes_in None = []
-bytes_in (Some i) = i.bytes
+abbrev pub intake_bytes : Option Intake → List ℕ
+intake_bytes None = []
+intake_bytes (Some i) = i.bytes
 
 abbrev pub taken_in : Option Intake → ℕ
 taken_in None = 0
 taken_in (Some i) = i.taken
 
 -- the bytes of a port's capture so far, and how many were taken there
-abbrev pub bytes_of : Seen → ℕ → List ℕ
-bytes_of v port = bytes_in (intake_at v port)
+abbrev pub fed_bytes : Seen → ℕ → List ℕ
+fed_bytes v port = intake_bytes (intake_at v port)
 
 abbrev pub taken_of : Seen → ℕ → ℕ
 taken_of v port = taken_in (intake_at v port)

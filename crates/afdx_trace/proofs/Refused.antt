@@ -23,7 +23,7 @@ use Rattle.afdx_port.specs.Content.{done}
 use Rattle.afdx_port.specs.Inner.Events.{EachHasOneEvent}
 use Rattle.afdx_isolation.specs.Table.{settings_of}
 use Rattle.afdx_core.specs.declared.step.Row.{Row}
-use Rattle.afdx_core.specs.Rows.{each_after, named, passes, item_of, copies_by, copies, feed_of}
+use Rattle.afdx_core.specs.Rows.{each_after, named, passes, copy_of, copies_by, copies, feed_of}
 use Rattle.afdx_core.specs.State.{Run, sent_in, aged_in, answer_of, offers_by}
 use Rattle.afdx_trace.specs.Arrivals.{took, refusing, full_in}
 use Rattle.afdx_trace.specs.Inner.Laws.{is_full, full_ports, run_before, FullIsExact}
@@ -113,7 +113,7 @@ none_of_row t port k before row other = by (named t row.verdict) where
   by : (o : Option Link) → list_any (is_copy k) (copies_by o port before row) ≡ false
   by None = refl
   by (Some l) = offered (passes l before row && leads_to port l) where
-    offered : (b : Bool) → list_any (is_copy k) (cond b (item_of l before row ∷ []) []) ≡ false
+    offered : (b : Bool) → list_any (is_copy k) (cond b (copy_of l before row ∷ []) []) ≡ false
     offered true = ap (λ (x : Bool). x || false) other
     offered false = refl
 
@@ -168,7 +168,7 @@ module _ (one : EachHasOneEvent) (r : Run) (ends : r.finished ≡ true) (before 
     (names : named r.table row.verdict ≡ Some l) (passed : passes l before row ≡ true) where
   at_port : (p : PortRow) → leads_to p.id l ≡ true
       → list_any (is_copy (length before)) (admitted (settings_of r.table.latency p) (feed_of r.table p.id r.rows))
-      ≡ fits (settings_of r.table.latency p) (admitted (settings_of r.table.latency p) (feed_of r.table p.id before)) (item_of l before row)
+      ≡ fits (settings_of r.table.latency p) (admitted (settings_of r.table.latency p) (feed_of r.table p.id before)) (copy_of l before row)
   unfolding feed_of
   at_port p leads =
       ap (λ (feed : List Item). list_any (is_copy k) (admitted s feed)) parts ∙ ap (list_any (is_copy k)) (admit_parts s [] first (x ∷ later))
@@ -181,7 +181,7 @@ module _ (one : EachHasOneEvent) (r : Run) (ends : r.finished ≡ true) (before 
         s = settings_of r.table.latency p
 
         x : Item
-        x = item_of l before row
+        x = copy_of l before row
 
         first : List Item
         first = each_after (copies r.table p.id) [] before
@@ -213,7 +213,7 @@ module _ (one : EachHasOneEvent) (r : Run) (ends : r.finished ≡ true) (before 
 
   -- a port's answer to the copy
   abbrev answer_at : ℕ → Offer
-  answer_at port = answer_of (run_before r before) (item_of l before row) (port_row r.table port)
+  answer_at port = answer_of (run_before r before) (copy_of l before row) (port_row r.table port)
 
   refuses : (port : ℕ) → leads_to port l ≡ true → not (took r port (length before)) ≡ is_full (answer_at port)
   refuses port leads = by (port_row r.table port) refl where
@@ -221,13 +221,13 @@ module _ (one : EachHasOneEvent) (r : Run) (ends : r.finished ≡ true) (before 
     reported true = refl
     reported false = refl
 
-    by : (o : Option PortRow) → port_row r.table port ≡ o → not (took r port (length before)) ≡ is_full (answer_of (run_before r before) (item_of l before row) o)
+    by : (o : Option PortRow) → port_row r.table port ≡ o → not (took r port (length before)) ≡ is_full (answer_of (run_before r before) (copy_of l before row) o)
     by None none = ap (λ (o : Option PortRow). not (list_any (λ (x : Sent). x.item.number == length before) (sent_in r o) || list_any (λ (x : Aged). x.item.number == length before) (aged_in r o)))
         none
     by (Some p) row_is =
         ap not (took_admitted one r port p (length before) ends row_is
         ∙ at_port p (ap (λ (n : ℕ). leads_to n l) (found_id r.table.ports port p row_is) ∙ leads))
-        ∙ reported (fits (settings_of r.table.latency p) (admitted (settings_of r.table.latency p) (feed_of r.table p.id before)) (item_of l before row))
+        ∙ reported (fits (settings_of r.table.latency p) (admitted (settings_of r.table.latency p) (feed_of r.table p.id before)) (copy_of l before row))
 
   -- ---- all ports of the link
 
@@ -260,6 +260,6 @@ full_is_exact one r ends before after row is = by (named r.table row.verdict) re
   by (Some l) names = passed (passes l before row) refl where
     passed : (b : Bool) → passes l before row ≡ b
         → cond b (refusing r (length before) l.to) []
-        ≡ full_ports (cond b (map (λ (port : ℕ). (port, answer_of (run_before r before) (item_of l before row) (port_row r.table port))) l.to) [])
+        ≡ full_ports (cond b (map (λ (port : ℕ). (port, answer_of (run_before r before) (copy_of l before row) (port_row r.table port))) l.to) [])
     passed true e = all_refuse one r ends before after row is l names e l.to (λ port among. among)
     passed false e = refl

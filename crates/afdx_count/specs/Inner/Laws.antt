@@ -13,7 +13,7 @@ use Rattle.afdx_core.specs.Rows.{own_frames, fates_of}
 use Rattle.afdx_core.specs.State.{Run, handling_of, after_finish}
 use Rattle.afdx_count.specs.declared.counters.InCount.{InCount}
 use Rattle.afdx_count.specs.declared.counters.OutCount.{OutCount}
-use Rattle.afdx_count.specs.Counting.{greatest}
+use Rattle.afdx_count.specs.Counting.{greatest_count}
 use Rattle.afdx_count.specs.Tally.{fresh, noted, ended}
 use Rattle.afdx_count.specs.Run.{input_counts, link_counts, output_counts, counts_so_far, counts_of, run_after, handlings_of, noted_all}
 
@@ -41,12 +41,12 @@ sum_of_verdicts c = c.cut + c.short + c.long + c.foreign + c.no_link + c.wrong_p
 
 -- each arrival has one verdict
 abbrev pub SeenIsTheSum : Type 0
-SeenIsTheSum = (rows : List Row) → (input_counts rows).seen < greatest → (input_counts rows).seen ≡ sum_of_verdicts (input_counts rows)
+SeenIsTheSum = (rows : List Row) → (input_counts rows).seen < greatest_count → (input_counts rows).seen ≡ sum_of_verdicts (input_counts rows)
 
 -- each clean frame of a link is passed or policed
 abbrev pub PassedAndPolicedAreClean : Type 0
 PassedAndPolicedAreClean = (t : Content) (l : Link) (rows : List Row) → link_row t l.id ≡ Some l
-    → (link_counts l.id (fates_of t rows)).passed < greatest → (link_counts l.id (fates_of t rows)).policed < greatest
+    → (link_counts l.id (fates_of t rows)).passed < greatest_count → (link_counts l.id (fates_of t rows)).policed < greatest_count
     → (link_counts l.id (fates_of t rows)).passed + (link_counts l.id (fates_of t rows)).policed ≡ length (own_frames l.id rows)
 
 -- the copies of a priority at a port, at the end
@@ -55,5 +55,5 @@ copies_at_end priority s feed = output_counts priority s feed (service s 0 (admi
 
 -- each copy that was offered was refused, discarded or sent
 abbrev pub OfferedIsTheSum : Type 0
-OfferedIsTheSum = (priority : Priority) (s : Settings) (feed : List Item) → (copies_at_end priority s feed).offered < greatest
+OfferedIsTheSum = (priority : Priority) (s : Settings) (feed : List Item) → (copies_at_end priority s feed).offered < greatest_count
     → (copies_at_end priority s feed).offered ≡ (copies_at_end priority s feed).full + (copies_at_end priority s feed).aged + (copies_at_end priority s feed).sent

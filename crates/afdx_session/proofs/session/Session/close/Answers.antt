@@ -1,4 +1,4 @@
-use Rattle.afdx_session.specs.Session.{bytes_of, IsRefused}
+use Rattle.afdx_session.specs.Session.{fed_bytes, IsRefused}
 use Rattle.afdx_session.specs.Reading.{IsFaultAt}
 use Rattle.afdx_session.proofs.Sessions.{refused_place, of_error, open_at, kept_ended, kept_half, answers_ended, answers_not_ended}
 use Rattle.afdx_session.proofs.session.Session.close.Goals as goal
@@ -7,7 +7,7 @@ pub returns-in_err-place-clause-err : goal.returns-in_err-place-clause-err
 returns-in_err-place-clause-err g c =
     let v = c.args.self.now in
     let s = c.self.inside in
-    let Why = IsFaultAt (bytes_of v c.args.port) c.args.port in
+    let Why = IsFaultAt (fed_bytes v c.args.port) c.args.port in
     of_error (λ fault. IsRefused v v c.args.port fault (Why fault)) c.from_residual.result c.in_err-place.field-0.0 c.from_residual.ensures
     (refused_place s.machine s.begun s.failed v c.deref.result.now c.args.port c.in_err-place.field-0.0 (Why c.in_err-place.field-0.0) c.self.view_is c.if-self.false c.deref.ensures.value
     c.in_err-place.ensures.err)

@@ -1,5 +1,5 @@
 use Rattle.std.proofs.Common.{◌++◌}
-use Rattle.afdx_session.specs.Session.{bytes_of, IsRefused}
+use Rattle.afdx_session.specs.Session.{fed_bytes, IsRefused}
 use Rattle.afdx_session.specs.Lanes.{IsPieceFault}
 use Rattle.afdx_session.proofs.Sessions.{refused_place, of_error, open_at, kept_fed, kept_half, answers_fed, answers_not_fed}
 use Rattle.afdx_session.proofs.session.Session.feed.Goals as goal
@@ -8,7 +8,7 @@ pub returns-in_err-place-clause-err : goal.returns-in_err-place-clause-err
 returns-in_err-place-clause-err g c =
     let v = c.args.self.now in
     let s = c.self.inside in
-    let Why = IsPieceFault (bytes_of v c.args.port ++ c.args.piece.now) c.args.port in
+    let Why = IsPieceFault (fed_bytes v c.args.port ++ c.args.piece.now) c.args.port in
     of_error (λ fault. IsRefused v v c.args.port fault (Why fault)) c.from_residual.result c.in_err-place.field-0.0 c.from_residual.ensures
     (refused_place s.machine s.begun s.failed v c.deref.result.now c.args.port c.in_err-place.field-0.0 (Why c.in_err-place.field-0.0) c.self.view_is c.if-self.false c.deref.ensures.value
     c.in_err-place.ensures.err)
