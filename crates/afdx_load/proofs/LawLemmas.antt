@@ -77,7 +77,8 @@ sum_above speed (link ∷ links) long some = omega (arith, sum_by-cons (rate_of 
 part_left : (speed : Speed) (links : List Link) → All IsLong links → (sums_of speed links).rate ≤ parts → 0 < (sums_of speed links).lows → (sums_of speed links).high_rate < parts
 unfolding sums_of
 part_left speed links long rate lows =
-    let low : 0 < sum_by (rate_of speed) (filter is_low_link links) = sum_above speed (filter is_low_link links) (All-filter is_low_link IsLong links long) (omega (arith, length-filter is_low_link links)) in
+    let low : 0 < sum_by (rate_of speed) (filter is_low_link links) =
+    sum_above speed (filter is_low_link links) (All-filter is_low_link IsLong links long) (omega (arith, length-filter is_low_link links)) in
     omega (arith, low, sum_by-filter_both is_high_link is_low_link (λ _. refl) (rate_of speed) links)
 
 pub leave_a_part : HighLinksLeaveAPart
