@@ -32,8 +32,8 @@ readme_shows() {
     [ "$(grep -cxFf lines.txt "$top/README.md")" -eq "$1" ]
 }
 
-# tells_jitters: the jitters that the links need, whatever those of the tables are.
-tells_jitters() {
+# prints_jitters: the jitters that the links need, whatever those of the tables are.
+prints_jitters() {
     as_modelled jitter && mv lines.txt before.txt && sed -i '/^id = 400/,/^jitter_us/ s/^jitter_us = .*/jitter_us = 10000/' work/bay.toml &&
         "$afdx" network jitter work/network.toml | cmp before.txt -
 }
@@ -132,7 +132,7 @@ undisturbed() {
 fresh
 check "the check of the example" as_modelled check
 check "README shows lines of it" readme_shows 4
-check "the jitters of the example" tells_jitters
+check "the jitters of the example" prints_jitters
 fresh
 provoked 4 "afdx: network J2 NoJitter, switch cabin, link 303, need 15247"
 check "a jitter past 10 ms" past

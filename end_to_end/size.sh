@@ -13,10 +13,9 @@ as_modelled() {
         [ -s lines.txt ] && cmp wanted.txt lines.txt && [ ! -s said.txt ]
 }
 
-# fits TABLE: so, and every port fits; the lines are those of README.
+# fits TABLE: so, and every port fits.
 fits() {
-    as_modelled "$1" && ! grep -v ' fits$' lines.txt && grep -qxFf lines.txt "$top/README.md" &&
-        [ "$(grep -cxFf lines.txt "$top/README.md")" -eq "$(wc -l <lines.txt)" ]
+    as_modelled "$1" && ! grep -v ' fits$' lines.txt
 }
 
 # breaks LINE TABLE: so, and one of the lines is this.
@@ -24,8 +23,8 @@ breaks() {
     as_modelled "$2" && cat lines.txt && grep -qxF "$1" lines.txt
 }
 
-# tells_its_version WORD: the program's name and number, then the kit's line.
-tells_its_version() {
+# prints_its_version WORD: the program's name and number, then the kit's line.
+prints_its_version() {
     "$afdx" "$1" >answer.txt 2>said.txt && cat answer.txt && sed -n 1p answer.txt | grep -qx 'afdx [0-9.]*' &&
         [ "$(sed -n '2,$p' answer.txt)" = "$(rt version)" ] && [ ! -s said.txt ]
 }
@@ -41,6 +40,6 @@ cat "$room/said"
 check "a file that is no table" ends 3 "afdx: table C6 Range, top, version" /dev/null size other.toml
 check "no file" ends 5 "afdx: device get none.toml" /dev/null size none.toml
 check "help of size" helps size --help
-check "--version" tells_its_version --version
-check "-V" tells_its_version -V
+check "--version" prints_its_version --version
+check "-V" prints_its_version -V
 finish

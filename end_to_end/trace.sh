@@ -38,11 +38,6 @@ shows() {
     done
 }
 
-# shows_readme: the lines that README shows are among them.
-shows_readme() {
-    [ "$(grep -cxFf rows/arrivals.csv "$top/README.md")" -eq 2 ]
-}
-
 # tied_as_modelled: captures full of ties, most of them at ports where frames are lost.
 tied_as_modelled() {
     local seed
@@ -64,7 +59,6 @@ drawn_as_modelled() {
 sed 's/^mbit = .*/mbit = 10/; s/^buffer = .*/buffer = 1000/; s/^max_delay_us = .*/max_delay_us = 300/' "$network/table.toml" >tight.toml
 
 check "the example network" joined "$network/table.toml" "$network/in"
-check "README shows two of these lines" shows_readme
 check "the same on a faster switch" joined "$network/faster.toml" "$network/in"
 check "tight ports" joined tight.toml "$network/in" --unchecked
 check "frames are policed, full and aged there" shows ',policed,[0-9]+,$' ',passed,,[0-9;]+$' ',aged$' ',sent$'

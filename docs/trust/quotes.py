@@ -338,7 +338,7 @@ def judged(there, needed):
 
 
 def without_meaning(pages, kit):
-    """The words of the kit that no table tells."""
+    """The words of the kit that no table explains."""
     explained = set()
     for page in pages:
         for mark in KIT.finditer(page):

@@ -238,7 +238,7 @@ passes_what_conforms t since level at size passes left le passes-is left-is fram
     left-is ∙ rw (test, same) refl in
     (test ∙ decides t since start frames f le s, rw (still, kept) (stands_on t since start frames f le s))
 
--- an offer that passes gives up the price, which pays for the cost
+-- an offer that passes debits the price, which pays for the cost
 pub pays_what_passes : (t : Terms) (weight cost since level at size : ℕ) (passes : Bool) (left : ℕ) → cost ≤ weight * t.price size
     → passes ≡ nat_le (t.price size) (credited_level t level (at - since))
     → left ≡ cond passes (credited_level t level (at - since) - t.price size) (credited_level t level (at - since))

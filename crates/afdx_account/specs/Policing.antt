@@ -28,7 +28,7 @@ byte_terms max_size bag jitter = record {
   price = λ size. size * bag_ns bag;
 }
 
--- profile: line time that a unit stands for, in parts of a ns; the factor 21 / 16 is there because
+-- profile: line time that a unit is worth, in parts of a ns; the factor 21 / 16 is there because
 -- size + 20 <= size * 21 / 16 for sizes of at least 64
 abbrev pub byte_weight : Bag → Speed → ℕ
 byte_weight bag speed = 21 * tick_of speed * (128 / bag_ms bag)
@@ -42,7 +42,7 @@ frame_terms bag jitter = record {
   price = λ size. bag_ns bag;
 }
 
--- profile: line time that a unit stands for, in parts of a ns: a gap's units are the line time of the longest frame
+-- profile: line time that a unit is worth, in parts of a ns: a gap's units are the line time of the longest frame
 abbrev pub frame_weight : ℕ → Bag → Speed → ℕ
 frame_weight max_size bag speed = 16 * cost_of speed max_size * (128 / bag_ms bag)
 
@@ -51,7 +51,7 @@ abbrev pub terms_by : Police → ℕ → Bag → ℕ → Terms
 terms_by Byte max_size bag jitter = byte_terms max_size bag jitter
 terms_by ByFrames max_size bag jitter = frame_terms bag jitter
 
--- and what a unit of them stands for
+-- and what a unit of them is worth
 abbrev pub weight_by : Police → ℕ → Bag → Speed → ℕ
 weight_by Byte max_size bag speed = byte_weight bag speed
 weight_by ByFrames max_size bag speed = frame_weight max_size bag speed

@@ -22,7 +22,7 @@ pub trait Meter {
     /// Its level at an instant.
     ghost level: { Self → ℕ → ℕ };
 
-    /// Line time that a unit means, in the 2,048,000,000th part of a nanosecond.
+    /// Line time that a unit is worth, in the 2,048,000,000th part of a nanosecond.
     ghost weight_of: { Self → Speed → ℕ };
 
     /// The greatest size in bytes that its link allows.
@@ -45,7 +45,7 @@ pub trait Meter {
         requires { since self.now ≤ at }
         ensures { result ≡ level self.now at };
 
-    /// Line time that a unit means, in the 2,048,000,000th part of a nanosecond.
+    /// Line time that a unit is worth, in the 2,048,000,000th part of a nanosecond.
     fn weight(&self, speed: Speed) -> u64
         ensures { result ≡ weight_of self.now speed };
 

@@ -1,4 +1,4 @@
--- Accounts stand for one more arrival.
+-- Accounts agree with one more arrival.
 use Rattle.std.proofs.Common.{◌≡◌, ◌≢◌, ℕ, ◌<◌, ◌≤◌, ◌==◌, nat_eq, Bool, false, List, [], ◌∷◌, ◌++◌, length, map, set, get_or, slice_index_or, ap, sym, ◌∙◌, arith, ◌+◌, ◌-◌, subst, subst₂, ⊎_elim}
 use Rattle.std.proofs.Common.{get_or-set_same, get_or-set_other}
 use Rattle.std.specs.List.{IsDistinct}

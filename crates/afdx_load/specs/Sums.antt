@@ -25,7 +25,7 @@ routed port links = filter (leads_to port) links
 abbrev pub terms_of : Link → Terms
 terms_of link = terms_by link.police link.max_size link.bag link.jitter
 
--- profile: line time that a unit of them stands for, in parts of a nanosecond
+-- profile: line time that a unit of them is worth, in parts of a nanosecond
 abbrev pub weight_of : Speed → Link → ℕ
 weight_of speed link = weight_by link.police link.max_size link.bag speed
 

@@ -54,8 +54,8 @@ pub(crate) fn count(wants: &mut u64) {
     *wants = wants.saturating_add(1);
 }
 
-/// What calls answer of which those that wanted memory were made once more: whether all was right in the end, and how often
-/// memory was wanted.
+/// What calls answer of which those that were out of memory were made once more: whether all was right in the end, and how often
+/// memory ran out.
 pub(crate) fn made_again(right: bool, wants: u64) -> Option<bool> {
     match wants {
         0 => Some(right),

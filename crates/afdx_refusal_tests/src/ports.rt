@@ -28,7 +28,7 @@ fn offer<A: Allocator + Copy>(port: &mut Port<A>, number: usize) -> Offer
     })
 }
 
-/// Two frames at once at a port with a buffer for one: the answers, and whether memory was wanted for them first. It has room
+/// Two frames at once at a port with a buffer for one: the answers, and whether memory ran out for them first. It has room
 /// for none then, and nothing else has changed.
 fn offers(memory: &Memory) -> Result<(bool, Offer, Offer), AllocError> {
     let mut port = Port::new(memory, Speed::Hundred, 64, 500_000_000, 0);

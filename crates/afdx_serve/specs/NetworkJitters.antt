@@ -45,7 +45,7 @@ abbrev pub FailsToFit : Failure → Network → Type 0
 FailsToFit f net = (e : NetworkFault) × (e ≢ fault.Memory → fit_of net ≡ Err e) × IsRefused (names_of net.layout.switches) e f
 
 -- the file's network fits, so that jitters are asked for: these are what its rows need, and the first that is past what a table can
--- have; this text tells them
+-- have; this text lists them
 pub record JittersAre (files : Option Files) (path : List ℕ) (net : Network) (past : Option Short) (text : List ℕ) : Type 0 where
   pub rows : List RowNeed
   pub has_network : HasNetwork files path net

@@ -22,7 +22,7 @@ use Rattle.afdx_load.specs.Accepted.{IsAccepted}
 
 -- ---- after a call that answered Ok
 
--- the lanes stand for the whole records of what contracts see
+-- the lanes agree with the whole records of what contracts see
 pub lanes_are_streams : {Z : Type 0} (begun : Bool) (lanes : List (Lane Z)) (streams : List Stream) → AllByRecursion (IsMarked begun) lanes → AllByRecursion HasReadAll lanes → AreLanesOf lanes streams
     → AreStreams (intakes_of lanes) streams
 lanes_are_streams begun [] [] marked read are = tt

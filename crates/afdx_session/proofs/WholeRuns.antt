@@ -1,4 +1,4 @@
--- A run over whole captures: its lanes stand for the captures that were lent, and nothing was taken before the end.
+-- A run over whole captures: its lanes agree with the captures that were lent, and nothing was taken before the end.
 use Rattle.std.proofs.Common.{◌≡◌, ℕ, ◌==◌, Bool, true, false, cond, List, [], ◌∷◌, map, drop, Some, refl, ap, sym, ◌∙◌, subst}
 use Rattle.std.specs.Prelude.{find}
 use Rattle.std.specs.List.{AllByRecursion}
@@ -30,7 +30,7 @@ use Rattle.afdx_session.proofs.Finishing.{finished}
 
 -- ---- the captures
 
--- the texts that the lanes stand for are those that were lent
+-- the texts that the lanes agree with are those that were lent
 texts_are : {Z : Type 0} (begun : Bool) (texts : List Text) (lanes : List (Lane Z)) → AreLent texts lanes → AllByRecursion (IsMarked begun) lanes → texts_at lanes ≡ texts
 texts_are begun [] [] lent marked = refl
 texts_are begun [] (l ∷ lanes) lent marked = absurd lent

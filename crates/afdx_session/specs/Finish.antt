@@ -29,7 +29,7 @@ pub record IsFinished (v : Seen) (results : Results) : Type 0 where
   -- on a checked table the headline holds of it
   pub isolated : v.accepted ≡ true → IsIsolated v.table (texts_in v) whole
 
--- there is no outcome: a call had failed, and nothing changes; or memory was refused or a capture has a fault, that of the lowest port, and
+-- there is no outcome: a call had failed, and nothing changes; or memory ran out or a capture has a fault, that of the lowest port, and
 -- nothing changes but that a call has failed
 abbrev pub IsNotFinished : Seen → RunFault × Seen → Type 0
 IsNotFinished v e =

@@ -34,7 +34,7 @@ abbrev pub NotesCountTheRun : Type 0
 NotesCountTheRun = (t : Content) (rows : List Row) → IsWellFormed t
     → ended (after_finish (run_after t rows)) (noted_all (handlings_of t rows) (fresh t)) ≡ counts_of t rows
 
--- ---- sums, while no counter stands at its greatest value
+-- ---- sums, while no counter is at its greatest value
 
 abbrev pub sum_of_verdicts : InCount → ℕ
 sum_of_verdicts c = c.cut + c.short + c.long + c.foreign + c.no_link + c.wrong_port + c.too_big + c.clean

@@ -7,7 +7,7 @@ use Rattle.afdx_account.specs.Policing.{Terms, parts}
 use Rattle.afdx_port.specs.declared.Settings.{Settings}
 
 -- a virtual link as an output port sees it: the terms by which it is policed, the line time that a unit of them
--- stands for on this port's line, in parts of a nanosecond, and its largest frame in bytes
+-- is worth on this port's line, in parts of a nanosecond, and its largest frame in bytes
 pub record Flow : Type 0 where
   pub id : ℕ
   pub terms : Terms
