@@ -168,7 +168,7 @@ fn size<'a>(alloc: Global) -> Result<Command<'a>, AllocError>
     ensures app { IfOk result (λ c. app_of c ≡ size_app) }
     ensures local { IfOk result (λ c. (out-Command c).has_globals ≡ false) }
 {
-    let about = "Tells what each port needs and has, whether it fits or not";
+    let about = "Prints what each port needs and has, whether it fits or not";
     with_no_arguments(alloc, "size", about, SIZE).arg(path(
         alloc,
         "TABLE",
@@ -207,14 +207,14 @@ fn measure<'a>(alloc: Global) -> Result<Command<'a>, AllocError>
     ensures app { IfOk result (λ c. app_of c ≡ measure_app) }
     ensures local { IfOk result (λ c. (out-Command c).has_globals ≡ false) }
 {
-    let about = "Tells the delays of each link and how full each buffer was";
+    let about = "Prints the delays of each link and how full each buffer was";
     with_no_arguments(alloc, "measure", about, MEASURE)
         .arg(path(alloc, "TABLE", "The configuration table"))?
         .arg(path(alloc, "IN", "The folder of port-1.pcap and so on"))?
         .arg(flag(
             alloc,
             "unchecked",
-            "Runs a table whatever its load, and tells no bounds",
+            "Runs a table whatever its load, and prints no bounds",
         ))
 }
 
@@ -222,7 +222,7 @@ fn trace<'a>(alloc: Global) -> Result<Command<'a>, AllocError>
     ensures app { IfOk result (λ c. app_of c ≡ paths_app (codes "trace")) }
     ensures local { IfOk result (λ c. (out-Command c).has_globals ≡ false) }
 {
-    let about = "Tells what became of each frame and of each copy";
+    let about = "Writes what became of each frame and of each copy";
     let output = "The folder for arrivals.csv and departures.csv";
     with_paths(alloc, "trace", about, TRACE, output)
 }

@@ -49,7 +49,7 @@ fn check<'a>(alloc: Global) -> Result<Command<'a>, AllocError>
     ensures app { IfOk result (λ c. app_of c ≡ network_check_app) }
     ensures local { IfOk result (λ c. (out-Command c).has_globals ≡ false) }
 {
-    let about = "Checks a network and tells the way of each link";
+    let about = "Checks a network and prints the way of each link";
     with_no_arguments(alloc, "check", about, CHECK).arg(path(alloc, "NET", "The network file"))
 }
 
@@ -58,7 +58,7 @@ fn jitter<'a>(alloc: Global) -> Result<Command<'a>, AllocError>
     ensures app { IfOk result (λ c. app_of c ≡ network_jitter_app) }
     ensures local { IfOk result (λ c. (out-Command c).has_globals ≡ false) }
 {
-    let about = "Tells the jitter that each link needs at each switch";
+    let about = "Prints the jitter that each link needs at each switch";
     with_no_arguments(alloc, "jitter", about, JITTER).arg(path(alloc, "NET", "The network file"))
 }
 

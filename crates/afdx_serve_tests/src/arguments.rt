@@ -15,10 +15,10 @@ Usage: afdx <COMMAND>
 Commands:
   alone    Polices one virtual link of the capture on standard input
   check    Checks the load of a configuration table
-  size     Tells what each port needs and has, whether it fits or not
+  size     Prints what each port needs and has, whether it fits or not
   run      Runs the switch over one capture for each port
-  measure  Tells the delays of each link and how full each buffer was
-  trace    Tells what became of each frame and of each copy
+  measure  Prints the delays of each link and how full each buffer was
+  trace    Writes what became of each frame and of each copy
   network  Checks and runs a network of switches
   help     Print this message or the help of the given subcommand(s)
 
@@ -54,7 +54,7 @@ links ask for, 5 memory or a device.
 Example: mkdir out && afdx run table.toml in out
 ";
 
-const HELP_SIZE: &str = "Tells what each port needs and has, whether it fits or not
+const HELP_SIZE: &str = "Prints what each port needs and has, whether it fits or not
 
 Usage: afdx size <TABLE>
 
@@ -74,7 +74,7 @@ or a device.
 Example: afdx size table.toml
 ";
 
-const HELP_TRACE: &str = "Tells what became of each frame and of each copy
+const HELP_TRACE: &str = "Writes what became of each frame and of each copy
 
 Usage: afdx trace [OPTIONS] <TABLE> <IN> <OUT>
 
@@ -99,7 +99,7 @@ links ask for, 5 memory or a device.
 Example: mkdir rows && afdx trace table.toml in rows
 ";
 
-const HELP_MEASURE: &str = "Tells the delays of each link and how full each buffer was
+const HELP_MEASURE: &str = "Prints the delays of each link and how full each buffer was
 
 Usage: afdx measure [OPTIONS] <TABLE> <IN>
 
@@ -108,7 +108,7 @@ Arguments:
   <IN>     The folder of port-1.pcap and so on
 
 Options:
-      --unchecked  Runs a table whatever its load, and tells no bounds
+      --unchecked  Runs a table whatever its load, and prints no bounds
   -h, --help       Print help
 
 Runs as run does, and writes no capture. For each link and each of its output
