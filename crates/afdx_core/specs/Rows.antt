@@ -4,7 +4,7 @@ use Rattle.afdx_units.specs.Line.{size_of}
 use Rattle.afdx_pcap.specs.Entry.{Entry}
 use Rattle.afdx_frame.specs.Address.{link_of}
 use Rattle.afdx_table.specs.Link.{Link, leads_to}
-use Rattle.afdx_table.specs.Content.{Content, link_row, link_place}
+use Rattle.afdx_table.specs.Content.{Content, link_row}
 use Rattle.afdx_filter.specs.declared.outcome.Verdict.{Verdict}
 use Rattle.afdx_filter.specs.declared.outcome.Verdict.TheVariants.{Cut, Short, Long, Foreign, NoLink, WrongPort, TooBig, Clean}
 use Rattle.afdx_filter.specs.Verdict.{verdict_of}

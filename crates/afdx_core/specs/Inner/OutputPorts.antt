@@ -4,7 +4,7 @@ use Rattle.afdx_table.specs.Link.{names_port}
 use Rattle.afdx_port.specs.declared.Item.{Item}
 use Rattle.afdx_port.specs.declared.Offer.{Offer}
 use Rattle.afdx_port.specs.declared.Offer.TheVariants.{Full, Queued}
-use Rattle.afdx_port.specs.Content.{answer, due, offered, advanced, closed}
+use Rattle.afdx_port.specs.Content.{answer, offered, advanced, closed}
 use Rattle.afdx_port.specs.Lagging.{has_due}
 use Rattle.afdx_core.specs.declared.output_port.OutputPort.{OutputPort}
 use Rattle.afdx_core.specs.OutputPorts.{IsCounted, Out, seen}
