@@ -32,16 +32,16 @@ def write_capture(path, count, size, gap):
             file.write(struct.pack("<4I", seconds, nanos, len(frame), len(frame)) + frame)
 
 
-def measured(words, source, target, status=0):
+def measured(arguments, source, target, status=0):
     """The seconds that this command takes, and the megabytes of memory at its peak."""
     with open(source, "rb") as read, open(target, "wb") as written:
         start = time.perf_counter()
-        process = subprocess.Popen(words, stdin=read, stdout=written, stderr=subprocess.DEVNULL)
+        process = subprocess.Popen(arguments, stdin=read, stdout=written, stderr=subprocess.DEVNULL)
         _, ended, used = os.wait4(process.pid, 0)
         took = time.perf_counter() - start
     process.returncode = os.waitstatus_to_exitcode(ended)
     if process.returncode != status:
-        sys.exit(f"{words} ended with {process.returncode}")
+        sys.exit(f"{arguments} ended with {process.returncode}")
     return took, used.ru_maxrss / 1000
 
 
@@ -49,16 +49,16 @@ def medians(commands, source, target, runs):
     """The median seconds of each command, turn by turn; the megabytes of the last one."""
     took = {name: [] for name in commands}
     for _ in range(runs):
-        for name, (words, status) in commands.items():
-            seconds, memory = measured(words, source, target, status)
+        for name, (arguments, status) in commands.items():
+            seconds, memory = measured(arguments, source, target, status)
             took[name].append(seconds)
     return {name: statistics.median(seconds) for name, seconds in took.items()}, memory
 
 
-def compare(what, words, room, runs, count, size, gap):
+def compare(what, arguments, room, runs, count, size, gap):
     source, target = f"{room}/source", f"{room}/target"
     write_capture(source, count, size, gap)
-    took, memory = medians({"cat": (["cat"], 0), "program": (words, 0)}, source, target, runs)
+    took, memory = medians({"cat": (["cat"], 0), "program": (arguments, 0)}, source, target, runs)
     megabytes = os.path.getsize(source) / 1e6
     print(f"{what}: {count} frames of {size} bytes, {megabytes:.0f} MB: cat {took['cat']:.3f} s, "
           f"program {took['program']:.3f} s in {memory:.0f} MB, ratio {took['program'] / took['cat']:.1f}")

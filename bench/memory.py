@@ -45,8 +45,8 @@ priority = "low"
 def peak_of(afdx, room, count, size):
     """The bytes that a run of so many frames takes at its peak, and those that it reads and writes."""
     write_capture(f"{room}/in/port-1.pcap", count, size, MILLISECOND)
-    words = [afdx, "run", f"{room}/table.toml", f"{room}/in", f"{room}/out"]
-    _, megabytes = measured(words, f"{room}/table.toml", f"{room}/report")
+    arguments = [afdx, "run", f"{room}/table.toml", f"{room}/in", f"{room}/out"]
+    _, megabytes = measured(arguments, f"{room}/table.toml", f"{room}/report")
     files = [f"{room}/{side}/port-{port}.pcap" for side in ("in", "out") for port in (1, 2)]
     return megabytes * 1_024_000, sum(map(os.path.getsize, files))
 

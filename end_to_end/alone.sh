@@ -44,7 +44,7 @@ check "the frame that is a nanosecond early is policed" \
     test "$(tshark -r answer.pcap -T fields -e frame.time_epoch 2>/dev/null | tr '\n' ' ')" = "0.000000000 0.001000000 "
 check "pcapng is refused by its magic" ends 3 "afdx: capture P3 Magic" next.pcapng "${alone[@]}"
 check "a cut record is named" ends 3 "afdx: capture P11 CutData, record 2" cut.pcap "${alone[@]}"
-check "an unknown word" ends 2 "afdx: usage" sent.pcap alones
+check "an unknown command" ends 2 "afdx: usage" sent.pcap alones
 check "a gap that is none" ends 2 "afdx: usage" sent.pcap alone --id 10 --bag 3 --jitter 0 --size 1518
 check "an option is missing" ends 2 "afdx: usage" sent.pcap alone --id 10 --bag 1 --jitter 0
 check "standard input cannot be read" ends 5 "afdx: device read" . "${alone[@]}"

@@ -5,7 +5,7 @@ usage: answers.py size TABLE
        answers.py measure TABLE IN [--unchecked]
        answers.py trace TABLE IN OUT [--unchecked]
 
-The words are those of afdx, so this program can stand in its place; what it refuses are loads and captures.
+The arguments are those of afdx, so this program can stand in its place; what it refuses are loads and captures.
 """
 import sys
 from dataclasses import dataclass
@@ -125,9 +125,9 @@ def trace(table, captures):
     return arrivals_text(table, arrivals, output_ports), departures_text(arrivals, output_ports)
 
 
-def main(words):
-    unchecked = "--unchecked" in words
-    command, path, *folders = [word for word in words if word != "--unchecked"]
+def main(arguments):
+    unchecked = "--unchecked" in arguments
+    command, path, *folders = [argument for argument in arguments if argument != "--unchecked"]
     with open(path, encoding="utf-8", newline="") as file:
         table = model.table_of(file.read())
     if command == "size":

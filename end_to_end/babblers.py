@@ -119,10 +119,10 @@ def babble(chance, table, port):
 # --- The trial ---
 
 
-def afdx(program, *words):
-    answer = subprocess.run([program, *words], capture_output=True, text=True, check=False)
+def afdx(program, *arguments):
+    answer = subprocess.run([program, *arguments], capture_output=True, text=True, check=False)
     if answer.returncode != 0 or answer.stderr:
-        sys.exit(f"afdx {' '.join(words)}: status {answer.returncode}, {answer.stderr}")
+        sys.exit(f"afdx {' '.join(arguments)}: status {answer.returncode}, {answer.stderr}")
     return answer.stdout
 
 

@@ -45,7 +45,7 @@ finish() {
     [ "$failed" -eq 0 ]
 }
 
-# frames FILE WORD..: a nanosecond capture of these frames (see frames.py), written by text2pcap.
+# frames FILE ARGUMENT..: a nanosecond capture of these frames (see frames.py), written by text2pcap.
 frames() {
     local file=$1
     shift
@@ -65,7 +65,7 @@ is_printed() {
     diff <(grep . "$1") <(sed -e 's/Running as user[^.]*\. This could be dangerous\.//g' -e '/^$/d' "$2")
 }
 
-# ends STATUS LINE FILE WORD..: $afdx ends with this status and this line for these words and this input, and nothing is
+# ends STATUS LINE FILE ARGUMENT..: $afdx ends with this status and this line for these arguments and this input, and nothing is
 # on standard output.
 ends() {
     local wanted=$1 line=$2 file=$3 status=0
@@ -82,7 +82,7 @@ third_version() {
     grep -v '^version' "$1"
 }
 
-# helps WORD..: the help of $afdx is on standard output, with status 0.
+# helps ARGUMENT..: the help of $afdx is on standard output, with status 0.
 helps() {
     "$afdx" "$@" >answer.txt 2>said.txt && grep -q -- '--help\|-h' answer.txt && [ ! -s said.txt ]
 }

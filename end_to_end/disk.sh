@@ -15,7 +15,7 @@ again() {
     rm -rf in out alias && cp -a given in && cp -a older out
 }
 
-# run_over IN OUT WORD..: runs afdx with these words before it, and keeps what it says.
+# run_over IN OUT ARGUMENT..: runs afdx with these arguments before it, and keeps what it says.
 run_over() {
     local source=$1 target=$2 status=0
     shift 2
@@ -40,7 +40,7 @@ stands() {
     diff -r wanted "${2:-out}" && diff -r given in
 }
 
-# leaves STATUS LINE COUNT WORD..: with these words before it, afdx ends so, and so many captures are those of this run.
+# leaves STATUS LINE COUNT ARGUMENT..: with these arguments before it, afdx ends so, and so many captures are those of this run.
 leaves() {
     local status=$1 line=$2 count=$3
     shift 3
@@ -102,7 +102,7 @@ small() { # small KIB: the commands for a file system of so many KiB that has th
     echo "mount -t tmpfs -o size=${1}k none out && cp -a older/. out"
 }
 
-limited() { # limited WORD..: no file may grow past 8 KiB
+limited() { # limited ARGUMENT..: no file may grow past 8 KiB
     (trap '' XFSZ && ulimit -f 8 && "$@")
 }
 
@@ -112,7 +112,7 @@ limit_ends() {
         rm out/port-2.pcap.new-0 && stands 1
 }
 
-redirected() { # redirected REDIRECTION WORD..
+redirected() { # redirected REDIRECTION ARGUMENT..
     local redirection=$1
     shift
     sh -c "exec \"\$@\" $redirection" - "$@"
@@ -120,7 +120,7 @@ redirected() { # redirected REDIRECTION WORD..
 
 # --- Calls of the system ---
 
-preloaded() { # preloaded VARIABLE=VALUE WORD..: see failing.c
+preloaded() { # preloaded VARIABLE=VALUE ARGUMENT..: see failing.c
     rm -f calls.txt
     env "$1" CALLS="$PWD/calls.txt" LD_PRELOAD="$PWD/failing.so" "${@:2}"
 }
@@ -161,7 +161,7 @@ stays_beside() {
     again && run_over in out preloaded "FAIL=rename:1,unlink:1" && said 5 "$put_1" && rm out/port-1.pcap.new-0 && stands 0
 }
 
-# interrupted LINE WORD..: where each read is interrupted, afdx with these words gives up, ends with this line, and writes
+# interrupted LINE ARGUMENT..: where each read is interrupted, afdx with these arguments ends with this line, and writes
 # nothing; so it does where standard error is full.
 interrupted() {
     local line=$1 error
@@ -255,8 +255,8 @@ check "a folder in a capture's place in OUT" keeps in out 1 "$put_2" instead mkd
 check "a folder in a capture's place in IN" keeps in out 0 "afdx: device get in/port-2.pcap" instead mkdir in/port-2.pcap
 check "a file in the place of OUT" keeps in out 0 "$put_1" instead touch out
 check "a capture that may not be written" keeps in out 0 "$put_1" chmod a-w out/port-1.pcap
-check "OUT is an empty word" ends 2 "afdx: usage" /dev/null run table.toml none ""
-check "IN is an empty word" ends 2 "afdx: usage" /dev/null run table.toml "" none
+check "OUT is empty" ends 2 "afdx: usage" /dev/null run table.toml none ""
+check "IN is empty" ends 2 "afdx: usage" /dev/null run table.toml "" none
 
 check "a read-only file system" mounted 0 "$put_1" "mount --bind out out && mount -o remount,bind,ro out"
 check "a file system without room for the first capture" mounted 0 "$put_1" "$(small 8)"

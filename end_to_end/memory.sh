@@ -8,7 +8,7 @@ export PYTHONDONTWRITEBYTECODE=1
 afdx=${AFDX:-$top/crates/afdx/out/afdx}
 cd "$room" || exit 1
 
-# refuses NAME STATUS LINE INPUT WORD..: for these words and this input $afdx ends with this status and this line, or is out of memory;
+# refuses NAME STATUS LINE INPUT ARGUMENT..: for these arguments and this input $afdx ends with this status and this line, or is out of memory;
 # what it writes goes to $output.
 output=-
 refuses() {

@@ -8,7 +8,7 @@ page=$top/docs/use/MESSAGES.md
 cd "$room" || exit 1
 : >provoked.txt
 
-# says STATUS LINE WORD..: the program ends so; the line is one of the page's.
+# says STATUS LINE ARGUMENT..: the program ends so; the line is one of the page's.
 says() {
     echo "$1 $2" >>provoked.txt
     check "$2" ends "$1" "$2" "${input:-/dev/null}" "${@:3}"

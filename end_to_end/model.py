@@ -379,18 +379,18 @@ def captures_in(folder, table):
     return captures
 
 
-def main(words):
-    sizes = words[0] == "--size"
-    with open(words[1 if sizes else 0], encoding="utf-8", newline="") as file:
+def main(arguments):
+    sizes = arguments[0] == "--size"
+    with open(arguments[1 if sizes else 0], encoding="utf-8", newline="") as file:
         table = table_of(file.read())
     if sizes:
         return size(table)
-    if len(words) == 1:
+    if len(arguments) == 1:
         return check(table)
-    outcome = run(table, captures_in(words[1], table))
-    os.makedirs(words[2], exist_ok=True)
+    outcome = run(table, captures_in(arguments[1], table))
+    os.makedirs(arguments[2], exist_ok=True)
     for port, capture in outcome.captures.items():
-        with open(f"{words[2]}/port-{port}.pcap", "wb") as file:
+        with open(f"{arguments[2]}/port-{port}.pcap", "wb") as file:
             file.write(capture)
     return outcome.report
 

@@ -242,18 +242,18 @@ def lay_out(room, net, given):
         put(room, f"in/{end.switch}/port-{end.port}.pcap", text)
 
 
-def answer(afdx, room, *words):
-    done = subprocess.run([afdx, "network", *words], cwd=room, capture_output=True, text=True, check=False)
+def answer(afdx, room, *arguments):
+    done = subprocess.run([afdx, "network", *arguments], cwd=room, capture_output=True, text=True, check=False)
     return done.returncode, done.stdout, done.stderr
 
 
 def differs(afdx, room, net, given, outcomes):
     """Where the program says something else than the model."""
     lay_out(room, net, given)
-    for words, said in ((["check", "net.toml"], network_model.check(net)), (["jitter", "net.toml"], network_model.jitter_lines(net)),
+    for arguments, said in ((["check", "net.toml"], network_model.check(net)), (["jitter", "net.toml"], network_model.jitter_lines(net)),
                         (["run", "net.toml", "in", "out"], network_model.report(net, outcomes))):
-        if answer(afdx, room, *words) != (0, said, ""):
-            yield f"network {words[0]}"
+        if answer(afdx, room, *arguments) != (0, said, ""):
+            yield f"network {arguments[0]}"
     for name in net.names:
         for port, text in outcomes[name].captures.items():
             with open(f"{room}/out/{name}/port-{port}.pcap", "rb") as file:

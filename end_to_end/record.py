@@ -32,9 +32,9 @@ def lay_line(port):
 
 
 def begin_recording(port, kind, path):
-    words = ["tcpdump", "-i", f"switch-{port}", "-Z", "root", "--immediate-mode", "-U",
+    arguments = ["tcpdump", "-i", f"switch-{port}", "-Z", "root", "--immediate-mode", "-U",
              f"--time-stamp-precision={kind}", "-w", path]
-    return subprocess.Popen(words, stderr=subprocess.PIPE)
+    return subprocess.Popen(arguments, stderr=subprocess.PIPE)
 
 
 def await_listening(recorder):

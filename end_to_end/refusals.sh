@@ -6,7 +6,7 @@ export PYTHONDONTWRITEBYTECODE=1
 afdx=${AFDX:-$top/crates/afdx/out/afdx}
 cd "$room" || exit 1
 
-# refused STATUS LINE WORD..: it ends so, and no capture was written.
+# refused STATUS LINE ARGUMENT..: it ends so, and no capture was written.
 refused() {
     rm -rf out && mkdir out
     ends "$1" "$2" /dev/null "${@:3}" && [ -z "$(ls out)" ]
@@ -77,7 +77,7 @@ editcap -F pcapng in/port-1.pcap pcapng/port-1.pcap
 editcap -F pcapng in/port-2.pcap pcapng/port-2.pcap
 cp -r pcapng half_pcapng && rm half_pcapng/port-2.pcap
 
-check "words are missing" refused 2 "afdx: usage" run table.toml in --unchecked
+check "arguments are missing" refused 2 "afdx: usage" run table.toml in --unchecked
 check "no table" refused 5 "afdx: device get none.toml" run none.toml in out --unchecked
 check "no TOML" refused 3 "afdx: table C2 Toml" run in/port-1.pcap in out --unchecked
 check "a link to its own port" refused 3 "afdx: table C13 ToOwnPort, link 1" run own.toml in out --unchecked

@@ -28,7 +28,7 @@ def files():
     return {str(path): path.read_bytes() for path in names()}
 
 
-def answer(library, number, source, sink, words):
+def answer(library, number, source, sink, arguments):
     """Status, standard output, standard error, files; and whether an allocation was refused."""
     for path in names():
         path.unlink()
@@ -37,7 +37,7 @@ def answer(library, number, source, sink, words):
     os.close(say)
     reads = os.open(source, os.O_RDONLY)
     writes = subprocess.PIPE if sink == "-" else os.open(sink, os.O_WRONLY)
-    done = subprocess.run(words, stdin=reads, stdout=writes, stderr=subprocess.PIPE, pass_fds=[9], check=False,
+    done = subprocess.run(arguments, stdin=reads, stdout=writes, stderr=subprocess.PIPE, pass_fds=[9], check=False,
                           env={**os.environ, "LD_PRELOAD": library, "REFUSE": str(number)})
     for file in [9, reads] + [writes] * (sink != "-"):
         os.close(file)
@@ -51,14 +51,14 @@ def are_a_prefix(found, right):
     return list(found.items()) == list(right.items())[:len(found)]
 
 
-def main(library, status, line, source, sink, *words):
-    right, right_files, refused = answer(library, 0, source, sink, words)
+def main(library, status, line, source, sink, *arguments):
+    right, right_files, refused = answer(library, 0, source, sink, arguments)
     if refused or right[0] != int(status) or right[2].decode() != (line + "\n" if line else ""):
         sys.exit(f"without a refusal: status {right[0]}, {right[2]}")
     number = 0
     while True:
         number += 1
-        said, found, refused = answer(library, number, source, sink, words)
+        said, found, refused = answer(library, number, source, sink, arguments)
         is_right = said == right and found == right_files
         wants = refused and said == WANT and are_a_prefix(found, right_files)
         if not is_right and not wants:

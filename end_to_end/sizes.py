@@ -29,8 +29,8 @@ def answers(program, command, path):
     return done.returncode, done.stdout
 
 
-def main(words):
-    program, room, number = words[0], words[1], int(words[2])
+def main(arguments):
+    program, room, number = arguments[0], arguments[1], int(arguments[2])
     verdicts = collections.Counter()
     for seed in range(number):
         table = draw(random.Random(seed))

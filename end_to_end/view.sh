@@ -15,7 +15,7 @@ view=$top/view/afdx-view
 network=$top/examples/network
 cd "$room" || exit 1
 
-# ends_with STATUS LINE WORD..: view ends so for these words, with this line, and there is no page and no other file.
+# ends_with STATUS LINE ARGUMENT..: view ends so for these arguments, with this line, and there is no page and no other file.
 ends_with() {
     local wanted=$1 line=$2 status=0
     shift 2
@@ -25,7 +25,7 @@ ends_with() {
     [ "$status" -eq "$wanted" ] && [ "$(cat said.txt)" = "$line" ] && [ ! -s answer.txt ] && [ -z "$(ls -A made)" ]
 }
 
-# makes PAGE WORD..: view makes this page of these words without a sound.
+# makes PAGE ARGUMENT..: view makes this page of these arguments without a sound.
 makes() {
     local page=$1
     shift

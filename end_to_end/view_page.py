@@ -49,8 +49,8 @@ def browser():
 
 
 def measured(options):
-    words = ["--unchecked"] if options.unchecked else []
-    said = subprocess.run([os.environ["AFDX"], "measure", options.table, options.folder, *words], capture_output=True, text=True, check=True)
+    arguments = ["--unchecked"] if options.unchecked else []
+    said = subprocess.run([os.environ["AFDX"], "measure", options.table, options.folder, *arguments], capture_output=True, text=True, check=True)
     return [match.groups() for match in map(DELAYS.fullmatch, said.stdout.splitlines()) if match]
 
 

@@ -162,7 +162,7 @@ def delays(run, bins, shown, progress):
     points = dict(list(readings.thinned(sent, run.span, bins, "delay", ["link", "port"]).groupby(["port", "link"])))
     sections = []
     for port, rows in shown.groupby("port"):
-        progress.tell(f"pictures of port {port}")
+        progress.say(f"pictures of port {port}")
         figure = pictures.svg_of(pictures.port_delays(run, port), f"Delays of all that left port {port}")
         scale = rows.greatest.max()
         strips = "".join(strip_figure(run, row, points[port, row.link], row.bound if run.checked else scale) for row in rows.itertuples())
@@ -211,7 +211,7 @@ def page(run, title, progress):
     sent = run.pairs[run.pairs.sent > 0]
     shown = sent if len(sent) <= STRIPS else sent.nlargest(STRIPS, "share" if run.checked else "greatest").sort_index()
     bins = max(24, min(240, POINTS // max(1, len(shown) + run.spells.link.nunique())))
-    progress.tell("pictures of the run")
+    progress.say("pictures of the run")
     wide, narrow = (pictures.svg_of(pictures.overview(run, width), "The run at a glance") for width in (11.8, 4.2))
     key = "".join(f'<span class="key" style="--c:{colour}">{priority} priority</span>' for priority, colour in pictures.COLOURS.items())
     parts = [f"<h1>{escape(title)}</h1>", verdict(run), fates(run),

@@ -1,4 +1,4 @@
-"""Runs the program afdx and tells how far it is."""
+"""Runs the program afdx and says how far it is."""
 import os
 import shutil
 import subprocess
@@ -19,7 +19,7 @@ class Progress:
         self.began = time.monotonic()
         self.shown = sys.stderr.isatty()
 
-    def tell(self, what):
+    def say(self, what):
         if self.shown:
             sys.stderr.write(f"\r\033[Kafdx-view: {what}, {time.monotonic() - self.began:.0f} s so far ")
             sys.stderr.flush()
@@ -44,14 +44,14 @@ def found():
     return afdx
 
 
-def answer(progress, afdx, *words):
-    """What the program prints for these words; where it fails, its line and its status are this program's."""
+def answer(progress, afdx, *arguments):
+    """What the program prints for these arguments; where it fails, its line and its status are this program's."""
     try:
-        process = subprocess.Popen([afdx, *words], stdout=subprocess.PIPE, stderr=subprocess.PIPE)
+        process = subprocess.Popen([afdx, *arguments], stdout=subprocess.PIPE, stderr=subprocess.PIPE)
     except OSError as error:
         fail(f"afdx-view: cannot run {afdx}: {error.strerror}", DEVICE)
     while True:
-        progress.tell(f"afdx {words[0]}")
+        progress.say(f"afdx {arguments[0]}")
         try:
             said, line = process.communicate(timeout=0.5)
             break
@@ -66,10 +66,10 @@ def answer(progress, afdx, *words):
 
 def run_of(progress, afdx, table, folder, unchecked=False):
     """What the program says of a table and the captures in a folder."""
-    words = ["--unchecked"] if unchecked else []
+    arguments = ["--unchecked"] if unchecked else []
     size = answer(progress, afdx, "size", table)
     with tempfile.TemporaryDirectory() as room:
-        answer(progress, afdx, "trace", table, folder, room, *words)
-        measured = answer(progress, afdx, "measure", table, folder, *words)
-        progress.tell("reading")
+        answer(progress, afdx, "trace", table, folder, room, *arguments)
+        measured = answer(progress, afdx, "measure", table, folder, *arguments)
+        progress.say("reading")
         return readings.read(size, measured, room, not unchecked)

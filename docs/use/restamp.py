@@ -34,8 +34,8 @@ def restamped(capture, ppb, tick):
 
 
 if __name__ == "__main__":
-    words = argparse.ArgumentParser(description=__doc__, formatter_class=argparse.RawDescriptionHelpFormatter)
-    words.add_argument("--ppb", type=int, default=0)
-    words.add_argument("--tick", type=int, default=0)
-    asked = words.parse_args()
+    parser = argparse.ArgumentParser(description=__doc__, formatter_class=argparse.RawDescriptionHelpFormatter)
+    parser.add_argument("--ppb", type=int, default=0)
+    parser.add_argument("--tick", type=int, default=0)
+    asked = parser.parse_args()
     sys.stdout.buffer.write(restamped(sys.stdin.buffer.read(), asked.ppb, asked.tick))
