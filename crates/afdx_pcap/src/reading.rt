@@ -54,7 +54,7 @@ fn stamp_of_head(
     if head.captured > MAX_CAPTURED {
         return Err(PcapFault::Huge(number));
     }
-    if head.fraction >= resolution.parts() {
+    if head.fraction >= resolution.parts_of_second() {
         return Err(PcapFault::Fraction(number));
     }
     if head.seconds > GREATEST_SECONDS {
