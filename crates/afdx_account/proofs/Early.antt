@@ -6,10 +6,10 @@ use Rattle.std.proofs.lemmas.Grind.{div_ceil_times}
 use Rattle.std.proofs.lemmas.Bool.{leb-true, le-leb, and_parts, cases_lt}
 use Rattle.afdx_account.specs.declared.frame.Frame.{Frame}
 use Rattle.afdx_account.specs.Policing.{Terms, paid, allowance, conforms, passed_frames}
-use Rattle.afdx_account.specs.Level.{headroom, credited_level}
+use Rattle.afdx_account.specs.Level.{headroom, NoneLater, credited_level}
 use Rattle.afdx_account.specs.Early.{later_by, credit_time, early_by, EarlyIsLeast, EarlyByTheLevel, TellsEarly}
 use Rattle.afdx_account.proofs.Tested.{tested_conforms, conforming_passes}
-use Rattle.afdx_account.proofs.Windows.{Sound, NoneLater, NoneLater-later, passed_early, passed_sound, headroom-later}
+use Rattle.afdx_account.proofs.Windows.{Sound, NoneLater-later, passed_early, passed_sound, headroom-later}
 
 -- a quotient rounded up is at most n where the whole is at most n divisors
 ceil_fits : (a b n : ℕ) → 0 < b → a ≤ b * n → div_ceil a b ≤ n
@@ -102,10 +102,10 @@ early_by_the_level t frames f some early = by_headroom t (passed_frames t frames
 -- an account that says what its level lacks
 pub tells_early : (t : Terms) (since level at size now early : ℕ) → 0 < t.rate → since ≤ at
     → now ≡ credited_level t level (at - since) → early ≡ credit_time t (t.price size - now) → TellsEarly t since level at size early
-tells_early t since level at size now early some le now-is early-is frames stands =
+tells_early t since level at size now early some le now-is early-is frames after =
     let f : Frame = record { stamp = at; size = size } in
-    let latest = NoneLater-later frames since at le stands.latest in
+    let latest = NoneLater-later frames since at le after.latest in
     let passed = passed_frames t frames in
-    let credited = headroom-later t passed since at le (passed_early t [] frames since stands.latest) (passed_sound t [] frames since stands.latest tt) in
-    let same : now ≡ headroom t passed at = now-is ∙ ap (λ (n : ℕ). credited_level t n (at - since)) stands.level_is ∙ sym credited in
+    let credited = headroom-later t passed since at le (passed_early t [] frames since after.latest) (passed_sound t [] frames since after.latest tt) in
+    let same : now ≡ headroom t passed at = now-is ∙ ap (λ (n : ℕ). credited_level t n (at - since)) after.level_is ∙ sym credited in
     early-is ∙ ap (λ (n : ℕ). credit_time t (t.price size - n)) same ∙ sym (early_by_the_level t frames f some latest)

@@ -1,22 +1,18 @@
 -- The level of an account and the windows over the frames that it passed.
 use Rattle.std.proofs.Common.{◌≡◌, ℕ, ◌+◌, ◌*◌, ◌-◌, ◌≤◌, min, Bool, ◌&&◌, nat_le, List, [], ◌∷◌, ◌++◌, IsTrue, true, false, refl, sym, ap, ◌∙◌, arith, cond, append_assoc, inl, inr, map, subst}
 use Rattle.std.proofs.Math.Nat.{mul-le-mul_left}
-use Rattle.std.specs.List.{AllByRecursion}
 use Rattle.std.proofs.lemmas.List.{append-nil, map-id}
 use Rattle.std.proofs.lemmas.Bool.{cases_Bool, cond_both, leb-true, and_parts}
 use Rattle.std.proofs.lemmas.Bool.Decides.{nat_tests}
 use Rattle.afdx_account.specs.declared.frame.Frame.{Frame}
 use Rattle.afdx_account.specs.Policing.{Terms, paid, allowance, conforms, passed_after, passed_frames}
 use Rattle.afdx_account.specs.Inner.MeterLaws.{fills}
-use Rattle.afdx_account.specs.Level.{headroom, Stands, PassesWhatConforms, credited_level, stepped, InOrder}
+use Rattle.afdx_account.specs.Level.{headroom, NoneLater, IsLevelAfter, PassesWhatConforms, credited_level, stepped, InOrder}
 
 -- each window from one of these frames up to an instant keeps to its allowance
 abbrev pub Sound : Terms → List Frame → ℕ → Type 0
 Sound t [] now = Unit {0}
 Sound t (g ∷ gs) now = (paid t (g ∷ gs) ≤ allowance t (now - g.stamp)) × Sound t gs now
-
-abbrev pub NoneLater : List Frame → ℕ → Type 0
-NoneLater fs now = AllByRecursion (λ f. f.stamp ≤ now) fs
 
 pub paid-push : (t : Terms) (gs : List Frame) (f : Frame) → paid t (gs ++ f ∷ []) ≡ paid t gs + t.price f.size
 paid-push t [] f = omega arith
@@ -181,7 +177,7 @@ Keeps-offer t ps f now k =
       | inr not ↦ rw not k
     ])
 
-pub Keeps-passed : (t : Terms) (since level : ℕ) (frames : List Frame) → Stands t since level frames → Keeps t (passed_frames t frames) since level
+pub Keeps-passed : (t : Terms) (since level : ℕ) (frames : List Frame) → IsLevelAfter t since level frames → Keeps t (passed_frames t frames) since level
 Keeps-passed t since level frames s = record {
   early = passed_early t [] frames since s.latest;
   sound = passed_sound t [] frames since s.latest tt;
@@ -189,14 +185,14 @@ Keeps-passed t since level frames s = record {
 }
 
 -- the frame that is offered next
-pub decides : (t : Terms) (since level : ℕ) (frames : List Frame) (f : Frame) → since ≤ f.stamp → Stands t since level frames
+pub decides : (t : Terms) (since level : ℕ) (frames : List Frame) (f : Frame) → since ≤ f.stamp → IsLevelAfter t since level frames
     → nat_le (t.price f.size) (min t.cap (level + t.rate * (f.stamp - since))) ≡ conforms t (passed_frames t frames) f
 decides t since level frames f le s =
     Keeps-decides t (passed_frames t frames) f _ (Keeps-later t (passed_frames t frames) since level f.stamp le (Keeps-passed t since level frames s))
 
-pub stands_on : (t : Terms) (since level : ℕ) (frames : List Frame) (f : Frame) → since ≤ f.stamp → Stands t since level frames
-    → Stands t f.stamp (let now = min t.cap (level + t.rate * (f.stamp - since)) in cond (nat_le (t.price f.size) now) (now - t.price f.size) now) (frames ++ f ∷ [])
-stands_on t since level frames f le s =
+pub IsLevelAfter-offer : (t : Terms) (since level : ℕ) (frames : List Frame) (f : Frame) → since ≤ f.stamp → IsLevelAfter t since level frames
+    → IsLevelAfter t f.stamp (let now = min t.cap (level + t.rate * (f.stamp - since)) in cond (nat_le (t.price f.size) now) (now - t.price f.size) now) (frames ++ f ∷ [])
+IsLevelAfter-offer t since level frames f le s =
     let now = min t.cap (level + t.rate * (f.stamp - since)) in
     let k = Keeps-offer t (passed_frames t frames) f now (Keeps-later t (passed_frames t frames) since level f.stamp le (Keeps-passed t since level frames s)) in
     record {
@@ -236,7 +232,7 @@ passes_what_conforms t since level at size passes left le passes-is left-is fram
     let test : passes ≡ nat_le (t.price size) (credited_level t start (at - since)) = passes-is ∙ ap (nat_le (t.price size)) same in
     let kept : left ≡ (let there = credited_level t start (at - since) in cond (nat_le (t.price size) there) (there - t.price size) there) =
     left-is ∙ rw (test, same) refl in
-    (test ∙ decides t since start frames f le s, rw (still, kept) (stands_on t since start frames f le s))
+    (test ∙ decides t since start frames f le s, rw (still, kept) (IsLevelAfter-offer t since start frames f le s))
 
 -- an offer that passes debits the price, which pays for the cost
 pub pays_what_passes : (t : Terms) (weight cost since level at size : ℕ) (passes : Bool) (left : ℕ) → cost ≤ weight * t.price size

@@ -1,10 +1,9 @@
 -- How early a frame came that its policing did not pass.
 use Rattle.std.specs.Prelude.{◌≡◌, ◌↔◌, ℕ, ◌+◌, ◌-◌, ◌<◌, ◌≤◌, List, [], ◌∷◌, max}
 use Rattle.std.specs.Int.{div_ceil}
-use Rattle.std.specs.List.{AllByRecursion}
 use Rattle.afdx_account.specs.declared.frame.Frame.{Frame}
 use Rattle.afdx_account.specs.Policing.{Terms, paid, allowance, Conforms, passed_frames}
-use Rattle.afdx_account.specs.Level.{headroom, Stands}
+use Rattle.afdx_account.specs.Level.{headroom, NoneLater, IsLevelAfter}
 
 -- the same frame, so many ns later
 abbrev pub later_by : ℕ → Frame → Frame
@@ -23,15 +22,15 @@ early_by t (g ∷ gs) f = max (credit_time t ((paid t (g ∷ gs) + t.price f.siz
 -- a frame that its link may send at all conforms so many ns later exactly where these are no fewer: they are the least
 abbrev pub EarlyIsLeast : Type 0
 EarlyIsLeast = (t : Terms) (passed : List Frame) (f : Frame) → 0 < t.rate → t.price f.size ≤ t.cap
-    → AllByRecursion (λ g. g.stamp ≤ f.stamp) passed
+    → NoneLater passed f.stamp
     → (ns : ℕ) → Conforms t passed (later_by ns f) ↔ (early_by t passed f ≤ ns)
 
 -- they are the time in which what the level lacks is credited
 abbrev pub EarlyByTheLevel : Type 0
-EarlyByTheLevel = (t : Terms) (frames : List Frame) (f : Frame) → 0 < t.rate → AllByRecursion (λ g. g.stamp ≤ f.stamp) frames
+EarlyByTheLevel = (t : Terms) (frames : List Frame) (f : Frame) → 0 < t.rate → NoneLater frames f.stamp
     → early_by t (passed_frames t frames) f ≡ credit_time t (t.price f.size - headroom t (passed_frames t frames) f.stamp)
 
 -- whatever frames were offered before, a frame of this size at an instant comes so early
 abbrev pub TellsEarly : Terms → (since level at size : ℕ) → ℕ → Type 0
-TellsEarly t since level at size early = (frames : List Frame) → Stands t since level frames
+TellsEarly t since level at size early = (frames : List Frame) → IsLevelAfter t since level frames
     → early ≡ early_by t (passed_frames t frames) (record { stamp = at; size = size })

@@ -10,17 +10,21 @@ abbrev pub headroom : Terms → List Frame → ℕ → ℕ
 headroom t [] now = t.cap
 headroom t (g ∷ gs) now = min (headroom t gs now) (allowance t (now - g.stamp) - paid t (g ∷ gs))
 
+-- none of these frames is later than the instant
+abbrev pub NoneLater : List Frame → ℕ → Type 0
+NoneLater fs now = AllByRecursion (λ f. f.stamp ≤ now) fs
+
 -- at the instant `since`, an account that was full and then was offered these frames has this level
-pub record Stands (t : Terms) (since level : ℕ) (frames : List Frame) : Type 0 where
-  pub latest : AllByRecursion (λ f. f.stamp ≤ since) frames
+pub record IsLevelAfter (t : Terms) (since level : ℕ) (frames : List Frame) : Type 0 where
+  pub latest : NoneLater frames since
   pub level_is : level ≡ headroom t (passed_frames t frames) since
 
 -- an offer at an instant, of a frame of this size, that gives this answer and leaves this level: whatever frames
 -- were offered before, the frame is passed exactly where it conforms to those that were passed
 abbrev pub PassesWhatConforms : Terms → (since level at size : ℕ) → Bool → ℕ → Type 0
-PassesWhatConforms t since level at size passes left = (frames : List Frame) → Stands t since level frames
+PassesWhatConforms t since level at size passes left = (frames : List Frame) → IsLevelAfter t since level frames
     → (passes ≡ conforms t (passed_frames t frames) (record { stamp = at; size = size }))
-    × Stands t at left (frames ++ record { stamp = at; size = size } ∷ [])
+    × IsLevelAfter t at left (frames ++ record { stamp = at; size = size } ∷ [])
 
 -- a level after a gap without frames: credited, up to the cap
 abbrev pub credited_level : Terms → ℕ → ℕ → ℕ

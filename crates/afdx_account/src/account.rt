@@ -3,7 +3,7 @@
 ghost use Rattle.std.specs.Prelude.{◌≡◌, ◌≤◌, []};
 ghost use Rattle.afdx_units.specs.declared.line.Speed.{Speed};
 ghost use Rattle.afdx_account.specs.Policing.{terms_by, weight_by};
-ghost use Rattle.afdx_account.specs.Level.{Stands};
+ghost use Rattle.afdx_account.specs.Level.{IsLevelAfter};
 
 use crate::byte_account::ByteAccount;
 use crate::frame_account::FrameAccount;
@@ -25,7 +25,7 @@ impl Account {
         requires size_limit { max_size ≤ 1518 }
         requires jitter_limit { jitter_ns ≤ 10000000 }
         ensures terms { ⟦<Account as Meter>⟧.terms result ≡ terms_by police max_size bag jitter_ns }
-        ensures full { Stands (terms_by police max_size bag jitter_ns) 0 (⟦<Account as Meter>⟧.level result 0) [] }
+        ensures full { IsLevelAfter (terms_by police max_size bag jitter_ns) 0 (⟦<Account as Meter>⟧.level result 0) [] }
         ensures since { ⟦<Account as Meter>⟧.since result ≡ 0 }
         ensures weight { (speed : Speed) → ⟦<Account as Meter>⟧.weight_of result speed ≡ weight_by police max_size bag speed }
         ensures greatest { ⟦<Account as Meter>⟧.greatest result ≡ max_size }

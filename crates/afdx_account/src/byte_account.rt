@@ -4,7 +4,7 @@ ghost use Rattle.std.specs.Prelude.{◌≡◌, ◌+◌, ◌*◌, ◌-◌, ◌≤
 ghost use Rattle.afdx_units.specs.Time.{bag_ns};
 ghost use Rattle.afdx_units.specs.declared.line.Speed.{Speed};
 ghost use Rattle.afdx_account.specs.Policing.{byte_terms, byte_weight};
-ghost use Rattle.afdx_account.specs.Level.{Stands};
+ghost use Rattle.afdx_account.specs.Level.{IsLevelAfter};
 
 use crate::meter::Meter;
 use afdx_units::{Bag, Speed, Stamp};
@@ -31,7 +31,7 @@ impl ByteAccount {
         requires size_limit { max_size ≤ 1518 }
         requires jitter_limit { jitter_ns ≤ 10000000 }
         ensures terms { ⟦<ByteAccount as Meter>⟧.terms result ≡ byte_terms max_size bag jitter_ns }
-        ensures full { Stands (byte_terms max_size bag jitter_ns) 0 (⟦<ByteAccount as Meter>⟧.level result 0) [] }
+        ensures full { IsLevelAfter (byte_terms max_size bag jitter_ns) 0 (⟦<ByteAccount as Meter>⟧.level result 0) [] }
         ensures since { ⟦<ByteAccount as Meter>⟧.since result ≡ 0 }
         ensures weight { (speed : Speed) → ⟦<ByteAccount as Meter>⟧.weight_of result speed ≡ byte_weight bag speed }
         ensures greatest { ⟦<ByteAccount as Meter>⟧.greatest result ≡ max_size }

@@ -4,7 +4,7 @@ ghost use Rattle.std.specs.Prelude.{◌≡◌, ◌+◌, ◌*◌, ◌-◌, ◌≤
 ghost use Rattle.afdx_units.specs.Time.{bag_ns};
 ghost use Rattle.afdx_units.specs.declared.line.Speed.{Speed};
 ghost use Rattle.afdx_account.specs.Policing.{frame_terms, frame_weight};
-ghost use Rattle.afdx_account.specs.Level.{Stands};
+ghost use Rattle.afdx_account.specs.Level.{IsLevelAfter};
 
 use crate::meter::Meter;
 use afdx_units::{Bag, Speed, Stamp, cost};
@@ -30,7 +30,7 @@ impl FrameAccount {
         requires size_limit { max_size ≤ 1518 }
         requires jitter_limit { jitter_ns ≤ 10000000 }
         ensures terms { ⟦<FrameAccount as Meter>⟧.terms result ≡ frame_terms bag jitter_ns }
-        ensures full { Stands (frame_terms bag jitter_ns) 0 (⟦<FrameAccount as Meter>⟧.level result 0) [] }
+        ensures full { IsLevelAfter (frame_terms bag jitter_ns) 0 (⟦<FrameAccount as Meter>⟧.level result 0) [] }
         ensures since { ⟦<FrameAccount as Meter>⟧.since result ≡ 0 }
         ensures weight { (speed : Speed) → ⟦<FrameAccount as Meter>⟧.weight_of result speed ≡ frame_weight max_size bag speed }
         ensures greatest { ⟦<FrameAccount as Meter>⟧.greatest result ≡ max_size }

@@ -6,7 +6,7 @@ use Rattle.std.proofs.KnownBytes.{Appends-nil, Appends-trans}
 use Rattle.std.proofs.lemmas.List.Elements.{filter-append}
 use Rattle.afdx_account.specs.declared.byte_account.ByteAccount.{ByteAccount}
 use Rattle.afdx_account.specs.Policing.{Terms, conforms, passed_of}
-use Rattle.afdx_pcap.specs.Entry.{Entry}
+use Rattle.afdx_pcap.specs.Record.{Record}
 use Rattle.afdx_pcap.specs.declared.fault.PcapFault.{PcapFault}
 use Rattle.afdx_pcap.specs.declared.fault.PcapFault.TheVariants.{Memory}
 use Rattle.afdx_pcap.specs.Fault.{IsFault}
@@ -14,10 +14,11 @@ use Rattle.afdx_pcap.specs.Capture.{IsCapture}
 use Rattle.afdx_pcap.specs.Reading.{Reading, whole_reading, Taking, HasTaken, HasNext, IsNext, IsSound, taken_in}
 use Rattle.afdx_pcap.specs.Reading as reading
 use Rattle.afdx_pcap.specs.Text.{capture_text, record_text}
+use Rattle.afdx_filter.specs.Frame.{frame_of}
 use Rattle.afdx_arguments.specs.declared.alone.Alone.{Alone}
 use Rattle.afdx_alone.specs.Own.{is_own}
 use Rattle.afdx_alone.specs.Inner.Offer.{IsOffered}
-use Rattle.afdx_alone.specs.Answer.{IsAnswer, frame_of, terms_of, passed_of_link}
+use Rattle.afdx_alone.specs.Answer.{IsAnswer, terms_of, passed_of_link}
 use Rattle.afdx_alone.specs.Inner.Ground.{Ground}
 use Rattle.afdx_devices.specs.Output.{AppendsPrefix}
 use Rattle.afdx_alone.proofs.Progress.{Polices, one_further, all_policed}
@@ -28,7 +29,7 @@ failed (Ok x) P Q e h q = absurd h.1
 failed (Err x) P Q e h q = subst Q (sym h.1) q
 
 -- a capture that is lent has no fault
-pub no_fault : ((bytes : List ℕ) (rs : List Entry) (e : PcapFault) → IsCapture bytes rs → IsFault bytes e → ⊥) → (bytes : List ℕ) (n : ℕ) (rs : List Entry) (fault : PcapFault) → IsCapture bytes rs
+pub no_fault : ((bytes : List ℕ) (rs : List Record) (e : PcapFault) → IsCapture bytes rs → IsFault bytes e → ⊥) → (bytes : List ℕ) (n : ℕ) (rs : List Record) (fault : PcapFault) → IsCapture bytes rs
     → reading.Answers bytes n true (Err fault) → (fault ≡ Memory → HasNext bytes n × (true ≡ false)) → ⊥
 no_fault not_both bytes n rs fault whole reported memory =
     not_both bytes rs fault whole (reported (λ same. let no = (memory same).1 in cc)).1
@@ -49,25 +50,25 @@ AppendsPrefix-longer a c text more h =
 
 -- ---- the answer to the whole capture begins with that to its first frames
 
-longer_list : (b : Bool) (ps qs : List Entry) (r : Entry) → qs ≡ cond b (ps ++ r ∷ []) ps → (more : List Entry) × (qs ≡ ps ++ more)
+longer_list : (b : Bool) (ps qs : List Record) (r : Record) → qs ≡ cond b (ps ++ r ∷ []) ps → (more : List Record) × (qs ≡ ps ++ more)
 longer_list true ps qs r is = (r ∷ [], is)
 longer_list false ps qs r is = ([], is ∙ sym (append-nil ps))
 
-passed_more : Ground → (t : Terms) (before later : List Entry) → (more : List Entry) × (passed_of frame_of t (before ++ later) ≡ passed_of frame_of t before ++ more)
+passed_more : Ground → (t : Terms) (before later : List Record) → (more : List Record) × (passed_of frame_of t (before ++ later) ≡ passed_of frame_of t before ++ more)
 passed_more g t before [] = ([], ap (passed_of frame_of t) (append-nil before) ∙ sym (append-nil (passed_of frame_of t before)))
 passed_more g t before (r ∷ rs) =
     let ps = passed_of frame_of t before in
     let one = longer_list (conforms t (map frame_of ps) (frame_of r)) ps (passed_of frame_of t (before ++ r ∷ [])) r (g.next frame_of t before r) in
     let others = passed_more g t (before ++ r ∷ []) rs in
     let further = ap (passed_of frame_of t) (sym (append_assoc before (r ∷ []) rs)) ∙ others.1 in
-    (one.0 ++ others.0, further ∙ ap (λ (qs : List Entry). qs ++ others.0) one.1 ∙ append_assoc ps one.0 others.0)
+    (one.0 ++ others.0, further ∙ ap (λ (qs : List Record). qs ++ others.0) one.1 ∙ append_assoc ps one.0 others.0)
 
-passed_begin : Ground → (link : Alone) (seen later : List Entry) → (more : List Entry) × (passed_of_link link (seen ++ later) ≡ passed_of_link link seen ++ more)
+passed_begin : Ground → (link : Alone) (seen later : List Record) → (more : List Record) × (passed_of_link link (seen ++ later) ≡ passed_of_link link seen ++ more)
 passed_begin g link seen later =
     let more = passed_more g (terms_of link) (filter (is_own link) seen) (filter (is_own link) later) in
     (more.0, ap (passed_of frame_of (terms_of link)) (filter-append (is_own link) seen later) ∙ more.1)
 
-text_begins : Ground → (rs more : List Entry) → (rest : List ℕ) × (capture_text (rs ++ more) ≡ capture_text rs ++ rest)
+text_begins : Ground → (rs more : List Record) → (rest : List ℕ) × (capture_text (rs ++ more) ≡ capture_text rs ++ rest)
 text_begins g rs [] = ([], ap capture_text (append-nil rs) ∙ sym (append-nil (capture_text rs)))
 text_begins g rs (r ∷ more) =
     let others = text_begins g (rs ++ r ∷ []) more in
@@ -76,15 +77,15 @@ text_begins g rs (r ∷ more) =
 
 -- the records that were taken are the first ones of the capture
 abbrev pub TakenBegin : Type 0
-TakenBegin = (t : Taking) (taken all : List Entry) → HasTaken t taken → IsCapture t.bytes all → (later : List Entry) × (all ≡ taken ++ later)
+TakenBegin = (t : Taking) (taken all : List Record) → HasTaken t taken → IsCapture t.bytes all → (later : List Record) × (all ≡ taken ++ later)
 
-pub whole_answer : Ground → TakenBegin → (link : Alone) (bytes : List ℕ) (frames : Taking) (account : ByteAccount) (answer : List ℕ) (all : List Entry) → IsCapture bytes all
+pub whole_answer : Ground → TakenBegin → (link : Alone) (bytes : List ℕ) (frames : Taking) (account : ByteAccount) (answer : List ℕ) (all : List Record) → IsCapture bytes all
     → Polices link bytes frames account answer → (rest : List ℕ) × IsAnswer link bytes (answer ++ rest)
 whole_answer g begin link bytes frames account answer all whole p =
     let later = begin frames p.seen all p.taken (subst (λ (bs : List ℕ). IsCapture bs all) (sym p.same) whole) in
     let passed = passed_begin g link p.seen later.0 in
     let text = text_begins g (passed_of_link link p.seen) passed.0 in
-    (text.0, (all, whole, ap (λ (t : List ℕ). t ++ text.0) p.answer_is ∙ sym text.1 ∙ ap capture_text (sym passed.1) ∙ ap (λ (rs : List Entry). capture_text (passed_of_link link rs)) (sym later.1)))
+    (text.0, (all, whole, ap (λ (t : List ℕ). t ++ text.0) p.answer_is ∙ sym text.1 ∙ ap capture_text (sym passed.1) ∙ ap (λ (rs : List Record). capture_text (passed_of_link link rs)) (sym later.1)))
 
 -- ---- the loop
 
@@ -96,14 +97,14 @@ pub record Writes (link : Alone) (bytes : List ℕ) (frames : Reading) (account 
   pub policed : Polices link bytes (taken_in frames) account (written ++ part)
 
 -- the text of a frame that passes joins the part, of which a prefix may be written
-abbrev pub Grows : Bool → Entry → Option (List ℕ) → Option (List ℕ) → List ℕ → List ℕ → Type 0
+abbrev pub Grows : Bool → Record → Option (List ℕ) → Option (List ℕ) → List ℕ → List ℕ → Type 0
 Grows passes r old new part rest = (prefix : List ℕ) × (cond passes (part ++ record_text r) part ≡ prefix ++ rest) × Appends old new prefix
 
-pub grows_on : (passes : Bool) (r : Entry) (old new : Option (List ℕ)) (part rest : List ℕ) → passes ≡ true → Grows true r old new part rest → Grows passes r old new part rest
+pub grows_on : (passes : Bool) (r : Record) (old new : Option (List ℕ)) (part rest : List ℕ) → passes ≡ true → Grows true r old new part rest → Grows passes r old new part rest
 grows_on true r old new part rest is h = h
 grows_on false r old new part rest is h = absurd cc
 
-pub grows_not : (passes : Bool) (r : Entry) (old : Option (List ℕ)) (part : List ℕ) → passes ≡ false → Grows passes r old old part part
+pub grows_not : (passes : Bool) (r : Record) (old : Option (List ℕ)) (part : List ℕ) → passes ≡ false → Grows passes r old old part part
 grows_not true r old part is = absurd cc
 grows_not false r old part is = ([], refl, Appends-nil old)
 
@@ -111,7 +112,7 @@ joined : (passes : Bool) (written part text : List ℕ) → written ++ cond pass
 joined true written part text = sym (append_assoc written part text)
 joined false written part text = refl
 
-module _ (g : Ground) (link : Alone) (bytes : List ℕ) (frames later : Reading) (old new : ByteAccount) (a b : Option (List ℕ)) (part : List ℕ) (r : Entry) (passes : Bool)
+module _ (g : Ground) (link : Alone) (bytes : List ℕ) (frames later : Reading) (old new : ByteAccount) (a b : Option (List ℕ)) (part : List ℕ) (r : Record) (passes : Bool)
     (w : Writes link bytes frames old a b part) (next : IsNext frames.bytes frames.given r) (came : later ≡ whole_reading frames.bytes (frames.given + 1))
     (own : IsTrue (is_own link r) → IsOffered old new (frame_of r) passes) (others : is_own link r ≡ false → (passes ≡ false) × (new ≡ old)) where
   -- the frame is policed
@@ -133,7 +134,7 @@ module _ (g : Ground) (link : Alone) (bytes : List ℕ) (frames later : Reading)
       }
 
   -- or a prefix of the answer was written
-  pub stopped : TakenBegin → (c : Option (List ℕ)) (all : List Entry) → passes ≡ true → IsCapture bytes all → AppendsPrefix b c (part ++ record_text r)
+  pub stopped : TakenBegin → (c : Option (List ℕ)) (all : List Record) → passes ≡ true → IsCapture bytes all → AppendsPrefix b c (part ++ record_text r)
       → (text : List ℕ) × IsAnswer link bytes text × AppendsPrefix a c text
   stopped begin c all passed whole prefix =
       let text = w.written ++ (part ++ record_text r) in

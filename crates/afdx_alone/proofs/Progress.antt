@@ -7,37 +7,38 @@ use Rattle.afdx_account.specs.declared.byte_account.ByteAccount.{ByteAccount}
 use Rattle.afdx_account.specs.declared.frame.Frame.{Frame}
 use Rattle.afdx_account.specs.Account.{byte_account_terms, byte_account_since, byte_account_level}
 use Rattle.afdx_account.specs.Policing.{Terms, conforms, passed_of}
-use Rattle.afdx_account.specs.Level.{PassesWhatConforms, Stands}
-use Rattle.afdx_pcap.specs.Entry.{Entry}
+use Rattle.afdx_account.specs.Level.{PassesWhatConforms, IsLevelAfter}
+use Rattle.afdx_pcap.specs.Record.{Record}
 use Rattle.afdx_pcap.specs.declared.fault.PcapFault.{PcapFault}
 use Rattle.afdx_pcap.specs.declared.fault.PcapFault.TheVariants as pcap
 use Rattle.afdx_pcap.specs.Fault.{IsFault, last_stamp}
 use Rattle.afdx_pcap.specs.Capture.{IsCapture}
 use Rattle.afdx_pcap.specs.Reading.{HasTaken, IsNext, IsSound, Taking, taking_on}
 use Rattle.afdx_pcap.specs.Text.{capture_text, record_text}
+use Rattle.afdx_filter.specs.Frame.{frame_of}
 use Rattle.afdx_arguments.specs.declared.alone.Alone.{Alone}
 use Rattle.afdx_alone.specs.Own.{is_own}
 use Rattle.afdx_alone.specs.Faults.{IsFaultOf, fault_of}
 use Rattle.afdx_alone.specs.Inner.Offer.{IsOffered}
-use Rattle.afdx_alone.specs.Answer.{IsAnswer, frame_of, terms_of, passed_of_link}
+use Rattle.afdx_alone.specs.Answer.{IsAnswer, terms_of, passed_of_link}
 use Rattle.afdx_alone.specs.Inner.Ground.{Ground}
 
-abbrev pub own_frames : Alone → List Entry → List Frame
+abbrev pub own_frames : Alone → List Record → List Frame
 own_frames link seen = map frame_of (filter (is_own link) seen)
 
 -- the account, after these frames of a capture
-pub record Progress (link : Alone) (seen : List Entry) (account : ByteAccount) : Type 0 where
+pub record Progress (link : Alone) (seen : List Record) (account : ByteAccount) : Type 0 where
   pub terms : byte_account_terms account ≡ terms_of link
   pub since : byte_account_since account ≤ last_stamp 0 seen
-  pub stands : Stands (terms_of link) (byte_account_since account) (byte_account_level account (byte_account_since account)) (own_frames link seen)
+  pub level : IsLevelAfter (terms_of link) (byte_account_since account) (byte_account_level account (byte_account_since account)) (own_frames link seen)
 
 -- the account with one more frame, which this one is passed or not
-pub record Taken (link : Alone) (seen : List Entry) (r : Entry) (account : ByteAccount) (passes : Bool) : Type 0 where
+pub record Taken (link : Alone) (seen : List Record) (r : Record) (account : ByteAccount) (passes : Bool) : Type 0 where
   pub progress : Progress link (seen ++ r ∷ []) account
   pub passed : passed_of_link link (seen ++ r ∷ []) ≡ cond passes (passed_of_link link seen ++ r ∷ []) (passed_of_link link seen)
 
 -- a frame that is not the link's own
-skipped : Ground → (link : Alone) (seen : List Entry) (r : Entry) (account : ByteAccount)
+skipped : Ground → (link : Alone) (seen : List Record) (r : Record) (account : ByteAccount)
     → last_stamp 0 seen ≤ r.stamp → is_own link r ≡ false → Progress link seen account → Taken link seen r account false
 skipped g link seen r account order other p =
     let before = filter (is_own link) seen in
@@ -48,13 +49,14 @@ skipped g link seen r account order other p =
       progress = record {
         terms = p.terms;
         since = let old = p.since in omega (arith, latest, old, order);
-        stands = subst (λ (own : List Entry). Stands (terms_of link) (byte_account_since account) (byte_account_level account (byte_account_since account)) (map frame_of own)) (sym same) p.stands;
+        level = subst (λ (own : List Record). IsLevelAfter (terms_of link) (byte_account_since account) (byte_account_level account (byte_account_since account)) (map frame_of own)) (sym same)
+            p.level;
       };
       passed = ap (passed_of frame_of (terms_of link)) same;
     }
 
 -- one of the link's own frames
-offered : Ground → (link : Alone) (seen : List Entry) (r : Entry) (old new : ByteAccount) (answer : Bool)
+offered : Ground → (link : Alone) (seen : List Record) (r : Record) (old new : ByteAccount) (answer : Bool)
     → IsTrue (is_own link r) → IsOffered old new (frame_of r) answer → Progress link seen old → Taken link seen r new answer
 offered g link seen r old new answer own o p =
     let t = terms_of link in
@@ -64,7 +66,7 @@ offered g link seen r old new answer own o p =
     filter-append (is_own link) seen (r ∷ []) ∙ ap (λ b. before ++ cond b (r ∷ []) []) own in
     let frames : own_frames link (seen ++ r ∷ []) ≡ own_frames link seen ++ f ∷ [] = ap (map frame_of) more ∙ map-append frame_of before (r ∷ []) in
     let reported = subst (λ (s : Terms). PassesWhatConforms s (byte_account_since old) (byte_account_level old (byte_account_since old)) f.stamp f.size answer (byte_account_level new f.stamp)) p.terms
-    o.answers (own_frames link seen) p.stands in
+    o.answers (own_frames link seen) p.level in
     let joins : answer ≡ conforms t (map frame_of (passed_of frame_of t before)) f = reported.0 ∙ ap (λ ps. conforms t ps f) (sym (g.by_frames frame_of t before)) in
     let latest = g.latest seen r in
     let since = o.since in
@@ -72,14 +74,14 @@ offered g link seen r old new answer own o p =
       progress = record {
         terms = o.terms ∙ p.terms;
         since = omega (arith, latest, since);
-        stands = subst (λ (n : ℕ). Stands t n (byte_account_level new n) (own_frames link (seen ++ r ∷ []))) (sym o.since)
-            (subst (λ (fs : List Frame). Stands t f.stamp (byte_account_level new f.stamp) fs) (sym frames) reported.1);
+        level = subst (λ (n : ℕ). IsLevelAfter t n (byte_account_level new n) (own_frames link (seen ++ r ∷ []))) (sym o.since)
+            (subst (λ (fs : List Frame). IsLevelAfter t f.stamp (byte_account_level new f.stamp) fs) (sym frames) reported.1);
       };
       passed = rw joins (ap (passed_of frame_of t) more ∙ g.next frame_of t before r);
     }
 
 -- the next frame, by what is known of whether it passes
-taken : Ground → (link : Alone) (seen : List Entry) (r : Entry) (old new : ByteAccount) (passes : Bool) → last_stamp 0 seen ≤ r.stamp
+taken : Ground → (link : Alone) (seen : List Record) (r : Record) (old new : ByteAccount) (passes : Bool) → last_stamp 0 seen ≤ r.stamp
     → (IsTrue (is_own link r) → IsOffered old new (frame_of r) passes) → (is_own link r ≡ false → (passes ≡ false) × (new ≡ old))
     → Progress link seen old → Taken link seen r new passes
 taken g link seen r old new passes order own others p = go (is_own link r) refl
@@ -89,7 +91,7 @@ taken g link seen r old new passes order own others p = go (is_own link r) refl
     go false e = let o = others e in rw (o.0, o.1) (skipped g link seen r old order e p)
 
 -- the text with one more record
-longer_text : Ground → (passes : Bool) (rs : List Entry) (r : Entry) (answer : List ℕ) → answer ≡ capture_text rs
+longer_text : Ground → (passes : Bool) (rs : List Record) (r : Record) (answer : List ℕ) → answer ≡ capture_text rs
     → cond passes (answer ++ record_text r) answer ≡ capture_text (cond passes (rs ++ r ∷ []) rs)
 longer_text g false rs r answer is = is
 longer_text g true rs r answer is = ap (λ (text : List ℕ). text ++ record_text r) is ∙ sym (g.appended rs r)
@@ -99,13 +101,13 @@ longer_text g true rs r answer is = ap (λ (text : List ℕ). text ++ record_tex
 -- of the frames taken so far, the account has come so far and the answer is the text of those that it passed
 pub record Polices (link : Alone) (bytes : List ℕ) (frames : Taking) (account : ByteAccount) (answer : List ℕ) : Type 0 where
   pub same : frames.bytes ≡ bytes
-  pub seen : List Entry
+  pub seen : List Record
   pub taken : HasTaken frames seen
   pub progress : Progress link seen account
   pub answer_is : answer ≡ capture_text (passed_of_link link seen)
 
 -- the next frame may be offered
-pub may_be_offered : Ground → (link : Alone) (bytes : List ℕ) (frames : Taking) (account : ByteAccount) (answer : List ℕ) (r : Entry)
+pub may_be_offered : Ground → (link : Alone) (bytes : List ℕ) (frames : Taking) (account : ByteAccount) (answer : List ℕ) (r : Record)
     → Polices link bytes frames account answer → IsNext frames.bytes frames.given r → byte_account_since account ≤ r.stamp
 may_be_offered g link bytes frames account answer r p next =
     let order = g.in_order frames p.seen r p.taken next in
@@ -113,7 +115,7 @@ may_be_offered g link bytes frames account answer r p next =
     omega (arith, order, since)
 
 -- and then the loop has come one frame further
-pub one_further : Ground → (link : Alone) (bytes : List ℕ) (frames later : Taking) (old new : ByteAccount) (answer longer : List ℕ) (r : Entry) (passes : Bool)
+pub one_further : Ground → (link : Alone) (bytes : List ℕ) (frames later : Taking) (old new : ByteAccount) (answer longer : List ℕ) (r : Record) (passes : Bool)
     → Polices link bytes frames old answer → IsNext frames.bytes frames.given r → later ≡ taking_on frames
     → (IsTrue (is_own link r) → IsOffered old new (frame_of r) passes) → (is_own link r ≡ false → (passes ≡ false) × (new ≡ old))
     → longer ≡ cond passes (answer ++ record_text r) answer

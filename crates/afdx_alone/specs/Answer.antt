@@ -1,25 +1,20 @@
 -- What is answered to a capture: the frames of one link that its account passes.
-use Rattle.std.specs.Prelude.{◌≡◌, ℕ, List, length, filter}
-use Rattle.afdx_units.specs.Line.{size_of}
-use Rattle.afdx_account.specs.declared.frame.Frame.{Frame}
+use Rattle.std.specs.Prelude.{◌≡◌, ℕ, List, filter}
 use Rattle.afdx_account.specs.Policing.{Terms, byte_terms, passed_of}
-use Rattle.afdx_pcap.specs.Entry.{Entry}
+use Rattle.afdx_pcap.specs.Record.{Record}
 use Rattle.afdx_pcap.specs.Capture.{IsCapture}
 use Rattle.afdx_pcap.specs.Text.{capture_text}
+use Rattle.afdx_filter.specs.Frame.{frame_of}
 use Rattle.afdx_arguments.specs.declared.alone.Alone.{Alone}
 use Rattle.afdx_alone.specs.Own.{is_own}
-
--- a captured frame, as an account sees it
-abbrev pub frame_of : Entry → Frame
-frame_of r = record { stamp = r.stamp; size = size_of (length r.bytes) }
 
 abbrev pub terms_of : Alone → Terms
 terms_of link = byte_terms link.max_size link.bag link.jitter
 
 -- those of a capture's frames that are the link's own and that its account passes
-abbrev pub passed_of_link : Alone → List Entry → List Entry
+abbrev pub passed_of_link : Alone → List Record → List Record
 passed_of_link link rs = passed_of frame_of (terms_of link) (filter (is_own link) rs)
 
 -- the input is a capture, and the answer is the capture of the frames that the link's account passes
 abbrev pub IsAnswer : Alone → List ℕ → List ℕ → Type 0
-IsAnswer link input answer = (rs : List Entry) × IsCapture input rs × (answer ≡ capture_text (passed_of_link link rs))
+IsAnswer link input answer = (rs : List Record) × IsCapture input rs × (answer ≡ capture_text (passed_of_link link rs))

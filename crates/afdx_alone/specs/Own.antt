@@ -2,8 +2,8 @@
 use Rattle.std.specs.Prelude.{ℕ, ◌==◌, ◌&&◌, Bool, nat_le, List, [], ◌∷◌, length}
 use Rattle.std.specs.Str.{bytes_eq}
 use Rattle.afdx_frame.specs.Address.{constant_of, link_of}
-use Rattle.afdx_units.specs.Line.{size_of}
-use Rattle.afdx_pcap.specs.Entry.{Entry}
+use Rattle.afdx_units.specs.Line.{size_of, least_size, greatest_size}
+use Rattle.afdx_pcap.specs.Record.{Record}
 use Rattle.afdx_arguments.specs.declared.alone.Alone.{Alone}
 
 -- profile: the constant field of every link
@@ -15,7 +15,7 @@ abbrev pub is_addressed : ℕ → List ℕ → Bool
 is_addressed id bytes = bytes_eq (constant_of bytes) constant && link_of bytes == id
 
 -- profile: the frame is whole, neither short nor long, addressed to the link, and not too big for it
-abbrev pub is_own : Alone → Entry → Bool
+abbrev pub is_own : Alone → Record → Bool
 is_own link r =
     let size = size_of (length r.bytes) in
-    nat_le r.original (length r.bytes) && nat_le 64 size && nat_le size 1518 && is_addressed link.id r.bytes && nat_le size link.max_size
+    nat_le r.original (length r.bytes) && nat_le least_size size && nat_le size greatest_size && is_addressed link.id r.bytes && nat_le size link.max_size

@@ -3,13 +3,14 @@
 ghost use Rattle.std.specs.Prelude.{◌≡◌, ◌+◌, ◌<◌, ◌≤◌, List, length, ℕ, true, false, Ok, IsTrue, IfOk, IfErr, OnOk, OnSome, MatchResult, is_some, if◌then◌else◌};
 ghost use Rattle.std.specs.Io.KnownBytes.{Appends};
 ghost use Rattle.afdx_account.specs.Account.{byte_account_since};
+ghost use Rattle.afdx_filter.specs.Frame.{frame_of};
 ghost use Rattle.afdx_alone.specs.Own.{is_own};
-ghost use Rattle.afdx_alone.specs.Answer.{IsAnswer, frame_of};
+ghost use Rattle.afdx_alone.specs.Answer.{IsAnswer};
 ghost use Rattle.afdx_alone.specs.Inner.Offer.{IsOffered};
 ghost use Rattle.afdx_alone.specs.Faults.{IsFaultOf};
 ghost use Rattle.afdx_alone.specs.Inner.Ground.{Ground};
 ghost use Rattle.afdx_devices.specs.Output.{AppendsPrefix};
-ghost use Rattle.afdx_pcap.specs.Entry.{Entry};
+ghost use Rattle.afdx_pcap.specs.Record as pcap;
 ghost use Rattle.afdx_pcap.specs.Capture.{IsCapture};
 ghost use Rattle.afdx_pcap.specs.Reading.{Answers, whole_reading};
 ghost use Rattle.afdx_pcap.specs.Text.{header_text};
@@ -124,7 +125,7 @@ pub fn alone<A: Allocator + Copy>(
 ///
 /// O(records), no memory.
 pub fn check_records<A: Allocator + Copy>(alloc: A, input: &[u8]) -> Result<(), AloneFault>
-    ensures capture { OnOk result ((rs : List Entry) × IsCapture input.now rs) }
+    ensures capture { OnOk result ((rs : List pcap.Record) × IsCapture input.now rs) }
     ensures fault { IfErr result (IsFaultOf input.now) }
 {
     let mut frames = Reader::over(alloc, input);
@@ -135,7 +136,7 @@ pub fn check_records<A: Allocator + Copy>(alloc: A, input: &[u8]) -> Result<(), 
 /// The next frame of a capture; none after the last.
 fn next_frame<'a, A: Allocator + Copy>(frames: &mut Reader<'a, A>) -> Option<Record<'a, A>>
     requires whole { frames.old ≡ whole_reading frames.old.bytes frames.old.given }
-    requires capture { (rs : List Entry) × IsCapture frames.old.bytes rs }
+    requires capture { (rs : List pcap.Record) × IsCapture frames.old.bytes rs }
     ensures next { frames.new ≡ whole_reading frames.old.bytes (if is_some result then frames.old.given + 1 else frames.old.given) }
     ensures answer { Answers frames.old.bytes frames.old.given true (Ok result) }
     ensures fewer { OnSome result (frames.old.given < length frames.old.bytes) }
@@ -161,7 +162,7 @@ pub fn write_passed<A: Allocator + Copy, W: Write>(
     mut part: Part<A>,
     out: &mut W,
 ) -> Result<(), WriteFault>
-    requires capture { (rs : List Entry) × IsCapture input.now rs }
+    requires capture { (rs : List pcap.Record) × IsCapture input.now rs }
     requires header { part ≡ header_text }
     ensures { MatchResult result
         (λ _. (text : List ℕ) × IsAnswer link.now input.now text × Appends (W.contents out.old) (W.contents out.new) text)

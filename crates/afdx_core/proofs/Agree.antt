@@ -3,6 +3,7 @@ use Rattle.std.proofs.Common.{◌≡◌, ℕ, ◌==◌, Bool, true, false, cond,
 use Rattle.std.proofs.lemmas.List.{append-nil, map-append}
 use Rattle.std.proofs.lemmas.List.Elements.{filter-append}
 use Rattle.std.proofs.lemmas.Bool.Decides.{nat_tests}
+use Rattle.std.proofs.lemmas.Bool.{eqb-true}
 use Rattle.afdx_table.specs.Link.{Link, leads_to}
 use Rattle.afdx_table.specs.Content.{Content, link_row}
 use Rattle.afdx_filter.specs.declared.outcome.Verdict.{Verdict}
@@ -11,15 +12,12 @@ use Rattle.afdx_account.specs.declared.frame.Frame.{Frame}
 use Rattle.afdx_account.specs.Policing.{conforms, passed_frames}
 use Rattle.afdx_account.specs.Inner.Laws.{NextFrameJoinsWhereItConforms}
 use Rattle.afdx_port.specs.declared.Item.{Item}
-use Rattle.afdx_load.specs.Sums.{terms_of}
+use Rattle.afdx_load.specs.Load.{terms_of}
 use Rattle.afdx_core.specs.declared.step.Row.{Row}
-use Rattle.afdx_core.specs.Rows.{frame_of, account_frames, says_clean, passes, named, copy_of, copies_by, copies, each_after, feed_of}
+use Rattle.afdx_core.specs.Rows.{frame_of_row, account_frames, says_clean, passes, named, copy_of, copies_by, copies, each_after, feed_of}
 use Rattle.afdx_isolation.specs.Arrivals.{frame_in}
 use Rattle.afdx_core.specs.Inner.Agreement.{part_of}
 use Rattle.afdx_core.proofs.Feeds.{account-same, account-other}
-
-equal : (a b : ℕ) → (a == b) ≡ true → a ≡ b
-equal a b e = grind (arith, nat_tests)
 
 find_true : {X : Type 0} (p : X → Bool) (xs : List X) (y : X) → find p xs ≡ Some y → p y ≡ true
 find_true p [] y is = (cc)
@@ -29,7 +27,7 @@ find_true p (x ∷ xs) y is = by_head (p x) refl is (find_true p xs y) where
   by_head false here e ih = ih e
 
 pub clean_true : (i : ℕ) (v : Verdict) → says_clean i v ≡ true → v ≡ Clean i
-clean_true i (Clean j) is = ap Clean (sym (equal i j is))
+clean_true i (Clean j) is = ap Clean (sym (eqb-true i j is))
 clean_true i Cut is = (cc)
 clean_true i Short is = (cc)
 clean_true i Long is = (cc)
@@ -70,7 +68,7 @@ one_more next t i port l before row found leads = by_clean (says_clean i row.ver
   before_own : List Frame
   before_own = account_frames i before
 
-  by_pass : (b : Bool) → cond b (passed_frames (terms_of l) (account_frames i before) ++ frame_of row ∷ []) (passed_frames (terms_of l) (account_frames i before))
+  by_pass : (b : Bool) → cond b (passed_frames (terms_of l) (account_frames i before) ++ frame_of_row row ∷ []) (passed_frames (terms_of l) (account_frames i before))
       ≡ passed_frames (terms_of l) (account_frames i before) ++ part_of i (cond (b && true) (copy_of l before row ∷ []) [])
   by_pass true = ap (λ v. passed_frames (terms_of l) (account_frames i before) ++ map frame_in (cond v (copy_of l before row ∷ []) [])) (sym id)
   by_pass false = sym (append-nil (passed_frames (terms_of l) (account_frames i before)))
@@ -79,12 +77,12 @@ one_more next t i port l before row found leads = by_clean (says_clean i row.ver
       ++ part_of i (copies t port before row)
   by_clean true is =
       let clean = clean_true i row.verdict is in
-      let copied : copies t port before row ≡ cond (conforms (terms_of l) (passed_frames (terms_of l) (account_frames i before)) (frame_of row) && true) (copy_of l before row ∷ []) [] =
+      let copied : copies t port before row ≡ cond (conforms (terms_of l) (passed_frames (terms_of l) (account_frames i before)) (frame_of_row row) && true) (copy_of l before row ∷ []) [] =
       ap (λ v. copies_by (named t v) port before row) clean ∙ ap (λ m. copies_by m port before row) found
-      ∙ ap (λ n. cond (conforms (terms_of l) (passed_frames (terms_of l) (account_frames n before)) (frame_of row) && leads_to port l) (copy_of l before row ∷ []) []) (equal l.id i id)
-      ∙ ap (λ v. cond (conforms (terms_of l) (passed_frames (terms_of l) (account_frames i before)) (frame_of row) && v) (copy_of l before row ∷ []) []) leads in
-      ap (passed_frames (terms_of l)) (account-same i before row clean) ∙ next (terms_of l) (account_frames i before) (frame_of row)
-      ∙ by_pass (conforms (terms_of l) (passed_frames (terms_of l) (account_frames i before)) (frame_of row))
+      ∙ ap (λ n. cond (conforms (terms_of l) (passed_frames (terms_of l) (account_frames n before)) (frame_of_row row) && leads_to port l) (copy_of l before row ∷ []) []) (eqb-true l.id i id)
+      ∙ ap (λ v. cond (conforms (terms_of l) (passed_frames (terms_of l) (account_frames i before)) (frame_of_row row) && v) (copy_of l before row ∷ []) []) leads in
+      ap (passed_frames (terms_of l)) (account-same i before row clean) ∙ next (terms_of l) (account_frames i before) (frame_of_row row)
+      ∙ by_pass (conforms (terms_of l) (passed_frames (terms_of l) (account_frames i before)) (frame_of_row row))
       ∙ ap (λ items. passed_frames (terms_of l) (account_frames i before) ++ part_of i items) (sym copied)
   by_clean false is =
       ap (passed_frames (terms_of l)) (account-other i before row is) ∙ sym (append-nil (passed_frames (terms_of l) (account_frames i before)))

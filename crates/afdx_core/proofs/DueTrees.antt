@@ -1,11 +1,11 @@
 -- The tree of what is due: what a write leaves of it, and what its root says of its leaves.
-use Rattle.std.proofs.Common.{◌≡◌, ◌≢◌, ℕ, zero, suc, ◌+◌, ◌*◌, ◌/◌, ◌<◌, ◌≤◌, ◌==◌, min, Bool, true, false, if◌then◌else◌, List, [], ◌∷◌, length, get_or, set, take, drop, map, replicate, Option}
-use Rattle.std.proofs.Common.{Some, None, All, refl, ap, sym, ◌∙◌, arith, get_or-set_same, get_or-set_other, inl, inr, slice_index_or, subst}
-use Rattle.std.proofs.lemmas.List.{get_or-replicate, length-set, length-map, length-take-le, length-drop, get_or-map, get_or-take, get_or-drop, map-set, drop-set-add, drop-set-lt}
+use Rattle.std.proofs.Common.{◌≡◌, ◌≢◌, ℕ, zero, suc, ◌+◌, ◌*◌, ◌/◌, ◌<◌, ◌≤◌, min, false, List, ◌∷◌, length, get_or, set, take, drop, map, replicate, Option}
+use Rattle.std.proofs.Common.{None, All, refl, ap, sym, ◌∙◌, arith, get_or-set_same, get_or-set_other, inl, inr, subst}
+use Rattle.std.proofs.lemmas.List.{get_or-replicate, length-map, length-take-le, length-drop, get_or-map, get_or-take, get_or-drop, map-set, drop-set-add, drop-set-lt}
 use Rattle.std.proofs.Math.Seq.{take-set-lt}
 use Rattle.std.proofs.lemmas.Bool.{cases_eq, cases_lt, le-ltb, ne_eqb}
 use Rattle.afdx_port.specs.Course.{starts_before}
-use Rattle.afdx_core.specs.Dues.{IsFirstBefore, IsTree, never, due_of, reported}
+use Rattle.afdx_core.specs.Inner.Dues.{IsFirstBefore, IsTree, never, due_of, reported}
 
 -- a node is the least of its children
 abbrev pub IsLeast : List ℕ → ℕ → Type 0

@@ -13,14 +13,14 @@ use Rattle.afdx_filter.specs.declared.outcome.Verdict.TheVariants.{Clean, WrongP
 use Rattle.afdx_port.specs.declared.Sent.{Sent}
 use Rattle.afdx_port.specs.declared.Offer.TheVariants.{Queued, Full}
 use Rattle.afdx_port.specs.Service.{next, others, reach}
-use Rattle.afdx_pcap.specs.Entry.{Entry}
+use Rattle.afdx_pcap.specs.Record.{Record}
 use Rattle.afdx_core.specs.declared.step.Row.{Row}
 use Rattle.afdx_core.specs.declared.step.Fate.TheVariants.{Filtered, Policed, Passed}
 use Rattle.afdx_core.specs.Rows.{account_frames, passes, feed_of, fates_of}
 use Rattle.afdx_core.specs.State.{Run, sent_in, offers_of}
 use Rattle.afdx_core.specs.Merge.{Arrival, merged}
 
-abbrev frame_at : ℕ → Entry
+abbrev frame_at : ℕ → Record
 frame_at stamp = record { stamp = stamp; original = 0; bytes = [] }
 
 abbrev port : ℕ → Speed → ℕ → PortRow

@@ -5,6 +5,8 @@ use Rattle.std.specs.Prelude.{All, Contains}
 use Rattle.std.proofs.lemmas.List.{map-append, get_or_default}
 use Rattle.std.proofs.lemmas.List.Elements.{All-nil, All-cons, All-head, All-tail, All-append, filter-append}
 use Rattle.std.proofs.lemmas.Bool.Decides.{nat_tests}
+use Rattle.std.proofs.lemmas.Bool.{eqb-true}
+use Rattle.std.proofs.lemmas.Option.{same_Some}
 use Rattle.afdx_table.specs.declared.rows.PortRow.{PortRow}
 use Rattle.afdx_table.specs.Link.{Link, leads_to}
 use Rattle.afdx_table.specs.Content.{Content, link_row}
@@ -26,15 +28,12 @@ use Rattle.afdx_isolation.specs.Inner.Arrivals.{joins, feed_after, feed_of as of
 use Rattle.afdx_isolation.specs.Inner.Table.{flows_at, IsCleanIn, OffersWhatThePolicingPasses, AcceptedTablesIsolate as TablesIsolate, BuffersHoldTheBacklog as TablesHoldTheBacklog, ArriveAt}
 use Rattle.afdx_isolation.specs.Table.{settings_of}
 use Rattle.afdx_isolation.specs.Inner.Table.{IsIsolatedAt}
-use Rattle.afdx_load.specs.Sums.{terms_of, load_of}
+use Rattle.afdx_load.specs.Load.{terms_of, load_of}
 use Rattle.afdx_core.specs.declared.step.Row.{Row}
-use Rattle.afdx_core.specs.Rows.{frame_of, account_frames, says_clean, passes, named, copy_of, copies_by, copies, each_after, feed_of}
+use Rattle.afdx_core.specs.Rows.{frame_of_row, account_frames, says_clean, passes, named, copy_of, copies_by, copies, each_after, feed_of}
 use Rattle.afdx_core.specs.State.{Run, port_in}
 use Rattle.afdx_core.specs.Isolation.{IsOfAnArrival, IsRun, copy_by, clean_copies, sent_copies, PassedCopiesArePassedFrames, IsIsolatedRun, AcceptedTablesIsolate, with_bytes, OthersChangeNothing}
 use Rattle.afdx_core.proofs.Lists.{each-push}
-
-equal : (a b : ℕ) → (a == b) ≡ true → a ≡ b
-equal a b e = grind (arith, nat_tests)
 
 -- ---- links by their numbers
 
@@ -66,17 +65,17 @@ module _ (links : LinksAreFound) (t : Content) where
   own-append i xs ys = ap (map frame_in) (filter-append (λ (x : Item). nat_eq x.link i) xs ys) ∙ map-append frame_in (own i xs) (own i ys)
 
   own_one : (l : Link) → link_row t l.id ≡ Some l → (before : List Row) (row : Row) (v : Verdict)
-      → map frame_in (own l.id (copy_by (named t v) before row)) ≡ map frame_of (cond (says_clean l.id v) (row ∷ []) [])
+      → map frame_in (own l.id (copy_by (named t v) before row)) ≡ map frame_of_row (cond (says_clean l.id v) (row ∷ []) [])
   own_one l found before row (Clean j) = by (link_row t j) refl where
-    by : (o : Option Link) → link_row t j ≡ o → map frame_in (own l.id (copy_by o before row)) ≡ map frame_of (cond (l.id == j) (row ∷ []) [])
-    by None is = ap (λ b. map frame_of (cond b (row ∷ []) [])) (sym (decide (l.id == j) refl)) where
+    by : (o : Option Link) → link_row t j ≡ o → map frame_in (own l.id (copy_by o before row)) ≡ map frame_of_row (cond (l.id == j) (row ∷ []) [])
+    by None is = ap (λ b. map frame_of_row (cond b (row ∷ []) [])) (sym (decide (l.id == j) refl)) where
       decide : (b : Bool) → (l.id == j) ≡ b → (l.id == j) ≡ false
-      decide true was = let none : Some l ≡ None = sym found ∙ ap (link_row t) (equal l.id j was) ∙ is in (cc)
+      decide true was = let none : Some l ≡ None = sym found ∙ ap (link_row t) (eqb-true l.id j was) ∙ is in (cc)
       decide false was = was
     by (Some m) is =
         let same = (links.is_row t j m is).0 in
-        out (nat_eq m.id l.id) ∙ ap (λ b. map frame_of (cond b (row ∷ []) [])) (turned m.id l.id j same) where
-          out : (b : Bool) → map frame_in (cond b (copy_of m before row ∷ []) []) ≡ map frame_of (cond b (row ∷ []) [])
+        out (nat_eq m.id l.id) ∙ ap (λ b. map frame_of_row (cond b (row ∷ []) [])) (turned m.id l.id j same) where
+          out : (b : Bool) → map frame_in (cond b (copy_of m before row ∷ []) []) ≡ map frame_of_row (cond b (row ∷ []) [])
           out true = refl
           out false = refl
 
@@ -91,14 +90,14 @@ module _ (links : LinksAreFound) (t : Content) where
   own_one l found before row TooBig = refl
 
   own_after : (l : Link) → link_row t l.id ≡ Some l → (before rows : List Row) → map frame_in (own l.id (each_after copy before rows))
-      ≡ map frame_of (filter (λ (row : Row). says_clean l.id row.verdict) rows)
+      ≡ map frame_of_row (filter (λ (row : Row). says_clean l.id row.verdict) rows)
   own_after l found before [] = refl
   own_after l found before (row ∷ rows) =
       own-append l.id (copy before row) (each_after copy (before ++ row ∷ []) rows)
       ∙ ap (λ fs. fs ++ map frame_in (own l.id (each_after copy (before ++ row ∷ []) rows))) (own_one l found before row row.verdict)
-      ∙ ap (λ fs. map frame_of (cond (says_clean l.id row.verdict) (row ∷ []) []) ++ fs) (own_after l found (before ++ row ∷ []) rows)
+      ∙ ap (λ fs. map frame_of_row (cond (says_clean l.id row.verdict) (row ∷ []) []) ++ fs) (own_after l found (before ++ row ∷ []) rows)
       ∙ joined (says_clean l.id row.verdict) (filter (λ (row : Row). says_clean l.id row.verdict) rows) where
-        joined : (b : Bool) (more : List Row) → map frame_of (cond b (row ∷ []) []) ++ map frame_of more ≡ map frame_of (cond b (row ∷ more) more)
+        joined : (b : Bool) (more : List Row) → map frame_of_row (cond b (row ∷ []) []) ++ map frame_of_row more ≡ map frame_of_row (cond b (row ∷ more) more)
         joined true more = refl
         joined false more = refl
 
@@ -114,8 +113,8 @@ module _ (links : LinksAreFound) (t : Content) where
     unfolding passes
     offered_one l found among before row =
         offers t well p l among (clean_copies t before) (copy_of l before row) refl
-        ∙ ap (λ fs. leads_to p.id l && conforms (terms_of l) (passed_frames (terms_of l) fs) (frame_of row)) (own_frames_are l found before)
-        ∙ turned (leads_to p.id l) (conforms (terms_of l) (passed_frames (terms_of l) (account_frames l.id before)) (frame_of row)) where
+        ∙ ap (λ fs. leads_to p.id l && conforms (terms_of l) (passed_frames (terms_of l) fs) (frame_of_row row)) (own_frames_are l found before)
+        ∙ turned (leads_to p.id l) (conforms (terms_of l) (passed_frames (terms_of l) (account_frames l.id before)) (frame_of_row row)) where
           turned : (a b : Bool) → (a && b) ≡ (b && a)
           turned true true = refl
           turned true false = refl
@@ -157,11 +156,9 @@ module _ (links : LinksAreFound) (t : Content) where
         let m = get_or t.links k d in
         let h = have_link t arrival.0 arrival.1 l.id (sym (ap (λ (r : Row). r.verdict) arrival.2) ∙ names.0) in
         let size = ap (λ (r : Row). r.size) arrival.2 in
-        let one : h.link ≡ l = some (sym h.is_link ∙ names.1) in
-        let two : m ≡ l = some (sym (links.found t well m (k, lt, get_or_self t.links k d lt)) ∙ ap (link_row t) same ∙ names.1) in
-        (ap (λ (x : Link). x.priority) two, omega (arith, size, h.size_least), omega (arith, size, h.size_most, ap (λ (x : Link). x.max_size) one, ap (λ (x : Link). x.max_size) two)) where
-          some : {a b : Link} → Some a ≡ Some b → a ≡ b
-          some h = (cc)
+        let one : h.link ≡ l = same_Some h.link l (sym h.is_link ∙ names.1) in
+        let two : m ≡ l = same_Some m l (sym (links.found t well m (k, lt, get_or_self t.links k d lt)) ∙ ap (link_row t) same ∙ names.1) in
+        (ap (λ (x : Link). x.priority) two, omega (arith, size, h.size_least), omega (arith, size, h.size_most, ap (λ (x : Link). x.max_size) one, ap (λ (x : Link). x.max_size) two))
 
     clean_after : (before rows : List Row) → All (IsOfAnArrival t) rows → All (IsCleanIn t) (each_after copy before rows)
     clean_after before [] h = All-nil (IsCleanIn t)
@@ -176,7 +173,7 @@ module _ (links : LinksAreFound) (t : Content) where
     unfolding clean_copies
     all_clean rows h = clean_after [] rows h
 
-  in_order_after : (low from : ℕ) (before rows : List Row) → low ≤ from → InOrder from (map frame_of rows) → InOrder low (map frame_in (each_after copy before rows))
+  in_order_after : (low from : ℕ) (before rows : List Row) → low ≤ from → InOrder from (map frame_of_row rows) → InOrder low (map frame_in (each_after copy before rows))
   in_order_after low from before [] le order = tt
   in_order_after low from before (row ∷ rows) le order =
       let here : low ≤ row.stamp = (let h = order.0 in omega (arith, le, h)) in
@@ -186,7 +183,7 @@ module _ (links : LinksAreFound) (t : Content) where
         by le out joins' None = out
         by le out joins' (Some l) = (le, joins')
 
-  pub in_order : (rows : List Row) → InOrder 0 (map frame_of rows) → InOrder 0 (map frame_in (clean_copies t rows))
+  pub in_order : (rows : List Row) → InOrder 0 (map frame_of_row rows) → InOrder 0 (map frame_in (clean_copies t rows))
   unfolding clean_copies
   in_order rows order = in_order_after 0 0 [] rows (omega arith) order
 

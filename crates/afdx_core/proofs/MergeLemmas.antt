@@ -5,8 +5,9 @@ use Rattle.std.proofs.lemmas.List.{map-append}
 use Rattle.std.proofs.lemmas.List.Elements.{filter-append}
 use Rattle.std.proofs.lemmas.Bool.{cases_Bool, cases_lt}
 use Rattle.std.proofs.lemmas.Bool.Decides.{nat_tests}
-use Rattle.afdx_pcap.specs.Entry.{Entry}
-use Rattle.afdx_core.specs.Merge.{Arrival, Capture, Rises, part_at, records_of, IsMerge, arrivals_of, placed, by_stamp, merged, Precedes, AreByStampAndPort, PortsRise}
+use Rattle.afdx_pcap.specs.Record.{Record}
+use Rattle.afdx_core.specs.Merge.{Arrival, Capture, Rises, records_of, arrivals_of, placed, by_stamp, merged}
+use Rattle.afdx_core.specs.Inner.Merge.{part_at, IsMerge, Precedes, AreByStampAndPort, PortsRise}
 use Rattle.afdx_core.proofs.Lists.{AllByRecursion-weaken}
 
 le_true : (a b : ℕ) → nat_le a b ≡ true → a ≤ b
@@ -55,7 +56,7 @@ by_stamp_rising : (arrivals : List Arrival) → Rising (by_stamp arrivals)
 by_stamp_rising [] = tt
 by_stamp_rising (a ∷ arrivals) = placed_rising a (by_stamp arrivals) (by_stamp_rising arrivals)
 
-all_frames : (n : ℕ) (arrivals : List Arrival) → AllByRecursion (λ (b : Arrival). n ≤ b.frame.stamp) arrivals → AllByRecursion (λ (r : Entry). n ≤ r.stamp) (map (λ (a : Arrival). a.frame) arrivals)
+all_frames : (n : ℕ) (arrivals : List Arrival) → AllByRecursion (λ (b : Arrival). n ≤ b.frame.stamp) arrivals → AllByRecursion (λ (r : Record). n ≤ r.stamp) (map (λ (a : Arrival). a.frame) arrivals)
 all_frames n [] all = tt
 all_frames n (a ∷ arrivals) all = (all.0, all_frames n arrivals all.1)
 
@@ -80,7 +81,7 @@ placed_other port a (b ∷ arrivals) other =
       by_head true is same = part-cons port true b (placed a arrivals) is ∙ ap (λ rs. b.frame ∷ rs) same ∙ sym (part-cons port true b arrivals is)
       by_head false is same = part-cons port false b (placed a arrivals) is ∙ same ∙ sym (part-cons port false b arrivals is)
 
-placed_own : (port : ℕ) (a : Arrival) (arrivals : List Arrival) → (a.port == port) ≡ true → AllByRecursion (λ (r : Entry). a.frame.stamp ≤ r.stamp) (part_at port arrivals)
+placed_own : (port : ℕ) (a : Arrival) (arrivals : List Arrival) → (a.port == port) ≡ true → AllByRecursion (λ (r : Record). a.frame.stamp ≤ r.stamp) (part_at port arrivals)
     → part_at port (placed a arrivals) ≡ a.frame ∷ part_at port arrivals
 placed_own port a [] own least = rw own refl
 placed_own port a (b ∷ arrivals) own least =
@@ -88,8 +89,8 @@ placed_own port a (b ∷ arrivals) own least =
       | inl before ↦ rw before (part-cons port true a (b ∷ arrivals) own)
       | inr after ↦ rw after (by_head (b.port == port) refl (le_false a.frame.stamp b.frame.stamp after) least (placed_own port a arrivals own))
     ] where
-      by_head : (t : Bool) → (b.port == port) ≡ t → b.frame.stamp < a.frame.stamp → AllByRecursion (λ (r : Entry). a.frame.stamp ≤ r.stamp) (part_at port (b ∷ arrivals))
-          → (AllByRecursion (λ (r : Entry). a.frame.stamp ≤ r.stamp) (part_at port arrivals) → part_at port (placed a arrivals) ≡ a.frame ∷ part_at port arrivals)
+      by_head : (t : Bool) → (b.port == port) ≡ t → b.frame.stamp < a.frame.stamp → AllByRecursion (λ (r : Record). a.frame.stamp ≤ r.stamp) (part_at port (b ∷ arrivals))
+          → (AllByRecursion (λ (r : Record). a.frame.stamp ≤ r.stamp) (part_at port arrivals) → part_at port (placed a arrivals) ≡ a.frame ∷ part_at port arrivals)
           → part_at port (b ∷ placed a arrivals) ≡ a.frame ∷ part_at port (b ∷ arrivals)
       by_head true is lt all more = let both = rw (part-cons port true b arrivals is) at all in absurd (omega (arith, lt, both.0))
       by_head false is lt all more =
@@ -115,7 +116,7 @@ part-append : (port : ℕ) (xs ys : List Arrival) → part_at port (xs ++ ys) �
 part-append port xs ys = ap (map (λ (a : Arrival). a.frame)) (filter-append (λ (a : Arrival). a.port == port) xs ys)
     ∙ map-append (λ (a : Arrival). a.frame) (filter (λ (a : Arrival). a.port == port) xs) (filter (λ (a : Arrival). a.port == port) ys)
 
-part_of_capture : (port number : ℕ) (b : Bool) (records : List Entry) → (number == port) ≡ b → part_at port (map {B = Arrival} (λ (r : Entry). record { port = number; frame = r }) records)
+part_of_capture : (port number : ℕ) (b : Bool) (records : List Record) → (number == port) ≡ b → part_at port (map {B = Arrival} (λ (r : Record). record { port = number; frame = r }) records)
     ≡ cond b records []
 part_of_capture port number true [] is = refl
 part_of_capture port number false [] is = refl
@@ -125,7 +126,7 @@ part_of_capture port number false (r ∷ records) is = rw is (part_of_capture po
 part_of_all : (port : ℕ) (captures : List Capture) → part_at port (arrivals_of captures) ≡ records_of captures port
 part_of_all port [] = refl
 part_of_all port (c ∷ captures) =
-    part-append port (map {B = Arrival} (λ (r : Entry). record { port = c.port; frame = r }) c.records) (arrivals_of captures)
+    part-append port (map {B = Arrival} (λ (r : Record). record { port = c.port; frame = r }) c.records) (arrivals_of captures)
     ∙ ap (λ rs. rs ++ part_at port (arrivals_of captures)) (part_of_capture port c.port (c.port == port) c.records refl)
     ∙ ap (λ rs. cond (c.port == port) c.records [] ++ rs) (part_of_all port captures)
 

@@ -8,10 +8,10 @@ use Rattle.afdx_table.specs.Link.{Link, leads_to}
 use Rattle.afdx_table.specs.Content.{Content}
 use Rattle.afdx_table.specs.declared.rows.PortRow.{PortRow}
 use Rattle.afdx_port.specs.declared.Item.{Item}
-use Rattle.afdx_port.specs.Admission.{AdmittedInOrder}
+use Rattle.afdx_port.specs.Inner.Admission.{AdmittedInOrder}
 use Rattle.afdx_isolation.specs.Table.{settings_of}
 use Rattle.afdx_core.specs.declared.step.Row.{Row}
-use Rattle.afdx_core.specs.Rows.{frame_of, named, passes, copy_of, copies_by, copies, each_after, feed_of}
+use Rattle.afdx_core.specs.Rows.{frame_of_row, named, passes, copy_of, copies_by, copies, each_after, feed_of}
 use Rattle.afdx_core.specs.State.{Run, admitted_in}
 use Rattle.afdx_core.specs.Isolation.{IsRun}
 
@@ -31,7 +31,7 @@ one_more from x items le h = record {
   order = AllPairs-cons (λ (a : Item) (b : Item). a.stamp ≤ b.stamp) x items h.later h.order;
 }
 
-offered_from : (t : Content) (port from : ℕ) (before rows : List Row) → InOrder from (map frame_of rows) → From from (each_after (copies t port) before rows)
+offered_from : (t : Content) (port from : ℕ) (before rows : List Row) → InOrder from (map frame_of_row rows) → From from (each_after (copies t port) before rows)
 offered_from t port from before [] order = none_from from
 offered_from t port from before (row ∷ rows) order = by_link (named t row.verdict) (offered_from t port row.stamp (before ++ row ∷ []) rows order.1)
   where
@@ -46,7 +46,7 @@ offered_from t port from before (row ∷ rows) order = by_link (named t row.verd
     by_link None h = sooner from row.stamp more order.0 h
     by_link (Some l) h = by_copy l (passes l before row && leads_to port l) h
 
-feed_rises : (t : Content) (port : ℕ) (rows : List Row) → InOrder 0 (map frame_of rows) → AllPairs (λ (a : Item) (b : Item). a.stamp ≤ b.stamp) (feed_of t port rows)
+feed_rises : (t : Content) (port : ℕ) (rows : List Row) → InOrder 0 (map frame_of_row rows) → AllPairs (λ (a : Item) (b : Item). a.stamp ≤ b.stamp) (feed_of t port rows)
 unfolding feed_of
 feed_rises t port rows order = (offered_from t port 0 [] rows order).order
 

@@ -10,13 +10,13 @@ use Rattle.afdx_table.specs.Link.{Link}
 use Rattle.afdx_filter.specs.declared.outcome.Verdict.TheVariants.{Clean}
 use Rattle.afdx_account.specs.declared.frame.Frame.{Frame}
 use Rattle.afdx_account.specs.Policing.{Terms, conforms, passed_frames}
-use Rattle.afdx_account.specs.Level.{Stands, PassesWhatConforms}
+use Rattle.afdx_account.specs.Level.{IsLevelAfter, PassesWhatConforms}
 use Rattle.afdx_account.specs.Account.{account_terms, account_since, account_level}
 use Rattle.afdx_account.specs.declared.account.Account.{Account}
-use Rattle.afdx_load.specs.Sums.{terms_of}
+use Rattle.afdx_load.specs.Load.{terms_of}
 use Rattle.afdx_core.specs.declared.step.Row.{Row}
-use Rattle.afdx_core.specs.Rows.{frame_of, account_frames, says_clean, passes}
-use Rattle.afdx_core.specs.Kept.{AccountStands, AccountsStand, Polices}
+use Rattle.afdx_core.specs.Rows.{frame_of_row, account_frames, says_clean, passes}
+use Rattle.afdx_core.specs.Kept.{AccountAgrees, AccountsAgree, Polices}
 use Rattle.afdx_core.proofs.Feeds.{account-same, account-other}
 
 -- what an account's offer of a row's frame is to say
@@ -25,29 +25,29 @@ Conforming p row a b = PassesWhatConforms (account_terms a) (account_since a) (a
 
 -- the account of the frame's link
 policed_own : (l : Link) (a b : Account) (rows : List Row) (latest : ℕ) (row : Row) (p : Bool)
-    → AccountStands l a rows latest → row.verdict ≡ Clean l.id → account_since b ≡ row.stamp → account_terms b ≡ account_terms a → Conforming p row a b
-    → (p ≡ passes l rows row) × AccountStands l b (rows ++ row ∷ []) row.stamp
+    → AccountAgrees l a rows latest → row.verdict ≡ Clean l.id → account_since b ≡ row.stamp → account_terms b ≡ account_terms a → Conforming p row a b
+    → (p ≡ passes l rows row) × AccountAgrees l b (rows ++ row ∷ []) row.stamp
 unfolding passes
-policed_own l a b rows latest row p stands clean since terms conforming =
-    let before = subst (λ (t : Terms). Stands t (account_since a) (account_level a (account_since a)) (account_frames l.id rows)) (sym stands.terms) stands.stands in
+policed_own l a b rows latest row p agrees clean since terms conforming =
+    let before = subst (λ (t : Terms). IsLevelAfter t (account_since a) (account_level a (account_since a)) (account_frames l.id rows)) (sym agrees.terms) agrees.level in
     let both = conforming (account_frames l.id rows) before in (
-      both.0 ∙ ap (λ (t : Terms). conforms t (passed_frames t (account_frames l.id rows)) (frame_of row)) stands.terms,
+      both.0 ∙ ap (λ (t : Terms). conforms t (passed_frames t (account_frames l.id rows)) (frame_of_row row)) agrees.terms,
       record {
-        terms = terms ∙ stands.terms;
+        terms = terms ∙ agrees.terms;
         since = omega (arith, since);
-        stands = subst (λ (fs : List Frame). Stands (terms_of l) (account_since b) (account_level b (account_since b)) fs) (sym (account-same l.id rows row clean))
-            (subst (λ (n : ℕ). Stands (terms_of l) n (account_level b n) (account_frames l.id rows ++ frame_of row ∷ [])) (sym since)
-            (subst (λ (t : Terms). Stands t row.stamp (account_level b row.stamp) (account_frames l.id rows ++ frame_of row ∷ [])) stands.terms both.1));
+        level = subst (λ (fs : List Frame). IsLevelAfter (terms_of l) (account_since b) (account_level b (account_since b)) fs) (sym (account-same l.id rows row clean))
+            (subst (λ (n : ℕ). IsLevelAfter (terms_of l) n (account_level b n) (account_frames l.id rows ++ frame_of_row row ∷ [])) (sym since)
+            (subst (λ (t : Terms). IsLevelAfter t row.stamp (account_level b row.stamp) (account_frames l.id rows ++ frame_of_row row ∷ [])) agrees.terms both.1));
       },
     )
 
 -- the account of another link
 policed_other : (l : Link) (a : Account) (rows : List Row) (latest : ℕ) (row : Row) (i : ℕ)
-    → AccountStands l a rows latest → row.verdict ≡ Clean i → i ≢ l.id → latest ≤ row.stamp → AccountStands l a (rows ++ row ∷ []) row.stamp
-policed_other l a rows latest row i stands clean other le = record {
-  terms = stands.terms;
-  since = omega (arith, stands.since, le);
-  stands = rw (account-other l.id rows row (ap (says_clean l.id) clean ∙ differs l.id i other)) stands.stands;
+    → AccountAgrees l a rows latest → row.verdict ≡ Clean i → i ≢ l.id → latest ≤ row.stamp → AccountAgrees l a (rows ++ row ∷ []) row.stamp
+policed_other l a rows latest row i agrees clean other le = record {
+  terms = agrees.terms;
+  since = omega (arith, agrees.since, le);
+  level = rw (account-other l.id rows row (ap (says_clean l.id) clean ∙ differs l.id i other)) agrees.level;
 } where
   differs : (i j : ℕ) → j ≢ i → (i == j) ≡ false
   differs i j ne = grind (arith, nat_tests)
@@ -81,29 +81,29 @@ other_link links place k l m distinct within klt ne at =
 -- where no account is asked
 pub unpoliced : (links : List Link) (rows : List Row) (latest : ℕ) (row : Row) (accounts : List Account)
     → ((k : ℕ) (l : Link) → k < length links → says_clean (slice_index_or links k l).id row.verdict ≡ false) → latest ≤ row.stamp
-    → AccountsStand links rows latest accounts → AccountsStand links (rows ++ row ∷ []) row.stamp accounts
-unpoliced links rows latest row accounts none le stand = record {
-  len = stand.len;
-  each = λ k l a lt. let s = stand.each k l a lt in record {
+    → AccountsAgree links rows latest accounts → AccountsAgree links (rows ++ row ∷ []) row.stamp accounts
+unpoliced links rows latest row accounts none le agree = record {
+  len = agree.len;
+  each = λ k l a lt. let s = agree.each k l a lt in record {
     terms = s.terms;
     since = omega (arith, s.since, le);
-    stands = rw (account-other (slice_index_or links k l).id rows row (none k l lt)) s.stands;
+    level = rw (account-other (slice_index_or links k l).id rows row (none k l lt)) s.level;
   };
 }
 
 pub policed : (p : Bool) (row : Row) (place : ℕ) (old : List Account) (d b : Account) → place < length old
     → account_since b ≡ row.stamp → account_terms b ≡ account_terms (get_or old place d) → Conforming p row (get_or old place d) b → Polices p row place old (set old place b)
-policed p row place old d b lt since terms conforming links rows latest l stand distinct within le at clean =
-    let s = stand.each place l d within in
+policed p row place old d b lt since terms conforming links rows latest l agree distinct within le at clean =
+    let s = agree.each place l d within in
     let mine = rw at at s in
     let both = policed_own l (get_or old place d) b rows latest row p mine clean since terms conforming in (
       both.0,
       record {
-        len = length-set old place b ∙ stand.len;
+        len = length-set old place b ∙ agree.len;
         each = λ k m e klt. ⊎_elim
-            (λ same. subst (λ j. AccountStands (slice_index_or links j m) (slice_index_or (set old place b) j e) (rows ++ row ∷ []) row.stamp) (sym same)
+            (λ same. subst (λ j. AccountAgrees (slice_index_or links j m) (slice_index_or (set old place b) j e) (rows ++ row ∷ []) row.stamp) (sym same)
             (rw (get_or-set_same old place b e lt, get_or_default links place m l within, at) both.1))
-            (λ ne. rw (get_or-set_other old place k b e ne) (policed_other (slice_index_or links k m) (slice_index_or old k e) rows latest row l.id (stand.each k m e klt) clean
+            (λ ne. rw (get_or-set_other old place k b e ne) (policed_other (slice_index_or links k m) (slice_index_or old k e) rows latest row l.id (agree.each k m e klt) clean
             (other_link links place k l m distinct within klt ne at) le))
             (cases_eq k place);
       },
@@ -111,25 +111,25 @@ policed p row place old d b lt since terms conforming links rows latest l stand 
 
 -- ---- full accounts
 
-pub account_fresh : (l : Link) (a : Account) → account_terms a ≡ terms_of l → Stands (terms_of l) 0 (account_level a 0) [] → account_since a ≡ 0 → AccountStands l a [] 0
+pub account_fresh : (l : Link) (a : Account) → account_terms a ≡ terms_of l → IsLevelAfter (terms_of l) 0 (account_level a 0) [] → account_since a ≡ 0 → AccountAgrees l a [] 0
 unfolding account_frames
 account_fresh l a terms full since = record {
   terms = terms;
   since = omega (arith, since);
-  stands = subst (λ (n : ℕ). Stands (terms_of l) n (account_level a n) []) (sym since) full;
+  level = subst (λ (n : ℕ). IsLevelAfter (terms_of l) n (account_level a n) []) (sym since) full;
 }
 
-pub accounts-push : (links : List Link) (accounts : List Account) (i : ℕ) (item : Link) (a : Account) → i < length links → length accounts ≡ i → item ≡ get_or links i item → AccountStands item a [] 0
-    → ((k : ℕ) (m : Link) (e : Account) → k < i → AccountStands (get_or links k m) (get_or accounts k e) [] 0)
-    → (k : ℕ) (m : Link) (e : Account) → k < i + 1 → AccountStands (get_or links k m) (get_or (accounts ++ a ∷ []) k e) [] 0
+pub accounts-push : (links : List Link) (accounts : List Account) (i : ℕ) (item : Link) (a : Account) → i < length links → length accounts ≡ i → item ≡ get_or links i item → AccountAgrees item a [] 0
+    → ((k : ℕ) (m : Link) (e : Account) → k < i → AccountAgrees (get_or links k m) (get_or accounts k e) [] 0)
+    → (k : ℕ) (m : Link) (e : Account) → k < i + 1 → AccountAgrees (get_or links k m) (get_or (accounts ++ a ∷ []) k e) [] 0
 accounts-push links accounts i item a lt len is new each k m e klt =
     ⊎_elim
-    (λ before. subst (λ (x : Account). AccountStands (get_or links k m) x [] 0) (sym (get_or_append_left accounts (a ∷ []) e k (omega (arith, len)))) (each k m e before))
+    (λ before. subst (λ (x : Account). AccountAgrees (get_or links k m) x [] 0) (sym (get_or_append_left accounts (a ∷ []) e k (omega (arith, len)))) (each k m e before))
     (λ after.
     let same : k ≡ i = omega arith in
     let link : item ≡ get_or links k m = is ∙ get_or_default links i item m lt ∙ ap (λ j. get_or links j m) (sym same) in
     let account : a ≡ get_or (accounts ++ a ∷ []) k e = sym (get_or-append_right accounts (a ∷ []) i k e len (omega arith) ∙ ap (λ j. get_or (a ∷ []) j e) (at_zero k i same)) in
-    subst₂ (λ (l : Link) (x : Account). AccountStands l x [] 0) link account new)
+    subst₂ (λ (l : Link) (x : Account). AccountAgrees l x [] 0) link account new)
     (cases_lt k i) where
       at_zero : (k i : ℕ) → k ≡ i → k - i ≡ 0
       at_zero k i e = omega (arith, e)

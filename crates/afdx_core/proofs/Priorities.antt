@@ -2,6 +2,7 @@
 use Rattle.std.proofs.Common.{◌≡◌, ℕ, Bool, true, false, cond, ◌&&◌, List, [], ◌∷◌, ◌++◌, Option, Some, None, refl, sym, ap, ◌∙◌}
 use Rattle.std.specs.Prelude.{nat_lt, All, Contains}
 use Rattle.std.proofs.lemmas.List.Elements.{All-nil, All-cons, All-head, All-tail, All-append, All-filter, All-weaker, All-contains}
+use Rattle.std.proofs.lemmas.Option.{same_Some}
 use Rattle.afdx_table.specs.declared.rows.PortRow.{PortRow}
 use Rattle.afdx_table.specs.Link.{Link, leads_to}
 use Rattle.afdx_table.specs.Content.{Content, link_row}
@@ -39,12 +40,9 @@ sent_so_far P es false h all = all_sent P (before h es) (All-filter (λ event. n
 abbrev IsAs : Link → Item → Type 0
 IsAs l x = x.link ≡ l.id → x.priority ≡ l.priority
 
-same_link : {a b : Link} → Some a ≡ Some b → a ≡ b
-same_link e = (cc)
-
 module _ (links : LinksAreFound) (t : Content) (well : IsWellFormed t) (l : Link) (among : Contains t.links l) where
   copy_is : (before : List Row) (row : Row) (m : Link) → named t row.verdict ≡ Some m → IsAs l (copy_of m before row)
-  copy_is before row m is = λ same. ap (λ (k : Link). k.priority) (same_link (sym (named_by links t row.verdict m is).1 ∙ ap (link_row t) same ∙ links.found t well l among))
+  copy_is before row m is = λ same. ap (λ (k : Link). k.priority) (same_Some m l (sym (named_by links t row.verdict m is).1 ∙ ap (link_row t) same ∙ links.found t well l among))
 
   copies_are : (port : ℕ) (before : List Row) (row : Row) (o : Option Link) → named t row.verdict ≡ o → All (IsAs l) (copies_by o port before row)
   copies_are port before row None is = All-nil (IsAs l)

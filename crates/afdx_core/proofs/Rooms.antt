@@ -2,18 +2,17 @@
 use Rattle.std.proofs.Common.{◌≡◌, ◌≢◌, ℕ, ◌+◌, ◌<◌, ◌≤◌, ◌==◌, ◌||◌, nat_eq, Bool, true, false, List, [], length, map, take, get_or, set, position, Option, Some, None, All, refl, ap, sym, ◌∙◌}
 use Rattle.std.proofs.Common.{arith, subst, ⊎_elim}
 use Rattle.std.specs.List.{IsDistinct}
-use Rattle.std.proofs.lemmas.Bool.{cases_eq, cases_lt}
+use Rattle.std.proofs.lemmas.Bool.{cases_eq, cases_lt, eqb-true}
 use Rattle.std.proofs.lemmas.List.{length-set, get_or-set_same, get_or-set_other, get_or_default, get_or_past}
 use Rattle.std.proofs.lemmas.List.Quantifiers.{position-Some}
 use Rattle.afdx_table.specs.Link.{names_port}
 use Rattle.afdx_table.specs.declared.rows.PortRow.{PortRow}
 use Rattle.afdx_core.specs.declared.output_port.OutputPort.{OutputPort}
-use Rattle.afdx_core.specs.OutputPorts.{Out, seen, PlacesAre}
-use Rattle.afdx_core.specs.Inner.OutputPorts.{Became}
-use Rattle.afdx_core.proofs.Outs.{became_map, became_then}
+use Rattle.afdx_core.specs.Inner.OutputPorts.{Out, seen, PlacesAre, Became}
+use Rattle.afdx_core.proofs.Outs.{became_map}
 use Rattle.afdx_table.specs.WellFormed.{IsPort}
 use Rattle.afdx_core.proofs.Calls.{position_within, some_of}
-use Rattle.afdx_core.proofs.Offers.{is_port, ids, other_port, names_next, flip, equal}
+use Rattle.afdx_core.proofs.Offers.{is_port, ids, other_port, names_next, flip}
 
 module _ {Z : Type 0} where
   pub became_set : (os : List (OutputPort Z)) (place : ℕ) (o d : OutputPort Z) → place < length os → seen o ≡ seen (get_or os place d) → Became (λ (x : Out). x) os (set os place o)
@@ -83,7 +82,7 @@ no_port ports port all le = by_found (position (λ (p : PortRow). p.id == port) 
       let d = some_of ports k lt in
       let f = position-Some (λ (p : PortRow). p.id == port) ports k d is in
       let most = (all k d lt).id_most in
-      let same = equal (get_or ports k d).id port f.1 in
+      let same = eqb-true (get_or ports k d).id port f.1 in
       absurd (omega (arith, most, same, le))
 
 pub places_end : (places : List (Option ℕ)) (ports : List PortRow) (n : ℕ) → length places ≡ 25 → 25 ≤ n → All IsPort ports

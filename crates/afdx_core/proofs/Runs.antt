@@ -4,8 +4,9 @@ use Rattle.std.proofs.Common.{Err, refl, subst, ap, sym, ◌∙◌, arith}
 use Rattle.std.specs.Prelude.{All, Contains, IfOk, IfErr, OnOk, OnErr}
 use Rattle.std.proofs.lemmas.Bool.Decides.{nat_tests}
 use Rattle.std.proofs.lemmas.List.Elements.{All-nil, All-push, All-weaker, All-map, All-contains, All-from_recursion, Contains-append_right}
+use Rattle.std.proofs.lemmas.Bool.{eq-eqb, eqb-true, or_left, or_right}
 use Rattle.std.specs.declared.alloc.AllocError.{AllocError}
-use Rattle.afdx_pcap.specs.Entry.{Entry}
+use Rattle.afdx_pcap.specs.Record.{Record}
 use Rattle.afdx_table.specs.declared.rows.PortRow.{PortRow}
 use Rattle.afdx_table.specs.Link.{Link, names_port, leads_to}
 use Rattle.afdx_table.specs.Content.{Content, port_row}
@@ -23,8 +24,8 @@ use Rattle.afdx_isolation.specs.Table.{settings_of}
 use Rattle.afdx_core.specs.declared.step.Row.{Row}
 use Rattle.afdx_core.specs.declared.step.CoreFault.{CoreFault}
 use Rattle.afdx_core.specs.declared.step.CoreFault.TheVariants.{NoSuchPort, Earlier}
-use Rattle.afdx_core.specs.Rows.{row_of, frame_of, named, passes, copy_of, feed_of}
-use Rattle.afdx_core.specs.Handling.{Handling}
+use Rattle.afdx_core.specs.Rows.{row_of, frame_of_row, named, passes, copy_of, feed_of}
+use Rattle.afdx_core.specs.Step.{Step}
 use Rattle.afdx_core.specs.Held.{IsTaken, IsRefused, IsNext, IsAppended}
 use Rattle.afdx_core.specs.State.{Run, State, fresh_run, aged_in, answer_of, offers_by, refusal_of, after_row, after_advance, after_finish}
 use Rattle.afdx_core.specs.Isolation.{IsOfAnArrival, IsRun, AcceptedTablesIsolate, RunsTakeArrivals, NoStepIsFull}
@@ -34,8 +35,8 @@ use Rattle.afdx_core.proofs.Isolating.{named_by}
 
 -- ---- stamps that do not fall
 
-order_push : (from : ℕ) (rows : List Row) (row : Row) → from ≤ row.stamp → All (λ (r : Row). r.stamp ≤ row.stamp) rows → InOrder from (map frame_of rows)
-    → InOrder from (map frame_of (rows ++ row ∷ []))
+order_push : (from : ℕ) (rows : List Row) (row : Row) → from ≤ row.stamp → All (λ (r : Row). r.stamp ≤ row.stamp) rows → InOrder from (map frame_of_row rows)
+    → InOrder from (map frame_of_row (rows ++ row ∷ []))
 order_push from [] row le late order = (le, tt)
 order_push from (r ∷ rows) row le late order = (order.0, order_push r.stamp rows row (late 0 r (omega arith)) (λ k d lt. late (suc k) d (omega arith)) order.1)
 
@@ -94,17 +95,8 @@ port_true id (p ∷ ports) q is = by (p.id == id) refl is (port_true id ports q)
 leads_itself : (to : List ℕ) → All (λ port. names_port port to ≡ true) to
 leads_itself [] = All-nil (λ port. names_port port [] ≡ true)
 leads_itself (q ∷ to) = λ k d lt. at k d lt (leads_itself to) where
-  one : (a : ℕ) → (a == a) ≡ true
-  one a = grind (arith, nat_tests)
-
-  or_left : (a b : Bool) → a ≡ true → a || b ≡ true
-  or_left a b h = grind (arith, nat_tests)
-
-  or_right : (a b : Bool) → b ≡ true → a || b ≡ true
-  or_right a b h = grind (arith, nat_tests)
-
   at : (k d : ℕ) → k < length (q ∷ to) → All (λ port. names_port port to ≡ true) to → names_port (get_or (q ∷ to) k d) (q ∷ to) ≡ true
-  at zero d lt ih = or_left (q == q) (names_port q to) (one q)
+  at zero d lt ih = or_left (q == q) (names_port q to) (eq-eqb q q refl)
   at (suc k) d lt ih = or_right (q == get_or to k d) (names_port (get_or to k d) to) (ih k d (omega arith))
 
 -- an item is admitted where all that was offered with it was
@@ -117,7 +109,7 @@ fits_where s a x is = by (fits s a x) is where
   by true is = refl
   by false is = absurd (longer (length (a ++ x ∷ [])) (length a) (length_more a x) (ap length is))
 
-module _ (links : LinksAreFound) (isolate : AcceptedTablesIsolate) (r : Run) (port : ℕ) (frame : Entry) (run : IsRun r) (taken : refusal_of r port frame.stamp ≡ None) (well : IsWellFormed r.table)
+module _ (links : LinksAreFound) (isolate : AcceptedTablesIsolate) (r : Run) (port : ℕ) (frame : Record) (run : IsRun r) (taken : refusal_of r port frame.stamp ≡ None) (well : IsWellFormed r.table)
     (accepted : IsAccepted r.table) where
   abbrev row : Row
   row = row_of r.table port frame
@@ -128,14 +120,12 @@ module _ (links : LinksAreFound) (isolate : AcceptedTablesIsolate) (r : Run) (po
       let s = settings_of r.table.latency p in
       let x = copy_of l r.rows row in
       let at = port_true q r.table.ports p found in
-      let same : p.id ≡ q = equal p.id q at.0 in
+      let same : p.id ≡ q = eqb-true p.id q at.0 in
       let before = (isolate r run well accepted).none_full p at.1 in
       let after = (isolate (after_row row r) (takes r port frame taken run) well accepted).none_full p at.1 in
       let more = feed-push r.table p.id r.rows row ∙ ap (λ ys. feed_of r.table p.id r.rows ++ ys) (passed_copies r.table p.id r.rows row l true is pass (ap (λ n. leads_to n l) same ∙ leads)) in
       fits_where s (admitted s (feed_of r.table p.id r.rows)) x
-      (sym (admit_all-push s [] (feed_of r.table p.id r.rows) x) ∙ ap (admitted s) (sym more) ∙ after ∙ more ∙ ap (λ ys. ys ++ x ∷ []) (sym before)) where
-        equal : (a b : ℕ) → (a == b) ≡ true → a ≡ b
-        equal a b e = grind (arith, nat_tests)
+      (sym (admit_all-push s [] (feed_of r.table p.id r.rows) x) ∙ ap (admitted s) (sym more) ∙ after ∙ more ∙ ap (λ ys. ys ++ x ∷ []) (sym before))
 
   all_queued : (o : Option Link) → named r.table row.verdict ≡ o → All (λ (offer : ℕ × Offer). offer.1 ≡ Queued) (offers_by r o row)
   all_queued None is = All-nil (λ (offer : ℕ × Offer). offer.1 ≡ Queued)
@@ -156,7 +146,7 @@ none_full links isolate r port frame run taken well accepted = all_queued links 
 
 -- ---- what the engine's calls make of a run
 
-pub arrived_run : (result : Result Handling (CoreFault × Entry)) (old new : State) (port : ℕ) (arrived : Entry)
+pub arrived_run : (result : Result Step (CoreFault × Record)) (old new : State) (port : ℕ) (arrived : Record)
     → IfOk result (λ step. IsTaken old new (row_of old.run.table port arrived) arrived step × (refusal_of old.run port arrived.stamp ≡ None))
     → IfErr result (λ e. IsRefused old new port arrived e) → IsRun old.run → IsRun new.run
 arrived_run (Ok step) old new port arrived ok err run = subst IsRun (sym ok.0.run) (takes old.run port arrived ok.1 run)
@@ -167,11 +157,11 @@ pub advanced_run : (result : Result (Unit {0}) CoreFault) (old new : Run) (to : 
 advanced_run (Ok done) old new to ok err run = subst IsRun (sym ok.1) (advances old to ok.0 run)
 advanced_run (Err e) old new to ok err run = subst IsRun (sym err.2) run
 
-next_run : (old new : State) (port : ℕ) (out : Option Entry) → IsNext old new port out → IsRun old.run → IsRun new.run
+next_run : (old new : State) (port : ℕ) (out : Option Record) → IsNext old new port out → IsRun old.run → IsRun new.run
 next_run old new port None h run = subst (λ (s : State). IsRun s.run) (sym h.1) run
 next_run old new port (Some out) h run = subst IsRun (sym h.2.run) (record { arrivals = run.arrivals; stamps = run.stamps; latest = run.latest })
 
-pub handed_run : (result : Result (Option Entry) AllocError) (old new : State) (port : ℕ) → IfOk result (λ out. IsNext old new port out) → OnErr result (new ≡ old) → IsRun old.run → IsRun new.run
+pub handed_run : (result : Result (Option Record) AllocError) (old new : State) (port : ℕ) → IfOk result (λ out. IsNext old new port out) → OnErr result (new ≡ old) → IsRun old.run → IsRun new.run
 handed_run (Ok out) old new port ok err run = next_run old new port out ok run
 handed_run (Err e) old new port ok err run = subst (λ (s : State). IsRun s.run) (sym err) run
 
@@ -189,9 +179,9 @@ none_aged isolate r run well accepted port = by (port_row r.table port) refl whe
   by (Some p) is = (isolate r run well accepted).none_aged p (port_true port r.table.ports p is).1
 
 -- the answer to an arrival
-pub answered : NoStepIsFull → (result : Result Handling (CoreFault × Entry)) (old new : State) (port : ℕ) (arrived : Entry)
+pub answered : NoStepIsFull → (result : Result Step (CoreFault × Record)) (old new : State) (port : ℕ) (arrived : Record)
     → IfOk result (λ step. IsTaken old new (row_of old.run.table port arrived) arrived step × (refusal_of old.run port arrived.stamp ≡ None))
     → IsRun old.run → IsWellFormed old.run.table → IsAccepted old.run.table → IfOk result (λ step. All (λ offer. offer.1 ≡ Queued) step.offers)
 answered full (Ok step) old new port arrived ok run well accepted =
-    subst (λ (h : Handling). All (λ (offer : ℕ × Offer). offer.1 ≡ Queued) h.offers) (sym ok.0.handling) (full old.run port arrived run ok.1 well accepted)
+    subst (λ (h : Step). All (λ (offer : ℕ × Offer). offer.1 ≡ Queued) h.offers) (sym ok.0.step_is) (full old.run port arrived run ok.1 well accepted)
 answered full (Err e) old new port arrived ok run well accepted = tt

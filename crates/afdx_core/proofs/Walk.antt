@@ -1,22 +1,21 @@
 -- A walk over the output ports that are due, and the table of what is due at each.
-use Rattle.std.proofs.Common.{◌≡◌, ◌≢◌, ℕ, suc, ◌+◌, ◌<◌, ◌≤◌, ◌==◌, nat_lt, Bool, true, false, cond, List, [], ◌∷◌, length, map, get_or, set, position, Option, Some, None, All, refl, ap, ap₂, sym}
+use Rattle.std.proofs.Common.{◌≡◌, ℕ, suc, ◌+◌, ◌<◌, Bool, true, false, cond, List, [], ◌∷◌, length, map, get_or, set, Option, None, All, refl, ap, ap₂, sym}
 use Rattle.std.proofs.Common.{◌∙◌, arith, subst, ⊎_elim}
 use Rattle.std.specs.Prelude.{sum_by, replicate}
-use Rattle.std.proofs.lemmas.Bool.{cases_eq}
+use Rattle.std.proofs.lemmas.Bool.{cases_eq, lt-ltb}
 use Rattle.std.proofs.lemmas.List.{length-map, length-set, get_or-map, get_or-set_same, get_or-set_other, get_or_default, map-set}
 use Rattle.std.proofs.lemmas.List.Sums.{sum_by-set}
 use Rattle.std.proofs.lemmas.List.Elements.{All-set}
 use Rattle.afdx_table.specs.declared.rows.PortRow.{PortRow}
 use Rattle.afdx_port.specs.Service.{reach}
 use Rattle.afdx_port.specs.Course.{starts_before}
-use Rattle.afdx_port.specs.Content.{Content, due, fresh, advanced}
+use Rattle.afdx_port.specs.Content.{Content, due, advanced}
 use Rattle.afdx_port.specs.Lagging.{has_due}
 use Rattle.afdx_port.specs.Inner.Lagging.{AdvanceLeavesNothingDue, AdvanceAdds}
 use Rattle.afdx_core.specs.declared.output_port.OutputPort.{OutputPort}
-use Rattle.afdx_core.specs.Dues.{IsFirstBefore}
-use Rattle.afdx_core.specs.OutputPorts.{Out, seen, dues_of}
-use Rattle.afdx_core.specs.Inner.OutputPorts.{carried, carried_due, CanCarry, Became}
-use Rattle.afdx_core.specs.Engine.{fresh_out}
+use Rattle.afdx_core.specs.Inner.Dues.{IsFirstBefore}
+use Rattle.afdx_core.specs.Inner.OutputPorts.{Out, seen, dues_of, carried, carried_due, CanCarry, Became}
+use Rattle.afdx_core.specs.Inner.Engine.{fresh_out}
 use Rattle.afdx_core.proofs.Counts.{carried_yes, carried_no}
 use Rattle.afdx_core.proofs.Keeping.{more_sent}
 
@@ -40,11 +39,9 @@ pub fewer : AdvanceLeavesNothingDue → (latency at place : ℕ) (dues : List (O
 fewer leaves latency at place dues c open' same first =
     let until = at + latency in
     let all = sum_by-set (is_late until) dues place (due (advanced at c)) None first.within in
-    let was : is_late until (get_or dues place None) ≡ 1 = ap (is_late until) first.due ∙ ap (λ b. cond b 1 0) (before first.at until first.before) in
+    let was : is_late until (get_or dues place None) ≡ 1 = ap (is_late until) first.due ∙ ap (λ b. cond b 1 0) (lt-ltb first.at until first.before) in
     let now : is_late until (due (advanced at c)) ≡ 0 = ap (λ b. cond b 1 0) (sym (reached latency at (advanced at c) same) ∙ leaves c at open') in
-    omega (arith, all, was, now) where
-      before : (a b : ℕ) → a < b → nat_lt a b ≡ true
-      before a b lt = grind (arith)
+    omega (arith, all, was, now)
 
 pub smaller : AdvanceLeavesNothingDue → (latency at place : ℕ) (dues new : List (Option ℕ)) (next : Option ℕ) (c : Content) → c.finished ≡ false → c.settings.latency ≡ latency
     → IsFirstBefore (at + latency) dues place
@@ -76,9 +73,7 @@ module _ {Z : Type 0} where
       let within = within_dues (at + latency) place dues os are first in
       reached latency at (get_or os place d).port.content (same place d within)
       ∙ ap (starts_before (at + latency)) (sym (get_or-map (λ (o : OutputPort Z). due o.port.content) os place d None within) ∙ ap (λ ds. get_or ds place None) (sym are) ∙ first.due)
-      ∙ before first.at (at + latency) first.before where
-        before : (a b : ℕ) → a < b → nat_lt a b ≡ true
-        before a b lt = grind (arith)
+      ∙ lt-ltb first.at (at + latency) first.before
 
   pub dues_set : (dues : List (Option ℕ)) (os : List (OutputPort Z)) (place : ℕ) (o : OutputPort Z) (next : Option ℕ) → dues ≡ dues_of os → next ≡ due o.port.content → set dues place next
       ≡ dues_of (set os place o)

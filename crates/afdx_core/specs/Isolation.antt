@@ -1,7 +1,7 @@
 -- The headline: under an accepted table, whatever frames come, what leaves an output port for a link is what the link's policing
 -- passes of its own frames, in their order, and none is lost to a full buffer or to age; each has left within the port's bound.
 use Rattle.std.specs.Prelude.{◌≡◌, ℕ, ◌≤◌, true, List, [], ◌∷◌, ◌++◌, map, Option, Some, None, All, Contains}
-use Rattle.afdx_pcap.specs.Entry.{Entry}
+use Rattle.afdx_pcap.specs.Record.{Record}
 use Rattle.afdx_table.specs.declared.rows.PortRow.{PortRow}
 use Rattle.afdx_table.specs.Link.{Link, leads_to}
 use Rattle.afdx_table.specs.Content.{Content}
@@ -15,21 +15,21 @@ use Rattle.afdx_port.specs.declared.Sent.{Sent}
 use Rattle.afdx_port.specs.declared.Offer.TheVariants.{Queued}
 use Rattle.afdx_isolation.specs.Arrivals.{own, frame_in}
 use Rattle.afdx_isolation.specs.Table.{IsInBoundAt}
-use Rattle.afdx_load.specs.Sums.{terms_of}
+use Rattle.afdx_load.specs.Load.{terms_of}
 use Rattle.afdx_core.specs.declared.step.Row.{Row}
-use Rattle.afdx_core.specs.Rows.{row_of, frame_of, account_frames, named, copy_of, each_after, feed_of}
+use Rattle.afdx_core.specs.Rows.{row_of, frame_of_row, account_frames, named, copy_of, each_after, feed_of}
 use Rattle.afdx_core.specs.State.{Run, fresh_run, port_in, sent_in, aged_in, refusal_of, offers_of, after_row, after_advance, after_handing, after_finish}
 
 -- ---- runs
 
 -- the row of some frame that came in at some port
 abbrev pub IsOfAnArrival : Content → Row → Type 0
-IsOfAnArrival t row = (port : ℕ) × (frame : Entry) × (row ≡ row_of t port frame)
+IsOfAnArrival t row = (port : ℕ) × (frame : Record) × (row ≡ row_of t port frame)
 
 -- what is true of each switch: its rows are those of arrivals whose stamps did not fall
 pub record IsRun (r : Run) : Type 0 where
   pub arrivals : All (IsOfAnArrival r.table) r.rows
-  pub stamps : InOrder 0 (map frame_of r.rows)
+  pub stamps : InOrder 0 (map frame_of_row r.rows)
   pub latest : All (λ row. row.stamp ≤ r.latest) r.rows
 
 -- ---- the copies that ports may be offered
@@ -77,7 +77,7 @@ AcceptedTablesIsolate = (r : Run) → IsRun r → IsWellFormed r.table → IsAcc
 
 -- no port answers Full to a copy of the next arrival
 abbrev pub NoStepIsFull : Type 0
-NoStepIsFull = (r : Run) (port : ℕ) (frame : Entry) → IsRun r → refusal_of r port frame.stamp ≡ None → IsWellFormed r.table → IsAccepted r.table
+NoStepIsFull = (r : Run) (port : ℕ) (frame : Record) → IsRun r → refusal_of r port frame.stamp ≡ None → IsWellFormed r.table → IsAccepted r.table
     → All (λ offer. offer.1 ≡ Queued) (offers_of r (row_of r.table port frame))
 
 -- a copy as others see it: its frame, and the bytes that came with the arrival of its number
@@ -100,7 +100,7 @@ abbrev pub RunsBegin : Type 0
 RunsBegin = (t : Content) → IsRun (fresh_run t)
 
 abbrev pub RunsTakeArrivals : Type 0
-RunsTakeArrivals = (r : Run) (port : ℕ) (frame : Entry) → refusal_of r port frame.stamp ≡ None → IsRun r → IsRun (after_row (row_of r.table port frame) r)
+RunsTakeArrivals = (r : Run) (port : ℕ) (frame : Record) → refusal_of r port frame.stamp ≡ None → IsRun r → IsRun (after_row (row_of r.table port frame) r)
 
 abbrev pub RunsAdvance : Type 0
 RunsAdvance = (r : Run) (to : ℕ) → r.latest ≤ to → IsRun r → IsRun (after_advance to r)

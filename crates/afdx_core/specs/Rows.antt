@@ -1,7 +1,7 @@
 -- What a switch makes of the arrivals that it took: each is one row, in the order of arrival.
 use Rattle.std.specs.Prelude.{ℕ, ◌==◌, Bool, false, ◌&&◌, if◌then◌else◌, List, [], ◌∷◌, ◌++◌, length, map, filter, Option, Some, None}
 use Rattle.afdx_units.specs.Line.{size_of}
-use Rattle.afdx_pcap.specs.Entry.{Entry}
+use Rattle.afdx_pcap.specs.Record.{Record}
 use Rattle.afdx_frame.specs.Address.{link_of}
 use Rattle.afdx_table.specs.Link.{Link, leads_to}
 use Rattle.afdx_table.specs.Content.{Content, link_row}
@@ -12,13 +12,13 @@ use Rattle.afdx_filter.specs.Place.{link_named}
 use Rattle.afdx_account.specs.declared.frame.Frame.{Frame}
 use Rattle.afdx_account.specs.Policing.{conforms, passed_frames}
 use Rattle.afdx_port.specs.declared.Item.{Item}
-use Rattle.afdx_load.specs.Sums.{terms_of}
+use Rattle.afdx_load.specs.Load.{terms_of}
 use Rattle.afdx_core.specs.declared.step.Row.{Row}
 use Rattle.afdx_core.specs.declared.step.Fate.{Fate}
 use Rattle.afdx_core.specs.declared.step.Fate.TheVariants.{Filtered, Policed, Passed}
 
 -- the row of a frame that came in at a port
-abbrev pub row_of : Content → ℕ → Entry → Row
+abbrev pub row_of : Content → ℕ → Record → Row
 row_of t port frame = record {
   in_port = port;
   stamp = frame.stamp;
@@ -43,16 +43,16 @@ says_clean i TooBig = false
 abbrev pub own_frames : ℕ → List Row → List Row
 own_frames i rows = filter (λ row. says_clean i row.verdict) rows
 
-abbrev pub frame_of : Row → Frame
-frame_of row = record { stamp = row.stamp; size = row.size }
+abbrev pub frame_of_row : Row → Frame
+frame_of_row row = record { stamp = row.stamp; size = row.size }
 
 -- they as the link's account sees them
 unfoldable pub account_frames : ℕ → List Row → List Frame
-account_frames i rows = map frame_of (own_frames i rows)
+account_frames i rows = map frame_of_row (own_frames i rows)
 
 -- ARINC 664 Part 7: whether a link's frame is passed, after these arrivals
 unfoldable pub passes : Link → List Row → Row → Bool
-passes l before row = conforms (terms_of l) (passed_frames (terms_of l) (account_frames l.id before)) (frame_of row)
+passes l before row = conforms (terms_of l) (passed_frames (terms_of l) (account_frames l.id before)) (frame_of_row row)
 
 -- ---- one arrival, after others
 

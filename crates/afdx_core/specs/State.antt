@@ -1,6 +1,6 @@
 -- What contracts see of a switch, and what its calls do to it.
 use Rattle.std.specs.Prelude.{ℕ, ◌+◌, ◌==◌, Bool, true, false, nat_lt, if◌then◌else◌, List, [], ◌∷◌, ◌++◌, length, map, set, position, slice_get, slice_index, Option, Some, None, is_none}
-use Rattle.afdx_pcap.specs.Entry.{Entry}
+use Rattle.afdx_pcap.specs.Record.{Record}
 use Rattle.afdx_table.specs.declared.rows.PortRow.{PortRow}
 use Rattle.afdx_table.specs.Link.{Link}
 use Rattle.afdx_table.specs.Content.{Content, port_row}
@@ -16,7 +16,7 @@ use Rattle.afdx_isolation.specs.Table.{settings_of}
 use Rattle.afdx_core.specs.declared.step.Row.{Row}
 use Rattle.afdx_core.specs.declared.step.CoreFault.{CoreFault}
 use Rattle.afdx_core.specs.declared.step.CoreFault.TheVariants.{NoSuchPort, Earlier}
-use Rattle.afdx_core.specs.Handling.{Handling}
+use Rattle.afdx_core.specs.Step.{Step}
 use Rattle.afdx_core.specs.Rows.{named, passes, copy_of, fate_of, feed_of}
 
 -- what a switch answers rests on this, and on the bytes of the frames that it holds
@@ -33,7 +33,7 @@ pub record Run : Type 0 where
 pub record State : Type 0 where
   pub run : Run
   -- the frame of each arrival, as far as it is kept
-  pub frames : List (Option Entry)
+  pub frames : List (Option Record)
   -- the table was checked, and accepted, before the switch was made
   pub accepted : Bool
 
@@ -84,8 +84,8 @@ abbrev pub offers_of : Run → Row → List (ℕ × Offer)
 offers_of r row = offers_by r (named r.table row.verdict) row
 
 -- what the switch does with the arrival of this row
-abbrev pub handling_of : Run → Row → Handling
-handling_of r row = record { number = length r.rows; in_port = row.in_port; fate = fate_of r.table r.rows row; offers = offers_of r row }
+abbrev pub step_of : Run → Row → Step
+step_of r row = record { number = length r.rows; in_port = row.in_port; fate = fate_of r.table r.rows row; offers = offers_of r row }
 
 -- the first refusal that is none of memory
 abbrev pub refusal_of : Run → ℕ → ℕ → Option CoreFault
@@ -116,7 +116,7 @@ abbrev pub place_of : Run → ℕ → Option ℕ
 place_of r port = position (λ p. p.id == port) r.table.ports
 
 -- a sent frame: its end as stamp, its length as original, and the bytes that came
-abbrev pub out_of : Option (Option Entry) → Sent → Option Entry
+abbrev pub out_of : Option (Option Record) → Sent → Option Record
 out_of (Some (Some frame)) s = Some (record { stamp = s.end; original = length frame.bytes; bytes = frame.bytes })
 out_of (Some None) s = None
 out_of None s = None

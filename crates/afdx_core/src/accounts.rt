@@ -3,7 +3,7 @@
 ghost use Rattle.std.specs.Prelude.{◌<◌, ◌≤◌, [], length, slice_index_or, IfOk};
 ghost use Rattle.afdx_account.specs.declared.account.Account.{Account};
 ghost use Rattle.afdx_account.specs.Account.{account_since};
-ghost use Rattle.afdx_core.specs.Kept.{AccountsStand, Polices};
+ghost use Rattle.afdx_core.specs.Kept.{AccountsAgree, Polices};
 
 use crate::step::Row;
 use afdx_account::{Account, Meter};
@@ -17,7 +17,7 @@ pub fn accounts_of<A: Allocator + Copy>(
     alloc: A,
     table: &Table,
 ) -> Result<Vec<Account, A>, AllocError>
-    ensures { IfOk result (λ accounts. AccountsStand table.now.links [] 0 accounts.items) }
+    ensures { IfOk result (λ accounts. AccountsAgree table.now.links [] 0 accounts.items) }
 {
     let mut accounts = Vec::new(alloc);
     for place in 0..table.link_count() {

@@ -2,7 +2,7 @@
 
 ghost use Rattle.std.specs.Prelude.{◌≡◌, false, ◌<◌, ◌≤◌, Some, None, List, length, set, replicate, MatchOption, All};
 ghost use Rattle.afdx_port.specs.Course.{starts_before};
-ghost use Rattle.afdx_core.specs.Dues.{due_of, IsFirstBefore};
+ghost use Rattle.afdx_core.specs.Inner.Dues.{due_of, IsFirstBefore};
 
 use afdx_units::Stamp;
 use std::marker::Model;
@@ -25,7 +25,7 @@ pub(crate) struct Dues {
 
 impl Model for Dues {
     ghost use Rattle.std.specs.Prelude.{ℕ, List, Option};
-    ghost use Rattle.afdx_core.specs.Dues.{reported, IsTree};
+    ghost use Rattle.afdx_core.specs.Inner.Dues.{reported, IsTree};
 
     ghost Value = { List (Option ℕ) };
 

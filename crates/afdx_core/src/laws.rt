@@ -1,11 +1,11 @@
 //! Laws over the definitions.
 
+ghost use Rattle.afdx_core.specs.Inner.Accounts.{FilteredTouchNoAccount};
 ghost use Rattle.afdx_core.specs.Inner.Agreement.{FeedIsPassed, VerdictsNameLinks, CopiesHaveTheirLinksPriority};
 ghost use Rattle.afdx_core.specs.Inner.Backlog.{BuffersHoldTheBacklog};
 ghost use Rattle.afdx_core.specs.Isolation.{PassedCopiesArePassedFrames, AcceptedTablesIsolate, NoStepIsFull, OthersChangeNothing, RunsBegin, RunsTakeArrivals, RunsAdvance};
 ghost use Rattle.afdx_core.specs.Isolation.{RunsHandOut, RunsFinish};
-ghost use Rattle.afdx_core.specs.Kept.{FilteredTouchNoAccount};
-ghost use Rattle.afdx_core.specs.Merge.{MergedIsAMerge, MergedIsByStampAndPort};
+ghost use Rattle.afdx_core.specs.Inner.Merge.{MergedIsAMerge, MergedIsByStampAndPort};
 
 use afdx_account::laws::{
     next_frame_joins_where_it_conforms, next_joins_where_it_conforms, passed_by_their_frames,

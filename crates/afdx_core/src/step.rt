@@ -89,9 +89,9 @@ impl<A: Allocator> Step<A> {
 }
 
 impl<A: Allocator> Model for Step<A> {
-    ghost use Rattle.afdx_core.specs.Handling.{Handling};
+    ghost use Rattle.afdx_core.specs.Step.{Step as Seen};
 
-    ghost Value = { Handling };
+    ghost Value = { Seen };
 
     ghost view = { λ s. record {
       number = s.number;

@@ -162,14 +162,10 @@ pub(crate) fn answered(
     switch: &mut Switch<'static, Global>,
     calls: &[Call],
 ) -> usize {
-    let mut count = 0usize;
-    for call in calls {
-        if !answers(alloc, switch, *call) {
-            break;
-        }
-        count = count.saturating_add(1);
-    }
-    count
+    calls
+        .iter()
+        .take_while(|call| answers(alloc, switch, **call))
+        .count()
 }
 
 /// How many of these calls a switch over the table of a text, which is not checked, answers so.

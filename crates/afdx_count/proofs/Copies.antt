@@ -4,8 +4,8 @@ use Rattle.std.proofs.Common.{append_assoc, inl, inr}
 use Rattle.std.specs.Prelude.{count_by}
 use Rattle.std.specs.List.{AllByRecursion, IsDistinct}
 use Rattle.std.proofs.lemmas.Bool.{cases_Bool}
-use Rattle.std.proofs.lemmas.Bool.Decides.{nat_tests}
 use Rattle.std.proofs.lemmas.List.{append-nil}
+use Rattle.std.proofs.lemmas.Option.{none-some}
 use Rattle.afdx_units.specs.declared.line.Priority.{Priority}
 use Rattle.afdx_units.specs.declared.line.Priority.TheVariants.{High, Low}
 use Rattle.afdx_table.specs.declared.rows.PortRow.{PortRow}
@@ -23,33 +23,30 @@ use Rattle.afdx_port.specs.Service.{Event, sent_of, aged_of}
 use Rattle.afdx_core.specs.declared.step.Row.{Row}
 use Rattle.afdx_core.specs.declared.step.Fate.TheVariants.{Passed, Policed}
 use Rattle.afdx_core.specs.Rows.{each_after, fates_of, feed_of, fate_of, fate_by, named, passes, copy_of, copies_by, copies}
-use Rattle.afdx_core.specs.State.{Run, answer_of, offers_by, offers_of, handling_of, sent_in, aged_in, after_finish}
+use Rattle.afdx_core.specs.State.{Run, answer_of, offers_by, offers_of, step_of, sent_in, aged_in, after_finish}
 use Rattle.afdx_isolation.specs.Table.{settings_of}
 use Rattle.afdx_count.specs.declared.counters.InCount.{InCount}
 use Rattle.afdx_count.specs.declared.port_tallies.PortTally.{PortTally}
 use Rattle.afdx_count.specs.declared.link_tallies.LinkTally.{LinkTally}
 use Rattle.afdx_count.specs.Counting.{capped, with_fate, is_of, answers_of, with_answers, with_ended}
 use Rattle.afdx_count.specs.Tally.{new_port, new_link, with_arrival, with_class, with_copies, class_of, noted_link, noted_port, ended_port, ended}
-use Rattle.afdx_count.specs.Run.{of_priority, turned_away, arrivals_at, input_counts, output_counts, port_counts, link_tally, counts_so_far, events_of, run_after, handlings_of, noted_all}
+use Rattle.afdx_count.specs.Run.{of_priority, turned_away, arrivals_at, input_counts, output_counts, port_counts, link_tally, counts_so_far, events_of, run_after, steps_of, noted_all}
 use Rattle.afdx_count.specs.Inner.Laws.{StartsWithNone, NoteCountsOneMore, EndCountsTheRun, NotesCountTheRun}
-use Rattle.afdx_count.proofs.Placed.{equal, itself}
+use Rattle.afdx_count.proofs.Placed.{equal, itself, turned, lower_differs}
 use Rattle.afdx_count.proofs.Notes.{map_same, map_twice}
 use Rattle.afdx_count.proofs.Runs.{each-push, input-push, link-push, answer_after, one_offered, other_offered}
-
-some_none : {X : Type 0} (x : X) → None ≡ Some x → ⊥
-some_none x h = cc
 
 -- ---- the rows of a table
 
 pub find_true : {X : Type 0} (p : X → Bool) (xs : List X) (y : X) → find p xs ≡ Some y → p y ≡ true
-find_true p [] y is = absurd (some_none y is)
+find_true p [] y is = absurd (none-some y is)
 find_true p (x ∷ xs) y is = by_head (p x) refl is (find_true p xs y) where
   by_head : (b : Bool) → p x ≡ b → cond b (Some x) (find p xs) ≡ Some y → (find p xs ≡ Some y → p y ≡ true) → p y ≡ true
   by_head true here e ih = let same : x ≡ y = (cc) in ap p (sym same) ∙ here
   by_head false here e ih = ih e
 
 found_all : {X : Type 0} (P : X → Type 0) (p : X → Bool) (xs : List X) (y : X) → AllByRecursion P xs → find p xs ≡ Some y → P y
-found_all P p [] y all is = absurd (some_none y is)
+found_all P p [] y all is = absurd (none-some y is)
 found_all P p (x ∷ xs) y all is = by_head (p x) is (found_all P p xs y all.1) where
   by_head : (b : Bool) → cond b (Some x) (find p xs) ≡ Some y → (find p xs ≡ Some y → P y) → P y
   by_head true e ih = let same : x ≡ y = (cc) in rw (sym same) all.0
@@ -57,19 +54,16 @@ found_all P p (x ∷ xs) y all is = by_head (p x) is (found_all P p xs y all.1) 
 
 pub named_row : (t : Content) (v : Verdict) (l : Link) → named t v ≡ Some l → link_row t l.id ≡ Some l
 named_row t (Clean i) l is = ap (link_row t) (equal l.id i (find_true (λ (m : Link). m.id == i) t.links l is)) ∙ is
-named_row t Cut l is = absurd (some_none l is)
-named_row t Short l is = absurd (some_none l is)
-named_row t Long l is = absurd (some_none l is)
-named_row t Foreign l is = absurd (some_none l is)
-named_row t NoLink l is = absurd (some_none l is)
-named_row t WrongPort l is = absurd (some_none l is)
-named_row t TooBig l is = absurd (some_none l is)
+named_row t Cut l is = absurd (none-some l is)
+named_row t Short l is = absurd (none-some l is)
+named_row t Long l is = absurd (none-some l is)
+named_row t Foreign l is = absurd (none-some l is)
+named_row t NoLink l is = absurd (none-some l is)
+named_row t WrongPort l is = absurd (none-some l is)
+named_row t TooBig l is = absurd (none-some l is)
 
 targets_once : (t : Content) (l : Link) → IsWellFormed t → link_row t l.id ≡ Some l → IsDistinct nat_eq l.to
 targets_once t l formed is = let link = found_all (IsLink t.ports) (λ (m : Link). m.id == l.id) t.links l formed.links is in link.targets.once
-
-less : (a b : ℕ) → a < b → nat_eq a b ≡ false
-less a b lt = grind (arith, nat_tests)
 
 -- each port is found by its number
 pub ports_found : (ps : List PortRow) → Rises ps → AllByRecursion (λ (p : PortRow). find (λ (q : PortRow). q.id == p.id) ps ≡ Some p) ps
@@ -80,7 +74,7 @@ ports_found (p ∷ ps) rises =
           → AllByRecursion (λ (q : PortRow). find (λ (o : PortRow). o.id == q.id) (p ∷ ps) ≡ Some q) qs
       later [] above found = tt
       later (q ∷ qs) above found =
-          (ap (λ b. cond b (Some p) (find (λ (o : PortRow). o.id == q.id) ps)) (less p.id q.id above.0) ∙ found.0, later qs above.1 found.1)
+          (ap (λ b. cond b (Some p) (find (λ (o : PortRow). o.id == q.id) ps)) (lower_differs p.id q.id above.0) ∙ found.0, later qs above.1 found.1)
 
 map_all : {X Y : Type 0} (P : X → Type 0) (f g : X → Y) (xs : List X) → AllByRecursion P xs → ((x : X) → P x → f x ≡ g x) → map f xs ≡ map g xs
 map_all P f g [] all h = refl
@@ -93,9 +87,7 @@ none_of A port [] all = refl
 none_of A port (q ∷ to) all =
     ap (λ b. map (λ (o : ℕ × Offer). o.1) (cond b ((q, A q) ∷ filter (λ (o : ℕ × Offer). o.0 == port) (map (λ q. (q, A q)) to)) (filter (λ (o : ℕ × Offer). o.0 == port) (map (λ q. (q, A q)) to))))
     (turned port q all.0)
-    ∙ none_of A port to all.1 where
-      turned : (a b : ℕ) → nat_eq a b ≡ false → nat_eq b a ≡ false
-      turned a b e = grind (arith, nat_tests)
+    ∙ none_of A port to all.1
 
 pub answers_once : (A : ℕ → Offer) (port : ℕ) (to : List ℕ) → IsDistinct nat_eq to → answers_of port (map (λ q. (q, A q)) to) ≡ cond (names_port port to) (A port ∷ []) []
 unfolding IsDistinct
@@ -189,7 +181,7 @@ module _ (r : Run) (row : Row) (p : PortRow) where
   feed-push = each-push (copies r.table p.id) [] r.rows row
 
   pub port-push : IsWellFormed r.table → port_row r.table p.id ≡ Some p
-      → noted_port (class_of (fate_of r.table r.rows row) (map (link_tally r.table r.rows) r.table.links)) (handling_of r row) (port_counts r.table r.rows (λ q. []) p)
+      → noted_port (class_of (fate_of r.table r.rows row) (map (link_tally r.table r.rows) r.table.links)) (step_of r row) (port_counts r.table r.rows (λ q. []) p)
       ≡ port_counts r.table (r.rows ++ row ∷ []) (λ q. []) p
   port-push formed found =
       ap (with_class (class_of (fate_of r.table r.rows row) (map (link_tally r.table r.rows) r.table.links)) (offers_of r row)) arrived
@@ -200,7 +192,7 @@ module _ (r : Run) (row : Row) (p : PortRow) where
 
 pub note_counts_one_more : NoteCountsOneMore
 note_counts_one_more r row formed =
-    let ports = map_twice (port_counts r.table r.rows (λ q. [])) (noted_port (class_of (fate_of r.table r.rows row) (map (link_tally r.table r.rows) r.table.links)) (handling_of r row)) r.table.ports
+    let ports = map_twice (port_counts r.table r.rows (λ q. [])) (noted_port (class_of (fate_of r.table r.rows row) (map (link_tally r.table r.rows) r.table.links)) (step_of r row)) r.table.ports
     ∙ map_all _ _ (port_counts r.table (r.rows ++ row ∷ []) (λ q. [])) r.table.ports (ports_found r.table.ports formed.ports_rise) (λ p found. port-push r row p formed found) in
     let links = map_twice (link_tally r.table r.rows) (noted_link (fate_of r.table r.rows row)) r.table.links
     ∙ map_same _ (link_tally r.table (r.rows ++ row ∷ [])) r.table.links (link-push r.table r.rows row) in
@@ -244,15 +236,15 @@ starts_with_none t =
     (λ j. record { ports = ports j; links = links j })
 
 notes_from : (t : Content) (before rows : List Row) → IsWellFormed t
-    → noted_all (each_after (λ b row. handling_of (run_after t b) row ∷ []) before rows) (counts_so_far t before) ≡ counts_so_far t (before ++ rows)
+    → noted_all (each_after (λ b row. step_of (run_after t b) row ∷ []) before rows) (counts_so_far t before) ≡ counts_so_far t (before ++ rows)
 notes_from t before [] formed = ap (counts_so_far t) (sym (append-nil before))
 notes_from t before (row ∷ rows) formed =
-    ap (noted_all (each_after (λ b row. handling_of (run_after t b) row ∷ []) (before ++ row ∷ []) rows)) (note_counts_one_more (run_after t before) row formed)
+    ap (noted_all (each_after (λ b row. step_of (run_after t b) row ∷ []) (before ++ row ∷ []) rows)) (note_counts_one_more (run_after t before) row formed)
     ∙ notes_from t (before ++ row ∷ []) rows formed
     ∙ ap (counts_so_far t) (append_assoc before (row ∷ []) rows)
 
 pub notes_count_the_run : NotesCountTheRun
 notes_count_the_run t rows formed =
-    ap (λ tally. ended (after_finish (run_after t rows)) (noted_all (handlings_of t rows) tally)) (starts_with_none t)
+    ap (λ tally. ended (after_finish (run_after t rows)) (noted_all (steps_of t rows) tally)) (starts_with_none t)
     ∙ ap (ended (after_finish (run_after t rows))) (notes_from t [] rows formed)
     ∙ end_counts_the_run (run_after t rows) formed

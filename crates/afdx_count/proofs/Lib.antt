@@ -6,3 +6,4 @@ pub mod Copies
 pub mod Sums
 pub mod Texts
 pub mod Examples
+pub mod Zeros

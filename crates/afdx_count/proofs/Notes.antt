@@ -1,5 +1,5 @@
 -- What notes add.
-use Rattle.std.proofs.Common.{◌≡◌, ℕ, ◌+◌, ◌≤◌, ◌<◌, zero, suc, get_or, drop, nat_eq, Bool, false, cond, List, [], ◌∷◌, length, map, Option, None, refl, sym, ap, ◌∙◌, arith, inl, inr}
+use Rattle.std.proofs.Common.{◌≡◌, ℕ, ◌+◌, ◌≤◌, ◌<◌, zero, suc, get_or, drop, nat_eq, Bool, false, cond, List, [], ◌∷◌, length, map, Option, None, refl, sym, ap, ◌∙◌, arith, inl, inr, zero-add}
 use Rattle.std.specs.Prelude.{count_by}
 use Rattle.std.proofs.lemmas.Bool.{cases_Bool}
 use Rattle.std.proofs.lemmas.List.{drop_more}
@@ -8,13 +8,14 @@ use Rattle.afdx_units.specs.declared.line.Priority.{Priority}
 use Rattle.afdx_units.specs.declared.line.Priority.TheVariants.{High, Low}
 use Rattle.afdx_filter.specs.declared.outcome.Verdict.{Verdict}
 use Rattle.afdx_port.specs.declared.Offer.{Offer}
+use Rattle.afdx_port.specs.Content.{is_full}
 use Rattle.afdx_core.specs.declared.step.Fate.TheVariants.{Filtered}
-use Rattle.afdx_core.specs.Handling.{Handling}
+use Rattle.afdx_core.specs.Step.{Step}
 use Rattle.afdx_core.specs.State.{Run}
 use Rattle.afdx_count.specs.declared.counters.OutCount.{OutCount}
 use Rattle.afdx_count.specs.declared.port_tallies.PortTally.{PortTally}
 use Rattle.afdx_count.specs.declared.link_tallies.LinkTally.{LinkTally}
-use Rattle.afdx_count.specs.Counting.{capped, is_full, answers_of, with_answers}
+use Rattle.afdx_count.specs.Counting.{capped, answers_of, with_answers}
 use Rattle.afdx_count.specs.Tally.{Tally, with_arrival, with_copies, with_class, class_of, noted_link, noted_port, noted, ended_port}
 use Rattle.afdx_count.specs.Inner.Places.{changed_at}
 use Rattle.afdx_count.proofs.Placed.{turned}
@@ -51,15 +52,12 @@ offered_more x n = omega arith
 full_more : (x one more both single : ℕ) → both ≡ one + more → single ≡ one → capped (x + both) ≡ capped (capped (x + single) + more)
 full_more x one more both single both-is single-is = omega (arith, both-is, single-is)
 
-single : (n : ℕ) → 0 + n ≡ n
-single n = omega arith
-
 pub one_answer_more : (a : Offer) (more : List Offer) (c : OutCount) → with_answers (a ∷ more) c ≡ with_answers more (with_answers (a ∷ []) c)
 one_answer_more a [] c = refl
 one_answer_more a (b ∷ bs) c =
     let offered-is = offered_more c.offered (length (b ∷ bs)) in
     let full-is = full_more c.full (cond (is_full a) 1 0) (count_by is_full (b ∷ bs)) (count_by is_full (a ∷ b ∷ bs)) (count_by is_full (a ∷ [])) (count_one is_full a (b ∷ bs))
-    (single (cond (is_full a) 1 0)) in
+    (zero-add (cond (is_full a) 1 0)) in
     (λ j. record c { offered = offered-is j; full = full-is j })
 
 answers_more : (port : ℕ) (o : ℕ × Offer) (os : List (ℕ × Offer)) (c : OutCount) → with_answers (answers_of port (o ∷ os)) c
@@ -127,7 +125,7 @@ pub no_class : (class : Option Priority) (offers : List (ℕ × Offer)) (ps : Li
 no_class class offers ps is = map_stays (with_class None offers) ps (λ p. refl) ∙ ap (λ o. map (with_class o offers) ps) (sym is)
 
 -- the parts of a note
-pub noted_parts : (h : Handling) (t : Tally) (class : Option Priority) (came copied : List PortTally) (links : List LinkTally) → class ≡ class_of h.fate t.links
+pub noted_parts : (h : Step) (t : Tally) (class : Option Priority) (came copied : List PortTally) (links : List LinkTally) → class ≡ class_of h.fate t.links
     → came ≡ map (with_arrival h.in_port h.fate) t.ports → copied ≡ map (with_class class h.offers) came → links ≡ map (noted_link h.fate) t.links
     → record { ports = copied; links = links } ≡ noted h t
 noted_parts h t class came copied links class-is came-is copied-is links-is =

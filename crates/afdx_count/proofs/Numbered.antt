@@ -1,23 +1,19 @@
 -- The numbers of a table's ports and links are different.
-use Rattle.std.proofs.Common.{◌≡◌, ℕ, ◌+◌, ◌<◌, ◌||◌, nat_eq, Bool, false, List, [], ◌∷◌, ◌++◌, get_or, length, map, take, slice_get, Some, refl, subst, sym, ap, ◌∙◌, arith}
+use Rattle.std.proofs.Common.{◌≡◌, ℕ, ◌+◌, ◌<◌, ◌||◌, nat_eq, Bool, false, List, [], ◌∷◌, ◌++◌, get_or, length, map, take, slice_get, Some, refl, subst, sym, ap, ◌∙◌}
 use Rattle.std.specs.List.{AllByRecursion, IsDistinct, list_any}
 use Rattle.std.proofs.lemmas.Option.{slice_get_within, slice_get-get_or, get_or_from_slice_get}
 use Rattle.std.proofs.lemmas.List.{take_more, map-append}
-use Rattle.std.proofs.lemmas.Bool.Decides.{nat_tests}
 use Rattle.afdx_table.specs.declared.rows.PortRow.{PortRow}
 use Rattle.afdx_table.specs.Link.{Link}
 use Rattle.afdx_table.specs.WellFormed.{Rises}
 use Rattle.afdx_count.specs.declared.port_tallies.PortTally.{PortTally}
 use Rattle.afdx_count.specs.declared.link_tallies.LinkTally.{LinkTally}
 use Rattle.afdx_count.specs.Tally.{new_port, new_link}
-use Rattle.afdx_count.proofs.Placed.{new_number}
-
-below : (a b : ℕ) → a < b → nat_eq a b ≡ false
-below a b lt = grind (arith, nat_tests)
+use Rattle.afdx_count.proofs.Placed.{new_number, lower_differs}
 
 above_all : (p : PortRow) (ps : List PortRow) → AllByRecursion (λ (q : PortRow). p.id < q.id) ps → AllByRecursion (λ (k : ℕ). nat_eq p.id k ≡ false) (map (λ (q : PortRow). q.id) ps)
 above_all p [] all = tt
-above_all p (q ∷ ps) all = (below p.id q.id all.0, above_all p ps all.1)
+above_all p (q ∷ ps) all = (lower_differs p.id q.id all.0, above_all p ps all.1)
 
 pub ports_distinct : (ps : List PortRow) → Rises ps → IsDistinct nat_eq (map (λ (p : PortRow). p.id) ps)
 unfolding IsDistinct

@@ -1,14 +1,13 @@
 -- Elements under their numbers, where the numbers are different.
-use Rattle.std.proofs.Common.{◌≡◌, ℕ, zero, suc, ◌<◌, nat_eq, true, false, cond, List, [], ◌∷◌, ◌++◌, set, get_or, length, map, take, find, slice_get, position, Option, Some, None, refl, subst}
+use Rattle.std.proofs.Common.{◌≡◌, ℕ, zero, suc, ◌<◌, nat_eq, true, false, cond, List, [], ◌∷◌, ◌++◌, set, get_or, length, map, take, find, slice_get, Option, Some, None, refl, subst}
 use Rattle.std.proofs.Common.{sym, ap, ◌∙◌, arith, inl, inr, ◌||◌}
 use Rattle.std.specs.Prelude.{IfSome, IfNone}
 use Rattle.std.specs.List.{AllByRecursion, IsDistinct, list_any}
-use Rattle.std.proofs.lemmas.Option.{slice_get_within, slice_get-get_or}
+use Rattle.std.proofs.lemmas.Option.{slice_get_within, none-some}
 use Rattle.std.proofs.lemmas.List.{length-map, map-append}
 use Rattle.std.proofs.lemmas.List.Sorted.{IsPermutation-append_comm}
 use Rattle.std.proofs.lemmas.Map.Keys.{IsDistinct-IsPermutation}
-use Rattle.std.proofs.lemmas.List.Quantifiers.{position-Some}
-use Rattle.std.proofs.lemmas.Bool.{cases_Bool}
+use Rattle.std.proofs.lemmas.Bool.{cases_Bool, true≢false}
 use Rattle.std.proofs.lemmas.Bool.Decides.{nat_tests}
 use Rattle.afdx_count.specs.Inner.Places.{IsPlaceOf, changed_at}
 
@@ -21,11 +20,11 @@ itself a = grind (arith, nat_tests)
 pub turned : (a b : ℕ) → nat_eq a b ≡ false → nat_eq b a ≡ false
 turned a b e = grind (arith, nat_tests)
 
-some_none : {X : Type 0} (x : X) → None ≡ Some x → ⊥
-some_none x h = cc
-
 same : {X : Type 0} (x y : X) → Some x ≡ Some y → x ≡ y
 same x y h = cc
+
+pub lower_differs : (a b : ℕ) → a < b → nat_eq a b ≡ false
+lower_differs a b lt = grind (arith, nat_tests)
 
 -- the same search, asked the other way round
 turned_any : (n : ℕ) (ks : List ℕ) → list_any (λ k. nat_eq k n) ks ≡ list_any (nat_eq n) ks
@@ -39,7 +38,7 @@ unlisted n ks None h = sym (turned_any n ks) ∙ h
 unlisted n ks (Some place) h = tt
 
 all_at : {X : Type 0} (P : X → Type 0) (xs : List X) (i : ℕ) (x : X) → AllByRecursion P xs → slice_get xs i ≡ Some x → P x
-all_at P [] i x all at = absurd (some_none x at)
+all_at P [] i x all at = absurd (none-some x at)
 all_at P (y ∷ ys) zero x all at = rw (sym (same y x at)) all.0
 all_at P (y ∷ ys) (suc i) x all at = all_at P ys i x all.1 at
 
@@ -55,7 +54,7 @@ module _ {X : Type 0} (number : X → ℕ) where
   -- the element at the place of a number is the one that a search by the number finds
   pub found : (n : ℕ) (xs : List X) (i : ℕ) (x : X) → IsDistinct nat_eq (map number xs) → IsPlaceOf number n xs i → x ≡ get_or xs i x → Some x ≡ find (λ y. nat_eq (number y) n) xs
   unfolding IsDistinct
-  found n [] i x d at is = absurd (some_none n at)
+  found n [] i x d at is = absurd (none-some n at)
   found n (y ∷ ys) zero x d at is =
       let e : nat_eq (number y) n ≡ true = ap (nat_eq (number y)) (sym (same (number y) n at)) ∙ itself (number y) in
       ap Some is ∙ ap (λ b. cond b (Some y) (find (λ y. nat_eq (number y) n) ys)) (sym e)
@@ -67,12 +66,10 @@ module _ {X : Type 0} (number : X → ℕ) where
   not_found n [] h = refl
   not_found n (x ∷ xs) h =
       elim (cases_Bool (nat_eq n (number x))) [
-        | inl hit ↦ absurd (true_false (ap (λ b. b || list_any (λ x. nat_eq n (number x)) xs) (sym hit) ∙ h))
+        | inl hit ↦ absurd (true≢false (ap (λ b. b || list_any (λ x. nat_eq n (number x)) xs) (sym hit) ∙ h))
         | inr miss ↦ not_found n xs (ap (λ b. b || list_any (λ x. nat_eq n (number x)) xs) (sym miss) ∙ h)
             ∙ ap (λ b. cond b (Some x) (find (λ y. nat_eq (number y) n) xs)) (sym (turned n (number x) miss))
-      ] where
-        true_false : true ≡ false → ⊥
-        true_false e = cc
+      ]
 
   -- elements of other numbers stay
   stay : (n : ℕ) (f : X → X) (xs : List X) → AllByRecursion (λ k. nat_eq n k ≡ false) (map number xs) → xs ≡ changed_at number n f xs
@@ -81,7 +78,7 @@ module _ {X : Type 0} (number : X → ℕ) where
 
   pub changed : (n : ℕ) (f : X → X) (xs : List X) (i : ℕ) (x : X) → IsDistinct nat_eq (map number xs) → IsPlaceOf number n xs i → x ≡ get_or xs i x → set xs i (f x) ≡ changed_at number n f xs
   unfolding IsDistinct
-  changed n f [] i x d at is = absurd (some_none n at)
+  changed n f [] i x d at is = absurd (none-some n at)
   changed n f (y ∷ ys) zero x d at is =
       let e : number y ≡ n = same (number y) n at in
       let hit : nat_eq (number y) n ≡ true = ap (nat_eq (number y)) (sym e) ∙ itself (number y) in
@@ -96,11 +93,9 @@ module _ {X : Type 0} (number : X → ℕ) where
   any_false n [] h = tt
   any_false n (x ∷ xs) h =
       elim (cases_Bool (nat_eq n (number x))) [
-        | inl hit ↦ absurd (true_false (ap (λ b. b || list_any (λ x. nat_eq n (number x)) xs) (sym hit) ∙ h))
+        | inl hit ↦ absurd (true≢false (ap (λ b. b || list_any (λ x. nat_eq n (number x)) xs) (sym hit) ∙ h))
         | inr miss ↦ (miss, any_false n xs (ap (λ b. b || list_any (λ x. nat_eq n (number x)) xs) (sym miss) ∙ h))
-      ] where
-        true_false : true ≡ false → ⊥
-        true_false e = cc
+      ]
 
   -- where none has the number, all stay
   pub unchanged : (n : ℕ) (f : X → X) (xs : List X) → list_any (λ x. nat_eq n (number x)) xs ≡ false → xs ≡ changed_at number n f xs
@@ -114,13 +109,13 @@ module _ {X : Type 0} (number : X → ℕ) where
   -- an element has another number than those before it
   pub new_number : (xs : List X) (i : ℕ) (x : X) → IsDistinct nat_eq (map number xs) → slice_get xs i ≡ Some x → list_any (λ y. nat_eq (number x) (number y)) (take i xs) ≡ false
   unfolding IsDistinct
-  new_number [] i x d at = absurd (some_none x at)
+  new_number [] i x d at = absurd (none-some x at)
   new_number (y ∷ ys) zero x d at = refl
   new_number (y ∷ ys) (suc i) x d at =
       let miss : nat_eq (number y) (number x) ≡ false = all_at (λ k. nat_eq (number y) k ≡ false) (map number ys) i (number x) d.0 (mapped ys i at) in
       rw (turned (number y) (number x) miss) (new_number ys i x d.1 at) where
         mapped : (zs : List X) (k : ℕ) → slice_get zs k ≡ Some x → slice_get (map number zs) k ≡ Some (number x)
-        mapped [] k e = absurd (some_none x e)
+        mapped [] k e = absurd (none-some x e)
         mapped (z ∷ zs) zero e = ap (λ (o : Option X). map_option o) e where
           map_option : Option X → Option ℕ
           map_option None = None
@@ -183,6 +178,6 @@ module _ {X : Type 0} (number : X → ℕ) where
   pub number_at : (n : ℕ) (xs seen : List X) (i : ℕ) (x : X) → xs ≡ seen → IsPlaceOf number n seen i → x ≡ get_or xs i x → number x ≡ n
   number_at n xs seen i x view at is = ap number (is ∙ ap (λ (ys : List X). get_or ys i x) view) ∙ by_place seen i at where
     by_place : (ys : List X) (k : ℕ) → slice_get (map number ys) k ≡ Some n → number (get_or ys k x) ≡ n
-    by_place [] k e = absurd (some_none n e)
+    by_place [] k e = absurd (none-some n e)
     by_place (y ∷ ys) zero e = same (number y) n e
     by_place (y ∷ ys) (suc k) e = by_place ys k e

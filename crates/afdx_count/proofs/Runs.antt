@@ -16,6 +16,7 @@ use Rattle.afdx_port.specs.declared.Offer.{Offer}
 use Rattle.afdx_port.specs.declared.Offer.TheVariants.{Queued, Full}
 use Rattle.afdx_port.specs.Service.{Event, aged_of, sent_of}
 use Rattle.afdx_port.specs.Admission.{fits, admitted}
+use Rattle.afdx_port.specs.Content.{is_full}
 use Rattle.afdx_core.specs.declared.step.Row.{Row}
 use Rattle.afdx_core.specs.declared.step.Fate.{Fate}
 use Rattle.afdx_core.specs.declared.step.Fate.TheVariants.{Filtered, Policed, Passed}
@@ -23,7 +24,7 @@ use Rattle.afdx_core.specs.Rows.{each_after, fates_of, fate_of, fate_by, named, 
 use Rattle.afdx_count.specs.declared.counters.InCount.{InCount}
 use Rattle.afdx_count.specs.declared.counters.LinkCount.{LinkCount}
 use Rattle.afdx_count.specs.declared.link_tallies.LinkTally.{LinkTally}
-use Rattle.afdx_count.specs.Counting.{capped, up, with_verdict, with_fate, verdict_in, is_full, is_of, with_answers}
+use Rattle.afdx_count.specs.Counting.{capped, up, with_verdict, with_fate, verdict_in, is_of, with_answers}
 use Rattle.afdx_count.specs.Tally.{noted_link}
 use Rattle.afdx_count.specs.Run.{counted, is_cut, is_short, is_long, is_foreign, has_no_link, is_at_wrong_port, is_too_big, is_clean, arrivals_at, input_counts, is_passed, is_policed, link_counts}
 use Rattle.afdx_count.specs.Run.{turned_away, of_priority, output_counts, link_tally}

@@ -1,8 +1,9 @@
 -- What the counts add up to.
-use Rattle.std.proofs.Common.{◌≡◌, ℕ, ◌+◌, ◌<◌, ◌≤◌, ◌==◌, nat_eq, Bool, true, false, cond, List, [], ◌∷◌, ◌++◌, length, Option, Some, None, refl, sym, ap, ◌∙◌, arith, inl, inr}
+use Rattle.std.proofs.Common.{◌≡◌, ℕ, ◌+◌, ◌<◌, ◌≤◌, ◌==◌, nat_eq, Bool, true, false, cond, List, [], ◌∷◌, ◌++◌, length, Option, Some, None, refl, sym, ap, ◌∙◌, arith, inl, inr, add-zero, zero-add}
 use Rattle.std.specs.Prelude.{count_by}
 use Rattle.std.proofs.lemmas.Bool.{cases_Bool}
-use Rattle.std.proofs.lemmas.List.Sums.{sum_by-cons, sum_by_push}
+use Rattle.std.proofs.lemmas.List.Sums.{sum_by_push}
+use Rattle.std.proofs.lemmas.Option.{none-some}
 use Rattle.afdx_table.specs.Link.{Link}
 use Rattle.afdx_table.specs.Content.{Content, link_row}
 use Rattle.afdx_filter.specs.declared.outcome.Verdict.{Verdict}
@@ -21,6 +22,7 @@ use Rattle.afdx_count.specs.Run.{is_cut, is_short, is_long, is_foreign, has_no_l
 use Rattle.afdx_count.specs.Inner.Laws.{SeenIsTheSum, PassedAndPolicedAreClean, OfferedIsTheSum}
 use Rattle.afdx_count.proofs.Placed.{equal}
 use Rattle.afdx_count.proofs.Copies.{find_true}
+use Rattle.afdx_count.proofs.Notes.{count_one}
 
 -- a part of a number that a counter holds
 below : (n m : ℕ) → capped n < greatest_count → m ≤ n → capped m ≡ m
@@ -29,16 +31,13 @@ below n m lt le = omega (arith, lt, le)
 below_itself : (n : ℕ) → capped n < greatest_count → capped n ≡ n
 below_itself n lt = omega (arith, lt)
 
-one_more : {X : Type 0} (test : X → Bool) (x : X) (xs : List X) → count_by test (x ∷ xs) ≡ cond (test x) 1 0 + count_by test xs
-one_more test x xs = sum_by-cons (λ y. cond (test y) 1 0) x xs
-
 -- ---- verdicts
 
 abbrev number_of : (Verdict → Bool) → List Row → ℕ
 number_of test rows = count_by (λ (row : Row). test row.verdict) rows
 
 number-cons : (test : Verdict → Bool) (row : Row) (rows : List Row) → number_of test (row ∷ rows) ≡ cond (test row.verdict) 1 0 + number_of test rows
-number-cons test row rows = one_more (λ (r : Row). test r.verdict) row rows
+number-cons test row rows = count_one (λ (r : Row). test r.verdict) row rows
 
 one_verdict : (v : Verdict) → cond (is_cut v) 1 0 + cond (is_short v) 1 0 + cond (is_long v) 1 0 + cond (is_foreign v) 1 0 + cond (has_no_link v) 1 0 + cond (is_at_wrong_port v) 1 0
     + cond (is_too_big v) 1 0 + cond (is_clean v) 1 0 ≡ 1
@@ -83,9 +82,6 @@ seen_is_the_sum rows lt =
 
 -- ---- frames of a link
 
-none_some : {X : Type 0} (x : X) → None ≡ Some x → ⊥
-none_some x h = cc
-
 one_fate : (t : Content) (l : Link) (before : List Row) (row : Row) → link_row t l.id ≡ Some l
     → cond (is_passed l.id (fate_of t before row)) 1 0 + cond (is_policed l.id (fate_of t before row)) 1 0 ≡ cond (says_clean l.id row.verdict) 1 0
 one_fate t l before row found = by_verdict row.verdict refl where
@@ -93,17 +89,13 @@ one_fate t l before row found = by_verdict row.verdict refl where
   ones f = cond (is_passed l.id f) 1 0 + cond (is_policed l.id f) 1 0
 
   by_pass : (b : Bool) (i j : ℕ) → i ≡ j → cond (is_passed l.id (cond b (Passed i) (Policed i))) 1 0 + cond (is_policed l.id (cond b (Passed i) (Policed i))) 1 0 ≡ cond (nat_eq l.id j) 1 0
-  by_pass true i j e = ap (λ k. cond (nat_eq l.id k) 1 0 + 0) e ∙ plus_none (cond (nat_eq l.id j) 1 0) where
-    plus_none : (n : ℕ) → n + 0 ≡ n
-    plus_none n = omega arith
-  by_pass false i j e = ap (λ k. 0 + cond (nat_eq l.id k) 1 0) e ∙ none_plus (cond (nat_eq l.id j) 1 0) where
-    none_plus : (n : ℕ) → 0 + n ≡ n
-    none_plus n = omega arith
+  by_pass true i j e = ap (λ k. cond (nat_eq l.id k) 1 0 + 0) e ∙ add-zero (cond (nat_eq l.id j) 1 0)
+  by_pass false i j e = ap (λ k. 0 + cond (nat_eq l.id k) 1 0) e ∙ zero-add (cond (nat_eq l.id j) 1 0)
 
   absent : (j : ℕ) → link_row t j ≡ None → nat_eq l.id j ≡ false
   absent j none =
       elim (cases_Bool (nat_eq l.id j)) [
-        | inl hit ↦ absurd (none_some l (sym none ∙ ap (link_row t) (sym (equal l.id j hit)) ∙ found))
+        | inl hit ↦ absurd (none-some l (sym none ∙ ap (link_row t) (sym (equal l.id j hit)) ∙ found))
         | inr miss ↦ miss
       ]
 
@@ -136,8 +128,8 @@ all_fates t l before (row ∷ rows) found =
     let more = each_after (λ b r. fate_of t b r ∷ []) (before ++ row ∷ []) rows in
     omega (
       arith,
-      one_more (is_passed l.id) (fate_of t before row) more,
-      one_more (is_policed l.id) (fate_of t before row) more,
+      count_one (is_passed l.id) (fate_of t before row) more,
+      count_one (is_policed l.id) (fate_of t before row) more,
       one_fate t l before row found,
       own-cons l.id row rows,
       all_fates t l (before ++ row ∷ []) rows found,
@@ -176,11 +168,11 @@ one_or_other s kind before (x ∷ feed) =
       by true ih is =
           let same = ap (λ xs. count_by kind (admit_all s xs feed)) is in
           let same_count = ap (count_by kind) is in
-          omega (arith, ih, same, same_count, one_more kind x feed, count-push kind (admitted s before) x)
+          omega (arith, ih, same, same_count, count_one kind x feed, count-push kind (admitted s before) x)
       by false ih is =
           let same = ap (λ xs. count_by kind (admit_all s xs feed)) is in
           let same_count = ap (count_by kind) is in
-          omega (arith, ih, same, same_count, one_more kind x feed, one_more kind x (each_after (λ b x. cond (fits s (admitted s b) x) [] (x ∷ [])) (before ++ x ∷ []) feed))
+          omega (arith, ih, same, same_count, count_one kind x feed, count_one kind x (each_after (λ b x. cond (fits s (admitted s b) x) [] (x ∷ [])) (before ++ x ∷ []) feed))
 
 refused_or_admitted : (s : Settings) (kind : Item → Bool) (feed : List Item) → count_by kind feed ≡ count_by kind (turned_away s feed) + count_by kind (admitted s feed)
 unfolding turned_away
@@ -190,9 +182,9 @@ refused_or_admitted s kind feed = let all = one_or_other s kind [] feed in omega
 sent_or_aged : (kind : Item → Bool) (events : List Event) → count_by (λ e. kind (item_of e)) events ≡ count_by (λ a. kind a.item) (aged_of events) + count_by (λ s. kind s.item) (sent_of events)
 sent_or_aged kind [] = refl
 sent_or_aged kind (sending s ∷ events) =
-    omega (arith, sent_or_aged kind events, one_more (λ e. kind (item_of e)) (sending s) events, one_more (λ x. kind x.item) s (sent_of events))
+    omega (arith, sent_or_aged kind events, count_one (λ e. kind (item_of e)) (sending s) events, count_one (λ x. kind x.item) s (sent_of events))
 sent_or_aged kind (aging a ∷ events) =
-    omega (arith, sent_or_aged kind events, one_more (λ e. kind (item_of e)) (aging a) events, one_more (λ x. kind x.item) a (aged_of events))
+    omega (arith, sent_or_aged kind events, count_one (λ e. kind (item_of e)) (aging a) events, count_one (λ x. kind x.item) a (aged_of events))
 
 three_below : (n a b c : ℕ) → n ≡ a + b + c → capped n < greatest_count → capped n ≡ capped a + capped b + capped c
 three_below n a b c is lt =

@@ -5,9 +5,9 @@ use Rattle.afdx_units.specs.declared.line.Priority.TheVariants.{High, Low}
 use Rattle.afdx_filter.specs.declared.outcome.Verdict.{Verdict}
 use Rattle.afdx_filter.specs.declared.outcome.Verdict.TheVariants.{Cut, Short, Long, Foreign, NoLink, WrongPort, TooBig, Clean}
 use Rattle.afdx_port.specs.declared.Offer.{Offer}
-use Rattle.afdx_port.specs.declared.Offer.TheVariants.{Queued, Full}
 use Rattle.afdx_port.specs.declared.Sent.{Sent}
 use Rattle.afdx_port.specs.declared.Aged.{Aged}
+use Rattle.afdx_port.specs.Content.{is_full}
 use Rattle.afdx_core.specs.declared.step.Fate.{Fate}
 use Rattle.afdx_core.specs.declared.step.Fate.TheVariants.{Filtered, Policed, Passed}
 use Rattle.afdx_count.specs.declared.counters.InCount.{InCount}
@@ -56,10 +56,6 @@ abbrev pub with_fate : Fate → InCount → InCount
 with_fate fate c = with_verdict (verdict_in fate) (record c { seen = up c.seen })
 
 -- ---- copies
-
-abbrev pub is_full : Offer → Bool
-is_full Queued = false
-is_full Full = true
 
 -- the answers of a port
 abbrev pub answers_of : ℕ → List (ℕ × Offer) → List Offer

@@ -14,9 +14,9 @@ use Rattle.afdx_port.specs.Admission.{fits, admitted}
 use Rattle.afdx_core.specs.declared.step.Row.{Row}
 use Rattle.afdx_core.specs.declared.step.Fate.{Fate}
 use Rattle.afdx_core.specs.declared.step.Fate.TheVariants.{Filtered, Policed, Passed}
-use Rattle.afdx_core.specs.Handling.{Handling}
+use Rattle.afdx_core.specs.Step.{Step}
 use Rattle.afdx_core.specs.Rows.{each_after, fates_of, feed_of}
-use Rattle.afdx_core.specs.State.{Run, handling_of}
+use Rattle.afdx_core.specs.State.{Run, step_of}
 use Rattle.afdx_isolation.specs.Table.{settings_of}
 use Rattle.afdx_count.specs.declared.counters.InCount.{InCount}
 use Rattle.afdx_count.specs.declared.counters.LinkCount.{LinkCount}
@@ -149,10 +149,10 @@ counts_of t rows = counts_with t rows (events_of t rows)
 abbrev pub run_after : Content → List Row → Run
 run_after t rows = record { table = t; rows = rows; latest = 0; handed = map (λ p. 0) t.ports; finished = false }
 
-abbrev pub handlings_of : Content → List Row → List Handling
-handlings_of t rows = each_after (λ before row. handling_of (run_after t before) row ∷ []) [] rows
+abbrev pub steps_of : Content → List Row → List Step
+steps_of t rows = each_after (λ before row. step_of (run_after t before) row ∷ []) [] rows
 
 -- all of these noted, one after the other
-abbrev pub noted_all : List Handling → Tally → Tally
+abbrev pub noted_all : List Step → Tally → Tally
 noted_all [] t = t
 noted_all (step ∷ steps) t = noted_all steps (noted step t)

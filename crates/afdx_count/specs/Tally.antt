@@ -8,7 +8,7 @@ use Rattle.afdx_table.specs.Content.{Content, port_row}
 use Rattle.afdx_port.specs.declared.Offer.{Offer}
 use Rattle.afdx_core.specs.declared.step.Fate.{Fate}
 use Rattle.afdx_core.specs.declared.step.Fate.TheVariants.{Filtered, Policed, Passed}
-use Rattle.afdx_core.specs.Handling.{Handling}
+use Rattle.afdx_core.specs.Step.{Step}
 use Rattle.afdx_core.specs.State.{Run, sent_in, aged_in}
 use Rattle.afdx_count.specs.declared.counters.InCount.{InCount}
 use Rattle.afdx_count.specs.declared.counters.LinkCount.{LinkCount}
@@ -89,10 +89,10 @@ noted_link (Filtered verdict) l = l
 noted_link (Policed id) l = if l.id == id then one_policed l else l
 noted_link (Passed id) l = if l.id == id then one_passed l else l
 
-abbrev pub noted_port : Option Priority → Handling → PortTally → PortTally
+abbrev pub noted_port : Option Priority → Step → PortTally → PortTally
 noted_port class step p = with_class class step.offers (with_arrival step.in_port step.fate p)
 
-abbrev pub noted : Handling → Tally → Tally
+abbrev pub noted : Step → Tally → Tally
 noted step t = record { ports = map (noted_port (class_of step.fate t.links) step) t.ports; links = map (noted_link step.fate) t.links }
 
 -- ---- the end

@@ -1,7 +1,7 @@
 //! Counters, each of which stays at its greatest value.
 
 ghost use Rattle.std.specs.Prelude.{◌≡◌, [], ◌∷◌};
-ghost use Rattle.afdx_count.specs.Counting.{up, no_input, no_link, no_output, with_verdict, with_fate, with_answers, with_ended, is_of, more_sent, more_aged};
+ghost use Rattle.afdx_count.specs.Counting.{up, with_verdict, with_fate, with_answers, with_ended, is_of, more_sent, more_aged};
 
 use afdx_core::Fate;
 use afdx_filter::Verdict;
@@ -9,7 +9,7 @@ use afdx_port::{Aged, Offer, Sent};
 use afdx_units::Priority;
 
 /// The arrivals at a port: all, those with each refusal of the filter, and the clean ones.
-#[derive(Clone, Copy, Debug, PartialEq, Eq)]
+#[derive(Clone, Copy, Debug, Default, PartialEq, Eq)]
 pub struct InCount {
     /// All arrivals.
     pub seen: u64,
@@ -25,7 +25,7 @@ pub struct InCount {
 }
 
 /// The clean frames of a link.
-#[derive(Clone, Copy, Debug, PartialEq, Eq)]
+#[derive(Clone, Copy, Debug, Default, PartialEq, Eq)]
 pub struct LinkCount {
     /// Those that the link's account passed.
     pub passed: u64,
@@ -34,7 +34,7 @@ pub struct LinkCount {
 }
 
 /// The copies of a priority at an output port.
-#[derive(Clone, Copy, Debug, PartialEq, Eq)]
+#[derive(Clone, Copy, Debug, Default, PartialEq, Eq)]
 pub struct OutCount {
     /// All that were offered to the port.
     pub offered: u64,
@@ -54,22 +54,6 @@ pub(crate) fn up(count: u64) -> u64
 }
 
 impl InCount {
-    pub(crate) fn none() -> InCount
-        ensures { result ≡ no_input }
-    {
-        InCount {
-            seen: 0,
-            cut: 0,
-            short: 0,
-            long: 0,
-            foreign: 0,
-            no_link: 0,
-            wrong_port: 0,
-            too_big: 0,
-            clean: 0,
-        }
-    }
-
     fn with_verdict(self, verdict: Verdict) -> InCount
         ensures { result ≡ with_verdict verdict self }
     {
@@ -101,17 +85,6 @@ impl InCount {
     }
 }
 
-impl LinkCount {
-    pub(crate) fn none() -> LinkCount
-        ensures { result ≡ no_link }
-    {
-        LinkCount {
-            passed: 0,
-            policed: 0,
-        }
-    }
-}
-
 fn is_of(priority: Priority, other: Priority) -> bool
     ensures { result ≡ is_of priority other }
 {
@@ -119,17 +92,6 @@ fn is_of(priority: Priority, other: Priority) -> bool
 }
 
 impl OutCount {
-    pub(crate) fn none() -> OutCount
-        ensures { result ≡ no_output }
-    {
-        OutCount {
-            offered: 0,
-            full: 0,
-            aged: 0,
-            sent: 0,
-        }
-    }
-
     /// Counts a copy that was offered.
     pub(crate) fn with_offer(self, offer: Offer) -> OutCount
         ensures { result ≡ with_answers (offer ∷ []) self }

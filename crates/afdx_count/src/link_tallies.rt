@@ -28,7 +28,7 @@ impl LinkTally {
         LinkTally {
             id: row.id,
             priority: row.priority,
-            count: LinkCount::none(),
+            count: LinkCount::default(),
         }
     }
 

@@ -31,9 +31,9 @@ impl PortTally {
     {
         PortTally {
             id: row.id,
-            input: InCount::none(),
-            high: OutCount::none(),
-            low: OutCount::none(),
+            input: InCount::default(),
+            high: OutCount::default(),
+            low: OutCount::default(),
         }
     }
 

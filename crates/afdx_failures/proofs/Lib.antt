@@ -1,1 +1,1 @@
-pub mod TellingLemmas
+pub mod ReportingLemmas

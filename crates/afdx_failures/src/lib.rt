@@ -4,7 +4,7 @@
 #![tactic(auto)]
 
 mod failure;
-mod telling;
+mod reporting;
 
 pub use failure::Failure;
-pub use telling::report;
+pub use reporting::report;

@@ -5,7 +5,7 @@ use Rattle.std.proofs.lemmas.Bool.{cases_Bool, eqb-true, le-ltb}
 use Rattle.std.proofs.lemmas.Bool.Decides.{nat_tests}
 use Rattle.std.proofs.lemmas.Slice.Eq.{bytes_eq-Decides}
 use Rattle.afdx_units.specs.Line.{size_of}
-use Rattle.afdx_pcap.specs.Entry.{Entry}
+use Rattle.afdx_pcap.specs.Record.{Record}
 use Rattle.afdx_frame.specs.Address.{constant_of, link_of}
 use Rattle.afdx_table.specs.Link.{Link}
 use Rattle.afdx_table.specs.Content.{Content, link_row}
@@ -66,7 +66,7 @@ same-number : (n m : ℕ) → n ≡ m → not (nat_eq n m) ≡ false
 same-number n m h = grind (arith, nat_tests)
 
 -- what is clean is a frame of its link
-clean-frame : (table : Content) (port : ℕ) (frame : Entry) (id : ℕ) → verdict_of table port frame ≡ Clean id → (link : Link) × (link.id ≡ id) × IsFrameOf table port frame link
+clean-frame : (table : Content) (port : ℕ) (frame : Record) (id : ℕ) → verdict_of table port frame ≡ Clean id → (link : Link) × (link.id ≡ id) × IsFrameOf table port frame link
 clean-frame table port frame id h =
     let size = size_of (length frame.bytes) in
     let whole = past (nat_lt (length frame.bytes) frame.original) Cut _ id (λ e. absurd cc) h in
@@ -105,7 +105,7 @@ clean-link table port frame id h =
     }
 
 -- a frame of a link is clean
-frame-clean : (table : Content) (port : ℕ) (frame : Entry) (link : Link) → IsFrameOf table port frame link → verdict_of table port frame ≡ Clean link.id
+frame-clean : (table : Content) (port : ℕ) (frame : Record) (link : Link) → IsFrameOf table port frame link → verdict_of table port frame ≡ Clean link.id
 frame-clean table port frame link is =
     let size = size_of (length frame.bytes) in
     rw (le-ltb (length frame.bytes) frame.original is.whole)

@@ -5,7 +5,7 @@ use Rattle.std.proofs.lemmas.Bool.{cases_Bool, cases_lt, lt-ltb, le-ltb}
 use Rattle.std.proofs.lemmas.Bool.Decides.{nat_tests}
 use Rattle.std.proofs.lemmas.Slice.Eq.{bytes_eq-Decides}
 use Rattle.afdx_units.specs.Line.{size_of}
-use Rattle.afdx_pcap.specs.Entry.{Entry}
+use Rattle.afdx_pcap.specs.Record.{Record}
 use Rattle.afdx_frame.specs.Address.{constant_of, link_of}
 use Rattle.afdx_table.specs.Link.{Link}
 use Rattle.afdx_table.specs.Content.{Content, link_row}
@@ -50,14 +50,14 @@ last_place TooBig h = absurd (omega arith)
 last_place (Clean id) h = (id, refl)
 
 -- no case before a place holds
-abbrev NoneBefore : Content → ℕ → Entry → ℕ → Type 0
+abbrev NoneBefore : Content → ℕ → Record → ℕ → Type 0
 NoneBefore table port frame n = (other : Verdict) → place_of other < n → HasCase table port frame other → ⊥
 
-none_at_first : (table : Content) (port : ℕ) (frame : Entry) → NoneBefore table port frame 0
+none_at_first : (table : Content) (port : ℕ) (frame : Record) → NoneBefore table port frame 0
 none_at_first table port frame other lt has = absurd (omega arith)
 
 -- one case more
-none_more : (table : Content) (port : ℕ) (frame : Entry) (v : Verdict) → place_of v < 7 → (HasCase table port frame v → ⊥) → NoneBefore table port frame (place_of v)
+none_more : (table : Content) (port : ℕ) (frame : Record) (v : Verdict) → place_of v < 7 → (HasCase table port frame v → ⊥) → NoneBefore table port frame (place_of v)
     → NoneBefore table port frame (place_of v + 1)
 none_more table port frame v low fails none other lt has =
     elim (cases_lt (place_of other) (place_of v)) [
@@ -69,7 +69,7 @@ none_more table port frame v low fails none other lt has =
 
 -- ---- the verdict's case holds, and none before it
 
-of_link : (table : Content) (port : ℕ) (frame : Entry) (o : Option Link) → link_row table (link_of frame.bytes) ≡ o → NoneBefore table port frame 4
+of_link : (table : Content) (port : ℕ) (frame : Record) (o : Option Link) → link_row table (link_of frame.bytes) ≡ o → NoneBefore table port frame 4
     → IsFirstCase table port frame (link_verdict port (size_of (length frame.bytes)) o)
 of_link table port frame None is none = record { holds = is; none_before = none }
 of_link table port frame (Some link) is none =
@@ -97,7 +97,7 @@ of_link table port frame (Some link) is none =
     number : (a b : ℕ) → nat_eq a b ≡ true → a ≡ b
     number a b h = grind (arith, nat_tests)
 
-first : (table : Content) (port : ℕ) (frame : Entry) → IsFirstCase table port frame (verdict_of table port frame)
+first : (table : Content) (port : ℕ) (frame : Record) → IsFirstCase table port frame (verdict_of table port frame)
 first table port frame =
     let size = size_of (length frame.bytes) in
     elim (cases_lt (length frame.bytes) frame.original) [
@@ -117,7 +117,7 @@ first table port frame =
           ])
     ]
   where
-    of_constant : (table : Content) (port : ℕ) (frame : Entry) → NoneBefore table port frame 3
+    of_constant : (table : Content) (port : ℕ) (frame : Record) → NoneBefore table port frame 3
         → IsFirstCase table port frame (cond (not (bytes_eq (constant_of frame.bytes) table.constant)) Foreign
         (link_verdict port (size_of (length frame.bytes)) (link_row table (link_of frame.bytes))))
     of_constant table port frame none =
@@ -130,7 +130,7 @@ first table port frame =
 
 -- ---- there is one such case
 
-only : (table : Content) (port : ℕ) (frame : Entry) (v w : Verdict) → IsFirstCase table port frame v → IsFirstCase table port frame w → v ≡ w
+only : (table : Content) (port : ℕ) (frame : Record) (v w : Verdict) → IsFirstCase table port frame v → IsFirstCase table port frame w → v ≡ w
 only table port frame v w a b =
     elim (cases_lt (place_of v) (place_of w)) [
       | inl before ↦ absurd (b.none_before v before a.holds)

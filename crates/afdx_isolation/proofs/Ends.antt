@@ -16,7 +16,7 @@ use Rattle.afdx_port.specs.Service.{came, Event, sending, aging, item_of, free_a
 use Rattle.afdx_port.specs.Inner.Order.{in_line, highs, lows, line_up}
 use Rattle.afdx_port.specs.Inner.Work.{item_cost}
 use Rattle.afdx_account.specs.Policing.{parts}
-use Rattle.afdx_isolation.specs.Inner.Flow.{Load, queue_bound, bound}
+use Rattle.afdx_isolation.specs.Inner.Flow.{Demand, queue_bound, bound}
 use Rattle.afdx_isolation.specs.Inner.Potential.{costs, Ahead, HighEnds, LowEnds, EndsBy, IsWithinPotentials, BeginsAs}
 use Rattle.afdx_isolation.specs.Inner.Claims.{IsTimely}
 use Rattle.afdx_isolation.proofs.Numbers.{ahead_weaker, ahead_with, ahead_append, high_sooner, low_sooner}
@@ -35,31 +35,31 @@ ends_in_line s Q Q' low sooner then b (x ∷ items) le come h =
     (record { at = b; item = x; is = refl; since = omega (arith, come.0); ends = then (b + item_cost s x) x (omega arith) h.0 })
     (ends_in_line s Q Q' low sooner then (free_after e) items (omega (arith, facts.0)) come.1 ahead)
 
-module _ (n : ℕ) (s : Settings) (load : Load) (now level high_level : ℕ) where
+module _ (n : ℕ) (s : Settings) (demand : Demand) (now level high_level : ℕ) where
   abbrev Waits : ℕ → Item → Type 0
-  Waits e y = (is_high y.priority ≡ true → HighEnds n s load e y) × (is_high y.priority ≡ false → LowEnds n s load now high_level e y)
+  Waits e y = (is_high y.priority ≡ true → HighEnds n s demand e y) × (is_high y.priority ≡ false → LowEnds n s demand now high_level e y)
 
   sooner : (e e' : ℕ) (y : Item) → e' ≤ e + 0 → Waits e y → Waits e' y
-  sooner e e' y le h = (λ is. high_sooner n s load e e' y le (h.0 is), λ is. low_sooner n s load now high_level high_level 0 e e' y le (omega arith) (h.1 is))
+  sooner e e' y le h = (λ is. high_sooner n s demand e e' y le (h.0 is), λ is. low_sooner n s demand now high_level high_level 0 e e' y le (omega arith) (h.1 is))
 
-  waits_then : (e : ℕ) (y : Item) → now ≤ e → Waits e y → EndsBy n s load e y
-  waits_then e y le h = (h.0, λ is. omega (arith, h.1 is, mul-le-mul_left load.high_rate le))
+  waits_then : (e : ℕ) (y : Item) → now ≤ e → Waits e y → EndsBy n s demand e y
+  waits_then e y le h = (h.0, λ is. omega (arith, h.1 is, mul-le-mul_left demand.high_rate le))
 
-  ahead : (b : ℕ) (items : List Item) → IsWithinPotentials n s load now b level high_level (highs items) (lows items) → Ahead s Waits b (line_up items)
+  ahead : (b : ℕ) (items : List Item) → IsWithinPotentials n s demand now b level high_level (highs items) (lows items) → Ahead s Waits b (line_up items)
   ahead b items h =
-      let high = ahead_with s (λ (y : Item). is_high y.priority ≡ true) (HighEnds n s load) Waits b (highs items)
+      let high = ahead_with s (λ (y : Item). is_high y.priority ≡ true) (HighEnds n s demand) Waits b (highs items)
       (λ e y is h. (λ _. h, λ no'. absurd (both_ways (is_high y.priority) no' is)))
       (recursion_from_All (λ (y : Item). is_high y.priority ≡ true) (highs items) (filter_passes (λ (y : Item). is_high y.priority) items)) h.high_ends in
-      let low = ahead_with s (λ (y : Item). not (is_high y.priority) ≡ true) (LowEnds n s load now high_level) Waits (b + costs s (highs items)) (lows items)
+      let low = ahead_with s (λ (y : Item). not (is_high y.priority) ≡ true) (LowEnds n s demand now high_level) Waits (b + costs s (highs items)) (lows items)
       (λ e y is h. (λ yes'. absurd (both_ways (not (is_high y.priority)) (ap not yes') is), λ _. h))
       (recursion_from_All (λ (y : Item). not (is_high y.priority) ≡ true) (lows items) (filter_passes (λ (y : Item). not (is_high y.priority)) items)) h.low_ends in
       ahead_append s Waits b (b + costs s (highs items)) (highs items) (lows items) refl high low
 
   -- the potentials say when each item that waits ends
   pub ends : (b : ℕ) (items : List Item) → LinedUp items → All (λ (item : Item). came s item ≤ now) items → now ≤ b
-      → IsWithinPotentials n s load now b level high_level (highs items) (lows items) → All (BeginsAs s (EndsBy n s load)) (in_line s b items)
+      → IsWithinPotentials n s demand now b level high_level (highs items) (lows items) → All (BeginsAs s (EndsBy n s demand)) (in_line s b items)
   ends b items lined come le h =
-      ends_in_line s Waits (EndsBy n s load) now sooner waits_then b items le (recursion_from_All (λ (item : Item). came s item ≤ now) items come)
+      ends_in_line s Waits (EndsBy n s demand) now sooner waits_then b items le (recursion_from_All (λ (item : Item). came s item ≤ now) items come)
       (subst (λ ys. Ahead s Waits b ys) (sym (line_is items lined)) (ahead b items h))
 
 -- what ends by then ends within the bound
@@ -92,23 +92,23 @@ fate_sent s b x short = choose _ _ short where
   choose : {m n : ℕ} (x y : Event) → n ≤ m → cond (nat_lt m n) x y ≡ y
   choose x y h = grind (arith, nat_tests)
 
-in_bound : (s : Settings) (load : Load) (e : ℕ) (y : Item) (priority : Priority) → (priority ≡ Low → load.high_rate < parts) → y.priority ≡ priority → came s y ≤ e → EndsBy parts s load e y
-    → e ≤ came s y + queue_bound load priority
-in_bound s load e y High some is le h =
-    let within = high_within parts (came s y) e load.low_largest load.high_burst (omega arith) le (h.0 (ap is_high is)) in
+in_bound : (s : Settings) (demand : Demand) (e : ℕ) (y : Item) (priority : Priority) → (priority ≡ Low → demand.high_rate < parts) → y.priority ≡ priority → came s y ≤ e → EndsBy parts s demand e y
+    → e ≤ came s y + queue_bound demand priority
+in_bound s demand e y High some is le h =
+    let within = high_within parts (came s y) e demand.low_largest demand.high_burst (omega arith) le (h.0 (ap is_high is)) in
     omega (arith, within)
-in_bound s load e y Low some is le h =
-    let within = low_within parts load.high_rate (came s y) e load.burst (some refl) le (h.1 (ap is_high is)) in
+in_bound s demand e y Low some is le h =
+    let within = low_within parts demand.high_rate (came s y) e demand.burst (some refl) le (h.1 (ap is_high is)) in
     omega (arith, within)
 
 -- where the bound is within the greatest delay, the item is sent in time; here alone is the stamp what time is counted from
-pub timely : (s : Settings) (load : Load) (priority : Priority) (event : Event) → load.latency ≡ s.latency → (priority ≡ Low → load.high_rate < parts) → bound load priority ≤ s.max_delay
-    → (item_of event).priority ≡ priority → BeginsAs s (EndsBy parts s load) event → IsTimely s load event
-timely s load priority event late some quick class h =
+pub timely : (s : Settings) (demand : Demand) (priority : Priority) (event : Event) → demand.latency ≡ s.latency → (priority ≡ Low → demand.high_rate < parts) → bound demand priority ≤ s.max_delay
+    → (item_of event).priority ≡ priority → BeginsAs s (EndsBy parts s demand) event → IsTimely s demand event
+timely s demand priority event late some quick class h =
     let same : h.item.priority ≡ priority = sym (ap (λ (e : Event). (item_of e).priority) h.is ∙ ap (λ (y : Item). y.priority) (item_fate s h.at h.item)) ∙ class in
     let since = h.since in
     let stamp = came-is s h.item in
-    let le = in_bound s load (h.at + item_cost s h.item) h.item priority some same (omega (arith, since)) h.ends in
+    let le = in_bound s demand (h.at + item_cost s h.item) h.item priority some same (omega (arith, since)) h.ends in
     let short : h.at - h.item.stamp ≤ s.max_delay = omega (arith, le, quick, stamp, late) in
-    subst (λ e. IsTimely s load e) (sym (h.is ∙ fate_sent s h.at h.item short))
-    (record { least = omega (arith, since, stamp); most = subst (λ p. h.at + item_cost s h.item ≤ h.item.stamp + bound load p) (sym same) (omega (arith, le, stamp, late)) })
+    subst (λ e. IsTimely s demand e) (sym (h.is ∙ fate_sent s h.at h.item short))
+    (record { least = omega (arith, since, stamp); most = subst (λ p. h.at + item_cost s h.item ≤ h.item.stamp + bound demand p) (sym same) (omega (arith, le, stamp, late)) })

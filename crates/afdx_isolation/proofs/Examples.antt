@@ -8,7 +8,7 @@ use Rattle.afdx_units.specs.declared.line.Speed.TheVariants.{Hundred}
 use Rattle.afdx_account.specs.Policing.{byte_terms, byte_weight}
 use Rattle.afdx_port.specs.declared.Settings.{Settings}
 use Rattle.afdx_port.specs.declared.Item.{Item}
-use Rattle.afdx_isolation.specs.Inner.Flow.{Flow, IsPaidFor, Carries, AreDistinct, bound, load_of}
+use Rattle.afdx_isolation.specs.Inner.Flow.{Flow, IsPaidFor, Carries, AreDistinct, bound, demand_of}
 use Rattle.afdx_isolation.specs.Inner.Arrivals.{passed, feed_of, StampsDoNotFall}
 
 -- a frame of 1000 bytes in each ms, and one of 500 bytes, policed by bytes, on a line of 100 Mbit/s
@@ -25,7 +25,7 @@ paid : All (IsPaidFor port) (control ∷ bulk ∷ [])
 paid = All-cons (IsPaidFor port) control (bulk ∷ []) (record { pays = λ size le _. omega arith; credited = omega arith })
     (All-cons (IsPaidFor port) bulk [] (record { pays = λ size le _. omega arith; credited = omega arith }) (All-nil (IsPaidFor port)))
 
-bounds : (bound (load_of port (control ∷ bulk ∷ [])) High ≡ 146600) × (bound (load_of port (control ∷ bulk ∷ [])) Low ≡ 175977)
+bounds : (bound (demand_of port (control ∷ bulk ∷ [])) High ≡ 146600) × (bound (demand_of port (control ∷ bulk ∷ [])) Low ≡ 175977)
 bounds = (refl, refl)
 
 -- the buffer is the least, and the greatest delay the low bound
@@ -33,12 +33,12 @@ carries : Carries port (control ∷ bulk ∷ [])
 carries = record {
   rate = omega arith;
   buffer = omega arith;
-  high = All-cons (λ (flow : Flow). flow.priority ≡ High → bound (load_of port (control ∷ bulk ∷ [])) High ≤ 175977) control (bulk ∷ []) (λ _. omega arith)
-      (All-cons (λ (flow : Flow). flow.priority ≡ High → bound (load_of port (control ∷ bulk ∷ [])) High ≤ 175977) bulk [] (λ _. omega arith)
-      (All-nil (λ (flow : Flow). flow.priority ≡ High → bound (load_of port (control ∷ bulk ∷ [])) High ≤ 175977)));
-  low = All-cons (λ (flow : Flow). flow.priority ≡ Low → bound (load_of port (control ∷ bulk ∷ [])) Low ≤ 175977) control (bulk ∷ []) (λ _. omega arith)
-      (All-cons (λ (flow : Flow). flow.priority ≡ Low → bound (load_of port (control ∷ bulk ∷ [])) Low ≤ 175977) bulk [] (λ _. omega arith)
-      (All-nil (λ (flow : Flow). flow.priority ≡ Low → bound (load_of port (control ∷ bulk ∷ [])) Low ≤ 175977)));
+  high = All-cons (λ (flow : Flow). flow.priority ≡ High → bound (demand_of port (control ∷ bulk ∷ [])) High ≤ 175977) control (bulk ∷ []) (λ _. omega arith)
+      (All-cons (λ (flow : Flow). flow.priority ≡ High → bound (demand_of port (control ∷ bulk ∷ [])) High ≤ 175977) bulk [] (λ _. omega arith)
+      (All-nil (λ (flow : Flow). flow.priority ≡ High → bound (demand_of port (control ∷ bulk ∷ [])) High ≤ 175977)));
+  low = All-cons (λ (flow : Flow). flow.priority ≡ Low → bound (demand_of port (control ∷ bulk ∷ [])) Low ≤ 175977) control (bulk ∷ []) (λ _. omega arith)
+      (All-cons (λ (flow : Flow). flow.priority ≡ Low → bound (demand_of port (control ∷ bulk ∷ [])) Low ≤ 175977) bulk [] (λ _. omega arith)
+      (All-nil (λ (flow : Flow). flow.priority ≡ Low → bound (demand_of port (control ∷ bulk ∷ [])) Low ≤ 175977)));
 }
 
 apart : AreDistinct (control ∷ bulk ∷ [])

@@ -1,7 +1,7 @@
 -- What is kept of a port is kept over time and with each item that is paid for, and what follows from it.
 use Rattle.std.proofs.Common.{◌≡◌, ℕ, ◌+◌, ◌-◌, ◌*◌, ◌<◌, ◌≤◌, true, false, cond, List, [], ◌∷◌, ◌++◌, get_or, refl, ap, sym, ◌∙◌, subst, arith, ⊎_elim, append-nil}
 use Rattle.std.specs.Prelude.{max, not, nat_le, nat_lt, nat_eq, sum_by, All, Contains, map}
-use Rattle.std.proofs.lemmas.Bool.{cases_Bool, cases_lt}
+use Rattle.std.proofs.lemmas.Bool.{cases_Bool, cases_lt, eqb-true}
 use Rattle.std.proofs.lemmas.Bool.Decides.{nat_tests}
 use Rattle.std.proofs.lemmas.List.Sums.{sum_by-cons, sum_by_push}
 use Rattle.std.proofs.lemmas.List.Elements.{All-nil, All-append, All-push, All-weaker, All-same, All-contains, All-filter, filter-append, recursion_from_All}
@@ -20,7 +20,7 @@ use Rattle.afdx_port.specs.Inner.Order.{highs, lows, line_up, in_line}
 use Rattle.afdx_port.specs.Inner.Course.{line_at}
 use Rattle.afdx_port.specs.Inner.Work.{item_cost, work, HaveCome}
 use Rattle.afdx_account.specs.Policing.{parts}
-use Rattle.afdx_isolation.specs.Inner.Flow.{Flow, Load, IsPaidFor, IsWithinRate, HasBuffer, IsWithinDelay, Carries, AreDistinct, high_flows, low_flows, load_of, bound}
+use Rattle.afdx_isolation.specs.Inner.Flow.{Flow, Demand, IsPaidFor, IsWithinRate, HasBuffer, IsWithinDelay, Carries, AreDistinct, high_flows, low_flows, demand_of, bound}
 use Rattle.afdx_isolation.specs.Inner.Potential.{costs, IsWithinPotentials, KeepsPotentials, EndsBy, BeginsAs, held}
 use Rattle.afdx_isolation.specs.Inner.Account.{AreWithinCaps, Grow, AreDebited, IsOfAFlow, charge}
 use Rattle.afdx_isolation.specs.Inner.Kept.{IsKeptLevel}
@@ -48,22 +48,22 @@ kept_none s flows now level caps = record {
     low_ends = tt;
     high_ends = tt;
   });
-  ends = All-nil (BeginsAs s (EndsBy parts s (load_of s flows)));
+  ends = All-nil (BeginsAs s (EndsBy parts s (demand_of s flows)));
 }
 
 -- the fixed port: its settings and its flows
 module _ (g : Ground) (s : Settings) (flows : List Flow) (paid : All (IsPaidFor s) flows) (slow : IsWithinRate s flows) where
-  abbrev load : Load
-  load = load_of s flows
+  abbrev demand : Demand
+  demand = demand_of s flows
 
-  high_slow : load.high_rate ≤ parts
+  high_slow : demand.high_rate ≤ parts
   high_slow = omega (arith, slow, high_part (λ (flow : Flow). flow.weight * flow.terms.rate) flows)
 
   -- no item takes longer than the longest, nor a low one than the longest low one
-  cost_most : (x : Item) → IsOfAFlow flows x → item_cost s x ≤ load.largest
+  cost_most : (x : Item) → IsOfAFlow flows x → item_cost s x ≤ demand.largest
   cost_most x r = within_longest s flows r.flow x.size r.among r.largest
 
-  cost_most_low : (x : Item) → IsOfAFlow flows x → is_high x.priority ≡ false → item_cost s x ≤ load.low_largest
+  cost_most_low : (x : Item) → IsOfAFlow flows x → is_high x.priority ≡ false → item_cost s x ≤ demand.low_largest
   cost_most_low x r low = within_longest s (low_flows flows) r.flow x.size (among_filter (λ flow. not (is_high flow.priority)) flows r.flow r.among (ap not (ap is_high r.priority ∙ low))) r.largest
 
   abbrev Keeps : List Item → ℕ → (Flow → ℕ) → Type 0
@@ -87,14 +87,14 @@ module _ (g : Ground) (s : Settings) (flows : List Flow) (paid : All (IsPaidFor 
         let there : now + d ≡ to = omega arith in
         let high_grow : Grow (high_flows flows) d level after = All-filter (λ flow. is_high flow.priority) (λ flow. (after flow ≤ flow.terms.cap) × (after flow ≤ level flow + flow.terms.rate * d))
         flows grow in
-        let grown' = stand_growth parts s load now d q.free (held level flows) (held level (high_flows flows)) (held after flows) (held after (high_flows flows)) (highs q.waiting) (lows q.waiting)
+        let grown' = stand_growth parts s demand now d q.free (held level flows) (held level (high_flows flows)) (held after flows) (held after (high_flows flows)) (highs q.waiting) (lows q.waiting)
         (omega (arith, slow)) high_slow (grown flows d level after grow) (grown (high_flows flows) d level after high_grow) h.potentials in
-        let small = recursion_from_All (IsShort parts s load to (held after flows) (held after (high_flows flows)) capped' high_capped') q.waiting
-        (waiting_all (λ (item : Item). is_high item.priority ≡ false → item_cost s item ≤ load.low_largest) now items
-        (All-weaker (IsOfAFlow flows) (λ (item : Item). is_high item.priority ≡ false → item_cost s item ≤ load.low_largest) cost_most_low items h.of_flows)) in
+        let small = recursion_from_All (IsShort parts s demand to (held after flows) (held after (high_flows flows)) capped' high_capped') q.waiting
+        (waiting_all (λ (item : Item). is_high item.priority ≡ false → item_cost s item ≤ demand.low_largest) now items
+        (All-weaker (IsOfAFlow flows) (λ (item : Item). is_high item.priority ≡ false → item_cost s item ≤ demand.low_largest) cost_most_low items h.of_flows)) in
         subst (KeepsPotentials s flows to after) (sym (g.goes_on s now to items le h.come))
-        (stand_starts parts s load to (held after flows) (held after (high_flows flows)) capped' high_capped' q.free q.waiting (lined_at s now items) small
-        (subst (λ t. IsWithinPotentials parts s load t q.free (held after flows) (held after (high_flows flows)) (highs q.waiting) (lows q.waiting)) there grown'));
+        (stand_starts parts s demand to (held after flows) (held after (high_flows flows)) capped' high_capped' q.free q.waiting (lined_at s now items) small
+        (subst (λ t. IsWithinPotentials parts s demand t q.free (held after flows) (held after (high_flows flows)) (highs q.waiting) (lows q.waiting)) there grown'));
     ends = h.ends;
   }
 
@@ -111,8 +111,8 @@ module _ (g : Ground) (s : Settings) (flows : List Flow) (paid : All (IsPaidFor 
 
   -- one more item waits
   comes : (now start : ℕ) (level after : Flow → ℕ) (items : List Item) (x : Item) → came s x ≡ now → IsOfAFlow flows x → AreDebited flows x level after
-      → IsWithinPotentials parts s load now start (held level flows) (held level (high_flows flows)) (highs items) (lows items)
-      → IsWithinPotentials parts s load now start (held after flows) (held after (high_flows flows)) (highs (items ++ x ∷ [])) (lows (items ++ x ∷ []))
+      → IsWithinPotentials parts s demand now start (held level flows) (held level (high_flows flows)) (highs items) (lows items)
+      → IsWithinPotentials parts s demand now start (held after flows) (held after (high_flows flows)) (highs (items ++ x ∷ [])) (lows (items ++ x ∷ []))
   comes now start level after items x now-is r debits h =
       let price = (All-contains (IsPaidFor s) flows r.flow paid r.among).pays x.size r.least r.largest in
       let high_debits = All-filter (λ flow. is_high flow.priority) (λ flow. after flow + charge x flow ≤ level flow) flows debits in
@@ -122,16 +122,16 @@ module _ (g : Ground) (s : Settings) (flows : List Flow) (paid : All (IsPaidFor 
       let high_gives = pays (high_flows flows) x r.flow (among_filter (λ flow. is_high flow.priority) flows r.flow r.among (ap is_high r.priority ∙ is)) r.same level after high_debits in
       let hs : highs (items ++ x ∷ []) ≡ highs items ++ x ∷ [] = highs-push items x ∙ ap (λ v. highs items ++ cond v (x ∷ []) []) is in
       let ls : lows (items ++ x ∷ []) ≡ lows items = lows-push items x ∙ ap (λ v. lows items ++ cond (not v) (x ∷ []) []) is ∙ append-nil (lows items) in
-      subst (λ xs. IsWithinPotentials parts s load now start (held after flows) (held after (high_flows flows)) xs (lows (items ++ x ∷ []))) (sym hs)
-      (subst (λ ys. IsWithinPotentials parts s load now start (held after flows) (held after (high_flows flows)) (highs items ++ x ∷ []) ys) (sym ls)
-      (stand_high parts s load now start (held level flows) (held level (high_flows flows)) (held after flows) (held after (high_flows flows)) x (highs items) (lows items) now-is
+      subst (λ xs. IsWithinPotentials parts s demand now start (held after flows) (held after (high_flows flows)) xs (lows (items ++ x ∷ []))) (sym hs)
+      (subst (λ ys. IsWithinPotentials parts s demand now start (held after flows) (held after (high_flows flows)) (highs items ++ x ∷ []) ys) (sym ls)
+      (stand_high parts s demand now start (held level flows) (held level (high_flows flows)) (held after flows) (held after (high_flows flows)) x (highs items) (lows items) now-is
       (omega (arith, price, gives)) (omega (arith, price, high_gives)) h)))
       (λ (is : is_high x.priority ≡ false).
       let hs : highs (items ++ x ∷ []) ≡ highs items = highs-push items x ∙ ap (λ v. highs items ++ cond v (x ∷ []) []) is ∙ append-nil (highs items) in
       let ls : lows (items ++ x ∷ []) ≡ lows items ++ x ∷ [] = lows-push items x ∙ ap (λ v. lows items ++ cond (not v) (x ∷ []) []) is in
-      subst (λ xs. IsWithinPotentials parts s load now start (held after flows) (held after (high_flows flows)) xs (lows (items ++ x ∷ []))) (sym hs)
-      (subst (λ ys. IsWithinPotentials parts s load now start (held after flows) (held after (high_flows flows)) (highs items) ys) (sym ls)
-      (stand_low parts s load now start (held level flows) (held level (high_flows flows)) (held after flows) (held after (high_flows flows)) x (highs items) (lows items) now-is
+      subst (λ xs. IsWithinPotentials parts s demand now start (held after flows) (held after (high_flows flows)) xs (lows (items ++ x ∷ []))) (sym hs)
+      (subst (λ ys. IsWithinPotentials parts s demand now start (held after flows) (held after (high_flows flows)) (highs items) ys) (sym ls)
+      (stand_low parts s demand now start (held level flows) (held level (high_flows flows)) (held after flows) (held after (high_flows flows)) x (highs items) (lows items) now-is
       (omega (arith, price, gives)) (falls (high_flows flows) x level after high_debits) (high_part (λ flow. flow.weight * after flow) flows) h)))
       (cases_Bool (is_high x.priority))
 
@@ -142,18 +142,18 @@ module _ (g : Ground) (s : Settings) (flows : List Flow) (paid : All (IsPaidFor 
       let all = q.waiting ++ x ∷ [] in
       let stands = comes now q.free level after q.waiting x now-is r debits h in
       subst (KeepsPotentials s flows now after) (sym (g.joins s now items x (omega (arith, now-is))))
-      (subst (λ xs. IsWithinPotentials parts s load now q.free (held after flows) (held after (high_flows flows)) xs (lows (line_up all))) (sym (highs-line_up all))
-      (subst (λ ys. IsWithinPotentials parts s load now q.free (held after flows) (held after (high_flows flows)) (highs all) ys) (sym (lows-line_up all)) stands))
+      (subst (λ xs. IsWithinPotentials parts s demand now q.free (held after flows) (held after (high_flows flows)) xs (lows (line_up all))) (sym (highs-line_up all))
+      (subst (λ ys. IsWithinPotentials parts s demand now q.free (held after flows) (held after (high_flows flows)) (highs all) ys) (sym (lows-line_up all)) stands))
 
   pub kept_pass : (items : List Item) (x : Item) (level after : Flow → ℕ) → IsOfAFlow flows x → AreDebited flows x level after → Keeps items (came s x) level → Keeps (items ++ x ∷ []) (came s x) after
   kept_pass items x level after r debits h =
       let now = came s x in
       let all = items ++ x ∷ [] in
-      let Q = BeginsAs s (EndsBy parts s load) in
+      let Q = BeginsAs s (EndsBy parts s demand) in
       let come : HaveCome s now all = All-push (λ (item : Item). came s item ≤ now) items x h.come (omega arith) in
       let potentials = joined now level after items x refl r debits h.potentials in
       let q = line_at s now all in
-      let rest = ends parts s load now (held after flows) (held after (high_flows flows)) q.free q.waiting (lined_at s now all) (waiting_all (λ (item : Item). came s item ≤ now) now all come)
+      let rest = ends parts s demand now (held after flows) (held after (high_flows flows)) q.free q.waiting (lined_at s now all) (waiting_all (λ (item : Item). came s item ≤ now) now all come)
       (start_at s now all) potentials in
       let done : All Q (before now (service s 0 all)) = All-same Q (before now (service s 0 all)) (before now (service s 0 items)) (g.earlier_stay s now 0 items x (omega arith))
       (All-filter (λ e. nat_lt (instant e) now) Q (service s 0 items) h.ends) in
@@ -182,10 +182,10 @@ module _ (g : Ground) (s : Settings) (flows : List Flow) (paid : All (IsPaidFor 
       let now = came s x in
       let q = line_at s now items in
       let stands = comes now q.free level after q.waiting x refl r debits h.potentials in
-      let bytes = g.bytes s now load.largest items (All-weaker (IsOfAFlow flows) (λ (item : Item). item_cost s item ≤ load.largest) cost_most items h.of_flows) in
+      let bytes = g.bytes s now demand.largest items (All-weaker (IsOfAFlow flows) (λ (item : Item). item_cost s item ≤ demand.largest) cost_most items h.of_flows) in
       let sum = costs_parts (q.waiting ++ x ∷ []) in
       let more = sum_by_push (item_cost s) q.waiting x in
-      fits_by (tick_of s.speed) x.size (occupied s now items) s.buffer (work s now items) load.largest load.burst (costs s (highs (q.waiting ++ x ∷ []))) (costs s (lows (q.waiting ++ x ∷ [])))
+      fits_by (tick_of s.speed) x.size (occupied s now items) s.buffer (work s now items) demand.largest demand.burst (costs s (highs (q.waiting ++ x ∷ []))) (costs s (lows (q.waiting ++ x ∷ [])))
       (held after flows) (sum_by (item_cost s) q.waiting) now q.free (tick_some s.speed) (start_at s now items) bytes (g.work s now items) (omega (arith, sum, more)) stands.all_work
       (omega (arith, buffer)) where
         tick_some : (speed : Speed) → 0 < tick_of speed
@@ -211,25 +211,25 @@ module _ (g : Ground) (s : Settings) (flows : List Flow) (paid : All (IsPaidFor 
             (cases_lt room (size + held')))
 
   -- a priority that has a flow leaves time for its items
-  leaves : (flow : Flow) → Contains flows flow → (priority : Priority) → flow.priority ≡ priority → priority ≡ Low → load.high_rate < parts
+  leaves : (flow : Flow) → Contains flows flow → (priority : Priority) → flow.priority ≡ priority → priority ≡ Low → demand.high_rate < parts
   leaves flow among priority is low =
       let own' = All-contains (IsPaidFor s) flows flow paid among in
       omega (arith, slow, low_leaves flows flow among (ap is_high (is ∙ low)) own'.credited)
 
   pub in_time : (items : List Item) (now : ℕ) (level : Flow → ℕ) (priority : Priority) → IsWithinDelay s flows priority → Keeps items now level
-      → All (λ event. (item_of event).priority ≡ priority → IsTimely s load event) (service s 0 items)
+      → All (λ event. (item_of event).priority ≡ priority → IsTimely s demand event) (service s 0 items)
   in_time items now level priority quick h k d lt class =
       let event = get_or (service s 0 items) k d in
       let r = All-contains (IsOfAFlow flows) items (item_of event) h.of_flows (g.events s 0 items k d lt) in
       let is : r.flow.priority ≡ priority = r.priority ∙ class in
-      let bound' = All-contains (λ (flow : Flow). flow.priority ≡ priority → bound load priority ≤ s.max_delay) flows r.flow quick r.among is in
-      timely s load priority event refl (leaves r.flow r.among priority is) bound' class (h.ends k d lt)
+      let bound' = All-contains (λ (flow : Flow). flow.priority ≡ priority → bound demand priority ≤ s.max_delay) flows r.flow quick r.among is in
+      timely s demand priority event refl (leaves r.flow r.among priority is) bound' class (h.ends k d lt)
 
   delay_of : Carries s flows → (priority : Priority) → IsWithinDelay s flows priority
   delay_of a High = a.high
   delay_of a Low = a.low
 
-  pub all_in_time : Carries s flows → (items : List Item) (now : ℕ) (level : Flow → ℕ) → Keeps items now level → All (IsTimely s load) (service s 0 items)
+  pub all_in_time : Carries s flows → (items : List Item) (now : ℕ) (level : Flow → ℕ) → Keeps items now level → All (IsTimely s demand) (service s 0 items)
   all_in_time a items now level h k d lt =
       let priority = (item_of (get_or (service s 0 items) k d)).priority in
       in_time items now level priority (delay_of a priority) h k d lt refl
@@ -239,6 +239,4 @@ module _ (g : Ground) (s : Settings) (flows : List Flow) (paid : All (IsPaidFor 
       ≡ own flow.id items
   ordered apart items now level h flow among = g.order s (λ item. nat_eq item.link flow.id) flow.priority items h.in_order
       (All-weaker (IsOfAFlow flows) (λ (item : Item). nat_eq item.link flow.id ≡ true → item.priority ≡ flow.priority)
-      (λ item r same. sym r.priority ∙ ap (λ (f : Flow). f.priority) (apart r.flow flow r.among among (r.same ∙ equal _ _ same))) items h.of_flows) where
-        equal : (m n : ℕ) → nat_eq m n ≡ true → m ≡ n
-        equal m n h = grind (arith, nat_tests)
+      (λ item r same. sym r.priority ∙ ap (λ (f : Flow). f.priority) (apart r.flow flow r.among among (r.same ∙ eqb-true _ _ same))) items h.of_flows)

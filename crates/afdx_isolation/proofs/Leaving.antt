@@ -10,7 +10,7 @@ use Rattle.afdx_port.specs.declared.Sent.{Sent}
 use Rattle.afdx_port.specs.Service.{Event, sending, aging, instant, item_of, reach, service, before, sent_of, aged_of}
 use Rattle.afdx_port.specs.Admission.{admitted}
 use Rattle.afdx_port.specs.Content.{Content, done}
-use Rattle.afdx_isolation.specs.Inner.Flow.{Flow, Load, Carries, load_of}
+use Rattle.afdx_isolation.specs.Inner.Flow.{Flow, Demand, Carries, demand_of}
 use Rattle.afdx_isolation.specs.Inner.Account.{IsOfAFlow}
 use Rattle.afdx_isolation.specs.Arrivals.{own, frame_in}
 use Rattle.afdx_isolation.specs.Inner.Arrivals.{passed, feed_of}
@@ -26,28 +26,28 @@ isolated g s flows arrivals arrive carries =
     let room = none_full g s flows arrivals arrive carries.rate carries.buffer in
     record {
       none_full = room;
-      timely = subst (λ xs. All (IsTimely s (load_of s flows)) (service s 0 xs)) (sym room) (all_in_time g s flows arrive.paid carries.rate carries feed _ _ all);
+      timely = subst (λ xs. All (IsTimely s (demand_of s flows)) (service s 0 xs)) (sym room) (all_in_time g s flows arrive.paid carries.rate carries feed _ _ all);
       exactly_passed = λ flow among.
           ap (λ xs. own flow.id (map item_of (service s 0 xs))) room
           ∙ ordered g s flows arrive.paid carries.rate arrive.distinct feed _ _ all flow among
           ∙ exactly g flows arrive.distinct flow among arrivals;
     }
 
-module _ (s : Settings) (load : Load) where
-  none_aged : (es : List Event) → All (IsTimely s load) es → aged_of es ≡ []
+module _ (s : Settings) (demand : Demand) where
+  none_aged : (es : List Event) → All (IsTimely s demand) es → aged_of es ≡ []
   none_aged [] h = refl
-  none_aged (sending x ∷ es) h = none_aged es (All-tail (IsTimely s load) (sending x) es h)
-  none_aged (aging x ∷ es) h = absurd (All-head (IsTimely s load) (aging x) es h)
+  none_aged (sending x ∷ es) h = none_aged es (All-tail (IsTimely s demand) (sending x) es h)
+  none_aged (aging x ∷ es) h = absurd (All-head (IsTimely s demand) (aging x) es h)
 
-  all_in_bound : (es : List Event) → All (IsTimely s load) es → All (IsInBound s load) (sent_of es)
-  all_in_bound [] h = All-nil (IsInBound s load)
-  all_in_bound (sending x ∷ es) h = All-cons (IsInBound s load) x (sent_of es) (All-head (IsTimely s load) (sending x) es h) (all_in_bound es (All-tail (IsTimely s load) (sending x) es h))
-  all_in_bound (aging x ∷ es) h = absurd (All-head (IsTimely s load) (aging x) es h)
+  all_in_bound : (es : List Event) → All (IsTimely s demand) es → All (IsInBound s demand) (sent_of es)
+  all_in_bound [] h = All-nil (IsInBound s demand)
+  all_in_bound (sending x ∷ es) h = All-cons (IsInBound s demand) x (sent_of es) (All-head (IsTimely s demand) (sending x) es h) (all_in_bound es (All-tail (IsTimely s demand) (sending x) es h))
+  all_in_bound (aging x ∷ es) h = absurd (All-head (IsTimely s demand) (aging x) es h)
 
-  items_sent : (es : List Event) → All (IsTimely s load) es → map (λ (x : Sent). x.item) (sent_of es) ≡ map item_of es
+  items_sent : (es : List Event) → All (IsTimely s demand) es → map (λ (x : Sent). x.item) (sent_of es) ≡ map item_of es
   items_sent [] h = refl
-  items_sent (sending x ∷ es) h = ap (λ xs. x.item ∷ xs) (items_sent es (All-tail (IsTimely s load) (sending x) es h))
-  items_sent (aging x ∷ es) h = absurd (All-head (IsTimely s load) (aging x) es h)
+  items_sent (sending x ∷ es) h = ap (λ xs. x.item ∷ xs) (items_sent es (All-tail (IsTimely s demand) (sending x) es h))
+  items_sent (aging x ∷ es) h = absurd (All-head (IsTimely s demand) (aging x) es h)
 
 -- what is sent is of the items of the events
 of_sent : (P : Item → Type 0) (es : List Event) → All (λ e. P (item_of e)) es → All (λ (x : Sent). P x.item) (sent_of es)
@@ -59,21 +59,21 @@ of_carried_out : (P : Item → Type 0) (es : List Event) (finished : Bool) (h : 
 of_carried_out P es true h all = of_sent P es all
 of_carried_out P es false h all = of_sent P (before h es) (All-filter (λ event. nat_lt (instant event) h) (λ e. P (item_of e)) es all)
 
-module _ (g : Ground) (s : Settings) (load : Load) (items : List Item) (timely : All (IsTimely s load) (service s 0 items)) where
-  carried_out : (finished : Bool) (h : ℕ) → All (IsTimely s load) (cond finished (service s 0 items) (before h (service s 0 items)))
+module _ (g : Ground) (s : Settings) (demand : Demand) (items : List Item) (timely : All (IsTimely s demand) (service s 0 items)) where
+  carried_out : (finished : Bool) (h : ℕ) → All (IsTimely s demand) (cond finished (service s 0 items) (before h (service s 0 items)))
   carried_out true h = timely
-  carried_out false h = All-filter (λ event. nat_lt (instant event) h) (IsTimely s load) (service s 0 items) timely
+  carried_out false h = All-filter (λ event. nat_lt (instant event) h) (IsTimely s demand) (service s 0 items) timely
 
   prefix : (id : ℕ) (passes : List Item) → own id (map item_of (service s 0 items)) ≡ passes → (finished : Bool) (h : ℕ) → (rest : List Item)
       × (own id (map (λ (x : Sent). x.item) (sent_of (cond finished (service s 0 items) (before h (service s 0 items))))) ++ rest ≡ passes)
       × (finished ≡ true → rest ≡ [])
-  prefix id passes is true h = ([], append-nil _ ∙ ap (own id) (items_sent s load (service s 0 items) timely) ∙ is, λ _. refl)
+  prefix id passes is true h = ([], append-nil _ ∙ ap (own id) (items_sent s demand (service s 0 items) timely) ∙ is, λ _. refl)
   prefix id passes is false h =
       let now = before h (service s 0 items) in
       let parts = g.in_parts s h items in
       let later = parts.0 in (
         own id (map item_of later),
-        ap (λ xs. own id xs ++ own id (map item_of later)) (items_sent s load now (carried_out false h))
+        ap (λ xs. own id xs ++ own id (map item_of later)) (items_sent s demand now (carried_out false h))
             ∙ sym (filter-append (λ (x : Item). nat_eq x.link id) (map item_of now) (map item_of later))
             ∙ ap (own id) (sym (map-append item_of now later))
             ∙ ap (λ es. own id (map item_of es)) (sym parts.1)
@@ -85,21 +85,21 @@ pub isolated_so_far : (g : Ground) (c : Content) (flows : List Flow) (arrivals :
     → c.admitted ≡ admitted c.settings (feed_of flows arrivals) → IsIsolatedSoFar flows arrivals c
 isolated_so_far g c flows arrivals arrive carries is =
     let s = c.settings in
-    let load = load_of s flows in
+    let demand = demand_of s flows in
     let all = isolated g s flows arrivals arrive carries in
-    let timely : All (IsTimely s load) (service s 0 c.admitted) = subst (λ xs. All (IsTimely s load) (service s 0 xs)) (sym is) all.timely in
+    let timely : All (IsTimely s demand) (service s 0 c.admitted) = subst (λ xs. All (IsTimely s demand) (service s 0 xs)) (sym is) all.timely in
     let full = is ∙ all.none_full in
     let of : All (IsOfAFlow flows) c.admitted = subst (λ xs. All (IsOfAFlow flows) xs) (sym full) (kept g s flows arrivals arrive carries.rate).of_flows in
     let of_events = All-weaker (λ e. Contains c.admitted (item_of e)) (λ e. IsOfAFlow flows (item_of e)) (λ e among. All-contains (IsOfAFlow flows) c.admitted (item_of e) of among)
     (service s 0 c.admitted) (g.events s 0 c.admitted) in
-    let so_far = carried_out g s load c.admitted timely c.finished (reach s c.horizon) in
+    let so_far = carried_out g s demand c.admitted timely c.finished (reach s c.horizon) in
     record {
       none_full = full;
-      none_aged = none_aged s load (done c) so_far;
+      none_aged = none_aged s demand (done c) so_far;
       of_flows = of_carried_out (IsOfAFlow flows) (service s 0 c.admitted) c.finished (reach s c.horizon) of_events;
-      in_bound = all_in_bound s load (done c) so_far;
+      in_bound = all_in_bound s demand (done c) so_far;
       prefix = λ flow among.
-          prefix g s load c.admitted timely flow.id (passed flow arrivals) (ap (λ xs. own flow.id (map item_of (service s 0 xs))) is ∙ all.exactly_passed flow among) c.finished (reach s c.horizon);
+          prefix g s demand c.admitted timely flow.id (passed flow arrivals) (ap (λ xs. own flow.id (map item_of (service s 0 xs))) is ∙ all.exactly_passed flow among) c.finished (reach s c.horizon);
     }
 
 pub others_nothing : Ground → OthersChangeNothing

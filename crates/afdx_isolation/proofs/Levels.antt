@@ -1,14 +1,13 @@
 -- The levels of the accounts after some arrivals: how they grow, and what an arrival takes.
 use Rattle.std.proofs.Common.{◌≡◌, ℕ, ◌+◌, ◌-◌, ◌≤◌, Bool, true, false, cond, List, [], ◌∷◌, ◌++◌, get_or, refl, ap, sym, ◌∙◌, subst, arith, ⊎_elim, append-nil}
 use Rattle.std.specs.Prelude.{nat_eq, nat_le, ◌&&◌, ◌||◌, filter, map, All, Contains}
-use Rattle.std.specs.List.{AllByRecursion}
-use Rattle.std.proofs.lemmas.Bool.{cases_Bool}
+use Rattle.std.proofs.lemmas.Bool.{cases_Bool, eqb-true}
 use Rattle.std.proofs.lemmas.Bool.Decides.{nat_tests}
 use Rattle.std.proofs.lemmas.List.{map-append}
 use Rattle.std.proofs.lemmas.List.Elements.{All-nil, All-cons, Contains-get_or, Contains-append_right, filter-append}
 use Rattle.afdx_account.specs.declared.frame.Frame.{Frame}
 use Rattle.afdx_account.specs.Policing.{conforms, passed_frames}
-use Rattle.afdx_account.specs.Level.{headroom}
+use Rattle.afdx_account.specs.Level.{headroom, NoneLater}
 use Rattle.afdx_port.specs.declared.Item.{Item}
 use Rattle.afdx_isolation.specs.Inner.Flow.{Flow, AreDistinct}
 use Rattle.afdx_isolation.specs.Inner.Account.{Grow, AreDebited, charge}
@@ -21,9 +20,6 @@ abbrev pub frames : ℕ → List Item → List Frame
 frames id arrivals = map frame_in (own id arrivals)
 
 -- no frame of any link is later
-abbrev pub NoneLater : List Frame → ℕ → Type 0
-NoneLater fs now = AllByRecursion (λ f. f.stamp ≤ now) fs
-
 abbrev pub Early : List Item → ℕ → Type 0
 Early before now = (id : ℕ) → NoneLater (frames id before) now
 
@@ -145,7 +141,7 @@ module _ (g : Ground) where
       let among = Contains-get_or flows k d lt in
       ⊎_elim
       (λ (is : nat_eq flow.id x.link ≡ true).
-      let own' = level_passed flow before x early (own_passes flows apart before x flow among h (sym (equal _ _ is))) in
+      let own' = level_passed flow before x early (own_passes flows apart before x flow among h (sym (eqb-true _ _ is))) in
       let price : charge x flow ≡ flow.terms.price x.size = ap (λ v. cond v (flow.terms.price x.size) 0) is in
       omega (arith, own', price))
       (λ (is : nat_eq flow.id x.link ≡ false).
@@ -153,9 +149,6 @@ module _ (g : Ground) where
       let price : charge x flow ≡ 0 = ap (λ v. cond v (flow.terms.price x.size) 0) is in
       omega (arith, kept, price))
       (cases_Bool (nat_eq flow.id x.link)) where
-        equal : (m n : ℕ) → nat_eq m n ≡ true → m ≡ n
-        equal m n h = grind (arith, nat_tests)
-
         apart' : (m n : ℕ) (b : Bool) → nat_eq n m ≡ false → nat_eq m n && b ≡ false
         apart' m n b h = grind (arith, nat_tests)
 

@@ -2,7 +2,7 @@
 use Rattle.std.proofs.Common.{◌≡◌, ℕ, ◌≤◌, Bool, true, false, cond, List, [], ◌∷◌, ◌++◌, refl, ap, sym, ◌∙◌, subst, arith, ⊎_elim, append-nil, append_assoc}
 use Rattle.std.specs.Prelude.{nat_eq, ◌&&◌, max, map, All, Contains}
 use Rattle.std.specs.List.{AllByRecursion}
-use Rattle.std.proofs.lemmas.Bool.{cases_Bool}
+use Rattle.std.proofs.lemmas.Bool.{cases_Bool, eqb-true}
 use Rattle.std.proofs.lemmas.Bool.Decides.{nat_tests}
 use Rattle.std.proofs.lemmas.List.Elements.{All-head, All-tail, All-contains}
 use Rattle.afdx_account.specs.declared.frame.Frame.{Frame}
@@ -118,16 +118,13 @@ module _ (g : Ground) (s : Settings) (flows : List Flow) (arrivals : List Item) 
 module _ (g : Ground) (flows : List Flow) (apart : AreDistinct flows) (flow : Flow) (among : Contains flows flow) where
   filtered : (before : List Item) (x : Item) (rest : List Item) → own flow.id (cond (joins flows before x) (x ∷ rest) rest) ≡ cond (is_passed before x flow) (x ∷ own flow.id rest) (own flow.id rest)
   filtered before x rest = decide (joins flows before x) refl where
-    equal : (m n : ℕ) → nat_eq m n ≡ true → m ≡ n
-    equal m n h = grind (arith, nat_tests)
-
     out : (a b : Bool) → a ≡ false → a && b ≡ false
     out a b h = grind (arith, nat_tests)
 
     decide : (v : Bool) → joins flows before x ≡ v → own flow.id (cond v (x ∷ rest) rest) ≡ cond (is_passed before x flow) (x ∷ own flow.id rest) (own flow.id rest)
     decide false h = sym (ap (λ v. cond v (x ∷ own flow.id rest) (own flow.id rest)) (All-contains (λ l. is_passed before x l ≡ false) flows flow (none_joined flows before x h) among))
     decide true h = ap (λ v. cond v (x ∷ own flow.id rest) (own flow.id rest)) (⊎_elim
-        (λ (is : nat_eq x.link flow.id ≡ true). is ∙ sym (own_passes g flows apart before x flow among h (equal _ _ is)))
+        (λ (is : nat_eq x.link flow.id ≡ true). is ∙ sym (own_passes g flows apart before x flow among h (eqb-true _ _ is)))
         (λ (is : nat_eq x.link flow.id ≡ false). is ∙ sym (out (nat_eq x.link flow.id) (conforms flow.terms (passed_frames flow.terms (frames flow.id before)) (frame_in x)) is))
         (cases_Bool (nat_eq x.link flow.id)))
 

@@ -1,4 +1,4 @@
--- The rows of a table as a port's flows: their load, and what an accepted table gives.
+-- The rows of a table as a port's flows: their demand, and what an accepted table gives.
 use Rattle.std.proofs.Common.{◌≡◌, ℕ, ◌+◌, ◌-◌, ◌*◌, ◌/◌, ◌<◌, ◌≤◌, Bool, true, false, cond, Option, Some, None, List, [], ◌∷◌, ◌++◌, length, get_or, refl, ap, sym, ◌∙◌, subst, arith, ⊎_elim}
 use Rattle.std.proofs.Common.{append-nil}
 use Rattle.std.specs.Prelude.{nat_eq, nat_lt, ◌&&◌, not, max, map, filter, sum_by, count_by, All, Contains}
@@ -17,17 +17,18 @@ use Rattle.afdx_port.specs.declared.Item.{Item}
 use Rattle.afdx_port.specs.declared.Sent.{Sent}
 use Rattle.afdx_port.specs.Service.{sent_of}
 use Rattle.afdx_units.specs.Line.{is_high}
-use Rattle.afdx_port.specs.Admission.{admitted, AdmittedFit, AllFitIn, with_buffer, BuffersServeAlike}
+use Rattle.afdx_port.specs.Admission.{admitted, AllFitIn}
+use Rattle.afdx_port.specs.Inner.Admission.{AdmittedFit, with_buffer, BuffersServeAlike}
 use Rattle.afdx_port.specs.Content.{Content as PortContent, done}
 use Rattle.afdx_table.specs.declared.rows.PortRow.{PortRow}
 use Rattle.afdx_table.specs.Link.{Link, leads_to}
 use Rattle.afdx_table.specs.Content.{Content}
 use Rattle.afdx_table.specs.WellFormed.{IsLink, IsWellFormed}
-use Rattle.afdx_load.specs.Sums.{behind, is_high_link, is_low_link, routed, rate_of, burst_of, time_of, greatest, sums_of, load_of as sums_at, terms_of}
+use Rattle.afdx_load.specs.Load.{behind, is_high_link, is_low_link, routed, rate_of, burst_of, time_of, greatest, links_load, load_of, terms_of}
 use Rattle.afdx_load.specs.Bounds.{backlog, byte_time}
-use Rattle.afdx_load.specs.Accepted.{Carries as CarriesSums}
+use Rattle.afdx_load.specs.Accepted.{Carries as CarriesLoad}
 use Rattle.afdx_load.specs.Inner.Laws.{AsksWhatItsAccountGives, EachLinkAsks, AcceptedKeepsBounds}
-use Rattle.afdx_isolation.specs.Inner.Flow.{Flow, IsPaidFor, Carries, AreDistinct, high_flows, low_flows, rates, bursts, longest, load_of, bound}
+use Rattle.afdx_isolation.specs.Inner.Flow.{Flow, IsPaidFor, Carries, AreDistinct, high_flows, low_flows, rates, bursts, longest, demand_of, bound}
 use Rattle.afdx_isolation.specs.Arrivals.{own, frame_in}
 use Rattle.afdx_isolation.specs.Inner.Arrivals.{IsClean, is_passed, joins, feed_of}
 use Rattle.afdx_isolation.specs.Inner.Claims.{Arrive, IsInBound, IsIsolatedSoFar, IsolatesSoFar, NoneIsFull}
@@ -51,30 +52,28 @@ in_filter p xs x among = All-contains (Contains xs) (filter p xs) x (All-filter 
 filter_true : {X : Type 0} (p : X → Bool) (xs : List X) (x : X) → Contains (filter p xs) x → p x ≡ true
 filter_true p xs x among = All-contains (λ x. p x ≡ true) (filter p xs) x (filter_passes p xs) among
 
--- ---- the load
+-- ---- the demand
 
 module _ (speed : Speed) where
   abbrev seen : Link → Flow
   seen link = flow_of speed link
+
+  out : (l : Link) (v : Bool) (ls : List Link) → cond v (seen l ∷ map seen ls) (map seen ls) ≡ map seen (cond v (l ∷ ls) ls)
+  out l true ls = refl
+  out l false ls = refl
 
   -- the high flows are those of the high links
   highs_seen : (links : List Link) → high_flows (map seen links) ≡ map seen (filter is_high_link links)
   highs_seen [] = refl
   highs_seen (l ∷ links) =
       ap (λ fs. cond (is_high_link l) (seen l ∷ fs) fs) (highs_seen links)
-      ∙ out (is_high_link l) (filter is_high_link links) where
-        out : (v : Bool) (ls : List Link) → cond v (seen l ∷ map seen ls) (map seen ls) ≡ map seen (cond v (l ∷ ls) ls)
-        out true ls = refl
-        out false ls = refl
+      ∙ out l (is_high_link l) (filter is_high_link links)
 
   lows_seen : (links : List Link) → low_flows (map seen links) ≡ map seen (filter is_low_link links)
   lows_seen [] = refl
   lows_seen (l ∷ links) =
       ap (λ fs. cond (is_low_link l) (seen l ∷ fs) fs) (lows_seen links)
-      ∙ out (is_low_link l) (filter is_low_link links) where
-        out : (v : Bool) (ls : List Link) → cond v (seen l ∷ map seen ls) (map seen ls) ≡ map seen (cond v (l ∷ ls) ls)
-        out true ls = refl
-        out false ls = refl
+      ∙ out l (is_low_link l) (filter is_low_link links)
 
   sum_seen : (f : Flow → ℕ) (h : Link → ℕ) → ((l : Link) → f (seen l) ≡ h l) → (links : List Link) → sum_by f (map seen links) ≡ sum_by h links
   sum_seen f h same [] = refl
@@ -94,15 +93,15 @@ module _ (latency : ℕ) (row : PortRow) (asks : AsksWhatItsAccountGives) where
   longest_seen (l ∷ links) = ap (λ n. max (time_of row.speed l) n) (longest_seen links)
 
   pub record SameLoad (links : List Link) : Type 0 where
-    pub rate : (load_of (settings_of latency row) (map (flow_of row.speed) links)).rate ≡ (sums_of row.speed links).rate
-    pub high_rate : (load_of (settings_of latency row) (map (flow_of row.speed) links)).high_rate ≡ (sums_of row.speed links).high_rate
-    pub burst : (load_of (settings_of latency row) (map (flow_of row.speed) links)).burst ≡ (sums_of row.speed links).burst
-    pub high_burst : (load_of (settings_of latency row) (map (flow_of row.speed) links)).high_burst ≡ (sums_of row.speed links).high_burst
-    pub largest : (load_of (settings_of latency row) (map (flow_of row.speed) links)).largest ≡ (sums_of row.speed links).largest
-    pub low_largest : (load_of (settings_of latency row) (map (flow_of row.speed) links)).low_largest ≡ (sums_of row.speed links).low_largest
+    pub rate : (demand_of (settings_of latency row) (map (flow_of row.speed) links)).rate ≡ (links_load row.speed links).rate
+    pub high_rate : (demand_of (settings_of latency row) (map (flow_of row.speed) links)).high_rate ≡ (links_load row.speed links).high_rate
+    pub burst : (demand_of (settings_of latency row) (map (flow_of row.speed) links)).burst ≡ (links_load row.speed links).burst
+    pub high_burst : (demand_of (settings_of latency row) (map (flow_of row.speed) links)).high_burst ≡ (links_load row.speed links).high_burst
+    pub largest : (demand_of (settings_of latency row) (map (flow_of row.speed) links)).largest ≡ (links_load row.speed links).largest
+    pub low_largest : (demand_of (settings_of latency row) (map (flow_of row.speed) links)).low_largest ≡ (links_load row.speed links).low_largest
 
   same_load : (links : List Link) → SameLoad links
-  unfolding sums_of
+  unfolding links_load
   same_load links = record {
     rate = rates_seen row.speed asks links;
     high_rate = ap rates (highs_seen row.speed links) ∙ rates_seen row.speed asks (filter is_high_link links);
@@ -113,19 +112,19 @@ module _ (latency : ℕ) (row : PortRow) (asks : AsksWhatItsAccountGives) where
   }
 
   -- the two bounds are those of the load
-  high_is : (links : List Link) → bound (load_of (settings_of latency row) (map (flow_of row.speed) links)) High ≡
-      ((sums_of row.speed links).high_burst + parts * (sums_of row.speed links).low_largest) / parts + latency
+  high_is : (links : List Link) → bound (demand_of (settings_of latency row) (map (flow_of row.speed) links)) High ≡
+      ((links_load row.speed links).high_burst + parts * (links_load row.speed links).low_largest) / parts + latency
   high_is links =
       let same = same_load links in
-      ap (λ n. (n + parts * (load_of (settings_of latency row) (map (flow_of row.speed) links)).low_largest) / parts + latency) same.high_burst
-      ∙ ap (λ n. ((sums_of row.speed links).high_burst + parts * n) / parts + latency) same.low_largest
+      ap (λ n. (n + parts * (demand_of (settings_of latency row) (map (flow_of row.speed) links)).low_largest) / parts + latency) same.high_burst
+      ∙ ap (λ n. ((links_load row.speed links).high_burst + parts * n) / parts + latency) same.low_largest
 
-  low_is : (links : List Link) → bound (load_of (settings_of latency row) (map (flow_of row.speed) links)) Low ≡ (sums_of row.speed links).burst / (parts - (sums_of row.speed links).high_rate)
+  low_is : (links : List Link) → bound (demand_of (settings_of latency row) (map (flow_of row.speed) links)) Low ≡ (links_load row.speed links).burst / (parts - (links_load row.speed links).high_rate)
       + latency
   low_is links =
       let same = same_load links in
-      ap (λ n. n / (parts - (load_of (settings_of latency row) (map (flow_of row.speed) links)).high_rate) + latency) same.burst
-      ∙ ap (λ n. (sums_of row.speed links).burst / (parts - n) + latency) same.high_rate
+      ap (λ n. n / (parts - (demand_of (settings_of latency row) (map (flow_of row.speed) links)).high_rate) + latency) same.burst
+      ∙ ap (λ n. (links_load row.speed links).burst / (parts - n) + latency) same.high_rate
 
   -- a flow of a priority is counted
   count_more : (p : Link → Bool) (l : Link) (links : List Link) → count_by p (l ∷ links) ≡ cond (p l) 1 0 + count_by p links
@@ -138,37 +137,37 @@ module _ (latency : ℕ) (row : PortRow) (asks : AsksWhatItsAccountGives) where
       (All-weaker (λ k. p k ≡ true → 0 < count_by p links) (λ k. p k ≡ true → 0 < count_by p (l ∷ links)) (λ k h is. let some = h is in omega (arith, some, count_more p l links)) links
       (counted p links))
 
-  some_high : (links : List Link) → All (λ (flow : Flow). flow.priority ≡ High → 0 < (sums_of row.speed links).highs) (map (flow_of row.speed) links)
-  unfolding sums_of
+  some_high : (links : List Link) → All (λ (flow : Flow). flow.priority ≡ High → 0 < (links_load row.speed links).highs) (map (flow_of row.speed) links)
+  unfolding links_load
   some_high links = All-map (λ (flow : Flow). flow.priority ≡ High → 0 < count_by is_high_link links) (flow_of row.speed) links
       (All-weaker (λ l. is_high_link l ≡ true → 0 < count_by is_high_link links) (λ l. l.priority ≡ High → 0 < count_by is_high_link links) (λ l h is. h (ap is_high is)) links
       (counted is_high_link links))
 
-  some_low : (links : List Link) → All (λ (flow : Flow). flow.priority ≡ Low → 0 < (sums_of row.speed links).lows) (map (flow_of row.speed) links)
-  unfolding sums_of
+  some_low : (links : List Link) → All (λ (flow : Flow). flow.priority ≡ Low → 0 < (links_load row.speed links).lows) (map (flow_of row.speed) links)
+  unfolding links_load
   some_low links = All-map (λ (flow : Flow). flow.priority ≡ Low → 0 < count_by is_low_link links) (flow_of row.speed) links
       (All-weaker (λ l. is_low_link l ≡ true → 0 < count_by is_low_link links) (λ l. l.priority ≡ Low → 0 < count_by is_low_link links) (λ l h is. h (ap (λ p. not (is_high p)) is)) links
       (counted is_low_link links))
 
-  some_link : (l : Link) (links : List Link) → 0 < (sums_of row.speed (l ∷ links)).highs + (sums_of row.speed (l ∷ links)).lows
-  unfolding sums_of
+  some_link : (l : Link) (links : List Link) → 0 < (links_load row.speed (l ∷ links)).highs + (links_load row.speed (l ∷ links)).lows
+  unfolding links_load
   some_link l links =
       let one : 0 < cond {A = ℕ} (is_high_link l) 1 0 + cond (not (is_high_link l)) 1 0 = elim (is_high_link l) as (λ v. 0 < cond v 1 0 + cond (not v) 1 0) [ true ↦ omega arith | false ↦ omega arith ]
       in
       omega (arith, one, count_more is_high_link l links, count_more is_low_link l links)
 
   abbrev KeepsBounds : List Link → Type 0
-  KeepsBounds links = (0 < (sums_of row.speed links).highs → ((sums_of row.speed links).high_burst + parts * (sums_of row.speed links).low_largest) / parts + latency ≤ row.max_delay)
-      × (0 < (sums_of row.speed links).lows → ((sums_of row.speed links).high_rate < parts)
-      × ((sums_of row.speed links).burst / (parts - (sums_of row.speed links).high_rate) + latency ≤ row.max_delay))
+  KeepsBounds links = (0 < (links_load row.speed links).highs → ((links_load row.speed links).high_burst + parts * (links_load row.speed links).low_largest) / parts + latency ≤ row.max_delay)
+      × (0 < (links_load row.speed links).lows → ((links_load row.speed links).high_rate < parts)
+      × ((links_load row.speed links).burst / (parts - (links_load row.speed links).high_rate) + latency ≤ row.max_delay))
 
-  carries : (links : List Link) → (0 < (sums_of row.speed links).highs + (sums_of row.speed links).lows → CarriesSums row (behind latency (sums_of row.speed links))) → KeepsBounds links
+  carries : (links : List Link) → (0 < (links_load row.speed links).highs + (links_load row.speed links).lows → CarriesLoad row (behind latency (links_load row.speed links))) → KeepsBounds links
       → Carries (settings_of latency row) (map (flow_of row.speed) links)
   carries [] h bounds = record {
     rate = omega arith;
     buffer = omega arith;
-    high = All-nil (λ (flow : Flow). flow.priority ≡ High → bound (load_of (settings_of latency row) []) High ≤ row.max_delay);
-    low = All-nil (λ (flow : Flow). flow.priority ≡ Low → bound (load_of (settings_of latency row) []) Low ≤ row.max_delay);
+    high = All-nil (λ (flow : Flow). flow.priority ≡ High → bound (demand_of (settings_of latency row) []) High ≤ row.max_delay);
+    low = All-nil (λ (flow : Flow). flow.priority ≡ Low → bound (demand_of (settings_of latency row) []) Low ≤ row.max_delay);
   }
   carries (l ∷ more) h bounds =
       let links = l ∷ more in
@@ -178,28 +177,28 @@ module _ (latency : ℕ) (row : PortRow) (asks : AsksWhatItsAccountGives) where
       record {
         rate = omega (arith, all.rate, same.rate);
         buffer = omega (arith, all.buffer, same.burst, same.largest);
-        high = All-weaker (λ (flow : Flow). flow.priority ≡ High → 0 < (sums_of row.speed links).highs)
-            (λ (flow : Flow). flow.priority ≡ High → bound (load_of (settings_of latency row) flows) High ≤ row.max_delay)
+        high = All-weaker (λ (flow : Flow). flow.priority ≡ High → 0 < (links_load row.speed links).highs)
+            (λ (flow : Flow). flow.priority ≡ High → bound (demand_of (settings_of latency row) flows) High ≤ row.max_delay)
             (λ flow some is. let le = bounds.0 (some is) in omega (arith, le, high_is links)) flows (some_high links);
-        low = All-weaker (λ (flow : Flow). flow.priority ≡ Low → 0 < (sums_of row.speed links).lows)
-            (λ (flow : Flow). flow.priority ≡ Low → bound (load_of (settings_of latency row) flows) Low ≤ row.max_delay)
+        low = All-weaker (λ (flow : Flow). flow.priority ≡ Low → 0 < (links_load row.speed links).lows)
+            (λ (flow : Flow). flow.priority ≡ Low → bound (demand_of (settings_of latency row) flows) Low ≤ row.max_delay)
             (λ flow some is. let le = (bounds.1 (some is)).1 in omega (arith, le, low_is links)) flows (some_low links);
       }
 
   -- a bound of a priority that has a flow
   bound_some : (links : List Link) → KeepsBounds links → (flow : Flow) → Contains (map (flow_of row.speed) links) flow → (priority : Priority) → flow.priority ≡ priority
-      → bound_of (behind latency (sums_of row.speed links)) priority ≡ Some (bound (load_of (settings_of latency row) (map (flow_of row.speed) links)) priority)
+      → bound_of (behind latency (links_load row.speed links)) priority ≡ Some (bound (demand_of (settings_of latency row) (map (flow_of row.speed) links)) priority)
   bound_some links bounds flow among High is =
-      let some = All-contains (λ (flow : Flow). flow.priority ≡ High → 0 < (sums_of row.speed links).highs) (map (flow_of row.speed) links) flow (some_high links) among is in
-      given (nat_lt 0 (sums_of row.speed links).highs) _ (positive _ some) ∙ ap Some (sym (high_is links)) where
+      let some = All-contains (λ (flow : Flow). flow.priority ≡ High → 0 < (links_load row.speed links).highs) (map (flow_of row.speed) links) flow (some_high links) among is in
+      given (nat_lt 0 (links_load row.speed links).highs) _ (positive _ some) ∙ ap Some (sym (high_is links)) where
         positive : (n : ℕ) → 0 < n → nat_lt 0 n ≡ true
         positive n h = grind (arith, nat_tests)
 
         given : (v : Bool) (o : Option ℕ) → v ≡ true → cond v o None ≡ o
         given v o is = ap (λ v. cond v o None) is
   bound_some links bounds flow among Low is =
-      let some = All-contains (λ (flow : Flow). flow.priority ≡ Low → 0 < (sums_of row.speed links).lows) (map (flow_of row.speed) links) flow (some_low links) among is in
-      given (nat_lt 0 (sums_of row.speed links).lows) (nat_lt (sums_of row.speed links).high_rate parts) _ (below _ _ some) (below _ _ (bounds.1 some).0) ∙ ap Some (sym (low_is links)) where
+      let some = All-contains (λ (flow : Flow). flow.priority ≡ Low → 0 < (links_load row.speed links).lows) (map (flow_of row.speed) links) flow (some_low links) among is in
+      given (nat_lt 0 (links_load row.speed links).lows) (nat_lt (links_load row.speed links).high_rate parts) _ (below _ _ some) (below _ _ (bounds.1 some).0) ∙ ap Some (sym (low_is links)) where
         below : (m n : ℕ) → m < n → nat_lt m n ≡ true
         below m n h = grind (arith, nat_tests)
 
@@ -311,12 +310,12 @@ isolated_at pays asks some keeps isolates t arrivals h row among c settings is =
       clean = All-weaker (IsCleanIn t) (IsClean flows) (λ x is. clean t row h.well_formed x is) arrivals h.clean;
     } in
     let bounds : KeepsBounds t.latency row asks links = All-contains (λ (row : PortRow). KeepsBounds t.latency row asks (routed row.id t.links)) t.ports row (keeps t h.well_formed h.accepted) among in
-    let accepted = All-contains (λ (row : PortRow). 0 < (sums_at t.latency row.speed row.id t.links).highs + (sums_at t.latency row.speed row.id t.links).lows
-    → CarriesSums row (sums_at t.latency row.speed row.id t.links)) t.ports row h.accepted among in
-    let load : Carries s flows = carries t.latency row asks links accepted bounds in
-    let all : IsIsolatedSoFar flows arrivals c = isolates c flows arrivals (subst (λ s. Arrive s flows arrivals) (sym settings) arrive) (subst (λ s. Carries s flows) (sym settings) load)
+    let accepted = All-contains (λ (row : PortRow). 0 < (load_of t.latency row.speed row.id t.links).highs + (load_of t.latency row.speed row.id t.links).lows
+    → CarriesLoad row (load_of t.latency row.speed row.id t.links)) t.ports row h.accepted among in
+    let carried : Carries s flows = carries t.latency row asks links accepted bounds in
+    let all : IsIsolatedSoFar flows arrivals c = isolates c flows arrivals (subst (λ s. Arrive s flows arrivals) (sym settings) arrive) (subst (λ s. Carries s flows) (sym settings) carried)
     (subst (λ s. c.admitted ≡ admitted s (feed_of flows arrivals)) (sym settings) is) in
-    let in_bound : All (IsInBound s (load_of s flows)) (sent_of (done c)) = subst (λ s. All (IsInBound s (load_of s flows)) (sent_of (done c))) settings all.in_bound in
+    let in_bound : All (IsInBound s (demand_of s flows)) (sent_of (done c)) = subst (λ s. All (IsInBound s (demand_of s flows)) (sent_of (done c))) settings all.in_bound in
     record {
       none_full = all.none_full;
       none_aged = all.none_aged;
@@ -325,7 +324,7 @@ isolated_at pays asks some keeps isolates t arrivals h row among c settings is =
           let of = all.of_flows k d lt in
           let within = in_bound k d lt in
           record {
-            bound = bound (load_of s flows) x.item.priority;
+            bound = bound (demand_of s flows) x.item.priority;
             bound_is = bound_some t.latency row asks links bounds of.flow of.among x.item.priority of.priority;
             least = within.least;
             most = within.most;
@@ -335,7 +334,7 @@ isolated_at pays asks some keeps isolates t arrivals h row among c settings is =
 
 -- a row with a buffer of so many bytes admits all that its port is offered, where they hold the backlog
 none_past : PricesPay → AsksWhatItsAccountGives → EachLinkAsks → AcceptedKeepsBounds → NoneIsFull → (t : Content) (arrivals : List Item) → ArriveAt t arrivals → (row : PortRow) → Contains t.ports row
-    → (bytes : ℕ) → backlog (sums_at t.latency row.speed row.id t.links) ≤ byte_time row.speed bytes
+    → (bytes : ℕ) → backlog (load_of t.latency row.speed row.id t.links) ≤ byte_time row.speed bytes
     → admitted (with_buffer bytes (settings_of t.latency row)) (feed_of (flows_at t row) arrivals) ≡ feed_of (flows_at t row) arrivals
 none_past pays asks some keeps full t arrivals h row among bytes holds =
     let own : PortRow = record { id = row.id; speed = row.speed; buffer = bytes; max_delay = row.max_delay } in
@@ -349,13 +348,13 @@ none_past pays asks some keeps full t arrivals h row among bytes holds =
     } in
     let bounds : KeepsBounds t.latency own asks (routed row.id t.links) = All-contains (λ (row : PortRow). KeepsBounds t.latency row asks (routed row.id t.links)) t.ports row
     (keeps t h.well_formed h.accepted) among in
-    let accepted = All-contains (λ (row : PortRow). 0 < (sums_at t.latency row.speed row.id t.links).highs + (sums_at t.latency row.speed row.id t.links).lows
-    → CarriesSums row (sums_at t.latency row.speed row.id t.links)) t.ports row h.accepted among in
-    let load : Carries s flows = carries t.latency own asks (routed row.id t.links) (λ has. let c = accepted has in record { rate = c.rate; buffer = holds; high = c.high; low = c.low }) bounds in
-    full s flows arrivals arrive load.rate load.buffer
+    let accepted = All-contains (λ (row : PortRow). 0 < (load_of t.latency row.speed row.id t.links).highs + (load_of t.latency row.speed row.id t.links).lows
+    → CarriesLoad row (load_of t.latency row.speed row.id t.links)) t.ports row h.accepted among in
+    let carried : Carries s flows = carries t.latency own asks (routed row.id t.links) (λ has. let c = accepted has in record { rate = c.rate; buffer = holds; high = c.high; low = c.low }) bounds in
+    full s flows arrivals arrive carried.rate carried.buffer
 
 pub holds_backlog : PricesPay → AsksWhatItsAccountGives → EachLinkAsks → AcceptedKeepsBounds → NoneIsFull → AdmittedFit → BuffersServeAlike → AcceptedTablesIsolate
-    → (t : Content) (arrivals : List Item) → ArriveAt t arrivals → (row : PortRow) → Contains t.ports row → (bytes : ℕ) → backlog (sums_at t.latency row.speed row.id t.links)
+    → (t : Content) (arrivals : List Item) → ArriveAt t arrivals → (row : PortRow) → Contains t.ports row → (bytes : ℕ) → backlog (load_of t.latency row.speed row.id t.links)
     ≤ byte_time row.speed bytes
     → AllFitIn bytes (settings_of t.latency row) [] (admitted (settings_of t.latency row) (feed_of (flows_at t row) arrivals))
 holds_backlog pays asks some keeps full fit alike isolate t arrivals h row among bytes holds =

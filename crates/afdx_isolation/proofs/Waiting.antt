@@ -13,7 +13,7 @@ use Rattle.afdx_port.specs.Inner.Progress.{LineState, left}
 use Rattle.afdx_port.specs.Inner.Order.{highs, lows, line_up}
 use Rattle.afdx_port.specs.Inner.Course.{rest_in_line, line_at}
 use Rattle.afdx_port.specs.Inner.Work.{item_cost}
-use Rattle.afdx_isolation.specs.Inner.Flow.{Load}
+use Rattle.afdx_isolation.specs.Inner.Flow.{Demand}
 use Rattle.afdx_isolation.specs.Inner.Potential.{IsWithinPotentials}
 use Rattle.afdx_isolation.proofs.Numbers.{stand_high_start, stand_low_start, stand_rest}
 
@@ -115,14 +115,14 @@ choose_yes x y h = grind (arith, nat_tests)
 choose_no : {b t : ℕ} (x y : LineState) → t ≤ b → cond (nat_lt b t) x y ≡ y
 choose_no x y h = grind (arith, nat_tests)
 
-module _ (n : ℕ) (s : Settings) (load : Load) (to level high_level : ℕ) (capped : level ≤ load.burst) (high_capped : high_level ≤ load.high_burst) where
+module _ (n : ℕ) (s : Settings) (demand : Demand) (to level high_level : ℕ) (capped : level ≤ demand.burst) (high_capped : high_level ≤ demand.high_burst) where
   -- the potentials at `to`, of a line that starts its next item at `start`
   abbrev Stands : ℕ → List Item → Type 0
-  Stands start items = IsWithinPotentials n s load to start level high_level (highs items) (lows items)
+  Stands start items = IsWithinPotentials n s demand to start level high_level (highs items) (lows items)
 
   -- a low item takes no longer than the longest low frame
   abbrev pub IsShort : Item → Type 0
-  IsShort item = is_high item.priority ≡ false → item_cost s item ≤ load.low_largest
+  IsShort item = is_high item.priority ≡ false → item_cost s item ≤ demand.low_largest
 
   -- one start before `to`
   starts : (b : ℕ) (x : Item) (items : List Item) → (is_high x.priority ≡ false → highs items ≡ []) → IsShort x → b ≤ to
@@ -132,15 +132,15 @@ module _ (n : ℕ) (s : Settings) (load : Load) (to level high_level : ℕ) (cap
       let le = (fate_free s b x).1 in
       ⊎_elim
       (λ (is : is_high x.priority ≡ true).
-      stand_high_start n s load to b end level high_level x (highs items) (lows items) le
-      (subst (λ ys. IsWithinPotentials n s load to b level high_level (x ∷ highs items) ys) (lows-high x items is)
-      (subst (λ xs. IsWithinPotentials n s load to b level high_level xs (lows (x ∷ items))) (highs-high x items is) h)))
+      stand_high_start n s demand to b end level high_level x (highs items) (lows items) le
+      (subst (λ ys. IsWithinPotentials n s demand to b level high_level (x ∷ highs items) ys) (lows-high x items is)
+      (subst (λ xs. IsWithinPotentials n s demand to b level high_level xs (lows (x ∷ items))) (highs-high x items is) h)))
       (λ (is : is_high x.priority ≡ false).
       let none : highs items ≡ [] = lined is in
-      subst (λ xs. IsWithinPotentials n s load to end level high_level xs (lows items)) (sym none)
-      (stand_low_start n s load to b end level high_level x (lows items) le before' (short is) high_capped
-      (subst (λ ys. IsWithinPotentials n s load to b level high_level [] ys) (lows-low x items is)
-      (subst (λ xs. IsWithinPotentials n s load to b level high_level xs (lows (x ∷ items))) (highs-low x items is ∙ none) h))))
+      subst (λ xs. IsWithinPotentials n s demand to end level high_level xs (lows items)) (sym none)
+      (stand_low_start n s demand to b end level high_level x (lows items) le before' (short is) high_capped
+      (subst (λ ys. IsWithinPotentials n s demand to b level high_level [] ys) (lows-low x items is)
+      (subst (λ xs. IsWithinPotentials n s demand to b level high_level xs (lows (x ∷ items))) (highs-low x items is ∙ none) h))))
       (cases_Bool (is_high x.priority))
 
   abbrev Rests : LineState → Type 0
@@ -148,7 +148,7 @@ module _ (n : ℕ) (s : Settings) (load : Load) (to level high_level : ℕ) (cap
 
   -- all starts before `to`
   pub stand_starts : (b : ℕ) (items : List Item) → LinedUp items → AllByRecursion IsShort items → Stands b items → Rests (rest_in_line s to b items)
-  stand_starts b [] lined short h = stand_rest n s load to b level high_level capped high_capped h
+  stand_starts b [] lined short h = stand_rest n s demand to b level high_level capped high_capped h
   stand_starts b (x ∷ items) lined short h =
       let end = free_after (fate s b x) in
       ⊎_elim

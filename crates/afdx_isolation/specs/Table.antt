@@ -7,7 +7,7 @@ use Rattle.afdx_port.specs.declared.Settings.{Settings}
 use Rattle.afdx_port.specs.declared.Sent.{Sent}
 use Rattle.afdx_table.specs.declared.rows.PortRow.{PortRow}
 use Rattle.afdx_table.specs.Content.{Content}
-use Rattle.afdx_load.specs.Sums.{Sums, load_of}
+use Rattle.afdx_load.specs.Load.{Load, load_of}
 use Rattle.afdx_load.specs.Bounds.{high_bound, low_bound}
 
 -- a port of a switch of this latency
@@ -15,7 +15,7 @@ abbrev pub settings_of : ℕ → PortRow → Settings
 settings_of latency row = record { speed = row.speed; buffer = row.buffer; max_delay = row.max_delay; latency = latency }
 
 -- the bound of a priority, where the port has links of it
-abbrev pub bound_of : Sums → Priority → Option ℕ
+abbrev pub bound_of : Load → Priority → Option ℕ
 bound_of load High = high_bound load
 bound_of load Low = low_bound load
 

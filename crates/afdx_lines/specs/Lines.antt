@@ -1,5 +1,5 @@
 -- The lines of faults, and the status of a network's (profile).
-use Rattle.std.specs.Prelude.{ℕ, codes, List, [], ◌∷◌, ◌++◌, Option, Some, None, option_map, string_bytes}
+use Rattle.std.specs.Prelude.{ℕ, codes, List, [], ◌++◌, Option, Some, None, option_map, string_bytes}
 use Rattle.std.specs.Fmt.{decimal}
 use Rattle.afdx_pcap.specs.declared.fault.PcapFault.{PcapFault}
 use Rattle.afdx_pcap.specs.declared.fault.PcapFault.TheVariants as fault
@@ -12,13 +12,10 @@ use Rattle.afdx_load.specs.declared.fault.LoadFault.{LoadFault}
 use Rattle.afdx_wiring.specs.declared.fault.NetworkFault.{NetworkFault}
 use Rattle.afdx_wiring.specs.declared.fault.NetworkFault.TheVariants as net
 use Rattle.afdx_wiring.specs.declared.fault.Short.{Short}
+use Rattle.afdx_wiring.specs.Lines.{ended}
 use Rattle.afdx_wiring.specs.Names.{key_text as wiring_key_text, place_text as wiring_place_text}
 use Rattle.afdx_lines.specs.declared.network_failure.NetworkFailure.{NetworkFailure}
 use Rattle.afdx_lines.specs.declared.network_failure.NetworkFailure.TheVariants as network
-
--- each line ends with a line feed
-abbrev pub ended : List ℕ → List ℕ
-ended line = line ++ 10 ∷ []
 
 -- ---- of a table
 

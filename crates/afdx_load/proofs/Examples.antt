@@ -7,7 +7,7 @@ use Rattle.afdx_units.specs.declared.line.Priority.TheVariants.{High, Low}
 use Rattle.afdx_units.specs.declared.police.Police.TheVariants.{Byte, Frame}
 use Rattle.afdx_table.specs.Link.{Link}
 use Rattle.afdx_table.specs.declared.rows.PortRow.{PortRow}
-use Rattle.afdx_load.specs.Sums.{rate_of, burst_of, time_of, sums_of, load_of}
+use Rattle.afdx_load.specs.Load.{rate_of, burst_of, time_of, links_load, load_of}
 use Rattle.afdx_account.specs.Policing.{parts}
 use Rattle.afdx_load.specs.Bounds.{high_bound, low_bound}
 use Rattle.afdx_load.specs.Accepted.{fault_at, first_fault}
@@ -47,16 +47,16 @@ frame_burst = refl
 
 -- the bounds of a mixed port
 high : high_bound (load_of 0 Hundred 2 mixed) ≡ Some 282430
-unfolding mixed worked sums_of
+unfolding mixed worked links_load
 high = refl
 
 low : low_bound (load_of 0 Hundred 2 mixed) ≡ Some 379224
-unfolding mixed worked sums_of
+unfolding mixed worked links_load
 low = refl
 
 -- a port to which nothing leads has none
 elsewhere : low_bound (load_of 0 Hundred 1 mixed) ≡ None
-unfolding mixed worked sums_of
+unfolding mixed worked links_load
 elsewhere = refl
 
 port : ℕ → PortRow
@@ -64,13 +64,13 @@ port max_delay = record { id = 2; speed = Hundred; buffer = 100000; max_delay = 
 
 -- the first fault
 late : first_fault 0 mixed (port 283000 ∷ []) ≡ Some (record { port = 2; rule = LowDelay; need = 379224; limit = 283000 })
-unfolding mixed worked port sums_of fault_at
+unfolding mixed worked port links_load fault_at
 late = refl
 
 in_time : first_fault 0 mixed (port 380000 ∷ []) ≡ None
-unfolding mixed worked port sums_of fault_at
+unfolding mixed worked port links_load fault_at
 in_time = refl
 
 slow : first_fault 0 (worked Low ∷ []) (record { id = 2; speed = Ten; buffer = 100000; max_delay = 500000000 } ∷ []) ≡ Some (record { port = 2; rule = Rate; need = 3264307200; limit = 2048000000 })
-unfolding worked sums_of fault_at
+unfolding worked links_load fault_at
 slow = refl

@@ -11,7 +11,7 @@ use Rattle.afdx_units.specs.declared.line.Speed.{Speed}
 use Rattle.afdx_load.specs.declared.fault.Rule.{Rule}
 use Rattle.afdx_load.specs.declared.fault.Rule.TheVariants.{Rate, Buffer, HighDelay, LowDelay}
 use Rattle.afdx_load.specs.declared.fault.LoadFault.{LoadFault}
-use Rattle.afdx_load.specs.Sums.{Sums, sums_of, behind, load_of, routed}
+use Rattle.afdx_load.specs.Load.{Load, links_load, behind, load_of, routed}
 use Rattle.afdx_account.specs.Policing.{parts}
 use Rattle.afdx_load.specs.Bounds.{high_bound, low_bound, backlog, byte_time}
 use Rattle.afdx_load.specs.Accepted.{Carries, IsAccepted, past, past_bound, fault_at, first_fault}
@@ -45,7 +45,7 @@ or_none (Some x) b h = absurd cc
 none_or : (a b : Option LoadFault) → a ≡ None → b ≡ None → option_or a b ≡ None
 none_or a b h k = rw h k
 
-pub fine_none : (row : PortRow) (s : Sums) → Carries row s → fault_at row s ≡ None
+pub fine_none : (row : PortRow) (s : Load) → Carries row s → fault_at row s ≡ None
 unfolding fault_at
 fine_none row s fine =
     none_or _ _ (none_or _ _ (none_or _ _
@@ -54,7 +54,7 @@ fine_none row s fine =
     (bound_none row.id HighDelay row.max_delay (high_bound s) fine.high))
     (bound_none row.id LowDelay row.max_delay (low_bound s) fine.low)
 
-pub none_fine : (row : PortRow) (s : Sums) → fault_at row s ≡ None → Carries row s
+pub none_fine : (row : PortRow) (s : Load) → fault_at row s ≡ None → Carries row s
 unfolding fault_at
 none_fine row s h =
     let d = or_none _ _ h in
@@ -67,14 +67,15 @@ none_fine row s h =
       low = none_bound row.id LowDelay row.max_delay (low_bound s) d.1;
     }
 
-nothing_fine : (row : PortRow) (latency : ℕ) (s : Sums) → s ≡ record { highs = 0; lows = 0; rate = 0; high_rate = 0; burst = 0; high_burst = 0; largest = 0; low_largest = 0; latency = latency }
+nothing_fine : (row : PortRow) (latency : ℕ) (s : Load) → s ≡ record { highs = 0; lows = 0; rate = 0; high_rate = 0; burst = 0; high_burst = 0; largest = 0; low_largest = 0; latency = latency }
     → Carries row s
 nothing_fine row latency s h = rw h (record { rate = omega arith; buffer = omega arith; high = tt; low = tt })
 
 -- a port without links carries its load
-with_links : (row : PortRow) (latency : ℕ) (speed : Speed) (links : List Link) → (0 < (sums_of speed links).highs + (sums_of speed links).lows → Carries row (behind latency (sums_of speed links)))
-    → Carries row (behind latency (sums_of speed links))
-with_links row latency speed [] h = nothing_fine row latency (behind latency (sums_of speed [])) (ap (behind latency) (load_none speed))
+with_links : (row : PortRow) (latency : ℕ) (speed : Speed) (links : List Link) → (0 < (links_load speed links).highs + (links_load speed links).lows
+    → Carries row (behind latency (links_load speed links)))
+    → Carries row (behind latency (links_load speed links))
+with_links row latency speed [] h = nothing_fine row latency (behind latency (links_load speed [])) (ap (behind latency) (load_none speed))
 with_links row latency speed (link ∷ links) h = h (omega (arith, all_counted speed (link ∷ links)))
 
 abbrev pub CarriesAt : ℕ → List Link → PortRow → Type 0

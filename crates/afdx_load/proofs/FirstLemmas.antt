@@ -11,7 +11,7 @@ use Rattle.afdx_table.specs.WellFormed.{Rises, IsWellFormed}
 use Rattle.afdx_load.specs.declared.fault.Rule.{Rule}
 use Rattle.afdx_load.specs.declared.fault.Rule.TheVariants.{Rate, Buffer, HighDelay, LowDelay}
 use Rattle.afdx_load.specs.declared.fault.LoadFault.{LoadFault}
-use Rattle.afdx_load.specs.Sums.{Sums, load_of}
+use Rattle.afdx_load.specs.Load.{Load, load_of}
 use Rattle.afdx_load.specs.Accepted.{past_bound, fault_at, first_fault}
 use Rattle.afdx_load.specs.First.{need_of, limit_of}
 use Rattle.afdx_load.specs.Inner.First.{place_of, IsFirstFault, FaultIsTheFirst}
@@ -21,10 +21,10 @@ use Rattle.afdx_load.proofs.FaultLemmas.{none_bound, or_none, some_none}
 -- ---- one rule
 
 -- the load breaks the rule
-abbrev Broken : PortRow → Sums → Rule → Type 0
+abbrev Broken : PortRow → Load → Rule → Type 0
 Broken row s rule = (need : ℕ) × (need_of rule s ≡ Some need) × (limit_of rule row < need)
 
-abbrev past_rule : PortRow → Sums → Rule → Option LoadFault
+abbrev past_rule : PortRow → Load → Rule → Option LoadFault
 past_rule row s rule = past_bound row.id rule (limit_of rule row) (need_of rule s)
 
 record Says (port : ℕ) (rule : Rule) (limit : ℕ) (need : Option ℕ) (f : LoadFault) : Type 0 where
@@ -47,7 +47,7 @@ fault_says port rule limit (Some need) f h = elim (cases_Bool (nat_lt limit need
   | inr within ↦ absurd (some_none f (sym (rw within at h)))
 ]
 
-kept : (row : PortRow) (s : Sums) (rule : Rule) → past_bound row.id rule (limit_of rule row) (need_of rule s) ≡ None → Broken row s rule → ⊥
+kept : (row : PortRow) (s : Load) (rule : Rule) → past_bound row.id rule (limit_of rule row) (need_of rule s) ≡ None → Broken row s rule → ⊥
 kept row s rule h broken =
     let within = none_bound row.id rule (limit_of rule row) (need_of rule s) h in
     let le : IfSome (Some broken.0) (λ n. n ≤ limit_of rule row) = rw broken.1 at within in
@@ -67,7 +67,7 @@ place_most HighDelay = omega arith
 place_most LowDelay = omega arith
 
 -- the rules before one
-before : (row : PortRow) (s : Sums) (rule : Rule)
+before : (row : PortRow) (s : Load) (rule : Rule)
     → (0 < place_of rule → Broken row s Rate → ⊥) → (1 < place_of rule → Broken row s Buffer → ⊥) → (2 < place_of rule → Broken row s HighDelay → ⊥)
     → (other : Rule) → place_of other < place_of rule → Broken row s other → ⊥
 before row s rule a b c Rate lt broken = a lt broken
@@ -75,11 +75,11 @@ before row s rule a b c Buffer lt broken = b lt broken
 before row s rule a b c HighDelay lt broken = c lt broken
 before row s rule a b c LowDelay lt broken = absurd (omega (arith, lt, place_most rule))
 
-record IsFirstAt (row : PortRow) (s : Sums) (f : LoadFault) : Type 0 where
+record IsFirstAt (row : PortRow) (s : Load) (f : LoadFault) : Type 0 where
   says : Says row.id f.rule (limit_of f.rule row) (need_of f.rule s) f
   none_before : (other : Rule) → place_of other < place_of f.rule → Broken row s other → ⊥
 
-first_by : (row : PortRow) (s : Sums) (rule : Rule) (f : LoadFault) → past_bound row.id rule (limit_of rule row) (need_of rule s) ≡ Some f
+first_by : (row : PortRow) (s : Load) (rule : Rule) (f : LoadFault) → past_bound row.id rule (limit_of rule row) (need_of rule s) ≡ Some f
     → ((other : Rule) → place_of other < place_of rule → Broken row s other → ⊥) → IsFirstAt row s f
 first_by row s rule f h none =
     let says = fault_says row.id rule (limit_of rule row) (need_of rule s) f h in
@@ -89,7 +89,7 @@ first_by row s rule f h none =
       none_before = subst (λ (r : Rule). (other : Rule) → place_of other < place_of r → Broken row s other → ⊥) is none;
     }
 
-first_at : (row : PortRow) (s : Sums) (f : LoadFault) → fault_at row s ≡ Some f → IsFirstAt row s f
+first_at : (row : PortRow) (s : Load) (f : LoadFault) → fault_at row s ≡ Some f → IsFirstAt row s f
 unfolding fault_at
 first_at row s f h =
     let a : Option LoadFault = past_rule row s Rate in
@@ -119,7 +119,7 @@ first_at row s f h =
         first_by row s LowDelay f (sym ed ∙ low.1) (before row s LowDelay (λ lt. kept row s Rate (sym ea ∙ finer.0)) (λ lt. kept row s Buffer (sym eb ∙ finer.1))
         (λ lt. kept row s HighDelay (sym ec ∙ fine.1)))
 
-none_broken : (row : PortRow) (s : Sums) → fault_at row s ≡ None → (rule : Rule) → Broken row s rule → ⊥
+none_broken : (row : PortRow) (s : Load) → fault_at row s ≡ None → (rule : Rule) → Broken row s rule → ⊥
 unfolding fault_at
 none_broken row s h rule =
     let a : Option LoadFault = past_rule row s Rate in
@@ -139,7 +139,7 @@ none_broken row s h rule =
 
 -- ---- all ports
 
-abbrev load_at : ℕ → List Link → PortRow → Sums
+abbrev load_at : ℕ → List Link → PortRow → Load
 load_at latency links row = load_of latency row.speed row.id links
 
 -- no port of a lower number breaks a rule

@@ -6,7 +6,7 @@ use Rattle.std.proofs.lemmas.Bool.{le-ltb, ltb-false}
 use Rattle.afdx_table.specs.declared.rows.PortRow.{PortRow}
 use Rattle.afdx_load.specs.declared.fault.Rule.{Rule}
 use Rattle.afdx_load.specs.declared.fault.Rule.TheVariants.{Rate, Buffer, HighDelay, LowDelay}
-use Rattle.afdx_load.specs.Sums.{Sums}
+use Rattle.afdx_load.specs.Load.{Load}
 use Rattle.afdx_load.specs.Bounds.{high_bound, low_bound}
 use Rattle.afdx_load.specs.Accepted.{Carries}
 use Rattle.afdx_load.specs.First.{limit_of}
@@ -28,14 +28,14 @@ leaves_none : (rule : Rule) (b : Bool) (rest : List Rule) → b ≡ false → re
 leaves_none rule true rest h k = absurd (cc)
 leaves_none rule false rest h k = k
 
-breaks_none : (row : PortRow) (s : Sums) → Carries row s → broken_rules row s ≡ []
+breaks_none : (row : PortRow) (s : Load) → Carries row s → broken_rules row s ≡ []
 breaks_none row s fine =
     leaves_none Rate _ _ (le-ltb (limit_of Rate row) s.rate fine.rate)
     (leaves_none Buffer _ _ (le-ltb (limit_of Buffer row) _ fine.buffer)
     (leaves_none HighDelay _ _ (kept row.max_delay (high_bound s) fine.high)
     (leaves_none LowDelay _ _ (kept row.max_delay (low_bound s) fine.low) refl)))
 
-carries : (row : PortRow) (s : Sums) → broken_rules row s ≡ [] → Carries row s
+carries : (row : PortRow) (s : Load) → broken_rules row s ≡ [] → Carries row s
 carries row s h =
     let rules : List Rule → List Rule = λ rest. filter (is_broken row s) rest in
     let a = none_left Rate (is_broken row s Rate) (rules (Buffer ∷ HighDelay ∷ LowDelay ∷ [])) h in

@@ -1,5 +1,5 @@
 -- The laws over loads.
-use Rattle.std.proofs.Common.{◌≡◌, ℕ, ◌+◌, ◌-◌, ◌*◌, ◌/◌, ◌<◌, ◌≤◌, Bool, true, false, ◌&&◌, cond, List, [], ◌∷◌, get_or, length, refl, sym, ap, ◌∙◌, arith, zero, suc}
+use Rattle.std.proofs.Common.{◌≡◌, ℕ, ◌+◌, ◌-◌, ◌*◌, ◌/◌, ◌<◌, ◌≤◌, Bool, true, false, ◌&&◌, cond, List, [], ◌∷◌, get_or, length, refl, sym, ap, ◌∙◌, arith}
 use Rattle.std.specs.Prelude.{◌↔◌, All, filter, sum_by, IfSome}
 use Rattle.std.proofs.lemmas.Bool.{lt-ltb}
 use Rattle.std.proofs.lemmas.List.Sums.{sum_by-cons, length-filter}
@@ -8,7 +8,7 @@ use Rattle.std.proofs.lemmas.List.Elements.{All-filter, All-head}
 use Rattle.afdx_units.specs.declared.line.Speed.{Speed}
 use Rattle.afdx_units.specs.declared.line.Speed.TheVariants.{Ten, Hundred, Thousand}
 use Rattle.afdx_table.specs.Link.{Link, leads_to}
-use Rattle.afdx_load.specs.Sums.{is_high_link, is_low_link, routed, rate_of, burst_of, time_of, Sums, sums_of, load_of}
+use Rattle.afdx_load.specs.Load.{is_high_link, is_low_link, routed, rate_of, burst_of, time_of, Load, links_load, load_of}
 use Rattle.afdx_account.specs.Policing.{parts}
 use Rattle.afdx_load.specs.Bounds.{high_bound, low_bound}
 use Rattle.afdx_load.specs.Accepted.{Carries}
@@ -49,7 +49,7 @@ high-sum : (f : Link → ℕ) (port : ℕ) (links : List Link) → sum_by f (fil
 high-sum f port links = ap (sum_by f) (filter-filter (leads_to port) is_high_link links) ∙ sum-filter f (λ (l : Link). leads_to port l && is_high_link l) links
 
 pub each_once : SumsTakeEachLinkOnce
-unfolding sums_of
+unfolding links_load
 each_once latency speed port links = (
   sum-filter (rate_of speed) (leads_to port) links,
   sum-filter (burst_of speed) (leads_to port) links,
@@ -62,8 +62,8 @@ time_above Ten link = omega arith
 time_above Hundred link = omega arith
 time_above Thousand link = omega arith
 
-links_shown : (speed : Speed) (links : List Link) → (0 < (sums_of speed links).largest) ↔ (0 < (sums_of speed links).highs + (sums_of speed links).lows)
-unfolding sums_of
+links_shown : (speed : Speed) (links : List Link) → (0 < (links_load speed links).largest) ↔ (0 < (links_load speed links).highs + (links_load speed links).lows)
+unfolding links_load
 links_shown speed [] = (λ h. h, λ h. h)
 links_shown speed (link ∷ links) = (λ _. omega (arith, all_counted speed (link ∷ links)), λ _. omega (arith, time_above speed link))
 
@@ -74,8 +74,8 @@ sum_above : (speed : Speed) (links : List Link) → All IsLong links → 0 < len
 sum_above speed [] long some = absurd (omega arith)
 sum_above speed (link ∷ links) long some = omega (arith, sum_by-cons (rate_of speed) link links, rate_above speed link (All-head IsLong link links long))
 
-part_left : (speed : Speed) (links : List Link) → All IsLong links → (sums_of speed links).rate ≤ parts → 0 < (sums_of speed links).lows → (sums_of speed links).high_rate < parts
-unfolding sums_of
+part_left : (speed : Speed) (links : List Link) → All IsLong links → (links_load speed links).rate ≤ parts → 0 < (links_load speed links).lows → (links_load speed links).high_rate < parts
+unfolding links_load
 part_left speed links long rate lows =
     let low : 0 < sum_by (rate_of speed) (filter is_low_link links) =
     sum_above speed (filter is_low_link links) (All-filter is_low_link IsLong links long) (omega (arith, length-filter is_low_link links)) in
@@ -87,10 +87,10 @@ leave_a_part c speed port well rate lows = part_left speed (routed port c.links)
 pub no_fault : AcceptedMeansNoFault
 no_fault c = (accepted_none c.latency c.links c.ports, none_accepted c.latency c.links c.ports)
 
-high_kept : (s : Sums) (most : ℕ) → IfSome (high_bound s) (λ bound. bound ≤ most) → 0 < s.highs → (s.high_burst + parts * s.low_largest) / parts + s.latency ≤ most
+high_kept : (s : Load) (most : ℕ) → IfSome (high_bound s) (λ bound. bound ≤ most) → 0 < s.highs → (s.high_burst + parts * s.low_largest) / parts + s.latency ≤ most
 high_kept s most h highs = rw (lt-ltb 0 s.highs highs) at h
 
-low_kept : (s : Sums) (most : ℕ) → IfSome (low_bound s) (λ bound. bound ≤ most) → 0 < s.lows → s.high_rate < parts → s.burst / (parts - s.high_rate) + s.latency ≤ most
+low_kept : (s : Load) (most : ℕ) → IfSome (low_bound s) (λ bound. bound ≤ most) → 0 < s.lows → s.high_rate < parts → s.burst / (parts - s.high_rate) + s.latency ≤ most
 low_kept s most h lows rate = rw (lt-ltb 0 s.lows lows, lt-ltb s.high_rate parts rate) at h
 
 pub keeps_bounds : AcceptedKeepsBounds

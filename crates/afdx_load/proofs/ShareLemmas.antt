@@ -1,5 +1,5 @@
 -- What one link asks for, by the terms of its account.
-use Rattle.std.proofs.Common.{◌≡◌, ℕ, zero, suc, ◌+◌, ◌*◌, ◌/◌, ◌^◌, ◌<◌, ◌≤◌, arith}
+use Rattle.std.proofs.Common.{◌≡◌, ℕ, ◌+◌, ◌*◌, ◌/◌, ◌^◌, ◌<◌, ◌≤◌, arith}
 use Rattle.std.proofs.Math.Nat.{mul-le-mul_left}
 use Rattle.afdx_units.specs.declared.bag.Bag.{Bag}
 use Rattle.afdx_units.specs.declared.bag.Bag.TheVariants.{Ms1, Ms2, Ms4, Ms8, Ms16, Ms32, Ms64, Ms128}
@@ -11,7 +11,7 @@ use Rattle.afdx_units.specs.Time.{bag_ms, bag_ns}
 use Rattle.afdx_units.specs.Line.{tick_of}
 use Rattle.afdx_account.specs.Policing.{terms_by, weight_by}
 use Rattle.afdx_table.specs.Link.{Link}
-use Rattle.afdx_load.specs.Sums.{rate_by, rate_of, burst_of, terms_of, weight_of}
+use Rattle.afdx_load.specs.Load.{rate_by, rate_of, burst_of, terms_of, weight_of}
 
 pub times : {a b c d : ℕ} → a ≡ b → c ≡ d → a * c ≡ b * d
 times {a = a} {b = b} {c = c} {d = d} h k = cc

@@ -9,8 +9,8 @@ use Rattle.afdx_units.specs.declared.line.Speed.{Speed}
 use Rattle.afdx_table.specs.declared.rows.PortRow.{PortRow}
 use Rattle.afdx_table.specs.Content.{Content, port_row}
 use Rattle.afdx_table.specs.WellFormed.{IsPort, Rises}
-use Rattle.afdx_load.specs.Sums.{Sums, asked_of, behind, load_of, port_load}
-use Rattle.afdx_load.specs.Slots.{AreLoads}
+use Rattle.afdx_load.specs.Load.{Load, asked_of, behind, load_of, port_load}
+use Rattle.afdx_load.specs.Inner.PortLoads.{AreLoads}
 use Rattle.afdx_load.specs.Inner.Slots.{speed_at}
 
 pub any_default : (rows : List PortRow) (i : ℕ) (d e : PortRow) → i < length rows → get_or rows i d ≡ get_or rows i e
@@ -62,9 +62,9 @@ each_found P test (r ∷ rows) row all found = elim (cases_Bool (test r)) [
 ]
 
 -- a port's load is found in its place
-pub slot_found : (c : Content) (slots : List Sums) (port slot : ℕ) (row : PortRow) (d : Sums) → AreLoads c.links c.ports slots → Some row ≡ port_row c port → slot ≡ row.id
+pub slot_found : (c : Content) (slots : List Load) (port slot : ℕ) (row : PortRow) (d : Load) → AreLoads c.links c.ports slots → Some row ≡ port_row c port → slot ≡ row.id
     → Some (behind c.latency (get_or slots slot d)) ≡ port_load c port
 slot_found c slots port slot row d loads found is =
-    let placed_at = each_found (λ r. (r.id < 25) × ((e : Sums) → get_or slots r.id e ≡ asked_of r.speed r.id c.links)) (λ r. r.id == port) c.ports row loads found in
-    ap (λ (n : ℕ). Some (behind c.latency (get_or slots n d))) is ∙ ap (λ (s : Sums). Some (behind c.latency s)) (placed_at.1 d)
+    let placed_at = each_found (λ r. (r.id < 25) × ((e : Load) → get_or slots r.id e ≡ asked_of r.speed r.id c.links)) (λ r. r.id == port) c.ports row loads found in
+    ap (λ (n : ℕ). Some (behind c.latency (get_or slots n d))) is ∙ ap (λ (s : Load). Some (behind c.latency s)) (placed_at.1 d)
     ∙ ap (option_map (λ (r : PortRow). load_of c.latency r.speed r.id c.links)) found

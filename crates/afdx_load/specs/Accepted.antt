@@ -4,7 +4,7 @@ use Rattle.std.specs.Option.{option_or}
 use Rattle.afdx_table.specs.declared.rows.PortRow.{PortRow}
 use Rattle.afdx_table.specs.Link.{Link}
 use Rattle.afdx_table.specs.Content.{Content}
-use Rattle.afdx_load.specs.Sums.{Sums, load_of}
+use Rattle.afdx_load.specs.Load.{Load, load_of}
 use Rattle.afdx_account.specs.Policing.{parts}
 use Rattle.afdx_load.specs.Bounds.{high_bound, low_bound, backlog, byte_time}
 use Rattle.afdx_load.specs.declared.fault.Rule.{Rule}
@@ -13,7 +13,7 @@ use Rattle.afdx_load.specs.declared.fault.LoadFault.{LoadFault}
 
 -- the port can give this load: the links ask for no more than the line, the buffer holds what may wait, and each
 -- priority's bound is within the greatest delay
-pub record Carries (row : PortRow) (s : Sums) : Type 0 where
+pub record Carries (row : PortRow) (s : Load) : Type 0 where
   pub rate : s.rate ≤ parts
   pub buffer : backlog s ≤ byte_time row.speed row.buffer
   pub high : IfSome (high_bound s) (λ bound. bound ≤ row.max_delay)
@@ -33,7 +33,7 @@ past_bound port rule limit None = None
 past_bound port rule limit (Some need) = past port rule limit need
 
 -- the first rule that a port's load breaks
-unfoldable pub fault_at : PortRow → Sums → Option LoadFault
+unfoldable pub fault_at : PortRow → Load → Option LoadFault
 fault_at row s =
     option_or (option_or (option_or
     (past row.id Rate parts s.rate)

@@ -1,14 +1,14 @@
 -- What the refusal of a load shows.
 use Rattle.std.specs.Prelude.{ℕ, Option, Some}
 use Rattle.afdx_table.specs.declared.rows.PortRow.{PortRow}
-use Rattle.afdx_load.specs.Sums.{Sums}
+use Rattle.afdx_load.specs.Load.{Load}
 use Rattle.afdx_account.specs.Policing.{parts}
 use Rattle.afdx_load.specs.Bounds.{high_bound, low_bound, backlog, byte_time}
 use Rattle.afdx_load.specs.declared.fault.Rule.{Rule}
 use Rattle.afdx_load.specs.declared.fault.Rule.TheVariants.{Rate, Buffer, HighDelay, LowDelay}
 
 -- what a load needs by a rule, where the rule speaks of it
-abbrev pub need_of : Rule → Sums → Option ℕ
+abbrev pub need_of : Rule → Load → Option ℕ
 need_of Rate s = Some s.rate
 need_of Buffer s = Some (backlog s)
 need_of HighDelay s = high_bound s

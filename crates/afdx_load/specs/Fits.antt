@@ -3,18 +3,18 @@ use Rattle.std.specs.Prelude.{◌≡◌, ◌↔◌, ◌+◌, ◌<◌, nat_lt, Bo
 use Rattle.std.specs.Option.{option_map_or}
 use Rattle.afdx_table.specs.declared.rows.PortRow.{PortRow}
 use Rattle.afdx_table.specs.Content.{Content}
-use Rattle.afdx_load.specs.Sums.{Sums, load_of}
+use Rattle.afdx_load.specs.Load.{Load, load_of}
 use Rattle.afdx_load.specs.Accepted.{IsAccepted}
 use Rattle.afdx_load.specs.First.{need_of, limit_of}
 use Rattle.afdx_load.specs.declared.fault.Rule.{Rule}
 use Rattle.afdx_load.specs.declared.fault.Rule.TheVariants.{Rate, Buffer, HighDelay, LowDelay}
 
 -- the load needs more by this rule than the port can give; a bound that is not there breaks nothing
-abbrev pub is_broken : PortRow → Sums → Rule → Bool
+abbrev pub is_broken : PortRow → Load → Rule → Bool
 is_broken row s rule = option_map_or (λ need. nat_lt (limit_of rule row) need) (need_of rule s) false
 
 -- the rules that it breaks, in their order
-abbrev pub broken_rules : PortRow → Sums → List Rule
+abbrev pub broken_rules : PortRow → Load → List Rule
 broken_rules row s = filter (is_broken row s) (Rate ∷ Buffer ∷ HighDelay ∷ LowDelay ∷ [])
 
 -- a table is accepted exactly where each port with links breaks none

@@ -1,4 +1,6 @@
 pub mod Adding
 pub mod First
 pub mod Laws
+pub mod PortLoads
 pub mod Slots
+pub mod Small

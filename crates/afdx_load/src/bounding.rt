@@ -4,7 +4,7 @@ ghost use Rattle.std.specs.Prelude.{◌≡◌, ℕ, ◌≤◌, ◌↔◌, ◌*�
 ghost use Rattle.afdx_load.specs.Bounds.{bounds_of, backlog, byte_time};
 
 use crate::delays::Bounds;
-use crate::sums::Load;
+use crate::port_load::Load;
 use afdx_units::Speed;
 
 /// The whole of a line, in the parts in which rates are given.

@@ -6,7 +6,7 @@ ghost use Rattle.afdx_load.specs.Fits.{is_broken};
 
 use crate::bounding::{PARTS, backlog, bounds};
 use crate::fault::Rule;
-use crate::sums::Load;
+use crate::port_load::Load;
 use afdx_table::PortRow;
 
 /// Whether a bound is above a limit; one that is not there is not.

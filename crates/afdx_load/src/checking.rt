@@ -1,15 +1,15 @@
 //! The check of a table.
 
 ghost use Rattle.std.specs.Prelude.{◌≡◌, ◌*◌, ◌≤◌, MatchResult, Some};
-ghost use Rattle.afdx_load.specs.Slots.{AreLoads};
+ghost use Rattle.afdx_load.specs.Inner.PortLoads.{AreLoads};
 ghost use Rattle.afdx_load.specs.Accepted.{past, past_bound, fault_at, first_fault, IsAccepted};
 
 use crate::bounding::{PARTS, backlog, bounds};
 use crate::cleared::Cleared;
 use crate::fault::{LoadFault, Rule};
 use crate::loading::slots;
+use crate::port_load::Load;
 use crate::port_loads::SLOTS;
-use crate::sums::Load;
 use afdx_table::{PortRow, Table};
 
 /// The fault of a need past its limit.

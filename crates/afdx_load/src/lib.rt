@@ -13,9 +13,9 @@ mod delays;
 mod fault;
 pub mod laws;
 mod loading;
+mod port_load;
 mod port_loads;
 mod share;
-mod sums;
 
 pub use bounding::{PARTS, bounds, least_buffer};
 pub use breaking::breaks;
@@ -24,5 +24,5 @@ pub use cleared::Cleared;
 pub use delays::Bounds;
 pub use fault::{LoadFault, Rule};
 pub use loading::{load, loads};
+pub use port_load::Load;
 pub use port_loads::Loads;
-pub use sums::Load;

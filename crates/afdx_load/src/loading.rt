@@ -3,12 +3,12 @@
 ghost use Rattle.std.specs.Prelude.{◌≡◌, ℕ, true, ◌<◌, ◌≤◌, length, slice_index_or};
 ghost use Rattle.std.specs.List.{AllByRecursion};
 ghost use Rattle.afdx_table.specs.WellFormed.{IsPort, Rises, IsLink};
-ghost use Rattle.afdx_load.specs.Sums.{Sums, port_load};
-ghost use Rattle.afdx_load.specs.Slots.{AreLoads};
+ghost use Rattle.afdx_load.specs.Load.{Load, port_load};
+ghost use Rattle.afdx_load.specs.Inner.PortLoads.{AreLoads};
 ghost use Rattle.afdx_load.specs.Inner.Slots.{are_slots, HasSpeeds, HaveRoom, with_routed};
 
+use crate::port_load::Load;
 use crate::port_loads::{Loads, SLOTS};
-use crate::sums::Load;
 use afdx_table::{LinkRow, PortRow, Table};
 use afdx_units::Speed;
 
@@ -41,7 +41,7 @@ fn add_link(loads: &mut [Load; SLOTS], speeds: &[Speed; SLOTS], link: &LinkRow)
     requires members { are_slots link.now.to ≡ true }
     requires size { link.now.max_size ≤ 1518 }
     requires jitter { link.now.jitter ≤ 10000000 }
-    ensures { (port : ℕ) (d : Sums) → port < 25 → slice_index_or loads.new port d ≡ with_routed speeds.now loads.old link.now port d }
+    ensures { (port : ℕ) (d : Load) → port < 25 → slice_index_or loads.new port d ≡ with_routed speeds.now loads.old link.now port d }
 {
     for port in link.to.as_slice() {
         let slot = usize::from(*port);

@@ -1,10 +1,10 @@
 //! The loads of all ports of a table.
 
 ghost use Rattle.std.specs.Prelude.{◌≡◌};
-ghost use Rattle.afdx_load.specs.Sums.{port_load};
-ghost use Rattle.afdx_load.specs.Slots.{AreLoads};
+ghost use Rattle.afdx_load.specs.Load.{port_load};
+ghost use Rattle.afdx_load.specs.Inner.PortLoads.{AreLoads};
 
-use crate::sums::Load;
+use crate::port_load::Load;
 use afdx_table::Table;
 use std::marker::Model;
 
@@ -23,7 +23,7 @@ pub struct Loads<'a> {
 
 impl<'a> Model for Loads<'a> {
     ghost use Rattle.afdx_table.specs.Content.{Content};
-    ghost use Rattle.afdx_load.specs.Slots.{AreLoads};
+    ghost use Rattle.afdx_load.specs.Inner.PortLoads.{AreLoads};
 
     ghost Value = { Content };
 

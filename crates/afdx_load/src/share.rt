@@ -1,7 +1,7 @@
 //! What one link asks of a line, by its account.
 
 ghost use Rattle.std.specs.Prelude.{◌≡◌, ◌≤◌, ◌^◌};
-ghost use Rattle.afdx_load.specs.Sums.{rate_of, burst_of, time_of};
+ghost use Rattle.afdx_load.specs.Load.{rate_of, burst_of, time_of};
 
 use afdx_account::{Account, Meter};
 use afdx_table::LinkRow;

@@ -1,5 +1,5 @@
 -- The delays at the ports of a switch, each found by its number.
-use Rattle.std.proofs.Common.{◌≡◌, ℕ, zero, suc, ◌+◌, ◌<◌, ◌≤◌, ◌==◌, Bool, true, false, cond, List, [], ◌∷◌, ◌++◌, length, take, drop, get_or, slice_get, Option, Some, None, refl, sym, ap, subst}
+use Rattle.std.proofs.Common.{◌≡◌, ℕ, zero, suc, ◌+◌, ◌<◌, ◌≤◌, ◌==◌, Bool, false, cond, List, [], ◌∷◌, ◌++◌, length, take, drop, get_or, slice_get, Option, Some, None, refl, sym, ap, subst}
 use Rattle.std.proofs.Common.{◌∙◌, arith, append_assoc}
 use Rattle.std.specs.Prelude.{find, flat_map}
 use Rattle.std.proofs.lemmas.List.{take_more}
@@ -7,7 +7,7 @@ use Rattle.afdx_table.specs.declared.rows.PortRow.{PortRow}
 use Rattle.afdx_table.specs.Content.{port_row}
 use Rattle.afdx_core.specs.State.{Run, sent_in}
 use Rattle.afdx_measure.specs.declared.delays.Delays.{Delays}
-use Rattle.afdx_measure.specs.declared.telling.AtPort.{AtPort}
+use Rattle.afdx_measure.specs.declared.reporting.AtPort.{AtPort}
 use Rattle.afdx_measure.specs.Delays.{delays_of, reported, AreDelays}
 use Rattle.afdx_measure.specs.Report.{AreGathered}
 

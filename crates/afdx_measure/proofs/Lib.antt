@@ -3,5 +3,5 @@ pub mod Going
 pub mod Prefixes
 pub mod Levels
 pub mod MeasureLaws
-pub mod TellLaws
+pub mod ReportLaws
 pub mod Gathered

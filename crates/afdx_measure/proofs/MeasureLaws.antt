@@ -12,8 +12,9 @@ use Rattle.afdx_table.specs.WellFormed.{IsWellFormed}
 use Rattle.afdx_port.specs.declared.Settings.{Settings}
 use Rattle.afdx_port.specs.declared.Item.{Item}
 use Rattle.afdx_port.specs.declared.Sent.{Sent}
-use Rattle.afdx_port.specs.Admission.{AllFitIn, AdmittedFit}
-use Rattle.afdx_load.specs.Sums.{load_of}
+use Rattle.afdx_port.specs.Admission.{AllFitIn}
+use Rattle.afdx_port.specs.Inner.Admission.{AdmittedFit}
+use Rattle.afdx_load.specs.Load.{load_of}
 use Rattle.afdx_load.specs.Bounds.{backlog, byte_time}
 use Rattle.afdx_load.specs.Accepted.{IsAccepted}
 use Rattle.afdx_isolation.specs.Table.{settings_of, bound_of, IsInBoundAt}

@@ -5,16 +5,16 @@ use Rattle.afdx_units.specs.declared.line.Priority.{Priority}
 use Rattle.afdx_table.specs.declared.rows.PortRow.{PortRow}
 use Rattle.afdx_table.specs.Link.{Link}
 use Rattle.afdx_table.specs.Content.{Content, port_row}
-use Rattle.afdx_load.specs.Sums.{Sums, port_load}
+use Rattle.afdx_load.specs.Load.{Load, port_load}
 use Rattle.afdx_isolation.specs.Table.{bound_of}
 use Rattle.afdx_core.specs.State.{Run, sent_in}
-use Rattle.afdx_measure.specs.declared.telling.AtPort.{AtPort}
+use Rattle.afdx_measure.specs.declared.reporting.AtPort.{AtPort}
 use Rattle.afdx_measure.specs.Delays.{delays_of, reported, AreDelays}
 use Rattle.afdx_measure.specs.Ports.{peak_at}
 use Rattle.afdx_measure.specs.Lines.{link_line, peak_line}
 
 -- the bound of a load for a priority, where there is such a port
-abbrev pub bound_by : Option Sums → Priority → Option ℕ
+abbrev pub bound_by : Option Load → Priority → Option ℕ
 bound_by None priority = None
 bound_by (Some load) priority = bound_of load priority
 

@@ -11,10 +11,10 @@ mod filling;
 pub mod laws;
 mod lines;
 mod port;
-mod telling;
+mod reporting;
 
 pub use delays::{Delays, Range, delays_by_link};
 pub use filling::{Filling, peak};
 pub use lines::{put_link_line, put_peak_line};
 pub use port::peak_at;
-pub use telling::report;
+pub use reporting::report;

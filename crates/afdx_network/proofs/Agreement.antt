@@ -2,7 +2,8 @@
 use Rattle.std.proofs.Common.{◌≡◌, ℕ, ◌≤◌, true, List, [], ◌∷◌, map, slice_get, Some, option_and_then, refl, ap, sym, ◌∙◌, subst}
 use Rattle.std.specs.Prelude.{All, Contains}
 use Rattle.std.proofs.lemmas.List.Elements.{All-contains}
-use Rattle.afdx_pcap.specs.Entry.{Entry}
+use Rattle.std.proofs.lemmas.Option.{same_Some}
+use Rattle.afdx_pcap.specs.Record.{Record}
 use Rattle.afdx_pcap.specs.Text.{capture_text}
 use Rattle.afdx_pcap.specs.Capture.{IsCapture}
 use Rattle.afdx_pcap.specs.Inner.ReadBack.{WrittenTextsReadBack}
@@ -12,7 +13,7 @@ use Rattle.afdx_table.specs.Content.{Content, port_row}
 use Rattle.afdx_table.specs.WellFormed.{IsWellFormed}
 use Rattle.afdx_table.specs.Inner.Found.{LinksAreFound}
 use Rattle.afdx_filter.specs.Inner.Exactly.{CleanExactly}
-use Rattle.afdx_load.specs.Sums.{load_of}
+use Rattle.afdx_load.specs.Load.{load_of}
 use Rattle.afdx_load.specs.Bounds.{bounds_of}
 use Rattle.afdx_load.specs.Accepted.{IsAccepted}
 use Rattle.afdx_isolation.specs.Table.{bound_of}
@@ -25,11 +26,11 @@ use Rattle.afdx_wiring.specs.declared.layout.End.{End}
 use Rattle.afdx_wiring.specs.declared.layout.Wire.{Wire}
 use Rattle.afdx_wiring.specs.Net.{Network, Row, Back, port_at, row_at, rows_of, rows_on, ingress, wire_to, bound_in, IsWayBack, AreDelays, source_of}
 use Rattle.afdx_wiring.specs.Rules.{Joins, GoesOn}
-use Rattle.afdx_network.specs.Way.{Node, Stage, IsStage, Step, Follows, IsWay, AreEnough, delayed}
+use Rattle.afdx_network.specs.Way.{Node, Stage, IsStage, Leg, Follows, IsWay, AreEnough, delayed}
 use Rattle.afdx_network.specs.Runs.{SwitchRun, Given}
 use Rattle.afdx_network.specs.Ways.{node_of, IsStageAt, GoesOver, IsWayFrom, IsWayIn}
 use Rattle.afdx_network.specs.Laws.{IsAcceptedRun}
-use Rattle.afdx_network.proofs.Found.{some_same, get_map, got_map, map_contains, all_at, ports_are_found, one_port}
+use Rattle.afdx_network.proofs.Found.{get_map, got_map, map_contains, all_at, ports_are_found, one_port}
 use Rattle.afdx_network.proofs.Rows.{wire_goes_there, rows_have, rows_on_have, row_is, same_bound}
 use Rattle.afdx_network.proofs.Lengths.{IsFound, found_row}
 use Rattle.afdx_network.proofs.Wired.{wired}
@@ -68,7 +69,7 @@ module _ (g : Ground) (net : Network) (given : Given) (runs : List SwitchRun) (a
     pub comes : records_of run.isolated.read w.to.port ≡ map (delayed w.delay) (here.isolated.out port)
 
   left_by : (w : Wire) (run : SwitchRun) → Contains net.layout.wires w → slice_get runs w.to.switch ≡ Some run → (here : SwitchRun) → slice_get runs w.from.switch ≡ Some here
-      → (bytes : List ℕ) (records : List Entry) → Contains here.results.captures (w.from.port, bytes) → IsCapture bytes records
+      → (bytes : List ℕ) (records : List Record) → Contains here.results.captures (w.from.port, bytes) → IsCapture bytes records
       → Contains run.texts (w.to.port, capture_text (map (delayed w.delay) records)) → Behind w run
   left_by w run among is here here_is bytes records written read comes =
       let h = map_contains (λ (p : PortRow). (p.id, capture_text (here.isolated.out p))) here.table.ports (w.from.port, bytes)
@@ -89,7 +90,7 @@ module _ (g : Ground) (net : Network) (given : Given) (runs : List SwitchRun) (a
   behind w run among is =
       let b = acc.run.fed.wires w among in
       let h = got_map (λ (r : SwitchRun). r.results) runs w.from.switch b.here b.here_is in
-      let there : b.there ≡ run.texts = some_same (sym b.there_is ∙ get_map (λ (r : SwitchRun). r.texts) runs w.to.switch run is) in
+      let there : b.there ≡ run.texts = same_Some b.there run.texts (sym b.there_is ∙ get_map (λ (r : SwitchRun). r.texts) runs w.to.switch run is) in
       left_by w run among is h.0 h.1 b.bytes b.records (subst (λ (r : Results). Contains r.captures (w.from.port, b.bytes)) (sym h.2) b.written) b.read
       (subst (λ (texts : List Text). Contains texts (w.to.port, capture_text (map (delayed w.delay) b.records))) there b.comes)
 
@@ -109,7 +110,7 @@ module _ (g : Ground) (net : Network) (given : Given) (runs : List SwitchRun) (a
   sent_by : (b : Back) (r : Row) (run : SwitchRun) → (b.wire.to ≡ ingress r) × Contains net.layout.wires b.wire → Behind b.wire run
       → IsFound net b.wire.from.switch r.link.id b.row → leads_to b.wire.from.port b.row.link ≡ true → RowBefore b r run
   sent_by b r run there h row leads =
-      let table : row.table ≡ h.here.table = some_same (sym row.table_is ∙ table_at b.wire.from.switch h.here h.here_is) in
+      let table : row.table ≡ h.here.table = same_Some row.table h.here.table (sym row.table_is ∙ table_at b.wire.from.switch h.here h.here_is) in
       record {
         here = h.here;
         here_is = ap (slice_get runs) row.switch_is ∙ h.here_is;
@@ -162,9 +163,9 @@ module _ (g : Ground) (net : Network) (given : Given) (runs : List SwitchRun) (a
         } in
         subst IsStage (sym same) is
 
-  -- ---- a step
+  -- ---- a leg
 
-  module _ (r next : Row) (x : Stage) (s : Step) (h : IsStageAt net runs r x) (k : IsStageAt net runs next s.stage) (over : GoesOver net r x next s) where
+  module _ (r next : Row) (x : Stage) (s : Leg) (h : IsStageAt net runs r x) (k : IsStageAt net runs next s.stage) (over : GoesOver net r x next s) where
     abbrev wire : Wire
     wire = over.wire
 
@@ -191,8 +192,8 @@ module _ (g : Ground) (net : Network) (given : Given) (runs : List SwitchRun) (a
 
     constants : k.run.table.constant ≡ h.run.table.constant
     constants =
-        let here_is : joins.here ≡ h.run.table = some_same (sym joins.here_is ∙ ap (slice_get net.tables) from_switch ∙ table_is r x h) in
-        let there_is : joins.there ≡ k.run.table = some_same (sym joins.there_is ∙ ap (slice_get net.tables) to_switch ∙ table_is next s.stage k) in
+        let here_is : joins.here ≡ h.run.table = same_Some joins.here h.run.table (sym joins.here_is ∙ ap (slice_get net.tables) from_switch ∙ table_is r x h) in
+        let there_is : joins.there ≡ k.run.table = same_Some joins.there k.run.table (sym joins.there_is ∙ ap (slice_get net.tables) to_switch ∙ table_is next s.stage k) in
         ap (λ (t : Content). t.constant) (sym there_is) ∙ joins.constant ∙ ap (λ (t : Content). t.constant) here_is
 
     goes : GoesOn net wire r
@@ -203,7 +204,7 @@ module _ (g : Ground) (net : Network) (given : Given) (runs : List SwitchRun) (a
 
     same_row : goes.next ≡ next
     same_row =
-        some_same (sym goes.next_is ∙ ap (λ (n : ℕ). row_at net n r.link.id) to_switch ∙ ap (row_at net next.switch) (sym over.number) ∙ row_found next s.stage k)
+        same_Some _ _ (sym goes.next_is ∙ ap (λ (n : ℕ). row_at net n r.link.id) to_switch ∙ ap (row_at net next.switch) (sym over.number) ∙ row_found next s.stage k)
 
     same_link : goes.next.link ≡ s.stage.link
     same_link = ap (λ (q : Row). q.link) same_row ∙ sym k.link
@@ -211,7 +212,7 @@ module _ (g : Ground) (net : Network) (given : Given) (runs : List SwitchRun) (a
     same_records : records_of k.run.isolated.read next.link.from ≡ map (delayed wire.delay) (h.run.isolated.out x.port)
     same_records =
         let b = behind wire k.run there.1 (ap (slice_get runs) to_switch ∙ k.run_is) in
-        let here_is : b.here ≡ h.run = some_same (sym b.here_is ∙ ap (slice_get runs) from_switch ∙ h.run_is) in
+        let here_is : b.here ≡ h.run = same_Some b.here h.run (sym b.here_is ∙ ap (slice_get runs) from_switch ∙ h.run_is) in
         let among : Contains h.run.table.ports b.port = subst (λ (run : SwitchRun). Contains run.table.ports b.port) here_is b.has in
         let same : b.port ≡ x.port = one_port h.run.table b.port x.port (formed r x h) among h.has (b.number ∙ from_port) in
         ap (records_of k.run.isolated.read) (sym to_port) ∙ b.comes ∙ ap (λ (run : SwitchRun). map (delayed wire.delay) (run.isolated.out b.port)) here_is
@@ -263,27 +264,27 @@ module _ (g : Ground) (net : Network) (given : Given) (runs : List SwitchRun) (a
 
   -- ---- a way
 
-  pub first_stage : (r : Row) (x : Stage) (steps : List Step) → IsWayFrom net runs r x steps → IsStageAt net runs r x
+  pub first_stage : (r : Row) (x : Stage) (legs : List Leg) → IsWayFrom net runs r x legs → IsStageAt net runs r x
   first_stage r x [] way = way
-  first_stage r x (s ∷ steps) way = way.0
+  first_stage r x (s ∷ legs) way = way.0
 
-  on_the_way : (r : Row) (x : Stage) (steps : List Step) (backs : List Back) (d : Delays) (first : Link) → IsWayFrom net runs r x steps → IsWayBack net r backs → AreDelays net backs d
-      → (source_of r backs).link ≡ first → IsWay x steps × AreEnough first d x steps
+  on_the_way : (r : Row) (x : Stage) (legs : List Leg) (backs : List Back) (d : Delays) (first : Link) → IsWayFrom net runs r x legs → IsWayBack net r backs → AreDelays net backs d
+      → (source_of r backs).link ≡ first → IsWay x legs × AreEnough first d x legs
   on_the_way r x [] backs d first way past are same = (is_stage r x way, tt)
-  on_the_way r x (s ∷ steps) backs d first way past are same =
+  on_the_way r x (s ∷ legs) backs d first way past are same =
       let h = way.0 in
       let next = way.1 in
       let over = way.2 in
-      let k = first_stage next s.stage steps way.3 in
-      let onward = on_the_way next s.stage steps (back r next x s h k over ∷ backs) (further r next x s h k over d) first way.3
+      let k = first_stage next s.stage legs way.3 in
+      let onward = on_the_way next s.stage legs (back r next x s h k over ∷ backs) (further r next x s h k over d) first way.3
       (goes_back r next x s h k over backs past) (delays_back r next x s h k over backs d are) same in
       let sums = sym (same_delays r next x s h k over d) in (
         (is_stage r x h, follows r next x s h k over, onward.0),
         (
           subst (λ (e : Delays). IsEnough e first.jitter s.stage.link.jitter) sums (enough r next x s h k over backs d first past are same),
-          subst (λ (e : Delays). AreEnough first e s.stage steps) sums onward.1,
+          subst (λ (e : Delays). AreEnough first e s.stage legs) sums onward.1,
         ),
       )
 
-  pub agreement_is_wired : (x : Stage) (steps : List Step) → IsWayIn net runs x steps → IsWay x steps × AreEnough x.link at_once x steps
-  agreement_is_wired x steps way = on_the_way way.0 x steps [] at_once x.link way.2 way.1 refl (sym (first_stage way.0 x steps way.2).link)
+  pub agreement_is_wired : (x : Stage) (legs : List Leg) → IsWayIn net runs x legs → IsWay x legs × AreEnough x.link at_once x legs
+  agreement_is_wired x legs way = on_the_way way.0 x legs [] at_once x.link way.2 way.1 refl (sym (first_stage way.0 x legs way.2).link)

@@ -1,10 +1,11 @@
 -- What leaves a switch for a link comes to the next one as the link's own.
-use Rattle.std.proofs.Common.{◌≡◌, ℕ, ◌==◌, ◌≤◌, Bool, true, false, cond, List, [], ◌∷◌, length, map, filter, Some, refl, ap, sym, ◌∙◌, arith, subst}
+use Rattle.std.proofs.Common.{◌≡◌, ℕ, ◌==◌, ◌≤◌, Bool, true, false, cond, List, [], ◌∷◌, length, map, filter, refl, ap, sym, ◌∙◌, arith, subst}
 use Rattle.std.specs.Prelude.{Contains}
 use Rattle.std.specs.List.{AllByRecursion}
-use Rattle.std.proofs.lemmas.Bool.Decides.{nat_tests}
+use Rattle.std.proofs.lemmas.Option.{same_Some}
+use Rattle.std.proofs.lemmas.Bool.{eq-eqb, eqb-true}
 use Rattle.afdx_units.specs.Line.{size_of}
-use Rattle.afdx_pcap.specs.Entry.{Entry}
+use Rattle.afdx_pcap.specs.Record.{Record}
 use Rattle.afdx_frame.specs.Address.{constant_of, link_of}
 use Rattle.afdx_table.specs.Link.{Link}
 use Rattle.afdx_table.specs.Content.{Content, link_row}
@@ -12,26 +13,18 @@ use Rattle.afdx_table.specs.WellFormed.{IsWellFormed}
 use Rattle.afdx_table.specs.Inner.Found.{LinksAreFound}
 use Rattle.afdx_filter.specs.declared.outcome.Verdict.{Verdict}
 use Rattle.afdx_filter.specs.declared.outcome.Verdict.TheVariants.{Cut, Short, Long, Foreign, NoLink, WrongPort, TooBig, Clean}
+use Rattle.afdx_filter.specs.Frame.{frame_of}
 use Rattle.afdx_filter.specs.Verdict.{verdict_of}
 use Rattle.afdx_filter.specs.Inner.Exactly.{CleanExactly}
-use Rattle.afdx_load.specs.Sums.{terms_of}
+use Rattle.afdx_load.specs.Load.{terms_of}
 use Rattle.afdx_core.specs.Rows.{says_clean}
 use Rattle.afdx_core.specs.Merge.{records_of}
-use Rattle.afdx_session.specs.Headline.{frame_in, bytes_of}
-use Rattle.afdx_network.specs.Way.{Stage, IsStage, Step, Follows, delayed, come_to, passed_at, leave}
+use Rattle.afdx_session.specs.Headline.{bytes_of}
+use Rattle.afdx_network.specs.Way.{Stage, IsStage, Leg, Follows, delayed, come_to, passed_at, leave}
 use Rattle.afdx_network.proofs.Lists.{apart, all_weaken, all_map, all_unmap, all_tested, filter_of_map, filter_alike, all_passed}
 
-equal : (a b : ℕ) → (a == b) ≡ true → a ≡ b
-equal a b e = grind (arith, nat_tests)
-
-same_number : (a b : ℕ) → a ≡ b → (a == b) ≡ true
-same_number a b e = grind (arith, nat_tests)
-
-some_same : {X : Type 0} {a b : X} → Some a ≡ Some b → a ≡ b
-some_same h = cc
-
 says : (i : ℕ) (v : Verdict) → says_clean i v ≡ true → v ≡ Clean i
-says i (Clean j) is = ap Clean (sym (equal i j is))
+says i (Clean j) is = ap Clean (sym (eqb-true i j is))
 says i Cut is = absurd cc
 says i Short is = absurd cc
 says i Long is = absurd cc
@@ -48,17 +41,17 @@ pub record IsOf (constant : List ℕ) (l : Link) (bytes : List ℕ) : Type 0 whe
   pub constant_is : constant_of bytes ≡ constant
   pub address : link_of bytes ≡ l.id
 
-pub over_bytes : (P : List ℕ → Type 0) (came left : List Entry) → bytes_of left ≡ bytes_of came → AllByRecursion (λ r. P r.bytes) came → AllByRecursion (λ r. P r.bytes) left
+pub over_bytes : (P : List ℕ → Type 0) (came left : List Record) → bytes_of left ≡ bytes_of came → AllByRecursion (λ r. P r.bytes) came → AllByRecursion (λ r. P r.bytes) left
 over_bytes P came left same all =
-    all_unmap P (λ (r : Entry). r.bytes) left (subst (AllByRecursion P) (sym same) (all_map P (λ (r : Entry). r.bytes) came all))
+    all_unmap P (λ (r : Record). r.bytes) left (subst (AllByRecursion P) (sym same) (all_map P (λ (r : Record). r.bytes) came all))
 
 module _ (exact : CleanExactly) (links : LinksAreFound) where
-  pub clean_of : (t : Content) (l : Link) (r : Entry) → IsWellFormed t → Contains t.links l → says_clean l.id (verdict_of t l.from r) ≡ true → IsOf t.constant l r.bytes
+  pub clean_of : (t : Content) (l : Link) (r : Record) → IsWellFormed t → Contains t.links l → says_clean l.id (verdict_of t l.from r) ≡ true → IsOf t.constant l r.bytes
   clean_of t l r formed known is =
       let h = (exact t l.from r l.id).0 (says l.id (verdict_of t l.from r) is) in
       let f = h.2 in
       let address : link_of r.bytes ≡ l.id = sym (links.is_row t (link_of r.bytes) h.0 f.is_link).0 ∙ h.1 in
-      let same : h.0 ≡ l = some_same (sym f.is_link ∙ ap (link_row t) address ∙ links.found t formed l known) in
+      let same : h.0 ≡ l = same_Some h.0 l (sym f.is_link ∙ ap (link_row t) address ∙ links.found t formed l known) in
       record {
         least = f.size_least;
         most = f.size_most;
@@ -67,7 +60,7 @@ module _ (exact : CleanExactly) (links : LinksAreFound) where
         address = address;
       }
 
-  pub own_clean : (t : Content) (l : Link) (rs : List Entry) → IsWellFormed t → Contains t.links l
+  pub own_clean : (t : Content) (l : Link) (rs : List Record) → IsWellFormed t → Contains t.links l
       → AllByRecursion (λ r. IsOf t.constant l r.bytes) (filter (λ r. says_clean l.id (verdict_of t l.from r)) rs)
   own_clean t l [] formed known = tt
   own_clean t l (r ∷ rs) formed known = by (says_clean l.id (verdict_of t l.from r)) refl (own_clean t l rs formed known) where
@@ -80,7 +73,7 @@ module _ (exact : CleanExactly) (links : LinksAreFound) where
   -- so are those that the policing passes, and what leaves
   pub passed_clean : (x : Stage) → IsStage x → AllByRecursion (λ r. IsOf x.node.table.constant x.link r.bytes) (passed_at x)
   passed_clean x here =
-      all_passed (λ (r : Entry). IsOf x.node.table.constant x.link r.bytes) frame_in (terms_of x.link) [] (come_to x)
+      all_passed (λ (r : Record). IsOf x.node.table.constant x.link r.bytes) frame_of (terms_of x.link) [] (come_to x)
       (own_clean x.node.table x.link (records_of x.node.read x.link.from) here.node.well_formed here.known)
 
   pub leave_clean : (x : Stage) → IsStage x → AllByRecursion (λ r. IsOf x.node.table.constant x.link r.bytes) (leave x)
@@ -88,11 +81,11 @@ module _ (exact : CleanExactly) (links : LinksAreFound) where
       over_bytes (IsOf x.node.table.constant x.link) (passed_at x) (leave x) ((here.node.isolated x.port here.has).passed x.link here.known here.leads) (passed_clean x here)
 
   -- a record on the wire is a clean frame of the link at the next switch exactly where it has the link's number
-  module _ (x : Stage) (s : Step) (here : IsStage x) (there : IsStage s.stage) (follows : Follows x s) where
-    abbrev says_again : Entry → Bool
+  module _ (x : Stage) (s : Leg) (here : IsStage x) (there : IsStage s.stage) (follows : Follows x s) where
+    abbrev says_again : Record → Bool
     says_again r = says_clean s.stage.link.id (verdict_of s.stage.node.table s.stage.link.from (delayed s.cable r))
 
-    is_clean : (r : Entry) → IsOf x.node.table.constant x.link r.bytes → says_again r ≡ true
+    is_clean : (r : Record) → IsOf x.node.table.constant x.link r.bytes → says_again r ≡ true
     is_clean r of =
         let clean : verdict_of s.stage.node.table s.stage.link.from (delayed s.cable r) ≡ Clean s.stage.link.id
         = (exact s.stage.node.table s.stage.link.from (delayed s.cable r) s.stage.link.id).1 (
@@ -108,15 +101,15 @@ module _ (exact : CleanExactly) (links : LinksAreFound) where
             fits = subst (λ (n : ℕ). size_of (length r.bytes) ≤ n) (sym follows.size) of.fits;
           },
         ) in
-        ap (says_clean s.stage.link.id) clean ∙ same_number s.stage.link.id s.stage.link.id refl
+        ap (says_clean s.stage.link.id) clean ∙ eq-eqb s.stage.link.id s.stage.link.id refl
 
-    clean_again : (r : Entry) → ((link_of r.bytes == x.link.id) ≡ true → IsOf x.node.table.constant x.link r.bytes) → says_again r ≡ (link_of r.bytes == x.link.id)
+    clean_again : (r : Record) → ((link_of r.bytes == x.link.id) ≡ true → IsOf x.node.table.constant x.link r.bytes) → says_again r ≡ (link_of r.bytes == x.link.id)
     clean_again r of = by (link_of r.bytes == x.link.id) refl where
       never : (b : Bool) → (link_of r.bytes == x.link.id) ≡ false → says_again r ≡ b → b ≡ false
       never false other is = refl
       never true other is =
           let address = (clean_of s.stage.node.table s.stage.link (delayed s.cable r) there.node.well_formed there.known is).address in
-          let again = same_number (link_of r.bytes) x.link.id (address ∙ follows.number) in
+          let again = eq-eqb (link_of r.bytes) x.link.id (address ∙ follows.number) in
           absurd (apart (link_of r.bytes == x.link.id) again other)
 
       by : (b : Bool) → (link_of r.bytes == x.link.id) ≡ b → says_again r ≡ (link_of r.bytes == x.link.id)
@@ -125,9 +118,9 @@ module _ (exact : CleanExactly) (links : LinksAreFound) where
 
     pub comes_to_the_next : come_to s.stage ≡ map (delayed s.cable) (leave x)
     comes_to_the_next =
-        ap (filter (λ (r : Entry). says_clean s.stage.link.id (verdict_of s.stage.node.table s.stage.link.from r))) follows.wired
-        ∙ filter_of_map (λ (r : Entry). says_clean s.stage.link.id (verdict_of s.stage.node.table s.stage.link.from r)) (delayed s.cable) (x.node.out x.port)
-        ∙ ap (map (delayed s.cable)) (filter_alike says_again (λ (r : Entry). link_of r.bytes == x.link.id) (x.node.out x.port)
-        (all_weaken (λ (r : Entry). (link_of r.bytes == x.link.id) ≡ true → IsOf x.node.table.constant x.link r.bytes)
-        (λ (r : Entry). says_again r ≡ (link_of r.bytes == x.link.id)) (x.node.out x.port)
-        clean_again (all_tested (λ (r : Entry). IsOf x.node.table.constant x.link r.bytes) (λ (r : Entry). link_of r.bytes == x.link.id) (x.node.out x.port) (leave_clean x here))))
+        ap (filter (λ (r : Record). says_clean s.stage.link.id (verdict_of s.stage.node.table s.stage.link.from r))) follows.wired
+        ∙ filter_of_map (λ (r : Record). says_clean s.stage.link.id (verdict_of s.stage.node.table s.stage.link.from r)) (delayed s.cable) (x.node.out x.port)
+        ∙ ap (map (delayed s.cable)) (filter_alike says_again (λ (r : Record). link_of r.bytes == x.link.id) (x.node.out x.port)
+        (all_weaken (λ (r : Record). (link_of r.bytes == x.link.id) ≡ true → IsOf x.node.table.constant x.link r.bytes)
+        (λ (r : Record). says_again r ≡ (link_of r.bytes == x.link.id)) (x.node.out x.port)
+        clean_again (all_tested (λ (r : Record). IsOf x.node.table.constant x.link r.bytes) (λ (r : Record). link_of r.bytes == x.link.id) (x.node.out x.port) (leave_clean x here))))

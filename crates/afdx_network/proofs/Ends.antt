@@ -12,14 +12,14 @@ use Rattle.afdx_table.specs.declared.rows.PortRow.{PortRow}
 use Rattle.afdx_table.specs.Link.{Link, leads_to}
 use Rattle.afdx_table.specs.Content.{Content}
 use Rattle.afdx_table.specs.WellFormed.{IsWellFormed}
-use Rattle.afdx_load.specs.Sums.{Sums, is_high_link, is_low_link, routed, sums_of, load_of}
+use Rattle.afdx_load.specs.Load.{Load, is_high_link, is_low_link, routed, links_load, load_of}
 use Rattle.afdx_account.specs.Policing.{parts}
 use Rattle.afdx_load.specs.Bounds.{high_bound, low_bound, bounds_of}
 use Rattle.afdx_load.specs.Accepted.{IsAccepted}
 use Rattle.afdx_load.specs.Inner.Laws.{AcceptedKeepsBounds}
 use Rattle.afdx_isolation.specs.Table.{bound_of}
 use Rattle.afdx_wiring.specs.Net.{Network, Row, Back, rows_of, ingress, wire_to, bound_in, IsWayBack}
-use Rattle.afdx_network.specs.Way.{Stage, Step, last_of}
+use Rattle.afdx_network.specs.Way.{Stage, Leg, last_of}
 use Rattle.afdx_network.specs.Runs.{SwitchRun, Given}
 use Rattle.afdx_network.specs.Ways.{node_of, IsStageAt, GoesOver, IsWayFrom, IsWayIn}
 use Rattle.afdx_network.specs.Laws.{IsAcceptedRun, EndsAt}
@@ -36,22 +36,22 @@ counted q links l among is =
     omega (arith, place, same)
 
 highs : (latency : ℕ) (t : Content) (p : PortRow) (l : Link) → Contains (routed p.id t.links) l → is_high_link l ≡ true → 0 < (load_of latency p.speed p.id t.links).highs
-unfolding sums_of
+unfolding links_load
 highs latency t p l among high = counted is_high_link (routed p.id t.links) l among high
 
 lows : (latency : ℕ) (t : Content) (p : PortRow) (l : Link) → Contains (routed p.id t.links) l → is_low_link l ≡ true → 0 < (load_of latency p.speed p.id t.links).lows
-unfolding sums_of
+unfolding links_load
 lows latency t p l among low = counted is_low_link (routed p.id t.links) l among low
 
-abbrev load_at : Content → PortRow → Sums
+abbrev load_at : Content → PortRow → Load
 load_at t p = load_of t.latency p.speed p.id t.links
 
-some_high : (s : Sums) → 0 < s.highs → (bound : ℕ) × (high_bound s ≡ Some bound)
+some_high : (s : Load) → 0 < s.highs → (bound : ℕ) × (high_bound s ≡ Some bound)
 some_high s there =
     let bound = (s.high_burst + parts * s.low_largest) / parts + s.latency in
     (bound, ap (λ b. cond b (Some bound) None) (lt-ltb 0 s.highs there))
 
-some_low : (s : Sums) → 0 < s.lows → s.high_rate < parts → (bound : ℕ) × (low_bound s ≡ Some bound)
+some_low : (s : Load) → 0 < s.lows → s.high_rate < parts → (bound : ℕ) × (low_bound s ≡ Some bound)
 some_low s there part =
     let bound = s.burst / (parts - s.high_rate) + s.latency in
     (bound, ap (λ b. cond b (Some bound) None) (and_from (nat_lt 0 s.lows) (nat_lt s.high_rate parts) (lt-ltb 0 s.lows there) (lt-ltb s.high_rate parts part)))
@@ -105,11 +105,11 @@ module _ (g : Ground) (keeps : AcceptedKeepsBounds) (net : Network) (given : Giv
       }
 
   -- a way that ends as this one does
-  record WayThere (x : Stage) (steps : List Step) : Type 0 where
+  record WayThere (x : Stage) (legs : List Leg) : Type 0 where
     pub first : Stage
-    pub all : List Step
+    pub all : List Leg
     pub way : IsWayIn net runs first all
-    pub same : last_of first all ≡ last_of x steps
+    pub same : last_of first all ≡ last_of x legs
 
   earlier : (b : Back) (r : Row) (run : SwitchRun) (before : RowBefore g net given runs acc b r run) → StageThere b.row before.here before.port
   earlier b r run before = stage_there b.row before.here before.port before.here_is before.known before.has before.leads
@@ -124,17 +124,17 @@ module _ (g : Ground) (keeps : AcceptedKeepsBounds) (net : Network) (given : Giv
     number = sym before.number;
   }
 
-  from_the_source : (backs : List Back) (r : Row) (x : Stage) (steps : List Step) → IsWayBack net r backs → IsWayFrom net runs r x steps → WayThere x steps
-  from_the_source [] r x steps source way = record { first = x; all = steps; way = (r, source, way); same = refl }
-  from_the_source (b ∷ backs) r x steps back way =
-      let h = first_stage g net given runs acc r x steps way in
+  from_the_source : (backs : List Back) (r : Row) (x : Stage) (legs : List Leg) → IsWayBack net r backs → IsWayFrom net runs r x legs → WayThere x legs
+  from_the_source [] r x legs source way = record { first = x; all = legs; way = (r, source, way); same = refl }
+  from_the_source (b ∷ backs) r x legs back way =
+      let h = first_stage g net given runs acc r x legs way in
       let before = row_before g net given runs acc b r h.run h.run_is back.0 back.1 back.2 in
       let y = earlier b r h.run before in
-      let rest = from_the_source backs b.row y.stage (record { cable = b.wire.delay; stage = x } ∷ steps) back.3 (y.at, r, goes_over b r x h.run before y back.0, way) in
+      let rest = from_the_source backs b.row y.stage (record { cable = b.wire.delay; stage = x } ∷ legs) back.3 (y.at, r, goes_over b r x h.run before y back.0, way) in
       record { first = rest.first; all = rest.all; way = rest.way; same = rest.same }
 
   pub ways_are_there : (r : Row) (run : SwitchRun) (p : PortRow) → slice_get runs r.switch ≡ Some run → Contains run.table.links r.link → Contains run.table.ports p → leads_to p.id r.link ≡ true
-      → (x : Stage) × (steps : List Step) × IsWayIn net runs x steps × EndsAt run r p (last_of x steps)
+      → (x : Stage) × (legs : List Leg) × IsWayIn net runs x legs × EndsAt run r p (last_of x legs)
   ways_are_there r run p is known among leads =
       let row = rows_have net r run.table (table_at g net given runs acc r.switch run is) known in
       let back = All-contains (λ (q : Row). (backs : List Back) × IsWayBack net q backs) (rows_of net) r acc.accepted.fits.sources row in

@@ -4,19 +4,11 @@ use Rattle.std.specs.Prelude.{All, Contains}
 use Rattle.std.specs.List.{AllByRecursion}
 use Rattle.std.proofs.lemmas.Bool.Decides.{nat_tests}
 use Rattle.std.proofs.lemmas.List.Elements.{All-from_recursion, recursion_from_All, All-contains}
-use Rattle.std.proofs.lemmas.Option.{slice_get-map}
+use Rattle.std.proofs.lemmas.Option.{slice_get-map, same_Some}
+use Rattle.std.proofs.lemmas.Bool.{eq-eqb}
 use Rattle.afdx_table.specs.declared.rows.PortRow.{PortRow}
 use Rattle.afdx_table.specs.Content.{Content, port_row}
 use Rattle.afdx_table.specs.WellFormed.{Rises, IsWellFormed}
-
-pub some_same : {X : Type 0} {a b : X} → Some a ≡ Some b → a ≡ b
-some_same h = cc
-
-pub same_number : (a b : ℕ) → a ≡ b → (a == b) ≡ true
-same_number a b e = grind (arith, nat_tests)
-
-pub equal : (a b : ℕ) → (a == b) ≡ true → a ≡ b
-equal a b e = grind (arith, nat_tests)
 
 pub above : (a b : ℕ) → a < b → (a == b) ≡ false
 above a b e = grind (arith, nat_tests)
@@ -32,12 +24,12 @@ get_map f xs n x is = slice_get-map f xs n ∙ ap (option_map f) is
 -- what stands in a mapped list is made of what stands there
 pub got_map : {X Y : Type 0} (f : X → Y) (xs : List X) (n : ℕ) (y : Y) → slice_get (map f xs) n ≡ Some y → (x : X) × (slice_get xs n ≡ Some x) × (f x ≡ y)
 got_map f [] n y is = absurd cc
-got_map f (x ∷ xs) zero y is = (x, refl, some_same is)
+got_map f (x ∷ xs) zero y is = (x, refl, same_Some (f x) y is)
 got_map f (x ∷ xs) (suc n) y is = got_map f xs n y is
 
 at_place : {X : Type 0} (P : X → Type 0) (xs : List X) (n : ℕ) (x : X) → AllByRecursion P xs → slice_get xs n ≡ Some x → P x
 at_place P [] n x all is = absurd cc
-at_place P (y ∷ xs) zero x all is = subst P (some_same is) all.0
+at_place P (y ∷ xs) zero x all is = subst P (same_Some y x is) all.0
 at_place P (y ∷ xs) (suc n) x all is = at_place P xs n x all.1 is
 
 pub all_at : {X : Type 0} (P : X → Type 0) (xs : List X) (n : ℕ) (x : X) → All P xs → slice_get xs n ≡ Some x → P x
@@ -53,7 +45,7 @@ contains_tail xs x y among = let within = among.1 in (suc among.0, omega (arith,
 
 pub contains_at : {X : Type 0} (xs : List X) (n : ℕ) (x : X) → slice_get xs n ≡ Some x → Contains xs x
 contains_at [] n x is = absurd cc
-contains_at (y ∷ xs) zero x is = contains_head xs x y (some_same is)
+contains_at (y ∷ xs) zero x is = contains_head xs x y (same_Some y x is)
 contains_at (y ∷ xs) (suc n) x is = contains_tail xs x y (contains_at xs n x is)
 
 -- what holds of each element of a list, reported of each element
@@ -96,7 +88,7 @@ pub found_passes : {X : Type 0} (p : X → Bool) (xs : List X) (x : X) → find 
 found_passes p [] x is = absurd cc
 found_passes p (y ∷ ys) x is = by (found_passes p ys x) (p y) refl is where
   by : (find p ys ≡ Some x → (p x ≡ true) × Contains ys x) → (b : Bool) → p y ≡ b → cond b (Some y) (find p ys) ≡ Some x → (p x ≡ true) × Contains (y ∷ ys) x
-  by rest true passes is = (subst (λ z. p z ≡ true) (some_same is) passes, contains_head ys x y (some_same is))
+  by rest true passes is = (subst (λ z. p z ≡ true) (same_Some y x is) passes, contains_head ys x y (same_Some y x is))
   by rest false fails is = let there = rest is in (there.0, contains_tail ys x y there.1)
 
 -- ---- ports of a table
@@ -104,7 +96,7 @@ found_passes p (y ∷ ys) x is = by (found_passes p ys x) (p y) refl is where
 port_found : (ports : List PortRow) (p : PortRow) → Rises ports → (k : ℕ) → k < length ports → get_or ports k p ≡ p → find (λ (q : PortRow). q.id == p.id) ports ≡ Some p
 port_found [] p rises k within at = absurd (omega (arith, within))
 port_found (q ∷ ports) p rises zero within at =
-    ap (λ b. cond b (Some q) (find (λ (other : PortRow). other.id == p.id) ports)) (same_number q.id p.id (ap (λ (other : PortRow). other.id) at)) ∙ ap Some at
+    ap (λ b. cond b (Some q) (find (λ (other : PortRow). other.id == p.id) ports)) (eq-eqb q.id p.id (ap (λ (other : PortRow). other.id) at)) ∙ ap Some at
 port_found (q ∷ ports) p rises (suc k) within at =
     let less : q.id < p.id = of_all (λ (other : PortRow). q.id < other.id) ports p rises.0 (k, omega (arith, within), at) in
     ap (λ b. cond b (Some q) (find (λ (other : PortRow). other.id == p.id) ports)) (above q.id p.id less) ∙ port_found ports p rises.1 k (omega (arith, within)) at
@@ -114,4 +106,4 @@ ports_are_found t p formed among = port_found t.ports p formed.ports_rise among.
 
 -- ports of one number are one
 pub one_port : (t : Content) (p q : PortRow) → IsWellFormed t → Contains t.ports p → Contains t.ports q → p.id ≡ q.id → p ≡ q
-one_port t p q formed here there same = some_same (sym (ports_are_found t p formed here) ∙ ap (port_row t) same ∙ ports_are_found t q formed there)
+one_port t p q formed here there same = same_Some p q (sym (ports_are_found t p formed here) ∙ ap (port_row t) same ∙ ports_are_found t q formed there)

@@ -5,10 +5,11 @@ use Rattle.std.specs.List.{position}
 use Rattle.std.proofs.Math.ListN.{length-set}
 use Rattle.std.proofs.lemmas.List.{map-set}
 use Rattle.std.proofs.lemmas.List.Quantifiers.{position-Some}
-use Rattle.std.proofs.lemmas.Option.{slice_get-get_or}
+use Rattle.std.proofs.lemmas.Option.{slice_get-get_or, same_Some}
 use Rattle.std.proofs.lemmas.List.Elements.{All-contains}
+use Rattle.std.proofs.lemmas.Bool.{eqb-true}
 use Rattle.afdx_pcap.specs.declared.fault.PcapFault.{PcapFault}
-use Rattle.afdx_pcap.specs.Entry.{Entry}
+use Rattle.afdx_pcap.specs.Record.{Record}
 use Rattle.afdx_pcap.specs.Capture.{IsCapture}
 use Rattle.afdx_pcap.specs.Fault.{IsFault}
 use Rattle.afdx_table.specs.Content.{Content}
@@ -25,7 +26,7 @@ use Rattle.afdx_wiring.specs.Net.{Network, wire_to}
 use Rattle.afdx_network.specs.Runs.{Given}
 use Rattle.afdx_network.specs.Given.{AreSound, IsWired, IsWireFault, fault_of}
 use Rattle.afdx_network.specs.Inner.Sites.{Site, ComesIn, LeadsTo, IsSite, AreSites, IsPutIn, RunsOver, IsBrought, Agrees}
-use Rattle.afdx_network.proofs.Found.{some_same, equal, get_map, all_at, contains_head, contains_tail}
+use Rattle.afdx_network.proofs.Found.{get_map, all_at, contains_head, contains_tail}
 use Rattle.afdx_network.proofs.Places.{members, got_set, map_stays}
 
 none_is_some : {X P : Type 0} (o : Option X) (x : X) → o ≡ None → o ≡ Some x → P
@@ -46,7 +47,7 @@ there_at {Z = Z} port texts place text is =
     let found = position-Some (is_port port) texts place (port, text) is in
     let it = get_or texts place (port, text) in
     let at = get_map (λ (pair : ℕ × Vec ℕ Z). (pair.0, pair.1.items)) texts place it (slice_get-get_or texts place (port, text) found.0) in
-    (it.1.items, at ∙ ap (λ (n : ℕ). Some (n, it.1.items)) (equal it.0 port found.1))
+    (it.1.items, at ∙ ap (λ (n : ℕ). Some (n, it.1.items)) (eqb-true it.0 port found.1))
 
 pub is_put_in : {Z : Type 0} (port : ℕ) (texts : List (ℕ × Vec ℕ Z)) (place : ℕ) (text : Vec ℕ Z) (old new : Site) → position (is_port port) texts ≡ Some place
     → texts_of texts ≡ old.came → new.came ≡ texts_of (set texts place (port, text)) → new.outcome ≡ None → IsPutIn port text.items old new
@@ -111,7 +112,7 @@ taken_stays net given switch port text old new wired (inr put) site = put_in_sta
 led : (t u : Content) (old new : Site) (results : Results) → t ≡ u → (over : RunsOver t old new) → ((r : Results) → old.outcome ≡ Some r → LeadsTo u old.came r)
     → new.outcome ≡ Some results → LeadsTo u new.came results
 led t u old new results same over before is =
-    subst (λ came. LeadsTo u came results) (sym over.came) (subst (LeadsTo u old.came) (some_same (sym over.outcome ∙ is)) (by over.led)) where
+    subst (λ came. LeadsTo u came results) (sym over.came) (subst (LeadsTo u old.came) (same_Some _ _ (sym over.outcome ∙ is)) (by over.led)) where
       by : (old.outcome ≡ Some over.results) ⊎ LeadsTo t old.came over.results → LeadsTo u old.came over.results
       by (inl was) = before over.results was
       by (inr now) = subst (λ c. LeadsTo c old.came over.results) same now
@@ -124,7 +125,7 @@ run_stays net given switch t old new at over site = record {
   table_is = site.table_is;
   own_is = site.own_is;
   comes = subst (ComesIn net switch site.table site.own) (sym over.came) site.comes;
-  ran = λ results is. led t site.table old new results (some_same (sym at ∙ site.table_is)) over site.ran is;
+  ran = λ results is. led t site.table old new results (same_Some _ _ (sym at ∙ site.table_is)) over site.ran is;
 }
 
 -- ---- all sites
@@ -156,10 +157,10 @@ first_is_there (x ∷ came) port why (inr later) =
 
 -- no text is a capture and has a fault
 abbrev pub NotBoth : Type 0
-NotBoth = (bytes : List ℕ) (rs : List Entry) (e : PcapFault) → IsCapture bytes rs → IsFault bytes e → ⊥
+NotBoth = (bytes : List ℕ) (rs : List Record) (e : PcapFault) → IsCapture bytes rs → IsFault bytes e → ⊥
 
 of_ports : (net : Network) (given : Given) (switch : ℕ) (t : Content) (s : Site) → slice_get net.tables switch ≡ Some t → IsSite net given switch s → AreOfPorts t s.came
-of_ports net given switch t s at site = subst (λ (c : Content). AreOfPorts c s.came) (some_same (sym site.table_is ∙ at)) site.comes.ports
+of_ports net given switch t s at site = subst (λ (c : Content). AreOfPorts c s.came) (same_Some _ _ (sym site.table_is ∙ at)) site.comes.ports
 
 refused_there : NotBoth → (net : Network) (given : Given) (switch : ℕ) (t : Content) (s : Site) (why : RunFault) → AreSound given → slice_get net.tables switch ≡ Some t
     → IsSite net given switch s → IsRefusal t s.came why → IsWireFault net (fault_of switch why)

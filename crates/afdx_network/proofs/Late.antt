@@ -1,11 +1,13 @@
 -- How late a frame can be in a network: each switch and the cable behind it take at most 501 ms, and a way has at most 64 of them.
-use Rattle.std.proofs.Common.{◌≡◌, ℕ, zero, suc, ◌+◌, ◌*◌, ◌<◌, ◌≤◌, ◌==◌, nat_le, Bool, true, false, cond, List, [], ◌∷◌, ◌++◌}
-use Rattle.std.proofs.Common.{length, map, filter, get_or, slice_get, Option, Some, None, refl, ap, sym, ◌∙◌, arith, subst}
+use Rattle.std.proofs.Common.{◌≡◌, ℕ, suc, ◌+◌, ◌*◌, ◌≤◌, ◌==◌, nat_le, Bool, true, false, cond, List, [], ◌∷◌, ◌++◌}
+use Rattle.std.proofs.Common.{length, map, filter, slice_get, Option, Some, None, refl, ap, sym, ◌∙◌, arith, subst}
 use Rattle.std.specs.Prelude.{All, Contains}
 use Rattle.std.specs.List.{AllByRecursion}
 use Rattle.std.proofs.lemmas.List.Elements.{All-contains, recursion_from_All}
+use Rattle.std.proofs.lemmas.Bool.{eq-eqb, eqb-true}
+use Rattle.std.proofs.lemmas.Option.{slice_get_read}
 use Rattle.afdx_units.specs.Time.{second, last_second}
-use Rattle.afdx_pcap.specs.Entry.{Entry, IsWithinLimit}
+use Rattle.afdx_pcap.specs.Record.{Record, IsWithinLimit}
 use Rattle.afdx_pcap.specs.Text.{capture_text, AreReadable}
 use Rattle.afdx_pcap.specs.Capture.{IsCapture}
 use Rattle.afdx_frame.specs.Address.{link_of}
@@ -26,7 +28,7 @@ use Rattle.afdx_network.specs.Way.{delayed}
 use Rattle.afdx_network.specs.Runs.{SwitchRun, Given}
 use Rattle.afdx_network.specs.Laws.{IsAcceptedRun, NoneComesLate, WaysAreShort}
 use Rattle.afdx_network.proofs.Lists.{all_weaken, all_map, all_append, all_kept, all_tested}
-use Rattle.afdx_network.proofs.Found.{same_number, equal, get_map, contains_at, map_contains}
+use Rattle.afdx_network.proofs.Found.{get_map, contains_at, map_contains}
 use Rattle.afdx_network.proofs.Rows.{wire_goes_there, rows_have}
 use Rattle.afdx_network.proofs.Clean.{clean_of}
 use Rattle.afdx_network.proofs.Leaves.{half, each_left, leave_later}
@@ -45,15 +47,10 @@ all_parts : {X : Type 0} (P : X → Type 0) (xs ys : List X) → AllByRecursion 
 all_parts P [] ys all = (tt, all)
 all_parts P (x ∷ xs) ys all = let rest = all_parts P xs ys all.1 in ((all.0, rest.0), rest.1)
 
-place_at : {X : Type 0} (xs : List X) (x : X) (k : ℕ) → k < length xs → get_or xs k x ≡ x → slice_get xs k ≡ Some x
-place_at [] x k within at = absurd (omega (arith, within))
-place_at (y ∷ xs) x zero within at = ap Some at
-place_at (y ∷ xs) x (suc k) within at = place_at xs x k (omega (arith, within)) at
-
 -- ---- what was read
 
-records_all : (P : Entry → Type 0) (port : ℕ) (texts : List Text) (read : List Capture) → AreCaptures texts read
-    → ((text : Text) (records : List Entry) → Contains texts text → text.0 ≡ port → IsCapture text.1 records → AllByRecursion P records) → AllByRecursion P (records_of read port)
+records_all : (P : Record → Type 0) (port : ℕ) (texts : List Text) (read : List Capture) → AreCaptures texts read
+    → ((text : Text) (records : List Record) → Contains texts text → text.0 ≡ port → IsCapture text.1 records → AllByRecursion P records) → AllByRecursion P (records_of read port)
 records_all P port [] [] are each = tt
 records_all P port [] (c ∷ read) are each = absurd are
 records_all P port (text ∷ texts) [] are each = absurd are
@@ -61,21 +58,21 @@ records_all P port (text ∷ texts) (c ∷ read) are each =
     all_append P (cond (c.port == port) c.records []) (records_of read port) (by (c.port == port) refl)
     (records_all P port texts read are.2 (λ t records among. let within = among.1 in each t records (suc among.0, omega (arith, within), among.2))) where
       by : (b : Bool) → (c.port == port) ≡ b → AllByRecursion P (cond b c.records [])
-      by true is = each text c.records (0, omega arith, refl) (sym are.0 ∙ equal c.port port is) are.1
+      by true is = each text c.records (0, omega arith, refl) (sym are.0 ∙ eqb-true c.port port is) are.1
       by false other = tt
 
-arrivals_all : (P : Entry → Type 0) (read : List Capture) → ((port : ℕ) → AllByRecursion P (records_of read port)) → AllByRecursion (λ (a : Arrival). P a.frame) (arrivals_of read)
+arrivals_all : (P : Record → Type 0) (read : List Capture) → ((port : ℕ) → AllByRecursion P (records_of read port)) → AllByRecursion (λ (a : Arrival). P a.frame) (arrivals_of read)
 arrivals_all P [] each = tt
 arrivals_all P (c ∷ read) each =
     let first = (all_parts P (cond (c.port == c.port) c.records []) (records_of read c.port) (each c.port)).0 in
-    let records = from_test c.records (c.port == c.port) (same_number c.port c.port refl) first in
+    let records = from_test c.records (c.port == c.port) (eq-eqb c.port c.port refl) first in
     all_append (λ (a : Arrival). P a.frame) (map (arrival_at c.port) c.records) (arrivals_of read)
     (all_map (λ (a : Arrival). P a.frame) (arrival_at c.port) c.records records)
     (arrivals_all P read (λ port. (all_parts P (cond (c.port == port) c.records []) (records_of read port) (each port)).1)) where
-      arrival_at : ℕ → Entry → Arrival
+      arrival_at : ℕ → Record → Arrival
       arrival_at port r = record { port = port; frame = r }
 
-      from_test : (rs : List Entry) (b : Bool) → b ≡ true → AllByRecursion P (cond b rs []) → AllByRecursion P rs
+      from_test : (rs : List Record) (b : Bool) → b ≡ true → AllByRecursion P (cond b rs []) → AllByRecursion P rs
       from_test rs true is all = all
       from_test rs false is all = absurd cc
 
@@ -91,7 +88,7 @@ merged_all P [] all = tt
 merged_all P (a ∷ arrivals) all = placed_all P a (by_stamp arrivals) all.0 (merged_all P arrivals all.1)
 
 -- the same texts have one reading
-one_reading : ((bytes : List ℕ) (rs qs : List Entry) → IsCapture bytes rs → IsCapture bytes qs → rs ≡ qs) → (texts : List Text) (read other : List Capture)
+one_reading : ((bytes : List ℕ) (rs qs : List Record) → IsCapture bytes rs → IsCapture bytes qs → rs ≡ qs) → (texts : List Text) (read other : List Capture)
     → AreCaptures texts read → AreCaptures texts other → read ≡ other
 one_reading unique [] [] [] are too = refl
 one_reading unique [] [] (d ∷ other) are too = absurd too
@@ -103,7 +100,7 @@ one_reading unique (text ∷ texts) (c ∷ read) (d ∷ other) are too =
     let records : c.records ≡ d.records = unique text.1 c.records d.records are.1 too.1 in
     let first : c ≡ d = ap (λ (n : ℕ). capture_by n c.records) port ∙ ap (capture_by d.port) records in
     ap (λ (e : Capture). e ∷ read) first ∙ ap (λ (rest : List Capture). d ∷ rest) (one_reading unique texts read other are.2 too.2) where
-      capture_by : ℕ → List Entry → Capture
+      capture_by : ℕ → List Record → Capture
       capture_by port records = record { port = port; records = records }
 
 -- ---- how late
@@ -117,54 +114,54 @@ abbrev after_hops : ℕ → ℕ
 after_hops n = latest + n * 501000000
 
 -- what is clean of a link again at the next switch, so much later
-came_later : (m cable id : ℕ) (out : List Entry) → AllByRecursion (λ (e : Entry). (link_of e.bytes == id) ≡ true → e.stamp ≤ m) out
-    → AllByRecursion (λ (q : Entry). (link_of q.bytes == id) ≡ true → q.stamp ≤ m + cable) (map (delayed cable) out)
+came_later : (m cable id : ℕ) (out : List Record) → AllByRecursion (λ (e : Record). (link_of e.bytes == id) ≡ true → e.stamp ≤ m) out
+    → AllByRecursion (λ (q : Record). (link_of q.bytes == id) ≡ true → q.stamp ≤ m + cable) (map (delayed cable) out)
 came_later m cable id [] all = tt
 came_later m cable id (e ∷ out) all = (λ is. let by = all.0 is in omega (arith, by), came_later m cable id out all.1)
 
-all_later : (m cable : ℕ) (out : List Entry) → AllByRecursion (λ (e : Entry). e.stamp ≤ m) out → AllByRecursion (λ (q : Entry). q.stamp ≤ m + cable) (map (delayed cable) out)
+all_later : (m cable : ℕ) (out : List Record) → AllByRecursion (λ (e : Record). e.stamp ≤ m) out → AllByRecursion (λ (q : Record). q.stamp ≤ m + cable) (map (delayed cable) out)
 all_later m cable [] all = tt
 all_later m cable (e ∷ out) all = let by = all.0 in (omega (arith, by), all_later m cable out all.1)
 
 module _ (g : Ground) (short : WaysAreShort) (net : Network) (given : Given) (runs : List SwitchRun) (acc : IsAcceptedRun net given runs) (early : NoneComesLate given) where
   -- at a port without a wire
   given_early : (n port : ℕ) (run : SwitchRun) → slice_get runs n ≡ Some run → wire_to net (record { switch = n; port = port }) ≡ None
-      → AllByRecursion (λ (r : Entry). r.stamp ≤ latest) (records_of run.isolated.read port)
-  given_early n port run is none = records_all (λ (r : Entry). r.stamp ≤ latest) port run.texts run.isolated.read run.isolated.are_read each where
-    each : (text : Text) (records : List Entry) → Contains run.texts text → text.0 ≡ port → IsCapture text.1 records → AllByRecursion (λ (r : Entry). r.stamp ≤ latest) records
+      → AllByRecursion (λ (r : Record). r.stamp ≤ latest) (records_of run.isolated.read port)
+  given_early n port run is none = records_all (λ (r : Record). r.stamp ≤ latest) port run.texts run.isolated.read run.isolated.are_read each where
+    each : (text : Text) (records : List Record) → Contains run.texts text → text.0 ≡ port → IsCapture text.1 records → AllByRecursion (λ (r : Record). r.stamp ≤ latest) records
     each text records among number capture =
         let h = acc.run.fed.others (record { switch = n; port = port }) run.texts text none (get_map (λ (r : SwitchRun). r.texts) runs n run is) number among in
         let all = early h.texts text records (contains_at given n h.texts h.texts_is) h.has capture in
-        all_weaken (λ (r : Entry). r.stamp + 64 * second ≤ last_second) (λ (r : Entry). r.stamp ≤ latest) records (λ r soon. omega (arith, soon))
-        (recursion_from_All (λ (r : Entry). r.stamp + 64 * second ≤ last_second) records all)
+        all_weaken (λ (r : Record). r.stamp + 64 * second ≤ last_second) (λ (r : Record). r.stamp ≤ latest) records (λ r soon. omega (arith, soon))
+        (recursion_from_All (λ (r : Record). r.stamp + 64 * second ≤ last_second) records all)
 
   -- a link's own frames come over a wire at most 501 ms later
   came_over : (b : Back) (r : Row) (run : SwitchRun) → slice_get runs r.switch ≡ Some run → Contains run.table.links r.link → (m n : ℕ) → m + 501000000 ≤ n
-      → (before : RowBefore g net given runs acc b r run) → AllByRecursion (λ (q : Entry). q.stamp ≤ m) (own_records before.here.table b.row.link before.here.isolated.read)
-      → AllByRecursion (λ (q : Entry). q.stamp ≤ n) (own_records run.table r.link run.isolated.read)
+      → (before : RowBefore g net given runs acc b r run) → AllByRecursion (λ (q : Record). q.stamp ≤ m) (own_records before.here.table b.row.link before.here.isolated.read)
+      → AllByRecursion (λ (q : Record). q.stamp ≤ n) (own_records run.table r.link run.isolated.read)
   came_over b r run is known m n enough before own =
       let here = before.here in
       let out = here.isolated.out before.port in
-      let left : AllByRecursion (λ (e : Entry). e.stamp ≤ m + half) (records_for b.row.link out)
+      let left : AllByRecursion (λ (e : Record). e.stamp ≤ m + half) (records_for b.row.link out)
       = leave_later here.table here.isolated.read before.port out b.row.link m (formed_at g net given runs acc b.row.switch here before.here_is)
       (accepted_at g net given runs acc b.row.switch here before.here_is) before.has (here.isolated.isolated before.port before.has) before.known before.leads own in
-      let came = came_later (m + half) b.wire.delay b.row.link.id out (all_tested (λ (e : Entry). e.stamp ≤ m + half) (λ (e : Entry). link_of e.bytes == b.row.link.id) out left) in
+      let came = came_later (m + half) b.wire.delay b.row.link.id out (all_tested (λ (e : Record). e.stamp ≤ m + half) (λ (e : Record). link_of e.bytes == b.row.link.id) out left) in
       let small = before.small in
       let formed = formed_at g net given runs acc r.switch run is in
-      let passes : (q : Entry) → says_clean r.link.id (verdict_of run.table r.link.from q) ≡ true → ((link_of q.bytes == b.row.link.id) ≡ true → q.stamp ≤ m + half + b.wire.delay)
+      let passes : (q : Record) → says_clean r.link.id (verdict_of run.table r.link.from q) ≡ true → ((link_of q.bytes == b.row.link.id) ≡ true → q.stamp ≤ m + half + b.wire.delay)
       → q.stamp ≤ n
       = λ q clean by. let of = clean_of g.exact g.links run.table r.link q formed known clean in
-      let soon = by (same_number (link_of q.bytes) b.row.link.id (of.address ∙ sym before.number)) in omega (arith, soon, small, enough) in
-      all_kept_of (λ (q : Entry). q.stamp ≤ n) (λ (q : Entry). (link_of q.bytes == b.row.link.id) ≡ true → q.stamp ≤ m + half + b.wire.delay)
-      (λ (q : Entry). says_clean r.link.id (verdict_of run.table r.link.from q)) (records_of run.isolated.read r.link.from) passes
-      (subst (λ (qs : List Entry). AllByRecursion (λ (q : Entry). (link_of q.bytes == b.row.link.id) ≡ true → q.stamp ≤ m + half + b.wire.delay) qs) (sym before.comes) came)
+      let soon = by (eq-eqb (link_of q.bytes) b.row.link.id (of.address ∙ sym before.number)) in omega (arith, soon, small, enough) in
+      all_kept_of (λ (q : Record). q.stamp ≤ n) (λ (q : Record). (link_of q.bytes == b.row.link.id) ≡ true → q.stamp ≤ m + half + b.wire.delay)
+      (λ (q : Record). says_clean r.link.id (verdict_of run.table r.link.from q)) (records_of run.isolated.read r.link.from) passes
+      (subst (λ (qs : List Record). AllByRecursion (λ (q : Record). (link_of q.bytes == b.row.link.id) ≡ true → q.stamp ≤ m + half + b.wire.delay) qs) (sym before.comes) came)
 
   -- a link's own frames
   own_early : (backs : List Back) (r : Row) (run : SwitchRun) → slice_get runs r.switch ≡ Some run → Contains run.table.links r.link → IsWayBack net r backs
-      → AllByRecursion (λ (q : Entry). q.stamp ≤ after_hops (length backs)) (own_records run.table r.link run.isolated.read)
+      → AllByRecursion (λ (q : Record). q.stamp ≤ after_hops (length backs)) (own_records run.table r.link run.isolated.read)
   own_early [] r run is known source =
-      all_kept (λ (q : Entry). q.stamp ≤ after_hops 0) (λ (q : Entry). says_clean r.link.id (verdict_of run.table r.link.from q)) (records_of run.isolated.read r.link.from)
-      (all_weaken (λ (q : Entry). q.stamp ≤ latest) (λ (q : Entry). q.stamp ≤ after_hops 0) (records_of run.isolated.read r.link.from) (λ q soon. omega (arith, soon))
+      all_kept (λ (q : Record). q.stamp ≤ after_hops 0) (λ (q : Record). says_clean r.link.id (verdict_of run.table r.link.from q)) (records_of run.isolated.read r.link.from)
+      (all_weaken (λ (q : Record). q.stamp ≤ latest) (λ (q : Record). q.stamp ≤ after_hops 0) (records_of run.isolated.read r.link.from) (λ q soon. omega (arith, soon))
       (given_early r.switch r.link.from run is source))
   own_early (b ∷ backs) r run is known way =
       let before = row_before g net given runs acc b r run is way.0 way.1 way.2 in
@@ -173,9 +170,9 @@ module _ (g : Ground) (short : WaysAreShort) (net : Network) (given : Given) (ru
 
   -- whatever leaves a port
   left_early : (n : ℕ) (run : SwitchRun) (p : PortRow) → slice_get runs n ≡ Some run → Contains run.table.ports p
-      → AllByRecursion (λ (q : Entry). q.stamp ≤ after_hops 63 + half) (run.isolated.out p)
-  left_early n run p is among = each_left (λ (q : Entry). q.stamp ≤ after_hops 63 + half) run.table run.isolated.read p (run.isolated.out p) (run.isolated.isolated p among) each where
-    each : (l : Link) → Contains run.table.links l → leads_to p.id l ≡ true → AllByRecursion (λ (q : Entry). q.stamp ≤ after_hops 63 + half) (records_for l (run.isolated.out p))
+      → AllByRecursion (λ (q : Record). q.stamp ≤ after_hops 63 + half) (run.isolated.out p)
+  left_early n run p is among = each_left (λ (q : Record). q.stamp ≤ after_hops 63 + half) run.table run.isolated.read p (run.isolated.out p) (run.isolated.isolated p among) each where
+    each : (l : Link) → Contains run.table.links l → leads_to p.id l ≡ true → AllByRecursion (λ (q : Record). q.stamp ≤ after_hops 63 + half) (records_for l (run.isolated.out p))
     each l known leads =
         let r : Row = record { switch = n; link = l } in
         let row = rows_have net r run.table (table_at g net given runs acc n run is) known in
@@ -183,17 +180,17 @@ module _ (g : Ground) (short : WaysAreShort) (net : Network) (given : Given) (ru
         let fewer = short net r way.0 acc.of_file.well_formed row way.1 in
         let few = acc.of_file.few in
         let tables = acc.of_file.tables in
-        let own = all_weaken (λ (q : Entry). q.stamp ≤ after_hops (length way.0)) (λ (q : Entry). q.stamp ≤ after_hops 63) (own_records run.table l run.isolated.read)
+        let own = all_weaken (λ (q : Record). q.stamp ≤ after_hops (length way.0)) (λ (q : Record). q.stamp ≤ after_hops 63) (own_records run.table l run.isolated.read)
         (λ q soon. omega (arith, soon, fewer, few, tables)) (own_early way.0 r run is known way.1) in
         leave_later run.table run.isolated.read p (run.isolated.out p) l (after_hops 63) (formed_at g net given runs acc n run is) (accepted_at g net given runs acc n run is) among
         (run.isolated.isolated p among) known leads own
 
   -- whatever comes in at a switch
-  came_early : (n port : ℕ) (run : SwitchRun) → slice_get runs n ≡ Some run → AllByRecursion (λ (q : Entry). q.stamp + second ≤ last_second) (records_of run.isolated.read port)
+  came_early : (n port : ℕ) (run : SwitchRun) → slice_get runs n ≡ Some run → AllByRecursion (λ (q : Record). q.stamp + second ≤ last_second) (records_of run.isolated.read port)
   came_early n port run is = by (wire_to net (record { switch = n; port = port })) refl where
-    by : (o : Option Wire) → wire_to net (record { switch = n; port = port }) ≡ o → AllByRecursion (λ (q : Entry). q.stamp + second ≤ last_second) (records_of run.isolated.read port)
+    by : (o : Option Wire) → wire_to net (record { switch = n; port = port }) ≡ o → AllByRecursion (λ (q : Record). q.stamp + second ≤ last_second) (records_of run.isolated.read port)
     by None none =
-        all_weaken (λ (q : Entry). q.stamp ≤ latest) (λ (q : Entry). q.stamp + second ≤ last_second) (records_of run.isolated.read port) (λ q soon. omega (arith, soon))
+        all_weaken (λ (q : Record). q.stamp ≤ latest) (λ (q : Record). q.stamp + second ≤ last_second) (records_of run.isolated.read port) (λ q soon. omega (arith, soon))
         (given_early n port run is none)
     by (Some w) some =
         let there = wire_goes_there net (record { switch = n; port = port }) w some in
@@ -201,9 +198,9 @@ module _ (g : Ground) (short : WaysAreShort) (net : Network) (given : Given) (ru
         let h = behind g net given runs acc w run there.1 at_end in
         let small = All-contains (λ (v : Wire). v.delay ≤ 1000000) net.layout.wires w acc.of_file.delays there.1 in
         let came = all_later (after_hops 63 + half) w.delay (h.here.isolated.out h.port) (left_early w.from.switch h.here h.port h.here_is h.has) in
-        all_weaken (λ (q : Entry). q.stamp ≤ after_hops 63 + half + w.delay) (λ (q : Entry). q.stamp + second ≤ last_second) (records_of run.isolated.read port)
+        all_weaken (λ (q : Record). q.stamp ≤ after_hops 63 + half + w.delay) (λ (q : Record). q.stamp + second ≤ last_second) (records_of run.isolated.read port)
         (λ q soon. omega (arith, soon, small))
-        (subst (λ (qs : List Entry). AllByRecursion (λ (q : Entry). q.stamp ≤ after_hops 63 + half + w.delay) qs)
+        (subst (λ (qs : List Record). AllByRecursion (λ (q : Record). q.stamp ≤ after_hops 63 + half + w.delay) qs)
         (sym h.comes ∙ ap (λ (e : End). records_of run.isolated.read e.port) there.0) came)
 
 -- ---- what leaves can be read again
@@ -212,20 +209,20 @@ module _ (g : Ground) (short : WaysAreShort) (net : Network) (given : Given) (ru
 pub record Further : Type 0 where
   pub short : WaysAreShort
   pub readable : OutputsAreReadable
-  pub written : (rs : List Entry) → AreReadable 0 rs → All IsWithinLimit rs → IsCapture (capture_text rs) rs
-  pub unique : (bytes : List ℕ) (rs qs : List Entry) → IsCapture bytes rs → IsCapture bytes qs → rs ≡ qs
+  pub written : (rs : List Record) → AreReadable 0 rs → All IsWithinLimit rs → IsCapture (capture_text rs) rs
+  pub unique : (bytes : List ℕ) (rs qs : List Record) → IsCapture bytes rs → IsCapture bytes qs → rs ≡ qs
 
 pub none_is_late : Ground → Further → (net : Network) (given : Given) (runs : List SwitchRun) → IsAcceptedRun net given runs → NoneComesLate given
-    → (run : SwitchRun) (text : Text) → Contains runs run → Contains run.results.captures text → (records : List Entry) × IsCapture text.1 records
+    → (run : SwitchRun) (text : Text) → Contains runs run → Contains run.results.captures text → (records : List Record) × IsCapture text.1 records
 none_is_late g f net given runs acc early run text among has =
     let n = among.0 in
-    let is : slice_get runs n ≡ Some run = place_at runs run n among.1 among.2 in
+    let is : slice_get runs n ≡ Some run = slice_get_read runs (length runs) n run refl among.1 (sym among.2) in
     let read = run.outcome.read in
     let same : run.isolated.read ≡ read = one_reading f.unique run.texts run.isolated.read read run.isolated.are_read run.outcome.are_read in
     let came : AllByRecursion (λ (a : Arrival). a.frame.stamp + second ≤ last_second) (merged read)
     = merged_all (λ (a : Arrival). a.frame.stamp + second ≤ last_second) (arrivals_of read)
-    (arrivals_all (λ (q : Entry). q.stamp + second ≤ last_second) read
-    (λ port. subst (λ (captures : List Capture). AllByRecursion (λ (q : Entry). q.stamp + second ≤ last_second) (records_of captures port)) same
+    (arrivals_all (λ (q : Record). q.stamp + second ≤ last_second) read
+    (λ port. subst (λ (captures : List Capture). AllByRecursion (λ (q : Record). q.stamp + second ≤ last_second) (records_of captures port)) same
     (came_early g f.short net given runs acc early n port run is))) in
     let h = map_contains (λ (p : PortRow). (p.id, output_text run.table (merged read) p)) run.table.ports text
     (subst (λ (texts : List Text). Contains texts text) run.outcome.captures has) in

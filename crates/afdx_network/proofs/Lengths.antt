@@ -4,30 +4,31 @@ use Rattle.std.proofs.Common.{slice_get, Option, Some, None, option_map, option_
 use Rattle.std.specs.Prelude.{All, Contains}
 use Rattle.std.specs.List.{AllByRecursion, IsDistinct}
 use Rattle.std.proofs.lemmas.List.{length-map}
-use Rattle.std.proofs.lemmas.Option.{slice_get_within}
+use Rattle.std.proofs.lemmas.Option.{slice_get_within, same_Some}
 use Rattle.std.proofs.lemmas.Map.Steps.{length-le_from_distinct_below}
 use Rattle.std.proofs.lemmas.Map.Views.{Contains-from_any}
+use Rattle.std.proofs.lemmas.Bool.{eqb-true}
 use Rattle.afdx_table.specs.Link.{Link}
 use Rattle.afdx_table.specs.Content.{Content, link_row}
 use Rattle.afdx_table.specs.WellFormed.{IsWellFormed}
 use Rattle.afdx_table.specs.Inner.Found.{LinksAreFound}
 use Rattle.afdx_wiring.specs.declared.layout.Wire.{Wire}
-use Rattle.afdx_wiring.specs.Net.{Network, Row, Back, row_at, rows_of, IsWayBack}
+use Rattle.afdx_wiring.specs.Net.{Network, Row, Back, row_at, row_in, rows_from, rows_of, IsWayBack}
 use Rattle.afdx_network.proofs.Lists.{all_weaken, all_map, all_append}
-use Rattle.afdx_network.proofs.Found.{some_same, equal, all_at, all_by, of_all}
-use Rattle.afdx_network.proofs.Rows.{row_in, rows_from, row_is}
+use Rattle.afdx_network.proofs.Found.{all_at, all_by, of_all}
+use Rattle.afdx_network.proofs.Rows.{row_is}
 
--- ---- where a row stands
+-- ---- the table that a row is of
 
-pub record Stands (tables : List Content) (n : ℕ) (r : Row) : Type 0 where
+pub record IsRowOf (tables : List Content) (n : ℕ) (r : Row) : Type 0 where
   pub place : ℕ
   pub table : Content
   pub switch : r.switch ≡ n + place
   pub table_is : slice_get tables place ≡ Some table
   pub known : Contains table.links r.link
 
-stands_later : (u : Content) (tables : List Content) (n : ℕ) (r : Row) → Stands tables (n + 1) r → Stands (u ∷ tables) n r
-stands_later u tables n r h = let switch = h.switch in record {
+row_later : (u : Content) (tables : List Content) (n : ℕ) (r : Row) → IsRowOf tables (n + 1) r → IsRowOf (u ∷ tables) n r
+row_later u tables n r h = let switch = h.switch in record {
   place = suc h.place;
   table = h.table;
   switch = omega (arith, switch);
@@ -35,16 +36,16 @@ stands_later u tables n r h = let switch = h.switch in record {
   known = h.known;
 }
 
-rows_stand : (n : ℕ) (tables : List Content) → AllByRecursion (Stands tables n) (rows_from n tables)
-rows_stand n [] = tt
-rows_stand n (u ∷ tables) =
-    all_append (Stands (u ∷ tables) n) (map (row_in n) u.links) (rows_from (n + 1) tables)
-    (all_map (Stands (u ∷ tables) n) (row_in n) u.links
-    (all_by (λ (l : Link). Stands (u ∷ tables) n (row_in n l)) u.links (λ l among. record { place = 0; table = u; switch = omega arith; table_is = refl; known = among })))
-    (all_weaken (Stands tables (n + 1)) (Stands (u ∷ tables) n) (rows_from (n + 1) tables) (stands_later u tables n) (rows_stand (n + 1) tables))
+all_rows : (n : ℕ) (tables : List Content) → AllByRecursion (IsRowOf tables n) (rows_from n tables)
+all_rows n [] = tt
+all_rows n (u ∷ tables) =
+    all_append (IsRowOf (u ∷ tables) n) (map (row_in n) u.links) (rows_from (n + 1) tables)
+    (all_map (IsRowOf (u ∷ tables) n) (row_in n) u.links
+    (all_by (λ (l : Link). IsRowOf (u ∷ tables) n (row_in n l)) u.links (λ l among. record { place = 0; table = u; switch = omega arith; table_is = refl; known = among })))
+    (all_weaken (IsRowOf tables (n + 1)) (IsRowOf (u ∷ tables) n) (rows_from (n + 1) tables) (row_later u tables n) (all_rows (n + 1) tables))
 
-pub row_stands : (net : Network) (r : Row) → Contains (rows_of net) r → Stands net.tables 0 r
-row_stands net r among = of_all (Stands net.tables 0) (rows_of net) r (rows_stand 0 net.tables) among
+pub row_of_table : (net : Network) (r : Row) → Contains (rows_of net) r → IsRowOf net.tables 0 r
+row_of_table net r among = of_all (IsRowOf net.tables 0) (rows_of net) r (all_rows 0 net.tables) among
 
 -- what is found under a number has it, at a switch of the network
 pub record IsFound (net : Network) (switch id : ℕ) (r : Row) : Type 0 where
@@ -63,7 +64,7 @@ module _ (links : LinksAreFound) (net : Network) where
     by_link : (t : Content) → slice_get net.tables switch ≡ Some t → (o : Option Link) → link_row t id ≡ o → option_map (row_in switch) o ≡ Some r → IsFound net switch id r
     by_link t table_is None link_is none = absurd cc
     by_link t table_is (Some l) link_is some =
-        let same : row_in switch l ≡ r = some_same some in
+        let same : row_in switch l ≡ r = same_Some (row_in switch l) r some in
         let h = links.is_row t id l link_is in
         record {
           table = t;
@@ -84,8 +85,8 @@ module _ (links : LinksAreFound) (net : Network) where
   one_back r [] (y ∷ ys) one two = absurd (none_some one two.0)
   one_back r (x ∷ xs) [] one two = absurd (none_some two one.0)
   one_back r (x ∷ xs) (y ∷ ys) one two =
-      let wire : y.wire ≡ x.wire = some_same (sym two.0 ∙ one.0) in
-      let row : y.row ≡ x.row = some_same (sym two.1 ∙ ap (λ (w : Wire). row_at net w.from.switch r.link.id) wire ∙ one.1) in
+      let wire : y.wire ≡ x.wire = same_Some y.wire x.wire (sym two.0 ∙ one.0) in
+      let row : y.row ≡ x.row = same_Some y.row x.row (sym two.1 ∙ ap (λ (w : Wire). row_at net w.from.switch r.link.id) wire ∙ one.1) in
       let rest = one_back x.row xs ys one.3 (subst (λ (q : Row). IsWayBack net q ys) row two.3) in
       omega (arith, rest)
 
@@ -118,7 +119,7 @@ module _ (links : LinksAreFound) (net : Network) where
     by : (c : Bool) → (r.switch == b.row.switch) ≡ c → c ≡ false
     by false other = refl
     by true same =
-        let row : b.row ≡ r = some_same (sym h.found ∙ ap (λ (n : ℕ). row_at net n r.link.id) (sym (equal r.switch b.row.switch same)) ∙ is) in
+        let row : b.row ≡ r = same_Some b.row r (sym h.found ∙ ap (λ (n : ℕ). row_at net n r.link.id) (sym (eqb-true r.switch b.row.switch same)) ∙ is) in
         let lengths = one_back r h.more backs (subst (λ (q : Row). IsWayBack net q h.more) row h.way) way in
         let fewer = h.fewer in
         absurd (omega (arith, lengths, fewer))
@@ -143,13 +144,13 @@ module _ (links : LinksAreFound) (net : Network) where
 
   pub ways_are_short : (r : Row) (backs : List Back) → All IsWellFormed net.tables → Contains (rows_of net) r → IsWayBack net r backs → length backs < length net.tables
   ways_are_short r backs formed among way =
-      let h = row_stands net r among in
+      let h = row_of_table net r among in
       let switch = h.switch in
       let place : h.place ≡ r.switch = omega (arith, switch) in
       let there : slice_get net.tables r.switch ≡ Some h.table = subst (λ (n : ℕ). slice_get net.tables n ≡ Some h.table) place h.table_is in
       let is = row_is links net r h.table there (all_at IsWellFormed net.tables r.switch h.table formed there) h.known in
       let all = there_below r backs (slice_get_within net.tables r.switch h.table there) way in
       let count = length-le_from_distinct_below (r.switch ∷ switches backs) (length net.tables) (are_distinct r backs is way)
-      (λ q h. of_all (λ (n : ℕ). n < length net.tables) (r.switch ∷ switches backs) q all (Contains-from_any equal q (r.switch ∷ switches backs) h)) in
+      (λ q h. of_all (λ (n : ℕ). n < length net.tables) (r.switch ∷ switches backs) q all (Contains-from_any eqb-true q (r.switch ∷ switches backs) h)) in
       let lengths = length-map backs (λ (b : Back). b.row.switch) in
       omega (arith, count, lengths)

@@ -1,9 +1,10 @@
 -- The ports of a switch to which no wire goes, and what is given for them.
-use Rattle.std.proofs.Common.{◌≡◌, ◌⊎◌, ◌↔◌, ℕ, suc, ◌+◌, ◌<◌, ◌≤◌, Bool, true, false, cond, refl, ap, sym, ◌∙◌, subst, inl, inr, arith}
+use Rattle.std.proofs.Common.{◌≡◌, ◌⊎◌, ◌↔◌, ℕ, suc, ◌+◌, ◌<◌, ◌≤◌, Bool, true, false, cond, refl, ap, sym, ◌∙◌, subst, inl, inr, arith, add-one}
 use Rattle.std.proofs.Common.{List, [], ◌∷◌, ◌++◌, length, map, filter, take, drop, get_or, append_assoc}
 use Rattle.std.specs.Prelude.{All, Contains, insert}
 use Rattle.std.proofs.lemmas.List.{append_cancel_right, map-append, take-map, drop-map, length-drop, length-take-le, take-append-drop}
 use Rattle.std.proofs.Math.Seq.{drop-cons, take-append_seam, drop-append_seam}
+use Rattle.std.proofs.Math.Numerals.{suc-eq-add-one}
 use Rattle.std.proofs.lemmas.List.Elements.{All-append, All-cons, All-take, All-drop, All-weaker, All-contains, All-contains_itself}
 
 -- ---- one element further
@@ -36,18 +37,12 @@ both_go p ids xs k n i were port text within passes =
       same = (
         λ all.
             let tails : drop (suc n) xs ≡ filter p (drop (suc k) ids) = tail (sym text ∙ were.same.0 all ∙ takes) in
-            rw (add-one-n, add-one-k) tails,
+            rw (add-one n, add-one k) tails,
         λ rest.
-            let tails : drop (suc n) xs ≡ filter p (drop (suc k) ids) = rw (← add-one-n, ← add-one-k) rest in
+            let tails : drop (suc n) xs ≡ filter p (drop (suc k) ids) = rw (← add-one n, ← add-one k) rest in
             were.same.1 (text ∙ ap (λ (ys : List ℕ). i ∷ ys) tails ∙ sym takes),
       );
     } where
-      add-one-n : n + 1 ≡ suc n
-      add-one-n = omega arith
-
-      add-one-k : k + 1 ≡ suc k
-      add-one-k = omega arith
-
       tail : {a b : ℕ} {xs ys : List ℕ} → a ∷ xs ≡ b ∷ ys → xs ≡ ys
       tail h = cc
 
@@ -57,12 +52,10 @@ one_goes p ids xs k n i were port fails =
     record {
       within = were.within;
       same = (
-        λ all. subst (λ m. drop n xs ≡ filter p (drop m ids)) (sym add-one-k) (were.same.0 all ∙ drops),
-        λ rest. were.same.1 (subst (λ m. drop n xs ≡ filter p (drop m ids)) add-one-k rest ∙ sym drops),
+        λ all. subst (λ m. drop n xs ≡ filter p (drop m ids)) (sym (add-one k)) (were.same.0 all ∙ drops),
+        λ rest. were.same.1 (subst (λ m. drop n xs ≡ filter p (drop m ids)) (add-one k) rest ∙ sym drops),
       );
-    } where
-      add-one-k : k + 1 ≡ suc k
-      add-one-k = omega arith
+    }
 
 -- another number stands there, or none
 pub stop_here : (p : ℕ → Bool) (ids xs : List ℕ) (k n i : ℕ) → GoTogether p ids xs k n → drop k ids ≡ i ∷ drop (suc k) ids → p i ≡ true
@@ -109,17 +102,13 @@ AreFilled p ids xs k = xs ≡ take k ids ++ filter p (drop k ids)
 take_next : (ids : List ℕ) (k i : ℕ) → k ≤ length ids → drop k ids ≡ i ∷ drop (suc k) ids → take (k + 1) ids ≡ take k ids ++ i ∷ []
 take_next ids k i within port =
     append_cancel_right (take (k + 1) ids) (take k ids ++ i ∷ []) (drop (suc k) ids)
-    (subst (λ m. take (k + 1) ids ++ drop m ids ≡ ids) next (take-append-drop (k + 1) ids)
-    ∙ sym (take-append-drop k ids) ∙ ap (λ (ys : List ℕ). take k ids ++ ys) port ∙ sym (append_assoc (take k ids) (i ∷ []) (drop (suc k) ids))) where
-      next : k + 1 ≡ suc k
-      next = omega arith
+    (subst (λ m. take (k + 1) ids ++ drop m ids ≡ ids) (add-one k) (take-append-drop (k + 1) ids)
+    ∙ sym (take-append-drop k ids) ∙ ap (λ (ys : List ℕ). take k ids ++ ys) port ∙ sym (append_assoc (take k ids) (i ∷ []) (drop (suc k) ids)))
 
 pub filled_by_given : (p : ℕ → Bool) (ids xs : List ℕ) (k i : ℕ) → AreFilled p ids xs k → k ≤ length ids → drop k ids ≡ i ∷ drop (suc k) ids → p i ≡ true → AreFilled p ids xs (k + 1)
 filled_by_given p ids xs k i were within port passes =
     were ∙ ap (λ (ys : List ℕ). take k ids ++ ys) (filter_takes p (drop k ids) (drop (suc k) ids) i port passes) ∙ sym (append_assoc (take k ids) (i ∷ []) (filter p (drop (suc k) ids)))
-    ∙ ap (λ (ys : List ℕ). ys ++ filter p (drop (suc k) ids)) (sym (take_next ids k i within port)) ∙ ap (λ m. take (k + 1) ids ++ filter p (drop m ids)) next where
-      next : suc k ≡ k + 1
-      next = omega arith
+    ∙ ap (λ (ys : List ℕ). ys ++ filter p (drop (suc k) ids)) (sym (take_next ids k i within port)) ∙ ap (λ m. take (k + 1) ids ++ filter p (drop m ids)) (suc-eq-add-one k)
 
 pub filled_by_silence : (p : ℕ → Bool) (ids xs : List ℕ) (k i : ℕ) → AreFilled p ids xs k → k ≤ length ids → drop k ids ≡ i ∷ drop (suc k) ids → p i ≡ false
     → AreFilled p ids (insert xs k i) (k + 1)
@@ -130,9 +119,7 @@ filled_by_silence p ids xs k i were within port fails =
     let rest : drop k xs ≡ passing = ap (drop k) were ∙ subst (λ m. drop m (take k ids ++ passing) ≡ passing) long (drop-append_seam (take k ids) passing) in
     ap (λ (ys : List ℕ). ys ++ i ∷ drop k xs) so_far ∙ ap (λ (ys : List ℕ). take k ids ++ i ∷ ys) (rest ∙ filter_drops p (drop k ids) (drop (suc k) ids) i port fails)
     ∙ sym (append_assoc (take k ids) (i ∷ []) (filter p (drop (suc k) ids))) ∙ ap (λ (ys : List ℕ). ys ++ filter p (drop (suc k) ids)) (sym (take_next ids k i within port))
-    ∙ ap (λ m. take (k + 1) ids ++ filter p (drop m ids)) next where
-      next : suc k ≡ k + 1
-      next = omega arith
+    ∙ ap (λ m. take (k + 1) ids ++ filter p (drop m ids)) (suc-eq-add-one k)
 
 pub map_insert : {X Y : Type 0} (f : X → Y) (xs : List X) (k : ℕ) (v : X) → map f (insert xs k v) ≡ insert (map f xs) k (f v)
 map_insert {Y = Y} f xs k v =

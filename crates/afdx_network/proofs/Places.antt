@@ -2,7 +2,7 @@
 use Rattle.std.proofs.Common.{◌≡◌, ◌⊎◌, ℕ, zero, suc, List, [], ◌∷◌, ◌++◌, length, map, slice_get, Some, refl, ap, inl, inr, subst}
 use Rattle.std.specs.Prelude.{Contains, slice_set}
 use Rattle.std.proofs.lemmas.List.Elements.{All-set, All-weaker, All-contains, All-contains_itself}
-use Rattle.afdx_network.proofs.Found.{some_same}
+use Rattle.std.proofs.lemmas.Option.{same_Some}
 
 -- what stands in a list after a write was there, or was written
 pub members : {X : Type 0} (xs : List X) (place : ℕ) (v x : X) → Contains (slice_set xs place v) x → Contains xs x ⊎ (v ≡ x)
@@ -14,7 +14,7 @@ members {X = X} xs place v x among =
 -- and so at a place
 pub got_set : {X : Type 0} (xs : List X) (place n : ℕ) (v x : X) → slice_get (slice_set xs place v) n ≡ Some x → ((n ≡ place) × (v ≡ x)) ⊎ (slice_get xs n ≡ Some x)
 got_set [] place n v x is = inr is
-got_set (y ∷ ys) zero zero v x is = inl (refl, some_same is)
+got_set (y ∷ ys) zero zero v x is = inl (refl, same_Some _ _ is)
 got_set (y ∷ ys) zero (suc n) v x is = inr is
 got_set (y ∷ ys) (suc place) zero v x is = inr is
 got_set (y ∷ ys) (suc place) (suc n) v x is = by (got_set ys place n v x is) where
@@ -33,7 +33,7 @@ map_stays {Y = Y} f (x ∷ xs) (suc place) v was is same = ap (λ (ys : List Y).
 
 -- and after a push
 pub got_push : {X : Type 0} (xs : List X) (v x : X) (n : ℕ) → slice_get (xs ++ v ∷ []) n ≡ Some x → (slice_get xs n ≡ Some x) ⊎ ((n ≡ length xs) × (v ≡ x))
-got_push [] v x zero is = inr (refl, some_same is)
+got_push [] v x zero is = inr (refl, same_Some _ _ is)
 got_push [] v x (suc n) is = absurd cc
 got_push (y ∷ ys) v x zero is = inl is
 got_push (y ∷ ys) v x (suc n) is = by (got_push ys v x n is) where

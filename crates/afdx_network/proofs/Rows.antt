@@ -1,39 +1,36 @@
 -- Rows of a network, the wires to them, and their bounds.
-use Rattle.std.proofs.Common.{◌≡◌, ℕ, zero, suc, ◌+◌, ◌==◌, ◌&&◌, Bool, true, false, List, [], ◌∷◌, map, slice_get, Some, option_map, option_and_then, refl, ap, sym, ◌∙◌, arith, subst}
-use Rattle.std.specs.Prelude.{Contains, flat_map}
-use Rattle.std.specs.List.{enumerate_from}
+use Rattle.std.proofs.Common.{◌≡◌, ℕ, zero, suc, ◌+◌, ◌==◌, ◌&&◌, true, List, [], ◌∷◌, map, slice_get, Some, option_map, option_and_then, refl, ap, sym, ◌∙◌, arith, subst}
+use Rattle.std.specs.Prelude.{Contains}
 use Rattle.std.proofs.lemmas.List.Elements.{Contains-append_left, Contains-append_right}
+use Rattle.std.proofs.lemmas.Option.{same_Some}
+use Rattle.std.proofs.lemmas.Bool.{eq-eqb, eqb-true, and_parts}
 use Rattle.afdx_units.specs.declared.line.Priority.{Priority}
 use Rattle.afdx_units.specs.declared.line.Priority.TheVariants.{High, Low}
 use Rattle.afdx_table.specs.Link.{Link, leads_to}
 use Rattle.afdx_table.specs.Content.{Content, link_row}
 use Rattle.afdx_table.specs.WellFormed.{IsWellFormed}
 use Rattle.afdx_table.specs.Inner.Found.{LinksAreFound}
-use Rattle.afdx_load.specs.Sums.{Sums}
+use Rattle.afdx_load.specs.Load.{Load}
 use Rattle.afdx_load.specs.Bounds.{bounds_of}
 use Rattle.afdx_isolation.specs.Table.{bound_of}
 use Rattle.afdx_wiring.specs.declared.layout.End.{End}
 use Rattle.afdx_wiring.specs.declared.layout.Wire.{Wire}
 use Rattle.afdx_wiring.specs.File.{is_end}
-use Rattle.afdx_wiring.specs.Net.{Network, Row, row_at, rows_of, rows_on, wire_to, bound_in}
-use Rattle.afdx_network.proofs.Found.{some_same, same_number, equal, contains_filter, contains_map, found_passes}
+use Rattle.afdx_wiring.specs.Net.{Network, Row, row_at, row_in, rows_from, rows_of, rows_on, wire_to, bound_in}
+use Rattle.afdx_network.proofs.Found.{contains_filter, contains_map, found_passes}
 
 -- ---- ends
-
-both : (a b : Bool) → (a && b) ≡ true → (a ≡ true) × (b ≡ true)
-both true b is = (refl, is)
-both false b is = absurd cc
 
 abbrev end_of : ℕ → ℕ → End
 end_of switch port = record { switch = switch; port = port }
 
 pub same_end : (e f : End) → is_end e f ≡ true → e ≡ f
 same_end e f is =
-    let parts = both (e.switch == f.switch) (e.port == f.port) is in
-    ap (λ (n : ℕ). end_of n e.port) (equal e.switch f.switch parts.0) ∙ ap (end_of f.switch) (equal e.port f.port parts.1)
+    let parts = and_parts (e.switch == f.switch) (e.port == f.port) is in
+    ap (λ (n : ℕ). end_of n e.port) (eqb-true e.switch f.switch parts.0) ∙ ap (end_of f.switch) (eqb-true e.port f.port parts.1)
 
 pub is_itself : (e : End) → is_end e e ≡ true
-is_itself e = ap (λ b. b && (e.port == e.port)) (same_number e.switch e.switch refl) ∙ same_number e.port e.port refl
+is_itself e = ap (λ b. b && (e.port == e.port)) (eq-eqb e.switch e.switch refl) ∙ eq-eqb e.port e.port refl
 
 -- the wire that is found to an end goes there
 pub wire_goes_there : (net : Network) (e : End) (w : Wire) → wire_to net e ≡ Some w → (w.to ≡ e) × Contains net.layout.wires w
@@ -41,19 +38,13 @@ wire_goes_there net e w is = let h = found_passes (λ (v : Wire). is_end v.to e)
 
 -- ---- rows
 
-abbrev pub row_in : ℕ → Link → Row
-row_in n = λ l. record { switch = n; link = l }
-
-abbrev pub rows_from : ℕ → List Content → List Row
-rows_from n tables = flat_map (λ at. map (λ l. record { switch = at.0; link = l }) at.1.links) (enumerate_from n tables)
-
 has_from : (n k : ℕ) (tables : List Content) (t : Content) (l : Link) → slice_get tables k ≡ Some t → Contains t.links l → Contains (rows_from n tables) (row_in (n + k) l)
 has_from n k [] t l is among = absurd cc
 has_from n zero (u ∷ tables) t l is among =
     let place : n ≡ n + 0 = omega arith in
     subst (λ (m : ℕ). Contains (rows_from n (u ∷ tables)) (row_in m l)) place
     (Contains-append_left (map (row_in n) u.links) (rows_from (n + 1) tables) (row_in n l)
-    (contains_map (row_in n) u.links l (subst (λ (c : Content). Contains c.links l) (sym (some_same is)) among)))
+    (contains_map (row_in n) u.links l (subst (λ (c : Content). Contains c.links l) (sym (same_Some _ _ is)) among)))
 has_from n (suc k) (u ∷ tables) t l is among =
     let further = has_from (n + 1) k tables t l is among in
     let place : n + 1 + k ≡ n + suc k = omega arith in
@@ -79,6 +70,6 @@ row_is links net r t is formed among =
 
 -- ---- bounds
 
-pub same_bound : (s : Sums) (priority : Priority) → bound_in (bounds_of s) priority ≡ bound_of s priority
+pub same_bound : (s : Load) (priority : Priority) → bound_in (bounds_of s) priority ≡ bound_of s priority
 same_bound s High = refl
 same_bound s Low = refl

@@ -2,6 +2,7 @@
 use Rattle.std.proofs.Common.{◌≡◌, ℕ, suc, List, [], ◌∷◌, length, map, slice_get, Some, None, refl, ap, sym, ◌∙◌, subst, arith}
 use Rattle.std.specs.Prelude.{All, Contains}
 use Rattle.std.proofs.lemmas.List.Elements.{All-contains}
+use Rattle.std.proofs.lemmas.Option.{same_Some}
 use Rattle.afdx_table.specs.Content.{Content}
 use Rattle.afdx_session.specs.Texts.{Text}
 use Rattle.afdx_session.specs.Outcome.{Results, IsOutcome}
@@ -11,7 +12,7 @@ use Rattle.afdx_wiring.specs.declared.layout.End.{End}
 use Rattle.afdx_wiring.specs.Net.{Network, wire_to}
 use Rattle.afdx_network.specs.Runs.{Given, Brings, IsGiven, AreRuns, IsRunOf}
 use Rattle.afdx_network.specs.Inner.Sites.{Site, LeadsTo, AreSites, Agrees}
-use Rattle.afdx_network.proofs.Found.{some_same, get_map, got_map}
+use Rattle.afdx_network.proofs.Found.{get_map, got_map}
 use Rattle.afdx_network.proofs.Rest.{rest_is_agreement}
 
 abbrev pub cames : List Site → List (List Text)
@@ -33,7 +34,7 @@ later t tables n s ran = record { table = ran.table; table_is = ran.table_is; ra
 
 first : (t : Content) (tables : List Content) (s : Site) (results : Results) → Ran (t ∷ tables) 0 s → s.outcome ≡ Some results → IsOutcome t s.came results × IsIsolated t s.came results
 first t tables s results ran is =
-    let led : LeadsTo t s.came results = subst (λ (c : Content). LeadsTo c s.came results) (some_same (sym ran.table_is)) (ran.ran results is) in
+    let led : LeadsTo t s.came results = subst (λ (c : Content). LeadsTo c s.came results) (same_Some _ _ (sym ran.table_is)) (ran.ran results is) in
     (led.outcome, led.isolated)
 
 runs : (tables : List Content) (sites : List Site) (left : List Results) → length sites ≡ length tables

@@ -1,13 +1,12 @@
 -- The sites before the first round.
 use Rattle.std.proofs.Common.{◌≡◌, ◌⊎◌, ℕ, ◌<◌, List, [], ◌∷◌, ◌++◌, length, get_or, slice_get, Some, None, refl, sym, ◌∙◌, inl, inr, subst, Vec}
-use Rattle.std.proofs.lemmas.Option.{slice_get_within, slice_get_read}
+use Rattle.std.proofs.lemmas.Option.{slice_get_within, slice_get_read, same_Some}
 use Rattle.afdx_table.specs.Content.{Content}
 use Rattle.afdx_session.specs.Texts.{Text, texts_of}
 use Rattle.afdx_wiring.specs.Net.{Network}
 use Rattle.afdx_network.specs.Runs.{Given}
 use Rattle.afdx_network.specs.Given.{given_of, AreOpen, AreGiven}
 use Rattle.afdx_network.specs.Inner.Sites.{Site, ComesIn, IsSite}
-use Rattle.afdx_network.proofs.Found.{some_same}
 use Rattle.afdx_network.proofs.Places.{got_push, got_seam}
 
 -- the table of a switch, and what is given for it
@@ -32,8 +31,8 @@ next_at net given yielded rest own tables switch t are place whole same is = rec
 pub open_there : (net : Network) (given : Given) (switch : ℕ) (t : Content) (own : List Text) → AreGiven net given → IsAt net given switch t own → AreOpen net switch t own
 open_there net given switch t own are at =
     let it = are.each switch (slice_get_within net.tables switch t at.table_is) in
-    let texts_are : it.texts ≡ own = some_same (sym it.texts_is ∙ at.own_is) in
-    let table_is : it.table ≡ t = some_same (sym it.table_is ∙ at.table_is) in
+    let texts_are : it.texts ≡ own = same_Some it.texts own (sym it.texts_is ∙ at.own_is) in
+    let table_is : it.table ≡ t = same_Some it.table t (sym it.table_is ∙ at.table_is) in
     subst (λ (ts : List Text). AreOpen net switch t ts) texts_are (subst (λ (c : Content). AreOpen net switch c it.texts) table_is it.of_open)
 
 pub first_site : (net : Network) (given : Given) (switch : ℕ) (t : Content) (own came : List Text) (site : Site) → IsAt net given switch t own → ComesIn net switch t own came

@@ -1,23 +1,23 @@
 -- What a step of a round does to the sites, and what all wires agreeing means.
-use Rattle.std.proofs.Common.{◌≡◌, ◌⊎◌, ℕ, zero, suc, ◌+◌, ◌<◌, ◌≤◌, ◌==◌, ◌&&◌, Bool, true, false, List, [], ◌∷◌, ◌++◌, length, slice_get, get_or, take, drop, append-nil, find, cond, Some, Option}
+use Rattle.std.proofs.Common.{◌≡◌, ◌⊎◌, ℕ, zero, suc, ◌+◌, ◌<◌, Bool, true, false, List, [], ◌∷◌, ◌++◌, length, slice_get, get_or, take, drop, append-nil, find, cond, Some, Option}
 use Rattle.std.proofs.Common.{None, is_some, rules}
 use Rattle.std.proofs.Common.{refl, ap, sym, ◌∙◌, arith, subst}
 use Rattle.std.specs.Prelude.{All, IsSome, slice_set}
 use Rattle.std.specs.List.{list_all}
 use Rattle.std.proofs.lemmas.List.{take_more, take_all, drop_all}
 use Rattle.std.proofs.lemmas.List.Elements.{All-append, All-cons, All-nil}
-use Rattle.std.proofs.lemmas.Option.{slice_get_read}
+use Rattle.std.proofs.lemmas.Option.{slice_get_read, same_Some}
+use Rattle.std.proofs.lemmas.Bool.{and_parts}
 use Rattle.afdx_table.specs.Content.{Content}
 use Rattle.afdx_session.specs.Outcome.{Results}
 use Rattle.afdx_wiring.specs.declared.layout.Wire.{Wire}
-use Rattle.afdx_wiring.specs.declared.layout.End.{End}
 use Rattle.afdx_wiring.specs.File.{is_end}
 use Rattle.afdx_wiring.specs.Net.{Network}
 use Rattle.afdx_network.specs.Runs.{Given}
 use Rattle.afdx_network.specs.Given.{IsWired}
 use Rattle.afdx_network.specs.Inner.Sites.{Site, IsSite, AreSites, IsPutIn, RunsOver, HasRun}
-use Rattle.afdx_network.proofs.Found.{same_number, some_same}
 use Rattle.afdx_network.proofs.Keeping.{taken_stays, run_stays, sites_stay}
+use Rattle.afdx_network.proofs.Rows.{is_itself}
 
 pub there : {X : Type 0} (xs : List X) (n : ℕ) (x : X) → n < length xs → x ≡ get_or xs n x → slice_get xs n ≡ Some x
 there xs n x within is = slice_get_read xs (length xs) n x refl within is
@@ -44,12 +44,9 @@ one_more_has P xs i d within so_far here =
     subst (All P) (sym (take_more xs i d within)) (All-append P (take i xs) (get_or xs i d ∷ []) so_far (All-cons P (get_or xs i d) [] here (All-nil P)))
 
 -- a wire goes to its end
-same_end : (e : End) → is_end e e ≡ true
-same_end e = ap (λ b. b && (e.port == e.port)) (same_number e.switch e.switch refl) ∙ same_number e.port e.port refl
-
 found_at : {X : Type 0} (p : X → Bool) (xs : List X) (i : ℕ) (x : X) → slice_get xs i ≡ Some x → p x ≡ true → (y : X) × (find p xs ≡ Some y)
 found_at p [] i x at passes = absurd cc
-found_at p (y ∷ xs) zero x at passes = (y, ap (λ b. cond b (Some y) (find p xs)) (ap p (some_same at) ∙ passes))
+found_at p (y ∷ xs) zero x at passes = (y, ap (λ b. cond b (Some y) (find p xs)) (ap p (same_Some y x at) ∙ passes))
 found_at {X = X} p (y ∷ xs) (suc i) x at passes = by (p y) refl (found_at p xs i x at passes) where
   by : (b : Bool) → p y ≡ b → (z : X) × (find p xs ≡ Some z) → (z : X) × (find p (y ∷ xs) ≡ Some z)
   by true is more = (y, ap (λ c. cond c (Some y) (find p xs)) is)
@@ -57,17 +54,10 @@ found_at {X = X} p (y ∷ xs) (suc i) x at passes = by (p y) refl (found_at p xs
 
 pub ends_are_wired : (net : Network) (i : ℕ) (w : Wire) → slice_get net.layout.wires i ≡ Some w → IsWired net w.to.switch w.to.port
 ends_are_wired net i w at =
-    let found = found_at (λ (u : Wire). is_end u.to w.to) net.layout.wires i w at (same_end w.to) in
+    let found = found_at (λ (u : Wire). is_end u.to w.to) net.layout.wires i w at (is_itself w.to) in
     record { wire = found.0; wire_is = found.1 }
 
-pub all_taken : {X : Type 0} (P : X → Type 0) (xs : List X) (n : ℕ) → All P (take n xs) → length xs ≤ n → All P xs
-all_taken P xs n all past = subst (All P) (take_all n xs past) all
-
 -- ---- all switches
-
-both : (a b : Bool) → (a && b) ≡ true → (a ≡ true) × (b ≡ true)
-both true b h = (refl, h)
-both false b h = absurd cc
 
 has_one : (o : Option Results) → is_some o ≡ true → IsSome o
 has_one (Some r) h = search rules
@@ -76,7 +66,7 @@ has_one None h = absurd cc
 pub have_run : (sites : List Site) → list_all (λ (s : Site). is_some s.outcome) sites ≡ true → All HasRun sites
 have_run [] h = All-nil HasRun
 have_run (s ∷ sites) h =
-    let each = both (is_some s.outcome) (list_all (λ (u : Site). is_some u.outcome) sites) h in
+    let each = and_parts (is_some s.outcome) (list_all (λ (u : Site). is_some u.outcome) sites) h in
     All-cons HasRun s sites (has_one s.outcome each.0) (have_run sites each.1)
 
 -- what is written through a slice of a vector is in the vector

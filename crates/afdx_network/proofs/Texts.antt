@@ -2,12 +2,13 @@
 use Rattle.std.proofs.Common.{◌≡◌, ℕ, zero, suc, ◌+◌, ◌<◌, ◌≤◌, ◌==◌, List, [], ◌∷◌, ◌++◌, length, map, get_or, drop, refl, ap, sym, ◌∙◌, arith, subst, cond, Bool, true, false, append-nil}
 use Rattle.std.specs.Prelude.{Contains}
 use Rattle.std.specs.List.{AllByRecursion}
+use Rattle.std.proofs.lemmas.Bool.{eq-eqb}
 use Rattle.afdx_units.specs.Time.{last_second}
 use Rattle.afdx_pcap.specs.declared.format.Format.{Format}
 use Rattle.afdx_pcap.specs.declared.format.Head.{Head}
 use Rattle.afdx_pcap.specs.declared.format.Resolution.{Resolution}
 use Rattle.afdx_pcap.specs.declared.format.Resolution.TheVariants.{Micros, Nanos}
-use Rattle.afdx_pcap.specs.Entry.{Entry}
+use Rattle.afdx_pcap.specs.Record.{Record}
 use Rattle.afdx_pcap.specs.Text.{capture_text}
 use Rattle.afdx_pcap.specs.Capture.{IsCapture, Splits, after, parts_of_second, head_of, stamp_of}
 use Rattle.afdx_table.specs.declared.rows.PortRow.{PortRow}
@@ -17,15 +18,15 @@ use Rattle.afdx_core.specs.Merge.{Capture, records_of}
 use Rattle.afdx_session.specs.Texts.{Text, AreOfPorts}
 use Rattle.afdx_session.specs.Reading.{AreCaptures}
 use Rattle.afdx_network.proofs.Lists.{all_map, all_unmap, all_append}
-use Rattle.afdx_network.proofs.Found.{above, below, same_number, of_all, map_contains, one_port}
+use Rattle.afdx_network.proofs.Found.{above, below, of_all, map_contains, one_port}
 use Rattle.afdx_network.proofs.Crossing.{heads, tails}
 
 -- ---- what was written
 
-abbrev text_by : (PortRow → List Entry) → PortRow → Text
+abbrev text_by : (PortRow → List Record) → PortRow → Text
 text_by out p = (p.id, capture_text (out p))
 
-pub written_at : (t : Content) (out : PortRow → List Entry) (captures : List Text) (p : PortRow) (bytes : List ℕ) → IsWellFormed t
+pub written_at : (t : Content) (out : PortRow → List Record) (captures : List Text) (p : PortRow) (bytes : List ℕ) → IsWellFormed t
     → captures ≡ map (λ q. (q.id, capture_text (out q))) t.ports → Contains t.ports p → Contains captures (p.id, bytes) → bytes ≡ capture_text (out p)
 written_at t out captures p bytes formed are here among =
     let h = map_contains (text_by out) t.ports (p.id, bytes) (subst (λ (texts : List Text). Contains texts (p.id, bytes)) are among) in
@@ -60,7 +61,7 @@ none_before (text ∷ texts) (c ∷ read) port are above_all =
     ap (λ b. cond b c.records [] ++ records_of read port) other ∙ none_before texts read port are.2 above_all.1
 
 pub record IsReadAt (read : List Capture) (port : ℕ) (bytes : List ℕ) : Type 0 where
-  pub records : List Entry
+  pub records : List Record
   pub capture : IsCapture bytes records
   pub all : records_of read port ≡ records
 
@@ -74,8 +75,8 @@ at_place (text ∷ texts) (c ∷ read) port bytes are rise zero within at =
     record {
       records = c.records;
       capture = subst (λ (b : List ℕ). IsCapture b c.records) (ap (λ (x : Text). x.1) at) are.1;
-      all = ap (λ b. cond b c.records [] ++ records_of read port) (same_number c.port port (are.0 ∙ number))
-          ∙ ap (λ (rest : List Entry). c.records ++ rest) (none_before texts read port are.2 later) ∙ append-nil c.records;
+      all = ap (λ b. cond b c.records [] ++ records_of read port) (eq-eqb c.port port (are.0 ∙ number))
+          ∙ ap (λ (rest : List Record). c.records ++ rest) (none_before texts read port are.2 later) ∙ append-nil c.records;
     }
 at_place (text ∷ texts) (c ∷ read) port bytes are rise (suc k) within at =
     let less : text.0 < port = of_all (λ (other : Text). text.0 < other.0) texts (port, bytes) rise.0 (k, omega (arith, within), at) in
@@ -92,7 +93,7 @@ stamp_early : (resolution : Resolution) (h : Head) → h.seconds ≤ 4294967294 
 stamp_early Micros h seconds fraction = omega (arith, seconds, fraction)
 stamp_early Nanos h seconds fraction = omega (arith, seconds, fraction)
 
-splits_early : (f : Format) (last : ℕ) (bytes : List ℕ) (rs : List Entry) (rest : List ℕ) → Splits f last bytes rs rest → AllByRecursion (λ (r : Entry). r.stamp < last_second) rs
+splits_early : (f : Format) (last : ℕ) (bytes : List ℕ) (rs : List Record) (rest : List ℕ) → Splits f last bytes rs rest → AllByRecursion (λ (r : Record). r.stamp < last_second) rs
 splits_early f last bytes [] rest splits = tt
 splits_early f last bytes (r ∷ rs) rest splits =
     let b = splits.0 in (
@@ -100,12 +101,12 @@ splits_early f last bytes (r ∷ rs) rest splits =
       splits_early f r.stamp (after r bytes) rs rest splits.1,
     )
 
-pub read_early : (texts : List Text) (read : List Capture) (port : ℕ) → AreCaptures texts read → AllByRecursion (λ (r : Entry). r.stamp < last_second) (records_of read port)
+pub read_early : (texts : List Text) (read : List Capture) (port : ℕ) → AreCaptures texts read → AllByRecursion (λ (r : Record). r.stamp < last_second) (records_of read port)
 read_early [] [] port are = tt
 read_early [] (c ∷ read) port are = absurd are
 read_early (text ∷ texts) [] port are = absurd are
 read_early (text ∷ texts) (c ∷ read) port are =
-    all_append (λ (r : Entry). r.stamp < last_second) (cond (c.port == port) c.records []) (records_of read port) (by (c.port == port)) (read_early texts read port are.2) where
-      by : (b : Bool) → AllByRecursion (λ (r : Entry). r.stamp < last_second) (cond b c.records [])
+    all_append (λ (r : Record). r.stamp < last_second) (cond (c.port == port) c.records []) (records_of read port) (by (c.port == port)) (read_early texts read port are.2) where
+      by : (b : Bool) → AllByRecursion (λ (r : Record). r.stamp < last_second) (cond b c.records [])
       by true = splits_early are.1.format 0 (drop 24 text.1) c.records [] are.1.records
       by false = tt

@@ -1,7 +1,7 @@
 -- What holds of each run of an accepted network.
 use Rattle.std.specs.Prelude.{◌≡◌, ◌+◌, ◌*◌, ◌<◌, ◌≤◌, true, List, length, slice_get, Some, All, Contains}
 use Rattle.afdx_units.specs.Time.{second, last_second}
-use Rattle.afdx_pcap.specs.Entry.{Entry}
+use Rattle.afdx_pcap.specs.Record.{Record}
 use Rattle.afdx_pcap.specs.Capture.{IsCapture}
 use Rattle.afdx_table.specs.declared.rows.PortRow.{PortRow}
 use Rattle.afdx_table.specs.Link.{leads_to}
@@ -13,7 +13,7 @@ use Rattle.afdx_session.specs.Headline.{bytes_of}
 use Rattle.afdx_series.specs.Delay.{at_once}
 use Rattle.afdx_wiring.specs.Net.{Network, Row, Back, rows_of, IsWayBack}
 use Rattle.afdx_wiring.specs.Rules.{IsAcceptedNetwork}
-use Rattle.afdx_network.specs.Way.{Stage, Step, IsNode, IsWay, last_of, AreEnough, leave, IsDelivered}
+use Rattle.afdx_network.specs.Way.{Stage, Leg, IsNode, IsWay, last_of, AreEnough, leave, IsDelivered}
 use Rattle.afdx_network.specs.Runs.{SwitchRun, Given, IsFedBy, IsNetworkRun, AreRuns, IsRunOf}
 use Rattle.afdx_network.specs.Ways.{node_of, IsWayIn}
 
@@ -36,20 +36,20 @@ pub record IsAcceptedRun (net : Network) (given : Given) (runs : List SwitchRun)
 
 -- what the checks accept and the wires agree on is all that the theorem of a way asks for
 abbrev pub AgreementIsWired : Type 0
-AgreementIsWired = (net : Network) (given : Given) (runs : List SwitchRun) → IsAcceptedRun net given runs → (x : Stage) (steps : List Step) → IsWayIn net runs x steps
-    → IsWay x steps × AreEnough x.link at_once x steps
+AgreementIsWired = (net : Network) (given : Given) (runs : List SwitchRun) → IsAcceptedRun net given runs → (x : Stage) (legs : List Leg) → IsWayIn net runs x legs
+    → IsWay x legs × AreEnough x.link at_once x legs
 
 -- so each way of the network delivers
 abbrev pub NetworkRunsDeliver : Type 0
-NetworkRunsDeliver = (net : Network) (given : Given) (runs : List SwitchRun) → IsAcceptedRun net given runs → (x : Stage) (steps : List Step) → IsWayIn net runs x steps
-    → IsDelivered x steps
+NetworkRunsDeliver = (net : Network) (given : Given) (runs : List SwitchRun) → IsAcceptedRun net given runs → (x : Stage) (legs : List Leg) → IsWayIn net runs x legs
+    → IsDelivered x legs
 
 -- two worlds: where ways of two such networks begin with the same row of a link, at tables of one constant, and the same came in at the
 -- row's port there, the same bytes leave at their ends
 abbrev pub OthersChangeNothingInNetworks : Type 0
 OthersChangeNothingInNetworks = (net net' : Network) (given given' : Given) (runs runs' : List SwitchRun) → IsAcceptedRun net given runs → IsAcceptedRun net' given' runs'
-    → (x x' : Stage) (steps steps' : List Step) → IsWayIn net runs x steps → IsWayIn net' runs' x' steps' → x.link ≡ x'.link → x.node.table.constant ≡ x'.node.table.constant
-    → records_of x.node.read x.link.from ≡ records_of x'.node.read x'.link.from → bytes_of (leave (last_of x steps)) ≡ bytes_of (leave (last_of x' steps'))
+    → (x x' : Stage) (legs legs' : List Leg) → IsWayIn net runs x legs → IsWayIn net' runs' x' legs' → x.link ≡ x'.link → x.node.table.constant ≡ x'.node.table.constant
+    → records_of x.node.read x.link.from ≡ records_of x'.node.read x'.link.from → bytes_of (leave (last_of x legs)) ≡ bytes_of (leave (last_of x' legs'))
 
 -- a way ends at a row, at a port that it leads to
 pub record EndsAt (run : SwitchRun) (r : Row) (p : PortRow) (x : Stage) : Type 0 where
@@ -61,7 +61,7 @@ pub record EndsAt (run : SwitchRun) (r : Row) (p : PortRow) (x : Stage) : Type 0
 abbrev pub WaysAreThere : Type 0
 WaysAreThere = (net : Network) (given : Given) (runs : List SwitchRun) → IsAcceptedRun net given runs
     → (r : Row) (run : SwitchRun) (p : PortRow) → slice_get runs r.switch ≡ Some run → Contains run.table.links r.link → Contains run.table.ports p
-    → leads_to p.id r.link ≡ true → (x : Stage) × (steps : List Step) × IsWayIn net runs x steps × EndsAt run r p (last_of x steps)
+    → leads_to p.id r.link ≡ true → (x : Stage) × (legs : List Leg) × IsWayIn net runs x legs × EndsAt run r p (last_of x legs)
 
 -- where what comes in next is what came in, it is a run of the network, however it was found: in the order of the wires, or by rounds
 abbrev pub RestIsAgreement : Type 0
@@ -74,10 +74,10 @@ WaysAreShort = (net : Network) (r : Row) (backs : List Back) → All IsWellForme
 
 -- no frame that was given came in the last 64 seconds that pcap can hold
 abbrev pub NoneComesLate : Given → Type 0
-NoneComesLate given = (texts : List Text) (text : Text) (records : List Entry) → Contains given texts → Contains texts text → IsCapture text.1 records
+NoneComesLate given = (texts : List Text) (text : Text) (records : List Record) → Contains given texts → Contains texts text → IsCapture text.1 records
     → All (λ r. r.stamp + 64 * second ≤ last_second) records
 
 -- then each capture that a switch puts out can be read again: a frame goes over at most 64 switches and cables, each in at most 501 ms
 abbrev pub NoneIsLate : Type 0
 NoneIsLate = (net : Network) (given : Given) (runs : List SwitchRun) → IsAcceptedRun net given runs → NoneComesLate given
-    → (run : SwitchRun) (text : Text) → Contains runs run → Contains run.results.captures text → (records : List Entry) × IsCapture text.1 records
+    → (run : SwitchRun) (text : Text) → Contains runs run → Contains run.results.captures text → (records : List Record) × IsCapture text.1 records

@@ -1,6 +1,6 @@
 -- A run of a network: each switch's run over captures that agree with the wires.
 use Rattle.std.specs.Prelude.{◌≡◌, ℕ, List, [], ◌∷◌, map, slice_get, Contains, Some, None}
-use Rattle.afdx_pcap.specs.Entry.{Entry}
+use Rattle.afdx_pcap.specs.Record.{Record}
 use Rattle.afdx_pcap.specs.Text.{capture_text}
 use Rattle.afdx_pcap.specs.Capture.{IsCapture}
 use Rattle.afdx_table.specs.Content.{Content}
@@ -25,7 +25,7 @@ pub record Brings (left : List Results) (came : List (List Text)) (w : Wire) : T
   pub here : Results
   pub there : List Text
   pub bytes : List ℕ
-  pub records : List Entry
+  pub records : List Record
   pub here_is : slice_get left w.from.switch ≡ Some here
   pub there_is : slice_get came w.to.switch ≡ Some there
   pub written : Contains here.captures (w.from.port, bytes)

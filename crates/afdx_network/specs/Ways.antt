@@ -3,7 +3,7 @@ use Rattle.std.specs.Prelude.{◌≡◌, true, List, [], ◌∷◌, slice_get, S
 use Rattle.afdx_table.specs.Link.{leads_to}
 use Rattle.afdx_wiring.specs.declared.layout.Wire.{Wire}
 use Rattle.afdx_wiring.specs.Net.{Network, Row, ingress, wire_to, IsSource, bound_at}
-use Rattle.afdx_network.specs.Way.{Node, Stage, Step}
+use Rattle.afdx_network.specs.Way.{Node, Stage, Leg}
 use Rattle.afdx_network.specs.Runs.{SwitchRun}
 
 -- a switch of the network: what was read of the texts that came in, and the records that its captures are the texts of
@@ -22,17 +22,17 @@ pub record IsStageAt (net : Network) (runs : List SwitchRun) (r : Row) (x : Stag
   pub bound_is : bound_at net r x.port ≡ Some x.bound
 
 -- from that port over a wire to the next switch's row of the link
-pub record GoesOver (net : Network) (r : Row) (x : Stage) (next : Row) (s : Step) : Type 0 where
+pub record GoesOver (net : Network) (r : Row) (x : Stage) (next : Row) (s : Leg) : Type 0 where
   pub wire : Wire
   pub wire_is : wire_to net (ingress next) ≡ Some wire
   pub start : wire.from ≡ record { switch = r.switch; port = x.port.id }
   pub cable : s.cable ≡ wire.delay
   pub number : next.link.id ≡ r.link.id
 
-abbrev pub IsWayFrom : Network → List SwitchRun → Row → Stage → List Step → Type 0
+abbrev pub IsWayFrom : Network → List SwitchRun → Row → Stage → List Leg → Type 0
 IsWayFrom net runs r x [] = IsStageAt net runs r x
-IsWayFrom net runs r x (s ∷ steps) = IsStageAt net runs r x × (next : Row) × GoesOver net r x next s × IsWayFrom net runs next s.stage steps
+IsWayFrom net runs r x (s ∷ legs) = IsStageAt net runs r x × (next : Row) × GoesOver net r x next s × IsWayFrom net runs next s.stage legs
 
 -- a way, from the row that an end system feeds on
-abbrev pub IsWayIn : Network → List SwitchRun → Stage → List Step → Type 0
-IsWayIn net runs x steps = (r : Row) × IsSource net r × IsWayFrom net runs r x steps
+abbrev pub IsWayIn : Network → List SwitchRun → Stage → List Leg → Type 0
+IsWayIn net runs x legs = (r : Row) × IsSource net r × IsWayFrom net runs r x legs

@@ -1,7 +1,7 @@
 //! What a wire brings.
 
 ghost use Rattle.std.specs.Prelude.{◌≡◌, List, map, IfOk};
-ghost use Rattle.afdx_pcap.specs.Entry.{Entry};
+ghost use Rattle.afdx_pcap.specs.Record.{Record};
 ghost use Rattle.afdx_pcap.specs.Text.{capture_text};
 ghost use Rattle.afdx_pcap.specs.Capture.{IsCapture};
 ghost use Rattle.afdx_network.specs.Way.{delayed};
@@ -15,7 +15,7 @@ use std::alloc::Global;
 ///
 /// Each record's bytes are copied once: O(bytes).
 pub(crate) fn carry(alloc: Global, bytes: &[u8], delay: u32) -> Result<Vec<u8>, PcapFault>
-    ensures { IfOk result (λ text. (left : List Entry) × IsCapture bytes.now left × (text.items ≡ capture_text (map (delayed delay) left))) }
+    ensures { IfOk result (λ text. (left : List Record) × IsCapture bytes.now left × (text.items ≡ capture_text (map (delayed delay) left))) }
 {
     one_more_record_is_appended();
     let records = read_all(alloc, bytes)?;

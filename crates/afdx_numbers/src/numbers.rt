@@ -18,7 +18,7 @@ pub struct Numbers<A: Allocator> {
 
 impl<A: Allocator> Model for Numbers<A> {
     ghost use Rattle.std.specs.Prelude.{ℕ, List};
-    ghost use Rattle.afdx_numbers.specs.Places.{ArePlaces};
+    ghost use Rattle.afdx_numbers.specs.Inner.Places.{ArePlaces};
 
     ghost Value = { List ℕ };
 

@@ -3,19 +3,19 @@ use Rattle.std.proofs.Common.{◌≡◌, ℕ, ◌+◌, ◌≢◌, Bool, true, fa
 use Rattle.std.proofs.lemmas.List.{drop_at}
 use Rattle.afdx_pcap.specs.declared.fault.PcapFault.{PcapFault}
 use Rattle.afdx_pcap.specs.declared.fault.PcapFault.TheVariants.{Memory}
-use Rattle.afdx_pcap.specs.Entry.{Entry}
+use Rattle.afdx_pcap.specs.Record.{Record}
 use Rattle.afdx_pcap.specs.Reading.{Answers, IsNext, IsSound, IsWrong}
 use Rattle.afdx_pcap.proofs.Unique.{one_prefix, one_file_fault, capture_or_fault}
 
-abbrev refused : PcapFault → Result (Option Entry) PcapFault
+abbrev refused : PcapFault → Result (Option Record) PcapFault
 refused e = Err e
 
-same_last : (rs qs : List Entry) (r q : Entry) → length rs ≡ length qs → rs ++ r ∷ [] ≡ qs ++ q ∷ [] → r ≡ q
+same_last : (rs qs : List Record) (r q : Record) → length rs ≡ length qs → rs ++ r ∷ [] ≡ qs ++ q ∷ [] → r ≡ q
 same_last rs qs r q count same =
     let one : r ∷ [] ≡ q ∷ [] = sym (drop_at rs (r ∷ []) (length rs) refl) ∙ ap (drop (length rs)) same ∙ drop_at qs (q ∷ []) (length rs) (sym count) in
     cc
 
-one_next : (bytes : List ℕ) (n : ℕ) (r q : Entry) → IsNext bytes n r → IsNext bytes n q → r ≡ q
+one_next : (bytes : List ℕ) (n : ℕ) (r q : Record) → IsNext bytes n r → IsNext bytes n q → r ≡ q
 one_next bytes n r q a b =
     let count = a.3 ∙ sym b.3 in
     let counts = length-append a.0 (r ∷ []) ∙ ap (λ (k : ℕ). k + 1) count ∙ sym (length-append b.0 (q ∷ [])) in
@@ -32,7 +32,7 @@ sound_or_wrong bytes n false e a b = a e b
 real : (e : PcapFault) → refused e ≢ refused Memory → e ≢ Memory
 real e other same = other (ap refused same)
 
-pub one_answer : (bytes : List ℕ) (n : ℕ) (closed : Bool) (a b : Result (Option Entry) PcapFault) → Answers bytes n closed a → Answers bytes n closed b
+pub one_answer : (bytes : List ℕ) (n : ℕ) (closed : Bool) (a b : Result (Option Record) PcapFault) → Answers bytes n closed a → Answers bytes n closed b
     → a ≢ Err Memory → b ≢ Err Memory → a ≡ b
 one_answer bytes n closed (Ok (Some r)) (Ok (Some q)) x y ra rb = let same = one_next bytes n r q x y in cc
 one_answer bytes n closed (Ok (Some r)) (Ok None) x y ra rb = absurd (y.0 r x)

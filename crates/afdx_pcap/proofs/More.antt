@@ -1,5 +1,6 @@
 -- What more bytes at the end leave as it was.
 use Rattle.std.proofs.Common.{◌≡◌, ℕ, ◌+◌, ◌≤◌, Bool, true, false, List, [], ◌∷◌, ◌++◌, length, take, drop, Option, Some, None, Result, Ok, Err, refl, sym, ap, ◌∙◌, arith, nat_lt, cond, inl, inr}
+use Rattle.std.specs.Option.{option_or}
 use Rattle.std.proofs.lemmas.Bool.{le-ltb, ltb-false, false≢true}
 use Rattle.std.proofs.lemmas.List.{length-drop, length-append, take-append-le, drop-append-le}
 use Rattle.byteorder.specs.Numbers.{big_from-append, little_from-append}
@@ -8,10 +9,10 @@ use Rattle.afdx_pcap.specs.declared.format.Endian.TheVariants.{Big, Little}
 use Rattle.afdx_pcap.specs.declared.format.Format.{Format}
 use Rattle.afdx_pcap.specs.declared.fault.PcapFault.{PcapFault}
 use Rattle.afdx_pcap.specs.declared.fault.PcapFault.TheVariants.{NoHeader, CutHeader, CutData}
-use Rattle.afdx_pcap.specs.Entry.{Entry}
+use Rattle.afdx_pcap.specs.Record.{Record}
 use Rattle.afdx_pcap.specs.Number.{number, field}
 use Rattle.afdx_pcap.specs.Capture.{format_of, checked_header, header_of, head_of, Begins, after, Splits, Holds}
-use Rattle.afdx_pcap.specs.Fault.{head_fault, first_of, record_fault, IsFault, IsEarlyFault, is_cut, last_stamp}
+use Rattle.afdx_pcap.specs.Fault.{head_fault, record_fault, IsFault, IsEarlyFault, is_cut, last_stamp}
 
 number-more : (e : Endian) (n : ℕ) (xs ys : List ℕ) → n ≤ length xs → number e n (xs ++ ys) ≡ number e n xs
 unfolding number
@@ -38,7 +39,7 @@ unfolding head_of
 head-more e xs ys h =
     rw (field-more e 0 4 xs ys (omega arith), field-more e 4 4 xs ys (omega arith), field-more e 8 4 xs ys (omega arith), field-more e 12 4 xs ys (omega arith)) refl
 
-pub Begins-more : (f : Format) (last : ℕ) (xs ys : List ℕ) (r : Entry) → Begins f last xs r → Begins f last (xs ++ ys) r
+pub Begins-more : (f : Format) (last : ℕ) (xs ys : List ℕ) (r : Record) → Begins f last xs r → Begins f last (xs ++ ys) r
 Begins-more f last xs ys r b =
     let whole = b.whole in
     let h = head-more f.endian xs ys (omega arith) in
@@ -55,7 +56,7 @@ Begins-more f last xs ys r b =
       data_is = b.data_is ∙ sym (ap (take (length r.bytes)) (drop-append-le 16 xs ys (omega arith)) ∙ take-append-le (length r.bytes) (drop 16 xs) ys long);
     }
 
-pub Splits-more : (f : Format) (last : ℕ) (xs ys : List ℕ) (rs : List Entry) (rest : List ℕ) → Splits f last xs rs rest → Splits f last (xs ++ ys) rs (rest ++ ys)
+pub Splits-more : (f : Format) (last : ℕ) (xs ys : List ℕ) (rs : List Record) (rest : List ℕ) → Splits f last xs rs rest → Splits f last (xs ++ ys) rs (rest ++ ys)
 Splits-more f last xs ys [] rest s = ap (λ (t : List ℕ). t ++ ys) s
 Splits-more f last xs ys (r ∷ rs) rest s =
     let e : after r (xs ++ ys) ≡ after r xs ++ ys = drop-append-le (16 + length r.bytes) xs ys s.0.whole in
@@ -71,7 +72,7 @@ whole_head true n o e kept h = let k : CutHeader n ≡ e = cc in absurd (not_cut
 whole_head false n o e kept h = (refl, h)
 
 -- and it comes before that of cut data
-of_head : (o : Option PcapFault) (n : ℕ) (a b : Bool) (e : PcapFault) → is_cut e ≡ false → first_of o (cond a (Some (CutData n)) None) ≡ Some e → first_of o (cond b (Some (CutData n)) None) ≡ Some e
+of_head : (o : Option PcapFault) (n : ℕ) (a b : Bool) (e : PcapFault) → is_cut e ≡ false → option_or o (cond a (Some (CutData n)) None) ≡ Some e → option_or o (cond b (Some (CutData n)) None) ≡ Some e
 of_head (Some d) n a b e kept h = h
 of_head None n true b e kept h = let k : CutData n ≡ e = cc in absurd (not_cut (CutData n) e refl kept k)
 of_head None n false b e kept h = absurd cc
@@ -103,7 +104,7 @@ format_long bytes f h = long_header bytes (Ok f) h (λ same. absurd cc)
 kept_header : (e : PcapFault) → is_cut e ≡ false → header_error e ≡ header_error NoHeader → ⊥
 kept_header e kept h = let k : NoHeader ≡ e = cc in not_cut NoHeader e refl kept k
 
-pub Holds-more : (bytes more rest : List ℕ) (rs : List Entry) → Holds bytes rs rest → Holds (bytes ++ more) rs (rest ++ more)
+pub Holds-more : (bytes more rest : List ℕ) (rs : List Record) → Holds bytes rs rest → Holds (bytes ++ more) rs (rest ++ more)
 Holds-more bytes more rest rs held =
     let long = format_long bytes held.format held.header in
     record {

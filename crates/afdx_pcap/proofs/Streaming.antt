@@ -7,16 +7,16 @@ use Rattle.afdx_pcap.specs.declared.format.Format.{Format}
 use Rattle.afdx_pcap.specs.declared.progress.Progress.{Progress}
 use Rattle.afdx_pcap.specs.declared.fault.PcapFault.{PcapFault}
 use Rattle.afdx_pcap.specs.declared.fault.PcapFault.TheVariants.{CutHeader}
-use Rattle.afdx_pcap.specs.Entry.{Entry}
+use Rattle.afdx_pcap.specs.Record.{Record}
 use Rattle.afdx_pcap.specs.Capture.{header_of, Begins, after, Splits, IsCapture}
 use Rattle.afdx_pcap.specs.Fault.{record_fault, IsFault, IsEarlyFault, is_cut, Breaks, last_stamp}
-use Rattle.afdx_pcap.specs.Reading.{IsNext, HasNext, NoNext, IsSound, Answers, At, RestFault, Stands, answer_of}
+use Rattle.afdx_pcap.specs.Reading.{IsNext, HasNext, NoNext, IsSound, Answers, At, RestFault, IsAtPlace, answer_of}
 use Rattle.afdx_pcap.proofs.Splitting.{Splits-push, last_stamp-push}
 use Rattle.afdx_pcap.proofs.Unique.{prefix, fine_begins, one_record, same_tail, begins_fine, one_fault, one_format}
 use Rattle.afdx_pcap.proofs.More.{not_cut, header-more, format_long, Splits-more}
 
 -- a record is found
-pub found_next : (bytes : List ℕ) (n : ℕ) (p : Progress) (r : Entry) → At bytes n p → Begins p.format p.last (drop p.place bytes) r → IsNext bytes n r
+pub found_next : (bytes : List ℕ) (n : ℕ) (p : Progress) (r : Record) → At bytes n p → Begins p.format p.last (drop p.place bytes) r → IsNext bytes n r
 found_next bytes n p r at b =
     let begins : Begins p.format (last_stamp 0 at.given) (drop p.place bytes) r = subst (λ (l : ℕ). Begins p.format l (drop p.place bytes) r) at.latest b in (
       at.given,
@@ -29,7 +29,7 @@ found_next bytes n p r at b =
 pub fine_next : (bytes : List ℕ) (n : ℕ) (p : Progress) → At bytes n p → record_fault p.format p.last (n + 1) (drop p.place bytes) ≡ None → HasNext bytes n
 fine_next bytes n p at fine = (prefix p.format (drop p.place bytes), found_next bytes n p _ at (fine_begins p.format p.last (n + 1) (drop p.place bytes) fine))
 
-pub goes_on : (bytes : List ℕ) (n : ℕ) (p : Progress) (r : Entry) (rest : List ℕ) (place : ℕ) → At bytes n p → Begins p.format p.last (drop p.place bytes) r
+pub goes_on : (bytes : List ℕ) (n : ℕ) (p : Progress) (r : Record) (rest : List ℕ) (place : ℕ) → At bytes n p → Begins p.format p.last (drop p.place bytes) r
     → rest ≡ after r (drop p.place bytes) → place ≡ length bytes - length rest → At bytes (n + 1) (record { format = p.format; place = place; last = r.stamp })
 goes_on bytes n p r rest place at b rest-is place-is =
     let begins : Begins p.format (last_stamp 0 at.given) (drop p.place bytes) r = subst (λ (l : ℕ). Begins p.format l (drop p.place bytes) r) at.latest b in
@@ -50,7 +50,7 @@ goes_on bytes n p r rest place at b rest-is place-is =
     }
 
 -- two lists of records, the shorter of which has a fault after it
-no_longer : (f : Format) (last n : ℕ) (bytes rest others : List ℕ) (rs qs : List Entry) (q : Entry) (e : PcapFault) → Splits f last bytes rs rest → Splits f last bytes (qs ++ q ∷ []) others
+no_longer : (f : Format) (last n : ℕ) (bytes rest others : List ℕ) (rs qs : List Record) (q : Record) (e : PcapFault) → Splits f last bytes rs rest → Splits f last bytes (qs ++ q ∷ []) others
     → length qs ≡ length rs → record_fault f (last_stamp last rs) n rest ≡ Some e → ⊥
 no_longer f last n bytes rest others [] [] q e a b same first =
     let none = begins_fine f last n rest q (subst (λ (t : List ℕ). Begins f last t q) a b.0) in
@@ -90,7 +90,7 @@ none_early bytes n p e at fault cut d (inr (f, h, b), kept) =
     let other = subst (λ (g : Format). Breaks g (drop 24 bytes) d) (sym same) b in
     not_cut e d cut kept (sym (one_fault p.format 0 1 (drop 24 bytes) other.records at.given other.rest (drop p.place bytes) d e other.before at.records other.first (numbered bytes n p e at fault)))
 
-pub all_given : (bytes : List ℕ) (n : ℕ) (p : Progress) → At bytes n p → p.place ≡ length bytes → (rs : List Entry) × IsCapture bytes rs × (length rs ≡ n)
+pub all_given : (bytes : List ℕ) (n : ℕ) (p : Progress) → At bytes n p → p.place ≡ length bytes → (rs : List Record) × IsCapture bytes rs × (length rs ≡ n)
 all_given bytes n p at end =
     let nothing : drop p.place bytes ≡ [] = nil_from_length (drop p.place bytes) (omega (arith, length-drop p.place bytes, end)) in
     (at.given, record { format = p.format; header = at.header; records = subst (λ (t : List ℕ). Splits p.format 0 (drop 24 bytes) at.given t) nothing at.records }, at.count)
@@ -106,9 +106,9 @@ no_header_none_early bytes e h cut d (inr (f, k, b), kept) = cc
 
 -- ---- more bytes
 
-pub stands_more : (bytes more : List ℕ) (n : ℕ) (o : Option Progress) → Stands bytes n o → Stands (bytes ++ more) n o
-stands_more bytes more n None s = s
-stands_more bytes more n (Some p) at =
+pub at_place_more : (bytes more : List ℕ) (n : ℕ) (o : Option Progress) → IsAtPlace bytes n o → IsAtPlace (bytes ++ more) n o
+at_place_more bytes more n None s = s
+at_place_more bytes more n (Some p) at =
     let long = format_long bytes p.format at.header in
     let within = at.within in
     record {
@@ -122,8 +122,8 @@ stands_more bytes more n (Some p) at =
     }
 
 -- the same where they may have come or not
-pub fed : (b : Bool) (bytes more : List ℕ) (n : ℕ) (o : Option Progress) → Stands bytes n o → Stands (cond b (bytes ++ more) bytes) n o
-fed true bytes more n o s = stands_more bytes more n o s
+pub fed : (b : Bool) (bytes more : List ℕ) (n : ℕ) (o : Option Progress) → IsAtPlace bytes n o → IsAtPlace (cond b (bytes ++ more) bytes) n o
+fed true bytes more n o s = at_place_more bytes more n o s
 fed false bytes more n o s = s
 
 -- ---- answers

@@ -9,7 +9,7 @@ use Rattle.afdx_pcap.specs.declared.format.Resolution.{Resolution}
 use Rattle.afdx_pcap.specs.declared.format.Resolution.TheVariants.{Micros, Nanos}
 use Rattle.afdx_pcap.specs.declared.format.Format.{Format}
 use Rattle.afdx_pcap.specs.declared.format.Head.{Head}
-use Rattle.afdx_pcap.specs.Entry.{Entry, captured_limit}
+use Rattle.afdx_pcap.specs.Record.{Record, captured_limit}
 use Rattle.afdx_pcap.specs.Number.{number, field}
 
 -- ---- the header
@@ -68,7 +68,7 @@ greatest_seconds = 4294967294
 
 -- the bytes begin with this record, which follows one of the stamp last;
 -- profile: the limit, no stamp in the last second, and no stamp below the one before
-pub record Begins (f : Format) (last : ℕ) (bytes : List ℕ) (r : Entry) : Type 0 where
+pub record Begins (f : Format) (last : ℕ) (bytes : List ℕ) (r : Record) : Type 0 where
   pub whole : 16 + length r.bytes ≤ length bytes
   pub captured : (head_of f.endian bytes).captured ≡ length r.bytes
   pub not_huge : length r.bytes ≤ captured_limit
@@ -80,22 +80,22 @@ pub record Begins (f : Format) (last : ℕ) (bytes : List ℕ) (r : Entry) : Typ
   pub data_is : r.bytes ≡ take (length r.bytes) (drop 16 bytes)
 
 -- what comes after a record
-abbrev pub after : Entry → List ℕ → List ℕ
+abbrev pub after : Record → List ℕ → List ℕ
 after r bytes = drop (16 + length r.bytes) bytes
 
 -- the bytes are these records one after the other, and then the rest
-abbrev pub Splits : Format → ℕ → List ℕ → List Entry → List ℕ → Type 0
+abbrev pub Splits : Format → ℕ → List ℕ → List Record → List ℕ → Type 0
 Splits f last bytes [] rest = bytes ≡ rest
 Splits f last bytes (r ∷ rs) rest = Begins f last bytes r × Splits f r.stamp (after r bytes) rs rest
 
 -- ---- files
 
 -- the file is a header, these whole records, and a rest
-pub record Holds (bytes : List ℕ) (rs : List Entry) (rest : List ℕ) : Type 0 where
+pub record Holds (bytes : List ℕ) (rs : List Record) (rest : List ℕ) : Type 0 where
   pub format : Format
   pub header : header_of bytes ≡ Ok format
   pub records : Splits format 0 (drop 24 bytes) rs rest
 
 -- the file is a capture of these records: it holds them, and nothing else
-abbrev pub IsCapture : List ℕ → List Entry → Type 0
+abbrev pub IsCapture : List ℕ → List Record → Type 0
 IsCapture bytes rs = Holds bytes rs []

@@ -1,12 +1,13 @@
 -- What is wrong with a file that is no capture. The rules are those of the grammar; which of them is the fault where
 -- several are broken is profile.
 use Rattle.std.specs.Prelude.{◌≡◌, ℕ, ◌+◌, ◌<◌, List, [], ◌∷◌, length, drop, Option, Some, None, Ok, Err, ◌⊎◌, nat_lt, nat_le, if◌then◌else◌, Bool, true, false}
+use Rattle.std.specs.Option.{option_or}
 use Rattle.afdx_pcap.specs.declared.fault.PcapFault.{PcapFault}
 use Rattle.afdx_pcap.specs.declared.fault.PcapFault.TheVariants.{Memory, NoHeader, Magic, Version, LinkType, CutHeader, Huge, Fraction, Late, Backwards, CutData}
 use Rattle.afdx_pcap.specs.declared.format.Resolution.{Resolution}
 use Rattle.afdx_pcap.specs.declared.format.Format.{Format}
 use Rattle.afdx_pcap.specs.declared.format.Head.{Head}
-use Rattle.afdx_pcap.specs.Entry.{Entry, captured_limit}
+use Rattle.afdx_pcap.specs.Record.{Record, captured_limit}
 use Rattle.afdx_pcap.specs.Capture.{header_of, head_of, parts_of_second, greatest_seconds, stamp_of, Splits}
 
 -- ---- a record
@@ -24,28 +25,24 @@ head_fault resolution last n h =
 abbrev pub data_fault : ℕ → Head → ℕ → Option PcapFault
 data_fault n h left = if nat_lt left (16 + h.captured) then Some (CutData n) else None
 
-abbrev pub first_of : Option PcapFault → Option PcapFault → Option PcapFault
-first_of (Some e) other = Some e
-first_of None other = other
-
 -- the first thing that is wrong with the nth record, where these bytes are all that is left
 unfoldable pub record_fault : Format → ℕ → ℕ → List ℕ → Option PcapFault
 record_fault f last n bytes =
     if nat_lt (length bytes) 16 then Some (CutHeader n)
-    else first_of
+    else option_or
     (head_fault f.resolution last n (head_of f.endian bytes))
     (data_fault n (head_of f.endian bytes) (length bytes))
 
 -- ---- files
 
 -- the stamp of the last of these records, or the one before them where there are none
-abbrev pub last_stamp : ℕ → List Entry → ℕ
+abbrev pub last_stamp : ℕ → List Record → ℕ
 last_stamp last [] = last
 last_stamp last (r ∷ rs) = last_stamp r.stamp rs
 
 -- after whole records comes a rest that is no whole record, and this is why
 pub record Breaks (f : Format) (bytes : List ℕ) (fault : PcapFault) : Type 0 where
-  pub records : List Entry
+  pub records : List Record
   pub rest : List ℕ
   pub before : Splits f 0 bytes records rest
   pub more : 0 < length rest

@@ -1,6 +1,6 @@
 pub mod Bytes
 pub mod Capture
-pub mod Entry
+pub mod Record
 pub mod Fault
 pub mod Inner
 pub mod Number

@@ -3,7 +3,7 @@ use Rattle.std.specs.Prelude.{◌≡◌, ◌≢◌, ℕ, ◌+◌, ◌<◌, ◌�
 use Rattle.afdx_pcap.specs.declared.fault.PcapFault.{PcapFault}
 use Rattle.afdx_pcap.specs.declared.fault.PcapFault.TheVariants.{Memory}
 use Rattle.afdx_pcap.specs.declared.progress.Progress.{Progress}
-use Rattle.afdx_pcap.specs.Entry.{Entry}
+use Rattle.afdx_pcap.specs.Record.{Record}
 use Rattle.afdx_pcap.specs.Capture.{header_of, Splits, Holds, IsCapture}
 use Rattle.afdx_pcap.specs.Fault.{record_fault, last_stamp, IsFault, IsEarlyFault}
 
@@ -29,21 +29,21 @@ abbrev pub taken_in : Reading → Taking
 taken_in r = record { bytes = r.bytes; given = r.given }
 
 -- the record after the first n whole ones
-abbrev pub IsNext : List ℕ → ℕ → Entry → Type 0
+abbrev pub IsNext : List ℕ → ℕ → Record → Type 0
 IsNext bytes n r =
-    (before : List Entry) × (rest : List ℕ) × Holds bytes (before ++ r ∷ []) rest × (length before ≡ n)
+    (before : List Record) × (rest : List ℕ) × Holds bytes (before ++ r ∷ []) rest × (length before ≡ n)
 
 -- there are more than n whole records
 abbrev pub HasNext : List ℕ → ℕ → Type 0
-HasNext bytes n = (r : Entry) × IsNext bytes n r
+HasNext bytes n = (r : Record) × IsNext bytes n r
 
 -- the bytes begin with a header and these whole records, where there are any
-abbrev pub AreFirst : List ℕ → List Entry → Type 0
+abbrev pub AreFirst : List ℕ → List Record → Type 0
 AreFirst bytes [] = Unit {0}
 AreFirst bytes (r ∷ rs) = (rest : List ℕ) × Holds bytes (r ∷ rs) rest
 
 -- these are the records that were taken so far
-pub record HasTaken (t : Taking) (rs : List Entry) : Type 0 where
+pub record HasTaken (t : Taking) (rs : List Record) : Type 0 where
   pub first : AreFirst t.bytes rs
   pub count : length rs ≡ t.given
 
@@ -53,12 +53,12 @@ taking_on t = record t { given = t.given + 1 }
 
 -- there are no more than n whole records
 abbrev pub NoNext : List ℕ → ℕ → Type 0
-NoNext bytes n = (r : Entry) → IsNext bytes n r → ⊥
+NoNext bytes n = (r : Record) → IsNext bytes n r → ⊥
 
 -- nothing is wrong after n records: they are the capture, where the input has ended; while it is open,
 -- whatever is wrong may still be mended
 abbrev pub IsSound : List ℕ → ℕ → Bool → Type 0
-IsSound bytes n true = (rs : List Entry) × IsCapture bytes rs × (length rs ≡ n)
+IsSound bytes n true = (rs : List Record) × IsCapture bytes rs × (length rs ≡ n)
 IsSound bytes n false = (fault : PcapFault) → IsEarlyFault bytes fault → ⊥
 
 -- what is wrong: the fault, where the input has ended; while it is open, only an early one
@@ -67,7 +67,7 @@ IsWrong bytes true fault = IsFault bytes fault
 IsWrong bytes false fault = IsEarlyFault bytes fault
 
 -- what is answered after n records, over these bytes, by a reader that is closed or open
-abbrev pub Answers : List ℕ → ℕ → Bool → Result (Option Entry) PcapFault → Type 0
+abbrev pub Answers : List ℕ → ℕ → Bool → Result (Option Record) PcapFault → Type 0
 Answers bytes n closed (Ok (Some r)) = IsNext bytes n r
 Answers bytes n closed (Ok None) = NoNext bytes n × IsSound bytes n closed
 Answers bytes n closed (Err fault) = fault ≢ Memory → NoNext bytes n × IsWrong bytes closed fault
@@ -75,7 +75,7 @@ Answers bytes n closed (Err fault) = fault ≢ Memory → NoNext bytes n × IsWr
 -- ---- how far a reader has come in its bytes
 
 pub record At (bytes : List ℕ) (n : ℕ) (p : Progress) : Type 0 where
-  pub given : List Entry
+  pub given : List Record
   pub header : header_of bytes ≡ Ok p.format
   pub records : Splits p.format 0 (drop 24 bytes) given (drop p.place bytes)
   pub count : length given ≡ n
@@ -85,16 +85,16 @@ pub record At (bytes : List ℕ) (n : ℕ) (p : Progress) : Type 0 where
   pub fewer : n < p.place
 
 -- it has read nothing yet, or the header and n records
-abbrev pub Stands : List ℕ → ℕ → Option Progress → Type 0
-Stands bytes n None = n ≡ 0
-Stands bytes n (Some p) = At bytes n p
+abbrev pub IsAtPlace : List ℕ → ℕ → Option Progress → Type 0
+IsAtPlace bytes n None = n ≡ 0
+IsAtPlace bytes n (Some p) = At bytes n p
 
 -- what is wrong with the rest, as the next record
 abbrev pub RestFault : List ℕ → Progress → ℕ → PcapFault → Type 0
 RestFault bytes p n fault = record_fault p.format p.last (n + 1) (drop p.place bytes) ≡ Some fault
 
 -- the answer without how far it leads
-abbrev pub answer_of : Result (Option (Entry × Progress)) PcapFault → Result (Option Entry) PcapFault
+abbrev pub answer_of : Result (Option (Record × Progress)) PcapFault → Result (Option Record) PcapFault
 answer_of (Ok (Some x)) = Ok (Some x.0)
 answer_of (Ok None) = Ok None
 answer_of (Err fault) = Err fault

@@ -3,7 +3,7 @@ use Rattle.std.specs.Prelude.{◌≡◌, ℕ, ◌/◌, ◌%◌, ◌<◌, ◌≤�
 use Rattle.std.specs.List.{flat_map}
 use Rattle.byteorder.specs.Endian.{little_bytes}
 use Rattle.afdx_units.specs.Time.{second, last_second}
-use Rattle.afdx_pcap.specs.Entry.{Entry}
+use Rattle.afdx_pcap.specs.Record.{Record}
 
 -- pcap 2.4, as it is written: little-endian, nanoseconds; version 2.4; zone and accuracy 0; snaplen 262,144;
 -- link type 1, Ethernet
@@ -17,19 +17,19 @@ abbrev pub word : ℕ → List ℕ
 word n = little_bytes 4 n
 
 -- pcap 2.4: seconds, nanoseconds, and the number of bytes as the captured and (profile) as the original length
-unfoldable pub head_text : Entry → List ℕ
+unfoldable pub head_text : Record → List ℕ
 head_text r =
     word (r.stamp / second) ++ word (r.stamp % second) ++ word (length r.bytes) ++ word (length r.bytes)
 
-abbrev pub record_text : Entry → List ℕ
+abbrev pub record_text : Record → List ℕ
 record_text r = head_text r ++ r.bytes
 
-abbrev pub capture_text : List Entry → List ℕ
+abbrev pub capture_text : List Record → List ℕ
 capture_text rs = header_text ++ flat_map record_text rs
 
 -- records that read back as they were written: stamps do not fall from the last one on, none lies in the last
 -- second, and each original length is the number of bytes
-abbrev pub AreReadable : ℕ → List Entry → Type 0
+abbrev pub AreReadable : ℕ → List Record → Type 0
 AreReadable last [] = Unit {0}
 AreReadable last (r ∷ rs) =
     (last ≤ r.stamp) × (r.stamp < last_second) × (r.original ≡ length r.bytes) × AreReadable r.stamp rs

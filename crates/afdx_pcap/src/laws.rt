@@ -3,7 +3,7 @@
 ghost use Rattle.std.specs.Prelude.{◌≡◌, ◌≢◌, ◌⊎◌, ◌≤◌, ℕ, List, [], ◌∷◌, ◌++◌, length, All, Bool, true, Option, Result, Err};
 ghost use Rattle.afdx_pcap.specs.declared.fault.PcapFault.{PcapFault};
 ghost use Rattle.afdx_pcap.specs.declared.fault.PcapFault.TheVariants.{Memory};
-ghost use Rattle.afdx_pcap.specs.Entry.{Entry, IsWithinLimit};
+ghost use Rattle.afdx_pcap.specs.Record.{Record, IsWithinLimit};
 ghost use Rattle.afdx_pcap.specs.Capture.{Holds, IsCapture};
 ghost use Rattle.afdx_pcap.specs.Fault.{IsFault, IsEarlyFault, last_stamp};
 ghost use Rattle.afdx_pcap.specs.Reading.{Answers, HasTaken, IsNext, IsSound, Taking, taking_on};
@@ -12,7 +12,7 @@ ghost use Rattle.afdx_pcap.specs.Text.{record_text, capture_text, AreReadable};
 
 /// What is written is a capture of the records that were written, where these can be read.
 pub fn what_is_written_is_a_capture()
-    ensures { (rs : List Entry) → AreReadable 0 rs → All IsWithinLimit rs
+    ensures { (rs : List Record) → AreReadable 0 rs → All IsWithinLimit rs
         → IsCapture (capture_text rs) rs }
 {}
 
@@ -23,19 +23,19 @@ pub fn written_texts_read_back()
 
 /// The text of one more record is the text so far, and then the record's.
 pub fn one_more_record_is_appended()
-    ensures { (rs : List Entry) (r : Entry) → capture_text (rs ++ r ∷ []) ≡ capture_text rs ++ record_text r }
+    ensures { (rs : List Record) (r : Record) → capture_text (rs ++ r ∷ []) ≡ capture_text rs ++ record_text r }
 {}
 
 /// Each file is the capture of one list of records, or has one fault.
 pub fn each_file_has_one_reading()
-    ensures one_list { (bytes : List ℕ) (rs qs : List Entry) → IsCapture bytes rs → IsCapture bytes qs
+    ensures one_list { (bytes : List ℕ) (rs qs : List Record) → IsCapture bytes rs → IsCapture bytes qs
         → rs ≡ qs }
     ensures one_fault { (bytes : List ℕ) (d e : PcapFault) → IsFault bytes d → IsFault bytes e
         → d ≡ e }
-    ensures not_both { (bytes : List ℕ) (rs : List Entry) (e : PcapFault) → IsCapture bytes rs
+    ensures not_both { (bytes : List ℕ) (rs : List Record) (e : PcapFault) → IsCapture bytes rs
         → IsFault bytes e → ⊥ }
     ensures either { (bytes : List ℕ)
-        → ((rs : List Entry) × IsCapture bytes rs) ⊎ ((e : PcapFault) × IsFault bytes e) }
+        → ((rs : List Record) × IsCapture bytes rs) ⊎ ((e : PcapFault) × IsFault bytes e) }
 {}
 
 /// An early fault stays the fault, whatever bytes come after.
@@ -46,34 +46,34 @@ pub fn early_faults_stay()
 
 /// The whole records at the start of some bytes stay where more bytes come, and so many records are only those.
 pub fn whole_records_stay()
-    ensures stay { (bytes more rest : List ℕ) (rs : List Entry) → Holds bytes rs rest
+    ensures stay { (bytes more rest : List ℕ) (rs : List Record) → Holds bytes rs rest
         → Holds (bytes ++ more) rs (rest ++ more) }
-    ensures unique { (bytes rest others : List ℕ) (rs qs : List Entry) → Holds bytes rs rest
+    ensures unique { (bytes rest others : List ℕ) (rs qs : List Record) → Holds bytes rs rest
         → Holds bytes qs others → length rs ≡ length qs → rs ≡ qs }
 {}
 
 /// Records that are taken one by one are the first ones of the bytes, in order, each once, also where more bytes
 /// come; their stamps do not fall; where nothing is wrong after them, they are the capture.
 pub fn taken_records_are_the_first()
-    ensures joins { (t : Taking) (rs : List Entry) (r : Entry) → HasTaken t rs → IsNext t.bytes t.given r
+    ensures joins { (t : Taking) (rs : List Record) (r : Record) → HasTaken t rs → IsNext t.bytes t.given r
         → HasTaken (taking_on t) (rs ++ r ∷ []) }
-    ensures stays { (t : Taking) (more : List ℕ) (rs : List Entry) → HasTaken t rs
+    ensures stays { (t : Taking) (more : List ℕ) (rs : List Record) → HasTaken t rs
         → HasTaken (record t { bytes = t.bytes ++ more }) rs }
-    ensures in_order { (t : Taking) (rs : List Entry) (r : Entry) → HasTaken t rs → IsNext t.bytes t.given r
+    ensures in_order { (t : Taking) (rs : List Record) (r : Record) → HasTaken t rs → IsNext t.bytes t.given r
         → last_stamp 0 rs ≤ r.stamp }
-    ensures latest { (rs : List Entry) (r : Entry) → last_stamp 0 (rs ++ r ∷ []) ≡ r.stamp }
-    ensures ends { (t : Taking) (rs : List Entry) → HasTaken t rs → IsSound t.bytes t.given true
+    ensures latest { (rs : List Record) (r : Record) → last_stamp 0 (rs ++ r ∷ []) ≡ r.stamp }
+    ensures ends { (t : Taking) (rs : List Record) → HasTaken t rs → IsSound t.bytes t.given true
         → IsCapture t.bytes rs }
 {}
 
 /// The records that were taken are the first ones of the capture, where the bytes are one.
 pub fn taken_records_begin_the_capture()
-    ensures { (t : Taking) (taken all : List Entry) → HasTaken t taken → IsCapture t.bytes all
-        → (later : List Entry) × (all ≡ taken ++ later) }
+    ensures { (t : Taking) (taken all : List Record) → HasTaken t taken → IsCapture t.bytes all
+        → (later : List Record) × (all ≡ taken ++ later) }
 {}
 
 /// But for out of memory there is one answer after so many records, whoever gives it.
 pub fn each_answer_is_the_only_one()
-    ensures { (bytes : List ℕ) (n : ℕ) (closed : Bool) (a b : Result (Option Entry) PcapFault)
+    ensures { (bytes : List ℕ) (n : ℕ) (closed : Bool) (a b : Result (Option Record) PcapFault)
         → Answers bytes n closed a → Answers bytes n closed b → a ≢ Err Memory → b ≢ Err Memory → a ≡ b }
 {}

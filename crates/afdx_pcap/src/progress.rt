@@ -5,7 +5,7 @@ ghost use Rattle.afdx_pcap.specs.declared.fault.PcapFault.TheVariants.{Memory};
 ghost use Rattle.afdx_pcap.specs.Bytes.{bytes_of, is_lent};
 ghost use Rattle.afdx_pcap.specs.Capture.{header_of};
 ghost use Rattle.afdx_pcap.specs.Fault.{is_cut};
-ghost use Rattle.afdx_pcap.specs.Reading.{Answers, At, HasNext, IsNext, RestFault, Stands, answer_of};
+ghost use Rattle.afdx_pcap.specs.Reading.{Answers, At, HasNext, IsNext, RestFault, IsAtPlace, answer_of};
 
 use crate::bytes::Bytes;
 use crate::fault::PcapFault;
@@ -66,7 +66,7 @@ impl Progress {
 
 /// How far the bytes were read; after their header, where they were not read so far.
 fn place_in(bytes: &[u8], given: usize, progress: Option<Progress>) -> Result<Progress, PcapFault>
-    requires { Stands bytes.now given progress }
+    requires { IsAtPlace bytes.now given progress }
     ensures at { IfOk result (λ p. At bytes.now given p) }
     ensures fault { IfErr result (λ fault. header_of bytes.now ≡ Err fault) }
     ensures no_memory { IfErr result (λ fault. fault ≢ Memory) }
@@ -100,7 +100,7 @@ fn next_lent<'b, A: Allocator>(
     closed: bool,
     progress: Option<Progress>,
 ) -> Result<Option<(Record<'b, A>, Progress)>, PcapFault>
-    requires { Stands bytes.now given progress }
+    requires { IsAtPlace bytes.now given progress }
     ensures answer { Answers bytes.now given closed (answer_of result) }
     ensures no_memory { IfErr result (λ fault. fault ≢ Memory) }
     ensures progress { IfOk result (λ o. IfSome o (λ x. At bytes.now (given + 1) x.1)) }
@@ -126,7 +126,7 @@ pub fn next_record<'a, A: Allocator>(
     closed: bool,
     progress: Option<Progress>,
 ) -> Result<Option<(Record<'a, A>, Progress)>, PcapFault>
-    requires { Stands (bytes_of bytes.now) given progress }
+    requires { IsAtPlace (bytes_of bytes.now) given progress }
     ensures answer { Answers (bytes_of bytes.now) given closed (answer_of result) }
     ensures memory { IfErr result (λ fault. fault ≡ Memory
         → HasNext (bytes_of bytes.now) given × (is_lent bytes.now ≡ false)) }

@@ -29,7 +29,7 @@ pub struct Reader<'a, A: Allocator> {
 impl<'a, A: Allocator> Model for Reader<'a, A> {
     ghost use Rattle.std.specs.Prelude.{◌≡◌, true};
     ghost use Rattle.afdx_pcap.specs.Bytes.{bytes_of, is_lent};
-    ghost use Rattle.afdx_pcap.specs.Reading.{Reading, Stands};
+    ghost use Rattle.afdx_pcap.specs.Reading.{Reading, IsAtPlace};
 
     ghost Value = { Reading };
 
@@ -42,7 +42,7 @@ impl<'a, A: Allocator> Model for Reader<'a, A> {
     } };
 
     // What is lent is whole, so that nothing is fed behind it.
-    ghost invariant = { λ r. Stands (bytes_of r.bytes) r.given r.progress
+    ghost invariant = { λ r. IsAtPlace (bytes_of r.bytes) r.given r.progress
         × (is_lent r.bytes ≡ true → r.closed ≡ true) };
 }
 

@@ -1,7 +1,7 @@
 //! Records.
 
 ghost use Rattle.std.specs.Prelude.{◌≡◌, ◌<◌, ◌≤◌, length, IfOk, IfErr, IfSome, IfNone};
-ghost use Rattle.afdx_pcap.specs.Entry.{captured_limit, IsWithinLimit};
+ghost use Rattle.afdx_pcap.specs.Record.{captured_limit, IsWithinLimit};
 
 use crate::bytes::Bytes;
 use afdx_units::Stamp;
@@ -24,9 +24,9 @@ pub struct Record<'a, A: Allocator> {
 impl<'a, A: Allocator> Model for Record<'a, A> {
     ghost use Rattle.std.specs.Prelude.{◌≤◌, length};
     ghost use Rattle.afdx_pcap.specs.Bytes.{bytes_of};
-    ghost use Rattle.afdx_pcap.specs.Entry.{Entry, captured_limit};
+    ghost use Rattle.afdx_pcap.specs.Record.{Record as Seen, captured_limit};
 
-    ghost Value = { Entry };
+    ghost Value = { Seen };
 
     ghost view = { λ r. record { stamp = r.stamp; original = r.original; bytes = bytes_of r.bytes } };
 

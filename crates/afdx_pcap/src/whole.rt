@@ -2,7 +2,7 @@
 
 ghost use Rattle.std.specs.Prelude.{◌≡◌, ◌≢◌, ◌<◌, List, length, IfOk, IfErr};
 ghost use Rattle.afdx_pcap.specs.declared.fault.PcapFault.TheVariants.{Memory};
-ghost use Rattle.afdx_pcap.specs.Entry.{Entry};
+ghost use Rattle.afdx_pcap.specs.Record as pcap;
 ghost use Rattle.afdx_pcap.specs.Capture.{IsCapture};
 ghost use Rattle.afdx_pcap.specs.Fault.{IsFault};
 
@@ -13,7 +13,7 @@ use std::alloc::Allocator;
 
 /// The number of records of a capture, or its first fault. Takes no memory.
 fn record_count<A: Allocator + Copy>(alloc: A, bytes: &[u8]) -> Result<usize, PcapFault>
-    ensures count { IfOk result (λ n. (rs : List Entry) × IsCapture bytes.now rs × (length rs ≡ n)) }
+    ensures count { IfOk result (λ n. (rs : List pcap.Record) × IsCapture bytes.now rs × (length rs ≡ n)) }
     ensures fault { IfErr result (IsFault bytes.now) }
     ensures no_memory { IfErr result (λ fault. fault ≢ Memory) }
 {
@@ -43,7 +43,7 @@ pub fn read_all<A: Allocator + Copy>(
     ensures capture { IfOk result (λ rs. IsCapture bytes.now rs.items) }
     ensures fault { IfErr result (λ fault. fault ≢ Memory → IsFault bytes.now fault) }
     ensures memory { IfErr result (λ fault. fault ≡ Memory
-        → (rs : List Entry) × IsCapture bytes.now rs × (0 < length rs)) }
+        → (rs : List pcap.Record) × IsCapture bytes.now rs × (0 < length rs)) }
 {
     let mut all = Vec::with_capacity(alloc, record_count(alloc, bytes)?)?;
     let mut reader = Reader::over(alloc, bytes);

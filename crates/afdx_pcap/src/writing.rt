@@ -3,7 +3,7 @@
 ghost use Rattle.std.specs.Prelude.{◌≡◌, ◌++◌, ◌+◌, ◌<◌, ◌≤◌, min, length, vec_len, IfOk, OnOk, OnErr, IsOkUnless};
 ghost use Rattle.std.specs.Vec.{vec_capacity};
 ghost use Rattle.afdx_pcap.specs.declared.fault.PcapFault.TheVariants.{Memory};
-ghost use Rattle.afdx_pcap.specs.Entry.{IsWithinLimit, captured_limit, whole};
+ghost use Rattle.afdx_pcap.specs.Record.{IsWithinLimit, captured_limit, whole};
 ghost use Rattle.afdx_pcap.specs.Capture.{IsCapture};
 ghost use Rattle.afdx_pcap.specs.Text.{header_text, head_text, record_text, capture_text, AreReadable};
 

@@ -9,17 +9,13 @@ use crate::readers::{
     read_whole,
 };
 use afdx_pcap::{PcapFault, Record, read_all, write_all, write_frame, write_header, write_record};
+use afdx_samples::joined;
 use afdx_units::Stamp;
+use rand::RngExt;
+use rand::rngs::SmallRng;
+use rand_core::SeedableRng;
 use std::alloc::{AllocError, Global};
 use std::test::Fail;
-
-fn joined(alloc: Global, parts: &[&[u8]]) -> Result<Vec<u8>, AllocError> {
-    let mut bytes = Vec::new(alloc);
-    for part in parts {
-        bytes.extend_from_slice(part)?;
-    }
-    Ok(bytes)
-}
 
 /// The capture of one frame at 0.
 fn one_frame(alloc: Global) -> Result<Vec<u8>, AllocError> {
@@ -235,12 +231,11 @@ fn cut<'a>(alloc: Global, bytes: &'a [u8], lengths: &[usize]) -> Result<Vec<&'a 
 }
 
 /// As many random lengths, 0 to 49 each, that a seed determines.
-fn random_lengths(alloc: Global, count: usize, seed: u32) -> Result<Vec<usize>, AllocError> {
+fn random_lengths(alloc: Global, count: usize, seed: u64) -> Result<Vec<usize>, AllocError> {
+    let mut random = SmallRng::seed_from_u64(seed);
     let mut lengths = Vec::new(alloc);
-    let mut state = seed;
     for _ in 0..count {
-        state = state.wrapping_mul(1_664_525).wrapping_add(1_013_904_223);
-        lengths.push(((state >> 16) % 50) as usize)?;
+        lengths.push(random.random_range(0usize..50))?;
     }
     Ok(lengths)
 }
@@ -267,7 +262,7 @@ fn any_pieces(rt: HostRuntime) -> Result<(), Fail> {
 #[test]
 fn random_pieces(rt: HostRuntime) -> Result<(), Fail> {
     let bytes = two_frames(rt.alloc())?;
-    for seed in 0..20 {
+    for seed in 0..20u64 {
         let lengths = random_lengths(rt.alloc(), bytes.len(), seed)?;
         assert!(rt;
             is_read_in(rt.alloc(), &bytes, &lengths)?,

@@ -1,10 +1,11 @@
 -- Ports that differ in their buffers alone serve alike.
-use Rattle.std.proofs.Common.{◌≡◌, ℕ, zero, suc, ◌+◌, ◌≤◌, Bool, List, [], ◌∷◌, ◌++◌, length, refl, ap, subst}
+use Rattle.std.proofs.Common.{◌≡◌, ℕ, zero, suc, ◌+◌, ◌≤◌, List, [], ◌∷◌, ◌++◌, length, refl, ap, subst}
 use Rattle.std.specs.Prelude.{not, filter, sum_by}
 use Rattle.afdx_port.specs.declared.Settings.{Settings}
 use Rattle.afdx_port.specs.declared.Item.{Item}
 use Rattle.afdx_port.specs.Service.{Event, came, item_of, free_after, reach, next, others, serve}
-use Rattle.afdx_port.specs.Admission.{is_gone, occupied, AllFitIn, with_buffer}
+use Rattle.afdx_port.specs.Admission.{is_gone, occupied, AllFitIn}
+use Rattle.afdx_port.specs.Inner.Admission.{with_buffer}
 
 serve_alike : (count : ℕ) (s : Settings) (bytes free : ℕ) (items : List Item) → serve count (with_buffer bytes s) free items ≡ serve count s free items
 unfolding next others reach

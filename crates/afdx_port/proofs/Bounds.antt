@@ -23,15 +23,16 @@ use Rattle.afdx_port.proofs.Parts.{left-step, left-stop, left_again, left-append
 use Rattle.afdx_port.proofs.Room.{sum_by-others, occupied_is}
 use Rattle.afdx_port.proofs.Working.{work_is, backlog, left_all, others_all, left_waits, not_due, due_no, sent_next, aged_head, aged_tail, left_none_aged}
 
+pub adds : (f a c all : ℕ) → all ≡ a + c → f + all ≡ (f + a) + c
+adds f a c all is = omega (arith, is)
+
 pub work_grows : (s : Settings) (t : ℕ) (items : List Item) (x : Item) → t ≤ came s x → NoneAged s t items → work s t (items ++ x ∷ []) ≡ work s t items + item_cost s x
 work_grows s t items x le none =
     let q = left s t 0 items in
     work_is s t (items ++ x ∷ [])
     ∙ ap (backlog s t) (left-append s t 0 items (x ∷ []) (le, tt))
     ∙ adds (q.free - t) (sum_by (item_cost s) q.waiting) (item_cost s x) _ (sum_by_push (item_cost s) q.waiting x)
-    ∙ ap (λ n. n + item_cost s x) (sym (work_is s t items)) where
-      adds : (f a c all : ℕ) → all ≡ a + c → f + all ≡ (f + a) + c
-      adds f a c all is = omega (arith, is)
+    ∙ ap (λ n. n + item_cost s x) (sym (work_is s t items))
 
 -- the items of the events are those of the list
 pub service_all_by : (n : ℕ) (P : Item → Type 0) (s : Settings) (free : ℕ) (items : List Item) → length items ≡ n → All P items → All (λ e. P (item_of e)) (service s free items)

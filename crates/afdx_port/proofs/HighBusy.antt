@@ -14,7 +14,7 @@ use Rattle.afdx_port.specs.Inner.Order.{InOrder}
 use Rattle.afdx_port.specs.Inner.Work.{item_cost, high_cost, high_work, NoneAged, HaveCome, HighWithinCurve}
 use Rattle.afdx_port.proofs.Earlier.{earlier_events}
 use Rattle.afdx_port.proofs.Parts.{left-append}
-use Rattle.afdx_port.proofs.Bounds.{high_sum, high_work_falls}
+use Rattle.afdx_port.proofs.Bounds.{high_sum, high_work_falls, adds}
 use Rattle.afdx_port.proofs.Busy.{from_end, none_aged_less, in_order_prefix, come_prefix, come_all, last_come}
 
 high_is : (s : Settings) (t : ℕ) (items : List Item) → high_work s t items ≡ ((left s t 0 items).free - t) + sum_by (high_cost s) (left s t 0 items).waiting
@@ -26,9 +26,7 @@ high_grows s t items x le =
     high_is s t (items ++ x ∷ [])
     ∙ ap (λ (r : LineState). (r.free - t) + sum_by (high_cost s) r.waiting) (left-append s t 0 items (x ∷ []) (le, tt))
     ∙ adds (q.free - t) (sum_by (high_cost s) q.waiting) (high_cost s x) _ (sum_by_push (high_cost s) q.waiting x)
-    ∙ ap (λ n. n + high_cost s x) (sym (high_is s t items)) where
-      adds : (f a c all : ℕ) → all ≡ a + c → f + all ≡ (f + a) + c
-      adds f a c all is = omega (arith, is)
+    ∙ ap (λ n. n + high_cost s x) (sym (high_is s t items))
 
 record HighBusy (s : Settings) (low t : ℕ) (items : List Item) : Type 0 where
   pre : List Item

@@ -18,7 +18,7 @@ use Rattle.afdx_port.specs.Inner.Course.{rest_in_line, reached, first_start, lin
 use Rattle.afdx_port.specs.Inner.Queued.{queued}
 use Rattle.afdx_port.specs.Inner.Sound.{IsSound, HasRoom, queue_of, state_of}
 use Rattle.afdx_port.specs.Content.{Content, done, due}
-use Rattle.afdx_port.specs.Kept.{IsKeptPort, content_of}
+use Rattle.afdx_port.specs.Inner.Kept.{IsKeptPort, content_of}
 use Rattle.afdx_port.proofs.Earlier.{earlier_events}
 use Rattle.afdx_port.proofs.Room.{occupied_is}
 use Rattle.afdx_port.proofs.Steps.{sent_of-append, aged_of-append}

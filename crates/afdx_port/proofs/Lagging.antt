@@ -4,7 +4,7 @@ use Rattle.std.specs.Prelude.{slice_get}
 use Rattle.std.specs.Option.{option_map}
 use Rattle.afdx_port.specs.declared.Settings.{Settings}
 use Rattle.afdx_port.specs.declared.Item.{Item}
-use Rattle.afdx_port.specs.Service.{Event, instant, reach, came, service, before}
+use Rattle.afdx_port.specs.Service.{Event, instant, reach, service, before}
 use Rattle.afdx_port.specs.Admission.{fits}
 use Rattle.afdx_port.specs.Inner.Progress.{left, is_due}
 use Rattle.afdx_port.specs.Course.{starts_before}
@@ -12,7 +12,7 @@ use Rattle.afdx_port.specs.Content.{Content, done, due, offered, advanced, close
 use Rattle.afdx_port.specs.Lagging.{has_due}
 use Rattle.afdx_port.proofs.Choices.{above, not_below}
 use Rattle.afdx_port.proofs.Turns.{instant-next}
-use Rattle.afdx_port.proofs.Earlier.{late_start, earlier_events}
+use Rattle.afdx_port.proofs.Earlier.{late_start, admission}
 use Rattle.afdx_port.proofs.Parts.{split, parts}
 use Rattle.afdx_port.proofs.Working.{left_waits, due_no}
 use Rattle.afdx_port.proofs.Picked.{reach-le, done_open}
@@ -74,10 +74,6 @@ finished_cases c false is =
 
 pub finish_adds : (c : Content) → (more : List Event) × (done (closed c) ≡ done c ++ more)
 finish_adds c = finished_cases c c.finished refl
-
-admission : (s : Settings) (t : ℕ) (admitted : List Item) (x : Item) (joins : Bool) → t ≤ came s x → before t (service s 0 (cond joins (admitted ++ x ∷ []) admitted)) ≡ before t (service s 0 admitted)
-admission s t admitted x true le = earlier_events s t 0 admitted (x ∷ []) (le, tt)
-admission s t admitted x false le = refl
 
 pub offer_advances : (c : Content) (x : Item) → c.finished ≡ false → c.horizon ≤ x.stamp → done (offered x c) ≡ done (advanced x.stamp c)
 offer_advances c x open' le =

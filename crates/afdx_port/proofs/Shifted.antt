@@ -7,8 +7,8 @@ use Rattle.std.proofs.lemmas.List.Sums.{sum_by-cons}
 use Rattle.afdx_units.specs.Line.{cost_of, is_high}
 use Rattle.afdx_port.specs.declared.Settings.{Settings}
 use Rattle.afdx_port.specs.declared.Item.{Item}
-use Rattle.afdx_port.specs.Service.{Event, sending, aging, reach, came, item_of, free_after, is_urgent, turn, in_turn, fate, next, others, serve, service}
-use Rattle.afdx_port.specs.Admission.{is_gone, occupied, fits, admit, admit_all, admitted}
+use Rattle.afdx_port.specs.Service.{Event, sending, aging, reach, came, item_of, free_after, is_urgent, turn, fate, next, others, serve, service}
+use Rattle.afdx_port.specs.Admission.{fits, admit, admit_all}
 use Rattle.afdx_port.specs.Inner.Shift.{at_once, later_by}
 use Rattle.afdx_port.proofs.Turns.{position-cons}
 use Rattle.afdx_port.proofs.Room.{stays, bytes}

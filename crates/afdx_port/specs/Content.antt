@@ -1,12 +1,12 @@
 -- What contracts see of a port.
-use Rattle.std.specs.Prelude.{ℕ, ◌≡◌, ◌↔◌, Bool, true, false, if◌then◌else◌, Option, List, [], length, slice_get}
+use Rattle.std.specs.Prelude.{ℕ, Bool, true, false, if◌then◌else◌, Option, List, [], length, slice_get}
 use Rattle.std.specs.Option.{option_map}
 use Rattle.afdx_port.specs.declared.Settings.{Settings}
 use Rattle.afdx_port.specs.declared.Item.{Item}
 use Rattle.afdx_port.specs.declared.Offer.{Offer}
 use Rattle.afdx_port.specs.declared.Offer.TheVariants.{Queued, Full}
 use Rattle.afdx_port.specs.Service.{Event, instant, reach, service, before}
-use Rattle.afdx_port.specs.Admission.{fits, admit, IsFull}
+use Rattle.afdx_port.specs.Admission.{fits, admit}
 
 -- its settings, all items that it admitted, the greatest stamp offered or advanced to, and whether it is finished
 pub record Content : Type 0 where
@@ -36,9 +36,10 @@ fresh s = record { settings = s; admitted = []; horizon = 0; finished = false }
 abbrev pub answer : Item → Content → Offer
 answer x c = if fits c.settings c.admitted x then Queued else Full
 
--- an offer is answered Full exactly where the item is refused
-abbrev pub FullIsExact : Type 0
-FullIsExact = (c : Content) (x : Item) → (answer x c ≡ Full) ↔ IsFull c.settings c.admitted x
+-- whether a port answered Full to an offer
+abbrev pub is_full : Offer → Bool
+is_full Queued = false
+is_full Full = true
 
 -- the content after an offer
 abbrev pub offered : Item → Content → Content

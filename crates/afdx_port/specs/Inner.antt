@@ -1,6 +1,8 @@
+pub mod Admission
 pub mod Course
 pub mod Events
 pub mod Gone
+pub mod Kept
 pub mod Lagging
 pub mod Order
 pub mod Progress

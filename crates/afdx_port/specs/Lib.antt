@@ -2,6 +2,5 @@ pub mod Admission
 pub mod Content
 pub mod Course
 pub mod Inner
-pub mod Kept
 pub mod Lagging
 pub mod Service

@@ -1,7 +1,7 @@
 -- How a port serves the items that wait: whose turn it is, and what becomes of each.
 -- ARINC 664 Part 7: high goes before low without preemption, each in order of arrival, and age is limited.
 -- What it leaves open is chosen here (profile).
-use Rattle.std.specs.Prelude.{ℕ, ◌+◌, ◌-◌, max, zero, suc, Bool, true, false, ◌&&◌, nat_lt, nat_le, if◌then◌else◌, List, [], ◌∷◌, length, filter, position, unwrap_or, slice_index_or, remove}
+use Rattle.std.specs.Prelude.{ℕ, ◌+◌, ◌-◌, max, zero, suc, Bool, ◌&&◌, nat_lt, nat_le, if◌then◌else◌, List, [], ◌∷◌, length, filter, position, unwrap_or, slice_index_or, remove}
 use Rattle.afdx_units.specs.Line.{cost_of, is_high}
 use Rattle.afdx_port.specs.declared.Settings.{Settings}
 use Rattle.afdx_port.specs.declared.Item.{Item}

@@ -38,7 +38,7 @@ impl<A: Allocator> Model for Port<A> {
 
     ghost Value = { PortValue };
 
-    ghost use Rattle.afdx_port.specs.Kept.{value_of, IsKeptPort};
+    ghost use Rattle.afdx_port.specs.Inner.Kept.{value_of, IsKeptPort};
 
     ghost view = { value_of };
 

@@ -4,10 +4,10 @@ use Rattle.std.proofs.Math.Nat.{mul-le-mul_left}
 use Rattle.std.proofs.lemmas.List.Elements.{AllZip-push}
 use Rattle.std.proofs.lemmas.Bool.{cases_Bool, leb-true, le-leb, and_parts}
 use Rattle.afdx_account.specs.declared.frame.Frame.{Frame}
-use Rattle.afdx_account.specs.Policing.{Terms, paid, allowance, conforms, passed_after, passed_frames}
+use Rattle.afdx_account.specs.Policing.{Terms, paid, allowance, conforms, passed_after, passed_of, passed_frames}
 use Rattle.afdx_series.specs.declared.delays.Delays.{Delays}
 use Rattle.afdx_series.specs.Series.{AllConform, ComesLater, ComeLater, AllowsMore}
-use Rattle.afdx_series.specs.Laws.{PassedConform, ConformingArePassed, LaterConform, PassedPassAgain}
+use Rattle.afdx_series.specs.Laws.{LaterConform, PassedPassAgain}
 
 -- ---- what is passed conforms, and what conforms is passed
 
@@ -19,7 +19,7 @@ passed_after-conform t passed (f ∷ fs) =
       | inr not ↦ rw not (passed_after-conform t passed fs)
     ]
 
-pub passed_conform : PassedConform
+pub passed_conform : (t : Terms) (frames : List Frame) → AllConform t [] (passed_frames t frames)
 passed_conform t frames = passed_after-conform t [] frames
 
 conforming-after : {A : Type 0} (frame_of : A → Frame) (t : Terms) (passed : List Frame) (xs : List A)
@@ -28,7 +28,7 @@ conforming-after frame_of t passed [] all = refl
 conforming-after frame_of t passed (x ∷ xs) all =
     rw all.0 (ap (λ (ys : List _). x ∷ ys) (conforming-after frame_of t (passed ++ frame_of x ∷ []) xs all.1))
 
-pub conforming_are_passed : {A : Type 0} → ConformingArePassed A
+pub conforming_are_passed : {A : Type 0} (frame_of : A → Frame) (t : Terms) (xs : List A) → AllConform t [] (map frame_of xs) → passed_of frame_of t xs ≡ xs
 conforming_are_passed frame_of t xs all = conforming-after frame_of t [] xs all
 
 -- ---- later

@@ -11,14 +11,6 @@ use Rattle.afdx_series.specs.Delay.{hop_of, joined, at_once, IsEnough, Crosses}
 use Rattle.afdx_series.specs.Series.{AllConform, ComeLater, AllowsMore}
 use Rattle.afdx_series.specs.Hops.{Hop, GoesOn, AllowOnTheWay, AllPassOnTheWay}
 
--- what an account passes conforms
-abbrev pub PassedConform : Type 0
-PassedConform = (t : Terms) (frames : List Frame) → AllConform t [] (passed_frames t frames)
-
--- and what conforms it passes
-abbrev pub ConformingArePassed : Type 0 → Type 0
-ConformingArePassed A = (frame_of : A → Frame) (t : Terms) (xs : List A) → AllConform t [] (map frame_of xs) → passed_of frame_of t xs ≡ xs
-
 -- what conforms to some terms conforms, when it comes again later, to terms that allow for the difference
 abbrev pub LaterConform : Type 0
 LaterConform = (d : Delays) (t u : Terms) (fs gs : List Frame) → AllowsMore (d.most - d.least) t u → ComeLater d fs gs → AllConform t [] fs → AllConform u [] gs

@@ -1,17 +1,7 @@
 //! Laws over the definitions: functions that do nothing, whose contracts are the laws.
 
-ghost use Rattle.afdx_series.specs.Laws.{PassedConform, ConformingArePassed, LaterConform, PassedPassAgain, JitterAllowsMore, JitterEnough};
+ghost use Rattle.afdx_series.specs.Laws.{LaterConform, PassedPassAgain, JitterAllowsMore, JitterEnough};
 ghost use Rattle.afdx_series.specs.Laws.{CrossingIsAHop, DelaysAddUp, DelaysBeginAtOnce, WaysPassAll};
-
-/// Each frame that is passed conforms to those before it.
-pub fn passed_conform()
-    ensures { PassedConform }
-{}
-
-/// Where each frame conforms to those before it, all are passed.
-pub fn conforming_are_passed<T>()
-    ensures { ConformingArePassed T }
-{}
 
 /// Frames that come again later conform to terms that allow for the difference of the least and the most.
 pub fn later_conform()

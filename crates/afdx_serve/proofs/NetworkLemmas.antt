@@ -12,7 +12,7 @@ use Rattle.afdx_failures.specs.declared.failure.Failure.{Failure}
 use Rattle.afdx_failures.specs.declared.failure.Failure.TheVariants as failure
 use Rattle.afdx_failures.specs.Inner.Failures.{wiring_failure}
 use Rattle.afdx_devices.specs.Files.{Files, DeviceLog, KeepsFiles}
-use Rattle.afdx_failures.specs.Telling.{IsMade}
+use Rattle.afdx_failures.specs.Reporting.{IsMade}
 use Rattle.afdx_serve.specs.Networks.{IsRefused, FailsToGetNetwork}
 use Rattle.afdx_serve.specs.Serving.{World, WritesNothing, FailsToPerformNetwork}
 

@@ -7,7 +7,7 @@ use Rattle.afdx_arguments.specs.declared.request.Request.TheVariants as request
 use Rattle.afdx_arguments.specs.Requests.{Asks}
 use Rattle.afdx_failures.specs.declared.failure.Failure.{Failure}
 use Rattle.afdx_failures.specs.declared.failure.Failure.TheVariants as failure
-use Rattle.afdx_failures.specs.Telling.{TellsOf, IsMade}
+use Rattle.afdx_failures.specs.Reporting.{ReportsAs, IsMade}
 use Rattle.afdx_serve.specs.Serving.{World, Performs, FailsToPerform, FailsToPerformNetwork, Serves, Fails, RunsOut}
 use Rattle.afdx_serve.proofs.NetworkLemmas.{never_usage, spares}
 
@@ -100,7 +100,7 @@ module _ (arguments : List (List ℕ)) (input : Option (List ℕ)) (old new : Wo
   runs_out (failure.Network e) (request.Network r) made asks h = network_runs_out (failure.Network e) r made asks h
 
   -- where memory ran out for its line, memory is the failure
-  pub reported : (f t : Failure) → TellsOf f t → Fails f arguments input old new → Fails t arguments input old new
+  pub reported : (f t : Failure) → ReportsAs f t → Fails f arguments input old new → Fails t arguments input old new
   reported f t (inl e) h = subst (λ (x : Failure). Fails x arguments input old new) (sym e) h
   reported failure.Usage t (inr e) h = absurd e.0
   reported failure.Read t (inr e) h = absurd e.0

@@ -4,12 +4,12 @@ use Rattle.std.specs.Fmt.{decimal}
 use Rattle.afdx_table.specs.declared.rows.PortRow.{PortRow}
 use Rattle.afdx_table.specs.Link.{Link}
 use Rattle.afdx_table.specs.Content.{Content}
-use Rattle.afdx_load.specs.Sums.{Sums, load_of}
+use Rattle.afdx_load.specs.Load.{Load, load_of}
 use Rattle.afdx_load.specs.Bounds.{backlog, byte_time, high_bound, low_bound}
-use Rattle.afdx_lines.specs.Lines.{ended}
+use Rattle.afdx_wiring.specs.Lines.{ended}
 
 -- the least buffer of a port, in bytes, that holds what may wait and be on the line at once
-abbrev pub IsLeastBuffer : PortRow → Sums → ℕ → Type 0
+abbrev pub IsLeastBuffer : PortRow → Load → ℕ → Type 0
 IsLeastBuffer row s least = (bytes : ℕ) → (backlog s ≤ byte_time row.speed bytes) ↔ (least ≤ bytes)
 
 -- a bound in nanoseconds, which only a priority with links has
@@ -18,13 +18,13 @@ bound_text None = codes "-"
 bound_text (Some bound) = decimal bound
 
 -- what a port's links may ask for, and what that leads to
-abbrev pub load_text : PortRow → Sums → ℕ → List ℕ
+abbrev pub load_text : PortRow → Load → ℕ → List ℕ
 load_text row s least =
     codes "port " ++ decimal row.id ++ codes " rate " ++ decimal s.rate ++ codes " buffer " ++ decimal least
     ++ codes " high " ++ bound_text (high_bound s) ++ codes " low " ++ bound_text (low_bound s)
 
 -- the line of a port; a port without links has none
-abbrev pub IsLineOf : PortRow → Sums → List ℕ → Type 0
+abbrev pub IsLineOf : PortRow → Load → List ℕ → Type 0
 IsLineOf row s line =
     (0 < s.highs + s.lows → (least : ℕ) × IsLeastBuffer row s least × (line ≡ ended (load_text row s least)))
     × ((0 < s.highs + s.lows → ⊥) → line ≡ [])

@@ -4,7 +4,7 @@ use Rattle.std.specs.Option.{option_or}
 use Rattle.afdx_table.specs.declared.rows.PortRow.{PortRow}
 use Rattle.afdx_table.specs.Link.{Link}
 use Rattle.afdx_table.specs.Content.{Content}
-use Rattle.afdx_load.specs.Sums.{load_of}
+use Rattle.afdx_load.specs.Load.{load_of}
 use Rattle.afdx_account.specs.Policing.{parts}
 use Rattle.afdx_load.specs.Accepted.{past}
 use Rattle.afdx_load.specs.declared.fault.Rule.TheVariants.{Rate}

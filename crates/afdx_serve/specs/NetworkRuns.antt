@@ -7,7 +7,7 @@ use Rattle.afdx_wiring.specs.Net.{Network}
 use Rattle.afdx_wiring.specs.Rules.{IsAcceptedNetwork}
 use Rattle.afdx_network.specs.Runs.{Given, IsRunOf}
 use Rattle.afdx_network.specs.Given.{is_open, AreGiven, IsRefusal}
-use Rattle.afdx_network.specs.Way.{Stage, Step, IsDelivered}
+use Rattle.afdx_network.specs.Way.{Stage, Leg, IsDelivered}
 use Rattle.afdx_network.specs.Ways.{IsWayIn}
 use Rattle.afdx_network.specs.declared.fault.NetworkRunFault.TheVariants as run
 use Rattle.afdx_ways.specs.Lines.{Names, name_of, report_of}
@@ -56,7 +56,7 @@ pub record LeadsToNetwork (paths : NetworkPaths) (files : Option Files) (net : N
   pub has_given : HasGiven files paths.input.now (names_of net.layout.switches) given
   pub are_given : AreGiven net given
   pub is_run : IsRunOf net given came left
-  pub delivered : (x : Stage) (steps : List Step) → IsWayIn net is_run.runs x steps → IsDelivered x steps
+  pub delivered : (x : Stage) (legs : List Leg) → IsWayIn net is_run.runs x legs → IsDelivered x legs
 
 -- ---- why they lead to nothing, and the failures before and after
 

@@ -4,13 +4,13 @@ use Rattle.std.specs.Fmt.{decimal}
 use Rattle.afdx_table.specs.declared.rows.PortRow.{PortRow}
 use Rattle.afdx_table.specs.Link.{Link}
 use Rattle.afdx_table.specs.Content.{Content}
-use Rattle.afdx_load.specs.Sums.{Sums, load_of}
+use Rattle.afdx_load.specs.Load.{Load, load_of}
 use Rattle.afdx_account.specs.Policing.{parts}
 use Rattle.afdx_load.specs.Bounds.{high_bound, low_bound}
 use Rattle.afdx_load.specs.Fits.{broken_rules}
 use Rattle.afdx_load.specs.declared.fault.Rule.{Rule}
 use Rattle.afdx_load.specs.declared.fault.Rule.TheVariants.{Rate, Buffer, HighDelay, LowDelay}
-use Rattle.afdx_lines.specs.Lines.{ended}
+use Rattle.afdx_wiring.specs.Lines.{ended}
 use Rattle.afdx_serve.specs.Checks.{IsLeastBuffer, AreTextsOf}
 
 -- a need beside its limit, in one unit
@@ -43,20 +43,20 @@ verdict_text [] = codes " fits"
 verdict_text (rule ∷ rules) = codes " breaks" ++ letters_of (rule ∷ rules)
 
 -- what a port's links need of the line and of the buffer, and what it has, in parts of the line and in bytes
-abbrev pub amounts_text : PortRow → Sums → ℕ → List ℕ
+abbrev pub amounts_text : PortRow → Load → ℕ → List ℕ
 amounts_text row s least =
     codes "port " ++ decimal row.id ++ codes " rate " ++ pair_text (decimal s.rate) parts ++ codes " buffer " ++ pair_text (decimal least) row.buffer
 
 -- their bounds beside the greatest delay, in nanoseconds
-abbrev pub delays_text : PortRow → Sums → List ℕ
+abbrev pub delays_text : PortRow → Load → List ℕ
 delays_text row s = codes " high " ++ delay_text s.highs (high_bound s) row.max_delay ++ codes " low " ++ delay_text s.lows (low_bound s) row.max_delay
 
 -- these, and the rules that are broken
-abbrev pub size_text : PortRow → Sums → ℕ → List ℕ
+abbrev pub size_text : PortRow → Load → ℕ → List ℕ
 size_text row s least = amounts_text row s least ++ delays_text row s ++ verdict_text (broken_rules row s)
 
 -- the line of a port; a port without links has none
-abbrev pub IsSizeOf : PortRow → Sums → List ℕ → Type 0
+abbrev pub IsSizeOf : PortRow → Load → List ℕ → Type 0
 IsSizeOf row s line =
     (0 < s.highs + s.lows → (least : ℕ) × IsLeastBuffer row s least × (line ≡ ended (size_text row s least)))
     × ((0 < s.highs + s.lows → ⊥) → line ≡ [])

@@ -2,9 +2,9 @@
 
 ghost use Rattle.std.specs.Prelude.{◌≡◌, ℕ, ◌++◌, Some, IfOk, OnOk, MatchResult, string_bytes};
 ghost use Rattle.afdx_table.specs.Content.{port_row};
-ghost use Rattle.afdx_load.specs.Sums.{load_of};
+ghost use Rattle.afdx_load.specs.Load.{load_of};
 ghost use Rattle.afdx_load.specs.Accepted.{IsAccepted};
-ghost use Rattle.afdx_lines.specs.Lines.{ended};
+ghost use Rattle.afdx_wiring.specs.Lines.{ended};
 ghost use Rattle.afdx_serve.specs.Checks.{IsLeastBuffer, bound_text, load_text, IsLineOf, AreLinesOf, IsCheckOf};
 ghost use Rattle.afdx_serve.specs.Serving.{world, FailsToAccept, Checks, FailsToCheck};
 

@@ -3,7 +3,7 @@
 ghost use Rattle.std.specs.Prelude.{◌≡◌, ◌≢◌, map, string_bytes, MatchResult};
 ghost use Rattle.std.specs.Io.KnownBytes.{Keeps};
 ghost use Rattle.afdx_failures.specs.declared.failure.Failure.{Failure as Failing};
-ghost use Rattle.afdx_failures.specs.Telling.{line_of, status_of};
+ghost use Rattle.afdx_failures.specs.Reporting.{line_of, status_of};
 ghost use Rattle.afdx_devices.specs.Output.{AppendsPrefix};
 ghost use Rattle.afdx_serve.specs.Serving.{world, Answers, FailsToAnswer, Performs, FailsToPerform, Serves, Fails};
 

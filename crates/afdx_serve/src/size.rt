@@ -2,9 +2,9 @@
 
 ghost use Rattle.std.specs.Prelude.{◌≡◌, ℕ, ◌++◌, [], Some, IfOk, OnOk, MatchResult, string_bytes, if◌then◌else◌};
 ghost use Rattle.afdx_table.specs.Content.{port_row};
-ghost use Rattle.afdx_load.specs.Sums.{load_of};
+ghost use Rattle.afdx_load.specs.Load.{load_of};
 ghost use Rattle.afdx_load.specs.Fits.{is_broken, broken_rules};
-ghost use Rattle.afdx_lines.specs.Lines.{ended};
+ghost use Rattle.afdx_wiring.specs.Lines.{ended};
 ghost use Rattle.afdx_serve.specs.Checks.{IsLeastBuffer};
 ghost use Rattle.afdx_serve.specs.Sizes.{delay_text, letter_of, letters_of, verdict_text, amounts_text, delays_text, size_text, IsSizeOf, AreSizesOf};
 ghost use Rattle.afdx_serve.specs.Serving.{world, Sizes, FailsToSize};

@@ -2,7 +2,7 @@
 use Rattle.std.proofs.Common.{◌≡◌, ℕ, zero, suc, ◌+◌, ◌*◌, ◌<◌, ◌≤◌, ◌^◌, ◌&&◌, nat_lt, Bool, true, false, cond, List, [], ◌∷◌, ◌++◌, length, map, filter, Option, Some, None, refl, arith, subst, drop}
 use Rattle.std.specs.List.{AllByRecursion, flat_map}
 use Rattle.std.proofs.lemmas.List.{length-append, length-map}
-use Rattle.afdx_pcap.specs.Entry.{Entry}
+use Rattle.afdx_pcap.specs.Record.{Record}
 use Rattle.afdx_pcap.specs.declared.format.Format.{Format}
 use Rattle.afdx_pcap.specs.Capture.{Splits, after}
 use Rattle.afdx_pcap.specs.Reading.{AreFirst}
@@ -13,7 +13,7 @@ use Rattle.afdx_table.specs.Content.{Content}
 use Rattle.afdx_port.specs.declared.Settings.{Settings}
 use Rattle.afdx_port.specs.declared.Item.{Item}
 use Rattle.afdx_port.specs.declared.Sent.{Sent}
-use Rattle.afdx_port.specs.Admission.{admit_all, admitted, fits}
+use Rattle.afdx_port.specs.Admission.{admitted}
 use Rattle.afdx_port.specs.Service.{Event, sending, aging, reach, next, others, free_after, serve, service, before, instant, sent_of}
 use Rattle.afdx_isolation.specs.Table.{settings_of}
 use Rattle.afdx_core.specs.declared.step.Row.{Row}
@@ -26,22 +26,24 @@ use Rattle.afdx_session.specs.Output.{rows_of, bytes_at, written}
 use Rattle.afdx_session.specs.Streams.{Stream, captures_of, merged_so_far, sent_up_to}
 use Rattle.afdx_session.specs.Inner.Lanes.{waiting_of}
 use Rattle.afdx_session.specs.Inner.Kept.{AreLanesOf, text_up_to, IsGoing}
+use Rattle.afdx_session.proofs.Joining.{by_stamp_every}
+use Rattle.afdx_session.proofs.Leaving.{length-admit_all}
 use Rattle.afdx_session.proofs.Numbered.{all_append}
-use Rattle.afdx_session.proofs.Settling.{all_prefix, by_stamp_in, arrived, all_arrived}
+use Rattle.afdx_session.proofs.Settling.{all_prefix, arrived, all_arrived}
 
 -- ---- no record is too long
 
-abbrev Small : Entry → Type 0
+abbrev Small : Record → Type 0
 Small r = length r.bytes ≤ 262144
 
 abbrev SmallArrival : Arrival → Type 0
 SmallArrival a = length a.frame.bytes ≤ 262144
 
-splits_small : (f : Format) (last : ℕ) (bytes : List ℕ) (rs : List Entry) (rest : List ℕ) → Splits f last bytes rs rest → AllByRecursion Small rs
+splits_small : (f : Format) (last : ℕ) (bytes : List ℕ) (rs : List Record) (rest : List ℕ) → Splits f last bytes rs rest → AllByRecursion Small rs
 splits_small f last bytes [] rest splits = tt
 splits_small f last bytes (r ∷ rs) rest splits = (splits.0.not_huge, splits_small f r.stamp (after r bytes) rs rest splits.1)
 
-first_small : (bytes : List ℕ) (rs : List Entry) → AreFirst bytes rs → AllByRecursion Small rs
+first_small : (bytes : List ℕ) (rs : List Record) → AreFirst bytes rs → AllByRecursion Small rs
 first_small bytes [] first = tt
 first_small bytes (r ∷ rs) first = let held = first.1 in splits_small held.format 0 (drop 24 bytes) (r ∷ rs) first.0 held.records
 
@@ -77,14 +79,6 @@ length-sent : (es : List Event) → length (sent_of es) ≤ length es
 length-sent [] = omega arith
 length-sent (sending x ∷ es) = let le = length-sent es in omega (arith, le)
 length-sent (aging x ∷ es) = let le = length-sent es in omega (arith, le)
-
-length-admit_all : (s : Settings) (earlier feed : List Item) → length (admit_all s earlier feed) ≤ length earlier + length feed
-length-admit_all s earlier [] = omega arith
-length-admit_all s earlier (x ∷ feed) = by (fits s earlier x) (length-append earlier (x ∷ [])) (λ items. length-admit_all s items feed) where
-  by : (b : Bool) → length (earlier ++ x ∷ []) ≡ length earlier + 1 → ((items : List Item) → length (admit_all s items feed) ≤ length items + length feed)
-      → length (admit_all s (cond b (earlier ++ x ∷ []) earlier) feed) ≤ length earlier + suc (length feed)
-  by true long more = let le = more (earlier ++ x ∷ []) in omega (arith, le, long)
-  by false long more = let le = more earlier in omega (arith, le)
 
 length-copies : (l : Option Link) (port : ℕ) (earlier : List Row) (row : Row) → length (copies_by l port earlier row) ≤ 1
 length-copies None port earlier row = omega arith
@@ -122,7 +116,7 @@ sent_few t given h p =
 
 -- ---- the text
 
-head_long : (r : Entry) → length (head_text r) ≡ 16
+head_long : (r : Record) → length (head_text r) ≡ 16
 unfolding head_text
 head_long r = refl
 
@@ -140,7 +134,7 @@ texts_long given (x ∷ sent) all =
 pub text_bound : {Z : Type 0} (t : Content) (lanes : List (Lane Z)) (s : State) (counts : Tally) (going : IsGoing t lanes s counts) (p : PortRow)
     → length (text_up_to t going.given going.since p) < 2 ^ 128
 text_bound t lanes s counts going p =
-    let all : AllByRecursion SmallArrival (merged_so_far going.streams) = by_stamp_in SmallArrival (arrivals_of (captures_of going.streams)) (arrivals_small lanes going.streams going.lanes_are) in
+    let all : AllByRecursion SmallArrival (merged_so_far going.streams) = by_stamp_every SmallArrival (arrivals_of (captures_of going.streams)) (arrivals_small lanes going.streams going.lanes_are) in
     let given : AllByRecursion SmallArrival going.given = all_prefix SmallArrival going.given (merged (map waiting_of lanes)) (subst (AllByRecursion SmallArrival) going.settling.whole all) in
     let sent = sent_up_to t going.given (Some going.since) p in
     let few = sent_few t going.given going.since p in

@@ -1,16 +1,18 @@
 -- A call that has read on: what is settled goes to the switch, the switch comes to the frontier, and what has left goes out.
-use Rattle.std.proofs.Common.{◌≡◌, ℕ, zero, suc, ◌-◌, ◌<◌, ◌≤◌, Bool, true, false, List, [], ◌∷◌, ◌++◌, length, take, set, get_or, slice_get, Option, Some, ap, sym, ◌∙◌, arith, subst}
+use Rattle.std.proofs.Common.{◌≡◌, ℕ, ◌-◌, ◌<◌, ◌≤◌, Bool, true, false, List, [], ◌++◌, length, take, set, get_or, slice_get, Option, Some, ap, sym, ◌∙◌, subst}
 use Rattle.std.specs.List.{AllByRecursion}
 use Rattle.std.specs.Option.{option_map}
 use Rattle.std.specs.Prelude.{Result, Ok, Err, is_err, OnOk, IfErr}
 use Rattle.std.specs.declared.vec.Vec.{Vec}
 use Rattle.std.specs.Vec.{with_items}
+use Rattle.std.proofs.lemmas.Option.{same_Some, slice_get_within}
 use Rattle.afdx_table.specs.Content.{Content}
 use Rattle.afdx_core.specs.State.{Run, State, after_advance}
 use Rattle.afdx_core.specs.Held.{Keeps}
-use Rattle.afdx_core.specs.Merge.{Arrival, MergedIsAMerge, MergedIsByStampAndPort}
+use Rattle.afdx_core.specs.Merge.{Arrival}
+use Rattle.afdx_core.specs.Inner.Merge.{MergedIsAMerge, MergedIsByStampAndPort}
 use Rattle.afdx_count.specs.Tally.{Tally}
-use Rattle.afdx_pcap.specs.Entry.{Entry}
+use Rattle.afdx_pcap.specs.Record.{Record}
 use Rattle.afdx_pcap.specs.Capture.{IsCapture}
 use Rattle.afdx_pcap.specs.Reading.{IsSound}
 use Rattle.afdx_session.specs.declared.lane.Lane.{Lane}
@@ -23,7 +25,7 @@ use Rattle.afdx_session.specs.Lanes.{IsPieceFault}
 use Rattle.afdx_session.specs.Inner.Lanes.{limit_at, IsStill, Adds, HasReadAll, NoneGoes}
 use Rattle.afdx_session.specs.Inner.Kept.{AreOfTable, come_to, AreOut, Every, IsGoing, HasCome, IsRunning, AreTouched, AreGrown, IsOfSameTable, IsMarked}
 use Rattle.afdx_session.specs.Inner.View.{IsReady, IsOpenAt, AreHalfDone, AreSettledLanes, IsFed, IsEnded, IsNotFed, IsNotEnded, intakes_of}
-use Rattle.afdx_session.proofs.Going.{some_same, reads_on}
+use Rattle.afdx_session.proofs.Going.{reads_on}
 use Rattle.afdx_session.proofs.Given.{comes_on, no_going_back}
 use Rattle.afdx_session.proofs.Numbered.{all_slice_get}
 use Rattle.afdx_session.proofs.Shown.{half_ports}
@@ -110,16 +112,11 @@ touched_table {Z = Z} old new touched same of =
     subst (λ (c : Content). AreOfTable c new.lanes.items) (sym same.table)
     (still_of_table old.switch.run.table old.lanes.items new.lanes.items (touched_ports old.lanes.items new.lanes.items touched) of)
 
-place_in : {X : Type 0} (xs : List X) (k : ℕ) (x : X) → slice_get xs k ≡ Some x → k < length xs
-place_in [] k x at = absurd cc
-place_in (y ∷ xs) zero x at = omega arith
-place_in (y ∷ xs) (suc k) x at = let lt = place_in xs k x at in omega (arith, lt)
-
 -- the lane that may be fed or closed, as the code reads it
 open_at : {Z : Type 0} (lanes : List (Lane Z)) (port k : ℕ) (d : Lane Z) → IsOpenAt lanes port k → (slice_get lanes k ≡ Some (get_or lanes k d)) × ((get_or lanes k d).closed ≡ false)
-open_at {Z} lanes port k d is = (here, ap (λ (l : Lane Z). l.closed) (some_same (get_or lanes k d) is.lane (sym here ∙ is.at)) ∙ is.still_open) where
+open_at {Z} lanes port k d is = (here, ap (λ (l : Lane Z). l.closed) (same_Some (get_or lanes k d) is.lane (sym here ∙ is.at)) ∙ is.still_open) where
   here : slice_get lanes k ≡ Some (get_or lanes k d)
-  here = at_index lanes k d (place_in lanes k is.lane is.at)
+  here = at_index lanes k d (slice_get_within lanes k is.lane is.at)
 
 pub reads_open : {Z : Type 0} (lanes : List (Lane Z)) (port k : ℕ) (old d : Lane Z) → IsOpenAt lanes port k → old ≡ get_or lanes k d → (slice_get lanes k ≡ Some old) × (old.closed ≡ false)
 reads_open {Z = Z} lanes port k old d is read = subst (λ (l : Lane Z). (slice_get lanes k ≡ Some l) × (l.closed ≡ false)) (sym read) (open_at lanes port k d is)
@@ -140,7 +137,8 @@ half_ended lanes k old new at still undone bytes = half_at lanes k old new at (e
 pub half_of_table : {Z : Type 0} (t : Content) (old new : List (Lane Z)) → AreHalfDone old new → AreOfTable t old → AreOfTable t new
 half_of_table t old new half of = still_of_table t old new (half_ports old new half) of
 
-pub lane_reads_on : {Z : Type 0} → MergedIsAMerge → MergedIsByStampAndPort → (begun : Bool) (m : Machine Z) (k : ℕ) (old new : Lane Z) (more : List Entry) → AreOfTable m.switch.run.table m.lanes.items
+pub lane_reads_on : {Z : Type 0} → MergedIsAMerge → MergedIsByStampAndPort → (begun : Bool) (m : Machine Z) (k : ℕ) (old new : Lane Z) (more : List Record)
+    → AreOfTable m.switch.run.table m.lanes.items
     → IsReady m begun
     → slice_get m.lanes.items k ≡ Some old → old.closed ≡ false → IsStill old new → Adds old new more → IsGoing m.switch.run.table (set m.lanes.items k new) m.switch m.counts
 lane_reads_on merge sorted begun m k old new more of ready at still_open still adds =
@@ -197,7 +195,7 @@ piece_came begun lanes b c k old new piece all at was_open still bytes still_ope
     is_fed begun lanes b c k old new piece all at marked still bytes (still_open ∙ sym (sym marked.closed ∙ was_open)) (subst IsSoundSoFar bytes (sound_so_far new read still_open)) touched settled
 
 -- it ended, and the call has answered Ok
-pub is_ended : {Z : Type 0} (begun : Bool) (lanes b c : List (Lane Z)) (k : ℕ) (old new : Lane Z) (records : List Entry) → AllByRecursion (IsMarked begun) lanes → slice_get lanes k ≡ Some old
+pub is_ended : {Z : Type 0} (begun : Bool) (lanes b c : List (Lane Z)) (k : ℕ) (old new : Lane Z) (records : List Record) → AllByRecursion (IsMarked begun) lanes → slice_get lanes k ≡ Some old
     → IsMarked begun old → IsStill old new → new.reader.bytes ≡ old.reader.bytes
     → new.reader.closed ≡ true → IsCapture old.reader.bytes records → AreTouched (set lanes k new) b → AreSettledLanes b c → IsEnded lanes c k
 is_ended begun lanes b c k old new records all at marked still bytes closed capture touched settled = record {

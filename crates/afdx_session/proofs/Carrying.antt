@@ -2,17 +2,18 @@
 use Rattle.std.proofs.Common.{◌≡◌, ℕ, zero, suc, ◌+◌, ◌-◌, ◌<◌, ◌≤◌, nat_le, Bool, true, false, cond, List, [], ◌∷◌, length, length-set, set, get_or, slice_get, Option, Some, None, inl, inr, refl}
 use Rattle.std.proofs.Common.{ap, sym, ◌∙◌, arith, subst}
 use Rattle.std.specs.List.{AllByRecursion}
-use Rattle.std.proofs.lemmas.Bool.{cases_Bool, cases_lt}
-use Rattle.std.proofs.lemmas.Bool.Decides.{nat_tests}
-use Rattle.afdx_pcap.specs.Entry.{Entry}
+use Rattle.std.proofs.lemmas.Bool.{cases_Bool, cases_lt, le-leb, lt-leb, both_ways}
+use Rattle.afdx_pcap.specs.Record.{Record}
 use Rattle.afdx_pcap.specs.Reading.{IsWrong}
 use Rattle.afdx_pcap.specs.Capture.{IsCapture}
 use Rattle.afdx_pcap.specs.Fault.{IsFault}
 use Rattle.afdx_pcap.specs.declared.fault.PcapFault.{PcapFault}
 use Rattle.afdx_table.specs.Content.{Content}
 use Rattle.std.specs.Vec.{with_items}
+use Rattle.std.proofs.lemmas.Option.{same_Some, slice_get_within}
 use Rattle.afdx_core.specs.State.{State}
-use Rattle.afdx_core.specs.Merge.{Arrival, MergedIsAMerge, MergedIsByStampAndPort}
+use Rattle.afdx_core.specs.Merge.{Arrival}
+use Rattle.afdx_core.specs.Inner.Merge.{MergedIsAMerge, MergedIsByStampAndPort}
 use Rattle.afdx_session.specs.declared.lane.Lane.{Lane}
 use Rattle.afdx_session.specs.declared.machine.Machine.{Machine}
 use Rattle.afdx_session.specs.declared.plan.RunFault.{RunFault}
@@ -25,13 +26,14 @@ use Rattle.afdx_session.specs.Inner.Lent.{AreSound, IsOver, texts_over, left_of,
 use Rattle.afdx_session.specs.Inner.Kept.{AreOfTable, AreOut, Every, IsGoing, AreTouched, IsGrown, AreGrown, IsOfSameTable}
 use Rattle.afdx_session.specs.Inner.View.{HasGone, IsRound}
 use Rattle.afdx_session.proofs.Firsts.{get-map}
+use Rattle.afdx_session.proofs.Given.{lane_at}
 use Rattle.afdx_session.proofs.Gone.{at_index, grown_length, drained_going}
-use Rattle.afdx_session.proofs.Going.{some_same, reads_on}
+use Rattle.afdx_session.proofs.Going.{reads_on}
 use Rattle.afdx_session.proofs.Intakes.{still_of_table, touched_of}
 use Rattle.afdx_session.proofs.Settles.{back_items}
 use Rattle.afdx_session.proofs.Calls.{handed_stays, handed_same, drained_back, touched_table}
-use Rattle.afdx_session.proofs.Lending.{not_both, draws_over, drawn_adds, ports_stay}
-use Rattle.afdx_session.proofs.Numbered.{all_slice_get}
+use Rattle.afdx_session.proofs.Lending.{draws_over, drawn_adds, ports_stay}
+use Rattle.afdx_session.proofs.Numbered.{all_slice_get, set_here, rest_same}
 use Rattle.afdx_session.proofs.ReadUp.{read_same, all_set}
 
 -- ---- the limit
@@ -46,7 +48,7 @@ waits_for {Z} l t over head = elim (cases_Bool l.ended) [
   | inl ended ↦ absurd (none (ap head_of (sym (over.read ended).0) ∙ head))
   | inr still_open ↦
       let one = over.head still_open in
-      record { still_open = still_open; last = one.2 ∙ some_same one.0.stamp t (ap head_of (sym one.1) ∙ head) }
+      record { still_open = still_open; last = one.2 ∙ same_Some one.0.stamp t (ap head_of (sym one.1) ∙ head) }
 ] where
   none : None ≡ Some t → ⊥
   none e = absurd cc
@@ -54,18 +56,12 @@ waits_for {Z} l t over head = elim (cases_Bool l.ended) [
 head_is : {Z : Type 0} (l : Lane Z) → IsOver l → l.ended ≡ false → head_stamp (Some l) ≡ Some l.last
 head_is l over still_open = let one = over.head still_open in ap head_of one.1 ∙ ap Some (sym one.2)
 
-yes : (a b : ℕ) → a ≤ b → nat_le a b ≡ true
-yes a b le = grind (arith, nat_tests)
-
-no : (a b : ℕ) → b < a → nat_le a b ≡ false
-no a b lt = grind (arith, nat_tests)
-
 -- a place before all that others have come to is the first
 first_of_two : (p q : ℕ × ℕ) (o : Option (ℕ × ℕ)) → p.0 ≤ q.0 → first_place p o ≡ p → first_place p (Some (first_place q o)) ≡ p
-first_of_two p q None le same = ap (λ b. cond b p q) (yes p.0 q.0 le)
+first_of_two p q None le same = ap (λ b. cond b p q) (le-leb p.0 q.0 le)
 first_of_two p q (Some m) le same = by (nat_le q.0 m.0) where
   by : (b : Bool) → cond (nat_le p.0 (cond b q m).0) p (cond b q m) ≡ p
-  by true = ap (λ b. cond b p q) (yes p.0 q.0 le)
+  by true = ap (λ b. cond b p q) (le-leb p.0 q.0 le)
   by false = same
 
 first_stays : {Z : Type 0} (p : ℕ × ℕ) (lanes : List (Lane Z)) → AllByRecursion IsOver lanes → ((j u : ℕ) → j < length lanes → head_stamp (slice_get lanes j) ≡ Some u → p.0 ≤ u)
@@ -89,7 +85,7 @@ limit_from {Z} l t (m ∷ ls) zero all is here sooner former =
     ap (λ b. cond b (limit_at ls) (Some (first_place (m.last, m.port) (limit_at ls)))) w.still_open
     ∙ ap (λ n. Some (first_place (n, m.port) (limit_at ls))) w.last
     ∙ ap Some (first_stays (t, m.port) ls all.1 (λ i u lt head. sooner (suc i) u (omega (arith, lt)) head))
-    ∙ ap (λ (x : Lane Z). Some (t, x.port)) (some_same m l is)
+    ∙ ap (λ (x : Lane Z). Some (t, x.port)) (same_Some m l is)
 limit_from {Z} l t (m ∷ ls) (suc j) all is here sooner former =
     let rest = limit_from l t ls j all.1 is here (λ i u lt head. sooner (suc i) u (omega (arith, lt)) head) (λ i u lt head. former (suc i) u (omega (arith, lt)) head) in
     elim (cases_Bool m.ended) [
@@ -97,7 +93,7 @@ limit_from {Z} l t (m ∷ ls) (suc j) all is here sooner former =
       | inr still_open ↦
           ap (λ b. cond b (limit_at ls) (Some (first_place (m.last, m.port) (limit_at ls)))) still_open
           ∙ ap (λ o. Some (first_place (m.last, m.port) o)) rest
-          ∙ ap (λ b. Some (cond b (m.last, m.port) (t, l.port))) (no m.last t (former 0 m.last (omega arith) (head_is m all.0 still_open)))
+          ∙ ap (λ b. Some (cond b (m.last, m.port) (t, l.port))) (lt-leb m.last t (former 0 m.last (omega arith) (head_is m all.0 still_open)))
     ]
 
 -- the first record that waits lies at the limit
@@ -125,11 +121,6 @@ all_ended {Z} (l ∷ lanes) over none = (
 ) where
   differ : None ≡ Some l.last → ⊥
   differ e = absurd cc
-
-lane_at : {Z : Type 0} (ls : List (Lane Z)) (k : ℕ) → k < length ls → (l : Lane Z) × (slice_get ls k ≡ Some l)
-lane_at [] k lt = absurd (omega (arith, lt))
-lane_at (l ∷ ls) zero lt = (l, refl)
-lane_at (l ∷ ls) (suc k) lt = lane_at ls k (omega (arith, lt))
 
 pub none_left : {Z : Type 0} (lanes : List (Lane Z)) (first : Option (ℕ × ℕ)) → AllByRecursion IsOver lanes → NoneGoes (limit_at lanes) lanes first
     → AllByRecursion (λ (l : Lane Z). l.ended ≡ true) lanes
@@ -159,7 +150,7 @@ texts_set [] k old new at port bytes = absurd cc
 texts_set {Z} (l ∷ lanes) zero old new at port bytes =
     ap (λ m. (m, new.reader.bytes) ∷ texts_over lanes) port
     ∙ ap (λ xs. (old.port, xs) ∷ texts_over lanes) bytes
-    ∙ ap (λ (x : Lane Z). (x.port, x.reader.bytes) ∷ texts_over lanes) (sym (some_same l old at))
+    ∙ ap (λ (x : Lane Z). (x.port, x.reader.bytes) ∷ texts_over lanes) (sym (same_Some l old at))
 texts_set (l ∷ lanes) (suc k) old new at port bytes = ap (λ ts. (l.port, l.reader.bytes) ∷ ts) (texts_set lanes k old new at port bytes)
 
 pub left_touched : {Z : Type 0} (old new : List (Lane Z)) → AreTouched old new → left_in new ≡ left_in old
@@ -173,7 +164,7 @@ left_touched (l ∷ old) (n ∷ new) touched =
 
 left_set : {Z : Type 0} (lanes : List (Lane Z)) (k : ℕ) (old new : Lane Z) → slice_get lanes k ≡ Some old → left_of new < left_of old → left_in (set lanes k new) < left_in lanes
 left_set [] k old new at lt = absurd cc
-left_set {Z} (l ∷ lanes) zero old new at lt = let same = ap (λ (x : Lane Z). left_of x) (some_same l old at) in omega (arith, lt, same)
+left_set {Z} (l ∷ lanes) zero old new at lt = let same = ap (λ (x : Lane Z). left_of x) (same_Some l old at) in omega (arith, lt, same)
 left_set (l ∷ lanes) (suc k) old new at lt = let more = left_set lanes k old new at lt in omega (arith, more)
 
 left_drawn : {Z : Type 0} (found : Bool) (old new : Lane Z) → old.reader.closed ≡ true → old.ended ≡ false → IsReadOn old new → HasDrawn found old new → left_of new < left_of old
@@ -192,21 +183,11 @@ set_twice [] k x y = refl
 set_twice (z ∷ xs) zero x y = refl
 set_twice (z ∷ xs) (suc k) x y = ap (λ ys. z ∷ ys) (set_twice xs k x y)
 
-set_here : {X : Type 0} (xs : List X) (k : ℕ) (x y : X) → slice_get xs k ≡ Some x → slice_get (set xs k y) k ≡ Some y
-set_here [] k x y at = absurd cc
-set_here (z ∷ xs) zero x y at = refl
-set_here (z ∷ xs) (suc k) x y at = set_here xs k x y at
-
 -- ---- one record
-
-place_in : {X : Type 0} (xs : List X) (k : ℕ) (x : X) → slice_get xs k ≡ Some x → k < length xs
-place_in [] k x at = absurd cc
-place_in (y ∷ xs) zero x at = omega arith
-place_in (y ∷ xs) (suc k) x at = let lt = place_in xs k x at in omega (arith, lt)
 
 pub gone_within : {Z : Type 0} (old new : List (Lane Z)) (place : ℕ) → HasGone old new place → place < length new
 gone_within {Z} old new place gone =
-    let lt = place_in old place gone.lane gone.at in
+    let lt = slice_get_within old place gone.lane gone.at in
     let long = ap (λ (ls : List (Lane Z)). length ls) gone.lanes ∙ length-set old place (with_waiting gone.rest gone.lane) in
     omega (arith, lt, long)
 
@@ -218,9 +199,6 @@ pub record IsGone {Z : Type 0} (lanes : List (Lane Z)) (place : ℕ) (l : Lane Z
   pub still_open : l.ended ≡ false
   pub none : l.waiting.items ≡ []
 
-rest_none : (frame : Entry) (rest : List Entry) (one : Entry) → frame ∷ rest ≡ one ∷ [] → rest ≡ []
-rest_none frame rest one e = cc
-
 -- the lane there, as the code reads it
 pub gone_at : {Z : Type 0} (old new : List (Lane Z)) (place : ℕ) (l d : Lane Z) → HasGone old new place → l ≡ get_or new place d → slice_get new place ≡ Some l
 gone_at {Z} old new place l d gone is = at_index new place d (gone_within old new place gone) ∙ ap Some (sym is)
@@ -231,7 +209,7 @@ gone_lane {Z} old new place l over gone at = subst (IsGone new place) (sym same)
   closed = was.closed;
   taken = was.taken;
   still_open = waits.still_open;
-  none = let one = was.head waits.still_open in rest_none gone.frame gone.rest.items one.0 (sym gone.head ∙ one.1);
+  none = let one = was.head waits.still_open in rest_same (sym gone.head ∙ one.1);
 }) where
   was : IsOver gone.lane
   was = all_slice_get IsOver old place gone.lane over gone.at
@@ -240,7 +218,7 @@ gone_lane {Z} old new place l over gone at = subst (IsGone new place) (sym same)
   waits = waits_for gone.lane gone.frame.stamp was (ap head_of gone.head)
 
   same : l ≡ with_waiting gone.rest gone.lane
-  same = some_same l (with_waiting gone.rest gone.lane) (sym at ∙ ap (λ (ls : List (Lane Z)). slice_get ls place) gone.lanes ∙ set_here old place gone.lane (with_waiting gone.rest gone.lane) gone.at)
+  same = same_Some l (with_waiting gone.rest gone.lane) (sym at ∙ ap (λ (ls : List (Lane Z)). slice_get ls place) gone.lanes ∙ set_here old place gone.lane (with_waiting gone.rest gone.lane) gone.at)
 
 -- it went, and the next one was read
 pub carries_one : {Z : Type 0} → MergedIsAMerge → MergedIsByStampAndPort → (found : Bool) (old mid next : Machine Z) (place : ℕ) (l new : Lane Z) → IsCarrying old
@@ -264,7 +242,7 @@ carries_one {Z} merge sorted found old mid next place l new carrying touched sam
       };
       texts = ap (λ ls. texts_over ls) lanes ∙ texts_set mid.lanes.items place l new at on.port on.bytes ∙ texts_touched old.lanes.items mid.lanes.items touched;
       fewer = λ more. omega (arith, fewer, was, now);
-      all = λ none. absurd (not_both true refl none);
+      all = λ none. absurd (both_ways true none refl);
     } where
       has_gone : HasGone old.lanes.items mid.lanes.items place
       has_gone = round.gone place refl
@@ -286,7 +264,7 @@ carries_none {Z} old next carrying same round = record {
     over = over;
   };
   texts = ap (λ ls. texts_over ls) lanes;
-  fewer = λ more. absurd (not_both true refl (sym more));
+  fewer = λ more. absurd (both_ways true (sym more) refl);
   all = λ is. let none = round.none refl in none_left next.lanes.items none.0 over none.1;
 } where
   lanes : next.lanes.items ≡ old.lanes.items
@@ -378,7 +356,7 @@ hands_none m carrying = record { carrying = carrying; same = same_table m.switch
 -- ---- a fault
 
 -- none of the captures has one
-pub no_one_fault : ((bytes : List ℕ) (rs : List Entry) (e : PcapFault) → IsCapture bytes rs → IsFault bytes e → ⊥) → (texts : List Text) (port : ℕ) (why : PcapFault) → AreSound texts
+pub no_one_fault : ((bytes : List ℕ) (rs : List Record) (e : PcapFault) → IsCapture bytes rs → IsFault bytes e → ⊥) → (texts : List Text) (port : ℕ) (why : PcapFault) → AreSound texts
     → IsOneFault texts (run.Capture port why) → ⊥
 no_one_fault law texts port why sound one =
     let capture : IsSound (port, one.1) = all_slice_get IsSound texts one.0 (port, one.1) sound one.2 in law one.1 capture.0 why capture.1 one.3

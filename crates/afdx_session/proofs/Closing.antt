@@ -1,8 +1,9 @@
 -- Captures that have not ended end, one lane after the other.
 use Rattle.std.proofs.Common.{◌≡◌, ℕ, zero, suc, ◌+◌, ◌≤◌, Bool, true, false, List, [], ◌∷◌, length, set, slice_get, Some, None, ap, sym, ◌∙◌, subst}
 use Rattle.std.specs.List.{AllByRecursion}
-use Rattle.afdx_pcap.specs.Entry.{Entry}
-use Rattle.afdx_core.specs.Merge.{MergedIsAMerge, MergedIsByStampAndPort}
+use Rattle.std.proofs.lemmas.Option.{same_Some}
+use Rattle.afdx_pcap.specs.Record.{Record}
+use Rattle.afdx_core.specs.Inner.Merge.{MergedIsAMerge, MergedIsByStampAndPort}
 use Rattle.afdx_session.specs.declared.lane.Lane.{Lane}
 use Rattle.afdx_session.specs.declared.machine.Machine.{Machine}
 use Rattle.afdx_session.specs.declared.plan.RunFault.{RunFault}
@@ -11,7 +12,7 @@ use Rattle.afdx_session.specs.Streams.{Stream}
 use Rattle.afdx_session.specs.Inner.Lanes.{IsStill, Adds, HasReadAll}
 use Rattle.afdx_session.specs.Inner.Kept.{AreLanesOf, AreOfTable, IsGoing, IsMarked}
 use Rattle.afdx_session.specs.Inner.View.{IsReady, AreHalfDone, AreEndedLanes, texts_at}
-use Rattle.afdx_session.proofs.Going.{some_same, reads_on}
+use Rattle.afdx_session.proofs.Going.{reads_on}
 use Rattle.afdx_session.proofs.Intakes.{still_of_table, ended_half}
 use Rattle.afdx_session.proofs.Shown.{half_ports}
 use Rattle.afdx_session.proofs.Ending.{EndsUpTo, ends_none, lane_stands, ends_more, ends_over, ends_half, ends_half_more, ends_all, TakenAreTheCapture, end_fault}
@@ -28,7 +29,7 @@ closes_none start going = record { ends = ends_none start.lanes.items; going = g
 pub no_fault : {Z : Type 0} (lanes : List (Lane Z)) (streams : List Stream) (k : ℕ) (l : Lane Z) → AreLanesOf lanes streams → slice_get lanes k ≡ Some l → l.reader.fault ≡ None
 no_fault [] streams k l are at = absurd cc
 no_fault (m ∷ lanes) [] k l are at = absurd are
-no_fault {Z = Z} (m ∷ lanes) (s ∷ streams) zero l are at = subst (λ (x : Lane Z). x.reader.fault ≡ None) (some_same m l at) are.0.read.no_fault
+no_fault {Z = Z} (m ∷ lanes) (s ∷ streams) zero l are at = subst (λ (x : Lane Z). x.reader.fault ≡ None) (same_Some m l at) are.0.read.no_fault
 no_fault (m ∷ lanes) (s ∷ streams) (suc k) l are at = no_fault lanes streams k l are.1 at
 
 -- the next lane's marks are those of its reader
@@ -47,7 +48,7 @@ read_before begun start now n l ready closes at = lane_stands HasReadAll n start
 
 set_same : {X : Type 0} (xs : List X) (k : ℕ) (x : X) → slice_get xs k ≡ Some x → set xs k x ≡ xs
 set_same [] k x at = absurd cc
-set_same (y ∷ xs) zero x at = ap (λ z. z ∷ xs) (sym (some_same y x at))
+set_same (y ∷ xs) zero x at = ap (λ z. z ∷ xs) (sym (same_Some y x at))
 set_same (y ∷ xs) (suc k) x at = ap (λ zs. y ∷ zs) (set_same xs k x at)
 
 -- a capture that had ended before
@@ -63,7 +64,7 @@ of_now start now n of was =
     still_of_table start.switch.run.table start.lanes.items now (half_ports start.lanes.items now (ends_half n start.lanes.items now was.ends)) of
 
 -- one that ends now
-pub closes_one : {Z : Type 0} → MergedIsAMerge → MergedIsByStampAndPort → (begun : Bool) (start : Machine Z) (now : List (Lane Z)) (n : ℕ) (old new : Lane Z) (more : List Entry)
+pub closes_one : {Z : Type 0} → MergedIsAMerge → MergedIsByStampAndPort → (begun : Bool) (start : Machine Z) (now : List (Lane Z)) (n : ℕ) (old new : Lane Z) (more : List Record)
     → AreOfTable start.switch.run.table start.lanes.items
     → IsReady start begun → slice_get now n ≡ Some old → old.closed ≡ false → IsStill old new → new.undone ≡ old.undone → new.reader.bytes ≡ old.reader.bytes → new.reader.closed ≡ true
     → Adds old new more → HasReadAll new

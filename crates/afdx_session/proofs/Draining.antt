@@ -4,8 +4,8 @@ use Rattle.std.proofs.Common.{subst, get_or-set_same}
 use Rattle.std.specs.List.{position_or_len}
 use Rattle.std.proofs.Math.Seq.{drop-cons}
 use Rattle.std.proofs.lemmas.Bool.{ltb-true}
-use Rattle.std.proofs.lemmas.Option.{slice_get_within, get_or_from_slice_get}
-use Rattle.afdx_pcap.specs.Entry.{Entry}
+use Rattle.std.proofs.lemmas.Option.{slice_get_within, get_or_from_slice_get, same_Some}
+use Rattle.afdx_pcap.specs.Record.{Record}
 use Rattle.afdx_table.specs.declared.rows.PortRow.{PortRow}
 use Rattle.afdx_port.specs.declared.Sent.{Sent}
 use Rattle.afdx_core.specs.State.{Run, State, sent_in, place_of, next_at, next_by, out_of, after_handing}
@@ -25,16 +25,16 @@ drop_none (y ∷ xs) zero is = absurd cc
 drop_none (y ∷ xs) (suc n) is = drop_none xs n is
 
 -- a record that is handed out has the bytes of the frame that is held
-handed_bytes : (held : Option (Option Entry)) (s : Sent) (out : Entry) → out_of held s ≡ Some out → (frame : Entry) × (held ≡ Some (Some frame))
+handed_bytes : (held : Option (Option Record)) (s : Sent) (out : Record) → out_of held s ≡ Some out → (frame : Record) × (held ≡ Some (Some frame))
     × (out ≡ record { stamp = s.end; original = length frame.bytes; bytes = frame.bytes })
 handed_bytes (Some (Some frame)) s out is = (frame, refl, same is) where
-  same : {e : Entry} → Some e ≡ Some out → out ≡ e
+  same : {e : Record} → Some e ≡ Some out → out ≡ e
   same e = cc
 handed_bytes (Some None) s out is = absurd cc
 handed_bytes None s out is = absurd cc
 
 written_is : (arrivals : List Arrival) (s : Sent) (bytes : List ℕ) → bytes_at arrivals s.item.number ≡ bytes → written arrivals s ≡ record { stamp = s.end; original = length bytes; bytes = bytes }
-written_is arrivals s bytes is = let made : List ℕ → Entry = λ b. record { stamp = s.end; original = length b; bytes = b } in ap made is
+written_is arrivals s bytes is = let made : List ℕ → Record = λ b. record { stamp = s.end; original = length b; bytes = b } in ap made is
 
 -- what is left before a frame is handed out, and after it
 pub left_before : (r : Run) (port place : ℕ) (s : Sent) → place_of r port ≡ Some place → next_at r place ≡ Some s
@@ -50,9 +50,7 @@ left_after r port place at lt =
       plus_one n = omega arith
 
 passed_within : (b : Bool) (n most k : ℕ) → nat_lt n most ≡ b → cond b (Some n) None ≡ Some k → k < most
-passed_within true n most k lt is = subst (λ i. i < most) (same is) (ltb-true n most lt) where
-  same : Some n ≡ Some k → n ≡ k
-  same e = cc
+passed_within true n most k lt is = subst (λ i. i < most) (same_Some n k is) (ltb-true n most lt)
 passed_within false n most k lt is = absurd cc
 
 pub place_within : (r : Run) (port place : ℕ) → place_of r port ≡ Some place → place < length r.table.ports
@@ -60,7 +58,7 @@ place_within r port place at =
     let p = λ (row : PortRow). row.id == port in
     passed_within (nat_lt (position_or_len p r.table.ports) (length r.table.ports)) (position_or_len p r.table.ports) (length r.table.ports) place refl at
 
-pub written_out : (arrivals : List Arrival) (now new : State) (port place : ℕ) (out : Entry) (s : Sent) → length arrivals ≡ length now.run.rows → HasBytesOf arrivals now
+pub written_out : (arrivals : List Arrival) (now new : State) (port place : ℕ) (out : Record) (s : Sent) → length arrivals ≡ length now.run.rows → HasBytesOf arrivals now
     → IsHanded now new port out place s → written arrivals s ≡ out
 written_out arrivals now new port place out s len has handed =
     let found = handed_bytes (slice_get now.frames s.item.number) s out handed.record_is in
@@ -68,7 +66,7 @@ written_out arrivals now new port place out s len has handed =
     all_slice_get (λ (x : Sent). x.item.number < length now.run.rows) _ _ s (sent_numbered now.run (slice_get now.run.table.ports place)) handed.next in
     written_is arrivals s found.0.bytes (has s.item.number found.0 (omega (arith, len, within)) found.1) ∙ sym found.2
 
-pub fewer_left : (port : ℕ) (now new : State) (out : Entry) (place : ℕ) (s : Sent) → length now.run.handed ≡ length now.run.table.ports → IsHanded now new port out place s
+pub fewer_left : (port : ℕ) (now new : State) (out : Record) (place : ℕ) (s : Sent) → length now.run.handed ≡ length now.run.table.ports → IsHanded now new port out place s
     → length (left_at new.run (place_of new.run port)) < length (left_at now.run (place_of now.run port))
 fewer_left port now new out place s len handed =
     let within : place < length now.run.handed = omega (arith, len, place_within now.run port place handed.at) in

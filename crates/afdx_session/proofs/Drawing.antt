@@ -4,7 +4,7 @@ use Rattle.std.proofs.Common.{subst, get_or-set_same, get_or-set_other}
 use Rattle.std.specs.List.{flat_map, position}
 use Rattle.std.proofs.lemmas.List.{length-set, append-nil, map-append}
 use Rattle.std.proofs.lemmas.Grind.{flat_map-append}
-use Rattle.afdx_pcap.specs.Entry.{Entry}
+use Rattle.afdx_pcap.specs.Record.{Record}
 use Rattle.afdx_pcap.specs.Text.{header_text, record_text, capture_text}
 use Rattle.afdx_table.specs.declared.rows.PortRow.{PortRow}
 use Rattle.afdx_table.specs.Content.{Content}
@@ -12,7 +12,7 @@ use Rattle.afdx_port.specs.declared.Sent.{Sent}
 use Rattle.afdx_port.specs.Inner.Order.{ReachesInOrder}
 use Rattle.afdx_port.specs.Inner.Course.{EventsAreInParts}
 use Rattle.afdx_core.specs.declared.step.Row.{Row}
-use Rattle.afdx_core.specs.Handling.{Handling}
+use Rattle.afdx_core.specs.Step.{Step}
 use Rattle.afdx_core.specs.Rows.{row_of}
 use Rattle.afdx_core.specs.State.{Run, State, sent_in, place_of, next_by, after_advance, after_handing}
 use Rattle.afdx_core.specs.Held.{Keeps, IsTaken, IsHanded}
@@ -29,6 +29,7 @@ use Rattle.afdx_session.proofs.Growing.{sent_later}
 use Rattle.afdx_session.proofs.Showing.{sent_is}
 use Rattle.std.proofs.lemmas.List.{length-append}
 use Rattle.std.proofs.lemmas.List.{length-map}
+use Rattle.std.proofs.lemmas.Option.{same_Some}
 
 -- ---- the calls of a switch
 
@@ -36,7 +37,7 @@ long_rows : (t : Content) (given : List Arrival) (s : State) → IsGiven t given
 long_rows t given s is = ap length is.rows ∙ length-map given (λ (b : Arrival). row_of t b.port b.frame)
 
 -- one more arrival is given
-pub gives : (t : Content) (given : List Arrival) (a : Arrival) (old new : State) (step : Handling) → IsGiven t given old → IsTaken old new (row_of old.run.table a.port a.frame) a.frame step
+pub gives : (t : Content) (given : List Arrival) (a : Arrival) (old new : State) (step : Step) → IsGiven t given old → IsTaken old new (row_of old.run.table a.port a.frame) a.frame step
     → IsGiven t (given ++ a ∷ []) new
 gives t given a old new step is taken = record {
   table = ap (λ (r : Run). r.table) taken.run ∙ is.table;
@@ -68,17 +69,14 @@ draws_start given port place start before = record {
   rest = refl;
 }
 
-same_place : (a b : ℕ) → Some a ≡ Some b → a ≡ b
-same_place a b e = cc
-
-pub draws_on : (given : List Arrival) (port place : ℕ) (start now new : State) (before text more : List ℕ) (out : Entry) (k : ℕ) (s : Sent) → place_of start.run port ≡ Some place
+pub draws_on : (given : List Arrival) (port place : ℕ) (start now new : State) (before text more : List ℕ) (out : Record) (k : ℕ) (s : Sent) → place_of start.run port ≡ Some place
     → length start.run.handed ≡ length start.run.table.ports
     → length given ≡ length start.run.rows → HasBytesOf given start → Draws given port place start now before text → IsHanded now new port out k s → more ≡ text ++ record_text out
     → Draws given port place start new before more
 draws_on given port place start now new before text more out k s at len long has draws handed is =
     let d = draws.drained in
     let place_now : place_of now.run port ≡ Some place = ap (λ (c : Content). position (λ (p : PortRow). p.id == port) c.ports) d.table ∙ at in
-    let same : k ≡ place = same_place k place (sym handed.at ∙ place_now) in
+    let same : k ≡ place = same_Some k place (sym handed.at ∙ place_now) in
     let own : IsHanded now new port out place s = subst (λ n. IsHanded now new port out n s) same handed in
     let same_length : length now.run.handed ≡ length now.run.table.ports = d.handed ∙ len ∙ ap (λ (c : Content). length c.ports) (sym d.table) in
     let within : place < length now.run.handed = omega (arith, same_length, place_within now.run port place place_now) in
@@ -112,7 +110,7 @@ draws_on given port place start now new before text more out k s at len long has
       rest =
           draws.rest
           ∙ ap (λ left. text ++ texts left) left_now
-          ∙ ap (λ (e : Entry). text ++ (record_text e ++ texts after)) (written_out given now new port place out s (long ∙ sym (ap length d.rows)) (d.frames given long has) own)
+          ∙ ap (λ (e : Record). text ++ (record_text e ++ texts after)) (written_out given now new port place out s (long ∙ sym (ap length d.rows)) (d.frames given long has) own)
           ∙ sym (append_assoc text (record_text out) (texts after))
           ∙ ap (λ t. t ++ texts after) (sym is)
           ∙ ap (λ left. more ++ texts left) (sym left_new);
@@ -124,7 +122,7 @@ pub sent-prefix : (xs ys : List Sent) → drop (length xs) (xs ++ ys) ≡ ys
 sent-prefix [] ys = refl
 sent-prefix (x ∷ xs) ys = sent-prefix xs ys
 
-pub capture-append : (es more : List Entry) → capture_text (es ++ more) ≡ capture_text es ++ flat_map record_text more
+pub capture-append : (es more : List Record) → capture_text (es ++ more) ≡ capture_text es ++ flat_map record_text more
 capture-append es more = ap (λ text. header_text ++ text) (flat_map-append record_text es more) ∙ sym (append_assoc header_text (flat_map record_text es) (flat_map record_text more))
 
 drop-within : (n : ℕ) (xs ys : List ℕ) → n ≤ length xs → drop n (xs ++ ys) ≡ drop n xs ++ ys
@@ -195,7 +193,7 @@ goes_out {Z} parts reaches t given h k start now p place old new at le place_sta
 
 -- ---- the loop
 
-pub drained_on : (port : ℕ) (start now new : State) (out : Entry) (place : ℕ) (s : Sent) → length start.run.handed ≡ length start.run.table.ports → IsDrained port start now
+pub drained_on : (port : ℕ) (start now new : State) (out : Record) (place : ℕ) (s : Sent) → length start.run.handed ≡ length start.run.table.ports → IsDrained port start now
     → IsHanded now new port out place s → IsDrained port start new
 drained_on port start now new out place s len d handed =
     let place_start : place_of start.run port ≡ Some place = ap (λ (c : Content). position (λ (p : PortRow). p.id == port) c.ports) (sym d.table) ∙ handed.at in

@@ -2,15 +2,17 @@
 use Rattle.std.proofs.Common.{◌≡◌, ℕ, zero, suc, ◌+◌, ◌<◌, ◌≤◌, Bool, true, List, [], ◌∷◌, ◌++◌, map, length, drop, set, slice_get, Some, refl, ap, sym, ◌∙◌, arith, inl, inr, subst}
 use Rattle.std.specs.List.{AllByRecursion}
 use Rattle.std.proofs.lemmas.List.{append-nil}
+use Rattle.std.proofs.lemmas.Option.{same_Some}
+use Rattle.std.proofs.Math.Numerals.{suc-eq-add-one}
 use Rattle.afdx_pcap.specs.declared.fault.PcapFault.{PcapFault}
-use Rattle.afdx_pcap.specs.Entry.{Entry}
+use Rattle.afdx_pcap.specs.Record.{Record}
 use Rattle.afdx_pcap.specs.Capture.{IsCapture}
 use Rattle.afdx_pcap.specs.Text.{capture_text}
 use Rattle.afdx_pcap.specs.Fault.{IsFault}
 use Rattle.afdx_pcap.specs.Reading.{Taking, HasTaken, IsSound}
 use Rattle.afdx_table.specs.declared.rows.PortRow.{PortRow}
 use Rattle.afdx_table.specs.Content.{Content}
-use Rattle.afdx_port.specs.Admission.{EarlierEventsStayAdmitted}
+use Rattle.afdx_port.specs.Inner.Admission.{EarlierEventsStayAdmitted}
 use Rattle.afdx_port.specs.Inner.Order.{ReachesInOrder}
 use Rattle.afdx_core.specs.State.{State}
 use Rattle.afdx_core.specs.Merge.{Arrival, merged}
@@ -25,7 +27,7 @@ use Rattle.afdx_session.specs.Session.{Intake}
 use Rattle.afdx_session.specs.Inner.Lanes.{waiting_of, HasReadAll}
 use Rattle.afdx_session.specs.Inner.Kept.{IsLaneOf, AreLanesOf, AreOfTable, come_to, IsGoing, IsRunning, AreTouched, IsMarked}
 use Rattle.afdx_session.specs.Inner.View.{IsHalfDone, AreHalfDone, IsEndedLane, AreEndedLanes, texts_at}
-use Rattle.afdx_session.proofs.Going.{Early, lanes_early, some_same}
+use Rattle.afdx_session.proofs.Going.{Early, lanes_early}
 use Rattle.afdx_session.proofs.Growing.{no_frontier, output_of_all, AllEnded}
 use Rattle.afdx_session.proofs.Settling.{all_back}
 use Rattle.afdx_session.proofs.ReadUp.{read_same}
@@ -51,26 +53,23 @@ pub lane_stands : {Z : Type 0} (P : Lane Z → Type 0) (n : ℕ) (old new : List
 lane_stands P n [] [] l ends at all = absurd cc
 lane_stands P n [] (m ∷ new) l ends at all = absurd ends
 lane_stands P n (k ∷ old) [] l ends at all = absurd ends
-lane_stands P zero (k ∷ old) (m ∷ new) l ends at all = subst P (sym ends.0 ∙ some_same m l at) all.0
+lane_stands P zero (k ∷ old) (m ∷ new) l ends at all = subst P (sym ends.0 ∙ same_Some m l at) all.0
 lane_stands P (suc n) (k ∷ old) (m ∷ new) l ends at all = lane_stands P n old new l ends.1 at all.1
 
 ends_suc : {Z : Type 0} (n : ℕ) (old new : List (Lane Z)) (l m : Lane Z) → slice_get new n ≡ Some l → IsEndedLane l m → EndsUpTo n old new → EndsUpTo (suc n) old (set new n m)
 ends_suc n [] [] l m at one ends = tt
 ends_suc n [] (k ∷ new) l m at one ends = absurd ends
 ends_suc n (k ∷ old) [] l m at one ends = absurd ends
-ends_suc {Z = Z} zero (k ∷ old) (i ∷ new) l m at one ends = (subst (λ (x : Lane Z). IsEndedLane x m) (sym (some_same i l at) ∙ ends.0) one, ends.1)
+ends_suc {Z = Z} zero (k ∷ old) (i ∷ new) l m at one ends = (subst (λ (x : Lane Z). IsEndedLane x m) (sym (same_Some i l at) ∙ ends.0) one, ends.1)
 ends_suc (suc n) (k ∷ old) (i ∷ new) l m at one ends = (ends.0, ends_suc n old new l m at one ends.1)
 
 set_same : {Z : Type 0} (lanes : List (Lane Z)) (n : ℕ) (l : Lane Z) → slice_get lanes n ≡ Some l → set lanes n l ≡ lanes
 set_same [] n l at = absurd cc
-set_same (m ∷ lanes) zero l at = ap (λ x. x ∷ lanes) (sym (some_same m l at))
+set_same (m ∷ lanes) zero l at = ap (λ x. x ∷ lanes) (sym (same_Some m l at))
 set_same (m ∷ lanes) (suc n) l at = ap (λ ls. m ∷ ls) (set_same lanes n l at)
 
-plus_one : (n : ℕ) → suc n ≡ n + 1
-plus_one n = omega arith
-
 pub ends_more : {Z : Type 0} (n : ℕ) (old new : List (Lane Z)) (l m : Lane Z) → slice_get new n ≡ Some l → IsEndedLane l m → EndsUpTo n old new → EndsUpTo (n + 1) old (set new n m)
-ends_more n old new l m at one ends = subst (λ k. EndsUpTo k old (set new n m)) (plus_one n) (ends_suc n old new l m at one ends)
+ends_more n old new l m at one ends = subst (λ k. EndsUpTo k old (set new n m)) (suc-eq-add-one n) (ends_suc n old new l m at one ends)
 
 -- one that had ended before
 pub ends_over : {Z : Type 0} (n : ℕ) (old new : List (Lane Z)) (l : Lane Z) → slice_get new n ≡ Some l → l.reader.closed ≡ true → HasReadAll l → EndsUpTo n old new → EndsUpTo (n + 1) old new
@@ -88,7 +87,7 @@ half_set : {Z : Type 0} (a b : List (Lane Z)) (n : ℕ) (l m : Lane Z) → AreHa
 half_set [] [] n l m half at one = tt
 half_set [] (k ∷ b) n l m half at one = absurd half
 half_set (k ∷ a) [] n l m half at one = absurd half
-half_set {Z = Z} (k ∷ a) (i ∷ b) zero l m half at one = (half_both k i m half.0 (subst (λ (x : Lane Z). IsHalfDone x m) (sym (some_same i l at)) one), half.1)
+half_set {Z = Z} (k ∷ a) (i ∷ b) zero l m half at one = (half_both k i m half.0 (subst (λ (x : Lane Z). IsHalfDone x m) (sym (same_Some i l at)) one), half.1)
 half_set (k ∷ a) (i ∷ b) (suc n) l m half at one = (half.0, half_set a b n l m half.1 at one)
 
 -- also where the next one has a fault
@@ -106,7 +105,7 @@ ends_all (suc n) (l ∷ old) (m ∷ new) le ends = (ends.0, ends_all n old new (
 
 -- what the law of captures says of records that were taken
 abbrev pub TakenAreTheCapture : Type 0
-TakenAreTheCapture = (t : Taking) (rs : List Entry) → HasTaken t rs → IsSound t.bytes t.given true → IsCapture t.bytes rs
+TakenAreTheCapture = (t : Taking) (rs : List Record) → HasTaken t rs → IsSound t.bytes t.given true → IsCapture t.bytes rs
 
 pub lane_capture : {Z : Type 0} → TakenAreTheCapture → (l : Lane Z) (s : Stream) → IsLaneOf l s → HasReadAll l → l.reader.closed ≡ true → IsCapture l.reader.bytes s.records
 lane_capture law l s is read closed =
@@ -120,7 +119,7 @@ first_fault law begun n [] (m ∷ new) streams l why ends marked are at fault = 
 first_fault law begun n (k ∷ old) [] streams l why ends marked are at fault = absurd ends
 first_fault law begun n (k ∷ old) (m ∷ new) [] l why ends marked are at fault = absurd are
 first_fault {Z = Z} law begun zero (k ∷ old) (m ∷ new) (s ∷ streams) l why ends marked are at fault =
-    let same : k ≡ l = sym ends.0 ∙ some_same m l at in
+    let same : k ≡ l = sym ends.0 ∙ same_Some m l at in
     inl (
       ap (λ (x : Lane Z). x.port) same,
       subst (λ bytes. IsFault bytes why) (ap (λ (x : Lane Z). x.reader.bytes) (sym same) ∙ sym (marked_bytes begun k marked.0)) fault,
@@ -143,24 +142,21 @@ end_fault law begun n old new streams l run.Failed ends marked are at fault = fa
 
 -- ---- all has gone out
 
-ended_touched : {Z : Type 0} (old mid new : List (Lane Z)) → AreEndedLanes old mid → AreTouched mid new → AreEndedLanes old new
-ended_touched [] [] [] ends touched = tt
-ended_touched [] [] (n ∷ new) ends touched = absurd touched
-ended_touched [] (m ∷ mid) new ends touched = absurd ends
-ended_touched (l ∷ old) [] new ends touched = absurd ends
-ended_touched (l ∷ old) (m ∷ mid) [] ends touched = absurd touched
-ended_touched (l ∷ old) (m ∷ mid) (n ∷ new) ends touched = (
+pub all_ended_touched : {Z : Type 0} (old mid new : List (Lane Z)) → AreEndedLanes old mid → AreTouched mid new → AreEndedLanes old new
+all_ended_touched [] [] [] ends touched = tt
+all_ended_touched [] [] (n ∷ new) ends touched = absurd touched
+all_ended_touched [] (m ∷ mid) new ends touched = absurd ends
+all_ended_touched (l ∷ old) [] new ends touched = absurd ends
+all_ended_touched (l ∷ old) (m ∷ mid) [] ends touched = absurd touched
+all_ended_touched (l ∷ old) (m ∷ mid) (n ∷ new) ends touched = (
   record {
     half = half_both l m n ends.0.half (half_of m n touched.0);
     bytes = ap (λ r. r.bytes) touched.0.reader ∙ ends.0.bytes;
     closed = ap (λ r. r.closed) touched.0.reader ∙ ends.0.closed;
     read = read_same m n touched.0.reader touched.0.ended ends.0.read;
   },
-  ended_touched old mid new ends.1 touched.1,
+  all_ended_touched old mid new ends.1 touched.1,
 )
-
-pub all_ended_touched : {Z : Type 0} (old mid new : List (Lane Z)) → AreEndedLanes old mid → AreTouched mid new → AreEndedLanes old new
-all_ended_touched old mid new ends touched = ended_touched old mid new ends touched
 
 -- the streams are whole captures
 streams_ended : {Z : Type 0} (old new : List (Lane Z)) (streams : List Stream) → AreEndedLanes old new → AreLanesOf new streams → AllEnded streams

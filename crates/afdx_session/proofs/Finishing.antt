@@ -1,13 +1,15 @@
 -- The outcome of a session is that of a run over the whole captures.
-use Rattle.std.proofs.Common.{◌≡◌, ℕ, zero, suc, ◌<◌, ◌==◌, Bool, true, false, cond, List, [], ◌∷◌, map, drop, slice_get, Some, refl, ap, sym, ◌∙◌, arith, subst}
+use Rattle.std.proofs.Common.{◌≡◌, ℕ, zero, suc, ◌<◌, ◌==◌, Bool, false, cond, List, [], ◌∷◌, map, drop, slice_get, Some, refl, ap, sym, ◌∙◌, arith, subst}
 use Rattle.std.specs.Prelude.{find}
 use Rattle.std.specs.List.{AllByRecursion}
-use Rattle.std.proofs.lemmas.Bool.Decides.{nat_tests}
+use Rattle.std.proofs.lemmas.Option.{same_Some}
+use Rattle.std.proofs.lemmas.Bool.{eq-eqb}
+use Rattle.std.proofs.lemmas.Simd.{map-map}
 use Rattle.afdx_table.specs.declared.rows.PortRow.{PortRow}
 use Rattle.afdx_table.specs.Content.{Content}
 use Rattle.afdx_table.specs.WellFormed.{IsWellFormed}
 use Rattle.afdx_table.specs.WellFormed as table
-use Rattle.afdx_port.specs.Admission.{EarlierEventsStayAdmitted}
+use Rattle.afdx_port.specs.Inner.Admission.{EarlierEventsStayAdmitted}
 use Rattle.afdx_port.specs.Inner.Order.{ReachesInOrder}
 use Rattle.afdx_core.specs.State.{after_finish}
 use Rattle.afdx_core.specs.Merge.{Arrival, Capture, merged}
@@ -26,25 +28,12 @@ use Rattle.afdx_session.specs.Finish.{rest_of, texts_in, IsFinished}
 use Rattle.afdx_session.specs.Inner.Lanes.{intake_of}
 use Rattle.afdx_session.specs.Inner.Kept.{AreOfTable, IsRunning, IsMarked, IsOfSameTable}
 use Rattle.afdx_session.specs.Inner.View.{intakes_of, texts_at, seen_of, AreHalfDone, AreEndedLanes, IsKeptMachine}
-use Rattle.afdx_session.proofs.Going.{some_same}
-use Rattle.afdx_session.proofs.Numbered.{all_slice_get}
+use Rattle.afdx_session.proofs.Numbered.{all_slice_get, first_same, rest_same, lower_differs}
 use Rattle.afdx_session.proofs.Gone.{port_of_lane}
 use Rattle.afdx_session.proofs.Ending.{TakenAreTheCapture, are_captures, output_is, given_all}
 use Rattle.afdx_session.proofs.Shown.{half_ports}
 
 -- ---- the intake of each port
-
-same_number : (n : ℕ) → (n == n) ≡ true
-same_number n = grind (arith, nat_tests)
-
-other_number : (m n : ℕ) → m < n → (m == n) ≡ false
-other_number m n lt = grind (arith, nat_tests)
-
-rest_same : (m n : ℕ) (ms ns : List ℕ) → m ∷ ms ≡ n ∷ ns → ms ≡ ns
-rest_same m n ms ns e = cc
-
-head_same : (m n : ℕ) (ms ns : List ℕ) → m ∷ ms ≡ n ∷ ns → m ≡ n
-head_same m n ms ns e = cc
 
 find_intake : {Z : Type 0} (ports : List PortRow) (lanes : List (Lane Z)) (k : ℕ) (l : Lane Z) → table.Rises ports → map (λ (m : Lane Z). m.port) lanes ≡ map (λ (p : PortRow). p.id) ports
     → slice_get lanes k ≡ Some l
@@ -52,15 +41,15 @@ find_intake : {Z : Type 0} (ports : List PortRow) (lanes : List (Lane Z)) (k : �
 find_intake ports [] k l rises same at = absurd cc
 find_intake [] (m ∷ lanes) k l rises same at = absurd cc
 find_intake {Z = Z} (p ∷ ports) (m ∷ lanes) zero l rises same at =
-    subst (λ (x : Lane Z). find (λ (i : Intake). i.port == x.port) (intakes_of (m ∷ lanes)) ≡ Some (intake_of x)) (some_same m l at)
-    (ap (λ b. cond b (Some (intake_of m)) (find (λ (i : Intake). i.port == m.port) (intakes_of lanes))) (same_number m.port))
+    subst (λ (x : Lane Z). find (λ (i : Intake). i.port == x.port) (intakes_of (m ∷ lanes)) ≡ Some (intake_of x)) (same_Some m l at)
+    (ap (λ b. cond b (Some (intake_of m)) (find (λ (i : Intake). i.port == m.port) (intakes_of lanes))) (eq-eqb m.port m.port refl))
 find_intake {Z = Z} (p ∷ ports) (m ∷ lanes) (suc k) l rises same at =
-    let more = rest_same m.port p.id (map (λ (x : Lane Z). x.port) lanes) (map (λ (q : PortRow). q.id) ports) same in
-    let head = head_same m.port p.id (map (λ (x : Lane Z). x.port) lanes) (map (λ (q : PortRow). q.id) ports) same in
+    let more = rest_same same in
+    let head = first_same same in
     let q = port_of_lane ports lanes k l more at in
     let above = all_slice_get (λ (other : PortRow). p.id < other.id) ports k q.0 rises.0 q.1 in
     let own = q.2 in
-    ap (λ b. cond b (Some (intake_of m)) (find (λ (i : Intake). i.port == l.port) (intakes_of lanes))) (other_number m.port l.port (omega (arith, head, above, own)))
+    ap (λ b. cond b (Some (intake_of m)) (find (λ (i : Intake). i.port == l.port) (intakes_of lanes))) (lower_differs m.port l.port (omega (arith, head, above, own)))
     ∙ find_intake ports lanes k l rises.1 more at
 
 -- lists with the same at each place
@@ -71,17 +60,13 @@ same_lists f g i j [] (y ∷ ys) same each = absurd cc
 same_lists f g i j (x ∷ xs) [] same each = absurd cc
 same_lists f g i j (x ∷ xs) (y ∷ ys) same each =
     ap (λ w. w ∷ map f xs) (each 0 x y refl refl)
-    ∙ ap (λ ws. g y ∷ ws) (same_lists f g i j xs ys (rest_same (i x) (j y) (map i xs) (map j ys) same) (λ k. each (suc k)))
-
-map-twice : {X Y W : Type 0} (f : Y → W) (g : X → Y) (xs : List X) → map f (map g xs) ≡ map (λ x. f (g x)) xs
-map-twice f g [] = refl
-map-twice f g (x ∷ xs) = ap (λ ws. f (g x) ∷ ws) (map-twice f g xs)
+    ∙ ap (λ ws. g y ∷ ws) (same_lists f g i j xs ys (rest_same same) (λ k. each (suc k)))
 
 text_ports : {Z : Type 0} (lanes : List (Lane Z)) → map (λ (text : Text). text.0) (texts_at lanes) ≡ map (λ (l : Lane Z). l.port) lanes
 text_ports [] = refl
 text_ports {Z = Z} (l ∷ lanes) = ap (λ ns. l.port ∷ ns) (text_ports lanes)
 
-half_intakes : {Z : Type 0} (old new : List (Lane Z)) → AreHalfDone old new → intakes_of new ≡ intakes_of old
+pub half_intakes : {Z : Type 0} (old new : List (Lane Z)) → AreHalfDone old new → intakes_of new ≡ intakes_of old
 half_intakes [] [] half = refl
 half_intakes [] (n ∷ new) half = absurd half
 half_intakes (l ∷ old) [] half = absurd half
@@ -100,7 +85,7 @@ finished {Z} stay reaches ends takes law isolate old new begun results kept same
   outcome = outcome;
   captures = captures ∙ same_lists (λ (l : Lane Z). (l.port, l.out.items)) (λ (p : PortRow). rest_of v (p.id, output_text t (merged read) p)) (λ (l : Lane Z). l.port) (λ (p : PortRow). p.id)
       new.lanes.items t.ports of.ports rest
-      ∙ sym (map-twice (rest_of v) (λ (p : PortRow). (p.id, output_text t (merged read) p)) t.ports);
+      ∙ sym (map-map (rest_of v) (λ (p : PortRow). (p.id, output_text t (merged read) p)) t.ports);
   counts = counts ∙ ap (ended (after_finish new.switch.run)) counted ∙ law new.switch.run formed
       ∙ ap (λ (c : Content). counts_of c new.switch.run.rows) run.going.is_given.table ∙ ap (counts_of t) run.going.is_given.rows ∙ ap (λ (xs : List Arrival). counts_of t (rows_of t xs)) (sym given);
   isolated = λ accepted. isolate t (texts_in v) whole kept.of.formed (kept.accepted accepted) outcome;
@@ -138,7 +123,7 @@ finished {Z} stay reaches ends takes law isolate old new begun results kept same
   rest : (k : ℕ) (l : Lane Z) (p : PortRow) → slice_get new.lanes.items k ≡ Some l → slice_get t.ports k ≡ Some p → (l.port, l.out.items) ≡ rest_of v (p.id, output_text t (merged read) p)
   rest k l p is_lane is_port =
       let q = port_of_lane t.ports new.lanes.items k l of.ports is_lane in
-      let id : p.id ≡ l.port = ap (λ (x : PortRow). x.id) (some_same p q.0 (sym is_port ∙ q.1)) ∙ q.2 in
+      let id : p.id ≡ l.port = ap (λ (x : PortRow). x.id) (same_Some p q.0 (sym is_port ∙ q.1)) ∙ q.2 in
       let found : find (λ (i : Intake). i.port == p.id) (intakes_of old.lanes.items) ≡ Some (intake_of l) =
       ap (λ n. find (λ (i : Intake). i.port == n) (intakes_of old.lanes.items)) id ∙ ap (λ is. find (λ (i : Intake). i.port == l.port) is) (sym (half_intakes old.lanes.items new.lanes.items half))
       ∙ find_intake t.ports new.lanes.items k l of.formed.ports_rise of.ports is_lane in

@@ -3,7 +3,7 @@ use Rattle.std.proofs.Common.{◌≡◌, ℕ, zero, suc, ◌+◌, ◌<◌, ◌�
 use Rattle.std.specs.List.{AllByRecursion}
 use Rattle.std.proofs.lemmas.Bool.{cases_lt}
 use Rattle.std.proofs.lemmas.Option.{slice_get_past}
-use Rattle.afdx_pcap.specs.Entry.{Entry}
+use Rattle.afdx_pcap.specs.Record.{Record}
 use Rattle.afdx_core.specs.Merge.{Arrival, Capture}
 use Rattle.afdx_session.specs.declared.lane.Lane.{Lane}
 use Rattle.afdx_session.specs.Streams.{Stream, captures_of, last_of}
@@ -35,7 +35,7 @@ is_past (Some p) stamp port out = elim (cases_lt stamp p.0) [
 
 -- ---- the first of what waits
 
-head_from : (n : ℕ) (rs : List Entry) → ((u : ℕ) → head_of rs ≡ Some u → n ≤ u) → HeadFrom n rs
+head_from : (n : ℕ) (rs : List Record) → ((u : ℕ) → head_of rs ≡ Some u → n ≤ u) → HeadFrom n rs
 head_from n [] all = tt
 head_from n (r ∷ rs) all = all r.stamp refl
 
@@ -67,7 +67,7 @@ first_comes {Z} lanes k t first = comes_first t k lanes all first.former where
 pub none_waits : {Z : Type 0} (lanes : List (Lane Z)) → ((j : ℕ) → j < length lanes → head_stamp (slice_get lanes j) ≡ None) → AllByRecursion (λ (w : Capture). w.records ≡ []) (map waiting_of lanes)
 none_waits [] none = tt
 none_waits (l ∷ lanes) none = (empty l.waiting.items (none 0 (omega arith)), none_waits lanes (λ j lt. none (suc j) (omega (arith, lt)))) where
-  empty : (rs : List Entry) → head_of rs ≡ None → rs ≡ []
+  empty : (rs : List Record) → head_of rs ≡ None → rs ≡ []
   empty [] is = refl
   empty (r ∷ rs) is = absurd cc
 
@@ -86,7 +86,7 @@ get-map f (y ∷ xs) zero x is = same is where
 get-map f (y ∷ xs) (suc k) x is = get-map f xs k x is
 
 -- the record that the code takes is settled, and is the next of the merge
-pub lane_goes : {Z : Type 0} (streams : List Stream) (given : List Arrival) (old new : List (Lane Z)) (port : ℕ) (frame : Entry) → Ascend (ports_of (captures_of streams))
+pub lane_goes : {Z : Type 0} (streams : List Stream) (given : List Arrival) (old new : List (Lane Z)) (port : ℕ) (frame : Record) → Ascend (ports_of (captures_of streams))
     → AllRise (map waiting_of old) → AreLanesOf old streams
     → Goes (limit_at old) old new port frame → IsSettling streams given (map waiting_of old) → IsSettling streams (given ++ record { port = port; frame = frame } ∷ []) (map waiting_of new)
 lane_goes streams given old new port frame ascend rise are goes settling =
@@ -100,6 +100,6 @@ lane_goes streams given old new port frame ascend rise are goes settling =
     sym (ap (map waiting_of) goes.lanes ∙ map-set waiting_of old goes.place (with_waiting goes.rest goes.lane)) in
     subst (λ ws. IsSettling streams (given ++ record { port = port; frame = frame } ∷ []) ws) queues
     (subst (λ n. IsSettling streams (given ++ record { port = n; frame = frame } ∷ []) (without (map waiting_of old) goes.place w goes.rest.items)) (sym goes.port_is) done) where
-      as_within : (p : Option (ℕ × ℕ)) (r : Entry) (n : ℕ) → IsWithinPlace p r.stamp n → IsWithin p (record { port = n; frame = r })
+      as_within : (p : Option (ℕ × ℕ)) (r : Record) (n : ℕ) → IsWithinPlace p r.stamp n → IsWithin p (record { port = n; frame = r })
       as_within None r n is = tt
       as_within (Some p) r n is = is

@@ -6,7 +6,7 @@ use Rattle.std.specs.List.{AllByRecursion}
 use Rattle.afdx_pcap.specs.declared.fault.PcapFault.{PcapFault}
 use Rattle.afdx_pcap.specs.declared.fault.PcapFault.TheVariants.{NoHeader}
 use Rattle.afdx_pcap.specs.declared.format.Format.{Format}
-use Rattle.afdx_pcap.specs.Entry.{Entry}
+use Rattle.afdx_pcap.specs.Record.{Record}
 use Rattle.afdx_pcap.specs.Capture.{header_of, Holds}
 use Rattle.afdx_pcap.specs.Fault.{IsFault, IsEarlyFault, is_cut}
 use Rattle.afdx_pcap.specs.Reading.{Reading, NoNext, IsSound}
@@ -35,7 +35,7 @@ use Rattle.afdx_session.proofs.Shown.{lanes_are_streams}
 
 pub no_record : (n : ℕ) → NoNext [] n
 no_record n r next = by next.0 next.2 where
-  by : (earlier : List Entry) → Holds [] (earlier ++ r ∷ []) next.1 → ⊥
+  by : (earlier : List Record) → Holds [] (earlier ++ r ∷ []) next.1 → ⊥
   by [] held = let le = held.records.0.whole in absurd (omega (arith, le))
   by (e ∷ earlier) held = let le = held.records.0.whole in absurd (omega (arith, le))
 
@@ -110,7 +110,7 @@ none_wait [] [] fresh = refl
 none_wait [] (l ∷ lanes) fresh = absurd fresh
 none_wait (p ∷ ports) [] fresh = absurd fresh
 none_wait (p ∷ ports) (l ∷ lanes) fresh =
-    ap (λ rs. map {B = Arrival} (λ (r : Entry). record { port = l.port; frame = r }) rs ++ arrivals_of (map waiting_of lanes)) fresh.0.waiting
+    ap (λ rs. map {B = Arrival} (λ (r : Record). record { port = l.port; frame = r }) rs ++ arrivals_of (map waiting_of lanes)) fresh.0.waiting
     ∙ none_wait ports lanes fresh.1
 
 fresh_marked : {Z : Type 0} (ports : List PortRow) (lanes : List (Lane Z)) → AreFreshLanes ports lanes → AllByRecursion (IsMarked false) lanes

@@ -1,8 +1,7 @@
 -- What is true of the records of captures, and of every arrival of their merge.
-use Rattle.std.proofs.Common.{◌≡◌, ℕ, ◌<◌, ◌≤◌, ◌==◌, nat_le, true, false, List, [], ◌∷◌, ◌++◌, map, drop, refl, sym, arith, inl, inr, subst}
+use Rattle.std.proofs.Common.{◌≡◌, ℕ, ◌<◌, ◌≤◌, ◌==◌, false, List, [], ◌∷◌, ◌++◌, map, drop, refl, sym, arith, inl, inr, subst}
 use Rattle.std.specs.List.{AllByRecursion}
-use Rattle.std.proofs.lemmas.Bool.{cases_Bool}
-use Rattle.std.proofs.lemmas.Bool.Decides.{nat_tests}
+use Rattle.std.proofs.lemmas.Bool.{cases_Bool, eq-eqb}
 use Rattle.std.specs.Prelude.{is_none, find}
 use Rattle.afdx_table.specs.declared.rows.PortRow.{PortRow}
 use Rattle.afdx_units.specs.Time.{last_second}
@@ -10,41 +9,37 @@ use Rattle.afdx_pcap.specs.declared.format.Format.{Format}
 use Rattle.afdx_pcap.specs.declared.format.Resolution.{Resolution}
 use Rattle.afdx_pcap.specs.declared.format.Resolution.TheVariants.{Micros, Nanos}
 use Rattle.afdx_pcap.specs.declared.format.Head.{Head}
-use Rattle.afdx_pcap.specs.Entry.{Entry}
+use Rattle.afdx_pcap.specs.Record.{Record}
 use Rattle.afdx_pcap.specs.Capture.{Splits, IsCapture, after, parts_of_second, stamp_of, head_of}
-use Rattle.afdx_core.specs.Merge.{Arrival, Capture, Rises, arrivals_of, placed, by_stamp}
+use Rattle.afdx_core.specs.Merge.{Arrival, Capture, Rises, arrivals_of}
 use Rattle.afdx_session.specs.Texts.{Text}
 use Rattle.afdx_session.specs.Inner.Merging.{AreInOrder}
 use Rattle.afdx_session.specs.Reading.{AreCaptures, AreMerged}
-use Rattle.afdx_session.proofs.Joining.{by_stamp-in_order}
+use Rattle.afdx_session.proofs.Joining.{by_stamp-in_order, by_stamp_every, records_weaken}
 
 -- ---- the records of a capture
 
-all-from : (n m : ℕ) (rs : List Entry) → m ≤ n → AllByRecursion (λ (r : Entry). n ≤ r.stamp) rs → AllByRecursion (λ (r : Entry). m ≤ r.stamp) rs
-all-from n m [] le all = tt
-all-from n m (r ∷ rs) le all = (omega (arith, le, all.0), all-from n m rs le all.1)
-
-pub splits_rise : (f : Format) (last : ℕ) (bytes : List ℕ) (rs : List Entry) (rest : List ℕ) → Splits f last bytes rs rest → AllByRecursion (λ (r : Entry). last ≤ r.stamp) rs × Rises rs
+pub splits_rise : (f : Format) (last : ℕ) (bytes : List ℕ) (rs : List Record) (rest : List ℕ) → Splits f last bytes rs rest → AllByRecursion (λ (r : Record). last ≤ r.stamp) rs × Rises rs
 splits_rise f last bytes [] rest splits = (tt, tt)
 splits_rise f last bytes (r ∷ rs) rest splits =
     let more = splits_rise f r.stamp (after r bytes) rs rest splits.1 in
     let first : last ≤ r.stamp = splits.0.in_order in
-    ((first, all-from r.stamp last rs first more.0), (more.0, more.1))
+    ((first, records_weaken r.stamp last rs first more.0), (more.0, more.1))
 
-pub capture_rises : (bytes : List ℕ) (rs : List Entry) → IsCapture bytes rs → Rises rs
+pub capture_rises : (bytes : List ℕ) (rs : List Record) → IsCapture bytes rs → Rises rs
 capture_rises bytes rs capture = (splits_rise capture.format 0 (drop 24 bytes) rs [] capture.records).1
 
 stamp_early : (resolution : Resolution) (h : Head) → h.seconds ≤ 4294967294 → h.fraction < parts_of_second resolution → stamp_of resolution h < last_second
 stamp_early Micros h seconds fraction = omega (arith, seconds, fraction)
 stamp_early Nanos h seconds fraction = omega (arith, seconds, fraction)
 
-pub splits_early : (f : Format) (last : ℕ) (bytes : List ℕ) (rs : List Entry) (rest : List ℕ) → Splits f last bytes rs rest → AllByRecursion (λ (r : Entry). r.stamp < last_second) rs
+pub splits_early : (f : Format) (last : ℕ) (bytes : List ℕ) (rs : List Record) (rest : List ℕ) → Splits f last bytes rs rest → AllByRecursion (λ (r : Record). r.stamp < last_second) rs
 splits_early f last bytes [] rest splits = tt
 splits_early f last bytes (r ∷ rs) rest splits =
     let b = splits.0 in
     (subst (λ (n : ℕ). n < last_second) (sym b.stamp) (stamp_early f.resolution (head_of f.endian bytes) b.not_late b.fraction), splits_early f r.stamp (after r bytes) rs rest splits.1)
 
-pub capture_early : (bytes : List ℕ) (rs : List Entry) → IsCapture bytes rs → AllByRecursion (λ (r : Entry). r.stamp < last_second) rs
+pub capture_early : (bytes : List ℕ) (rs : List Record) → IsCapture bytes rs → AllByRecursion (λ (r : Record). r.stamp < last_second) rs
 capture_early bytes rs capture = splits_early capture.format 0 (drop 24 bytes) rs [] capture.records
 
 -- ---- several captures
@@ -54,20 +49,8 @@ merged_in_order texts arrivals are = subst AreInOrder (sym are.all) (by_stamp-in
 
 -- ---- what holds of every arrival of a merge
 
-placed_every : (P : Arrival → Type 0) (a : Arrival) (arrivals : List Arrival) → P a → AllByRecursion P arrivals → AllByRecursion P (placed a arrivals)
-placed_every P a [] here all = (here, tt)
-placed_every P a (b ∷ arrivals) here all =
-    elim (cases_Bool (nat_le a.frame.stamp b.frame.stamp)) [
-      | inl before ↦ rw before (here, all)
-      | inr behind ↦ rw behind (all.0, placed_every P a arrivals here all.1)
-    ]
-
-pub by_stamp_every : (P : Arrival → Type 0) (arrivals : List Arrival) → AllByRecursion P arrivals → AllByRecursion P (by_stamp arrivals)
-by_stamp_every P [] all = tt
-by_stamp_every P (a ∷ arrivals) all = placed_every P a (by_stamp arrivals) all.0 (by_stamp_every P arrivals all.1)
-
-pub port_every : (P : Arrival → Type 0) (port : ℕ) (rs : List Entry) (others : List Arrival) → AllByRecursion (λ (r : Entry). P (record { port = port; frame = r })) rs → AllByRecursion P others
-    → AllByRecursion P (map (λ (r : Entry). record { port = port; frame = r }) rs ++ others)
+pub port_every : (P : Arrival → Type 0) (port : ℕ) (rs : List Record) (others : List Arrival) → AllByRecursion (λ (r : Record). P (record { port = port; frame = r })) rs → AllByRecursion P others
+    → AllByRecursion P (map (λ (r : Record). record { port = port; frame = r }) rs ++ others)
 port_every P port [] others all more = more
 port_every P port (r ∷ rs) others all more = (all.0, port_every P port rs others all.1 more)
 
@@ -91,9 +74,7 @@ abbrev pub Known : List PortRow → ℕ → Type 0
 Known ports n = is_none (find (λ (p : PortRow). p.id == n) ports) ≡ false
 
 known_here : (p : PortRow) (ports : List PortRow) → Known (p ∷ ports) p.id
-known_here p ports = rw (same_number p.id) refl where
-  same_number : (n : ℕ) → (n == n) ≡ true
-  same_number n = grind (arith, nat_tests)
+known_here p ports = rw (eq-eqb p.id p.id refl) refl
 
 known_later : (p : PortRow) (ports : List PortRow) (n : ℕ) → Known ports n → Known (p ∷ ports) n
 known_later p ports n known =

@@ -7,17 +7,17 @@ use Rattle.std.specs.Option.{option_map}
 use Rattle.std.proofs.lemmas.List.{length-append, length-map}
 use Rattle.std.proofs.lemmas.Bool.{le-ltb}
 use Rattle.afdx_units.specs.Time.{last_second}
-use Rattle.afdx_pcap.specs.Entry.{Entry}
+use Rattle.afdx_pcap.specs.Record.{Record}
 use Rattle.afdx_pcap.specs.Text.{capture_text}
 use Rattle.afdx_table.specs.declared.rows.PortRow.{PortRow}
 use Rattle.afdx_table.specs.Content.{Content, port_row}
 use Rattle.afdx_table.specs.WellFormed.{IsWellFormed}
-use Rattle.afdx_port.specs.Admission.{EarlierEventsStayAdmitted}
+use Rattle.afdx_port.specs.Inner.Admission.{EarlierEventsStayAdmitted}
 use Rattle.afdx_port.specs.Inner.Order.{ReachesInOrder}
 use Rattle.afdx_core.specs.declared.step.Row.{Row}
-use Rattle.afdx_core.specs.Handling.{Handling}
+use Rattle.afdx_core.specs.Step.{Step}
 use Rattle.afdx_core.specs.Rows.{row_of}
-use Rattle.afdx_core.specs.State.{Run, State, refusal_of, handling_of, after_advance}
+use Rattle.afdx_core.specs.State.{Run, State, refusal_of, step_of, after_advance}
 use Rattle.afdx_core.specs.Held.{Keeps, IsTaken}
 use Rattle.afdx_core.specs.Merge.{Arrival, Capture, merged, arrivals_of}
 use Rattle.afdx_count.specs.Tally.{Tally, noted}
@@ -62,7 +62,8 @@ out_stays stay reaches t given more h s next p place l later handed out =
 -- ---- a record goes
 
 -- it is the next of what waits
-goes_next : {Z : Type 0} (old new : List (Lane Z)) (port : ℕ) (frame : Entry) (streams : List Stream) (given : List Arrival) (t : Content) (s : State) (counts : Tally) (going : IsGoing t old s counts)
+goes_next : {Z : Type 0} (old new : List (Lane Z)) (port : ℕ) (frame : Record) (streams : List Stream) (given : List Arrival) (t : Content) (s : State) (counts : Tally)
+    (going : IsGoing t old s counts)
     → Goes (limit_at old) old new port frame
     → merged (map waiting_of old) ≡ record { port = port; frame = frame } ∷ merged (map waiting_of new)
 goes_next old new port frame streams given t s counts going goes =
@@ -77,7 +78,7 @@ goes_next old new port frame streams given t s counts going goes =
     ∙ ap {B = List Arrival} (λ n. record { port = n; frame = frame } ∷ merged (map waiting_of new)) (sym goes.port_is)
 
 -- what comes where the switch is
-pub record Arrives {Z : Type 0} (t : Content) (old new : List (Lane Z)) (s : State) (counts : Tally) (port : ℕ) (frame : Entry) : Type 0 where
+pub record Arrives {Z : Type 0} (t : Content) (old new : List (Lane Z)) (s : State) (counts : Tally) (port : ℕ) (frame : Record) : Type 0 where
   pub going : IsGoing t old s counts
   pub goes : Goes (limit_at old) old new port frame
   pub next : merged (map waiting_of old) ≡ record { port = port; frame = frame } ∷ merged (map waiting_of new)
@@ -86,7 +87,7 @@ pub record Arrives {Z : Type 0} (t : Content) (old new : List (Lane Z)) (s : Sta
   pub until : frame.stamp ≤ come_to (frontier going.streams)
   pub after : AllFrom frame.stamp (merged (map waiting_of new))
 
-pub arrives : {Z : Type 0} (t : Content) (old new : List (Lane Z)) (s : State) (counts : Tally) (port : ℕ) (frame : Entry) → Goes (limit_at old) old new port frame → IsGoing t old s counts
+pub arrives : {Z : Type 0} (t : Content) (old new : List (Lane Z)) (s : State) (counts : Tally) (port : ℕ) (frame : Record) → Goes (limit_at old) old new port frame → IsGoing t old s counts
     → Arrives t old new s counts port frame
 arrives {Z} t old new s counts port frame goes going = record {
   going = going;
@@ -126,7 +127,7 @@ known {Z = Z} t lanes k l of at =
 
 -- the switch takes it
 pub gives_on : {Z : Type 0} → EarlierEventsStayAdmitted → ReachesInOrder → NoteCountsOneMore
-    → (t : Content) (old new : List (Lane Z)) (s next : State) (counts after : Tally) (port : ℕ) (frame : Entry) (step : Handling) → AreOfTable t old → step.number < 2 ^ 64
+    → (t : Content) (old new : List (Lane Z)) (s next : State) (counts after : Tally) (port : ℕ) (frame : Record) (step : Step) → AreOfTable t old → step.number < 2 ^ 64
     → Arrives t old new s counts port frame → IsTaken s next (row_of s.run.table port frame) frame step → after ≡ noted step counts → IsGoing t new next after
 gives_on stay reaches law t old new s next counts after port frame step of small arrives taken counted = record {
   streams = going.streams;
@@ -139,14 +140,14 @@ gives_on stay reaches law t old new s next counts after port frame step of small
   come = omega (arith, since, arrives.latest, latest);
   later = subst (λ n. AllFrom n (merged (map waiting_of new))) (sym latest) arrives.after;
   until = subst (λ n. n ≤ come_to (frontier going.streams)) (sym latest) arrives.until;
-  counts_are = counted ∙ ap (λ (h : Handling). noted h counts) taken.handling
-      ∙ ap (noted (handling_of s.run row)) (going.counts_are ∙ ap (λ (c : Content). counts_so_far c (rows_of t going.given)) (sym going.is_given.table)
+  counts_are = counted ∙ ap (λ (h : Step). noted h counts) taken.step_is
+      ∙ ap (noted (step_of s.run row)) (going.counts_are ∙ ap (λ (c : Content). counts_so_far c (rows_of t going.given)) (sym going.is_given.table)
       ∙ ap (counts_so_far s.run.table) (sym going.is_given.rows))
       ∙ law s.run row (subst IsWellFormed (sym going.is_given.table) of.formed)
       ∙ ap (λ (r : Run). counts_so_far r.table r.rows) (sym taken.run)
       ∙ ap (λ (c : Content). counts_so_far c next.run.rows) next_given.table
       ∙ ap (counts_so_far t) next_given.rows;
-  few = let count = ap (λ (h : Handling). h.number) taken.handling in let long = ap length going.is_given.rows ∙ length-map going.given (λ (b : Arrival). row_of t b.port b.frame) in
+  few = let count = ap (λ (h : Step). h.number) taken.step_is in let long = ap length going.is_given.rows ∙ length-map going.given (λ (b : Arrival). row_of t b.port b.frame) in
       let all = length-append going.given (a ∷ []) in omega (arith, small, count, long, all);
   outs = λ place p l in_all is_port is_lane.
       out_stays stay reaches t going.given (a ∷ []) going.since s next p place l (omega (arith, since, arrives.latest), tt) (ap (λ (r : Run). r.handed) taken.run)
@@ -175,7 +176,7 @@ gives_on stay reaches law t old new s next counts after port frame step of small
   next_given = gives t going.given a s next step going.is_given taken
 
 -- it refuses it for memory alone
-pub none_else : {Z : Type 0} (t : Content) (old new : List (Lane Z)) (s : State) (counts : Tally) (port : ℕ) (frame : Entry) → AreOfTable t old → Arrives t old new s counts port frame
+pub none_else : {Z : Type 0} (t : Content) (old new : List (Lane Z)) (s : State) (counts : Tally) (port : ℕ) (frame : Record) → AreOfTable t old → Arrives t old new s counts port frame
     → refusal_of s.run port frame.stamp ≡ None
 none_else t old new s counts port frame of arrives =
     let goes = arrives.goes in
@@ -190,7 +191,7 @@ none_else t old new s counts port frame of arrives =
 pub prefix_is : {Z : Type 0} (lanes : List (Lane Z)) (streams : List Stream) → AreLanesOf lanes streams → option_map (λ (p : ℕ × ℕ). p.0) (limit_at lanes) ≡ frontier streams
 prefix_is lanes streams are = ap (option_map (λ (p : ℕ × ℕ). p.0)) (limit_is lanes streams are) ∙ limit_frontier streams
 
-lane_at : {Z : Type 0} (ls : List (Lane Z)) (k : ℕ) → k < length ls → (l : Lane Z) × (slice_get ls k ≡ Some l)
+pub lane_at : {Z : Type 0} (ls : List (Lane Z)) (k : ℕ) → k < length ls → (l : Lane Z) × (slice_get ls k ≡ Some l)
 lane_at [] k lt = absurd (omega (arith, lt))
 lane_at (l ∷ ls) zero lt = (l, refl)
 lane_at (l ∷ ls) (suc k) lt = lane_at ls k (omega (arith, lt))

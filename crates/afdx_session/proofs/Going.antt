@@ -1,40 +1,39 @@
 -- A call goes on: a lane is read, records are given to the switch, and the switch comes to the frontier.
-use Rattle.std.proofs.Common.{◌≡◌, ℕ, zero, suc, ◌<◌, ◌≤◌, Bool, true, false, List, [], ◌∷◌, map, drop, length, set, slice_get, Option, Some, None, refl, ap, sym, ◌∙◌, arith, inl, inr, subst}
+use Rattle.std.proofs.Common.{◌≡◌, ℕ, zero, suc, ◌<◌, ◌≤◌, false, List, [], ◌∷◌, map, drop, length, set, slice_get, Option, Some, None, refl, ap, sym, ◌∙◌, arith, inl, inr, subst}
 use Rattle.std.specs.Prelude.{◌⊎◌}
 use Rattle.std.specs.declared.collections.VecDeque.{VecDeque}
 use Rattle.std.specs.List.{AllByRecursion}
-use Rattle.std.proofs.lemmas.Bool.{cases_Bool}
+use Rattle.std.proofs.lemmas.Bool.{cases_Bool, both_ways}
+use Rattle.std.proofs.lemmas.Option.{same_Some}
 use Rattle.afdx_units.specs.Time.{last_second}
-use Rattle.afdx_pcap.specs.Entry.{Entry}
+use Rattle.afdx_pcap.specs.Record.{Record}
 use Rattle.afdx_pcap.specs.Reading.{AreFirst}
 use Rattle.afdx_pcap.specs.Fault.{last_stamp}
 use Rattle.afdx_table.specs.declared.rows.PortRow.{PortRow}
 use Rattle.afdx_table.specs.Content.{Content}
 use Rattle.afdx_table.specs.WellFormed as table
 use Rattle.afdx_core.specs.State.{State}
-use Rattle.afdx_core.specs.Merge.{Arrival, Capture, Rises, arrivals_of, MergedIsAMerge, MergedIsByStampAndPort}
+use Rattle.afdx_core.specs.Merge.{Arrival, Capture, Rises, arrivals_of}
+use Rattle.afdx_core.specs.Inner.Merge.{MergedIsAMerge, MergedIsByStampAndPort}
 use Rattle.afdx_count.specs.Tally.{Tally}
 use Rattle.afdx_session.specs.declared.lane.Lane.{Lane}
 use Rattle.afdx_session.specs.Streams.{Stream, captures_of, last_of, frontier, merged_so_far, GoOn}
 use Rattle.afdx_session.specs.Inner.Settled.{Ascend, ports_of, AllRise, AreQueued, AllWait}
 use Rattle.afdx_session.specs.Inner.Lanes.{Adds, waiting_of, with_waiting}
 use Rattle.afdx_session.specs.Inner.Kept.{IsLaneOf, AreLanesOf, AreOfTable, come_to, text_up_to, IsOut, AreOut, Every, IsGoing}
-use Rattle.afdx_session.proofs.Joining.{AllFrom}
+use Rattle.afdx_session.proofs.Joining.{AllFrom, records_weaken, by_stamp_every}
 use Rattle.afdx_session.proofs.Numbered.{all_append}
 use Rattle.afdx_session.proofs.Gathering.{splits_early}
-use Rattle.afdx_session.proofs.Growing.{HaveReached, have_reached, reached_on, frontier_above, all_ended, no_frontier, AllEnded, further_of}
-use Rattle.afdx_session.proofs.Settling.{all_prefix, all_back, by_stamp_in, by_stamp_out, arrived, all_arrived, rises_back}
+use Rattle.afdx_session.proofs.Growing.{HaveReached, have_reached, reached_on, frontier_above, all_ended, no_frontier, AllEnded, further_of, reached-weaken, rises_back}
+use Rattle.afdx_session.proofs.Settling.{all_prefix, all_back, by_stamp_out, arrived, all_arrived}
 use Rattle.afdx_session.proofs.Readings.{first_rises, streams_with, one_reads, reads_settle}
 
 abbrev pub Early : Arrival → Type 0
 Early a = a.frame.stamp < last_second
 
-pub some_same : {X : Type 0} (a b : X) → Some a ≡ Some b → a ≡ b
-some_same a b e = cc
-
 -- ---- the captures of lanes
 
-first_early : (bytes : List ℕ) (rs : List Entry) → AreFirst bytes rs → AllByRecursion (λ (r : Entry). r.stamp < last_second) rs
+first_early : (bytes : List ℕ) (rs : List Record) → AreFirst bytes rs → AllByRecursion (λ (r : Record). r.stamp < last_second) rs
 first_early bytes [] first = tt
 first_early bytes (r ∷ rs) first = let held = first.1 in splits_early held.format 0 (drop 24 bytes) (r ∷ rs) first.0 held.records
 
@@ -49,7 +48,7 @@ arrivals_early (l ∷ lanes) (s ∷ streams) are =
 
 -- no stamp lies in the last second
 pub lanes_early : {Z : Type 0} (lanes : List (Lane Z)) (streams : List Stream) → AreLanesOf lanes streams → AllByRecursion Early (merged_so_far streams)
-lanes_early lanes streams are = by_stamp_in Early (arrivals_of (captures_of streams)) (arrivals_early lanes streams are)
+lanes_early lanes streams are = by_stamp_every Early (arrivals_of (captures_of streams)) (arrivals_early lanes streams are)
 
 pub waiting_rise : {Z : Type 0} (lanes : List (Lane Z)) (streams : List Stream) → AreLanesOf lanes streams → AreQueued streams (map waiting_of lanes) → AllRise (map waiting_of lanes)
 waiting_rise [] [] are queued = tt
@@ -80,7 +79,7 @@ lanes_ascend t lanes streams of are = subst Ascend (sym (ports_same lanes stream
 
 -- ---- how far captures have come
 
-stamps_last : (last : ℕ) (rs : List Entry) → last < last_second → AllByRecursion (λ (r : Entry). r.stamp < last_second) rs → last_stamp last rs < last_second
+stamps_last : (last : ℕ) (rs : List Record) → last < last_second → AllByRecursion (λ (r : Record). r.stamp < last_second) rs → last_stamp last rs < last_second
 stamps_last last [] lt all = lt
 stamps_last last (r ∷ rs) lt all = stamps_last r.stamp rs all.0 all.1
 
@@ -135,14 +134,14 @@ come_grows streams later ends on = by_old (frontier streams) refl where
 
 -- ---- a lane is read
 
-reads_lanes : {Z : Type 0} (lanes : List (Lane Z)) (streams : List Stream) (k : ℕ) (old new : Lane Z) (more : List Entry) → AreLanesOf lanes streams → slice_get lanes k ≡ Some old → new.port
+reads_lanes : {Z : Type 0} (lanes : List (Lane Z)) (streams : List Stream) (k : ℕ) (old new : Lane Z) (more : List Record) → AreLanesOf lanes streams → slice_get lanes k ≡ Some old → new.port
     ≡ old.port → Adds old new more
     → AreLanesOf (set lanes k new) (streams_with streams k new more)
 reads_lanes [] [] k old new more are at port adds = tt
 reads_lanes [] (s ∷ streams) k old new more are at port adds = absurd are
 reads_lanes (l ∷ lanes) [] k old new more are at port adds = absurd are
 reads_lanes {Z = Z} (l ∷ lanes) (s ∷ streams) zero old new more are at port adds =
-    let own : IsLaneOf old s = subst (λ (x : Lane Z). IsLaneOf x s) (some_same l old at) are.0 in (
+    let own : IsLaneOf old s = subst (λ (x : Lane Z). IsLaneOf x s) (same_Some l old at) are.0 in (
       record { port = own.port ∙ sym port; ended = refl; read = adds.read s.records own.read },
       are.1,
     )
@@ -158,13 +157,9 @@ on_of (s ∷ streams) (n ∷ later) [] more wait = absurd wait
 on_of (s ∷ streams) (n ∷ later) (w ∷ waiting) [] wait = absurd wait
 on_of (s ∷ streams) (n ∷ later) (w ∷ waiting) (v ∷ more) wait = (wait.0.on, on_of streams later waiting more wait.1)
 
-arrived_from : (n port : ℕ) (rs : List Entry) → AllFrom n (arrived port rs) → AllByRecursion (λ (r : Entry). n ≤ r.stamp) rs
+arrived_from : (n port : ℕ) (rs : List Record) → AllFrom n (arrived port rs) → AllByRecursion (λ (r : Record). n ≤ r.stamp) rs
 arrived_from n port [] all = tt
 arrived_from n port (r ∷ rs) all = (all.0, arrived_from n port rs all.1)
-
-entries_from : (h n : ℕ) (rs : List Entry) → h ≤ n → AllByRecursion (λ (r : Entry). n ≤ r.stamp) rs → AllByRecursion (λ (r : Entry). h ≤ r.stamp) rs
-entries_from h n [] le all = tt
-entries_from h n (r ∷ rs) le all = (omega (arith, le, all.0), entries_from h n rs le all.1)
 
 -- what comes and waits comes at an instant or later where all open captures had reached it
 wait_from : (n : ℕ) (streams later : List Stream) (waiting more : List Capture) → AllWait streams later waiting more → (AllEnded streams → streams ≡ streams) → HaveReached n streams
@@ -177,37 +172,31 @@ wait_from n (s ∷ streams) [] waiting more wait some reached all = absurd wait
 wait_from n (s ∷ streams) (t ∷ later) [] more wait some reached all = absurd wait
 wait_from n (s ∷ streams) (t ∷ later) (w ∷ waiting) [] wait some reached all = absurd wait
 wait_from n (s ∷ streams) (t ∷ later) (w ∷ waiting) (v ∷ more) wait some reached all =
-    let At : List Entry → Type 0 = λ rs. AllByRecursion (λ (r : Entry). n ≤ r.stamp) rs in
+    let At : List Record → Type 0 = λ rs. AllByRecursion (λ (r : Record). n ≤ r.stamp) rs in
     let came : At wait.0.on.more = elim (cases_Bool s.closed) [
       | inl closed ↦ subst At (sym (wait.0.on.ended closed).0) tt
-      | inr still_open ↦ entries_from n (last_of s) wait.0.on.more (reached.0 still_open) (further_of s t wait.0.on)
+      | inr still_open ↦ records_weaken (last_of s) n wait.0.on.more (reached.0 still_open) (further_of s t wait.0.on)
     ] in
     let was : At w.records = arrived_from n w.port w.records (all_prefix (λ (a : Arrival). n ≤ a.frame.stamp) (arrived w.port w.records) (arrivals_of waiting) all) in
-    let here : At v.records = subst At (sym wait.0.queue) (all_append (λ (r : Entry). n ≤ r.stamp) w.records wait.0.on.more was came) in
+    let here : At v.records = subst At (sym wait.0.queue) (all_append (λ (r : Record). n ≤ r.stamp) w.records wait.0.on.more was came) in
     all_append (λ (a : Arrival). n ≤ a.frame.stamp) (arrived v.port v.records) (arrivals_of more)
     (all_arrived (λ (a : Arrival). n ≤ a.frame.stamp) v.port v.records here)
     (wait_from n streams later waiting more wait.1 (λ all. refl) reached.1 (all_back (λ (a : Arrival). n ≤ a.frame.stamp) (arrived w.port w.records) (arrivals_of waiting) all))
-
-reached-less : (h k : ℕ) (streams : List Stream) → h ≤ k → HaveReached k streams → HaveReached h streams
-reached-less h k [] le all = tt
-reached-less h k (s ∷ streams) le all = ((λ (o : s.closed ≡ false). let at = all.0 o in omega (arith, le, at)), reached-less h k streams le all.1)
 
 -- whoever is not past the frontier was reached by all open captures
 not_past : (n : ℕ) (streams : List Stream) → n ≤ come_to (frontier streams) → HaveReached n streams
 not_past n streams le = by_prefix (frontier streams) refl where
   closed_all : (ss : List Stream) → AllEnded ss → HaveReached n ss
   closed_all [] all = tt
-  closed_all (s ∷ ss) all = ((λ (o : s.closed ≡ false). absurd (differ s.closed all.0 o)), closed_all ss all.1) where
-    differ : (b : Bool) → b ≡ true → b ≡ false → ⊥
-    differ b one other = absurd cc
+  closed_all (s ∷ ss) all = ((λ (o : s.closed ≡ false). absurd (both_ways s.closed o all.0)), closed_all ss all.1)
 
   by_prefix : (h : Option ℕ) → frontier streams ≡ h → HaveReached n streams
   by_prefix None is = closed_all streams (all_ended streams is)
-  by_prefix (Some h) is = let same = ap come_to is in reached-less n h streams (omega (arith, le, same)) (have_reached streams h is)
+  by_prefix (Some h) is = let same = ap come_to is in reached-weaken n h streams (omega (arith, le, same)) (have_reached streams h is)
 
 pub get-set : {X : Type 0} (xs : List X) (k j : ℕ) (old new x : X) → slice_get xs k ≡ Some old → slice_get (set xs k new) j ≡ Some x → ((j ≡ k) × (x ≡ new)) ⊎ (slice_get xs j ≡ Some x)
 get-set [] k j old new x at is = absurd cc
-get-set (y ∷ xs) zero zero old new x at is = inl (refl, sym (some_same new x is))
+get-set (y ∷ xs) zero zero old new x at is = inl (refl, sym (same_Some new x is))
 get-set (y ∷ xs) zero (suc j) old new x at is = inr is
 get-set (y ∷ xs) (suc k) zero old new x at is = inr is
 get-set (y ∷ xs) (suc k) (suc j) old new x at is = elim (get-set xs k j old new x at is) [
@@ -230,7 +219,7 @@ outs_stay {Z = Z} t given h s lanes k old new at out taken outs place p l in_all
       })
 ]
 
-pub reads_on : {Z : Type 0} → MergedIsAMerge → MergedIsByStampAndPort → (t : Content) (lanes : List (Lane Z)) (s : State) (counts : Tally) (k : ℕ) (old new : Lane Z) (more : List Entry)
+pub reads_on : {Z : Type 0} → MergedIsAMerge → MergedIsByStampAndPort → (t : Content) (lanes : List (Lane Z)) (s : State) (counts : Tally) (k : ℕ) (old new : Lane Z) (more : List Record)
     → AreOfTable t lanes → slice_get lanes k ≡ Some old → old.ended ≡ false
     → new.port ≡ old.port → new.out.items ≡ old.out.items → new.taken ≡ old.taken → Adds old new more → IsGoing t lanes s counts → IsGoing t (set lanes k new) s counts
 reads_on merge sorted t lanes s counts k old new more of at still_open port out taken adds going = record {
@@ -241,7 +230,7 @@ reads_on merge sorted t lanes s counts k old new more of at still_open port out 
   settling = reads_settle merge sorted lanes going.streams going.given k old new more (lanes_ascend t lanes going.streams of going.lanes_are) going.lanes_are at still_open port adds going.settling;
   is_given = going.is_given;
   come = going.come;
-  later = by_stamp_in At (arrivals_of (map waiting_of (set lanes k new)))
+  later = by_stamp_every At (arrivals_of (map waiting_of (set lanes k new)))
       (wait_from s.run.latest going.streams next (map waiting_of lanes) (map waiting_of (set lanes k new)) wait (λ e. refl) (not_past s.run.latest going.streams going.until)
       (by_stamp_out At (arrivals_of (map waiting_of lanes)) going.later));
   until = let le = going.until in let grows = come_grows going.streams next (early_ends lanes going.streams going.lanes_are)
@@ -261,13 +250,13 @@ reads_on merge sorted t lanes s counts k old new more of at still_open port out 
 
 -- ---- a record is given
 
-pub same_lanes : {Z : Type 0} (lanes : List (Lane Z)) (streams : List Stream) (k : ℕ) (l : Lane Z) (rest : VecDeque Entry Z) → AreLanesOf lanes streams → slice_get lanes k ≡ Some l
+pub same_lanes : {Z : Type 0} (lanes : List (Lane Z)) (streams : List Stream) (k : ℕ) (l : Lane Z) (rest : VecDeque Record Z) → AreLanesOf lanes streams → slice_get lanes k ≡ Some l
     → AreLanesOf (set lanes k (with_waiting rest l)) streams
 same_lanes [] [] k l rest are at = tt
 same_lanes [] (s ∷ streams) k l rest are at = absurd are
 same_lanes (m ∷ lanes) [] k l rest are at = absurd are
 same_lanes {Z = Z} (m ∷ lanes) (s ∷ streams) zero l rest are at =
-    let own : IsLaneOf l s = subst (λ (x : Lane Z). IsLaneOf x s) (some_same m l at) are.0 in (
+    let own : IsLaneOf l s = subst (λ (x : Lane Z). IsLaneOf x s) (same_Some m l at) are.0 in (
       record {
         port = own.port;
         ended = own.ended;

@@ -5,11 +5,11 @@ use Rattle.std.specs.List.{AllByRecursion, position}
 use Rattle.std.specs.Prelude.{Contains}
 use Rattle.std.proofs.lemmas.List.{append-nil, length-map}
 use Rattle.std.proofs.lemmas.Bool.{cases_lt}
-use Rattle.std.proofs.lemmas.Option.{slice_get_within, get_or_from_slice_get}
+use Rattle.std.proofs.lemmas.Option.{slice_get_within, get_or_from_slice_get, same_Some}
 use Rattle.afdx_pcap.specs.Text.{capture_text}
 use Rattle.afdx_table.specs.declared.rows.PortRow.{PortRow}
 use Rattle.afdx_table.specs.Content.{Content}
-use Rattle.afdx_port.specs.Admission.{EarlierEventsStayAdmitted}
+use Rattle.afdx_port.specs.Inner.Admission.{EarlierEventsStayAdmitted}
 use Rattle.afdx_port.specs.Inner.Order.{ReachesInOrder}
 use Rattle.afdx_port.specs.Inner.Course.{EventsAreInParts}
 use Rattle.afdx_core.specs.State.{State, place_of, next_by}
@@ -28,7 +28,8 @@ use Rattle.afdx_session.proofs.Settling.{all_prefix, all_back}
 use Rattle.afdx_session.proofs.Later.{same_sent, same_bytes}
 use Rattle.afdx_session.proofs.Handing.{its_place}
 use Rattle.afdx_session.proofs.Drawing.{goes_out}
-use Rattle.afdx_session.proofs.Going.{Early, lanes_early, some_same, get-set}
+use Rattle.afdx_session.proofs.Going.{Early, lanes_early, get-set}
+use Rattle.afdx_session.proofs.Numbered.{first_same, rest_same, set_here}
 
 -- ---- lanes that have grown
 
@@ -101,7 +102,7 @@ pub grown_on : {Z : Type 0} (start now : List (Lane Z)) (k : ℕ) (old new : Lan
 grown_on [] [] k old new grown at one = tt
 grown_on [] (n ∷ now) k old new grown at one = absurd grown
 grown_on (l ∷ start) [] k old new grown at one = absurd grown
-grown_on {Z = Z} (l ∷ start) (n ∷ now) zero old new grown at one = (grows_both l n new grown.0 (subst (λ (x : Lane Z). IsGrown x new) (sym (some_same n old at)) one), grown.1)
+grown_on {Z = Z} (l ∷ start) (n ∷ now) zero old new grown at one = (grows_both l n new grown.0 (subst (λ (x : Lane Z). IsGrown x new) (sym (same_Some n old at)) one), grown.1)
 grown_on (l ∷ start) (n ∷ now) (suc k) old new grown at one = (grown.0, grown_on start now k old new grown.1 at one)
 
 -- ---- one port after the other
@@ -129,15 +130,11 @@ pub port_of_lane : {Z : Type 0} (ports : List PortRow) (lanes : List (Lane Z)) (
 port_of_lane [] [] k l same at = absurd cc
 port_of_lane [] (m ∷ lanes) k l same at = absurd cc
 port_of_lane (p ∷ ports) [] k l same at = absurd cc
-port_of_lane {Z = Z} (p ∷ ports) (m ∷ lanes) zero l same at = (p, refl, first same ∙ ap (λ (x : Lane Z). x.port) (some_same m l at)) where
-  first : m.port ∷ map (λ (x : Lane Z). x.port) lanes ≡ p.id ∷ map (λ (q : PortRow). q.id) ports → p.id ≡ m.port
-  first e = cc
-port_of_lane {Z = Z} (p ∷ ports) (m ∷ lanes) (suc k) l same at = port_of_lane ports lanes k l (rest same) at where
-  rest : m.port ∷ map (λ (x : Lane Z). x.port) lanes ≡ p.id ∷ map (λ (q : PortRow). q.id) ports → map (λ (x : Lane Z). x.port) lanes ≡ map (λ (q : PortRow). q.id) ports
-  rest e = cc
+port_of_lane {Z = Z} (p ∷ ports) (m ∷ lanes) zero l same at = (p, refl, sym (first_same same) ∙ ap (λ (x : Lane Z). x.port) (same_Some m l at))
+port_of_lane {Z = Z} (p ∷ ports) (m ∷ lanes) (suc k) l same at = port_of_lane ports lanes k l (rest_same same) at
 
 differ_places : (m n : ℕ) (o : Option ℕ) → o ≡ Some n → (m ≡ n → ⊥) → o ≢ Some m
-differ_places m n o is differ same = differ (some_same m n (sym same ∙ is))
+differ_places m n o is differ same = differ (same_Some m n (sym same ∙ is))
 
 pub drained_on : {Z : Type 0} → EventsAreInParts → ReachesInOrder → (t : Content) (given : List Arrival) (h k : ℕ) (s next : State) (lanes : List (Lane Z)) (n : ℕ) (old new : Lane Z)
     → AreOfTable t lanes → IsAt t given k s → h ≤ k
@@ -151,7 +148,7 @@ drained_on {Z} parts reaches t given h k s next lanes n old new of at le is_old 
       | inl before ↦ stays place p l k (λ same. absurd (omega (arith, same, before))) (was.done place p l before is_port other)
       | inr after ↦
           let same : place ≡ n = omega (arith, lt, after) in
-          subst (λ (x : Lane Z). IsOut t given k next p place x) (some_same new l (sym (set_here lanes n old new is_old) ∙ ap (slice_get (set lanes n new)) (sym same) ∙ is_lane))
+          subst (λ (x : Lane Z). IsOut t given k next p place x) (same_Some new l (sym (set_here lanes n old new is_old) ∙ ap (slice_get (set lanes n new)) (sym same) ∙ is_lane))
           (subst (λ m. IsOut t given k next p m new) (sym same) (here p (ap (slice_get t.ports) (sym same) ∙ is_port)))
     ]
   ];
@@ -160,11 +157,6 @@ drained_on {Z} parts reaches t given h k s next lanes n old new of at le is_old 
     | inr other ↦ stays place p l h (λ same. omega (arith, same, le_place)) (was.rest place p l (omega (arith, le_place)) is_port other)
   ];
 } where
-  set_here : (xs : List (Lane Z)) (j : ℕ) (x y : Lane Z) → slice_get xs j ≡ Some x → slice_get (set xs j y) j ≡ Some y
-  set_here [] j x y is = absurd cc
-  set_here (z ∷ xs) zero x y is = refl
-  set_here (z ∷ xs) (suc j) x y is = set_here xs j x y is
-
   row : (p : PortRow) × (slice_get t.ports n ≡ Some p) × (p.id ≡ old.port)
   row = port_of_lane t.ports lanes n old of.ports is_old
 
@@ -179,7 +171,7 @@ drained_on {Z} parts reaches t given h k s next lanes n old new of at le is_old 
 
   here : (p : PortRow) → slice_get t.ports n ≡ Some p → IsOut t given k next p n new
   here p is_port =
-      let id : p.id ≡ old.port = ap (λ (q : PortRow). q.id) (some_same p row.0 (sym is_port ∙ row.1)) ∙ row.2 in
+      let id : p.id ≡ old.port = ap (λ (q : PortRow). q.id) (same_Some p row.0 (sym is_port ∙ row.1)) ∙ row.2 in
       goes_out parts reaches t given h k s next p n old new at le (ap (λ m. place_of s.run m) id ∙ place_is) is_port (was.rest n p old (omega arith) is_port is_old)
       (subst (λ m. Draws given m n s next old.out.items new.out.items) (sym id) (draws n place_is long at.is_given.frames))
       (ap (λ m. next_by next.run (place_of next.run m)) id ∙ none) taken

@@ -4,16 +4,18 @@ use Rattle.std.specs.List.{AllByRecursion, flat_map}
 use Rattle.std.proofs.lemmas.List.{append-nil, map-append}
 use Rattle.std.proofs.lemmas.List.Elements.{filter-append}
 use Rattle.std.proofs.lemmas.Grind.{flat_map-append}
-use Rattle.std.proofs.lemmas.Bool.{cases_Bool}
+use Rattle.std.proofs.lemmas.Bool.{cases_Bool, leb-true, leb-false, both_ways}
 use Rattle.std.proofs.lemmas.Bool.Decides.{nat_tests}
-use Rattle.afdx_pcap.specs.Entry.{Entry}
+use Rattle.std.proofs.lemmas.Option.{same_Some}
+use Rattle.afdx_pcap.specs.Record.{Record}
 use Rattle.afdx_pcap.specs.Fault.{last_stamp}
 use Rattle.afdx_pcap.specs.Text.{header_text, record_text, capture_text}
 use Rattle.afdx_table.specs.declared.rows.PortRow.{PortRow}
 use Rattle.afdx_table.specs.Content.{Content}
 use Rattle.afdx_port.specs.declared.Sent.{Sent}
 use Rattle.afdx_port.specs.Service.{Event, sending, aging, instant, reach, service, before, sent_of}
-use Rattle.afdx_port.specs.Admission.{admitted, EarlierEventsStayAdmitted}
+use Rattle.afdx_port.specs.Admission.{admitted}
+use Rattle.afdx_port.specs.Inner.Admission.{EarlierEventsStayAdmitted}
 use Rattle.afdx_port.specs.Inner.Order.{ReachesInOrder}
 use Rattle.afdx_port.specs.Inner.Course.{EventsAreInParts}
 use Rattle.afdx_isolation.specs.Table.{settings_of}
@@ -22,7 +24,7 @@ use Rattle.afdx_core.specs.Merge.{Arrival, Capture, Rises, arrivals_of, placed, 
 use Rattle.afdx_session.specs.Inner.Merging.{AreInOrder}
 use Rattle.afdx_session.specs.Output.{rows_of, sent_by, written, output_of, output_text}
 use Rattle.afdx_session.specs.Streams.{Stream, captures_of, last_of, merged_so_far, least, frontier, sent_up_to, output_so_far, text_so_far, GoesOn, GoOn, whole_of}
-use Rattle.afdx_session.proofs.Joining.{le_true, le_false, AllFrom, first-placed, later-placed, frames-from, weaken, by_stamp-in_order}
+use Rattle.afdx_session.proofs.Joining.{AllFrom, first-placed, later-placed, frames-from, weaken, by_stamp-in_order, records_weaken}
 use Rattle.afdx_session.proofs.Numbered.{all_filter}
 use Rattle.afdx_session.proofs.Later.{same_sent, same_bytes}
 
@@ -40,11 +42,11 @@ filter-placed p a [] rises = refl
 filter-placed p a (b ∷ xs) rises =
     elim (cases_Bool (nat_le a.frame.stamp b.frame.stamp)) [
       | inl sooner ↦
-          let le = le_true a.frame.stamp b.frame.stamp sooner in
+          let le = leb-true a.frame.stamp b.frame.stamp sooner in
           let all : AllFrom a.frame.stamp (b ∷ xs) = (le, weaken b.frame.stamp a.frame.stamp xs le (frames-from b.frame.stamp xs rises.0)) in
           rw sooner (ap (λ more. cond (p a) more (filter p (b ∷ xs))) (sym (first-placed a (filter p (b ∷ xs)) (all_filter (λ (c : Arrival). a.frame.stamp ≤ c.frame.stamp) p (b ∷ xs) all))))
       | inr after ↦
-          let lt = le_false a.frame.stamp b.frame.stamp after in
+          let lt = leb-false a.frame.stamp b.frame.stamp after in
           rw after (by_own (p b) refl lt (filter-placed p a xs rises.1))
     ] where
       by_own : (t : Bool) → p b ≡ t → b.frame.stamp < a.frame.stamp → filter p (placed a xs) ≡ cond (p a) (placed a (filter p xs)) (filter p xs)
@@ -110,33 +112,33 @@ cut h (a ∷ arrivals) rises = by_first (is_early h a) refl (cut h arrivals rise
 -- ---- captures that go on
 
 -- further records come no sooner than the last one
-further : (last : ℕ) (rs more : List Entry) → AllByRecursion (λ (r : Entry). last ≤ r.stamp) (rs ++ more) → Rises (rs ++ more) → AllByRecursion (λ (r : Entry). last_stamp last rs ≤ r.stamp) more
+further : (last : ℕ) (rs more : List Record) → AllByRecursion (λ (r : Record). last ≤ r.stamp) (rs ++ more) → Rises (rs ++ more) → AllByRecursion (λ (r : Record). last_stamp last rs ≤ r.stamp) more
 further last [] more all rises = all
 further last (r ∷ rs) more all rises = further r.stamp rs more rises.0 rises.1
 
-from_zero : (rs : List Entry) → AllByRecursion (λ (r : Entry). 0 ≤ r.stamp) rs
+from_zero : (rs : List Record) → AllByRecursion (λ (r : Record). 0 ≤ r.stamp) rs
 from_zero [] = tt
 from_zero (r ∷ rs) = (omega arith, from_zero rs)
 
-pub further_of : (s later : Stream) (on : GoesOn s later) → AllByRecursion (λ (r : Entry). last_of s ≤ r.stamp) on.more
+pub further_of : (s later : Stream) (on : GoesOn s later) → AllByRecursion (λ (r : Record). last_of s ≤ r.stamp) on.more
 further_of s later on = further 0 s.records on.more (from_zero (s.records ++ on.more)) (subst Rises on.records on.in_order)
 
 -- and the last of them comes no sooner
-last_after : (last : ℕ) (more : List Entry) → AllByRecursion (λ (r : Entry). last ≤ r.stamp) more → Rises more → last ≤ last_stamp last more
+last_after : (last : ℕ) (more : List Record) → AllByRecursion (λ (r : Record). last ≤ r.stamp) more → Rises more → last ≤ last_stamp last more
 last_after last [] all rises = omega arith
 last_after last (r ∷ more) all rises = let le = last_after r.stamp more rises.0 rises.1 in omega (arith, le, all.0)
 
-last-append : (last : ℕ) (rs more : List Entry) → last_stamp last (rs ++ more) ≡ last_stamp (last_stamp last rs) more
+last-append : (last : ℕ) (rs more : List Record) → last_stamp last (rs ++ more) ≡ last_stamp (last_stamp last rs) more
 last-append last [] more = refl
 last-append last (r ∷ rs) more = last-append r.stamp rs more
 
-rises_after : (rs more : List Entry) → Rises (rs ++ more) → Rises more
-rises_after [] more rises = rises
-rises_after (r ∷ rs) more rises = rises_after rs more rises.1
+pub rises_back : (rs more : List Record) → Rises (rs ++ more) → Rises more
+rises_back [] more rises = rises
+rises_back (r ∷ rs) more rises = rises_back rs more rises.1
 
 pub last_grows : (s later : Stream) → GoesOn s later → last_of s ≤ last_of later
 last_grows s later on =
-    let le = last_after (last_of s) on.more (further_of s later on) (rises_after s.records on.more (subst Rises on.records on.in_order)) in
+    let le = last_after (last_of s) on.more (further_of s later on) (rises_back s.records on.more (subst Rises on.records on.in_order)) in
     let same = ap (last_stamp 0) on.records ∙ last-append 0 s.records on.more in
     omega (arith, le, same)
 
@@ -145,9 +147,6 @@ last_grows s later on =
 -- each capture that has not ended has come to the instant
 abbrev pub HaveReached : ℕ → List Stream → Type 0
 HaveReached h streams = AllByRecursion (λ (s : Stream). s.closed ≡ false → h ≤ last_of s) streams
-
-some_same : {A : Type 0} (x y : A) → Some x ≡ Some y → x ≡ y
-some_same x y e = cc
 
 least_first : (n : ℕ) (m : Option ℕ) → least n m ≤ n
 least_first n None = omega arith
@@ -182,12 +181,9 @@ all_ended (s ∷ streams) none = elim (cases_Bool s.closed) [
 pub have_reached : (streams : List Stream) (h : ℕ) → frontier streams ≡ Some h → HaveReached h streams
 have_reached [] h is = tt
 have_reached (s ∷ streams) h is = elim (cases_Bool s.closed) [
-  | inl closed ↦ ((λ (still_open : s.closed ≡ false). absurd (differ closed still_open)), have_reached streams h (sym (frontier-closed s streams closed) ∙ is))
-  | inr still_open ↦ by_rest (frontier streams) refl (some_same _ h (sym (frontier-open s streams still_open) ∙ is)) (λ m some. have_reached streams m some)
+  | inl closed ↦ ((λ (still_open : s.closed ≡ false). absurd (both_ways s.closed still_open closed)), have_reached streams h (sym (frontier-closed s streams closed) ∙ is))
+  | inr still_open ↦ by_rest (frontier streams) refl (same_Some _ h (sym (frontier-open s streams still_open) ∙ is)) (λ m some. have_reached streams m some)
 ] where
-  differ : s.closed ≡ true → s.closed ≡ false → ⊥
-  differ one other = absurd cc
-
   ended : (more : List Stream) → AllByRecursion (λ (u : Stream). u.closed ≡ true) more → HaveReached h more
   ended [] all = tt
   ended (u ∷ more) all = ((λ (still_open : u.closed ≡ false). absurd (both u all.0 still_open)), ended more all.1) where
@@ -206,7 +202,7 @@ pub frontier_above : (h k : ℕ) (streams : List Stream) → HaveReached h strea
 frontier_above h k [] all is = absurd cc
 frontier_above h k (s ∷ streams) all is = elim (cases_Bool s.closed) [
   | inl closed ↦ frontier_above h k streams all.1 (sym (frontier-closed s streams closed) ∙ is)
-  | inr still_open ↦ by_rest (frontier streams) refl (all.0 still_open) (some_same _ k (sym (frontier-open s streams still_open) ∙ is)) (λ m some. frontier_above h m streams all.1 some)
+  | inr still_open ↦ by_rest (frontier streams) refl (all.0 still_open) (same_Some _ k (sym (frontier-open s streams still_open) ∙ is)) (λ m some. frontier_above h m streams all.1 some)
 ] where
   by_rest : (rest : Option ℕ) → frontier streams ≡ rest → h ≤ last_of s → least (last_of s) rest ≡ k → ((m : ℕ) → frontier streams ≡ Some m → h ≤ m) → h ≤ k
   by_rest None none le same above = omega (arith, le, same)
@@ -219,29 +215,23 @@ reached_on h [] (next ∷ later) all on = absurd on
 reached_on h (s ∷ streams) [] all on = absurd on
 reached_on h (s ∷ streams) (next ∷ later) all on = (
   (λ (still_open : next.closed ≡ false). elim (cases_Bool s.closed) [
-    | inl closed ↦ absurd (differ (on.0.ended closed).1 still_open)
+    | inl closed ↦ absurd (both_ways next.closed still_open (on.0.ended closed).1)
     | inr was_open ↦ let here = all.0 was_open in let grows = last_grows s next on.0 in omega (arith, here, grows)
   ]),
   reached_on h streams later all.1 on.1,
-) where
-  differ : next.closed ≡ true → next.closed ≡ false → ⊥
-  differ one other = absurd cc
+)
 
 -- ---- what comes before it stays
 
-all_at : (h port : ℕ) (rs : List Entry) → AllByRecursion (λ (r : Entry). h ≤ r.stamp) rs → AllFrom h (map {B = Arrival} (λ (r : Entry). record { port = port; frame = r }) rs)
+all_at : (h port : ℕ) (rs : List Record) → AllByRecursion (λ (r : Record). h ≤ r.stamp) rs → AllFrom h (map {B = Arrival} (λ (r : Record). record { port = port; frame = r }) rs)
 all_at h port [] all = tt
 all_at h port (r ∷ rs) all = (all.0, all_at h port rs all.1)
 
-pub entries_weaken : (h n : ℕ) (rs : List Entry) → h ≤ n → AllByRecursion (λ (r : Entry). n ≤ r.stamp) rs → AllByRecursion (λ (r : Entry). h ≤ r.stamp) rs
-entries_weaken h n [] le all = tt
-entries_weaken h n (r ∷ rs) le all = (omega (arith, le, all.0), entries_weaken h n rs le all.1)
-
 -- what a capture adds comes at the instant or later
-pub more_from : (h : ℕ) (s later : Stream) (on : GoesOn s later) → (s.closed ≡ false → h ≤ last_of s) → AllByRecursion (λ (r : Entry). h ≤ r.stamp) on.more
+pub more_from : (h : ℕ) (s later : Stream) (on : GoesOn s later) → (s.closed ≡ false → h ≤ last_of s) → AllByRecursion (λ (r : Record). h ≤ r.stamp) on.more
 more_from h s later on reached = elim (cases_Bool s.closed) [
-  | inl closed ↦ subst (λ (rs : List Entry). AllByRecursion (λ (r : Entry). h ≤ r.stamp) rs) (sym (on.ended closed).0) tt
-  | inr still_open ↦ entries_weaken h (last_of s) on.more (reached still_open) (further_of s later on)
+  | inl closed ↦ subst (λ (rs : List Record). AllByRecursion (λ (r : Record). h ≤ r.stamp) rs) (sym (on.ended closed).0) tt
+  | inr still_open ↦ records_weaken (last_of s) h on.more (reached still_open) (further_of s later on)
 ]
 
 early_same : (h : ℕ) (streams later : List Stream) → HaveReached h streams → GoOn streams later → filter (is_early h) (arrivals_of (captures_of later))
@@ -250,12 +240,12 @@ early_same h [] [] all on = refl
 early_same h [] (next ∷ later) all on = absurd on
 early_same h (s ∷ streams) [] all on = absurd on
 early_same h (s ∷ streams) (next ∷ later) all on =
-    let f : ℕ → List Entry → List Arrival = λ port rs. map (λ (r : Entry). record { port = port; frame = r }) rs in
+    let f : ℕ → List Record → List Arrival = λ port rs. map (λ (r : Record). record { port = port; frame = r }) rs in
     let others = arrivals_of (captures_of later) in
     filter-append (is_early h) (f next.port next.records) others
     ∙ ap (λ port. filter (is_early h) (f port next.records) ++ filter (is_early h) others) on.0.port
     ∙ ap (λ rs. filter (is_early h) (f s.port rs) ++ filter (is_early h) others) on.0.records
-    ∙ ap (λ xs. filter (is_early h) xs ++ filter (is_early h) others) (map-append {B = Arrival} (λ (r : Entry). record { port = s.port; frame = r }) s.records on.0.more)
+    ∙ ap (λ xs. filter (is_early h) xs ++ filter (is_early h) others) (map-append {B = Arrival} (λ (r : Record). record { port = s.port; frame = r }) s.records on.0.more)
     ∙ ap (λ xs. xs ++ filter (is_early h) others) (filter-append (is_early h) (f s.port s.records) (f s.port on.0.more))
     ∙ ap (λ xs. (filter (is_early h) (f s.port s.records) ++ xs) ++ filter (is_early h) others) (none_early h (f s.port on.0.more) (all_at h s.port on.0.more (more_from h s next on.0 all.0)))
     ∙ ap (λ xs. xs ++ filter (is_early h) others) (append-nil (filter (is_early h) (f s.port s.records)))
@@ -354,9 +344,9 @@ beyond h None streams is all = tt
 beyond h (Some k) streams is all = frontier_above h k streams all is
 
 pub output_grows : EarlierEventsStayAdmitted → ReachesInOrder → EventsAreInParts → (t : Content) (streams later : List Stream) (p : PortRow) → GoOn streams later
-    → (rest : List Entry) × (output_so_far t later p ≡ output_so_far t streams p ++ rest)
+    → (rest : List Record) × (output_so_far t later p ≡ output_so_far t streams p ++ rest)
 output_grows stay reaches parts t streams later p on = by_frontier (frontier streams) refl where
-  by_frontier : (h : Option ℕ) → frontier streams ≡ h → (rest : List Entry) × (output_so_far t later p ≡ output_so_far t streams p ++ rest)
+  by_frontier : (h : Option ℕ) → frontier streams ≡ h → (rest : List Record) × (output_so_far t later p ≡ output_so_far t streams p ++ rest)
   by_frontier None none =
       let same = all_same streams later (all_ended streams none) on in
       let no = no_frontier later same.1 in (
@@ -370,7 +360,7 @@ output_grows stay reaches parts t streams later p on = by_frontier (frontier str
       let m = merged_so_far streams in
       let n = merged_so_far later in
       let more = sent_later parts reaches t n h (frontier later) p (beyond h (frontier later) later refl (reached_on h streams later all on)) in
-      let out : List Arrival → List Entry = λ xs. map (written xs) (sent_up_to t xs (Some h) p) in
+      let out : List Arrival → List Record = λ xs. map (written xs) (sent_up_to t xs (Some h) p) in
       let same : out n ≡ out m = early_output stay reaches t h n p (by_stamp-in_order (arrivals_of (captures_of later)))
       ∙ ap out (early_merged h streams later all on)
       ∙ sym (early_output stay reaches t h m p (by_stamp-in_order (arrivals_of (captures_of streams)))) in (

@@ -2,6 +2,8 @@
 use Rattle.std.proofs.Common.{◌≡◌, ℕ, zero, suc, ◌-◌, ◌<◌, ◌≤◌, Bool, true, List, [], ◌∷◌, ◌++◌, map, length, take, drop, set, slice_get, Some, refl, ap, sym, ◌∙◌, arith, append_assoc, subst}
 use Rattle.std.specs.List.{AllByRecursion}
 use Rattle.std.proofs.lemmas.List.{append-nil}
+use Rattle.std.proofs.lemmas.Option.{same_Some}
+use Rattle.std.proofs.Math.Seq.{take-length}
 use Rattle.afdx_pcap.specs.Reading.{Reading, HasTaken}
 use Rattle.afdx_table.specs.Content.{Content}
 use Rattle.afdx_core.specs.State.{State}
@@ -14,7 +16,6 @@ use Rattle.afdx_session.specs.Streams.{Stream}
 use Rattle.afdx_session.specs.Inner.Lanes.{intake_of, waiting_of, IsStill}
 use Rattle.afdx_session.specs.Inner.Kept.{IsLaneOf, AreLanesOf, AreOfTable, text_up_to, IsGoing, IsRunning, IsTouched, AreTouched, AreGrown, IsMarked}
 use Rattle.afdx_session.specs.Inner.View.{IsHalfDone, AreHalfDone, IsSettledLane, AreSettledLanes, intakes_of}
-use Rattle.afdx_session.proofs.Going.{some_same}
 use Rattle.afdx_session.proofs.Firsts.{map-set}
 use Rattle.afdx_session.proofs.Gone.{touched_none, touched_both}
 
@@ -33,7 +34,7 @@ all_touched_both (l ∷ a) (m ∷ b) (n ∷ c) one two = (touched_both l m n one
 
 pub touched_at : {Z : Type 0} (lanes : List (Lane Z)) (k : ℕ) (old new : Lane Z) → slice_get lanes k ≡ Some old → IsTouched old new → AreTouched lanes (set lanes k new)
 touched_at [] k old new at touched = absurd cc
-touched_at {Z = Z} (l ∷ lanes) zero old new at touched = (subst (λ (x : Lane Z). IsTouched x new) (sym (some_same l old at)) touched, all_touched_none lanes)
+touched_at {Z = Z} (l ∷ lanes) zero old new at touched = (subst (λ (x : Lane Z). IsTouched x new) (sym (same_Some l old at)) touched, all_touched_none lanes)
 touched_at (l ∷ lanes) (suc k) old new at touched = (touched_none l, touched_at lanes k old new at touched)
 
 pub touched_of : {Z : Type 0} (old new : List (Lane Z)) → AreGrown old new → AreTouched old new
@@ -89,7 +90,7 @@ all_half_none (l ∷ lanes) = (half_none l, all_half_none lanes)
 
 pub half_at : {Z : Type 0} (lanes : List (Lane Z)) (k : ℕ) (old new : Lane Z) → slice_get lanes k ≡ Some old → IsHalfDone old new → AreHalfDone lanes (set lanes k new)
 half_at [] k old new at half = absurd cc
-half_at {Z = Z} (l ∷ lanes) zero old new at half = (subst (λ (x : Lane Z). IsHalfDone x new) (sym (some_same l old at)) half, all_half_none lanes)
+half_at {Z = Z} (l ∷ lanes) zero old new at half = (subst (λ (x : Lane Z). IsHalfDone x new) (sym (same_Some l old at)) half, all_half_none lanes)
 half_at (l ∷ lanes) (suc k) old new at half = (half_none l, half_at lanes k old new at half)
 
 pub half_touched : {Z : Type 0} (a b c : List (Lane Z)) → AreHalfDone a b → AreTouched b c → AreHalfDone a c
@@ -112,13 +113,9 @@ still_half a b still bytes = record {
 }
 
 all_bytes : (bytes : List ℕ) (n : ℕ) → n ≡ 0 → take (length bytes - n) bytes ≡ bytes
-all_bytes bytes n none = ap (λ m. take m bytes) (all_of (length bytes) n none) ∙ whole bytes where
+all_bytes bytes n none = ap (λ m. take m bytes) (all_of (length bytes) n none) ∙ take-length bytes where
   all_of : (m k : ℕ) → k ≡ 0 → m - k ≡ m
   all_of m k is = omega (arith, is)
-
-  whole : (xs : List ℕ) → take (length xs) xs ≡ xs
-  whole [] = refl
-  whole (x ∷ xs) = ap (λ ys. x ∷ ys) (whole xs)
 
 -- the prefix is what there was before the piece
 pub fed_half : {Z : Type 0} (a b : Lane Z) → IsStill a b → a.undone ≡ 0 → take (length b.reader.bytes - b.undone) b.reader.bytes ≡ a.reader.bytes → IsHalfDone a b
@@ -225,7 +222,7 @@ settled_at : {Z : Type 0} (a b : List (Lane Z)) (k : ℕ) (m : Lane Z) → AreSe
 settled_at [] [] k m settled at = absurd cc
 settled_at [] (n ∷ b) k m settled at = absurd settled
 settled_at (l ∷ a) [] k m settled at = absurd settled
-settled_at {Z = Z} (l ∷ a) (n ∷ b) zero m settled at = (l, refl, subst (λ (x : Lane Z). IsSettledLane l x) (some_same n m at) settled.0)
+settled_at {Z = Z} (l ∷ a) (n ∷ b) zero m settled at = (l, refl, subst (λ (x : Lane Z). IsSettledLane l x) (same_Some n m at) settled.0)
 settled_at (l ∷ a) (n ∷ b) (suc k) m settled at = settled_at a b k m settled.1 at
 
 settled_length : {Z : Type 0} (a b : List (Lane Z)) → AreSettledLanes a b → length b ≡ length a

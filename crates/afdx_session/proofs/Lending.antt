@@ -2,12 +2,15 @@
 use Rattle.std.proofs.Common.{◌≡◌, ℕ, zero, suc, ◌+◌, ◌<◌, ◌≤◌, Bool, true, false, List, [], ◌∷◌, ◌++◌, map, length, get_or, set, slice_get, Some, Vec, refl, ap, sym, ◌∙◌, arith, subst}
 use Rattle.std.specs.List.{AllByRecursion}
 use Rattle.std.proofs.lemmas.List.{length-map}
-use Rattle.afdx_pcap.specs.Entry.{Entry}
+use Rattle.std.proofs.lemmas.Option.{same_Some}
+use Rattle.std.proofs.lemmas.Bool.{both_ways}
+use Rattle.std.proofs.Math.Numerals.{suc-eq-add-one}
+use Rattle.afdx_pcap.specs.Record.{Record}
 use Rattle.afdx_pcap.specs.Capture.{IsCapture}
 use Rattle.afdx_pcap.specs.Reading.{HasTaken, whole_reading}
 use Rattle.afdx_pcap.specs.Reading as pcap
 use Rattle.afdx_table.specs.declared.rows.PortRow.{PortRow}
-use Rattle.afdx_core.specs.Merge.{MergedIsAMerge, MergedIsByStampAndPort}
+use Rattle.afdx_core.specs.Inner.Merge.{MergedIsAMerge, MergedIsByStampAndPort}
 use Rattle.afdx_session.specs.declared.lane.Lane.{Lane}
 use Rattle.afdx_session.specs.declared.machine.Machine.{Machine}
 use Rattle.afdx_session.specs.declared.plan.RunFault.{RunFault}
@@ -19,18 +22,20 @@ use Rattle.afdx_session.specs.Inner.Lent.{IsOver, texts_over, IsOneFault}
 use Rattle.afdx_session.specs.Inner.Kept.{AreOfTable, IsGoing, AreTouched}
 use Rattle.afdx_session.specs.Inner.View.{IsFreshLane, AreFreshLanes, AreLent, AreSettledLanes}
 use Rattle.afdx_session.proofs.Firsts.{get-map}
-use Rattle.afdx_session.proofs.Going.{some_same, reads_on}
+use Rattle.afdx_session.proofs.Going.{reads_on}
 use Rattle.afdx_session.proofs.Gone.{at_index}
 use Rattle.afdx_session.proofs.Intakes.{still_of_table}
+use Rattle.afdx_session.proofs.Numbered.{first_same, rest_same}
 
 -- ---- one lane
 
 -- nothing is taken at first
-taken_none : (bytes : List ℕ) (records : List Entry) → length records ≡ 0 → HasTaken (record { bytes = bytes; given = 0 }) records
+taken_none : (bytes : List ℕ) (records : List Record) → length records ≡ 0 → HasTaken (record { bytes = bytes; given = 0 }) records
 taken_none bytes [] count = record { first = tt; count = count }
 taken_none bytes (r ∷ records) count = absurd (omega (arith, count))
 
-pub adds_lent : {Z : Type 0} (old mid new : Lane Z) (text : List ℕ) (more : List Entry) → IsFreshLane old.port old → mid.reader ≡ whole_reading text 0 → mid.last ≡ old.last → mid.waiting ≡ old.waiting
+pub adds_lent : {Z : Type 0} (old mid new : Lane Z) (text : List ℕ) (more : List Record) → IsFreshLane old.port old → mid.reader ≡ whole_reading text 0 → mid.last ≡ old.last → mid.waiting
+    ≡ old.waiting
     → Adds mid new more → Adds old new more
 adds_lent old mid new text more fresh lent last waiting adds = record {
   queue = adds.queue ∙ ap (λ w. w.items ++ more) waiting;
@@ -41,9 +46,6 @@ adds_lent old mid new text more fresh lent last waiting adds = record {
   });
 }
 
-pub not_both : (b : Bool) → b ≡ true → b ≡ false → ⊥
-not_both b one other = absurd cc
-
 -- a lane whose last record has gone reads the next one
 pub draws_over : {Z : Type 0} (found : Bool) (old new : Lane Z) → old.reader.closed ≡ true → old.taken ≡ 0 → old.ended ≡ false → old.waiting.items ≡ [] → IsReadOn old new → HasDrawn found old new
     → IsOver new
@@ -51,22 +53,22 @@ draws_over true old new closed taken still_open none on drawn = record {
   closed = on.ended ∙ closed;
   taken = on.taken ∙ taken;
   head = λ is. (drawn.frame, drawn.adds.queue ∙ ap (λ rs. rs ++ drawn.frame ∷ []) none, drawn.last);
-  read = λ is. absurd (not_both new.ended is (drawn.ended ∙ still_open));
+  read = λ is. absurd (both_ways new.ended (drawn.ended ∙ still_open) is);
 }
 draws_over false old new closed taken still_open none on drawn = record {
   closed = on.ended ∙ closed;
   taken = on.taken ∙ taken;
-  head = λ is. absurd (not_both new.ended (drawn.read.ended ∙ on.ended ∙ closed) is);
+  head = λ is. absurd (both_ways new.ended is (drawn.read.ended ∙ on.ended ∙ closed));
   read = λ is. (drawn.adds.queue ∙ ap (λ rs. rs ++ []) none, drawn.read);
 }
 
-pub drawn_adds : {Z : Type 0} (found : Bool) (old new : Lane Z) → HasDrawn found old new → (more : List Entry) × Adds old new more
+pub drawn_adds : {Z : Type 0} (found : Bool) (old new : Lane Z) → HasDrawn found old new → (more : List Record) × Adds old new more
 drawn_adds true old new drawn = (drawn.frame ∷ [], drawn.adds)
 drawn_adds false old new drawn = ([], drawn.adds)
 
 pub lends_first : {Z : Type 0} (found : Bool) (old mid new : Lane Z) (text : List ℕ) → IsFreshLane old.port old → mid.reader ≡ whole_reading text 0 → mid.last ≡ old.last → mid.waiting ≡ old.waiting
     → mid.ended ≡ old.ended → mid.taken ≡ old.taken → IsReadOn mid new → HasDrawn found mid new
-    → ((more : List Entry) × Adds old new more) × IsOver new
+    → ((more : List Record) × Adds old new more) × IsOver new
 lends_first found old mid new text fresh lent last waiting ended taken on drawn =
     let added = drawn_adds found mid new drawn in (
       (added.0, adds_lent old mid new text added.0 fresh lent last waiting added.1),
@@ -87,14 +89,6 @@ LentUpTo n (text ∷ texts) [] = ⊥
 LentUpTo zero (text ∷ texts) (l ∷ lanes) = (l.port ≡ text.0) × IsFreshLane l.port l × LentUpTo zero texts lanes
 LentUpTo (suc n) (text ∷ texts) (l ∷ lanes) = IsOn text l × LentUpTo n texts lanes
 
-first_same : (m n : ℕ) (ms ns : List ℕ) → m ∷ ms ≡ n ∷ ns → (m ≡ n) × (ms ≡ ns)
-first_same m n ms ns e = (head e, tail e) where
-  head : m ∷ ms ≡ n ∷ ns → m ≡ n
-  head e = cc
-
-  tail : m ∷ ms ≡ n ∷ ns → ms ≡ ns
-  tail e = cc
-
 lent_none : {Z : Type 0} (texts : List Text) (ports : List PortRow) (lanes : List (Lane Z)) → map (λ (text : Text). text.0) texts ≡ map (λ (p : PortRow). p.id) ports → AreFreshLanes ports lanes
     → LentUpTo 0 texts lanes
 lent_none [] [] [] same fresh = tt
@@ -103,8 +97,7 @@ lent_none [] (p ∷ ports) lanes same fresh = absurd cc
 lent_none (text ∷ texts) [] lanes same fresh = absurd cc
 lent_none (text ∷ texts) (p ∷ ports) [] same fresh = absurd fresh
 lent_none {Z} (text ∷ texts) (p ∷ ports) (l ∷ lanes) same fresh =
-    let both = first_same text.0 p.id (map (λ (other : Text). other.0) texts) (map (λ (q : PortRow). q.id) ports) same in
-    (fresh.0.port_is ∙ sym both.0, subst (λ n. IsFreshLane n l) (sym fresh.0.port_is) fresh.0, lent_none texts ports lanes both.1 fresh.1)
+    (fresh.0.port_is ∙ sym (first_same same), subst (λ n. IsFreshLane n l) (sym fresh.0.port_is) fresh.0, lent_none texts ports lanes (rest_same same) fresh.1)
 
 -- the next lane is a fresh one
 pub record IsNextOf {Z : Type 0} (texts : List Text) (n : ℕ) (l : Lane Z) : Type 0 where
@@ -117,7 +110,7 @@ next_lane : {Z : Type 0} (n : ℕ) (texts : List Text) (lanes : List (Lane Z)) (
 next_lane n [] [] l lent at = absurd cc
 next_lane n [] (m ∷ lanes) l lent at = absurd lent
 next_lane n (text ∷ texts) [] l lent at = absurd lent
-next_lane {Z = Z} zero (text ∷ texts) (m ∷ lanes) l lent at = subst (λ (x : Lane Z). IsNextOf (text ∷ texts) 0 x) (some_same m l at) (record { text = text; at = refl; port = lent.0; fresh = lent.1 })
+next_lane {Z = Z} zero (text ∷ texts) (m ∷ lanes) l lent at = subst (λ (x : Lane Z). IsNextOf (text ∷ texts) 0 x) (same_Some m l at) (record { text = text; at = refl; port = lent.0; fresh = lent.1 })
 next_lane (suc n) (text ∷ texts) (m ∷ lanes) l lent at = let next = next_lane n texts lanes l lent.1 at in record { text = next.text; at = next.at; port = next.port; fresh = next.fresh }
 
 lent_suc : {Z : Type 0} (n : ℕ) (texts : List Text) (lanes : List (Lane Z)) (text : Text) (new : Lane Z) → LentUpTo n texts lanes → slice_get texts n ≡ Some text → IsOn text new
@@ -125,11 +118,8 @@ lent_suc : {Z : Type 0} (n : ℕ) (texts : List Text) (lanes : List (Lane Z)) (t
 lent_suc n [] [] text new lent at is = absurd cc
 lent_suc n [] (m ∷ lanes) text new lent at is = absurd lent
 lent_suc n (other ∷ texts) [] text new lent at is = absurd lent
-lent_suc {Z} zero (other ∷ texts) (m ∷ lanes) text new lent at is = (subst (λ (t : Text). IsOn t new) (sym (some_same other text at)) is, lent.2)
+lent_suc {Z} zero (other ∷ texts) (m ∷ lanes) text new lent at is = (subst (λ (t : Text). IsOn t new) (sym (same_Some other text at)) is, lent.2)
 lent_suc (suc n) (other ∷ texts) (m ∷ lanes) text new lent at is = (lent.0, lent_suc n texts lanes text new lent.1 at is)
-
-plus_one : (n : ℕ) → suc n ≡ n + 1
-plus_one n = omega arith
 
 lent_all : {Z : Type 0} (n : ℕ) (texts : List Text) (lanes : List (Lane Z)) → length lanes ≤ n → LentUpTo n texts lanes → AllByRecursion IsOver lanes × (texts_over lanes ≡ texts)
 lent_all n [] [] le lent = (tt, refl)
@@ -147,7 +137,7 @@ lent_all (suc n) (text ∷ texts) (l ∷ lanes) le lent =
 pub ports_stay : {Z : Type 0} (lanes : List (Lane Z)) (k : ℕ) (old new : Lane Z) → slice_get lanes k ≡ Some old → new.port ≡ old.port → map (λ (l : Lane Z). l.port) (set lanes k new)
     ≡ map (λ (l : Lane Z). l.port) lanes
 ports_stay [] k old new at port = absurd cc
-ports_stay {Z = Z} (l ∷ lanes) zero old new at port = ap (λ n. n ∷ map (λ (x : Lane Z). x.port) lanes) (port ∙ ap (λ (x : Lane Z). x.port) (sym (some_same l old at)))
+ports_stay {Z = Z} (l ∷ lanes) zero old new at port = ap (λ n. n ∷ map (λ (x : Lane Z). x.port) lanes) (port ∙ ap (λ (x : Lane Z). x.port) (sym (same_Some l old at)))
 ports_stay {Z = Z} (l ∷ lanes) (suc k) old new at port = ap (λ ns. l.port ∷ ns) (ports_stay lanes k old new at port)
 
 pub record Lends {Z : Type 0} (start : Machine Z) (texts : List Text) (now : List (Lane Z)) (n : ℕ) : Type 0 where
@@ -163,15 +153,15 @@ lends_none start texts ports fresh of going = record { lent = lent_none texts st
 pub lends_next : {Z : Type 0} (start : Machine Z) (texts : List Text) (now : List (Lane Z)) (n : ℕ) (l : Lane Z) → Lends start texts now n → slice_get now n ≡ Some l → IsNextOf texts n l
 lends_next start texts now n l lends at = next_lane n texts now l lends.lent at
 
-pub lends_one : {Z : Type 0} → MergedIsAMerge → MergedIsByStampAndPort → (start : Machine Z) (texts : List Text) (now : List (Lane Z)) (n : ℕ) (old new : Lane Z) (text : Text) (more : List Entry)
+pub lends_one : {Z : Type 0} → MergedIsAMerge → MergedIsByStampAndPort → (start : Machine Z) (texts : List Text) (now : List (Lane Z)) (n : ℕ) (old new : Lane Z) (text : Text) (more : List Record)
     → Lends start texts now n → slice_get now n ≡ Some old → slice_get texts n ≡ Some text
     → IsStill old new → new.reader.bytes ≡ text.1 → Adds old new more → IsOver new → Lends start texts (set now n new) (n + 1)
 lends_one {Z = Z} merge sorted start texts now n old new text more lends at text_at still bytes adds over =
     let next = next_lane n texts now old lends.lent at in
-    let same = some_same next.text text (sym next.at ∙ text_at) in
+    let same = same_Some next.text text (sym next.at ∙ text_at) in
     let is : IsOn text new = (still.port ∙ next.port ∙ ap (λ (t : Text). t.0) same, bytes, over) in
     record {
-      lent = subst (λ k. LentUpTo k texts (set now n new)) (plus_one n) (lent_suc n texts now text new lends.lent text_at is);
+      lent = subst (λ k. LentUpTo k texts (set now n new)) (suc-eq-add-one n) (lent_suc n texts now text new lends.lent text_at is);
       of = still_of_table start.switch.run.table now (set now n new) (ports_stay now n old new at still.port) lends.of;
       going = reads_on merge sorted start.switch.run.table now start.switch start.counts n old new more lends.of at next.fresh.ended still.port (ap (λ o. o.items) still.out) still.taken adds
           lends.going;
@@ -183,7 +173,7 @@ pub lends_fault : {Z : Type 0} (start : Machine Z) (texts : List Text) (now : Li
 lends_fault start texts now n old text run.Memory lends at text_at is = tt
 lends_fault start texts now n old text (run.Capture port why) lends at text_at is =
     let next = next_lane n texts now old lends.lent at in
-    let same : text.0 ≡ port = ap (λ (t : Text). t.0) (sym (some_same next.text text (sym next.at ∙ text_at))) ∙ sym next.port ∙ sym is.0 in
+    let same : text.0 ≡ port = ap (λ (t : Text). t.0) (sym (same_Some next.text text (sym next.at ∙ text_at))) ∙ sym next.port ∙ sym is.0 in
     (n, text.1, text_at ∙ ap (λ m. Some (m, text.1)) same, is.1)
 lends_fault start texts now n old text run.WrongPorts lends at text_at is = is
 lends_fault start texts now n old text run.Closed lends at text_at is = is
@@ -213,7 +203,7 @@ text_at {Z} start captures n d of ports lt = get-map text captures n (get_or cap
 
 -- ---- all have ended
 
-whole_text : {Z : Type 0} (l : Lane Z) → IsOver l → l.ended ≡ true → (records : List Entry) × IsCapture l.reader.bytes records
+whole_text : {Z : Type 0} (l : Lane Z) → IsOver l → l.ended ≡ true → (records : List Record) × IsCapture l.reader.bytes records
 whole_text l over ended =
     let sound = subst (pcap.IsSound l.reader.bytes l.reader.given) over.closed (over.read ended).1.sound in (sound.0, sound.1)
 

@@ -1,15 +1,16 @@
 -- Of the captures of a table's ports there is one merge by stamp, then by port number.
 use Rattle.std.proofs.Common.{◌≡◌, ℕ, ◌<◌, ◌≤◌, ◌==◌, Bool, true, false, cond, List, [], ◌∷◌, ◌++◌, map, filter, refl, ap, sym, ◌∙◌, arith, inl, inr, subst}
 use Rattle.std.specs.List.{AllByRecursion}
-use Rattle.std.proofs.lemmas.Bool.Decides.{nat_tests}
-use Rattle.afdx_pcap.specs.Entry.{Entry}
+use Rattle.std.proofs.lemmas.Bool.{eq-eqb, eqb-true}
+use Rattle.afdx_pcap.specs.Record.{Record}
 use Rattle.afdx_table.specs.declared.rows.PortRow.{PortRow}
 use Rattle.afdx_table.specs.WellFormed.{Rises}
-use Rattle.afdx_core.specs.Merge.{Arrival, Capture, part_at, merged, arrivals_of, IsMerge, Precedes, AreByStampAndPort, PortsRise, MergedIsAMerge, MergedIsByStampAndPort}
+use Rattle.afdx_core.specs.Merge.{Arrival, Capture, merged, arrivals_of}
+use Rattle.afdx_core.specs.Inner.Merge.{part_at, IsMerge, Precedes, AreByStampAndPort, PortsRise, MergedIsAMerge, MergedIsByStampAndPort}
 use Rattle.afdx_session.specs.Texts.{Text}
 use Rattle.afdx_session.specs.Reading.{AreCaptures}
 use Rattle.afdx_session.specs.Inner.OneMerge.{MergedIsTheOnlyOne}
-use Rattle.afdx_session.proofs.Numbered.{all_append}
+use Rattle.afdx_session.proofs.Numbered.{all_append, first_same, rest_same}
 use Rattle.afdx_session.proofs.Leaving.{merge_is_read}
 
 -- ---- one merge alone
@@ -21,24 +22,16 @@ part-in port a xs is = ap (λ b. map (λ (x : Arrival). x.frame) (cond b (a ∷ 
 part-out : (port : ℕ) (a : Arrival) (xs : List Arrival) → (a.port == port) ≡ false → part_at port (a ∷ xs) ≡ part_at port xs
 part-out port a xs is = ap (λ b. map (λ (x : Arrival). x.frame) (cond b (a ∷ filter (λ (x : Arrival). x.port == port) xs) (filter (λ (x : Arrival). x.port == port) xs))) is
 
-same_port : (n : ℕ) → (n == n) ≡ true
-same_port n = grind (arith, nat_tests)
-
-pub port_is : (n m : ℕ) → (n == m) ≡ true → n ≡ m
-port_is n m is = grind (arith, nat_tests)
-
 -- a list whose part from a port begins with a record has an arrival of that port and record, and what holds of all holds of it
-first_of_part : (P : Arrival → Type 0) (port : ℕ) (xs : List Arrival) (r : Entry) (rs : List Entry) → part_at port xs ≡ r ∷ rs → AllByRecursion P xs → P (record { port = port; frame = r })
+first_of_part : (P : Arrival → Type 0) (port : ℕ) (xs : List Arrival) (r : Record) (rs : List Record) → part_at port xs ≡ r ∷ rs → AllByRecursion P xs → P (record { port = port; frame = r })
 first_of_part P port [] r rs is all = absurd (none is) where
   none : [] ≡ r ∷ rs → ⊥
   none e = cc
 first_of_part P port (x ∷ xs) r rs is all = by_head (x.port == port) refl (λ later. first_of_part P port xs r rs later all.1) where
   by_head : (b : Bool) → (x.port == port) ≡ b → (part_at port xs ≡ r ∷ rs → P (record { port = port; frame = r })) → P (record { port = port; frame = r })
   by_head true own others =
-      let same = heads (sym (part-in port x xs own) ∙ is) in
-      subst P (ap (λ n. record { port = n; frame = x.frame }) (port_is x.port port own) ∙ ap (λ f. record { port = port; frame = f }) same) all.0 where
-        heads : x.frame ∷ part_at port xs ≡ r ∷ rs → x.frame ≡ r
-        heads e = cc
+      let same : x.frame ≡ r = first_same (sym (part-in port x xs own) ∙ is) in
+      subst P (ap (λ n. record { port = n; frame = x.frame }) (eqb-true x.port port own) ∙ ap (λ f. record { port = port; frame = f }) same) all.0
   by_head false other others = others (sym (part-out port x xs other) ∙ is)
 
 precedes_both : (a b : Arrival) → Precedes a b → Precedes b a → (a.port ≡ b.port) × (a.frame.stamp ≡ b.frame.stamp)
@@ -53,19 +46,19 @@ precedes_self a = inr (refl, omega arith)
 -- two lists by stamp and port number with the same part from each port are the same
 pub merge_is_unique : (xs ys : List Arrival) → AreByStampAndPort xs → AreByStampAndPort ys → ((port : ℕ) → part_at port xs ≡ part_at port ys) → xs ≡ ys
 merge_is_unique [] [] sorted ordered same = refl
-merge_is_unique [] (y ∷ ys) sorted ordered same = absurd (none (same y.port ∙ part-in y.port y ys (same_port y.port))) where
+merge_is_unique [] (y ∷ ys) sorted ordered same = absurd (none (same y.port ∙ part-in y.port y ys (eq-eqb y.port y.port refl))) where
   none : [] ≡ y.frame ∷ part_at y.port ys → ⊥
   none e = cc
-merge_is_unique (x ∷ xs) [] sorted ordered same = absurd (none (sym (part-in x.port x xs (same_port x.port)) ∙ same x.port)) where
+merge_is_unique (x ∷ xs) [] sorted ordered same = absurd (none (sym (part-in x.port x xs (eq-eqb x.port x.port refl)) ∙ same x.port)) where
   none : x.frame ∷ part_at x.port xs ≡ [] → ⊥
   none e = cc
 merge_is_unique (x ∷ xs) (y ∷ ys) sorted ordered same =
     ap (λ a. a ∷ xs) head ∙ ap (λ more. y ∷ more) (merge_is_unique xs ys sorted.1 ordered.1 rest) where
       of_x : part_at x.port (x ∷ xs) ≡ x.frame ∷ part_at x.port xs
-      of_x = part-in x.port x xs (same_port x.port)
+      of_x = part-in x.port x xs (eq-eqb x.port x.port refl)
 
       of_y : part_at y.port (y ∷ ys) ≡ y.frame ∷ part_at y.port ys
-      of_y = part-in y.port y ys (same_port y.port)
+      of_y = part-in y.port y ys (eq-eqb y.port y.port refl)
 
       later : Precedes y x
       later = first_of_part (λ b. Precedes y b) x.port (y ∷ ys) x.frame (part_at x.port xs) (sym (same x.port) ∙ of_x) (precedes_self y, ordered.0)
@@ -73,25 +66,19 @@ merge_is_unique (x ∷ xs) (y ∷ ys) sorted ordered same =
       sooner : Precedes x y
       sooner = first_of_part (λ b. Precedes x b) y.port (x ∷ xs) y.frame (part_at y.port ys) (same y.port ∙ of_y) (precedes_self x, sorted.0)
 
-      frames : x.frame ∷ part_at x.port xs ≡ y.frame ∷ part_at y.port ys → x.frame ≡ y.frame
-      frames e = cc
-
       head : x ≡ y
       head =
           let port = (precedes_both x y sooner later).0 in
-          let frame = frames (sym of_x ∙ same x.port ∙ ap (λ n. part_at n (y ∷ ys)) port ∙ of_y) in
+          let frame : x.frame ≡ y.frame = first_same (sym of_x ∙ same x.port ∙ ap (λ n. part_at n (y ∷ ys)) port ∙ of_y) in
           ap (λ n. record { port = n; frame = x.frame }) port ∙ ap (λ f. record { port = y.port; frame = f }) frame
 
       rest : (port : ℕ) → part_at port xs ≡ part_at port ys
       rest port = by_head (y.port == port) refl where
-        tails : (f : Entry) → f ∷ part_at port xs ≡ f ∷ part_at port ys → part_at port xs ≡ part_at port ys
-        tails f e = cc
-
         both : part_at port (y ∷ xs) ≡ part_at port (y ∷ ys)
         both = ap (λ a. part_at port (a ∷ xs)) (sym head) ∙ same port
 
         by_head : (b : Bool) → (y.port == port) ≡ b → part_at port xs ≡ part_at port ys
-        by_head true own = tails y.frame (sym (part-in port y xs own) ∙ both ∙ part-in port y ys own)
+        by_head true own = rest_same (sym (part-in port y xs own) ∙ both ∙ part-in port y ys own)
         by_head false other = sym (part-out port y xs other) ∙ both ∙ part-out port y ys other
 
 -- ---- captures of a table's ports
@@ -106,20 +93,15 @@ read_above n ports [] (c ∷ read) same are above = absurd are
 read_above n ports (text ∷ texts) [] same are above = absurd are
 read_above n [] (text ∷ texts) (c ∷ read) same are above = absurd cc
 read_above n (p ∷ ports) (text ∷ texts) (c ∷ read) same are above =
-    (subst (λ m. n < m) (sym (are.0 ∙ heads same)) above.0, read_above n ports texts read (tails same) are.2 above.1) where
-      heads : {xs ys : List ℕ} → text.0 ∷ xs ≡ p.id ∷ ys → text.0 ≡ p.id
-      heads e = cc
+    (subst (λ m. n < m) (sym (are.0 ∙ first_same same)) above.0, read_above n ports texts read (rest_same same) are.2 above.1)
 
-      tails : {xs ys : List ℕ} → text.0 ∷ xs ≡ p.id ∷ ys → xs ≡ ys
-      tails e = cc
-
-abbrev arrived : ℕ → List Entry → List Arrival
-arrived port rs = map (λ (r : Entry). record { port = port; frame = r }) rs
+abbrev arrived : ℕ → List Record → List Arrival
+arrived port rs = map (λ (r : Record). record { port = port; frame = r }) rs
 
 abbrev NoneBelow : ℕ → List Arrival → Type 0
 NoneBelow n arrivals = AllByRecursion (λ (b : Arrival). n ≤ b.port) arrivals
 
-arrived_none_below : (n port : ℕ) (rs : List Entry) → n ≤ port → NoneBelow n (arrived port rs)
+arrived_none_below : (n port : ℕ) (rs : List Record) → n ≤ port → NoneBelow n (arrived port rs)
 arrived_none_below n port [] le = tt
 arrived_none_below n port (r ∷ rs) le = (le, arrived_none_below n port rs le)
 
@@ -128,7 +110,7 @@ none_below n [] above = tt
 none_below n (c ∷ read) above =
     all_append (λ (b : Arrival). n ≤ b.port) (arrived c.port c.records) (arrivals_of read) (arrived_none_below n c.port c.records (omega (arith, above.0))) (none_below n read above.1)
 
-one_port_first : (port : ℕ) (rs : List Entry) (others : List Arrival) → NoneBelow port others → PortsRise others → PortsRise (arrived port rs ++ others)
+one_port_first : (port : ℕ) (rs : List Record) (others : List Arrival) → NoneBelow port others → PortsRise others → PortsRise (arrived port rs ++ others)
 one_port_first port [] others all rise = rise
 one_port_first port (r ∷ rs) others all rise =
     (all_append (λ (b : Arrival). port ≤ b.port) (arrived port rs) others (arrived_none_below port port rs (omega arith)) all, one_port_first port rs others all rise)
@@ -141,14 +123,9 @@ ports_rise ports [] (c ∷ read) same rises are = absurd are
 ports_rise ports (text ∷ texts) [] same rises are = absurd are
 ports_rise [] (text ∷ texts) (c ∷ read) same rises are = absurd cc
 ports_rise (p ∷ ports) (text ∷ texts) (c ∷ read) same rises are =
-    let here : c.port ≡ p.id = are.0 ∙ heads same in
-    let above : Above c.port read = subst (λ n. Above n read) (sym here) (read_above p.id ports texts read (tails same) are.2 rises.0) in
-    one_port_first c.port c.records (arrivals_of read) (none_below c.port read above) (ports_rise ports texts read (tails same) rises.1 are.2) where
-      heads : {xs ys : List ℕ} → text.0 ∷ xs ≡ p.id ∷ ys → text.0 ≡ p.id
-      heads e = cc
-
-      tails : {xs ys : List ℕ} → text.0 ∷ xs ≡ p.id ∷ ys → xs ≡ ys
-      tails e = cc
+    let here : c.port ≡ p.id = are.0 ∙ first_same same in
+    let above : Above c.port read = subst (λ n. Above n read) (sym here) (read_above p.id ports texts read (rest_same same) are.2 rises.0) in
+    one_port_first c.port c.records (arrivals_of read) (none_below c.port read above) (ports_rise ports texts read (rest_same same) rises.1 are.2)
 
 -- ---- the law
 

@@ -3,15 +3,16 @@ use Rattle.std.proofs.Common.{◌≡◌, ℕ, zero, suc, ◌==◌, Bool, true, f
 use Rattle.std.specs.Prelude.{find, Result}
 use Rattle.std.specs.List.{AllZip}
 use Rattle.std.proofs.lemmas.List.{append-nil}
-use Rattle.std.proofs.lemmas.Bool.Decides.{nat_tests}
+use Rattle.std.proofs.lemmas.Option.{same_Some}
+use Rattle.std.proofs.lemmas.Bool.{eqb-true}
 use Rattle.afdx_pcap.specs.declared.fault.PcapFault.{PcapFault}
 use Rattle.afdx_pcap.specs.declared.format.Format.{Format}
-use Rattle.afdx_pcap.specs.Entry.{Entry}
+use Rattle.afdx_pcap.specs.Record.{Record}
 use Rattle.afdx_pcap.specs.Capture.{header_of, Splits, IsCapture, after}
 use Rattle.afdx_pcap.specs.Reading.{AreFirst}
 use Rattle.afdx_table.specs.declared.rows.PortRow.{PortRow}
 use Rattle.afdx_table.specs.Content.{Content, port_row}
-use Rattle.afdx_port.specs.Admission.{EarlierEventsStayAdmitted}
+use Rattle.afdx_port.specs.Inner.Admission.{EarlierEventsStayAdmitted}
 use Rattle.afdx_port.specs.Inner.Order.{ReachesInOrder}
 use Rattle.afdx_port.specs.Inner.Course.{EventsAreInParts}
 use Rattle.afdx_core.specs.Merge.{Capture, merged}
@@ -25,7 +26,6 @@ use Rattle.afdx_session.specs.Finish.{text_in, texts_in, rest_of}
 use Rattle.afdx_session.specs.Inner.Pieces.{GoesOnTo, CallsGoOn, WasTaken, NothingWasTaken, TakenStays, TakesJoin, IsContinued, bytes_in, capture_at, TakenIsAPrefix, TakesAndRestAreTheOutput}
 use Rattle.afdx_session.proofs.Growing.{prefix_of_output}
 use Rattle.afdx_session.proofs.WholeRecords.{RecordsStay, RecordsAreUnique, holds_prefix, go_on, grows_with_bytes, streams_unique}
-use Rattle.afdx_session.proofs.Going.{some_same}
 use Rattle.afdx_session.proofs.Fresh.{fresh_stream, no_record}
 
 abbrev is_of : ℕ → Intake → Bool
@@ -116,7 +116,7 @@ found_fresh (q ∷ ports) port p found = by (q.id == port) refl (found_fresh por
       ≡ Some (fresh_intake p)
   by true here more =
       ap (λ b. cond b (Some (fresh_intake q)) (find (is_of port) (map fresh_intake ports))) here
-      ∙ ap (λ x. Some (fresh_intake x)) (some_same q p (sym (ap (λ b. cond b (Some q) (find (is_row_of port) ports)) here) ∙ found))
+      ∙ ap (λ x. Some (fresh_intake x)) (same_Some q p (sym (ap (λ b. cond b (Some q) (find (is_row_of port) ports)) here) ∙ found))
   by false other more =
       ap (λ b. cond b (Some (fresh_intake q)) (find (is_of port) (map fresh_intake ports))) other
       ∙ more (sym (ap (λ b. cond b (Some q) (find (is_row_of port) ports)) other) ∙ found)
@@ -174,7 +174,7 @@ prefix_on whole text taken rest more is prefix = is ∙ ap (λ xs. xs ++ more) p
 pub taken_stays : EarlierEventsStayAdmitted → ReachesInOrder → EventsAreInParts → RecordsStay → RecordsAreUnique → TakenStays
 taken_stays stay reaches parts records unique v later port p taken text on same row gone_out was =
     let next = found_later port v.intakes later.intakes was.intake on.fed was.intake_is in
-    let own : was.row ≡ p = some_same was.row p (sym was.row_is ∙ row) in
+    let own : was.row ≡ p = same_Some was.row p (sym was.row_is ∙ row) in
     let was_gone : HasGoneOut v p was.text = subst (λ q. HasGoneOut v q was.text) own was.gone in
     let more = grown stay reaches parts records unique v later p was.text text on was_gone gone_out in
     record {
@@ -215,7 +215,7 @@ found_took port n (j ∷ intakes) i found = by (j.port == port) refl (found_took
   by true here more =
       ap (λ b. find (is_of port) (cond b (took n j ∷ intakes) (j ∷ changed port (took n) intakes))) here
       ∙ ap (λ b. cond b (Some (took n j)) (find (is_of port) intakes)) here
-      ∙ ap (λ x. Some (took n x)) (some_same j i (sym (ap (λ b. cond b (Some j) (find (is_of port) intakes)) here) ∙ found))
+      ∙ ap (λ x. Some (took n x)) (same_Some j i (sym (ap (λ b. cond b (Some j) (find (is_of port) intakes)) here) ∙ found))
   by false other more =
       ap (λ b. find (is_of port) (cond b (took n j ∷ intakes) (j ∷ changed port (took n) intakes))) other
       ∙ ap (λ b. cond b (Some j) (find (is_of port) (changed port (took n) intakes))) other
@@ -227,7 +227,7 @@ takes_join records unique v port p taken text row gone_out was = (joined, all) w
   whole =
       gone_out.text_is
       ∙ ap (λ ss. gone v.table ss p v.begun) (streams_unique records unique v.intakes gone_out.streams was.gone.streams gone_out.are was.gone.are)
-      ∙ ap (λ q. gone v.table was.gone.streams q v.begun) (some_same p was.row (sym row ∙ was.row_is))
+      ∙ ap (λ q. gone v.table was.gone.streams q v.begun) (same_Some p was.row (sym row ∙ was.row_is))
       ∙ sym was.gone.text_is
       ∙ was.prefix
 
@@ -253,14 +253,14 @@ takes_join records unique v port p taken text row gone_out was = (joined, all) w
 
 -- ---- whole captures
 
-all_gone : (f : Format) (last : ℕ) (bytes : List ℕ) (rs : List Entry) (r : Entry) (rest : List ℕ) → Splits f last bytes rs [] → Splits f last bytes (rs ++ r ∷ []) rest → ⊥
+all_gone : (f : Format) (last : ℕ) (bytes : List ℕ) (rs : List Record) (r : Record) (rest : List ℕ) → Splits f last bytes rs [] → Splits f last bytes (rs ++ r ∷ []) rest → ⊥
 all_gone f last bytes [] r rest none more = let le = more.0.whole in let empty = ap length none in omega (arith, le, empty)
 all_gone f last bytes (x ∷ rs) r rest none more = all_gone f x.stamp (after x bytes) rs r rest none.1 more.1
 
 format_same : (found : Result Format PcapFault) (f g : Format) → found ≡ Ok f → found ≡ Ok g → f ≡ g
 format_same found f g one two = cc
 
-whole_capture : RecordsAreUnique → (bytes : List ℕ) (rs : List Entry) → IsCapture bytes rs → AreWhole bytes rs
+whole_capture : RecordsAreUnique → (bytes : List ℕ) (rs : List Record) → IsCapture bytes rs → AreWhole bytes rs
 whole_capture unique bytes rs held = record {
   first = first rs held;
   none_left = λ r next.
@@ -270,7 +270,7 @@ whole_capture unique bytes rs held = record {
       all_gone held.format 0 (drop 24 bytes) rs r next.1 held.records
       (subst (λ xs. Splits held.format 0 (drop 24 bytes) (xs ++ r ∷ []) next.1) same (subst (λ f. Splits f 0 (drop 24 bytes) (next.0 ++ r ∷ []) next.1) format next.2.records));
 } where
-  first : (qs : List Entry) → IsCapture bytes qs → AreFirst bytes qs
+  first : (qs : List Record) → IsCapture bytes qs → AreFirst bytes qs
   first [] is = tt
   first (q ∷ qs) is = ([], is)
 
@@ -308,7 +308,7 @@ found_output f (q ∷ ports) port p found = by (q.id == port) refl (found_output
       → find (is_text_of port) (map {B = Text} (λ (r : PortRow). (r.id, f r)) (q ∷ ports)) ≡ Some (p.id, f p)
   by true here more =
       ap (λ b. cond b (Some (q.id, f q)) (find (is_text_of port) texts)) here
-      ∙ ap (λ (x : PortRow). Some (x.id, f x)) (some_same q p (sym (ap (λ b. cond b (Some q) (find (is_row_of port) ports)) here) ∙ found))
+      ∙ ap (λ (x : PortRow). Some (x.id, f x)) (same_Some q p (sym (ap (λ b. cond b (Some q) (find (is_row_of port) ports)) here) ∙ found))
   by false other more =
       ap (λ b. cond b (Some (q.id, f q)) (find (is_text_of port) texts)) other
       ∙ more (sym (ap (λ b. cond b (Some q) (find (is_row_of port) ports)) other) ∙ found)
@@ -344,9 +344,6 @@ all_continued : (intakes : List Intake) → AllZip IsContinued intakes (map text
 all_continued [] = tt
 all_continued (i ∷ intakes) = (record { port = refl; more = []; bytes = sym (append-nil i.bytes); ended = λ closed. refl }, all_continued intakes)
 
-number_is : (m n : ℕ) → (m == n) ≡ true → m ≡ n
-number_is m n is = grind (arith, nat_tests)
-
 drop_none : (n : ℕ) (xs : List ℕ) → xs ≡ [] → xs ≡ drop n xs
 drop_none zero xs none = refl
 drop_none (suc n) [] none = refl
@@ -359,7 +356,7 @@ rest_at v port (text ∷ texts) = by (text.0 == port) refl (rest_at v port texts
       → capture_at port (map (rest_of v) (text ∷ texts)) ≡ drop (taken_of v port) (capture_at port (text ∷ texts))
   by true here more =
       ap (λ b. bytes_in (cond b (Some (rest_of v text)) (find (is_text_of port) (map (rest_of v) texts)))) here
-      ∙ ap (λ n. drop (taken_of v n) text.1) (number_is text.0 port here)
+      ∙ ap (λ n. drop (taken_of v n) text.1) (eqb-true text.0 port here)
       ∙ ap (λ b. drop (taken_of v port) (bytes_in (cond b (Some text) (find (is_text_of port) texts)))) (sym here)
   by false other more =
       ap (λ b. bytes_in (cond b (Some (rest_of v text)) (find (is_text_of port) (map (rest_of v) texts)))) other

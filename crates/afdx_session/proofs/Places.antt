@@ -5,11 +5,13 @@ use Rattle.std.specs.Prelude.{find, if◌then◌else◌}
 use Rattle.std.specs.List.{position, position_or_len}
 use Rattle.std.specs.Option.{option_map}
 use Rattle.std.proofs.lemmas.Bool.Decides.{nat_tests}
+use Rattle.std.proofs.lemmas.Option.{same_Some}
 use Rattle.afdx_table.specs.declared.rows.PortRow.{PortRow}
 use Rattle.afdx_session.specs.declared.lane.Lane.{Lane}
 use Rattle.afdx_session.specs.Session.{Intake, changed}
 use Rattle.afdx_session.specs.Inner.Lanes.{intake_of}
 use Rattle.afdx_session.specs.Inner.View.{intakes_of}
+use Rattle.afdx_session.proofs.Numbered.{first_same, rest_same}
 
 -- ---- positions
 
@@ -17,9 +19,7 @@ abbrev found_by : Bool → ℕ → Option ℕ
 found_by b n = if b then Some n else None
 
 place_is : (b : Bool) (n k : ℕ) → found_by b n ≡ Some k → (b ≡ true) × (n ≡ k)
-place_is true n k is = (refl, same is) where
-  same : Some n ≡ Some k → n ≡ k
-  same e = cc
+place_is true n k is = (refl, same_Some n k is)
 place_is false n k is = absurd cc
 
 no_place : (b : Bool) (n : ℕ) → found_by b n ≡ None → b ≡ false
@@ -57,23 +57,12 @@ pub record IsPlaceOf {Z : Type 0} (ports : List PortRow) (lanes : List (Lane Z))
   pub intake_is : find (λ (i : Intake). i.port == port) (intakes_of lanes) ≡ Some (intake_of lane)
   pub changed_is : (f : Intake → Intake) → changed port f (intakes_of lanes) ≡ set (intakes_of lanes) place (f (intake_of lane))
 
-first_same : (m n : ℕ) (ms ns : List ℕ) → m ∷ ms ≡ n ∷ ns → (m ≡ n) × (ms ≡ ns)
-first_same m n ms ns e = (head e, tail e) where
-  head : m ∷ ms ≡ n ∷ ns → m ≡ n
-  head e = cc
-
-  tail : m ∷ ms ≡ n ∷ ns → ms ≡ ns
-  tail e = cc
-
 pub place_of_port : {Z : Type 0} (ports : List PortRow) (lanes : List (Lane Z)) (port place : ℕ) → map (λ (l : Lane Z). l.port) lanes ≡ map (λ (p : PortRow). p.id) ports
     → position_or_len (is_lane_of port) lanes ≡ place → place < length lanes
     → IsPlaceOf ports lanes port place
 place_of_port ports [] port place same is lt = absurd (omega (arith, lt))
 place_of_port [] (l ∷ lanes) port place same is lt = absurd cc
-place_of_port {Z} (p ∷ ports) (l ∷ lanes) port place same is lt = by (l.port == port) refl (place_of_port ports lanes port (position_or_len (is_lane_of port) lanes) both.1 refl) where
-  both : (l.port ≡ p.id) × (map (λ (m : Lane Z). m.port) lanes ≡ map (λ (q : PortRow). q.id) ports)
-  both = first_same l.port p.id (map (λ (m : Lane Z). m.port) lanes) (map (λ (q : PortRow). q.id) ports) same
-
+place_of_port {Z} (p ∷ ports) (l ∷ lanes) port place same is lt = by (l.port == port) refl (place_of_port ports lanes port (position_or_len (is_lane_of port) lanes) (rest_same same) refl) where
   by : (b : Bool) → (l.port == port) ≡ b → (position_or_len (is_lane_of port) lanes < length lanes → IsPlaceOf ports lanes port (position_or_len (is_lane_of port) lanes))
       → IsPlaceOf (p ∷ ports) (l ∷ lanes) port place
   by true here further =
@@ -84,7 +73,7 @@ place_of_port {Z} (p ∷ ports) (l ∷ lanes) port place same is lt = by (l.port
         port_is = here;
         row = p;
         row_at = refl;
-        row_is = ap (λ b. cond b (Some p) (find (λ (q : PortRow). q.id == port) ports)) (ap (λ n. n == port) (sym both.0) ∙ here);
+        row_is = ap (λ b. cond b (Some p) (find (λ (q : PortRow). q.id == port) ports)) (ap (λ n. n == port) (sym (first_same same)) ∙ here);
         intake_is = ap (λ b. cond b (Some (intake_of l)) (find (λ (i : Intake). i.port == port) (intakes_of lanes))) here;
         changed_is = λ f. ap (λ b. cond b (f (intake_of l) ∷ intakes_of lanes) (intake_of l ∷ changed port f (intakes_of lanes))) here;
       })
@@ -98,7 +87,7 @@ place_of_port {Z} (p ∷ ports) (l ∷ lanes) port place same is lt = by (l.port
         port_is = rest.port_is;
         row = rest.row;
         row_at = rest.row_at;
-        row_is = ap (λ b. cond b (Some p) (find (λ (q : PortRow). q.id == port) ports)) (ap (λ n. n == port) (sym both.0) ∙ other) ∙ rest.row_is;
+        row_is = ap (λ b. cond b (Some p) (find (λ (q : PortRow). q.id == port) ports)) (ap (λ n. n == port) (sym (first_same same)) ∙ other) ∙ rest.row_is;
         intake_is = ap (λ b. cond b (Some (intake_of l)) (find (λ (i : Intake). i.port == port) (intakes_of lanes))) other ∙ rest.intake_is;
         changed_is = λ f. ap (λ b. cond b (f (intake_of l) ∷ intakes_of lanes) (intake_of l ∷ changed port f (intakes_of lanes))) other ∙ ap (λ is. intake_of l ∷ is) (rest.changed_is f);
       })
@@ -141,10 +130,7 @@ pub no_such_row : {Z : Type 0} (ports : List PortRow) (lanes : List (Lane Z)) (p
 no_such_row [] [] port same le = refl
 no_such_row [] (l ∷ lanes) port same le = absurd cc
 no_such_row (p ∷ ports) [] port same le = absurd cc
-no_such_row {Z} (p ∷ ports) (l ∷ lanes) port same le = by (l.port == port) refl (no_such_row ports lanes port both.1) where
-  both : (l.port ≡ p.id) × (map (λ (m : Lane Z). m.port) lanes ≡ map (λ (q : PortRow). q.id) ports)
-  both = first_same l.port p.id (map (λ (m : Lane Z). m.port) lanes) (map (λ (q : PortRow). q.id) ports) same
-
+no_such_row {Z} (p ∷ ports) (l ∷ lanes) port same le = by (l.port == port) refl (no_such_row ports lanes port (rest_same same)) where
   by : (b : Bool) → (l.port == port) ≡ b → (length lanes ≤ position_or_len (is_lane_of port) lanes → find (λ (q : PortRow). q.id == port) ports ≡ None)
       → find (λ (q : PortRow). q.id == port) (p ∷ ports) ≡ None
   by true here further =
@@ -152,4 +138,4 @@ no_such_row {Z} (p ∷ ports) (l ∷ lanes) port same le = by (l.port == port) r
       absurd (omega (arith, le, none))
   by false other further =
       let more = ap (λ b. cond (not b) (1 + position_or_len (is_lane_of port) lanes) zero) other in
-      ap (λ b. cond b (Some p) (find (λ (q : PortRow). q.id == port) ports)) (ap (λ n. n == port) (sym both.0) ∙ other) ∙ further (omega (arith, le, more))
+      ap (λ b. cond b (Some p) (find (λ (q : PortRow). q.id == port) ports)) (ap (λ n. n == port) (sym (first_same same)) ∙ other) ∙ further (omega (arith, le, more))

@@ -5,7 +5,7 @@ use Rattle.std.specs.List.{AllByRecursion}
 use Rattle.std.proofs.lemmas.List.Elements.{All-from_recursion, recursion_from_All}
 use Rattle.afdx_units.specs.Time.{second, last_second}
 use Rattle.afdx_pcap.specs.declared.format.Format.{Format}
-use Rattle.afdx_pcap.specs.Entry.{Entry, IsWithinLimit, captured_limit}
+use Rattle.afdx_pcap.specs.Record.{Record, IsWithinLimit, captured_limit}
 use Rattle.afdx_pcap.specs.Capture.{Splits, after}
 use Rattle.afdx_pcap.specs.Text.{AreReadable}
 use Rattle.afdx_table.specs.declared.rows.PortRow.{PortRow}
@@ -24,7 +24,8 @@ use Rattle.afdx_core.specs.Rows.{feed_of}
 use Rattle.afdx_session.specs.Texts.{Text}
 use Rattle.afdx_session.specs.Output.{rows_of, bytes_in, bytes_at, written, sent_by, output_of}
 use Rattle.afdx_session.specs.Reading.{AreCaptures}
-use Rattle.afdx_session.proofs.Gathering.{by_stamp_every, port_every}
+use Rattle.afdx_session.proofs.Gathering.{port_every}
+use Rattle.afdx_session.proofs.Joining.{by_stamp_every}
 use Rattle.afdx_session.proofs.Last.{IsSmall, items_small, sent_soon, sent_at, delay_within}
 use Rattle.afdx_session.proofs.Numbered.{all_slice_get}
 
@@ -33,7 +34,7 @@ use Rattle.afdx_session.proofs.Numbered.{all_slice_get}
 abbrev Within : Arrival → Type 0
 Within a = IsWithinLimit a.frame
 
-records_within : (f : Format) (last : ℕ) (bytes : List ℕ) (rs : List Entry) (rest : List ℕ) → Splits f last bytes rs rest → AllByRecursion IsWithinLimit rs
+records_within : (f : Format) (last : ℕ) (bytes : List ℕ) (rs : List Record) (rest : List ℕ) → Splits f last bytes rs rest → AllByRecursion IsWithinLimit rs
 records_within f last bytes [] rest splits = tt
 records_within f last bytes (r ∷ rs) rest splits = (splits.0.not_huge, records_within f r.stamp (after r bytes) rs rest splits.1)
 

@@ -4,12 +4,12 @@ use Rattle.std.specs.declared.vec.Vec.{Vec}
 use Rattle.std.specs.Vec.{with_items}
 use Rattle.std.specs.Prelude.{is_some}
 use Rattle.std.proofs.lemmas.List.{append-nil, length-set}
-use Rattle.std.proofs.lemmas.Option.{slice_get_within}
-use Rattle.afdx_pcap.specs.Entry.{Entry}
+use Rattle.std.proofs.lemmas.Option.{slice_get_within, same_Some}
+use Rattle.afdx_pcap.specs.Record.{Record}
 use Rattle.afdx_table.specs.Content.{Content}
-use Rattle.afdx_port.specs.Admission.{EarlierEventsStayAdmitted}
+use Rattle.afdx_port.specs.Inner.Admission.{EarlierEventsStayAdmitted}
 use Rattle.afdx_port.specs.Inner.Order.{ReachesInOrder}
-use Rattle.afdx_core.specs.Handling.{Handling}
+use Rattle.afdx_core.specs.Step.{Step}
 use Rattle.afdx_core.specs.Rows.{row_of}
 use Rattle.afdx_core.specs.State.{State}
 use Rattle.afdx_core.specs.Held.{IsTaken}
@@ -22,13 +22,13 @@ use Rattle.afdx_session.specs.Inner.Settled.{first_place}
 use Rattle.afdx_session.specs.Inner.Lanes.{waiting_of, limit_at, with_waiting, IsWithinPlace, IsFirstIn, IsLimit, Goes, GoesAt, NoneGoes}
 use Rattle.afdx_session.specs.Inner.Kept.{AreOfTable, IsGoing, AreTouched, IsOfSameTable}
 use Rattle.afdx_session.specs.Inner.View.{HasGone, IsRound}
-use Rattle.afdx_session.proofs.Going.{some_same}
 use Rattle.afdx_session.proofs.Gone.{at_index}
 use Rattle.afdx_session.proofs.Settles.{back_items}
 use Rattle.afdx_session.proofs.Given.{Arrives, arrives, gives_on}
 use Rattle.afdx_session.proofs.Intakes.{all_touched_none, all_touched_both, touched_at, touched_ports, still_of_table}
+use Rattle.afdx_session.proofs.Numbered.{set_here}
 
-goes_touched : {Z : Type 0} (limit : Option (ℕ × ℕ)) (old new : List (Lane Z)) (port : ℕ) (frame : Entry) → Goes limit old new port frame → AreTouched old new
+goes_touched : {Z : Type 0} (limit : Option (ℕ × ℕ)) (old new : List (Lane Z)) (port : ℕ) (frame : Record) → Goes limit old new port frame → AreTouched old new
 goes_touched {Z = Z} limit old new port frame goes =
     subst (λ (ls : List (Lane Z)). AreTouched old ls) (sym goes.lanes)
     (touched_at old goes.place goes.lane (with_waiting goes.rest goes.lane) goes.at
@@ -52,7 +52,7 @@ same_both a b c one two = record { table = two.table ∙ one.table; accepted = t
 -- ---- one round
 
 -- where the first goes within what says the same as the limit, it goes within the limit
-goes_as_limit : {Z : Type 0} (limit : Option (ℕ × ℕ)) (lanes new : List (Lane Z)) (port : ℕ) (frame : Entry) → IsLimit limit lanes → Goes limit lanes new port frame
+goes_as_limit : {Z : Type 0} (limit : Option (ℕ × ℕ)) (lanes new : List (Lane Z)) (port : ℕ) (frame : Record) → IsLimit limit lanes → Goes limit lanes new port frame
     → Goes (limit_at lanes) lanes new port frame
 goes_as_limit {Z = Z} limit lanes new port frame is goes = record {
   place = goes.place;
@@ -83,50 +83,45 @@ pub limit_stays : {Z : Type 0} (lanes new : List (Lane Z)) (place : ℕ) → Has
 limit_stays {Z = Z} lanes new place gone = ap (λ (ls : List (Lane Z)). limit_at ls) gone.lanes ∙ same lanes place gone.lane gone.at where
   same : (ls : List (Lane Z)) (k : ℕ) (l : Lane Z) → slice_get ls k ≡ Some l → limit_at (set ls k (with_waiting gone.rest l)) ≡ limit_at ls
   same [] k l at = absurd cc
-  same (m ∷ ls) zero l at = ap (λ (x : Lane Z). limit_at (x ∷ ls)) (sym (some_same m l at))
+  same (m ∷ ls) zero l at = ap (λ (x : Lane Z). limit_at (x ∷ ls)) (sym (same_Some m l at))
   same (m ∷ ls) (suc k) l at = ap (λ o. cond m.ended o (Some (first_place (m.last, m.port) o))) (same ls k l at)
 
 -- the record that goes is the next of the merge
-pub round_arrives : {Z : Type 0} (limit : Option (ℕ × ℕ)) (now : Machine Z) (lanes : List (Lane Z)) (port : ℕ) (frame : Entry) → IsLimit limit now.lanes.items
+pub round_arrives : {Z : Type 0} (limit : Option (ℕ × ℕ)) (now : Machine Z) (lanes : List (Lane Z)) (port : ℕ) (frame : Record) → IsLimit limit now.lanes.items
     → IsGoing now.switch.run.table now.lanes.items now.switch now.counts → Goes limit now.lanes.items lanes port frame
     → Arrives now.switch.run.table now.lanes.items lanes now.switch now.counts port frame
 round_arrives {Z = Z} limit now lanes port frame is going goes = arrives now.switch.run.table now.lanes.items lanes now.switch now.counts port frame
     (goes_as_limit limit now.lanes.items lanes port frame is goes) going
 
-pub round_touched : {Z : Type 0} (limit : Option (ℕ × ℕ)) (old lanes new : List (Lane Z)) (port : ℕ) (frame : Entry) → Goes limit old lanes port frame → new ≡ lanes → AreTouched old new
+pub round_touched : {Z : Type 0} (limit : Option (ℕ × ℕ)) (old lanes new : List (Lane Z)) (port : ℕ) (frame : Record) → Goes limit old lanes port frame → new ≡ lanes → AreTouched old new
 round_touched {Z = Z} limit old lanes new port frame goes same = subst (λ (ls : List (Lane Z)). AreTouched old ls) (sym same) (goes_touched limit old lanes port frame goes)
 
 -- ---- the lists that the code writes back
 
 -- a record went from the lane at a place, whose port is read there
-pub record GoesFrom {Z : Type 0} (limit : Option (ℕ × ℕ)) (old new : List (Lane Z)) (place port : ℕ) (frame : Entry) : Type 0 where
+pub record GoesFrom {Z : Type 0} (limit : Option (ℕ × ℕ)) (old new : List (Lane Z)) (place port : ℕ) (frame : Record) : Type 0 where
   pub within : place < length new
   pub goes : Goes limit old new port frame
   pub here : goes.place ≡ place
 
-set_here : {X : Type 0} (xs : List X) (k : ℕ) (x y : X) → slice_get xs k ≡ Some x → slice_get (set xs k y) k ≡ Some y
-set_here [] k x y at = absurd cc
-set_here (z ∷ xs) zero x y at = refl
-set_here (z ∷ xs) (suc k) x y at = set_here xs k x y at
-
-set_there : {Z : Type 0} (limit : Option (ℕ × ℕ)) (old new : List (Lane Z)) (place : ℕ) (frame : Entry) (goes : GoesAt limit old new place frame) → slice_get new place
+set_there : {Z : Type 0} (limit : Option (ℕ × ℕ)) (old new : List (Lane Z)) (place : ℕ) (frame : Record) (goes : GoesAt limit old new place frame) → slice_get new place
     ≡ Some (with_waiting goes.goes.rest goes.goes.lane)
 set_there {Z} limit old new place frame goes =
     let w = with_waiting goes.goes.rest goes.goes.lane in
     ap (λ k. slice_get new k) (sym goes.here) ∙ ap (λ (ls : List (Lane Z)). slice_get ls goes.goes.place) goes.goes.lanes ∙ set_here old goes.goes.place goes.goes.lane w goes.goes.at
 
-at_here : {Z : Type 0} (limit : Option (ℕ × ℕ)) (v : Vec (Lane Z) Z) (start new : List (Lane Z)) (place : ℕ) (frame : Entry) → start ≡ v.items → GoesAt limit start new place frame
+at_here : {Z : Type 0} (limit : Option (ℕ × ℕ)) (v : Vec (Lane Z) Z) (start new : List (Lane Z)) (place : ℕ) (frame : Record) → start ≡ v.items → GoesAt limit start new place frame
     → GoesAt limit v.items (with_items v new).items place frame
 at_here {Z = Z} limit v start new place frame is goes =
     let here = subst (λ (ls : List (Lane Z)). GoesAt limit ls new place frame) is goes in
     let long = ap (λ (ls : List (Lane Z)). length ls) here.goes.lanes ∙ length-set v.items here.goes.place (with_waiting here.goes.rest here.goes.lane) in
     subst (λ (ls : List (Lane Z)). GoesAt limit v.items ls place frame) (sym (back_items v new long)) here
 
-within_there : {Z : Type 0} (limit : Option (ℕ × ℕ)) (old new : List (Lane Z)) (place : ℕ) (frame : Entry) → GoesAt limit old new place frame → place < length new
+within_there : {Z : Type 0} (limit : Option (ℕ × ℕ)) (old new : List (Lane Z)) (place : ℕ) (frame : Record) → GoesAt limit old new place frame → place < length new
 within_there limit old new place frame goes = slice_get_within new place _ (set_there limit old new place frame goes)
 
 -- the place is one of the lanes'
-pub goes_within : {Z : Type 0} (limit : Option (ℕ × ℕ)) (v : Vec (Lane Z) Z) (start new : List (Lane Z)) (place : ℕ) (frame : Entry) → start ≡ v.items → GoesAt limit start new place frame
+pub goes_within : {Z : Type 0} (limit : Option (ℕ × ℕ)) (v : Vec (Lane Z) Z) (start new : List (Lane Z)) (place : ℕ) (frame : Record) → start ≡ v.items → GoesAt limit start new place frame
     → place < v.len
 goes_within limit v start new place frame is goes =
     let lt = slice_get_within start goes.goes.place goes.goes.lane goes.goes.at in
@@ -135,13 +130,14 @@ goes_within limit v start new place frame is goes =
     let long = v.ok.0 in
     omega (arith, lt, same, here, long)
 
-pub goes_from : {Z : Type 0} (limit : Option (ℕ × ℕ)) (v : Vec (Lane Z) Z) (start new : List (Lane Z)) (place : ℕ) (frame : Entry) (l d : Lane Z) → start ≡ v.items → GoesAt limit start new place frame
+pub goes_from : {Z : Type 0} (limit : Option (ℕ × ℕ)) (v : Vec (Lane Z) Z) (start new : List (Lane Z)) (place : ℕ) (frame : Record) (l d : Lane Z) → start ≡ v.items
+    → GoesAt limit start new place frame
     → l ≡ get_or (with_items v new).items place d
     → GoesFrom limit v.items (with_items v new).items place l.port frame
 goes_from {Z = Z} limit v start new place frame l d is goes read =
     let here = at_here limit v start new place frame is goes in
     let lt = within_there limit v.items (with_items v new).items place frame here in
-    let own = some_same l (with_waiting here.goes.rest here.goes.lane) (ap Some read ∙ sym (at_index (with_items v new).items place d lt)
+    let own = same_Some l (with_waiting here.goes.rest here.goes.lane) (ap Some read ∙ sym (at_index (with_items v new).items place d lt)
     ∙ set_there limit v.items (with_items v new).items place frame here) in
     let port : here.port ≡ l.port = here.goes.port_is ∙ ap (λ (x : Lane Z). x.port) (sym own) in
     subst (λ n. GoesFrom limit v.items (with_items v new).items place n frame) port (record { within = lt; goes = here.goes; here = here.here })
@@ -153,7 +149,7 @@ with_table : {Z : Type 0} (t u : Content) (lanes : List (Lane Z)) (s : State) (c
 with_table t u lanes s counts same going = subst (λ c. IsGoing c lanes s counts) (sym same) going
 
 pub round_goes : {Z : Type 0} → EarlierEventsStayAdmitted → ReachesInOrder → NoteCountsOneMore
-    → (limit : Option (ℕ × ℕ)) (now next : Machine Z) (lanes : List (Lane Z)) (port : ℕ) (frame : Entry) (step : Handling) (place : ℕ) → AreOfTable now.switch.run.table now.lanes.items
+    → (limit : Option (ℕ × ℕ)) (now next : Machine Z) (lanes : List (Lane Z)) (port : ℕ) (frame : Record) (step : Step) (place : ℕ) → AreOfTable now.switch.run.table now.lanes.items
     → IsLimit limit now.lanes.items → IsGoing now.switch.run.table now.lanes.items now.switch now.counts → (goes : Goes limit now.lanes.items lanes port frame) → goes.place ≡ place → next.lanes.items
     ≡ lanes → IsOfSameTable now.switch next.switch → step.number < 2 ^ 64
     → IsTaken now.switch next.switch (row_of now.switch.run.table port frame) frame step → next.counts ≡ noted step now.counts → IsRound (Some place) now next
@@ -165,7 +161,7 @@ round_goes {Z = Z} stay reaches law limit now next lanes port frame step place o
       going = with_table now.switch.run.table next.switch.run.table next.lanes.items next.switch next.counts same.table
           (subst (λ (ls : List (Lane Z)). IsGoing now.switch.run.table ls next.switch next.counts) (sym lanes_are)
           (gives_on stay reaches law now.switch.run.table now.lanes.items lanes now.switch next.switch now.counts next.counts port frame step of small arrives taken counted));
-      gone = λ k went. subst (HasGone now.lanes.items next.lanes.items) (here ∙ some_same place k went)
+      gone = λ k went. subst (HasGone now.lanes.items next.lanes.items) (here ∙ same_Some place k went)
           (record { lane = goes.lane; frame = frame; rest = goes.rest; at = goes.at; head = goes.head; lanes = lanes_are ∙ goes.lanes });
       fewer = λ k went. omega (arith, first, fewer);
       stays = λ none. absurd (differ none);

@@ -1,14 +1,15 @@
 -- What contracts see of a session after a call, from what its lanes are then.
 use Rattle.std.proofs.Common.{◌≡◌, ℕ, zero, suc, ◌+◌, ◌<◌, ◌≤◌, ◌^◌, ◌==◌, Bool, true, false, cond, List, [], ◌∷◌, ◌++◌, map, length, take, drop, set, slice_get, slice_index_or, Some, None, Ok}
-use Rattle.std.proofs.Common.{Err, refl, ap, sym, ◌∙◌, arith, inl, inr, subst}
+use Rattle.std.proofs.Common.{Err, refl, ap, sym, ◌∙◌, inl, inr, subst}
 use Rattle.std.specs.Prelude.{find, Result, IsErr, IsErrAnd, IfErr, IfSome, IfNone}
 use Rattle.std.specs.List.{position}
-use Rattle.std.proofs.lemmas.Bool.Decides.{nat_tests}
-use Rattle.afdx_pcap.specs.Entry.{Entry}
+use Rattle.std.proofs.lemmas.Option.{same_Some}
+use Rattle.std.proofs.lemmas.Bool.{eqb-true}
+use Rattle.afdx_pcap.specs.Record.{Record}
 use Rattle.afdx_pcap.specs.Capture.{IsCapture}
 use Rattle.afdx_table.specs.declared.rows.PortRow.{PortRow}
 use Rattle.afdx_table.specs.Content.{Content, port_row}
-use Rattle.afdx_port.specs.Admission.{EarlierEventsStayAdmitted}
+use Rattle.afdx_port.specs.Inner.Admission.{EarlierEventsStayAdmitted}
 use Rattle.afdx_port.specs.Inner.Order.{ReachesInOrder}
 use Rattle.afdx_core.specs.State.{after_finish}
 use Rattle.afdx_count.specs.Tally.{ended as after_end}
@@ -29,13 +30,12 @@ use Rattle.afdx_session.specs.Inner.Lanes.{intake_of}
 use Rattle.afdx_session.specs.Inner.Kept.{AreOfTable, IsOfSameTable, IsRunning}
 use Rattle.afdx_session.specs.Inner.View.{intakes_of, seen_of, gone_out, IsShownAt, IsKeptMachine, IsReady, AreHalfDone, AreEndedLanes, texts_at, IsTaken, IsOpenAt, IsFed, IsEnded, IsNotFed}
 use Rattle.afdx_session.specs.Inner.View.{IsNotEnded}
-use Rattle.afdx_session.proofs.Going.{some_same}
 use Rattle.afdx_session.proofs.Gone.{at_index}
 use Rattle.afdx_session.proofs.Firsts.{map-set, get-map}
 use Rattle.afdx_session.proofs.Places.{IsPlaceOf, position_at, position_none, place_of_port, no_such_row, is_lane_of}
 use Rattle.afdx_session.proofs.Shown.{kept_ready, kept_failed}
 use Rattle.afdx_session.proofs.Ending.{TakenAreTheCapture}
-use Rattle.afdx_session.proofs.Finishing.{finished}
+use Rattle.afdx_session.proofs.Finishing.{finished, half_intakes}
 use Rattle.afdx_session.proofs.Taken.{all_taken, took_intake}
 
 -- the place of an open lane is that of its intake and its row
@@ -44,15 +44,12 @@ open_is t lanes port place of is_open =
     let both = position_at (is_lane_of port) lanes place is_open.first in
     place_of_port t.ports lanes port place of.ports both.0 both.1
 
-number_is : (m n : ℕ) → (m == n) ≡ true → m ≡ n
-number_is m n is = grind (arith, nat_tests)
-
 -- it may be fed or closed
 pub may_go_on : {Z : Type 0} (m : Machine Z) (begun : Bool) (port place : ℕ) → AreOfTable m.switch.run.table m.lanes.items → IsOpenAt m.lanes.items port place → refusal (seen_of m begun false) port
     ≡ None
 may_go_on m begun port place of is_open =
     let is = open_is m.switch.run.table m.lanes.items port place of is_open in
-    let same : is.lane.closed ≡ false = ap (λ l. l.closed) (some_same is.lane is_open.lane (sym is.at ∙ is_open.at)) ∙ is_open.still_open in
+    let same : is.lane.closed ≡ false = ap (λ l. l.closed) (same_Some is.lane is_open.lane (sym is.at ∙ is_open.at)) ∙ is_open.still_open in
     ap refusal_at is.intake_is ∙ ap (λ b. cond b (Some run.Closed) None) same
 
 -- the bytes of its port are those of its lane
@@ -61,8 +58,8 @@ pub bytes_are : {Z : Type 0} (m : Machine Z) (begun failed : Bool) (port place :
     → ((intake_of l).bytes ≡ fed_bytes (seen_of m begun failed) port) × (l.port ≡ port)
 bytes_are {Z = Z} m begun failed port place l of is_open at =
     let is = open_is m.switch.run.table m.lanes.items port place of is_open in
-    let same : l ≡ is.lane = some_same l is.lane (sym at ∙ is.at) in
-    (ap (λ (x : Lane Z). (intake_of x).bytes) same ∙ sym (ap intake_bytes is.intake_is), ap (λ (x : Lane Z). x.port) same ∙ number_is is.lane.port port is.port_is)
+    let same : l ≡ is.lane = same_Some l is.lane (sym at ∙ is.at) in
+    (ap (λ (x : Lane Z). (intake_of x).bytes) same ∙ sym (ap intake_bytes is.intake_is), ap (λ (x : Lane Z). x.port) same ∙ eqb-true is.lane.port port is.port_is)
 
 -- what is seen, from its parts
 abbrev seen : Content → Bool → List Intake → Bool → Bool → Seen
@@ -77,7 +74,7 @@ pub seen_fed : {Z : Type 0} (old new : Machine Z) (begun : Bool) (port place : �
     → IsFed old.lanes.items new.lanes.items place piece → seen_of new true false ≡ after_feed (seen_of old begun false) port piece
 seen_fed old new begun port place piece of is_open same is =
     let at = open_is old.switch.run.table old.lanes.items port place of is_open in
-    let lane : is.lane ≡ at.lane = some_same is.lane at.lane (sym is.at ∙ at.at) in
+    let lane : is.lane ≡ at.lane = same_Some is.lane at.lane (sym is.at ∙ at.at) in
     seen_parts old.switch.run.table new.switch.run.table old.switch.accepted new.switch.accepted (changed port (fed piece) (intakes_of old.lanes.items)) (intakes_of new.lanes.items) true false
     same.table same.accepted
     (is.intakes ∙ ap (λ l. set (intakes_of old.lanes.items) place (fed piece (intake_of l))) lane ∙ sym (at.changed_is (fed piece)))
@@ -88,16 +85,10 @@ pub seen_ended : {Z : Type 0} (old new : Machine Z) (begun : Bool) (port place :
     → IsEnded old.lanes.items new.lanes.items place → seen_of new true false ≡ after_close (seen_of old begun false) port
 seen_ended old new begun port place of is_open same is =
     let at = open_is old.switch.run.table old.lanes.items port place of is_open in
-    let lane : is.lane ≡ at.lane = some_same is.lane at.lane (sym is.at ∙ at.at) in
+    let lane : is.lane ≡ at.lane = same_Some is.lane at.lane (sym is.at ∙ at.at) in
     seen_parts old.switch.run.table new.switch.run.table old.switch.accepted new.switch.accepted (changed port ended (intakes_of old.lanes.items)) (intakes_of new.lanes.items) true false same.table
     same.accepted
     (is.intakes ∙ ap (λ l. set (intakes_of old.lanes.items) place (ended (intake_of l))) lane ∙ sym (at.changed_is ended))
-
-half_intakes : {Z : Type 0} (old new : List (Lane Z)) → AreHalfDone old new → intakes_of new ≡ intakes_of old
-half_intakes [] [] half = refl
-half_intakes [] (n ∷ new) half = absurd half
-half_intakes (l ∷ old) [] half = absurd half
-half_intakes (l ∷ old) (n ∷ new) half = ap (λ i. i ∷ intakes_of new) half.0.intake ∙ ap (λ is. intake_of l ∷ is) (half_intakes old new half.1)
 
 -- the call failed
 pub seen_failed : {Z : Type 0} (old new : Machine Z) (begun : Bool) → IsOfSameTable old.switch new.switch → AreHalfDone old.lanes.items new.lanes.items → seen_of new begun true
@@ -162,7 +153,7 @@ ports_of_intakes (l ∷ lanes) = ap (λ ns. l.port ∷ ns) (ports_of_intakes lan
 set_ports : (intakes : List Intake) (k : ℕ) (old new : Intake) → slice_get intakes k ≡ Some old → new.port ≡ old.port → map (λ (i : Intake). i.port) (set intakes k new)
     ≡ map (λ (i : Intake). i.port) intakes
 set_ports [] k old new at same = refl
-set_ports (i ∷ intakes) zero old new at same = ap (λ n. n ∷ map (λ (j : Intake). j.port) intakes) (same ∙ ap (λ (j : Intake). j.port) (sym (some_same i old at)))
+set_ports (i ∷ intakes) zero old new at same = ap (λ n. n ∷ map (λ (j : Intake). j.port) intakes) (same ∙ ap (λ (j : Intake). j.port) (sym (same_Some i old at)))
 set_ports (i ∷ intakes) (suc k) old new at same = ap (λ ns. i.port ∷ ns) (set_ports intakes k old new at same)
 
 ports_after : {Z : Type 0} (old new : List (Lane Z)) (k : ℕ) (l : Lane Z) (i : Intake) → slice_get old k ≡ Some l → i.port ≡ l.port → intakes_of new ≡ set (intakes_of old) k i
@@ -209,10 +200,10 @@ answers_fed old new begun failed v port place piece view not_failed of is_open s
 pub answers_ended : {Z : Type 0} (old new : Machine Z) (begun failed : Bool) (v : Seen) (port place : ℕ) → seen_of old begun failed ≡ v → failed ≡ false
     → AreOfTable old.switch.run.table old.lanes.items → IsOpenAt old.lanes.items port place
     → IsOfSameTable old.switch new.switch → IsEnded old.lanes.items new.lanes.items place
-    → (refusal v port ≡ None) × (seen_of new true failed ≡ after_close v port) × ((records : List Entry) × IsCapture (fed_bytes v port) records)
+    → (refusal v port ≡ None) × (seen_of new true failed ≡ after_close v port) × ((records : List Record) × IsCapture (fed_bytes v port) records)
 answers_ended old new begun failed v port place view not_failed of is_open same is =
     let so_far = seen_so_far old begun failed v view not_failed in
-    subst (λ w. (refusal w port ≡ None) × (seen_of new true failed ≡ after_close w port) × ((records : List Entry) × IsCapture (fed_bytes w port) records)) so_far (
+    subst (λ w. (refusal w port ≡ None) × (seen_of new true failed ≡ after_close w port) × ((records : List Record) × IsCapture (fed_bytes w port) records)) so_far (
       may_go_on old begun port place of is_open,
       ap (λ b. seen_of new true b) not_failed ∙ seen_ended old new begun port place of is_open same is,
       (is.records, subst (λ xs. IsCapture xs is.records) (bytes_are old begun false port place is.lane of is_open is.at).0 is.capture),
@@ -281,7 +272,7 @@ answers_take {Z} m next begun failed v port place old new bytes view kept is at 
       shown = shown_place m begun failed port place old kept own at
 
       same : own.lane ≡ old
-      same = some_same own.lane old (sym own.at ∙ at)
+      same = same_Some own.lane old (sym own.at ∙ at)
 
       count : taken_of seen_now port ≡ old.taken
       count = ap taken_in own.intake_is ∙ ap (λ (l : Lane Z). l.taken) same

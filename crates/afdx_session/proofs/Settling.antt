@@ -4,16 +4,16 @@ use Rattle.std.specs.Prelude.{◌⊎◌}
 use Rattle.std.specs.List.{AllByRecursion}
 use Rattle.std.proofs.lemmas.List.{append-nil, map-append}
 use Rattle.std.proofs.lemmas.List.Elements.{filter-append}
-use Rattle.std.proofs.lemmas.Bool.{cases_Bool, cases_lt}
-use Rattle.std.proofs.lemmas.Bool.Decides.{nat_tests}
-use Rattle.afdx_pcap.specs.Entry.{Entry}
-use Rattle.afdx_core.specs.Merge.{Arrival, Capture, Rises, part_at, records_of, arrivals_of, placed, by_stamp, merged, MergedIsAMerge, Precedes, AreByStampAndPort, PortsRise as NumbersRise}
-use Rattle.afdx_core.specs.Merge.{MergedIsByStampAndPort}
+use Rattle.std.proofs.lemmas.Bool.{cases_Bool, cases_lt, eqb-true, both_ways}
+use Rattle.afdx_pcap.specs.Record.{Record}
+use Rattle.afdx_core.specs.Merge.{Arrival, Capture, Rises, records_of, arrivals_of, placed, by_stamp, merged}
+use Rattle.afdx_core.specs.Inner.Merge.{part_at, MergedIsAMerge, Precedes, AreByStampAndPort, PortsRise as NumbersRise, MergedIsByStampAndPort}
 use Rattle.afdx_session.specs.Streams.{Stream, capture_of, captures_of, last_of, merged_so_far, GoesOn, GoOn}
 use Rattle.afdx_session.specs.Inner.Settled.{Ascend, ports_of, ComesBefore, IsSettled, AreQueued, IsSettling, AllWait, AllRise}
-use Rattle.afdx_session.proofs.Numbered.{all_append}
-use Rattle.afdx_session.proofs.OneMerge.{port_is, merge_is_unique}
-use Rattle.afdx_session.proofs.Growing.{further_of, last_grows}
+use Rattle.afdx_session.proofs.Joining.{by_stamp_every}
+use Rattle.afdx_session.proofs.Numbered.{all_append, all_weaken, higher_differs}
+use Rattle.afdx_session.proofs.OneMerge.{merge_is_unique}
+use Rattle.afdx_session.proofs.Growing.{further_of, last_grows, rises_back}
 
 -- ---- what holds of all
 
@@ -25,18 +25,6 @@ pub all_back : {X : Type 0} (P : X → Type 0) (xs ys : List X) → AllByRecursi
 all_back P [] ys all = all
 all_back P (x ∷ xs) ys all = all_back P xs ys all.1
 
-pub all_weaken : {X : Type 0} (P Q : X → Type 0) (xs : List X) → ((x : X) → P x → Q x) → AllByRecursion P xs → AllByRecursion Q xs
-all_weaken P Q [] h all = tt
-all_weaken P Q (x ∷ xs) h all = (h x all.0, all_weaken P Q xs h all.1)
-
-placed_in : (P : Arrival → Type 0) (a : Arrival) (xs : List Arrival) → P a → AllByRecursion P xs → AllByRecursion P (placed a xs)
-placed_in P a [] here all = (here, tt)
-placed_in P a (b ∷ xs) here all =
-    elim (cases_Bool (nat_le a.frame.stamp b.frame.stamp)) [
-      | inl sooner ↦ rw sooner (here, all)
-      | inr after ↦ rw after (all.0, placed_in P a xs here all.1)
-    ]
-
 placed_out : (P : Arrival → Type 0) (a : Arrival) (xs : List Arrival) → AllByRecursion P (placed a xs) → P a × AllByRecursion P xs
 placed_out P a [] all = (all.0, tt)
 placed_out P a (b ∷ xs) all =
@@ -44,10 +32,6 @@ placed_out P a (b ∷ xs) all =
       | inl sooner ↦ let both = rw sooner at all in (both.0, both.1)
       | inr after ↦ let both = rw after at all in let more = placed_out P a xs both.1 in (more.0, (both.0, more.1))
     ]
-
-pub by_stamp_in : (P : Arrival → Type 0) (xs : List Arrival) → AllByRecursion P xs → AllByRecursion P (by_stamp xs)
-by_stamp_in P [] all = tt
-by_stamp_in P (a ∷ xs) all = placed_in P a (by_stamp xs) all.0 (by_stamp_in P xs all.1)
 
 pub by_stamp_out : (P : Arrival → Type 0) (xs : List Arrival) → AllByRecursion P (by_stamp xs) → AllByRecursion P xs
 by_stamp_out P [] all = tt
@@ -69,10 +53,10 @@ sorted_join (x ∷ xs) ys sorted ordered cross = (all_append (λ b. Precedes x b
 
 -- ---- captures by rising port number
 
-abbrev pub arrived : ℕ → List Entry → List Arrival
-arrived port rs = map (λ (r : Entry). record { port = port; frame = r }) rs
+abbrev pub arrived : ℕ → List Record → List Arrival
+arrived port rs = map (λ (r : Record). record { port = port; frame = r }) rs
 
-pub all_arrived : (P : Arrival → Type 0) (port : ℕ) (rs : List Entry) → AllByRecursion (λ (r : Entry). P (record { port = port; frame = r })) rs → AllByRecursion P (arrived port rs)
+pub all_arrived : (P : Arrival → Type 0) (port : ℕ) (rs : List Record) → AllByRecursion (λ (r : Record). P (record { port = port; frame = r })) rs → AllByRecursion P (arrived port rs)
 all_arrived P port [] all = tt
 all_arrived P port (r ∷ rs) all = (all.0, all_arrived P port rs all.1)
 
@@ -85,13 +69,13 @@ later_ports n [] all = tt
 later_ports n (c ∷ cs) all =
     let le : n ≤ c.port = omega (arith, all.0) in
     all_append (λ (b : Arrival). n ≤ b.port) (arrived c.port c.records) (arrivals_of cs)
-    (all_arrived (λ (b : Arrival). n ≤ b.port) c.port c.records (always (λ (r : Entry). n ≤ c.port) c.records (λ r. le)))
+    (all_arrived (λ (b : Arrival). n ≤ b.port) c.port c.records (always (λ (r : Record). n ≤ c.port) c.records (λ r. le)))
     (later_ports n cs all.1)
 
-numbers_of : (port : ℕ) (rs : List Entry) (others : List Arrival) → AllByRecursion (λ (b : Arrival). port ≤ b.port) others → NumbersRise others → NumbersRise (arrived port rs ++ others)
+numbers_of : (port : ℕ) (rs : List Record) (others : List Arrival) → AllByRecursion (λ (b : Arrival). port ≤ b.port) others → NumbersRise others → NumbersRise (arrived port rs ++ others)
 numbers_of port [] others all rise = rise
 numbers_of port (r ∷ rs) others all rise = (
-  all_append (λ (b : Arrival). port ≤ b.port) (arrived port rs) others (all_arrived (λ (b : Arrival). port ≤ b.port) port rs (always (λ (q : Entry). port ≤ port) rs (λ q. omega arith))) all,
+  all_append (λ (b : Arrival). port ≤ b.port) (arrived port rs) others (all_arrived (λ (b : Arrival). port ≤ b.port) port rs (always (λ (q : Record). port ≤ port) rs (λ q. omega arith))) all,
   numbers_of port rs others all rise,
 )
 
@@ -99,17 +83,14 @@ pub numbers_rise : (cs : List Capture) → Ascend (ports_of cs) → NumbersRise 
 numbers_rise [] ascend = tt
 numbers_rise (c ∷ cs) ascend = numbers_of c.port c.records (arrivals_of cs) (later_ports c.port cs ascend.0) (numbers_rise cs ascend.1)
 
-other_port : (q port : ℕ) → q < port → (port == q) ≡ false
-other_port q port lt = grind (arith, nat_tests)
-
 none_at : (q : ℕ) (cs : List Capture) → AllByRecursion (λ m. q < m) (ports_of cs) → records_of cs q ≡ []
 none_at q [] all = refl
-none_at q (c ∷ cs) all = ap (λ b. cond b c.records [] ++ records_of cs q) (other_port q c.port all.0) ∙ none_at q cs all.1
+none_at q (c ∷ cs) all = ap (λ b. cond b c.records [] ++ records_of cs q) (higher_differs q c.port all.0) ∙ none_at q cs all.1
 
 at-own : (q : ℕ) (c : Capture) (cs : List Capture) → (c.port == q) ≡ true → AllByRecursion (λ m. c.port < m) (ports_of cs) → records_of (c ∷ cs) q ≡ c.records
 at-own q c cs own all =
     ap (λ b. cond b c.records [] ++ records_of cs q) own
-    ∙ ap (λ rs. c.records ++ rs) (none_at q cs (subst (λ n. AllByRecursion (λ m. n < m) (ports_of cs)) (port_is c.port q own) all))
+    ∙ ap (λ rs. c.records ++ rs) (none_at q cs (subst (λ n. AllByRecursion (λ m. n < m) (ports_of cs)) (eqb-true c.port q own) all))
     ∙ append-nil c.records
 
 at-other : (q : ℕ) (c : Capture) (cs : List Capture) → (c.port == q) ≡ false → records_of (c ∷ cs) q ≡ records_of cs q
@@ -124,13 +105,9 @@ rises_at (c ∷ cs) ascend rise q = by_port (c.port == q) refl (rises_at cs asce
 
 -- ---- captures that go on
 
-pub rises_prefix : (rs more : List Entry) → Rises (rs ++ more) → Rises rs
+pub rises_prefix : (rs more : List Record) → Rises (rs ++ more) → Rises rs
 rises_prefix [] more rises = tt
-rises_prefix (r ∷ rs) more rises = (all_prefix (λ (q : Entry). r.stamp ≤ q.stamp) rs more rises.0, rises_prefix rs more rises.1)
-
-pub rises_back : (rs more : List Entry) → Rises (rs ++ more) → Rises more
-rises_back [] more rises = rises
-rises_back (r ∷ rs) more rises = rises_back rs more rises.1
+rises_prefix (r ∷ rs) more rises = (all_prefix (λ (q : Record). r.stamp ≤ q.stamp) rs more rises.0, rises_prefix rs more rises.1)
 
 -- their ports stay, and their stamps do not fall
 pub record Shape (streams later : List Stream) (waiting more : List Capture) : Type 0 where
@@ -174,7 +151,7 @@ shape (s ∷ streams) (n ∷ later) (w ∷ waiting) (v ∷ more) wait queued =
 
 -- what a port gets and what waits there is one and the same more
 pub record IsMore (streams later : List Stream) (waiting more : List Capture) (q : ℕ) : Type 0 where
-  pub added : List Entry
+  pub added : List Record
   pub come : records_of (captures_of later) q ≡ records_of (captures_of streams) q ++ added
   pub queue : records_of more q ≡ records_of waiting q ++ added
 
@@ -217,9 +194,9 @@ is_more (s ∷ streams) (n ∷ later) (w ∷ waiting) (v ∷ more) q ascend wait
 
 -- ---- what was given comes before what comes
 
-settled_precedes : (a : Arrival) (s : Stream) (rs : List Entry) → (a.frame.stamp < last_of s) ⊎ ((a.frame.stamp ≡ last_of s) × (a.port ≤ s.port))
-    → AllByRecursion (λ (r : Entry). last_of s ≤ r.stamp) rs
-    → AllByRecursion (λ (r : Entry). Precedes a (record { port = s.port; frame = r })) rs
+settled_precedes : (a : Arrival) (s : Stream) (rs : List Record) → (a.frame.stamp < last_of s) ⊎ ((a.frame.stamp ≡ last_of s) × (a.port ≤ s.port))
+    → AllByRecursion (λ (r : Record). last_of s ≤ r.stamp) rs
+    → AllByRecursion (λ (r : Record). Precedes a (record { port = s.port; frame = r })) rs
 settled_precedes a s [] by all = tt
 settled_precedes a s (r ∷ rs) by all = (one by all.0, settled_precedes a s rs by all.1) where
   one : (a.frame.stamp < last_of s) ⊎ ((a.frame.stamp ≡ last_of s) × (a.port ≤ s.port)) → last_of s ≤ r.stamp → Precedes a (record { port = s.port; frame = r })
@@ -229,13 +206,13 @@ settled_precedes a s (r ∷ rs) by all = (one by all.0, settled_precedes a s rs 
     | inr ge ↦ inr (omega (arith, same, le, ge), port)
   ]
 
-more_precedes : (a : Arrival) (s later : Stream) (on : GoesOn s later) → ComesBefore a s → AllByRecursion (λ (r : Entry). Precedes a (record { port = s.port; frame = r })) on.more
+more_precedes : (a : Arrival) (s later : Stream) (on : GoesOn s later) → ComesBefore a s → AllByRecursion (λ (r : Record). Precedes a (record { port = s.port; frame = r })) on.more
 more_precedes a s later on before = elim (cases_Bool s.closed) [
-  | inl closed ↦ subst (λ (rs : List Entry). AllByRecursion (λ (r : Entry). Precedes a (record { port = s.port; frame = r })) rs) (sym (on.ended closed).0) tt
+  | inl closed ↦ subst (λ (rs : List Record). AllByRecursion (λ (r : Record). Precedes a (record { port = s.port; frame = r })) rs) (sym (on.ended closed).0) tt
   | inr still_open ↦ settled_precedes a s on.more (before still_open) (further_of s later on)
 ]
 
-back_of_arrived : (P : Arrival → Type 0) (port : ℕ) (rs : List Entry) → AllByRecursion P (arrived port rs) → AllByRecursion (λ (r : Entry). P (record { port = port; frame = r })) rs
+back_of_arrived : (P : Arrival → Type 0) (port : ℕ) (rs : List Record) → AllByRecursion P (arrived port rs) → AllByRecursion (λ (r : Record). P (record { port = port; frame = r })) rs
 back_of_arrived P port [] all = tt
 back_of_arrived P port (r ∷ rs) all = (all.0, back_of_arrived P port rs all.1)
 
@@ -250,25 +227,22 @@ cross_more a (s ∷ streams) (n ∷ later) [] more wait queued settled all = abs
 cross_more a (s ∷ streams) (n ∷ later) (w ∷ waiting) [] wait queued settled all = absurd wait
 cross_more a (s ∷ streams) (n ∷ later) (w ∷ waiting) (v ∷ more) wait queued settled all =
     let P : Arrival → Type 0 = λ b. Precedes a b in
-    let old : AllByRecursion (λ (r : Entry). P (record { port = s.port; frame = r })) w.records =
-    subst (λ port. AllByRecursion (λ (r : Entry). P (record { port = port; frame = r })) w.records) queued.0.port
+    let old : AllByRecursion (λ (r : Record). P (record { port = s.port; frame = r })) w.records =
+    subst (λ port. AllByRecursion (λ (r : Record). P (record { port = port; frame = r })) w.records) queued.0.port
     (back_of_arrived P w.port w.records (all_prefix P (arrived w.port w.records) (arrivals_of waiting) all)) in
-    let both = all_append (λ (r : Entry). P (record { port = s.port; frame = r })) w.records wait.0.on.more old (more_precedes a s n wait.0.on settled.0) in
-    let own : AllByRecursion (λ (r : Entry). P (record { port = v.port; frame = r })) v.records =
-    subst (λ port. AllByRecursion (λ (r : Entry). P (record { port = port; frame = r })) v.records) (sym wait.0.port)
-    (subst (λ rs. AllByRecursion (λ (r : Entry). P (record { port = s.port; frame = r })) rs) (sym wait.0.queue) both) in
+    let both = all_append (λ (r : Record). P (record { port = s.port; frame = r })) w.records wait.0.on.more old (more_precedes a s n wait.0.on settled.0) in
+    let own : AllByRecursion (λ (r : Record). P (record { port = v.port; frame = r })) v.records =
+    subst (λ port. AllByRecursion (λ (r : Record). P (record { port = port; frame = r })) v.records) (sym wait.0.port)
+    (subst (λ rs. AllByRecursion (λ (r : Record). P (record { port = s.port; frame = r })) rs) (sym wait.0.queue) both) in
     all_append P (arrived v.port v.records) (arrivals_of more) (all_arrived P v.port v.records own)
     (cross_more a streams later waiting more wait.1 queued.1 settled.1 (all_back P (arrived w.port w.records) (arrivals_of waiting) all))
 
 -- and stays settled
 still_before : (a : Arrival) (s later : Stream) → GoesOn s later → ComesBefore a s → ComesBefore a later
 still_before a s later on before = λ (still_open : later.closed ≡ false). elim (cases_Bool s.closed) [
-  | inl closed ↦ absurd (differ (on.ended closed).1 still_open)
+  | inl closed ↦ absurd (both_ways later.closed still_open (on.ended closed).1)
   | inr was_open ↦ grown (before was_open)
 ] where
-  differ : later.closed ≡ true → later.closed ≡ false → ⊥
-  differ one other = absurd cc
-
   grown : (a.frame.stamp < last_of s) ⊎ ((a.frame.stamp ≡ last_of s) × (a.port ≤ s.port)) → (a.frame.stamp < last_of later) ⊎ ((a.frame.stamp ≡ last_of later) × (a.port ≤ later.port))
   grown (inl lt) = let le = last_grows s later on in inl (omega (arith, lt, le))
   grown (inr (same, port)) = let le = last_grows s later on in elim (cases_lt a.frame.stamp (last_of later)) [
@@ -320,7 +294,7 @@ settled_stays merge sorted streams later given waiting more ascend wait old = re
 
   cross : AllByRecursion (λ a. AllByRecursion (λ b. Precedes a b) (merged more)) given
   cross = both_all (λ a. AllByRecursion (λ b. Precedes a b) (merged waiting)) (IsSettled streams) (λ a. AllByRecursion (λ b. Precedes a b) (merged more)) given
-      (λ a all settled. by_stamp_in (λ b. Precedes a b) (arrivals_of more) (cross_more a streams later waiting more wait old.queued settled
+      (λ a all settled. by_stamp_every (λ b. Precedes a b) (arrivals_of more) (cross_more a streams later waiting more wait old.queued settled
       (by_stamp_out (λ b. Precedes a b) (arrivals_of waiting) all)))
       (sorted_cross given (merged waiting) whole_sorted) old.settled
 

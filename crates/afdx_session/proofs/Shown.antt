@@ -2,9 +2,11 @@
 use Rattle.std.proofs.Common.{◌≡◌, ℕ, zero, suc, ◌+◌, ◌≤◌, Bool, true, false, List, [], ◌∷◌, ◌++◌, map, length, take, drop, slice_get, Some, refl, ap, sym, ◌∙◌, arith, subst}
 use Rattle.std.specs.List.{AllByRecursion}
 use Rattle.std.proofs.lemmas.List.{length-append}
+use Rattle.std.proofs.lemmas.Option.{same_Some}
+use Rattle.std.proofs.Math.Seq.{take-length}
 use Rattle.afdx_pcap.specs.Reading.{NoNext}
 use Rattle.afdx_table.specs.Content.{Content}
-use Rattle.afdx_port.specs.Admission.{EarlierEventsStayAdmitted}
+use Rattle.afdx_port.specs.Inner.Admission.{EarlierEventsStayAdmitted}
 use Rattle.afdx_port.specs.Inner.Order.{ReachesInOrder}
 use Rattle.afdx_session.specs.declared.lane.Lane.{Lane}
 use Rattle.afdx_session.specs.declared.machine.Machine.{Machine}
@@ -13,7 +15,6 @@ use Rattle.afdx_session.specs.Session.{Intake, IsStream, AreStreams}
 use Rattle.afdx_session.specs.Inner.Lanes.{HasReadAll}
 use Rattle.afdx_session.specs.Inner.Kept.{AreLanesOf, AreOfTable, text_up_to, IsMarked, IsOfSameTable}
 use Rattle.afdx_session.specs.Inner.View.{intakes_of, gone_out, IsShownAt, IsShown, IsReady, IsKeptMachine, IsHalfDone, AreHalfDone}
-use Rattle.afdx_session.proofs.Going.{some_same}
 use Rattle.afdx_session.proofs.Numbered.{all_slice_get}
 use Rattle.afdx_session.proofs.Gone.{text_is}
 use Rattle.afdx_session.proofs.Intakes.{marked_bytes}
@@ -40,10 +41,6 @@ lanes_are_streams begun (l ∷ lanes) (s ∷ streams) marked read are = (
   lanes_are_streams begun lanes streams marked.1 read.1 are.1,
 )
 
-take_whole : (xs : List ℕ) → take (length xs) xs ≡ xs
-take_whole [] = refl
-take_whole (x ∷ xs) = ap (λ ys. x ∷ ys) (take_whole xs)
-
 pub length-drop-within : (n : ℕ) (xs : List ℕ) → n ≤ length xs → n + length (drop n xs) ≡ length xs
 length-drop-within zero xs le = omega arith
 length-drop-within (suc n) [] le = absurd (omega (arith, le))
@@ -64,7 +61,7 @@ shown_ready stay reaches ends m of ready = record {
       let is_ready : l.ready ≡ length l.out.items = marked.ready in
       record {
         taken = subst (λ text. l.taken ≤ length text) (sym same) out.taken;
-        prefix = ap (λ n. take n l.out.items) is_ready ∙ take_whole l.out.items ∙ out.left ∙ ap (drop l.taken) (sym same);
+        prefix = ap (λ n. take n l.out.items) is_ready ∙ take-length l.out.items ∙ out.left ∙ ap (drop l.taken) (sym same);
         ready = omega (arith, is_ready);
         bound = omega (arith, is_ready, long, cut, bound);
       };
@@ -83,7 +80,7 @@ half_lane : {Z : Type 0} (old new : List (Lane Z)) (k : ℕ) (n : Lane Z) → Ar
 half_lane [] [] k n half at = absurd cc
 half_lane [] (m ∷ new) k n half at = absurd half
 half_lane (l ∷ old) [] k n half at = absurd half
-half_lane {Z = Z} (l ∷ old) (m ∷ new) zero n half at = (l, refl, subst (λ (x : Lane Z). IsHalfDone l x) (some_same m n at) half.0)
+half_lane {Z = Z} (l ∷ old) (m ∷ new) zero n half at = (l, refl, subst (λ (x : Lane Z). IsHalfDone l x) (same_Some m n at) half.0)
 half_lane (l ∷ old) (m ∷ new) (suc k) n half at = half_lane old new k n half.1 at
 
 take-within : (n : ℕ) (xs ys : List ℕ) → n ≤ length xs → take n (xs ++ ys) ≡ take n xs

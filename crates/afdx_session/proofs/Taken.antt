@@ -4,6 +4,7 @@ use Rattle.std.specs.List.{AllByRecursion}
 use Rattle.std.proofs.lemmas.Bool.{cases_Bool}
 use Rattle.std.proofs.lemmas.Bool.Decides.{nat_tests}
 use Rattle.std.proofs.Math.ListN.{drop_of_length-le}
+use Rattle.std.proofs.lemmas.Option.{same_Some}
 use Rattle.afdx_table.specs.declared.rows.PortRow.{PortRow}
 use Rattle.afdx_table.specs.Content.{Content}
 use Rattle.afdx_pcap.specs.Reading.{HasTaken}
@@ -18,7 +19,7 @@ use Rattle.afdx_session.specs.Session.{IsStream, AreStreams, took}
 use Rattle.afdx_session.specs.Inner.Lanes.{intake_of, waiting_of, HasReadAll}
 use Rattle.afdx_session.specs.Inner.Kept.{IsLaneOf, AreLanesOf, text_up_to, IsOut, IsGoing, IsRunning, IsMarked}
 use Rattle.afdx_session.specs.Inner.View.{intakes_of, gone_out, IsShownAt, IsShown, IsKeptMachine, IsTaken}
-use Rattle.afdx_session.proofs.Going.{some_same, get-set}
+use Rattle.afdx_session.proofs.Going.{get-set}
 use Rattle.afdx_session.proofs.Numbered.{all_slice_get}
 use Rattle.afdx_session.proofs.ReadUp.{read_same, all_set}
 use Rattle.afdx_session.proofs.Shown.{length-drop-within}
@@ -112,7 +113,7 @@ took_streams : {Z : Type 0} (lanes : List (Lane Z)) (k : ℕ) (old new : Lane Z)
 took_streams [] k old new streams at taken are = absurd cc
 took_streams (l ∷ lanes) k old new [] at taken are = absurd are
 took_streams {Z = Z} (l ∷ lanes) zero old new (s ∷ streams) at taken are =
-    let own : IsStream (intake_of old) s = subst (λ (x : Lane Z). IsStream (intake_of x) s) (some_same l old at) are.0 in (
+    let own : IsStream (intake_of old) s = subst (λ (x : Lane Z). IsStream (intake_of x) s) (same_Some l old at) are.0 in (
       subst (λ i. IsStream i s) (sym (took_intake old new new.taken taken refl)) (record { port = own.port; records = own.records; closed = own.closed }),
       are.1,
     )
@@ -136,7 +137,7 @@ took_lanes : {Z : Type 0} (lanes : List (Lane Z)) (k : ℕ) (old new : Lane Z) (
 took_lanes [] k old new streams at taken are = absurd cc
 took_lanes (l ∷ lanes) k old new [] at taken are = absurd are
 took_lanes {Z = Z} (l ∷ lanes) zero old new (s ∷ streams) at taken are =
-    let own : IsLaneOf old s = subst (λ (x : Lane Z). IsLaneOf x s) (some_same l old at) are.0 in (
+    let own : IsLaneOf old s = subst (λ (x : Lane Z). IsLaneOf x s) (same_Some l old at) are.0 in (
       record {
         port = own.port ∙ sym taken.port;
         ended = own.ended ∙ sym taken.ended;
@@ -155,19 +156,19 @@ took_waiting [] k old new at taken = absurd cc
 took_waiting {Z = Z} (l ∷ lanes) zero old new at taken =
     ap (λ w. record { port = new.port; records = w.items } ∷ map waiting_of lanes) taken.waiting
     ∙ ap (λ n. record { port = n; records = old.waiting.items } ∷ map waiting_of lanes) taken.port
-    ∙ ap (λ (x : Lane Z). waiting_of x ∷ map waiting_of lanes) (sym (some_same l old at))
+    ∙ ap (λ (x : Lane Z). waiting_of x ∷ map waiting_of lanes) (sym (same_Some l old at))
 took_waiting (l ∷ lanes) (suc k) old new at taken = ap (λ ws. waiting_of l ∷ ws) (took_waiting lanes k old new at taken)
 
 took_ports : {Z : Type 0} (lanes : List (Lane Z)) (k : ℕ) (old new : Lane Z) → slice_get lanes k ≡ Some old → IsTaken old new → map (λ (l : Lane Z). l.port) (set lanes k new)
     ≡ map (λ (l : Lane Z). l.port) lanes
 took_ports [] k old new at taken = absurd cc
-took_ports {Z = Z} (l ∷ lanes) zero old new at taken = ap (λ n. n ∷ map (λ (x : Lane Z). x.port) lanes) (taken.port ∙ ap (λ (x : Lane Z). x.port) (sym (some_same l old at)))
+took_ports {Z = Z} (l ∷ lanes) zero old new at taken = ap (λ n. n ∷ map (λ (x : Lane Z). x.port) lanes) (taken.port ∙ ap (λ (x : Lane Z). x.port) (sym (same_Some l old at)))
 took_ports (l ∷ lanes) (suc k) old new at taken = ap (λ ns. l.port ∷ ns) (took_ports lanes k old new at taken)
 
 took_marked : {Z : Type 0} (begun : Bool) (lanes : List (Lane Z)) (k : ℕ) (old new : Lane Z) → slice_get lanes k ≡ Some old → IsTaken old new → AllByRecursion (IsMarked begun) lanes
     → AllByRecursion (IsMarked begun) (set lanes k new)
 took_marked begun [] k old new at taken marked = absurd cc
-took_marked {Z = Z} begun (l ∷ lanes) zero old new at taken marked = (marked_taken begun old new taken (subst (λ (x : Lane Z). IsMarked begun x) (some_same l old at) marked.0), marked.1)
+took_marked {Z = Z} begun (l ∷ lanes) zero old new at taken marked = (marked_taken begun old new taken (subst (λ (x : Lane Z). IsMarked begun x) (same_Some l old at) marked.0), marked.1)
 took_marked begun (l ∷ lanes) (suc k) old new at taken marked = (marked.0, took_marked begun lanes k old new at taken marked.1)
 
 length-set-lanes : {Z : Type 0} (lanes : List (Lane Z)) (k : ℕ) (new : Lane Z) → length (set lanes k new) ≡ length lanes

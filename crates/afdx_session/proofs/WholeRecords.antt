@@ -2,13 +2,13 @@
 use Rattle.std.proofs.Common.{◌≡◌, ℕ, zero, suc, ◌<◌, ◌≤◌, true, List, [], ◌∷◌, ◌++◌, length, drop, refl, ap, sym, ◌∙◌, arith, inl, inr, subst, append_assoc}
 use Rattle.std.proofs.lemmas.List.{append-nil, length-append}
 use Rattle.std.proofs.lemmas.Bool.{cases_lt}
-use Rattle.afdx_pcap.specs.Entry.{Entry}
+use Rattle.afdx_pcap.specs.Record.{Record}
 use Rattle.afdx_pcap.specs.declared.format.Format.{Format}
 use Rattle.afdx_pcap.specs.Capture.{Splits, Holds, after}
 use Rattle.afdx_pcap.specs.Reading.{NoNext, AreFirst}
 use Rattle.afdx_table.specs.declared.rows.PortRow.{PortRow}
 use Rattle.afdx_table.specs.Content.{Content}
-use Rattle.afdx_port.specs.Admission.{EarlierEventsStayAdmitted}
+use Rattle.afdx_port.specs.Inner.Admission.{EarlierEventsStayAdmitted}
 use Rattle.afdx_port.specs.Inner.Order.{ReachesInOrder}
 use Rattle.afdx_port.specs.Inner.Course.{EventsAreInParts}
 use Rattle.afdx_core.specs.Merge.{Rises}
@@ -19,18 +19,18 @@ use Rattle.afdx_session.proofs.Growing.{text_grows}
 
 -- what the laws of captures say of whole records
 abbrev pub RecordsStay : Type 0
-RecordsStay = (bytes more rest : List ℕ) (rs : List Entry) → Holds bytes rs rest → Holds (bytes ++ more) rs (rest ++ more)
+RecordsStay = (bytes more rest : List ℕ) (rs : List Record) → Holds bytes rs rest → Holds (bytes ++ more) rs (rest ++ more)
 
 abbrev pub RecordsAreUnique : Type 0
-RecordsAreUnique = (bytes rest others : List ℕ) (rs qs : List Entry) → Holds bytes rs rest → Holds bytes qs others → length rs ≡ length qs → rs ≡ qs
+RecordsAreUnique = (bytes rest others : List ℕ) (rs qs : List Record) → Holds bytes rs rest → Holds bytes qs others → length rs ≡ length qs → rs ≡ qs
 
 -- ---- prefixes
 
-splits_prefix : (f : Format) (last : ℕ) (bytes : List ℕ) (xs ys : List Entry) (rest : List ℕ) → Splits f last bytes (xs ++ ys) rest → (mid : List ℕ) × Splits f last bytes xs mid
+splits_prefix : (f : Format) (last : ℕ) (bytes : List ℕ) (xs ys : List Record) (rest : List ℕ) → Splits f last bytes (xs ++ ys) rest → (mid : List ℕ) × Splits f last bytes xs mid
 splits_prefix f last bytes [] ys rest splits = (bytes, refl)
 splits_prefix f last bytes (x ∷ xs) ys rest splits = let more = splits_prefix f x.stamp (after x bytes) xs ys rest splits.1 in (more.0, (splits.0, more.1))
 
-pub holds_prefix : (bytes : List ℕ) (xs ys : List Entry) (rest : List ℕ) → Holds bytes (xs ++ ys) rest → (mid : List ℕ) × Holds bytes xs mid
+pub holds_prefix : (bytes : List ℕ) (xs ys : List Record) (rest : List ℕ) → Holds bytes (xs ++ ys) rest → (mid : List ℕ) × Holds bytes xs mid
 holds_prefix bytes xs ys rest holds =
     let prefix = splits_prefix holds.format 0 (drop 24 bytes) xs ys rest holds.records in
     (prefix.0, record { format = holds.format; header = holds.header; records = prefix.1 })
@@ -49,12 +49,12 @@ cut_at (suc n) (x ∷ xs) le =
     let c = cut_at n xs (omega (arith, le)) in
     record { prefix = x ∷ c.prefix; back = c.back; both = ap (λ ys. x ∷ ys) c.both; long = ap suc c.long }
 
-first_holds : (bytes : List ℕ) (rs : List Entry) (n : ℕ) → n < length rs → AreFirst bytes rs → (rest : List ℕ) × Holds bytes rs rest
+first_holds : (bytes : List ℕ) (rs : List Record) (n : ℕ) → n < length rs → AreFirst bytes rs → (rest : List ℕ) × Holds bytes rs rest
 first_holds bytes [] n lt first = absurd (omega (arith, lt))
 first_holds bytes (r ∷ rs) n lt first = first
 
 -- there are no more whole records than the most
-pub no_more : (bytes : List ℕ) (rs : List Entry) (n : ℕ) → AreFirst bytes rs → NoNext bytes n → length rs ≤ n
+pub no_more : (bytes : List ℕ) (rs : List Record) (n : ℕ) → AreFirst bytes rs → NoNext bytes n → length rs ≤ n
 no_more bytes rs n first none = elim (cases_lt n (length rs)) [
   | inr ge ↦ ge
   | inl lt ↦
@@ -62,7 +62,7 @@ no_more bytes rs n first none = elim (cases_lt n (length rs)) [
       let c = cut_at n rs (omega (arith, lt)) in
       absurd (by_back c lt held c.back c.both)
 ] where
-  by_back : (c : IsCutAt n rs) → n < length rs → (rest : List ℕ) × Holds bytes rs rest → (back : List Entry) → rs ≡ c.prefix ++ back → ⊥
+  by_back : (c : IsCutAt n rs) → n < length rs → (rest : List ℕ) × Holds bytes rs rest → (back : List Record) → rs ≡ c.prefix ++ back → ⊥
   by_back c lt held [] both =
       let long : length rs ≡ length c.prefix = ap length (both ∙ append-nil c.prefix) in
       let same = c.long in
@@ -73,7 +73,7 @@ no_more bytes rs n first none = elim (cases_lt n (length rs)) [
       none r (c.prefix, prefix.0, prefix.1, c.long)
 
 -- more bytes leave the whole records so far, and may add others
-pub whole_on : RecordsStay → RecordsAreUnique → (bytes more : List ℕ) (rs qs : List Entry) → AreWhole bytes rs → AreWhole (bytes ++ more) qs → (added : List Entry) × (qs ≡ rs ++ added)
+pub whole_on : RecordsStay → RecordsAreUnique → (bytes more : List ℕ) (rs qs : List Record) → AreWhole bytes rs → AreWhole (bytes ++ more) qs → (added : List Record) × (qs ≡ rs ++ added)
 whole_on stay unique bytes more [] qs was is = (qs, refl)
 whole_on stay unique bytes more (r ∷ rs) qs was is =
     let held : Holds (bytes ++ more) (r ∷ rs) (was.first.0 ++ more) = stay bytes more was.first.0 (r ∷ rs) was.first.1 in
@@ -84,18 +84,18 @@ whole_on stay unique bytes more (r ∷ rs) qs was is =
     let same : c.prefix ≡ r ∷ rs = unique (bytes ++ more) prefix.0 (was.first.0 ++ more) c.prefix (r ∷ rs) prefix.1 held c.long in
     (c.back, c.both ∙ ap (λ xs. xs ++ c.back) same)
 
-pub whole_rises : (bytes : List ℕ) (rs : List Entry) → AreWhole bytes rs → Rises rs
+pub whole_rises : (bytes : List ℕ) (rs : List Record) → AreWhole bytes rs → Rises rs
 whole_rises bytes [] are = tt
 whole_rises bytes (r ∷ rs) are = let held = are.first.1 in (splits_rise held.format 0 (drop 24 bytes) (r ∷ rs) are.first.0 held.records).1
 
 -- one list of whole records
-pub whole_unique : RecordsStay → RecordsAreUnique → (bytes : List ℕ) (rs qs : List Entry) → AreWhole bytes rs → AreWhole bytes qs → rs ≡ qs
+pub whole_unique : RecordsStay → RecordsAreUnique → (bytes : List ℕ) (rs qs : List Record) → AreWhole bytes rs → AreWhole bytes qs → rs ≡ qs
 whole_unique stay unique bytes rs qs was is =
     let again : AreWhole (bytes ++ []) qs = subst (λ b. AreWhole b qs) (sym (append-nil bytes)) is in
     let more = whole_on stay unique bytes [] rs qs was again in
     let le : length qs ≤ length rs = no_more bytes qs (length rs) is.first was.none_left in
     by_added more.0 more.1 le where
-      by_added : (added : List Entry) → qs ≡ rs ++ added → length qs ≤ length rs → rs ≡ qs
+      by_added : (added : List Record) → qs ≡ rs ++ added → length qs ≤ length rs → rs ≡ qs
       by_added [] same le = sym (same ∙ append-nil rs)
       by_added (a ∷ added) same le = let long = ap length same ∙ length-append rs (a ∷ added) in absurd (omega (arith, le, long))
 
@@ -116,7 +116,7 @@ goes_on stay unique i later s next on is are =
           let same : s.records ≡ next.records = whole_unique stay unique i.bytes s.records next.records is.records same_bytes in
           (none_added s.records more.0 (same ∙ more.1), are.closed ∙ ended.1);
     } where
-      none_added : (rs added : List Entry) → rs ≡ rs ++ added → added ≡ []
+      none_added : (rs added : List Record) → rs ≡ rs ++ added → added ≡ []
       none_added rs [] same = refl
       none_added rs (a ∷ added) same = let long = ap length same ∙ length-append rs (a ∷ added) in absurd (omega (arith, long))
 

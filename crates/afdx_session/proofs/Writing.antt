@@ -2,7 +2,8 @@
 use Rattle.std.proofs.Common.{◌≡◌, ◌≢◌, ℕ, zero, suc, ◌+◌, ◌≤◌, ◌==◌, Bool, true, List, [], ◌∷◌, ◌++◌, map, length, drop, slice_get, slice_index, Option, Some, None, refl, ap, sym, ◌∙◌, arith, subst}
 use Rattle.std.specs.List.{AllByRecursion, flat_map, position}
 use Rattle.std.proofs.lemmas.List.{append-nil, length-map, map-append}
-use Rattle.afdx_pcap.specs.Entry.{Entry}
+use Rattle.std.proofs.lemmas.Option.{same_Some}
+use Rattle.afdx_pcap.specs.Record.{Record}
 use Rattle.afdx_pcap.specs.Text.{record_text, capture_text}
 use Rattle.afdx_table.specs.declared.rows.PortRow.{PortRow}
 use Rattle.afdx_table.specs.Content.{Content}
@@ -35,31 +36,24 @@ use Rattle.afdx_session.specs.Carried.{Rest, IsLeft, IsCarried}
 use Rattle.afdx_session.proofs.Draining.{none_left}
 use Rattle.afdx_session.proofs.Drawing.{sent-prefix, capture-append, same_handed}
 use Rattle.afdx_session.proofs.Ending.{TakenAreTheCapture, lane_capture}
-use Rattle.afdx_session.proofs.Going.{some_same}
 use Rattle.afdx_session.proofs.Growing.{sent_later}
 use Rattle.afdx_session.proofs.Handing.{its_place}
-use Rattle.afdx_session.proofs.Numbered.{all_slice_get}
+use Rattle.afdx_session.proofs.Numbered.{all_slice_get, first_same, rest_same}
 use Rattle.afdx_session.proofs.Replaying.{bytes_stay}
 
 -- ---- lists
-
-first_same : (m n : ℕ) (ms ns : List ℕ) → m ∷ ms ≡ n ∷ ns → m ≡ n
-first_same m n ms ns e = cc
-
-rest_same : (m n : ℕ) (ms ns : List ℕ) → m ∷ ms ≡ n ∷ ns → ms ≡ ns
-rest_same m n ms ns e = cc
 
 -- the numbers at one place of lists that have the same numbers
 number_at : {X Y : Type 0} (f : X → ℕ) (g : Y → ℕ) (xs : List X) (ys : List Y) (k : ℕ) (x : X) (y : Y) → map f xs ≡ map g ys → slice_get xs k ≡ Some x → slice_get ys k ≡ Some y → f x ≡ g y
 number_at f g [] ys k x y same at there = absurd cc
 number_at f g (z ∷ xs) [] k x y same at there = absurd cc
-number_at f g (z ∷ xs) (w ∷ ys) zero x y same at there = ap f (sym (some_same z x at)) ∙ first_same (f z) (g w) (map f xs) (map g ys) same ∙ ap g (some_same w y there)
-number_at f g (z ∷ xs) (w ∷ ys) (suc k) x y same at there = number_at f g xs ys k x y (rest_same (f z) (g w) (map f xs) (map g ys) same) at there
+number_at f g (z ∷ xs) (w ∷ ys) zero x y same at there = ap f (sym (same_Some z x at)) ∙ first_same same ∙ ap g (same_Some w y there)
+number_at f g (z ∷ xs) (w ∷ ys) (suc k) x y same at there = number_at f g xs ys k x y (rest_same same) at there
 
 -- the element that a mapped one comes from
 mapped_from : {X Y : Type 0} (f : X → Y) (xs : List X) (k : ℕ) (y : Y) → slice_get (map f xs) k ≡ Some y → (x : X) × (slice_get xs k ≡ Some x) × (f x ≡ y)
 mapped_from f [] k y at = absurd cc
-mapped_from f (x ∷ xs) zero y at = (x, refl, some_same (f x) y at)
+mapped_from f (x ∷ xs) zero y at = (x, refl, same_Some (f x) y at)
 mapped_from f (x ∷ xs) (suc k) y at = mapped_from f xs k y at
 
 -- ---- one port hands out what is left of it
@@ -129,7 +123,7 @@ writes t arrivals n p old new text before out left is_port is_text texts counts 
   none_now = ap (left_at new.state.run) (sym place_now) ∙ none_left new.state.run (place_of new.state.run text.0) none
 
   behind : (place : ℕ) → n + 1 ≤ place → place_of old.state.run text.0 ≢ Some place
-  behind place le is = let same = some_same n place (sym place_is ∙ is) in absurd (omega (arith, same, le))
+  behind place le is = let same = same_Some n place (sym place_is ∙ is) in absurd (omega (arith, same, le))
 
 -- ---- captures that were lent
 
@@ -147,7 +141,7 @@ over_captures law (l ∷ lanes) (s ∷ streams) over ended are = (
 none_waits : {Z : Type 0} (lanes : List (Lane Z)) → AllByRecursion IsOver lanes → AllByRecursion (λ (l : Lane Z). l.ended ≡ true) lanes → arrivals_of (map waiting_of lanes) ≡ []
 none_waits [] over ended = refl
 none_waits (l ∷ lanes) over ended =
-    ap (λ rs. map {B = Arrival} (λ (r : Entry). record { port = l.port; frame = r }) rs ++ arrivals_of (map waiting_of lanes)) (over.0.read ended.0).0
+    ap (λ rs. map {B = Arrival} (λ (r : Record). record { port = l.port; frame = r }) rs ++ arrivals_of (map waiting_of lanes)) (over.0.read ended.0).0
     ∙ none_waits lanes over.1 ended.1
 
 -- what a lane shows of its output

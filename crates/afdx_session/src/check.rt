@@ -1,7 +1,7 @@
 //! The first fault of captures.
 
 ghost use Rattle.std.specs.Prelude.{List, IfErr, OnOk};
-ghost use Rattle.afdx_pcap.specs.Entry.{Entry};
+ghost use Rattle.afdx_pcap.specs.Record.{Record};
 ghost use Rattle.afdx_pcap.specs.Capture.{IsCapture};
 ghost use Rattle.afdx_pcap.specs.Fault.{IsFault};
 ghost use Rattle.afdx_session.specs.Texts.{texts_of};
@@ -14,7 +14,7 @@ use std::alloc::Allocator;
 
 /// Whether a text is a capture, or its first fault. It takes no memory. O(records).
 fn check_text<A: Allocator + Copy>(alloc: A, text: &[u8]) -> Result<(), PcapFault>
-    ensures ok { OnOk result ((records : List Entry) × IsCapture text.now records) }
+    ensures ok { OnOk result ((records : List Record) × IsCapture text.now records) }
     ensures err { IfErr result (IsFault text.now) }
 {
     let mut reader = Reader::over(alloc, text);

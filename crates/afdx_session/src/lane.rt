@@ -2,7 +2,7 @@
 
 ghost use Rattle.std.specs.Prelude.{◌≡◌, ◌<◌, ◌≤◌, ◌-◌, ◌^◌, ◌==◌, ◌++◌, [], ℕ, true, false, take, None, Some, Ok, List, length, IfOk, IfErr, OnOk, OnErr, IfSome, IfNone, Option, is_some};
 ghost use Rattle.std.specs.Prelude.{if◌then◌else◌, ◌+◌, IsTrue, ◌↔◌, position, find};
-ghost use Rattle.afdx_pcap.specs.Entry.{Entry};
+ghost use Rattle.afdx_pcap.specs.Record as pcap;
 ghost use Rattle.afdx_pcap.specs.Reading.{Answers};
 ghost use Rattle.afdx_session.specs.Lanes.{IsPieceFault};
 ghost use Rattle.afdx_session.specs.Inner.Lanes.{HasReadAll, HasDrawn, IsReadOn, Adds, IsLaneFault, limit_at, best_place, IsFirstOf, IsWithinPlace, head_of, sooner_of, IsStill, GoesAt};
@@ -110,7 +110,7 @@ impl<'a, A: Allocator + Copy> Lane<'a, A> {
     fn read_on(&mut self) -> Result<(), RunFault>
         requires { self.old.reader.fault ≡ None }
         ensures read_on { IsReadOn self.old self.new }
-        ensures ok { OnOk result ((more : List Entry) × Adds self.old self.new more × HasReadAll self.new) }
+        ensures ok { OnOk result ((more : List pcap.Record) × Adds self.old self.new more × HasReadAll self.new) }
         ensures err { IfErr result (λ fault. IsLaneFault self.old fault) }
     {
         while self.draw()? {}
@@ -125,7 +125,7 @@ impl<'a, A: Allocator + Copy> Lane<'a, A> {
         ensures still { IsStill self.old self.new }
         ensures bytes { take (length self.new.reader.bytes - self.new.undone) self.new.reader.bytes ≡ self.old.reader.bytes }
         ensures ok { OnOk result ((self.new.reader.bytes ≡ self.old.reader.bytes ++ piece.now) × (self.new.reader.closed ≡ false)
-            × ((more : List Entry) × Adds self.old self.new more) × HasReadAll self.new) }
+            × ((more : List pcap.Record) × Adds self.old self.new more) × HasReadAll self.new) }
         ensures err { IfErr result (λ fault. IsPieceFault (self.old.reader.bytes ++ piece.now) self.old.port fault) }
     {
         match self.reader.feed(piece) {
@@ -144,7 +144,7 @@ impl<'a, A: Allocator + Copy> Lane<'a, A> {
         ensures undone { self.new.undone ≡ self.old.undone }
         ensures bytes { self.new.reader.bytes ≡ self.old.reader.bytes }
         ensures ended { self.new.reader.closed ≡ true }
-        ensures ok { OnOk result ((more : List Entry) × Adds self.old self.new more × HasReadAll self.new) }
+        ensures ok { OnOk result ((more : List pcap.Record) × Adds self.old self.new more × HasReadAll self.new) }
         ensures err { IfErr result (λ fault. IsFaultAt self.old.reader.bytes self.old.port fault) }
     {
         self.reader.close();
@@ -157,7 +157,7 @@ impl<'a, A: Allocator + Copy> Lane<'a, A> {
         ensures still { IsStill self.old self.new }
         ensures undone { self.new.undone ≡ self.old.undone }
         ensures bytes { self.new.reader.bytes ≡ text.now }
-        ensures ok { OnOk result (((more : List Entry) × Adds self.old self.new more) × IsOver self.new) }
+        ensures ok { OnOk result (((more : List pcap.Record) × Adds self.old self.new more) × IsOver self.new) }
         ensures err { IfErr result (λ fault. IsFaultAt text.now self.old.port fault) }
     {
         self.reader = Reader::over(alloc, text);

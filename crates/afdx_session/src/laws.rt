@@ -5,7 +5,7 @@ ghost use Rattle.afdx_session.specs.Inner.OneMerge.{MergedIsTheOnlyOne};
 ghost use Rattle.afdx_session.specs.Inner.Pieces.{CallsGoOn, NothingWasTaken, TakenStays, TakesJoin, TakenIsAPrefix, TakesAndRestAreTheOutput};
 ghost use Rattle.afdx_session.specs.Inner.Readable.{OutputsAreReadable};
 ghost use Rattle.afdx_session.specs.Session.{OutputGrowsWithBytes, WholeRecordsAreUnique};
-ghost use Rattle.afdx_session.specs.Inner.Settled.{MergeIsUnique, SettledStays, SettledRecordsGo, RestComesAtTheFrontier, SwitchShowsWhatLeft};
+ghost use Rattle.afdx_session.specs.Inner.Settled.{SettledStays, SettledRecordsGo, RestComesAtTheFrontier, SwitchShowsWhatLeft};
 ghost use Rattle.afdx_session.specs.Streams.{LaterArrivalsChangeNothing, OutputGrows, TextGrows, OutputOfAll, IsPrefixOfTheOutput, AllStartBeforeTheLastInstant};
 
 use afdx_core::laws::{
@@ -63,11 +63,6 @@ pub fn output_so_far_grows()
     stamps_keep_their_order();
     events_follow_the_line();
 }
-
-/// There is one merge by stamp and port number.
-pub fn merge_is_unique()
-    ensures { MergeIsUnique }
-{}
 
 /// Of the captures of a table's ports there is one merge by stamp, then by port number: the program's.
 pub fn merged_is_the_only_one()

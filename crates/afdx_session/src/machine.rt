@@ -5,7 +5,7 @@ ghost use Rattle.afdx_units.specs.Time.{last_second};
 ghost use Rattle.afdx_table.specs.WellFormed.{IsWellFormed};
 ghost use Rattle.afdx_load.specs.Accepted.{IsAccepted};
 ghost use Rattle.afdx_session.specs.Outcome.{table_in, is_cleared};
-ghost use Rattle.afdx_core.specs.Handling.{Handling};
+ghost use Rattle.afdx_core.specs.Step.{Step};
 ghost use Rattle.afdx_core.specs.Held.{reported, IsTaken, Keeps};
 ghost use Rattle.afdx_core.specs.Rows.{row_of};
 ghost use Rattle.afdx_core.specs.State.{refusal_of, fresh_state, after_finish};
@@ -107,7 +107,7 @@ impl<'a, A: Allocator + Copy> Machine<'a, A> {
         requires none_else { refusal_of self.old.switch.run port frame.stamp ≡ None }
         ensures lanes { self.new.lanes ≡ self.old.lanes }
         ensures same { IsOfSameTable self.old.switch self.new.switch }
-        ensures ok { OnOk result ((step : Handling) × (step.number < 2 ^ 64)
+        ensures ok { OnOk result ((step : Step) × (step.number < 2 ^ 64)
             × IsTaken self.old.switch self.new.switch (row_of self.old.switch.run.table port frame.entry) frame.entry step
             × (self.new.counts ≡ noted step self.old.counts)) }
     {

@@ -11,6 +11,9 @@ use crate::texts::Text::{Frames, Parts};
 use crate::texts::{EMPTY, Text, captures};
 use afdx_samples::{FRAME, HEADER, Link, Port, Sample, capture, frame};
 use afdx_session::Session;
+use rand::RngExt;
+use rand::rngs::SmallRng;
+use rand_core::SeedableRng;
 use std::alloc::{AllocError, Global};
 use std::test::*;
 
@@ -19,7 +22,7 @@ use std::test::*;
 enum Pieces<'a> {
     /// Of this size, round the captures at these places, while all that goes out is taken.
     Round(&'a [usize], usize),
-    /// Of random sizes and captures, with takes at random; these are the numbers of this seed.
+    /// Of random sizes and captures, with takes at random, which this seed determines.
     Random(u64),
 }
 
@@ -146,21 +149,6 @@ fn pieces_round_the_ports(rt: HostRuntime) -> Result<(), Fail> {
 
 // ---- random pieces
 
-/// The number that comes after this one (xorshift).
-fn after(state: u64) -> u64 {
-    let mut next = state;
-    next ^= next << 13;
-    next ^= next >> 7;
-    next ^= next << 17;
-    next
-}
-
-/// The next number that looks random, below the limit; 0 where it is 0.
-fn below(state: &mut u64, limit: u32) -> u32 {
-    *state = after(*state);
-    u32::try_from((*state >> 32) * u64::from(limit) >> 32).unwrap_or(0)
-}
-
 /// A high link for small frames.
 const QUICK: Link = Link {
     max_size: 300,
@@ -234,19 +222,20 @@ const NETWORK: Setting = Setting {
 const LINKS: [u8; 7] = [100, 104, 200, 202, 30, 31, 40];
 
 /// A frame of one of the links, some time after the instant.
-fn any_frame(state: &mut u64, nanos: u32) -> Sample {
-    let place = below(state, 7) as usize;
+fn any_frame(random: &mut SmallRng, nanos: u32) -> Sample {
+    let place = random.random_range(0usize..7);
     let link = LINKS.get(place).copied().unwrap_or(100);
-    let size = below(state, 260).saturating_add(50);
-    frame(link, size, nanos.saturating_add(below(state, 400_000)))
+    let size = random.random_range(50u32..310);
+    let gap = random.random_range(0u32..400_000);
+    frame(link, size, nanos.saturating_add(gap))
 }
 
 /// A capture of so many frames of these links, also of links from other ports.
-fn traffic(alloc: Global, state: &mut u64, count: usize) -> Result<Vec<u8>, AllocError> {
+fn traffic(alloc: Global, random: &mut SmallRng, count: usize) -> Result<Vec<u8>, AllocError> {
     let mut frames: Vec<Sample> = Vec::new(alloc);
     let mut nanos = 0u32;
     for _ in 0..count {
-        let next = any_frame(state, nanos);
+        let next = any_frame(random, nanos);
         nanos = next.nanos;
         frames.push(next)?;
     }
@@ -254,12 +243,12 @@ fn traffic(alloc: Global, state: &mut u64, count: usize) -> Result<Vec<u8>, Allo
 }
 
 /// Captures of the four ports; nothing comes in at port 3.
-fn random_captures(alloc: Global, state: &mut u64) -> Result<Vec<(u8, Vec<u8>)>, AllocError> {
+fn random_captures(alloc: Global, random: &mut SmallRng) -> Result<Vec<(u8, Vec<u8>)>, AllocError> {
     let mut captures = Vec::new(alloc);
-    captures.push((1, traffic(alloc, state, 40)?))?;
-    captures.push((2, traffic(alloc, state, 25)?))?;
+    captures.push((1, traffic(alloc, random, 40)?))?;
+    captures.push((2, traffic(alloc, random, 25)?))?;
     captures.push((3, Vec::from_slice(alloc, &HEADER)?))?;
-    captures.push((4, traffic(alloc, state, 60)?))?;
+    captures.push((4, traffic(alloc, random, 60)?))?;
     Ok(captures)
 }
 
@@ -267,34 +256,34 @@ fn random_captures(alloc: Global, state: &mut u64) -> Result<Vec<(u8, Vec<u8>)>,
 fn step_at_random(
     session: &mut Session<Global>,
     intakes: &mut [Intake<'_>],
-    state: &mut u64,
+    random: &mut SmallRng,
 ) -> bool {
-    let size = below(state, 120) as usize;
-    let fed = feed_at(session, intakes, below(state, 4) as usize, size).is_ok();
-    take_at(session, intakes, below(state, 4) as usize).is_ok() && fed
+    let size = random.random_range(0usize..120);
+    let fed = feed_at(session, intakes, random.random_range(0usize..4), size).is_ok();
+    take_at(session, intakes, random.random_range(0usize..4)).is_ok() && fed
 }
 
 /// So it goes 400 times, and then what is left comes; whether none was refused.
 fn come_at_random(session: &mut Session<Global>, intakes: &mut [Intake<'_>], seed: u64) -> bool {
-    let mut state = seed;
+    let mut random = SmallRng::seed_from_u64(seed);
     let mut right = true;
     for _ in 0..400 {
-        right = step_at_random(session, intakes, &mut state) && right;
+        right = step_at_random(session, intakes, &mut random) && right;
     }
     feed_all(session, intakes, &[2, 0, 3, 1], 1000).is_ok() && right
 }
 
 /// Whether random pieces of random ports lead where the whole captures do. The seed makes the captures too.
 fn random_captures_lead(alloc: Global, seed: u64) -> Result<bool, Fail> {
-    let mut state = seed;
-    let captures = random_captures(alloc, &mut state)?;
-    all_lead(alloc, NETWORK, &captures, &[Pieces::Random(state)])
+    let mut random = SmallRng::seed_from_u64(seed);
+    let captures = random_captures(alloc, &mut random)?;
+    all_lead(alloc, NETWORK, &captures, &[Pieces::Random(seed)])
 }
 
 #[test]
 fn random_pieces(rt: HostRuntime) -> Result<(), Fail> {
     for seed in 1..=8u64 {
-        assert!(rt; random_captures_lead(rt.alloc(), seed << 40)?, "{seed}");
+        assert!(rt; random_captures_lead(rt.alloc(), seed)?, "{seed}");
     }
     Ok(())
 }

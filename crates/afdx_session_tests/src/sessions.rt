@@ -75,20 +75,12 @@ fn answers(alloc: Global, session: &mut Session<Global>, call: Call) -> Result<b
     })
 }
 
-/// How many of these calls it answers so, up to the first that it does not.
-fn answered(
-    alloc: Global,
-    session: &mut Session<Global>,
-    calls: &[Call],
-) -> Result<usize, AllocError> {
-    let mut count = 0usize;
-    for call in calls {
-        if !answers(alloc, session, *call)? {
-            break;
-        }
-        count = count.saturating_add(1);
-    }
-    Ok(count)
+/// How many of these calls it answers so, up to the first that it does not, or where memory runs out.
+fn answered(alloc: Global, session: &mut Session<Global>, calls: &[Call]) -> usize {
+    calls
+        .iter()
+        .take_while(|call| answers(alloc, session, **call) == Ok(true))
+        .count()
 }
 
 /// Whether exactly these texts are left of the ports from 1 on.
@@ -126,7 +118,7 @@ fn plays(alloc: Global, row: &Row) -> Result<(usize, bool), Fail> {
     let mut session = open(alloc, row.setting)?;
     let count = answered(alloc, &mut session, row.calls);
     let is_right = ends(alloc, session, row.end);
-    Ok((count?, is_right?))
+    Ok((count, is_right?))
 }
 
 const FAILED: Result<(), RunFault> = Err(RunFault::Failed);

@@ -33,7 +33,7 @@ impl<'a, A: Allocator> Model for Store<'a, A> {
 
     ghost Value = { StoreValue };
 
-    ghost use Rattle.afdx_store.specs.Kept.{value_of, IsKeptStore};
+    ghost use Rattle.afdx_store.specs.Inner.Kept.{value_of, IsKeptStore};
 
     ghost view = { value_of };
 

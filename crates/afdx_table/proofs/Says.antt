@@ -20,12 +20,12 @@ use Rattle.afdx_table.specs.declared.fault.Key.{Key}
 use Rattle.afdx_table.specs.declared.fault.Key.TheVariants as key
 use Rattle.afdx_table.specs.declared.fault.TableFault.{TableFault}
 use Rattle.afdx_table.specs.declared.fault.TableFault.TheVariants.{MissingKey, Kind, Range}
-use Rattle.afdx_table.specs.Names.{key_text, speed_of, bags, bag_of, priority_of, police_of}
+use Rattle.afdx_table.specs.Names.{key_text, speed_of, bags, bag_of, priority_text, priority_of, police_of}
 use Rattle.afdx_table.specs.Refusal.{or_refuse}
 use Rattle.afdx_table.specs.Fields.{natural_of, are_known, known_at, all_of, value_at, number_in, text_in, number_at, bounded, bounded_at, text_at, if_present, optional_number_at, optional_text_at}
 use Rattle.afdx_table.specs.Fields.{tables_in, tables_at, as_natural, bounded_natural, all_bounded, numbers_at}
 use Rattle.afdx_table.specs.Links.{police_from}
-use Rattle.afdx_table.specs.Inner.Holds.{Has, HasNone, HasNumber, HasText, number_items, HasNumbers, table_items, HasTables, mbit_of, priority_text, police_text, HasPolice, HasSpeed}
+use Rattle.afdx_table.specs.Inner.Holds.{Has, HasNone, HasNumber, HasText, number_items, HasNumbers, table_items, HasTables, mbit_of, police_text, HasPolice, HasSpeed}
 use Rattle.afdx_table.proofs.Steps.{steps, ok_inside}
 
 -- ---- values of one kind

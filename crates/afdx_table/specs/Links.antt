@@ -2,6 +2,7 @@
 use Rattle.std.specs.Prelude.{ℕ, Bool, not, ◌==◌, ◌+◌, ◌*◌, if◌then◌else◌, List, [], ◌∷◌, ◌++◌, length, Option, Some, None, Result, Ok, Err}
 use Rattle.std.specs.List.{list_any}
 use Rattle.toml.specs.Data.{Members}
+use Rattle.afdx_units.specs.Line.{least_size, greatest_size}
 use Rattle.afdx_units.specs.declared.police.Police.{Police}
 use Rattle.afdx_units.specs.declared.police.Police.TheVariants.{Byte}
 use Rattle.afdx_table.specs.declared.fault.At.{At}
@@ -52,7 +53,7 @@ row_at version at ms = do
   bag_ms ← number_at at key.Bag ms
   bag ← or_refuse (Range at key.Bag) (bag_of bag_ms)
   jitter_us ← bounded_at at key.Jitter 0 10000 ms
-  max_size ← bounded_at at key.MaxSize 64 1518 ms
+  max_size ← bounded_at at key.MaxSize least_size greatest_size ms
   text ← text_at at key.Priority ms
   priority ← or_refuse (Range at key.Priority) (priority_of text)
   stated_police ← optional_text_at at key.Police ms

@@ -57,6 +57,10 @@ unfoldable pub bag_of : ℕ → Option Bag
 bag_of ms = find (λ bag. bag_ms bag == ms) bags
 
 -- ARINC 664 Part 7 has two priorities; profile: their names
+abbrev pub priority_text : Priority → List ℕ
+priority_text High = codes "high"
+priority_text Low = codes "low"
+
 abbrev pub priority_of : List ℕ → Option Priority
 priority_of text = if bytes_eq text (codes "high") then Some High else if bytes_eq text (codes "low") then Some Low else None
 

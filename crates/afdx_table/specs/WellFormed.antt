@@ -1,6 +1,7 @@
 -- What is true of every table that is read: its rows are within the limits, and between its own ports.
 use Rattle.std.specs.Prelude.{◌≡◌, ◌≢◌, ℕ, true, ◌<◌, ◌≤◌, ◌%◌, [], ◌∷◌, nat_eq, List, map, length, slice_index, Ok}
 use Rattle.std.specs.List.{AllByRecursion, IsDistinct}
+use Rattle.afdx_units.specs.Line.{least_size, greatest_size}
 use Rattle.afdx_table.specs.declared.rows.PortRow.{PortRow}
 use Rattle.afdx_table.specs.Link.{Link}
 use Rattle.afdx_table.specs.Content.{Content}
@@ -31,8 +32,8 @@ pub record AreTargets (ports : List PortRow) (from : ℕ) (to : List ℕ) : Type
 pub record IsLink (ports : List PortRow) (l : Link) : Type 0 where
   pub id_most : l.id ≤ 65535
   pub jitter_most : l.jitter ≤ 10000000
-  pub size_least : 64 ≤ l.max_size
-  pub size_most : l.max_size ≤ 1518
+  pub size_least : least_size ≤ l.max_size
+  pub size_most : l.max_size ≤ greatest_size
   pub from_port : has_port ports l.from ≡ true
   pub leads_out : 0 < length l.to
   pub targets : AreTargets ports l.from l.to

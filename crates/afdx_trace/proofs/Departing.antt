@@ -58,10 +58,10 @@ after_aged : (a : Aged) (events : List Event) (sent : List Sent) → AllByRecurs
 after_aged a events [] late is = refl
 after_aged a events (x ∷ sent) late is = le-leb a.at x.begin (sent_late a.at events x sent late is)
 
-pub tells_next : (events : List Event) → AreInOrder events → ages_next (sent_of events) (aged_of events) ≡ starts_aged events
-tells_next [] order = refl
-tells_next (sending x ∷ events) order = after_sent x events (aged_of events) order.0 refl
-tells_next (aging a ∷ events) order = after_aged a events (sent_of events) order.0 refl
+pub ages_next-starts : (events : List Event) → AreInOrder events → ages_next (sent_of events) (aged_of events) ≡ starts_aged events
+ages_next-starts [] order = refl
+ages_next-starts (sending x ∷ events) order = after_sent x events (aged_of events) order.0 refl
+ages_next-starts (aging a ∷ events) order = after_aged a events (sent_of events) order.0 refl
 
 -- where there are events, it is there
 pub some_sent : (sent : List Sent) (aged : List Aged) → ages_next sent aged ≡ false → 0 < length sent + length aged → 0 < length sent
@@ -111,7 +111,7 @@ one_sent port s all (sending y ∷ events) x sent aged number start text longer 
 -- what the lists say of the events
 reported : (port : ℕ) (s : Settings) (all : List Event) (sent : List Sent) (aged : List Aged) (number : ℕ) (start text : List ℕ) (l : Left port s all sent aged number start text)
     → ages_next sent aged ≡ starts_aged l.events
-reported port s all sent aged number start text l = sym (ap (λ (xs : List Sent). ages_next xs aged) l.sent_is) ∙ sym (ap (ages_next (sent_of l.events)) l.aged_is) ∙ tells_next l.events l.order
+reported port s all sent aged number start text l = sym (ap (λ (xs : List Sent). ages_next xs aged) l.sent_is) ∙ sym (ap (ages_next (sent_of l.events)) l.aged_is) ∙ ages_next-starts l.events l.order
 
 pub left_aged : (port : ℕ) (s : Settings) (sent₀ sent : List Sent) (aged₀ before_aged : List Aged) (a : Aged) (aged : List Aged) (number : ℕ) (start text longer : List ℕ)
     → ages_next sent before_aged ≡ true → before_aged ≡ a ∷ aged

@@ -10,15 +10,15 @@ use Rattle.afdx_table.specs.Link.{Link}
 use Rattle.afdx_account.specs.Level.{InOrder}
 use Rattle.afdx_account.specs.Policing.{passed_frames}
 use Rattle.afdx_account.specs.Early.{early_by}
-use Rattle.afdx_load.specs.Sums.{terms_of}
+use Rattle.afdx_load.specs.Load.{terms_of}
 use Rattle.afdx_core.specs.declared.step.Row.{Row}
 use Rattle.afdx_core.specs.declared.step.Fate.TheVariants.{Policed, Passed}
-use Rattle.afdx_core.specs.Rows.{named, fate_by, each_after, account_frames, frame_of}
+use Rattle.afdx_core.specs.Rows.{named, fate_by, each_after, account_frames, frame_of_row}
 use Rattle.afdx_core.specs.State.{Run}
 use Rattle.afdx_trace.specs.Csv.{joined, optional}
 use Rattle.afdx_trace.specs.Arrivals.{verdict_word, fate_word, early_in, full_in, fate_fields, refusing}
-use Rattle.afdx_trace.specs.declared.teller.Teller.{Teller}
-use Rattle.afdx_trace.specs.Inner.Telling.{IsPassed, IsPoliced, Tells}
+use Rattle.afdx_trace.specs.declared.tracer.Tracer.{Tracer}
+use Rattle.afdx_trace.specs.Inner.Tracing.{IsPassed, IsPoliced, Traces}
 
 -- the fields of a fate, by the link
 abbrev fields_by : Run → List Row → Row → Option Link → List (List ℕ)
@@ -30,7 +30,7 @@ filtered_fields r before row none = sym (ap (fields_by r before row) none)
 -- those of a link's frame, by whether it is passed
 abbrev judged_fields : Run → List Row → Row → Link → Bool → List (List ℕ)
 judged_fields r before row l p = fate_word (cond p (Passed l.id) (Policed l.id))
-    ∷ optional (cond p None (Some (early_by (terms_of l) (passed_frames (terms_of l) (account_frames l.id before)) (frame_of row))))
+    ∷ optional (cond p None (Some (early_by (terms_of l) (passed_frames (terms_of l) (account_frames l.id before)) (frame_of_row row))))
     ∷ joined (codes ";") (map decimal (cond p (refusing r (length before) l.to) [])) ∷ []
 
 pub passed_fields : (r : Run) (before : List Row) (row : Row) (to full : List ℕ) → IsPassed r.table before row to → full ≡ refusing r (length before) to
@@ -52,14 +52,14 @@ same_items v ws same = ap (λ n. take n (ws ++ drop (length ws) v.items)) (v.ok.
 -- ---- all arrivals
 
 -- what was kept stands for a frame that comes later
-pub tells_later : {Z : Type 0} (r : Run) (before : List Row) (latest at : ℕ) (t : Teller Z) → latest ≤ at → Tells r before latest t → Tells r before at t
-tells_later r before latest at t le tells = record {
+pub traces_later : {Z : Type 0} (r : Run) (before : List Row) (latest at : ℕ) (t : Tracer Z) → latest ≤ at → Traces r before latest t → Traces r before at t
+traces_later r before latest at t le traces = record {
   accounts = record {
-    len = tells.accounts.len;
-    each = λ k l a lt. let s = tells.accounts.each k l a lt in record { terms = s.terms; since = (let early = s.since in omega (arith, early, le)); stands = s.stands };
+    len = traces.accounts.len;
+    each = λ k l a lt. let s = traces.accounts.each k l a lt in record { terms = s.terms; since = (let early = s.since in omega (arith, early, le)); level = s.level };
   };
-  records = tells.records;
-  taken = tells.taken;
+  records = traces.records;
+  taken = traces.taken;
 }
 
 -- the arrival after so many
@@ -69,9 +69,9 @@ drop_next rows n x lt is = drop-cons rows n x lt ∙ ap (λ (y : Row). y ∷ dro
 pub take_next : (rows : List Row) (n : ℕ) (x : Row) → n < length rows → x ≡ get_or rows n x → take (n + 1) rows ≡ take n rows ++ x ∷ []
 take_next rows n x lt is = ap (λ (k : ℕ). take k rows) (add-one n) ∙ take-suc rows n x lt ∙ ap (λ (y : Row). take n rows ++ y ∷ []) (sym is)
 
-pub comes_next : (rows : List Row) (n : ℕ) (x : Row) (latest : ℕ) → n < length rows → x ≡ get_or rows n x → InOrder latest (map frame_of (drop n rows))
-    → (latest ≤ x.stamp) × InOrder x.stamp (map frame_of (drop (n + 1) rows))
-comes_next rows n x latest lt is order = subst (λ (rest : List Row). InOrder latest (map frame_of rest)) (drop_next rows n x lt is) order
+pub comes_next : (rows : List Row) (n : ℕ) (x : Row) (latest : ℕ) → n < length rows → x ≡ get_or rows n x → InOrder latest (map frame_of_row (drop n rows))
+    → (latest ≤ x.stamp) × InOrder x.stamp (map frame_of_row (drop (n + 1) rows))
+comes_next rows n x latest lt is order = subst (λ (rest : List Row). InOrder latest (map frame_of_row rest)) (drop_next rows n x lt is) order
 
 pub reported_next : (f : List Row → Row → List ℕ) (rows : List Row) (n : ℕ) (x : Row) (whole text longer : List ℕ) → n < length rows → x ≡ get_or rows n x
     → whole ≡ text ++ each_after f (take n rows) (drop n rows) → longer ≡ text ++ f (take n rows) x

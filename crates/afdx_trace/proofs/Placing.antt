@@ -15,13 +15,13 @@ use Rattle.afdx_filter.specs.declared.outcome.Verdict.TheVariants.{Cut, Short, L
 use Rattle.afdx_filter.specs.Place.{place_named}
 use Rattle.afdx_account.specs.declared.account.Account.{Account}
 use Rattle.afdx_account.specs.Policing.{Terms, terms_by, passed_frames}
-use Rattle.afdx_account.specs.Level.{Stands}
+use Rattle.afdx_account.specs.Level.{IsLevelAfter}
 use Rattle.afdx_account.specs.Account.{account_terms, account_since, account_level}
 use Rattle.afdx_account.specs.Early.{TellsEarly, early_by}
-use Rattle.afdx_load.specs.Sums.{terms_of}
+use Rattle.afdx_load.specs.Load.{terms_of}
 use Rattle.afdx_core.specs.declared.step.Row.{Row}
-use Rattle.afdx_core.specs.Rows.{named, account_frames, frame_of}
-use Rattle.afdx_core.specs.Kept.{AccountStands}
+use Rattle.afdx_core.specs.Rows.{named, account_frames, frame_of_row}
+use Rattle.afdx_core.specs.Kept.{AccountAgrees}
 
 pub record IsAt (t : Content) (v : Verdict) (place : ℕ) (l : Link) : Type 0 where
   pub within : place < length t.links
@@ -67,15 +67,15 @@ credits ByFrames max_size bag jitter large = omega arith
 
 pub is_credited : (ports : List PortRow) (r : Option (Bor Link)) (b : Bor Link) (a : Account) (before : List Row) (latest : ℕ) (m : Link)
     → IfSome r (λ (x : Bor Link). IsLink ports x.now) → r ≡ Some b
-    → m ≡ b.now → AccountStands m a before latest → 0 < (account_terms a).rate
-is_credited ports r b a before latest m limits some same stands =
+    → m ≡ b.now → AccountAgrees m a before latest → 0 < (account_terms a).rate
+is_credited ports r b a before latest m limits some same agrees =
     let link = subst (λ (o : Option (Bor Link)). IfSome o (λ (x : Bor Link). IsLink ports x.now)) some limits in
-    subst (λ (t : Terms). 0 < t.rate) (sym (stands.terms ∙ ap terms_of same)) (credits b.now.police b.now.max_size b.now.bag b.now.jitter link.size_least)
+    subst (λ (t : Terms). 0 < t.rate) (sym (agrees.terms ∙ ap terms_of same)) (credits b.now.police b.now.max_size b.now.bag b.now.jitter link.size_least)
 
-pub comes_early : (m l : Link) (a : Account) (before : List Row) (latest : ℕ) (row : Row) (early : ℕ) → AccountStands m a before latest → m ≡ l
+pub comes_early : (m l : Link) (a : Account) (before : List Row) (latest : ℕ) (row : Row) (early : ℕ) → AccountAgrees m a before latest → m ≡ l
     → TellsEarly (account_terms a) (account_since a) (account_level a (account_since a)) row.stamp row.size early
-    → early ≡ early_by (terms_of l) (passed_frames (terms_of l) (account_frames l.id before)) (frame_of row)
-comes_early m l a before latest row early stands same tells =
-    let own = subst (λ (x : Link). AccountStands x a before latest) same stands in
-    let left = subst (λ (t : Terms). Stands t (account_since a) (account_level a (account_since a)) (account_frames l.id before)) (sym own.terms) own.stands in
-    tells (account_frames l.id before) left ∙ ap (λ (t : Terms). early_by t (passed_frames t (account_frames l.id before)) (frame_of row)) own.terms
+    → early ≡ early_by (terms_of l) (passed_frames (terms_of l) (account_frames l.id before)) (frame_of_row row)
+comes_early m l a before latest row early agrees same tells =
+    let own = subst (λ (x : Link). AccountAgrees x a before latest) same agrees in
+    let left = subst (λ (t : Terms). IsLevelAfter t (account_since a) (account_level a (account_since a)) (account_frames l.id before)) (sym own.terms) own.level in
+    tells (account_frames l.id before) left ∙ ap (λ (t : Terms). early_by t (passed_frames t (account_frames l.id before)) (frame_of_row row)) own.terms

@@ -1,5 +1,5 @@
 -- The ports that refused a copy are those that answered Full to it.
-use Rattle.std.proofs.Common.{◌≡◌, ℕ, suc, ◌+◌, ◌<◌, ◌==◌, nat_lt, ◌||◌, ◌&&◌, not, Bool, true, false, cond, List, [], ◌∷◌, ◌++◌, length, map, filter, Option, None, Some, refl, sym, ap, ◌∙◌, subst}
+use Rattle.std.proofs.Common.{◌≡◌, ℕ, suc, ◌+◌, ◌<◌, ◌==◌, nat_lt, ◌||◌, ◌&&◌, not, Bool, true, false, cond, List, [], ◌∷◌, ◌++◌, length, map, filter, Option, None, Some, refl, sym, ap, ◌∙◌}
 use Rattle.std.proofs.Common.{arith}
 use Rattle.std.proofs.Common.{append_assoc, append-nil}
 use Rattle.std.specs.Prelude.{count_by, find}
@@ -19,23 +19,21 @@ use Rattle.afdx_port.specs.declared.Offer.{Offer}
 use Rattle.afdx_port.specs.declared.Offer.TheVariants.{Queued, Full}
 use Rattle.afdx_port.specs.Service.{Event, sending, aging, item_of as item_in, service, sent_of, aged_of}
 use Rattle.afdx_port.specs.Admission.{fits, admit, admit_all, admitted}
-use Rattle.afdx_port.specs.Content.{done}
+use Rattle.afdx_port.specs.Content.{done, is_full}
 use Rattle.afdx_port.specs.Inner.Events.{EachHasOneEvent}
 use Rattle.afdx_isolation.specs.Table.{settings_of}
 use Rattle.afdx_core.specs.declared.step.Row.{Row}
 use Rattle.afdx_core.specs.Rows.{each_after, named, passes, copy_of, copies_by, copies, feed_of}
 use Rattle.afdx_core.specs.State.{Run, sent_in, aged_in, answer_of, offers_by}
 use Rattle.afdx_trace.specs.Arrivals.{took, refusing, full_in}
-use Rattle.afdx_trace.specs.Inner.Laws.{is_full, full_ports, run_before, FullIsExact}
+use Rattle.afdx_trace.specs.Inner.Laws.{full_ports, run_before, FullIsExact}
+use Rattle.afdx_trace.proofs.Taking.{below}
 
 abbrev is_copy : ℕ → Item → Bool
 is_copy k x = x.number == k
 
 equal : (n : ℕ) → (n == n) ≡ true
 equal n = grind (arith, nat_tests)
-
-below : (m n : ℕ) → m < n → (m == n) ≡ false
-below m n lt = grind (arith, nat_tests)
 
 above : (m n : ℕ) → n < m → (m == n) ≡ false
 above m n lt = grind (arith, nat_tests)

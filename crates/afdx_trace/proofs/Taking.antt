@@ -40,7 +40,7 @@ taken_more r all flags port long new before q number lt within =
           )
     ]
 
-below : (a b : ℕ) → a < b → (a == b) ≡ false
+pub below : (a b : ℕ) → a < b → (a == b) ≡ false
 below a b lt = grind (arith, nat_tests)
 
 -- a table has no port above 24

@@ -7,11 +7,11 @@ use Rattle.afdx_filter.specs.declared.outcome.Verdict.{Verdict}
 use Rattle.afdx_filter.specs.declared.outcome.Verdict.TheVariants.{Cut, Short, Long, Foreign, NoLink, WrongPort, TooBig, Clean}
 use Rattle.afdx_account.specs.Policing.{passed_frames}
 use Rattle.afdx_account.specs.Early.{early_by}
-use Rattle.afdx_load.specs.Sums.{terms_of}
+use Rattle.afdx_load.specs.Load.{terms_of}
 use Rattle.afdx_core.specs.declared.step.Row.{Row}
 use Rattle.afdx_core.specs.declared.step.Fate.{Fate}
 use Rattle.afdx_core.specs.declared.step.Fate.TheVariants.{Filtered, Policed, Passed}
-use Rattle.afdx_core.specs.Rows.{each_after, named, passes, fate_of, account_frames, frame_of}
+use Rattle.afdx_core.specs.Rows.{each_after, named, passes, fate_of, account_frames, frame_of_row}
 use Rattle.afdx_core.specs.State.{Run, sent_in, aged_in}
 use Rattle.afdx_trace.specs.Csv.{field, joined, optional}
 
@@ -48,7 +48,7 @@ fate_word (Passed i) = codes "passed"
 abbrev pub early_in : Option Link → List Row → Row → Option ℕ
 early_in None before row = None
 early_in (Some l) before row =
-    if passes l before row then None else Some (early_by (terms_of l) (passed_frames (terms_of l) (account_frames l.id before)) (frame_of row))
+    if passes l before row then None else Some (early_by (terms_of l) (passed_frames (terms_of l) (account_frames l.id before)) (frame_of_row row))
 
 -- the ports that refused a copy of a passed frame of a link
 abbrev pub full_in : Run → Option Link → List Row → Row → List ℕ

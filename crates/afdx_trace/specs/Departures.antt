@@ -1,9 +1,8 @@
 -- What became of the copies at each port, as comma-separated values (profile).
 use Rattle.std.specs.Prelude.{ℕ, ◌≤◌, ◌+◌, ◌-◌, ◌<◌, codes, decimal, Bool, true, false, nat_le, List, [], ◌∷◌, ◌++◌, flat_map}
 use Rattle.std.specs.List.{AllByRecursion}
-use Rattle.afdx_units.specs.declared.line.Priority.{Priority}
-use Rattle.afdx_units.specs.declared.line.Priority.TheVariants.{High, Low}
 use Rattle.afdx_table.specs.declared.rows.PortRow.{PortRow}
+use Rattle.afdx_table.specs.Names.{priority_text}
 use Rattle.afdx_port.specs.declared.Settings.{Settings}
 use Rattle.afdx_port.specs.declared.Item.{Item}
 use Rattle.afdx_port.specs.declared.Sent.{Sent}
@@ -17,13 +16,9 @@ use Rattle.afdx_trace.specs.Csv.{field}
 abbrev pub departures_heading : List ℕ
 departures_heading = codes "port,record,frame,link,priority,size,came,start,left,delay,outcome\n"
 
-abbrev pub priority_word : Priority → List ℕ
-priority_word High = codes "high"
-priority_word Low = codes "low"
-
 -- the fields of a copy, each after a comma: it came at the instant at which it was queued
 abbrev pub item_fields : Settings → Item → List ℕ
-item_fields s x = flat_map field (decimal x.number ∷ decimal x.link ∷ priority_word x.priority ∷ decimal x.size ∷ decimal (came s x) ∷ [])
+item_fields s x = flat_map field (decimal x.number ∷ decimal x.link ∷ priority_text x.priority ∷ decimal x.size ∷ decimal (came s x) ∷ [])
 
 -- a copy that a port sent, as the record of this number of its output; its delay is reckoned from the stamp of its frame
 abbrev pub sent_line : ℕ → Settings → ℕ → Sent → List ℕ

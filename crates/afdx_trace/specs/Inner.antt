@@ -1,3 +1,3 @@
 pub mod Laws
 pub mod Taken
-pub mod Telling
+pub mod Tracing

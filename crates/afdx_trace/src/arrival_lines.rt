@@ -3,7 +3,7 @@
 ghost use Rattle.std.specs.Prelude.{◌≡◌, string_bytes, IfOk};
 ghost use Rattle.afdx_trace.specs.Arrivals.{arrivals_text};
 
-use crate::teller::Teller;
+use crate::tracer::Tracer;
 use afdx_core::Done;
 use std::alloc::{AllocError, Allocator};
 
@@ -21,11 +21,11 @@ pub fn arrivals<A: Allocator + Copy, B: Allocator + Copy>(
     ensures { IfOk result (λ text. string_bytes text ≡ arrivals_text done.now.run) }
 {
     let rows = done.rows();
-    let mut teller = Teller::new(alloc, done)?;
+    let mut tracer = Tracer::new(alloc, done)?;
     let mut text = String::new(alloc);
     text.push_str(HEADING)?;
     for (number, row) in rows.iter().enumerate() {
-        teller.tell(&mut text, done, &rows[..number], row)?;
+        tracer.trace(&mut text, done, &rows[..number], row)?;
     }
     Ok(text)
 }

@@ -1,10 +1,11 @@
 //! The copies that ports sent or discarded.
 
 ghost use Rattle.std.specs.Prelude.{◌≡◌, ◌+◌, ◌<◌, ◌≤◌, ◌∷◌, ◌++◌, List, length, Some, false, IsTrue, string_bytes, IfOk, OnOk};
+ghost use Rattle.afdx_table.specs.Names.{priority_text};
 ghost use Rattle.afdx_table.specs.Content.{port_row};
 ghost use Rattle.afdx_port.specs.Service.{Event, sent_of, aged_of};
 ghost use Rattle.afdx_isolation.specs.Table.{settings_of};
-ghost use Rattle.afdx_trace.specs.Departures.{priority_word, item_fields, sent_line, aged_line, event_lines, port_lines, departures_text, ages_next, AreInOrder};
+ghost use Rattle.afdx_trace.specs.Departures.{item_fields, sent_line, aged_line, event_lines, port_lines, departures_text, ages_next, AreInOrder};
 
 use crate::fields::{put_number, put_word};
 use crate::laws::events_are_in_order;
@@ -30,8 +31,8 @@ fn settings_of(latency: u64, port: &PortRow) -> Settings
     }
 }
 
-fn priority_word(priority: Priority) -> &'static str
-    ensures { result.now ≡ priority_word priority }
+fn priority_text(priority: Priority) -> &'static str
+    ensures { result.now ≡ priority_text priority }
 {
     match priority {
         Priority::High => "high",
@@ -50,7 +51,7 @@ fn put_item<A: Allocator + Copy>(
 {
     put_number(text, item.number as u64)?;
     put_number(text, u64::from(item.link))?;
-    put_word(text, priority_word(item.priority))?;
+    put_word(text, priority_text(item.priority))?;
     put_number(text, u64::from(item.size))?;
     put_number(text, item.came(settings))
 }

@@ -9,7 +9,7 @@ mod departure_lines;
 mod fields;
 mod flags;
 pub mod laws;
-mod teller;
+mod tracer;
 
 pub use arrival_lines::arrivals;
 pub use departure_lines::departures;

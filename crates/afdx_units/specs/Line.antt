@@ -9,6 +9,13 @@ use Rattle.afdx_units.specs.declared.line.Speed.TheVariants.{Ten, Hundred, Thous
 abbrev pub size_of : ℕ → ℕ
 size_of captured = captured + 4
 
+-- IEEE 802.3: the least and the greatest size of a frame in bytes
+abbrev pub least_size : ℕ
+least_size = 64
+
+abbrev pub greatest_size : ℕ
+greatest_size = 1518
+
 -- IEEE 802.3: nanoseconds that the 8 bits of a byte take, at 10, at 100 and at 1000 Mbit/s
 abbrev pub tick_of : Speed → ℕ
 tick_of Ten = 800

@@ -5,9 +5,7 @@ use Rattle.std.specs.Option.{option_map_or}
 use Rattle.afdx_wiring.specs.declared.layout.End.{End}
 use Rattle.afdx_wiring.specs.declared.ways.Way.{Way}
 use Rattle.afdx_wiring.specs.declared.jitters.RowNeed.{RowNeed}
-
-abbrev pub ended : List ℕ → List ℕ
-ended line = line ++ 10 ∷ []
+use Rattle.afdx_wiring.specs.Lines.{ended}
 
 -- the names of the switches, by their places
 abbrev pub Names : Type 0

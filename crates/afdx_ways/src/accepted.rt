@@ -1,7 +1,8 @@
 //! What is reported of an accepted network.
 
 ghost use Rattle.std.specs.Prelude.{◌≡◌, ◌++◌, codes, map, flat_map, option_copied, string_bytes, IfOk, OnOk};
-ghost use Rattle.afdx_ways.specs.Lines.{ended, last_end, numbers_text, way_text, longest, greatest_of, greatest_text, accepted_text};
+ghost use Rattle.afdx_wiring.specs.Lines.{ended};
+ghost use Rattle.afdx_ways.specs.Lines.{last_end, numbers_text, way_text, longest, greatest_of, greatest_text, accepted_text};
 
 use crate::ends::{put_end, put_ends};
 use afdx_wiring::{End, Way};

@@ -1,8 +1,8 @@
 -- Chains of rules that nothing breaks: each is kept.
 use Rattle.std.proofs.Common.{◌≡◌, ℕ, suc, ◌+◌, ◌<◌, Bool, true, false, not, List, [], ◌∷◌, ◌++◌, length, map, drop, get_or, slice_get, Some, Ok, Err, refl, ap, sym, ◌∙◌, add-one, arith}
 use Rattle.std.proofs.Math.Seq.{drop-cons}
-use Rattle.std.specs.Prelude.{flat_map, Contains, Result}
-use Rattle.std.specs.List.{AllByRecursion, enumerate_from}
+use Rattle.std.specs.Prelude.{Contains, Result}
+use Rattle.std.specs.List.{AllByRecursion}
 use Rattle.afdx_table.specs.Link.{Link}
 use Rattle.afdx_table.specs.Content.{Content}
 use Rattle.afdx_wiring.specs.declared.fault.At.{At}
@@ -10,7 +10,7 @@ use Rattle.afdx_wiring.specs.declared.fault.At.TheVariants as place
 use Rattle.afdx_wiring.specs.declared.fault.NetworkFault.{NetworkFault}
 use Rattle.afdx_wiring.specs.declared.layout.Wire.{Wire}
 use Rattle.afdx_wiring.specs.Refusal.{◌>>=◌, unless}
-use Rattle.afdx_wiring.specs.Net.{Row, rows_in}
+use Rattle.afdx_wiring.specs.Net.{Row, row_in, rows_in, rows_from}
 use Rattle.afdx_wiring.specs.Order.{Answer, first_of, by_wires}
 
 pub some_same : {X : Type 0} {a b : X} → Some a ≡ Some b → a ≡ b
@@ -54,12 +54,6 @@ all_kept rule (x ∷ xs) h =
     (first_kept (rule x) rest tt h, all_kept rule xs (rest_kept (rule x) rest tt h))
 
 -- ---- by row
-
-abbrev pub row_in : ℕ → Link → Row
-row_in n = λ l. record { switch = n; link = l }
-
-abbrev pub rows_from : ℕ → List Content → List Row
-rows_from n tables = flat_map (λ at. rows_in at.0 at.1.links) (enumerate_from n tables)
 
 pub all_weaken : {X : Type 0} (P Q : X → Type 0) (xs : List X) → ((x : X) → P x → Q x) → AllByRecursion P xs → AllByRecursion Q xs
 all_weaken P Q [] h all = tt
@@ -113,17 +107,17 @@ rows_stop rule n ts t e within is broken =
     let rest : List Row = rows_from (n + 1) (drop (n + 1) ts) in
     ap (first_of rule) (next_rows n ts t within is) ∙ first_append rule (rows_in n t.links) rest ∙ ap (λ (a : Answer). a >>= λ _. first_of rule rest) broken
 
--- ---- where a row stands
+-- ---- the table that a row is of
 
--- a row stands in the table at its place, of which n come before these
-pub record Stands (n : ℕ) (ts : List Content) (r : Row) : Type 0 where
+-- a row is of the table at its place, of which n come before these
+pub record IsRowOf (n : ℕ) (ts : List Content) (r : Row) : Type 0 where
   pub place : ℕ
   pub table : Content
   pub switch : r.switch ≡ n + place
   pub table_is : slice_get ts place ≡ Some table
   pub known : Contains table.links r.link
 
-later : (n : ℕ) (t : Content) (ts : List Content) (r : Row) → Stands (n + 1) ts r → Stands n (t ∷ ts) r
+later : (n : ℕ) (t : Content) (ts : List Content) (r : Row) → IsRowOf (n + 1) ts r → IsRowOf n (t ∷ ts) r
 later n t ts r s = record {
   place = suc s.place;
   table = s.table;
@@ -132,14 +126,14 @@ later n t ts r s = record {
   known = s.known;
 }
 
-pub all_stand : (n : ℕ) (ts : List Content) → AllByRecursion (Stands n ts) (rows_from n ts)
-all_stand n [] = tt
-all_stand n (t ∷ ts) =
-    all_append (Stands n (t ∷ ts)) (map (row_in n) t.links) (rows_from (n + 1) ts)
-    (all_map (Stands n (t ∷ ts)) (row_in n) t.links (here t.links (λ l among. among)))
-    (all_weaken (Stands (n + 1) ts) (Stands n (t ∷ ts)) (rows_from (n + 1) ts) (later n t ts) (all_stand (n + 1) ts)) where
+pub all_rows : (n : ℕ) (ts : List Content) → AllByRecursion (IsRowOf n ts) (rows_from n ts)
+all_rows n [] = tt
+all_rows n (t ∷ ts) =
+    all_append (IsRowOf n (t ∷ ts)) (map (row_in n) t.links) (rows_from (n + 1) ts)
+    (all_map (IsRowOf n (t ∷ ts)) (row_in n) t.links (here t.links (λ l among. among)))
+    (all_weaken (IsRowOf (n + 1) ts) (IsRowOf n (t ∷ ts)) (rows_from (n + 1) ts) (later n t ts) (all_rows (n + 1) ts)) where
       here : (ls : List Link) → ((l : Link) → Contains ls l → Contains t.links l)
-          → AllByRecursion (λ l. Stands n (t ∷ ts) (row_in n l)) ls
+          → AllByRecursion (λ l. IsRowOf n (t ∷ ts) (row_in n l)) ls
       here [] among = tt
       here (l ∷ ls) among = (
         record { place = 0; table = t; switch = omega arith; table_is = refl; known = among l (0, omega arith, refl) },

@@ -7,15 +7,15 @@ use Rattle.std.proofs.lemmas.List.Elements.{All-from_recursion, All-contains}
 use Rattle.afdx_table.specs.declared.rows.PortRow.{PortRow}
 use Rattle.afdx_table.specs.Link.{Link}
 use Rattle.afdx_table.specs.Content.{Content, port_row, link_row}
-use Rattle.afdx_load.specs.Sums.{load_of}
+use Rattle.afdx_load.specs.Load.{load_of}
 use Rattle.afdx_load.specs.Bounds.{bounds_of}
 use Rattle.afdx_series.specs.declared.delays.Delays.{Delays}
 use Rattle.afdx_series.specs.Delay.{hop_of, joined, at_once, IsEnough, need_of}
-use Rattle.afdx_wiring.specs.Net.{Network, Row, Back, port_at, row_at, rows_of, bound_in, bound_at, IsWayBack, source_of, AreDelays}
+use Rattle.afdx_wiring.specs.Net.{Network, Row, Back, port_at, row_at, row_in, rows_of, bound_in, bound_at, IsWayBack, source_of, AreDelays}
 use Rattle.afdx_wiring.specs.Rules.{HasJitters}
 use Rattle.afdx_wiring.specs.Refusal.{Gives}
 use Rattle.afdx_wiring.specs.Order.{Answer, within_reason, hop_over, hop_from, hop_on, way_by, way_within, has_jitter, jitter_enough, most_rows, shortage}
-use Rattle.afdx_wiring.proofs.Chains.{fine, some_same, unless_so, row_in, all_kept}
+use Rattle.afdx_wiring.proofs.Chains.{fine, some_same, unless_so, all_kept}
 use Rattle.afdx_wiring.proofs.FeedLemmas.{before_is}
 
 -- ---- a hop

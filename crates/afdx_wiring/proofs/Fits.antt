@@ -4,8 +4,8 @@ use Rattle.std.specs.Prelude.{All, IfOk}
 use Rattle.std.specs.List.{AllByRecursion}
 use Rattle.std.proofs.lemmas.List.Elements.{All-from_recursion}
 use Rattle.afdx_wiring.specs.declared.layout.Wire.{Wire}
-use Rattle.afdx_wiring.specs.declared.terms.Shared.{Shared}
-use Rattle.afdx_wiring.specs.declared.terms.Shared.TheVariants as shared
+use Rattle.afdx_wiring.specs.declared.shared.Shared.{Shared}
+use Rattle.afdx_wiring.specs.declared.shared.Shared.TheVariants as shared
 use Rattle.afdx_wiring.specs.Refusal.{◌>>=◌, Gives}
 use Rattle.afdx_wiring.specs.Net.{Network, Back, rows_of, rows_on, IsWayBack}
 use Rattle.afdx_wiring.specs.Rules.{Joins, GoesOn, FitsTogether}

@@ -1,12 +1,12 @@
 -- Wires whose ends agree, and the rows behind them.
-use Rattle.std.proofs.Common.{◌≡◌, ℕ, ◌==◌, ◌&&◌, Bool, true, false, List, [], ◌∷◌, filter, cond, slice_get, Option, Some, None, option_map, option_and_then, Ok, Err, not, refl, ap, sym, ◌∙◌}
+use Rattle.std.proofs.Common.{◌≡◌, ◌==◌, ◌&&◌, Bool, true, false, List, [], ◌∷◌, filter, cond, slice_get, Option, Some, None, option_map, option_and_then, Ok, Err, not, refl, ap, sym, ◌∙◌}
 use Rattle.std.proofs.Common.{arith, subst}
 use Rattle.std.specs.Prelude.{Contains}
 use Rattle.std.specs.List.{AllByRecursion}
 use Rattle.std.specs.Str.{bytes_eq}
-use Rattle.std.proofs.lemmas.Bool.Decides.{nat_tests}
 use Rattle.std.proofs.lemmas.List.Elements.{All-from_recursion, All-contains}
 use Rattle.std.proofs.lemmas.Slice.Eq.{bytes_eq-Decides}
+use Rattle.std.proofs.lemmas.Bool.{eqb-true}
 use Rattle.afdx_units.specs.declared.bag.Bag.{Bag}
 use Rattle.afdx_units.specs.declared.bag.Bag.TheVariants.{Ms1, Ms2, Ms4, Ms8, Ms16, Ms32, Ms64, Ms128}
 use Rattle.afdx_units.specs.declared.line.Speed.{Speed}
@@ -21,17 +21,14 @@ use Rattle.afdx_table.specs.Names.{bag_of}
 use Rattle.afdx_wiring.specs.declared.fault.At.{At}
 use Rattle.afdx_wiring.specs.declared.fault.NetworkFault.TheVariants as fault
 use Rattle.afdx_wiring.specs.declared.layout.Wire.{Wire}
-use Rattle.afdx_wiring.specs.declared.terms.Shared.{Shared}
-use Rattle.afdx_wiring.specs.declared.terms.Shared.TheVariants as shared
+use Rattle.afdx_wiring.specs.declared.shared.Shared.{Shared}
+use Rattle.afdx_wiring.specs.declared.shared.Shared.TheVariants as shared
 use Rattle.afdx_wiring.specs.Refusal.{◌>>=◌, or_refuse, unless}
 use Rattle.afdx_wiring.specs.File.{is_end}
-use Rattle.afdx_wiring.specs.Net.{Network, Row, port_at, rows_of, rows_on}
+use Rattle.afdx_wiring.specs.Net.{Network, Row, port_at, row_in, rows_of, rows_on}
 use Rattle.afdx_wiring.specs.Rules.{Joins, GoesOn}
 use Rattle.afdx_wiring.specs.Order.{Answer, first_of, same_constant, same_rate, same_speed, joined_at, same_police, same_terms, agrees, goes_on, all_go_on, shares}
-use Rattle.afdx_wiring.proofs.Chains.{fine, some_same, first_kept, rest_kept, unless_not, all_kept, row_in, Stands, all_stand, all_weaken}
-
-equal : (a b : ℕ) → (a == b) ≡ true → a ≡ b
-equal a b e = grind (arith, nat_tests)
+use Rattle.afdx_wiring.proofs.Chains.{fine, some_same, first_kept, rest_kept, unless_not, all_kept, IsRowOf, all_rows, all_weaken}
 
 both : (a b : Bool) → (a && b) ≡ true → (a ≡ true) × (b ≡ true)
 both true b is = (refl, is)
@@ -129,7 +126,7 @@ record Behind (there : Content) (w : Wire) (l : Link) : Type 0 where
 same_link : (at : At) (w : Wire) (l next : Link) → agrees shared.Port at w l next ≡ Ok tt → next.from ≡ w.to.port
 same_link at w l next h = by (next.from == w.to.port) refl h where
   by : (b : Bool) → (next.from == w.to.port) ≡ b → cond b fine (Err (fault.From at l.id)) ≡ fine → next.from ≡ w.to.port
-  by true is kept = equal next.from w.to.port is
+  by true is kept = eqb-true next.from w.to.port is
   by false is kept = absurd cc
 
 record AreTerms (l next : Link) : Type 0 where
@@ -147,8 +144,8 @@ terms at l next h =
     let after_bag : Unit {0} → Answer = λ _. police in
     let rest = rest_kept size after_size tt h in
     record {
-      size = equal next.max_size l.max_size (unless_not (next.max_size == l.max_size) (fault.Size at l.id) (first_kept size after_size tt h));
-      bag = bags next.bag l.bag (equal (bag_ms next.bag) (bag_ms l.bag) (unless_not (bag_ms next.bag == bag_ms l.bag) (fault.Bag at l.id) (first_kept bag after_bag tt rest)));
+      size = eqb-true next.max_size l.max_size (unless_not (next.max_size == l.max_size) (fault.Size at l.id) (first_kept size after_size tt h));
+      bag = bags next.bag l.bag (eqb-true (bag_ms next.bag) (bag_ms l.bag) (unless_not (bag_ms next.bag == bag_ms l.bag) (fault.Bag at l.id) (first_kept bag after_bag tt rest)));
       police = polices next.police l.police (unless_not (same_police next.police l.police) (fault.Police at l.id) (rest_kept bag after_bag tt rest));
     }
 
@@ -222,8 +219,8 @@ goes net w j r b = record {
   police = b.police;
 }
 
--- the table in which a row stands is the first one of the wire
-same_table : (net : Network) (w : Wire) (j : Joins net w) (r : Row) (s : Stands 0 net.tables r) → r.switch ≡ w.from.switch → s.table ≡ j.here
+-- the table that a row is of is the first one of the wire
+same_table : (net : Network) (w : Wire) (j : Joins net w) (r : Row) (s : IsRowOf 0 net.tables r) → r.switch ≡ w.from.switch → s.table ≡ j.here
 same_table net w j r s at =
     let placed = s.switch in
     let place : s.place ≡ w.from.switch = omega (arith, at, placed) in
@@ -234,11 +231,11 @@ pub all_go : (net : Network) (w : Wire) → Joins net w → SharesAt net shared.
 all_go net w j n p t =
     all_filter (GoesOn net w) (λ (r : Row). leads_to w.from.port r.link) _
     (all_filter (λ (r : Row). leads_to w.from.port r.link ≡ true → GoesOn net w r) (λ (r : Row). is_end (record { switch = r.switch; port = w.from.port }) w.from) (rows_of net)
-    (all_weaken (Stands 0 net.tables) _ (rows_of net) each (all_stand 0 net.tables))) where
-      each : (r : Row) → Stands 0 net.tables r → is_end (record { switch = r.switch; port = w.from.port }) w.from ≡ true → leads_to w.from.port r.link ≡ true → GoesOn net w r
+    (all_weaken (IsRowOf 0 net.tables) _ (rows_of net) each (all_rows 0 net.tables))) where
+      each : (r : Row) → IsRowOf 0 net.tables r → is_end (record { switch = r.switch; port = w.from.port }) w.from ≡ true → leads_to w.from.port r.link ≡ true → GoesOn net w r
       each r s at leads =
           let parts = both (r.switch == w.from.switch) (w.from.port == w.from.port) at in
-          let table = same_table net w j r s (equal r.switch w.from.switch parts.0) in
+          let table = same_table net w j r s (eqb-true r.switch w.from.switch parts.0) in
           let among = subst (λ (c : Content). Contains c.links r.link) table s.known in
           goes net w j r (behind n.0 p.0 t.0 j.there w r.link leads (each_link net shared.Number w j n r.link among) (each_link net shared.Port w j p r.link among)
           (each_link net shared.Terms w j t r.link among))

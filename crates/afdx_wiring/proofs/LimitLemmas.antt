@@ -5,6 +5,7 @@ use Rattle.std.specs.List.{AllByRecursion}
 use Rattle.std.proofs.lemmas.Bool.Decides.{nat_tests}
 use Rattle.std.proofs.lemmas.List.Elements.{All-from_recursion}
 use Rattle.toml.specs.Data.{Data, Members, get_member, as_integer}
+use Rattle.afdx_table.specs.Fields.{natural_of}
 use Rattle.afdx_wiring.specs.declared.fault.At.{At}
 use Rattle.afdx_wiring.specs.declared.fault.At.TheVariants as place
 use Rattle.afdx_wiring.specs.declared.fault.Key.{Key}
@@ -14,7 +15,7 @@ use Rattle.afdx_wiring.specs.declared.fault.NetworkFault.TheVariants.{Kind, Rang
 use Rattle.afdx_wiring.specs.declared.layout.Wire.{Wire}
 use Rattle.afdx_wiring.specs.Refusal.{◌>>=◌, or_refuse, unless}
 use Rattle.afdx_wiring.specs.Names.{key_text}
-use Rattle.afdx_wiring.specs.Fields.{known_at, number_in, number_from, optional_number_at, natural_of, tables_at}
+use Rattle.afdx_wiring.specs.Fields.{known_at, number_in, number_from, optional_number_at, tables_at}
 use Rattle.afdx_wiring.specs.File.{Switch, Layout, Top, switch_at, switches_from, end_at, found, is_end, comes_from, goes_to, fitting, wire_at, wires_from, top_at, layout_in, tree_of, layout_of}
 
 -- ---- first refusals

@@ -4,6 +4,7 @@ use Rattle.std.proofs.Common.{Option, Some, None, is_some, Ok, Err, refl, ap, sy
 use Rattle.std.specs.List.{AllByRecursion, list_all}
 use Rattle.std.proofs.lemmas.Bool.Decides.{nat_tests}
 use Rattle.std.proofs.lemmas.List.Elements.{All-from_recursion}
+use Rattle.std.proofs.lemmas.Bool.{eqb-true}
 use Rattle.afdx_table.specs.Link.{Link, with_jitter}
 use Rattle.afdx_table.specs.Content.{Content}
 use Rattle.afdx_series.specs.declared.delays.Delays.{Delays}
@@ -12,10 +13,10 @@ use Rattle.afdx_wiring.specs.declared.fault.Short.{Short}
 use Rattle.afdx_wiring.specs.declared.jitters.RowNeed.{RowNeed}
 use Rattle.afdx_wiring.specs.declared.fault.NetworkFault.{NetworkFault}
 use Rattle.afdx_wiring.specs.Refusal.{◌>>=◌, unless}
-use Rattle.afdx_wiring.specs.Net.{Network, Row, rows_of}
+use Rattle.afdx_wiring.specs.Net.{Network, Row, row_in, rows_from, rows_of}
 use Rattle.afdx_wiring.specs.Order.{Answer, first_of, most_rows, way_within, has_jitter, jitter_enough, shortage}
 use Rattle.afdx_wiring.specs.Needs.{bare_link, bare, DiffersInJitters, AreNeeds, needed, need_in, past_of, is_met}
-use Rattle.afdx_wiring.proofs.Chains.{row_in, rows_from, next_rows}
+use Rattle.afdx_wiring.proofs.Chains.{next_rows}
 use Rattle.afdx_wiring.proofs.Enough.{enough}
 
 -- ---- rules that are kept by each row
@@ -41,9 +42,6 @@ right : (a b : Bool) → (a && b) ≡ true → b ≡ true
 right true b h = h
 right false b h = absurd cc
 
-same : (a b : ℕ) → (a == b) ≡ true → a ≡ b
-same a b h = grind (arith, nat_tests)
-
 no_less : (has need : ℕ) → has ≡ need * 1000 → nat_lt (has / 1000) need ≡ false
 no_less has need is = grind (arith, nat_tests, is)
 
@@ -62,14 +60,14 @@ each_has net (r ∷ rs) h =
     let rest : Bool = list_all is_met (map (need_in false net) rs) in
     let met = left (is_met n) rest h in
     let few = left (nat_le n.need 10000) (n.has == n.need * 1000) met in
-    let is = same n.has (n.need * 1000) (right (nat_le n.need 10000) (n.has == n.need * 1000) met) in
+    let is = eqb-true n.has (n.need * 1000) (right (nat_le n.need 10000) (n.has == n.need * 1000) met) in
     (has_its_need r (way_within most_rows net r at_once) few is, each_has net rs (right (is_met n) rest h))
 
 each_is : (ns : List RowNeed) → list_all is_met ns ≡ true → AllByRecursion (λ n. n.has ≡ n.need * 1000) ns
 each_is [] h = tt
 each_is (n ∷ ns) h =
     let rest : Bool = list_all is_met ns in
-    (same n.has (n.need * 1000) (right (nat_le n.need 10000) (n.has == n.need * 1000) (left (is_met n) rest h)), each_is ns (right (is_met n) rest h))
+    (eqb-true n.has (n.need * 1000) (right (nat_le n.need 10000) (n.has == n.need * 1000) (left (is_met n) rest h)), each_is ns (right (is_met n) rest h))
 
 none_short : (net : Network) → list_all is_met (map (need_in false net) (rows_of net)) ≡ true → shortage net ≡ Ok tt
 unfolding shortage

@@ -9,7 +9,7 @@ use Rattle.std.proofs.lemmas.List.Concat.{flat_map-append}
 use Rattle.afdx_table.specs.declared.rows.PortRow.{PortRow}
 use Rattle.afdx_table.specs.Link.{Link}
 use Rattle.afdx_table.specs.Content.{Content, port_row}
-use Rattle.afdx_load.specs.Sums.{load_of}
+use Rattle.afdx_load.specs.Load.{load_of}
 use Rattle.afdx_load.specs.Bounds.{bounds_of}
 use Rattle.afdx_series.specs.declared.delays.Delays.{Delays}
 use Rattle.afdx_series.specs.Delay.{hop_of, joined, need_of}
@@ -17,10 +17,10 @@ use Rattle.afdx_wiring.specs.declared.exits.Exit.{Exit}
 use Rattle.afdx_wiring.specs.declared.layout.End.{End}
 use Rattle.afdx_wiring.specs.declared.layout.Wire.{Wire}
 use Rattle.afdx_wiring.specs.declared.ways.Way.{Way}
-use Rattle.afdx_wiring.specs.Net.{Network, Row, Back, rows_in, port_at, ingress, wire_to, bound_in, bound_at, source_of}
+use Rattle.afdx_wiring.specs.Net.{Network, Row, Back, row_in, rows_in, rows_from, port_at, ingress, wire_to, bound_in, bound_at, source_of}
 use Rattle.afdx_wiring.specs.Order.{row_before, within_reason, hop_from, hop_on}
 use Rattle.afdx_wiring.specs.Ways.{leads_out, exits_at, IsWayOver, IsWayAlong, IsWayOut}
-use Rattle.afdx_wiring.proofs.Chains.{some_same, row_in, rows_from, next_row, next_rows}
+use Rattle.afdx_wiring.proofs.Chains.{some_same, next_row, next_rows}
 use Rattle.afdx_wiring.proofs.Enough.{row_switch, reasonable, from_port}
 use Rattle.afdx_wiring.proofs.FeedLemmas.{before_says}
 

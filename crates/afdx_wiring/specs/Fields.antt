@@ -1,8 +1,9 @@
 -- The fields of one TOML table, each read with its first refusal: the key is missing, its value is of another kind, or out of its range.
-use Rattle.std.specs.Prelude.{ℕ, ℤ, pos, negsuc, Bool, true, not, ◌&&◌, if◌then◌else◌, nat_le, List, [], ◌∷◌, Option, Some, None, option_map, option_and_then, Result, Ok, Err}
+use Rattle.std.specs.Prelude.{ℕ, Bool, true, not, ◌&&◌, if◌then◌else◌, nat_le, List, [], Option, Some, None, option_and_then, Result, Ok, Err}
 use Rattle.std.specs.List.{list_any}
 use Rattle.std.specs.Str.{bytes_eq}
-use Rattle.toml.specs.Data.{Data, Items, no_items, item, Members, no_members, member, get_member, as_integer, as_str, as_array, as_table}
+use Rattle.toml.specs.Data.{Data, Members, no_members, member, get_member, as_integer, as_str, as_array, as_table}
+use Rattle.afdx_table.specs.Fields.{natural_of, all_of}
 use Rattle.afdx_wiring.specs.declared.fault.At.{At}
 use Rattle.afdx_wiring.specs.declared.fault.Key.{Key}
 use Rattle.afdx_wiring.specs.declared.fault.NetworkFault.{NetworkFault}
@@ -21,10 +22,6 @@ are_known ks (member text d ms) = is_one_of ks text && are_known ks ms
 
 unfoldable pub known_at : At → List Key → Members → Result (Unit {0}) NetworkFault
 known_at at ks ms = unless (not (are_known ks ms)) (UnknownKey at)
-
-abbrev pub natural_of : ℤ → Option ℕ
-natural_of (pos n) = Some n
-natural_of (negsuc n) = None
 
 -- a number from 0 to the greatest
 unfoldable pub number_in : At → Key → ℕ → Data → Result ℕ NetworkFault
@@ -47,14 +44,10 @@ text_at at k ms = do
   d ← or_refuse (MissingKey at k) (get_member (key_text k) ms)
   or_refuse (Kind at k) (as_str d)
 
-abbrev pub all_tables : Items → Option (List Members)
-all_tables no_items = Some []
-all_tables (item d ds) = option_and_then (λ ms. option_map (λ rest. ms ∷ rest) (all_tables ds)) (as_table d)
-
 -- an optional array of tables: none where it is missing
 abbrev pub tables_in : At → Key → Option Data → Result (List Members) NetworkFault
 tables_in at k None = Ok []
-tables_in at k (Some d) = or_refuse (Kind at k) (option_and_then all_tables (as_array d))
+tables_in at k (Some d) = or_refuse (Kind at k) (option_and_then (all_of as_table) (as_array d))
 
 unfoldable pub tables_at : At → Key → Members → Result (List Members) NetworkFault
 tables_at at k ms = tables_in at k (get_member (key_text k) ms)

@@ -1,6 +1,7 @@
 pub mod Fields
 pub mod File
 pub mod Inner
+pub mod Lines
 pub mod Names
 pub mod Needs
 pub mod Net

@@ -6,7 +6,7 @@ use Rattle.afdx_units.specs.declared.line.Priority.TheVariants.{High, Low}
 use Rattle.afdx_table.specs.declared.rows.PortRow.{PortRow}
 use Rattle.afdx_table.specs.Link.{Link, leads_to}
 use Rattle.afdx_table.specs.Content.{Content, port_row, link_row}
-use Rattle.afdx_load.specs.Sums.{load_of}
+use Rattle.afdx_load.specs.Load.{load_of}
 use Rattle.afdx_load.specs.Bounds.{bounds_of}
 use Rattle.afdx_load.specs.declared.delays.Bounds.{Bounds}
 use Rattle.afdx_series.specs.declared.delays.Delays.{Delays}
@@ -30,16 +30,24 @@ pub record Row : Type 0 where
 abbrev pub port_at : Network → End → Option PortRow
 port_at net e = option_and_then (λ t. port_row t e.port) (slice_get net.tables e.switch)
 
+-- the row of a link in the table of the switch at this place
+abbrev pub row_in : ℕ → Link → Row
+row_in n = λ l. record { switch = n; link = l }
+
 abbrev pub row_at : Network → ℕ → ℕ → Option Row
-row_at net switch id = option_and_then (λ t. option_map (λ l. record { switch = switch; link = l }) (link_row t id)) (slice_get net.tables switch)
+row_at net switch id = option_and_then (λ t. option_map (row_in switch) (link_row t id)) (slice_get net.tables switch)
 
 -- the rows of the table of the switch at this place
 abbrev pub rows_in : ℕ → List Link → List Row
-rows_in n links = map (λ l. record { switch = n; link = l }) links
+rows_in n links = map (row_in n) links
+
+-- the rows of these tables, the first of which is that of the switch at this place
+abbrev pub rows_from : ℕ → List Content → List Row
+rows_from n tables = flat_map (λ at. rows_in at.0 at.1.links) (enumerate_from n tables)
 
 -- all rows: by switch, then in the order of its table
 abbrev pub rows_of : Network → List Row
-rows_of net = flat_map (λ at. rows_in at.0 at.1.links) (enumerate_from 0 net.tables)
+rows_of net = rows_from 0 net.tables
 
 -- the rows of its first switch that lead to a wire
 abbrev pub rows_on : Network → Wire → List Row

@@ -13,7 +13,7 @@ use Rattle.afdx_units.specs.declared.line.Speed.TheVariants.{Ten, Hundred, Thous
 use Rattle.afdx_table.specs.declared.rows.PortRow.{PortRow}
 use Rattle.afdx_table.specs.Link.{Link, leads_to}
 use Rattle.afdx_table.specs.Content.{Content, port_row, link_row}
-use Rattle.afdx_load.specs.Sums.{Sums, port_load}
+use Rattle.afdx_load.specs.Load.{Load, port_load}
 use Rattle.afdx_load.specs.Accepted.{first_fault}
 use Rattle.afdx_load.specs.declared.fault.LoadFault.{LoadFault}
 use Rattle.afdx_load.specs.Bounds.{bounds_of}
@@ -26,8 +26,8 @@ use Rattle.afdx_wiring.specs.declared.fault.NetworkFault.TheVariants as fault
 use Rattle.afdx_wiring.specs.declared.layout.End.{End}
 use Rattle.afdx_wiring.specs.declared.layout.Wire.{Wire}
 use Rattle.afdx_wiring.specs.declared.row.Row.{Row as RowOfCode}
-use Rattle.afdx_wiring.specs.declared.terms.Shared.{Shared}
-use Rattle.afdx_wiring.specs.declared.terms.Shared.TheVariants as shared
+use Rattle.afdx_wiring.specs.declared.shared.Shared.{Shared}
+use Rattle.afdx_wiring.specs.declared.shared.Shared.TheVariants as shared
 use Rattle.afdx_wiring.specs.Refusal.{◌>>=◌, or_refuse, unless}
 use Rattle.afdx_wiring.specs.Net.{Network, Row, port_at, row_at, rows_of, ingress, wire_to, bound_in}
 
@@ -184,7 +184,7 @@ abbrev pub within_reason : ℕ → Option ℕ
 within_reason bound = if nat_le bound 1000000000000 then Some bound else None
 
 -- from a row's switch, which has this table, over a cable from this port, which has this load
-abbrev pub hop_over : Content → Row → (cable : ℕ) → PortRow → Sums → Option Delays
+abbrev pub hop_over : Content → Row → (cable : ℕ) → PortRow → Load → Option Delays
 hop_over t r cable p load =
     option_map (λ bound. hop_of p.speed t.latency bound cable) (option_and_then within_reason (bound_in (bounds_of load) r.link.priority))
 

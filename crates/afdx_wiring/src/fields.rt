@@ -5,9 +5,10 @@ ghost use Rattle.std.specs.List.{list_all};
 ghost use Rattle.std.specs.Map.{keys_of};
 ghost use Rattle.toml.specs.Data.{get_member};
 ghost use Rattle.toml.specs.View.{view, table_view};
+ghost use Rattle.afdx_table.specs.Fields.{natural_of};
 ghost use Rattle.afdx_wiring.specs.Names.{key_text};
 ghost use Rattle.afdx_wiring.specs.Refusal.{Gives};
-ghost use Rattle.afdx_wiring.specs.Fields.{is_one_of, are_known, known_at, natural_of, number_in, optional_number_at, text_at, tables_at};
+ghost use Rattle.afdx_wiring.specs.Fields.{is_one_of, are_known, known_at, number_in, optional_number_at, text_at, tables_at};
 
 use crate::arrays::tables_of;
 use crate::fault::{At, Key, NetworkFault};

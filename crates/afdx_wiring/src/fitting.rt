@@ -7,7 +7,7 @@ ghost use Rattle.afdx_wiring.specs.Rules.{FitsTogether};
 
 use crate::fault::NetworkFault;
 use crate::network::Network;
-use crate::terms::Shared;
+use crate::shared::Shared;
 use std::alloc::Global;
 
 impl Network {

@@ -1,7 +1,7 @@
 //! What a frame takes from a switch to the next one.
 
 ghost use Rattle.std.specs.Prelude.{◌≡◌, ◌≤◌, slice_get, option_and_then, IfOk, IfSome};
-ghost use Rattle.afdx_load.specs.Sums.{port_load};
+ghost use Rattle.afdx_load.specs.Load.{port_load};
 ghost use Rattle.afdx_wiring.specs.Net.{bound_in};
 ghost use Rattle.afdx_wiring.specs.Order.{row_of, within_reason, hop_on};
 

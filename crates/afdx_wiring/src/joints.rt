@@ -7,7 +7,7 @@ ghost use Rattle.afdx_wiring.specs.Order.{by_wires, first_of, same_rate, same_co
 use crate::fault::{At, NetworkFault};
 use crate::layout::Wire;
 use crate::network::Network;
-use crate::terms::{Shared, agrees};
+use crate::shared::{Shared, agrees};
 use afdx_table::{LinkRow, PortRow, Table};
 use afdx_units::Speed;
 

@@ -7,6 +7,6 @@ use Rattle.recapture.specs.declared.Failure.{Failure}
 use Rattle.recapture.specs.declared.Failure.TheVariants.{Capture, Device}
 
 -- a capture that was refused has this fault, and nothing was written
-abbrev pub Tells : Option (List ℕ) → Option (List ℕ) → Option (List ℕ) → Failure → Type 0
-Tells input old new (Capture fault) = Keeps old new × (fault ≢ Memory → IfSome input (λ xs. IsFault xs fault))
-Tells input old new Device = ⊤
+abbrev pub Explains : Option (List ℕ) → Option (List ℕ) → Option (List ℕ) → Failure → Type 0
+Explains input old new (Capture fault) = Keeps old new × (fault ≢ Memory → IfSome input (λ xs. IsFault xs fault))
+Explains input old new Device = ⊤

@@ -7,11 +7,11 @@
 ghost use Rattle.std.specs.Prelude.{◌≡◌, ◌≢◌, List, IfOk, IfErr, IfSome, OnOk};
 ghost use Rattle.std.specs.Io.KnownBytes.{Appends};
 ghost use Rattle.afdx_pcap.specs.declared.fault.PcapFault.TheVariants.{Memory};
-ghost use Rattle.afdx_pcap.specs.Entry.{Entry};
+ghost use Rattle.afdx_pcap.specs.Record.{Record};
 ghost use Rattle.afdx_pcap.specs.Capture.{IsCapture};
 ghost use Rattle.afdx_pcap.specs.Fault.{IsFault};
 ghost use Rattle.afdx_pcap.specs.Text.{capture_text};
-ghost use Rattle.recapture.specs.Failure.{Tells};
+ghost use Rattle.recapture.specs.Failure.{Explains};
 
 use afdx_pcap::{PcapFault, read_all, write_all};
 use std::alloc::{Allocator, Global};
@@ -37,7 +37,7 @@ enum Failure {
 ///
 /// The capture's fault, or `Memory`. O(bytes).
 fn recaptured<A: Allocator + Copy>(alloc: A, input: &[u8]) -> Result<Vec<u8, A>, PcapFault>
-    ensures text { IfOk result (λ out. (rs : List Entry) × IsCapture input.now rs
+    ensures text { IfOk result (λ out. (rs : List Record) × IsCapture input.now rs
         × (out.items ≡ capture_text rs)) }
     ensures fault { IfErr result (λ fault. fault ≢ Memory → IsFault input.now fault) }
 {
@@ -47,9 +47,9 @@ fn recaptured<A: Allocator + Copy>(alloc: A, input: &[u8]) -> Result<Vec<u8, A>,
 
 /// Reads a whole capture, and writes its text at once.
 fn run<R: Read, W: Write>(alloc: Global, input: &mut R, out: &mut W) -> Result<(), Failure>
-    ensures written { OnOk result (IfSome (R.remaining input.old) (λ xs. (rs : List Entry)
+    ensures written { OnOk result (IfSome (R.remaining input.old) (λ xs. (rs : List Record)
         × IsCapture xs rs × Appends (W.contents out.old) (W.contents out.new) (capture_text rs))) }
-    ensures refused { IfErr result (Tells (R.remaining input.old) (W.contents out.old) (W.contents out.new)) }
+    ensures refused { IfErr result (Explains (R.remaining input.old) (W.contents out.old) (W.contents out.new)) }
 {
     let mut bytes = Vec::new(alloc);
     if input.read_to_end(&mut bytes).is_err() {

@@ -1,13 +1,12 @@
 -- The laws of policing, over the definitions alone.
 use Rattle.std.specs.Prelude.{◌≡◌, ◌↔◌, ℕ, ◌*◌, ◌-◌, ◌≤◌, nat_le, List, [], ◌∷◌, ◌++◌, map, IsTrue, if◌then◌else◌}
-use Rattle.std.specs.List.{AllByRecursion}
 use Rattle.afdx_units.specs.declared.bag.Bag.{Bag}
 use Rattle.afdx_units.specs.declared.line.Speed.{Speed}
 use Rattle.afdx_units.specs.declared.police.Police.{Police}
 use Rattle.afdx_units.specs.Line.{cost_of}
 use Rattle.afdx_account.specs.declared.frame.Frame.{Frame}
 use Rattle.afdx_account.specs.Policing.{parts, Terms, Conforms, byte_terms, byte_weight, frame_terms, frame_weight, terms_by, weight_by, conforms, passed_of, passed_frames}
-use Rattle.afdx_account.specs.Level.{InOrder, headroom, credited_level, stepped}
+use Rattle.afdx_account.specs.Level.{InOrder, headroom, NoneLater, credited_level, stepped}
 
 -- a full account that goes step by step passes exactly the frames that keep to their allowances in all windows
 abbrev pub StepsPassWhatConforms : Type 0
@@ -40,12 +39,12 @@ PassedByTheirFrames A = (frame_of : A → Frame) (t : Terms) (xs : List A)
 
 -- what an account that was full has left after these frames is credited over time, up to the cap
 abbrev pub HeadroomIsCredited : Type 0
-HeadroomIsCredited = (t : Terms) (frames : List Frame) (now later : ℕ) → now ≤ later → AllByRecursion (λ f. f.stamp ≤ now) frames
+HeadroomIsCredited = (t : Terms) (frames : List Frame) (now later : ℕ) → now ≤ later → NoneLater frames now
     → headroom t (passed_frames t frames) later ≡ credited_level t (headroom t (passed_frames t frames) now) (later - now)
 
 -- a frame conforms where its price is within it
 abbrev pub HeadroomDecides : Type 0
-HeadroomDecides = (t : Terms) (frames : List Frame) (f : Frame) → AllByRecursion (λ g. g.stamp ≤ f.stamp) frames
+HeadroomDecides = (t : Terms) (frames : List Frame) (f : Frame) → NoneLater frames f.stamp
     → conforms t (passed_frames t frames) f ≡ nat_le (t.price f.size) (headroom t (passed_frames t frames) f.stamp)
 
 -- and takes its price away from it where it is passed

@@ -8,7 +8,7 @@ use Rattle.afdx_units.specs.Time.{bag_ms, bag_ns}
 use Rattle.afdx_units.specs.Line.{tick_of, cost_of}
 use Rattle.afdx_account.specs.declared.account.Account.{Account}
 use Rattle.afdx_account.specs.declared.account.Account.TheVariants.{Byte, Frame}
-use Rattle.afdx_account.specs.Policing.{parts, Terms, byte_weight, frame_weight}
+use Rattle.afdx_account.specs.Policing.{parts, byte_weight, frame_weight}
 use Rattle.afdx_account.specs.Level.{credited_level}
 use Rattle.afdx_account.specs.Account.{account_terms, account_since, account_level, account_weight, account_greatest}
 

@@ -1,6 +1,6 @@
 -- A link's own frames are the clean ones of a table that has this link alone.
 use Rattle.std.specs.Prelude.{◌≡◌, ◌↔◌, ℕ, IsTrue, [], ◌∷◌}
-use Rattle.afdx_pcap.specs.Entry.{Entry}
+use Rattle.afdx_pcap.specs.Record.{Record}
 use Rattle.afdx_table.specs.Link.{Link}
 use Rattle.afdx_table.specs.Content.{Content}
 use Rattle.afdx_filter.specs.declared.outcome.Verdict.TheVariants.{Clean}
@@ -19,4 +19,4 @@ pub record HasOnly (table : Content) (port : ℕ) (link : Alone) : Type 0 where
 
 abbrev pub OwnFramesAreClean : Type 0
 OwnFramesAreClean =
-    (table : Content) (port : ℕ) (link : Alone) (frame : Entry) → HasOnly table port link → IsTrue (is_own link frame) ↔ (verdict_of table port frame ≡ Clean link.id)
+    (table : Content) (port : ℕ) (link : Alone) (frame : Record) → HasOnly table port link → IsTrue (is_own link frame) ↔ (verdict_of table port frame ≡ Clean link.id)

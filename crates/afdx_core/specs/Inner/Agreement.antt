@@ -9,7 +9,7 @@ use Rattle.afdx_filter.specs.declared.outcome.Verdict.TheVariants.{Clean}
 use Rattle.afdx_account.specs.declared.frame.Frame.{Frame}
 use Rattle.afdx_account.specs.Policing.{passed_frames}
 use Rattle.afdx_port.specs.declared.Item.{Item}
-use Rattle.afdx_load.specs.Sums.{terms_of}
+use Rattle.afdx_load.specs.Load.{terms_of}
 use Rattle.afdx_core.specs.declared.step.Row.{Row}
 use Rattle.afdx_core.specs.Rows.{says_clean, named, account_frames, feed_of}
 use Rattle.afdx_core.specs.State.{Run, sent_in}

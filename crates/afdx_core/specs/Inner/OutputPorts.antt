@@ -1,13 +1,37 @@
--- An output port beside its row of the table.
-use Rattle.std.specs.Prelude.{◌≡◌, ℕ, ◌+◌, ◌<◌, ◌≤◌, ◌==◌, false, if◌then◌else◌, List, length, set, slice_index_or, Option, Some, None, find, All}
+-- The output ports of a run, each beside its row of the table, and what becomes of them.
+use Rattle.std.specs.Prelude.{◌≡◌, ℕ, ◌+◌, ◌<◌, ◌≤◌, ◌==◌, false, if◌then◌else◌, List, length, map, position, set, slice_index_or, Option, Some, None, find, All}
+use Rattle.afdx_table.specs.declared.rows.PortRow.{PortRow}
 use Rattle.afdx_table.specs.Link.{names_port}
 use Rattle.afdx_port.specs.declared.Item.{Item}
 use Rattle.afdx_port.specs.declared.Offer.{Offer}
 use Rattle.afdx_port.specs.declared.Offer.TheVariants.{Full, Queued}
-use Rattle.afdx_port.specs.Content.{answer, offered, advanced, closed}
+use Rattle.afdx_port.specs.Service.{sent_of}
+use Rattle.afdx_port.specs.Content.{Content, done, due, answer, offered, advanced, closed}
 use Rattle.afdx_port.specs.Lagging.{has_due}
 use Rattle.afdx_core.specs.declared.output_port.OutputPort.{OutputPort}
-use Rattle.afdx_core.specs.OutputPorts.{IsCounted, Out, seen}
+
+-- an output port without the room that it has
+pub record Out : Type 0 where
+  pub row : PortRow
+  pub content : Content
+  pub handed : ℕ
+
+abbrev pub seen : {Z : Type 0} → OutputPort Z → Out
+seen o = record { row = o.row; content = o.port.content; handed = o.handed }
+
+-- what is due next at each
+abbrev pub dues_of : {Z : Type 0} → List (OutputPort Z) → List (Option ℕ)
+dues_of output_ports = map (λ o. due o.port.content) output_ports
+
+-- these are the places of ports, by their numbers
+abbrev pub PlacesAre : List (Option ℕ) → List PortRow → Type 0
+PlacesAre places ports = (port : ℕ) → slice_index_or places port None ≡ position (λ p. p.id == port) ports
+
+-- what was handed out was sent
+abbrev pub IsCounted : {Z : Type 0} → OutputPort Z → Type 0
+IsCounted o = o.handed ≤ length (sent_of (done o.port.content))
+
+-- ---- what calls make of one
 
 -- after an offer
 abbrev pub offered_to : Item → Out → Out

@@ -10,12 +10,12 @@ use Rattle.afdx_port.specs.Service.{service}
 use Rattle.afdx_port.specs.Admission.{admitted}
 use Rattle.afdx_core.specs.declared.step.Row.{Row}
 use Rattle.afdx_core.specs.Rows.{own_frames, fates_of}
-use Rattle.afdx_core.specs.State.{Run, handling_of, after_finish}
+use Rattle.afdx_core.specs.State.{Run, step_of, after_finish}
 use Rattle.afdx_count.specs.declared.counters.InCount.{InCount}
 use Rattle.afdx_count.specs.declared.counters.OutCount.{OutCount}
 use Rattle.afdx_count.specs.Counting.{greatest_count}
 use Rattle.afdx_count.specs.Tally.{fresh, noted, ended}
-use Rattle.afdx_count.specs.Run.{input_counts, link_counts, output_counts, counts_so_far, counts_of, run_after, handlings_of, noted_all}
+use Rattle.afdx_count.specs.Run.{input_counts, link_counts, output_counts, counts_so_far, counts_of, run_after, steps_of, noted_all}
 
 -- counters at 0 are the counts of no arrivals
 abbrev pub StartsWithNone : Type 0
@@ -23,7 +23,7 @@ StartsWithNone = (t : Content) → fresh t ≡ counts_so_far t []
 
 -- the note of an arrival makes the counts of the arrivals before it those of one more
 abbrev pub NoteCountsOneMore : Type 0
-NoteCountsOneMore = (r : Run) (row : Row) → IsWellFormed r.table → noted (handling_of r row) (counts_so_far r.table r.rows) ≡ counts_so_far r.table (r.rows ++ row ∷ [])
+NoteCountsOneMore = (r : Run) (row : Row) → IsWellFormed r.table → noted (step_of r row) (counts_so_far r.table r.rows) ≡ counts_so_far r.table (r.rows ++ row ∷ [])
 
 -- the end makes them the counts of the run
 abbrev pub EndCountsTheRun : Type 0
@@ -32,7 +32,7 @@ EndCountsTheRun = (r : Run) → IsWellFormed r.table → ended (after_finish r) 
 -- so the notes of all arrivals, and then the end, make the counts of the run
 abbrev pub NotesCountTheRun : Type 0
 NotesCountTheRun = (t : Content) (rows : List Row) → IsWellFormed t
-    → ended (after_finish (run_after t rows)) (noted_all (handlings_of t rows) (fresh t)) ≡ counts_of t rows
+    → ended (after_finish (run_after t rows)) (noted_all (steps_of t rows) (fresh t)) ≡ counts_of t rows
 
 -- ---- sums, while no counter is at its greatest value
 

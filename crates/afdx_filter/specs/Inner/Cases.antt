@@ -1,7 +1,7 @@
 -- When each verdict is given: its own case holds, and none of those before it does.
 use Rattle.std.specs.Prelude.{◌≡◌, ◌≢◌, ◌↔◌, ℕ, ◌<◌, length, Some, None}
-use Rattle.afdx_units.specs.Line.{size_of}
-use Rattle.afdx_pcap.specs.Entry.{Entry}
+use Rattle.afdx_units.specs.Line.{size_of, least_size, greatest_size}
+use Rattle.afdx_pcap.specs.Record.{Record}
 use Rattle.afdx_frame.specs.Address.{constant_of, link_of}
 use Rattle.afdx_table.specs.Link.{Link}
 use Rattle.afdx_table.specs.Content.{Content, link_row}
@@ -10,14 +10,14 @@ use Rattle.afdx_filter.specs.declared.outcome.Verdict.TheVariants.{Cut, Short, L
 use Rattle.afdx_filter.specs.Verdict.{verdict_of}
 
 -- the link of the table that a frame's address names
-abbrev pub NamesLink : Content → Entry → Link → Type 0
+abbrev pub NamesLink : Content → Record → Link → Type 0
 NamesLink table frame link = link_row table (link_of frame.bytes) ≡ Some link
 
--- the case of a verdict, whatever the others say; IEEE 802.3: the size of a frame is from 64 to 1518 bytes
-abbrev pub HasCase : Content → ℕ → Entry → Verdict → Type 0
+-- the case of a verdict, whatever the others say
+abbrev pub HasCase : Content → ℕ → Record → Verdict → Type 0
 HasCase table port frame Cut = length frame.bytes < frame.original
-HasCase table port frame Short = size_of (length frame.bytes) < 64
-HasCase table port frame Long = 1518 < size_of (length frame.bytes)
+HasCase table port frame Short = size_of (length frame.bytes) < least_size
+HasCase table port frame Long = greatest_size < size_of (length frame.bytes)
 HasCase table port frame Foreign = constant_of frame.bytes ≢ table.constant
 HasCase table port frame NoLink = link_row table (link_of frame.bytes) ≡ None
 HasCase table port frame WrongPort = (link : Link) × NamesLink table frame link × (link.from ≢ port)
@@ -35,10 +35,10 @@ place_of WrongPort = 5
 place_of TooBig = 6
 place_of (Clean id) = 7
 
-pub record IsFirstCase (table : Content) (port : ℕ) (frame : Entry) (verdict : Verdict) : Type 0 where
+pub record IsFirstCase (table : Content) (port : ℕ) (frame : Record) (verdict : Verdict) : Type 0 where
   pub holds : HasCase table port frame verdict
   pub none_before : (other : Verdict) → place_of other < place_of verdict → HasCase table port frame other → ⊥
 
 abbrev pub VerdictIsTheFirstCase : Type 0
-VerdictIsTheFirstCase = (table : Content) (port : ℕ) (frame : Entry) (verdict : Verdict)
+VerdictIsTheFirstCase = (table : Content) (port : ℕ) (frame : Record) (verdict : Verdict)
     → (verdict_of table port frame ≡ verdict) ↔ IsFirstCase table port frame verdict

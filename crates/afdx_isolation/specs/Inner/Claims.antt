@@ -11,7 +11,7 @@ use Rattle.afdx_port.specs.Admission.{admitted}
 use Rattle.afdx_port.specs.Content.{Content, done}
 use Rattle.afdx_port.specs.Inner.Course.{line_at}
 use Rattle.afdx_port.specs.Inner.Work.{item_cost}
-use Rattle.afdx_isolation.specs.Inner.Flow.{Flow, Load, IsPaidFor, IsWithinRate, HasBuffer, IsWithinDelay, Carries, AreDistinct, load_of, bound}
+use Rattle.afdx_isolation.specs.Inner.Flow.{Flow, Demand, IsPaidFor, IsWithinRate, HasBuffer, IsWithinDelay, Carries, AreDistinct, demand_of, bound}
 use Rattle.afdx_isolation.specs.Inner.Potential.{KeepsPotentials}
 use Rattle.afdx_isolation.specs.Inner.Account.{IsOfAFlow}
 use Rattle.afdx_isolation.specs.Arrivals.{own, frame_in}
@@ -26,14 +26,14 @@ pub record Arrive (s : Settings) (flows : List Flow) (arrivals : List Item) : Ty
   pub clean : All (IsClean flows) arrivals
 
 -- a sending that ends no sooner than the latency and its line time, and no later than its bound, after its item came
-pub record IsInBound (s : Settings) (load : Load) (x : Sent) : Type 0 where
+pub record IsInBound (s : Settings) (demand : Demand) (x : Sent) : Type 0 where
   pub least : x.item.stamp + s.latency + item_cost s x.item ≤ x.end
-  pub most : x.end ≤ x.item.stamp + bound load x.item.priority
+  pub most : x.end ≤ x.item.stamp + bound demand x.item.priority
 
 -- the item is not discarded for its age, but sent within its bound
-abbrev pub IsTimely : Settings → Load → Event → Type 0
-IsTimely s load (sending x) = IsInBound s load x
-IsTimely s load (aging x) = ⊥
+abbrev pub IsTimely : Settings → Demand → Event → Type 0
+IsTimely s demand (sending x) = IsInBound s demand x
+IsTimely s demand (aging x) = ⊥
 
 -- at each instant from the last arrival on the potentials hold, where the flows ask for no more than the line gives
 abbrev pub PotentialsHold : Type 0
@@ -49,7 +49,7 @@ NoneIsFull = (s : Settings) (flows : List Flow) (arrivals : List Item) → Arriv
 -- where the bound of a priority is within the greatest delay, no item of it is Aged, and each is sent within the bound
 abbrev pub KeepsBound : Priority → Type 0
 KeepsBound priority = (s : Settings) (flows : List Flow) (arrivals : List Item) → Arrive s flows arrivals → IsWithinRate s flows → IsWithinDelay s flows priority
-    → All (λ event. (item_of event).priority ≡ priority → IsTimely s (load_of s flows) event) (service s 0 (feed_of flows arrivals))
+    → All (λ event. (item_of event).priority ≡ priority → IsTimely s (demand_of s flows) event) (service s 0 (feed_of flows arrivals))
 
 -- the second gives the high bound: no high copy is Aged
 abbrev pub HighKeepsBound : Type 0
@@ -63,7 +63,7 @@ LowKeepsBound = KeepsBound Low
 -- and what leaves for a link is exactly what the link's policing passes of its own arrivals, in their order
 pub record IsIsolatedPort (s : Settings) (flows : List Flow) (arrivals : List Item) : Type 0 where
   pub none_full : admitted s (feed_of flows arrivals) ≡ feed_of flows arrivals
-  pub timely : All (IsTimely s (load_of s flows)) (service s 0 (admitted s (feed_of flows arrivals)))
+  pub timely : All (IsTimely s (demand_of s flows)) (service s 0 (admitted s (feed_of flows arrivals)))
   pub exactly_passed : (flow : Flow) → Contains flows flow
       → own flow.id (map item_of (service s 0 (admitted s (feed_of flows arrivals)))) ≡ passed flow arrivals
 
@@ -81,7 +81,7 @@ pub record IsIsolatedSoFar (flows : List Flow) (arrivals : List Item) (c : Conte
   pub none_full : c.admitted ≡ feed_of flows arrivals
   pub none_aged : aged_of (done c) ≡ []
   pub of_flows : All (λ (x : Sent). IsOfAFlow flows x.item) (sent_of (done c))
-  pub in_bound : All (IsInBound c.settings (load_of c.settings flows)) (sent_of (done c))
+  pub in_bound : All (IsInBound c.settings (demand_of c.settings flows)) (sent_of (done c))
   pub prefix : PrefixLeaves flows arrivals c
 
 abbrev pub IsolatesSoFar : Type 0

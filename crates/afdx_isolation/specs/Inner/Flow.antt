@@ -38,8 +38,8 @@ abbrev pub longest : Settings → List Flow → ℕ
 longest s [] = 0
 longest s (flow ∷ flows) = max (cost_of s.speed flow.largest) (longest s flows)
 
--- the load of a port: of all its flows, and of those of one priority; and its latency
-pub record Load : Type 0 where
+-- the demand of a port: of all its flows, and of those of one priority; and its latency
+pub record Demand : Type 0 where
   pub rate : ℕ
   pub high_rate : ℕ
   pub burst : ℕ
@@ -48,8 +48,8 @@ pub record Load : Type 0 where
   pub low_largest : ℕ
   pub latency : ℕ
 
-abbrev pub load_of : Settings → List Flow → Load
-load_of s flows = record {
+abbrev pub demand_of : Settings → List Flow → Demand
+demand_of s flows = record {
   rate = rates flows;
   high_rate = rates (high_flows flows);
   burst = bursts flows;
@@ -61,25 +61,25 @@ load_of s flows = record {
 
 -- the most nanoseconds from the instant at which a frame is queued to its end: a high frame waits for the high bursts and one
 -- low frame that was begun before it came; a low one for all bursts, on the part of the line that the high ones leave
-abbrev pub queue_bound : Load → Priority → ℕ
-queue_bound load High = (load.high_burst + parts * load.low_largest) / parts
-queue_bound load Low = load.burst / (parts - load.high_rate)
+abbrev pub queue_bound : Demand → Priority → ℕ
+queue_bound demand High = (demand.high_burst + parts * demand.low_largest) / parts
+queue_bound demand Low = demand.burst / (parts - demand.high_rate)
 
 -- from its arrival, one latency before that instant
-abbrev pub bound : Load → Priority → ℕ
-bound load priority = queue_bound load priority + load.latency
+abbrev pub bound : Demand → Priority → ℕ
+bound demand priority = queue_bound demand priority + demand.latency
 
 -- the flows ask for no more than the line gives
 abbrev pub IsWithinRate : Settings → List Flow → Type 0
-IsWithinRate s flows = (load_of s flows).rate ≤ parts
+IsWithinRate s flows = (demand_of s flows).rate ≤ parts
 
 -- the buffer holds their bursts and one frame, which keeps its place until its end
 abbrev pub HasBuffer : Settings → List Flow → Type 0
-HasBuffer s flows = (load_of s flows).burst + parts * (load_of s flows).largest ≤ parts * (tick_of s.speed * s.buffer)
+HasBuffer s flows = (demand_of s flows).burst + parts * (demand_of s flows).largest ≤ parts * (tick_of s.speed * s.buffer)
 
 -- the bound of a priority, where it has flows, is within the greatest delay
 abbrev pub IsWithinDelay : Settings → List Flow → Priority → Type 0
-IsWithinDelay s flows priority = All (λ flow. flow.priority ≡ priority → bound (load_of s flows) priority ≤ s.max_delay) flows
+IsWithinDelay s flows priority = All (λ flow. flow.priority ≡ priority → bound (demand_of s flows) priority ≤ s.max_delay) flows
 
 -- a port that can give what its flows ask for
 pub record Carries (s : Settings) (flows : List Flow) : Type 0 where

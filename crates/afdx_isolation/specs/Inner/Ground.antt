@@ -1,7 +1,7 @@
 -- The laws of the accounts and of the port on which the laws of this crate rest.
 use Rattle.afdx_account.specs.Inner.Laws.{NextFrameJoinsWhereItConforms, PassedByTheirFrames, HeadroomIsCredited, HeadroomDecides, HeadroomIsDebited}
 use Rattle.afdx_port.specs.declared.Item.{Item}
-use Rattle.afdx_port.specs.Admission.{EarlierEventsStay}
+use Rattle.afdx_port.specs.Inner.Admission.{EarlierEventsStay}
 use Rattle.afdx_port.specs.Inner.Course.{LineGoesOn, ArrivalJoinsTheLine, EventsAreInParts, EventsFollowTheLine, WorkIsOfTheLine, EventsAreOfItems, WaitingIsOfItems}
 use Rattle.afdx_port.specs.Inner.Order.{KeepsOrder}
 use Rattle.afdx_port.specs.Inner.Work.{WorkBoundsBytes}

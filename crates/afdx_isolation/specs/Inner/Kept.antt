@@ -8,7 +8,7 @@ use Rattle.afdx_port.specs.Inner.Course.{line_at}
 use Rattle.afdx_port.specs.Inner.Order.{InOrder}
 use Rattle.afdx_port.specs.Inner.Work.{HaveCome}
 use Rattle.afdx_account.specs.Policing.{parts}
-use Rattle.afdx_isolation.specs.Inner.Flow.{Flow, IsPaidFor, IsWithinRate, HasBuffer, load_of}
+use Rattle.afdx_isolation.specs.Inner.Flow.{Flow, IsPaidFor, IsWithinRate, HasBuffer, demand_of}
 use Rattle.afdx_isolation.specs.Inner.Potential.{KeepsPotentials, EndsBy, BeginsAs}
 use Rattle.afdx_isolation.specs.Inner.Account.{AreWithinCaps, Grow, AreDebited, IsOfAFlow}
 
@@ -18,7 +18,7 @@ pub record IsKeptLevel (s : Settings) (flows : List Flow) (items : List Item) (n
   pub of_flows : All (IsOfAFlow flows) items
   pub in_order : InOrder s items
   pub potentials : KeepsPotentials s flows now level (line_at s now items)
-  pub ends : All (BeginsAs s (EndsBy parts s (load_of s flows))) (service s 0 items)
+  pub ends : All (BeginsAs s (EndsBy parts s (demand_of s flows))) (service s 0 items)
 
 -- it is so of a new port
 abbrev pub IsKeptAtFirst : Type 0

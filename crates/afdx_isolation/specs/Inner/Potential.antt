@@ -10,7 +10,7 @@ use Rattle.afdx_port.specs.Inner.Progress.{LineState}
 use Rattle.afdx_port.specs.Inner.Order.{highs, lows}
 use Rattle.afdx_port.specs.Inner.Work.{item_cost}
 use Rattle.afdx_account.specs.Policing.{parts}
-use Rattle.afdx_isolation.specs.Inner.Flow.{Flow, Load, high_flows, load_of}
+use Rattle.afdx_isolation.specs.Inner.Flow.{Flow, Demand, high_flows, demand_of}
 
 abbrev pub costs : Settings → List Item → ℕ
 costs s items = sum_by (item_cost s) items
@@ -21,25 +21,25 @@ Ahead s Q start [] = Unit {0}
 Ahead s Q start (y ∷ items) = Q (start + item_cost s y) y × Ahead s Q (start + item_cost s y) items
 
 -- a high item that ends by `end` does so within the high bursts and one low item; n is the number of parts of a nanosecond
-abbrev pub HighEnds : ℕ → Settings → Load → ℕ → Item → Type 0
-HighEnds n s load end y = n * end ≤ n * (came s y + load.low_largest) + load.high_burst
+abbrev pub HighEnds : ℕ → Settings → Demand → ℕ → Item → Type 0
+HighEnds n s demand end y = n * end ≤ n * (came s y + demand.low_largest) + demand.high_burst
 
 -- a low item that would end at `end` if no high one came after `now`, where the high accounts hold `high_level`
-abbrev pub LowEnds : ℕ → Settings → Load → ℕ → ℕ → ℕ → Item → Type 0
-LowEnds n s load now high_level end y = n * end + high_level + load.high_rate * came s y ≤ n * came s y + load.high_rate * now + load.burst
+abbrev pub LowEnds : ℕ → Settings → Demand → ℕ → ℕ → ℕ → Item → Type 0
+LowEnds n s demand now high_level end y = n * end + high_level + demand.high_rate * came s y ≤ n * came s y + demand.high_rate * now + demand.burst
 
 -- what follows for an item that ends by `end`, whatever comes later
-abbrev pub EndsBy : ℕ → Settings → Load → ℕ → Item → Type 0
-EndsBy n s load end y = (is_high y.priority ≡ true → HighEnds n s load end y)
-    × (is_high y.priority ≡ false → n * end + load.high_rate * came s y ≤ n * came s y + load.high_rate * end + load.burst)
+abbrev pub EndsBy : ℕ → Settings → Demand → ℕ → Item → Type 0
+EndsBy n s demand end y = (is_high y.priority ≡ true → HighEnds n s demand end y)
+    × (is_high y.priority ≡ false → n * end + demand.high_rate * came s y ≤ n * came s y + demand.high_rate * end + demand.burst)
 
 -- the potentials at `now`, where the line starts its next item at `start`, `high` and `low` wait, and the accounts of all
 -- flows and of the high ones hold line time of `level` and `high_level` parts
-pub record IsWithinPotentials (n : ℕ) (s : Settings) (load : Load) (now start level high_level : ℕ) (high low : List Item) : Type 0 where
-  pub all_work : n * (start + costs s high + costs s low) + level ≤ n * now + load.burst
-  pub high_work : n * (start + costs s high) + high_level ≤ n * (now + load.low_largest) + load.high_burst
-  pub low_ends : Ahead s (LowEnds n s load now high_level) (start + costs s high) low
-  pub high_ends : Ahead s (HighEnds n s load) start high
+pub record IsWithinPotentials (n : ℕ) (s : Settings) (demand : Demand) (now start level high_level : ℕ) (high low : List Item) : Type 0 where
+  pub all_work : n * (start + costs s high + costs s low) + level ≤ n * now + demand.burst
+  pub high_work : n * (start + costs s high) + high_level ≤ n * (now + demand.low_largest) + demand.high_burst
+  pub low_ends : Ahead s (LowEnds n s demand now high_level) (start + costs s high) low
+  pub high_ends : Ahead s (HighEnds n s demand) start high
 
 -- the line time that the accounts of these flows hold, in parts of a nanosecond
 abbrev pub held : (Flow → ℕ) → List Flow → ℕ
@@ -48,7 +48,7 @@ held level flows = sum_by (λ flow. flow.weight * level flow) flows
 -- the potentials of a line
 abbrev pub KeepsPotentials : Settings → List Flow → ℕ → (Flow → ℕ) → LineState → Type 0
 KeepsPotentials s flows now level line =
-    IsWithinPotentials parts s (load_of s flows) now line.free (held level flows) (held level (high_flows flows)) (highs line.waiting) (lows line.waiting)
+    IsWithinPotentials parts s (demand_of s flows) now line.free (held level flows) (held level (high_flows flows)) (highs line.waiting) (lows line.waiting)
 
 -- the event lies at some instant, no sooner than its item came, and Q holds of its end if it is sent there
 pub record BeginsAs (s : Settings) (Q : ℕ → Item → Type 0) (event : Event) : Type 0 where

@@ -1,5 +1,5 @@
 -- The same on the rows of a table whose load is accepted.
-use Rattle.std.specs.Prelude.{◌≡◌, ℕ, ◌+◌, ◌≤◌, true, ◌&&◌, List, [], ◌++◌, map, All, Contains}
+use Rattle.std.specs.Prelude.{◌≡◌, ℕ, ◌≤◌, true, ◌&&◌, List, [], ◌++◌, map, All, Contains}
 use Rattle.afdx_units.specs.declared.line.Speed.{Speed}
 use Rattle.afdx_account.specs.declared.frame.Frame.{Frame}
 use Rattle.afdx_account.specs.Policing.{conforms, passed_of, passed_frames}
@@ -12,7 +12,7 @@ use Rattle.afdx_table.specs.declared.rows.PortRow.{PortRow}
 use Rattle.afdx_table.specs.Link.{Link, leads_to}
 use Rattle.afdx_table.specs.Content.{Content}
 use Rattle.afdx_table.specs.WellFormed.{IsWellFormed}
-use Rattle.afdx_load.specs.Sums.{routed, load_of, terms_of, weight_of}
+use Rattle.afdx_load.specs.Load.{routed, load_of, terms_of, weight_of}
 use Rattle.afdx_load.specs.Bounds.{backlog, byte_time}
 use Rattle.afdx_load.specs.Accepted.{IsAccepted}
 use Rattle.afdx_isolation.specs.Inner.Flow.{Flow}

@@ -4,9 +4,9 @@ use Rattle.afdx_units.specs.declared.line.Speed.{Speed}
 use Rattle.afdx_units.specs.declared.line.Priority.{Priority}
 use Rattle.afdx_units.specs.declared.line.Priority.TheVariants.{High, Low}
 use Rattle.afdx_table.specs.Link.{Link}
-use Rattle.afdx_load.specs.Sums.{Sums, rate_of, burst_of, time_of}
+use Rattle.afdx_load.specs.Load.{Load, rate_of, burst_of, time_of}
 
-abbrev pub counted : Priority → ℕ → ℕ → ℕ → Sums → Sums
+abbrev pub counted : Priority → ℕ → ℕ → ℕ → Load → Load
 counted High rate burst time s = record {
   highs = s.highs + 1;
   lows = s.lows;
@@ -30,5 +30,5 @@ counted Low rate burst time s = record {
   latency = s.latency;
 }
 
-abbrev pub with_link : Speed → Sums → Link → Sums
+abbrev pub with_link : Speed → Load → Link → Load
 with_link speed s link = counted link.priority (rate_of speed link) (burst_of speed link) (time_of speed link) s

@@ -5,7 +5,7 @@ use Rattle.afdx_units.specs.Line.{tick_of, cost_of}
 use Rattle.afdx_table.specs.Link.{Link, leads_to}
 use Rattle.afdx_table.specs.Content.{Content}
 use Rattle.afdx_table.specs.WellFormed.{IsWellFormed}
-use Rattle.afdx_load.specs.Sums.{is_high_link, terms_of, weight_of, rate_of, burst_of, asked_of, load_of}
+use Rattle.afdx_load.specs.Load.{is_high_link, terms_of, weight_of, rate_of, burst_of, asked_of, load_of}
 use Rattle.afdx_account.specs.Policing.{parts}
 use Rattle.afdx_load.specs.Accepted.{IsAccepted, first_fault}
 

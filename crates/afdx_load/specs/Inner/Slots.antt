@@ -5,7 +5,7 @@ use Rattle.afdx_units.specs.declared.line.Speed.{Speed}
 use Rattle.afdx_units.specs.declared.line.Speed.TheVariants.{Ten}
 use Rattle.afdx_table.specs.Link.{Link, leads_to}
 use Rattle.afdx_table.specs.declared.rows.PortRow.{PortRow}
-use Rattle.afdx_load.specs.Sums.{Sums}
+use Rattle.afdx_load.specs.Load.{Load}
 use Rattle.afdx_load.specs.Inner.Adding.{with_link}
 
 -- each is a place, and stands once
@@ -20,10 +20,10 @@ speed_at speeds port = slice_index_or speeds port Ten
 abbrev pub HasSpeeds : List Speed → List PortRow → Type 0
 HasSpeeds speeds ports = All (λ row. (row.id < 25) × (speed_at speeds row.id ≡ row.speed)) ports
 
-abbrev pub HaveRoom : List Sums → Type 0
-HaveRoom loads = (port : ℕ) (d : Sums) → port < 25 → (slice_index_or loads port d).highs + (slice_index_or loads port d).lows < 4096
+abbrev pub HaveRoom : List Load → Type 0
+HaveRoom loads = (port : ℕ) (d : Load) → port < 25 → (slice_index_or loads port d).highs + (slice_index_or loads port d).lows < 4096
 
 -- the load in a place, with a link where it leads there
-abbrev pub with_routed : List Speed → List Sums → Link → ℕ → Sums → Sums
+abbrev pub with_routed : List Speed → List Load → Link → ℕ → Load → Load
 with_routed speeds loads link port d =
     if leads_to port link then with_link (speed_at speeds port) (slice_index_or loads port d) link else slice_index_or loads port d

@@ -1,6 +1,6 @@
 -- A network on its way to rest: what came in at each switch, and what that led to, where the switch has run over it.
 use Rattle.std.specs.Prelude.{◌≡◌, ◌⊎◌, ℕ, List, length, map, slice_get, slice_set, Option, Some, None, IsSome, Contains}
-use Rattle.afdx_pcap.specs.Entry.{Entry}
+use Rattle.afdx_pcap.specs.Record.{Record}
 use Rattle.afdx_pcap.specs.Text.{capture_text}
 use Rattle.afdx_pcap.specs.Capture.{IsCapture}
 use Rattle.afdx_table.specs.Content.{Content}
@@ -68,7 +68,7 @@ pub record RunsOver (t : Content) (old new : Site) : Type 0 where
 pub record IsBrought (sites : List Site) (w : Wire) (text : List ℕ) : Type 0 where
   pub here : Site
   pub bytes : List ℕ
-  pub records : List Entry
+  pub records : List Record
   pub here_is : slice_get sites w.from.switch ≡ Some here
   pub left : HasLeft w.from.port bytes here
   pub read : IsCapture bytes records

@@ -1,7 +1,7 @@
 -- What the machine has of its ports.
 use Rattle.std.specs.Prelude.{ℕ, ◌-◌, ◌≡◌, ◌<◌, ◌≤◌, ◌⊎◌, ◌↔◌, nat_le, Bool, true, false, if◌then◌else◌, List, [], ◌∷◌, ◌++◌, length, take, set, slice_get, Option, Some, None}
 use Rattle.std.specs.declared.collections.VecDeque.{VecDeque}
-use Rattle.afdx_pcap.specs.Entry.{Entry}
+use Rattle.afdx_pcap.specs.Record.{Record}
 use Rattle.afdx_pcap.specs.Fault.{last_stamp}
 use Rattle.afdx_pcap.specs.Reading.{HasTaken, NoNext, IsSound, IsWrong}
 use Rattle.afdx_core.specs.Merge.{Capture}
@@ -20,7 +20,7 @@ abbrev pub waiting_of : {Z : Type 0} → Lane Z → Capture
 waiting_of l = record { port = l.port; records = l.waiting.items }
 
 -- these records were read, and nothing was wrong so far
-pub record HasRead {Z : Type 0} (l : Lane Z) (records : List Entry) : Type 0 where
+pub record HasRead {Z : Type 0} (l : Lane Z) (records : List Record) : Type 0 where
   pub no_fault : l.reader.fault ≡ None
   pub taken : HasTaken (record { bytes = l.reader.bytes; given = l.reader.given }) records
   pub last : l.last ≡ last_stamp 0 records
@@ -43,13 +43,13 @@ pub record IsReadOn {Z : Type 0} (old new : Lane Z) : Type 0 where
   pub taken : new.taken ≡ old.taken
 
 -- and these records are what it added
-pub record Adds {Z : Type 0} (old new : Lane Z) (more : List Entry) : Type 0 where
+pub record Adds {Z : Type 0} (old new : Lane Z) (more : List Record) : Type 0 where
   pub queue : new.waiting.items ≡ old.waiting.items ++ more
-  pub read : (records : List Entry) → HasRead old records → HasRead new (records ++ more)
+  pub read : (records : List Record) → HasRead old records → HasRead new (records ++ more)
 
 -- one more record was read
 pub record DrawsOne {Z : Type 0} (old new : Lane Z) : Type 0 where
-  pub frame : Entry
+  pub frame : Record
   pub adds : Adds old new (frame ∷ [])
   pub last : new.last ≡ frame.stamp
   pub ended : new.ended ≡ old.ended
@@ -90,7 +90,7 @@ IsWithinPlace None stamp port = Unit {0}
 IsWithinPlace (Some p) stamp port = (stamp < p.0) ⊎ ((stamp ≡ p.0) × (port ≤ p.1))
 
 -- the stamp of the first of some records
-abbrev pub head_of : List Entry → Option ℕ
+abbrev pub head_of : List Record → Option ℕ
 head_of [] = None
 head_of (r ∷ rs) = Some r.stamp
 
@@ -128,14 +128,14 @@ pub record IsStill {Z : Type 0} (old new : Lane Z) : Type 0 where
   pub taken : new.taken ≡ old.taken
 
 -- a lane with other records that wait
-abbrev pub with_waiting : {Z : Type 0} → VecDeque Entry Z → Lane Z → Lane Z
+abbrev pub with_waiting : {Z : Type 0} → VecDeque Record Z → Lane Z → Lane Z
 with_waiting w l = record { port = l.port; reader = l.reader; last = l.last; ended = l.ended; waiting = w; out = l.out; undone = l.undone; closed = l.closed; ready = l.ready; taken = l.taken }
 
 -- the first record that waits went from its lane: it is the first of all, and within the limit
-pub record Goes {Z : Type 0} (limit : Option (ℕ × ℕ)) (old new : List (Lane Z)) (port : ℕ) (frame : Entry) : Type 0 where
+pub record Goes {Z : Type 0} (limit : Option (ℕ × ℕ)) (old new : List (Lane Z)) (port : ℕ) (frame : Record) : Type 0 where
   pub place : ℕ
   pub lane : Lane Z
-  pub rest : VecDeque Entry Z
+  pub rest : VecDeque Record Z
   pub at : slice_get old place ≡ Some lane
   pub port_is : port ≡ lane.port
   pub head : lane.waiting.items ≡ frame ∷ rest.items
@@ -144,7 +144,7 @@ pub record Goes {Z : Type 0} (limit : Option (ℕ × ℕ)) (old new : List (Lane
   pub lanes : new ≡ set old place (with_waiting rest lane)
 
 -- it went from the lane at this place
-pub record GoesAt {Z : Type 0} (limit : Option (ℕ × ℕ)) (old new : List (Lane Z)) (place : ℕ) (frame : Entry) : Type 0 where
+pub record GoesAt {Z : Type 0} (limit : Option (ℕ × ℕ)) (old new : List (Lane Z)) (place : ℕ) (frame : Record) : Type 0 where
   pub port : ℕ
   pub goes : Goes limit old new port frame
   pub here : goes.place ≡ place

@@ -1,7 +1,7 @@
 -- Captures that were lent whole: a record is read when the one before it has gone.
 use Rattle.std.specs.Prelude.{ℕ, ◌+◌, ◌-◌, ◌<◌, ◌≡◌, Bool, true, false, if◌then◌else◌, List, [], ◌∷◌, length, map, slice_get, Some}
 use Rattle.std.specs.List.{AllByRecursion}
-use Rattle.afdx_pcap.specs.Entry.{Entry}
+use Rattle.afdx_pcap.specs.Record.{Record}
 use Rattle.afdx_pcap.specs.Fault.{IsFault}
 use Rattle.afdx_table.specs.Content.{Content}
 use Rattle.afdx_session.specs.declared.lane.Lane.{Lane}
@@ -17,7 +17,7 @@ use Rattle.afdx_session.specs.Inner.Kept.{AreOfTable, IsGoing, IsOfSameTable}
 pub record IsOver {Z : Type 0} (l : Lane Z) : Type 0 where
   pub closed : l.reader.closed ≡ true
   pub taken : l.taken ≡ 0
-  pub head : l.ended ≡ false → (frame : Entry) × (l.waiting.items ≡ frame ∷ []) × (l.last ≡ frame.stamp)
+  pub head : l.ended ≡ false → (frame : Record) × (l.waiting.items ≡ frame ∷ []) × (l.last ≡ frame.stamp)
   pub read : l.ended ≡ true → (l.waiting.items ≡ []) × HasReadAll l
 
 -- the captures that lanes are over

@@ -2,7 +2,8 @@
 use Rattle.std.specs.Prelude.{◌≡◌, ◌↔◌, List}
 use Rattle.afdx_table.specs.Content.{Content}
 use Rattle.afdx_table.specs.WellFormed.{IsWellFormed}
-use Rattle.afdx_core.specs.Merge.{Arrival, Capture, IsMerge, AreByStampAndPort, merged}
+use Rattle.afdx_core.specs.Merge.{Arrival, Capture, merged}
+use Rattle.afdx_core.specs.Inner.Merge.{IsMerge, AreByStampAndPort}
 use Rattle.afdx_session.specs.Texts.{Text, AreOfPorts}
 use Rattle.afdx_session.specs.Reading.{AreCaptures}
 

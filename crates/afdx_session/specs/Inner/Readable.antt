@@ -2,7 +2,7 @@
 use Rattle.std.specs.Prelude.{◌+◌, ◌≤◌, List, All, Contains}
 use Rattle.std.specs.List.{AllByRecursion}
 use Rattle.afdx_units.specs.Time.{second, last_second}
-use Rattle.afdx_pcap.specs.Entry.{IsWithinLimit}
+use Rattle.afdx_pcap.specs.Record.{IsWithinLimit}
 use Rattle.afdx_pcap.specs.Text.{AreReadable}
 use Rattle.afdx_table.specs.declared.rows.PortRow.{PortRow}
 use Rattle.afdx_table.specs.Content.{Content}

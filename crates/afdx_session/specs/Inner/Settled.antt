@@ -1,9 +1,9 @@
 -- Which records have their place in the program's merge for good, though more may come.
 use Rattle.std.specs.Prelude.{ℕ, zero, suc, ◌+◌, ◌<◌, ◌≤◌, ◌⊎◌, ◌≡◌, nat_le, false, if◌then◌else◌, List, [], ◌∷◌, ◌++◌, length, map, set, slice_get, slice_index, Option, Some, None}
 use Rattle.std.specs.List.{AllByRecursion, flat_map}
-use Rattle.afdx_pcap.specs.Entry.{Entry}
+use Rattle.afdx_pcap.specs.Record.{Record}
 use Rattle.afdx_pcap.specs.Text.{record_text}
-use Rattle.afdx_core.specs.Merge.{Arrival, Capture, Rises, merged, part_at, AreByStampAndPort}
+use Rattle.afdx_core.specs.Merge.{Arrival, Capture, Rises, merged}
 use Rattle.afdx_table.specs.declared.rows.PortRow.{PortRow}
 use Rattle.afdx_table.specs.Content.{Content}
 use Rattle.afdx_core.specs.State.{State, sent_in}
@@ -31,7 +31,7 @@ IsSettled streams a = AllByRecursion (ComesBefore a) streams
 -- the last records of a capture wait
 pub record IsQueued (s : Stream) (waiting : Capture) : Type 0 where
   pub port : waiting.port ≡ s.port
-  pub gone : List Entry
+  pub gone : List Record
   pub records : s.records ≡ gone ++ waiting.records
 
 abbrev pub AreQueued : List Stream → List Capture → Type 0
@@ -64,10 +64,6 @@ AllWait (s ∷ streams) (n ∷ later) (w ∷ waiting) (v ∷ more) = Waits s n w
 
 -- ---- the laws
 
--- there is one merge by stamp and port number: two such lists with the same part from each port are the same
-abbrev pub MergeIsUnique : Type 0
-MergeIsUnique = (xs ys : List Arrival) → AreByStampAndPort xs → AreByStampAndPort ys → ((port : ℕ) → part_at port xs ≡ part_at port ys) → xs ≡ ys
-
 -- what is settled keeps its place, whatever comes
 abbrev pub SettledStays : Type 0
 SettledStays = (streams later : List Stream) (given : List Arrival) (waiting more : List Capture) → Ascend (ports_of (captures_of streams)) → AllWait streams later waiting more
@@ -93,7 +89,7 @@ IsWithin (Some p) a = (a.frame.stamp < p.0) ⊎ ((a.frame.stamp ≡ p.0) × (a.p
 -- ---- which record goes next
 
 -- the first of these records, if any, has this stamp or a later one
-abbrev pub HeadFrom : ℕ → List Entry → Type 0
+abbrev pub HeadFrom : ℕ → List Record → Type 0
 HeadFrom n [] = Unit {0}
 HeadFrom n (r ∷ rs) = n ≤ r.stamp
 
@@ -108,12 +104,12 @@ abbrev pub AllRise : List Capture → Type 0
 AllRise captures = AllByRecursion (λ (c : Capture). Rises c.records) captures
 
 -- the captures without the first record of the one at a place
-abbrev pub without : List Capture → ℕ → Capture → List Entry → List Capture
+abbrev pub without : List Capture → ℕ → Capture → List Record → List Capture
 without waiting k w rest = set waiting k (record { port = w.port; records = rest })
 
 -- a record within the limit that is the first of what waits goes: it is the next in the merge, and settled
 abbrev pub SettledRecordsGo : Type 0
-SettledRecordsGo = (streams : List Stream) (given : List Arrival) (waiting : List Capture) (k : ℕ) (w : Capture) (r : Entry) (rest : List Entry)
+SettledRecordsGo = (streams : List Stream) (given : List Arrival) (waiting : List Capture) (k : ℕ) (w : Capture) (r : Record) (rest : List Record)
     → Ascend (ports_of (captures_of streams)) → AllRise waiting → slice_get waiting k ≡ Some w → w.records ≡ r ∷ rest → ComesFirst r.stamp k waiting
     → IsWithin (limit streams) (record { port = w.port; frame = r }) → IsSettling streams given waiting
     → IsSettling streams (given ++ record { port = w.port; frame = r } ∷ []) (without waiting k w rest)

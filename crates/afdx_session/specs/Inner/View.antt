@@ -2,7 +2,7 @@
 use Rattle.std.specs.Prelude.{ℕ, ◌+◌, ◌<◌, ◌≤◌, ◌≡◌, ◌^◌, ◌==◌, Bool, true, false, if◌then◌else◌, List, [], ◌∷◌, ◌++◌, length, map, take, drop, set, position, slice_get, Option, Some, None}
 use Rattle.std.specs.List.{AllByRecursion}
 use Rattle.std.specs.declared.collections.VecDeque.{VecDeque}
-use Rattle.afdx_pcap.specs.Entry.{Entry}
+use Rattle.afdx_pcap.specs.Record.{Record}
 use Rattle.afdx_pcap.specs.Text.{header_text}
 use Rattle.afdx_pcap.specs.Capture.{IsCapture}
 use Rattle.afdx_table.specs.declared.rows.PortRow.{PortRow}
@@ -122,7 +122,7 @@ pub record IsEnded {Z : Type 0} (old new : List (Lane Z)) (place : ℕ) : Type 0
   pub lane : Lane Z
   pub at : slice_get old place ≡ Some lane
   pub intakes : intakes_of new ≡ set (intakes_of old) place (ended (intake_of lane))
-  pub records : List Entry
+  pub records : List Record
   pub capture : IsCapture (intake_of lane).bytes records
 
 -- it did not, for this fault
@@ -141,8 +141,8 @@ pub record IsNotEnded {Z : Type 0} (old new : List (Lane Z)) (place : ℕ) (faul
 -- the first record that waits went from the lane at a place
 pub record HasGone {Z : Type 0} (old new : List (Lane Z)) (place : ℕ) : Type 0 where
   pub lane : Lane Z
-  pub frame : Entry
-  pub rest : VecDeque Entry Z
+  pub frame : Record
+  pub rest : VecDeque Record Z
   pub at : slice_get old place ≡ Some lane
   pub head : lane.waiting.items ≡ frame ∷ rest.items
   pub lanes : new ≡ set old place (with_waiting rest lane)

@@ -6,14 +6,12 @@ use Rattle.toml.specs.Data.{Data, integer, string, array, table, Items, no_items
 use Rattle.afdx_units.specs.Time.{bag_ms}
 use Rattle.afdx_units.specs.declared.line.Speed.{Speed}
 use Rattle.afdx_units.specs.declared.line.Speed.TheVariants.{Ten, Hundred, Thousand}
-use Rattle.afdx_units.specs.declared.line.Priority.{Priority}
-use Rattle.afdx_units.specs.declared.line.Priority.TheVariants.{High, Low}
 use Rattle.afdx_units.specs.declared.police.Police.{Police}
 use Rattle.afdx_units.specs.declared.police.Police.TheVariants.{Byte, Frame}
 use Rattle.afdx_table.specs.declared.fault.Key.{Key}
 use Rattle.afdx_table.specs.declared.fault.Key.TheVariants as key
 use Rattle.afdx_table.specs.declared.rows.PortRow.{PortRow}
-use Rattle.afdx_table.specs.Names.{key_text}
+use Rattle.afdx_table.specs.Names.{key_text, priority_text}
 use Rattle.afdx_table.specs.Fields.{are_known}
 use Rattle.afdx_table.specs.Link.{Link}
 use Rattle.afdx_table.specs.Content.{Content}
@@ -66,11 +64,6 @@ abbrev pub HasSpeed : ℕ → Speed → Type 0
 HasSpeed version Ten = Unit {0}
 HasSpeed version Hundred = Unit {0}
 HasSpeed version Thousand = 3 ≤ version
-
--- profile: the names of the priorities
-abbrev pub priority_text : Priority → List ℕ
-priority_text High = codes "high"
-priority_text Low = codes "low"
 
 -- the port that these members give, whose delay is written in microseconds and kept in nanoseconds
 pub record IsPortOf (version : ℕ) (ms : Members) (p : PortRow) : Type 0 where

@@ -1,8 +1,7 @@
 -- What holds of the events of a port, and of the ports that refused a copy.
-use Rattle.std.specs.Prelude.{◌≡◌, ℕ, Bool, true, false, List, ◌∷◌, ◌++◌, map, filter}
+use Rattle.std.specs.Prelude.{◌≡◌, ℕ, true, false, List, ◌∷◌, ◌++◌, map, filter}
 use Rattle.afdx_port.specs.declared.Offer.{Offer}
-use Rattle.afdx_port.specs.declared.Offer.TheVariants.{Queued, Full}
-use Rattle.afdx_port.specs.Content.{Content, done}
+use Rattle.afdx_port.specs.Content.{Content, done, is_full}
 use Rattle.afdx_core.specs.declared.step.Row.{Row}
 use Rattle.afdx_core.specs.Rows.{named}
 use Rattle.afdx_core.specs.State.{Run, offers_of}
@@ -12,10 +11,6 @@ use Rattle.afdx_trace.specs.Departures.{AreInOrder}
 -- what a port has carried out is in order of its instants: where a copy is discarded at the instant at which another is sent, it comes first
 abbrev pub EventsAreInOrder : Type 0
 EventsAreInOrder = (c : Content) → AreInOrder (done c)
-
-abbrev pub is_full : Offer → Bool
-is_full Queued = false
-is_full Full = true
 
 -- the ports that answered Full, of the answers of some ports
 abbrev pub full_ports : List (ℕ × Offer) → List ℕ

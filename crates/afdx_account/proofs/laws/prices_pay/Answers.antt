@@ -1,10 +1,4 @@
-use Rattle.std.proofs.Common.{ℕ, ◌*◌, ◌≤◌}
-use Rattle.afdx_units.specs.declared.bag.Bag.{Bag}
-use Rattle.afdx_units.specs.declared.line.Speed.{Speed}
-use Rattle.afdx_units.specs.declared.police.Police.{Police}
 use Rattle.afdx_units.specs.declared.police.Police.TheVariants.{Byte, Frame}
-use Rattle.afdx_units.specs.Line.{cost_of}
-use Rattle.afdx_account.specs.Policing.{terms_by, weight_by}
 use Rattle.afdx_account.specs.Inner.Laws.{PricesPay}
 use Rattle.afdx_account.specs.Inner.MeterLaws.{pays_for, frame_pays_for}
 use Rattle.afdx_account.proofs.laws.prices_pay.Goals as goal

@@ -1,6 +1,6 @@
 use Rattle.std.proofs.Common.{◌≡◌, map, take}
-use Rattle.afdx_core.specs.OutputPorts.{seen}
-use Rattle.afdx_core.specs.Engine.{fresh_out}
+use Rattle.afdx_core.specs.Inner.OutputPorts.{seen}
+use Rattle.afdx_core.specs.Inner.Engine.{fresh_out}
 use Rattle.afdx_core.proofs.engine.output_ports_of.Given as goal
 
 abbrev pub invariant-loop-row : goal.invariant-loop-row

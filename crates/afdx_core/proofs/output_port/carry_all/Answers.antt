@@ -1,11 +1,9 @@
-use Rattle.std.proofs.Common.{rules, ◌+◌, ◌<◌, ◌≤◌, ◌≡◌, ℕ, true, false, All, length, get_or, refl, arith, ap, sym, ◌∙◌, subst}
+use Rattle.std.proofs.Common.{rules, ◌+◌, ◌<◌, ◌≡◌, true, false, All, length, get_or, refl, arith, ap, ◌∙◌, subst}
 use Rattle.afdx_port.specs.Content.{due}
 use Rattle.afdx_port.specs.Course.{starts_before}
-use Rattle.afdx_core.specs.declared.output_port.OutputPort.{OutputPort}
-use Rattle.afdx_core.specs.OutputPorts.{Out, seen}
-use Rattle.afdx_core.specs.Inner.OutputPorts.{CanCarry, carried_due}
-use Rattle.afdx_core.specs.Copies.{newly_aged}
-use Rattle.afdx_core.specs.Dues.{IsFirstBefore}
+use Rattle.afdx_core.specs.Inner.OutputPorts.{Out, seen}
+use Rattle.afdx_core.specs.Inner.Copies.{newly_aged}
+use Rattle.afdx_core.specs.Inner.Dues.{IsFirstBefore}
 use Rattle.afdx_core.proofs.Outs.{more_room}
 use Rattle.afdx_core.proofs.Counts.{thinned_none, thinned_step, one_of, due_copies, holds_step, carried_yes}
 use Rattle.afdx_core.proofs.Walk.{way_start, way_step, way_end, within_dues, is_due_first, dues_set, latency_still, can_still, smaller}

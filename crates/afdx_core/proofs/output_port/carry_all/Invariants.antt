@@ -1,7 +1,6 @@
 use Rattle.std.proofs.Common.{◌≡◌, ◌+◌, ◌≤◌, ℕ, All, get_or}
-use Rattle.afdx_core.specs.OutputPorts.{dues_of}
-use Rattle.afdx_core.specs.Inner.OutputPorts.{CanCarry}
-use Rattle.afdx_core.specs.Copies.{HoldsCopies, Thinned}
+use Rattle.afdx_core.specs.Inner.OutputPorts.{dues_of, CanCarry}
+use Rattle.afdx_core.specs.Inner.Copies.{HoldsCopies, Thinned}
 use Rattle.afdx_core.specs.declared.output_port.OutputPort.{OutputPort}
 use Rattle.afdx_core.proofs.Walk.{OnTheWay, lates}
 use Rattle.afdx_core.proofs.output_port.carry_all.Given as goal

@@ -1,5 +1,5 @@
 use Rattle.std.proofs.Common.{◌≡◌, map, take}
-use Rattle.afdx_core.specs.Copies.{Discards}
+use Rattle.afdx_core.specs.Inner.Copies.{Discards}
 use Rattle.afdx_port.specs.declared.Aged.{Aged}
 use Rattle.afdx_core.proofs.output_port.discard_all.Given as goal
 

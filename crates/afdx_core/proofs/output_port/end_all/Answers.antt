@@ -1,8 +1,7 @@
 use Rattle.std.proofs.Common.{◌<◌, length, get_or, arith}
 use Rattle.afdx_core.specs.declared.output_port.OutputPort.{OutputPort}
-use Rattle.afdx_core.specs.OutputPorts.{IsCounted}
-use Rattle.afdx_core.specs.Inner.OutputPorts.{ended}
-use Rattle.afdx_core.specs.Copies.{newly_aged}
+use Rattle.afdx_core.specs.Inner.OutputPorts.{IsCounted, ended}
+use Rattle.afdx_core.specs.Inner.Copies.{newly_aged}
 use Rattle.afdx_core.proofs.Outs.{became_start, became_step, became_whole, all_at}
 use Rattle.afdx_core.proofs.Counts.{thinned_none, thinned_step, one_of, end_copies, holds_step}
 use Rattle.afdx_core.proofs.output_port.end_all.Goals as goal

@@ -1,5 +1,5 @@
 use Rattle.afdx_core.specs.Inner.OutputPorts.{ended}
-use Rattle.afdx_core.specs.Copies.{HoldsCopies, Thinned}
+use Rattle.afdx_core.specs.Inner.Copies.{HoldsCopies, Thinned}
 use Rattle.afdx_core.proofs.Outs.{BecameUpTo}
 use Rattle.afdx_core.proofs.output_port.end_all.Given as goal
 

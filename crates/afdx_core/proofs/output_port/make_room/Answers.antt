@@ -1,6 +1,6 @@
-use Rattle.std.proofs.Common.{◌≡◌, ◌<◌, ◌≤◌, ℕ, List, length, take, subst, arith}
+use Rattle.std.proofs.Common.{ℕ, List, subst, arith}
 use Rattle.std.proofs.lemmas.List.{take_all}
-use Rattle.afdx_core.specs.OutputPorts.{Out}
+use Rattle.afdx_core.specs.Inner.OutputPorts.{Out}
 use Rattle.afdx_core.proofs.Outs.{became_then}
 use Rattle.afdx_core.proofs.Keeping.{became_self}
 use Rattle.afdx_core.proofs.Rooms.{HaveRoomFor, room_none, room_next, places_same, once_same}

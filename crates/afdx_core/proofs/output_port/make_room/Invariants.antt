@@ -1,6 +1,5 @@
 use Rattle.std.proofs.Common.{take}
-use Rattle.afdx_core.specs.OutputPorts.{Out}
-use Rattle.afdx_core.specs.Inner.OutputPorts.{Became}
+use Rattle.afdx_core.specs.Inner.OutputPorts.{Out, Became}
 use Rattle.afdx_core.proofs.Rooms.{HaveRoomFor}
 use Rattle.afdx_core.proofs.output_port.make_room.Given as goal
 

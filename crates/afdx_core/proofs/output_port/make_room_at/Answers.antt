@@ -1,11 +1,9 @@
-use Rattle.std.proofs.Common.{rules, ◌≡◌, ◌<◌, ◌≤◌, ℕ, Some, None, List, length, get_or, true, refl, ap, sym, ◌∙◌, arith, subst}
+use Rattle.std.proofs.Common.{rules, ◌<◌, Some, None, length, get_or, ap, sym, ◌∙◌, arith}
 use Rattle.std.specs.Prelude.{OnOk, Result, Ok, Err}
 use Rattle.afdx_port.specs.Content.{Content}
-use Rattle.afdx_core.specs.declared.output_port.OutputPort.{OutputPort}
-use Rattle.afdx_core.specs.OutputPorts.{Out}
+use Rattle.afdx_core.specs.Inner.OutputPorts.{Out}
 use Rattle.afdx_core.proofs.Outs.{more_room}
 use Rattle.afdx_core.proofs.Calls.{position_within}
-use Rattle.afdx_core.proofs.Keeping.{became_self}
 use Rattle.afdx_core.proofs.Offers.{is_port, place_at, none_of_position, found_none}
 use Rattle.afdx_core.proofs.Rooms.{became_set, room_set}
 use Rattle.afdx_core.proofs.output_port.make_room_at.Goals as goal

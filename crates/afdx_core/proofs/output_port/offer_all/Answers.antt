@@ -3,7 +3,7 @@ use Rattle.std.proofs.lemmas.List.{map_more}
 use Rattle.afdx_port.specs.declared.Offer.{Offer}
 use Rattle.afdx_port.specs.declared.Offer.TheVariants.{Full, Queued}
 use Rattle.afdx_core.specs.Inner.OutputPorts.{answer_at, queued_by}
-use Rattle.afdx_core.specs.Copies.{AddsCopies}
+use Rattle.afdx_core.specs.Inner.Copies.{AddsCopies}
 use Rattle.afdx_core.proofs.Offers.{touched_none, adds_none, can_next, once_still, became_next, later_next, answer_same, adds_next, not_before, places_touched}
 use Rattle.afdx_core.proofs.output_port.offer_all.Goals as goal
 

@@ -1,8 +1,7 @@
 use Rattle.std.proofs.Common.{◌≡◌, ℕ, ◌+◌, ◌-◌, ◌≤◌, ◌++◌, length, map, vec_len, take}
 use Rattle.std.specs.Vec.{vec_capacity}
-use Rattle.afdx_core.specs.OutputPorts.{dues_of}
-use Rattle.afdx_core.specs.Inner.OutputPorts.{Became, touched, answer_at}
-use Rattle.afdx_core.specs.Copies.{AddsCopies}
+use Rattle.afdx_core.specs.Inner.OutputPorts.{dues_of, Became, touched, answer_at}
+use Rattle.afdx_core.specs.Inner.Copies.{AddsCopies}
 use Rattle.afdx_core.proofs.Offers.{Later}
 use Rattle.afdx_core.proofs.output_port.offer_all.Given as goal
 

@@ -2,8 +2,7 @@ use Rattle.std.proofs.Common.{refl, ap, get_or, ◌∙◌}
 use Rattle.std.proofs.lemmas.List.{get_or_default}
 use Rattle.afdx_port.specs.Content.{Content}
 use Rattle.afdx_core.specs.declared.output_port.OutputPort.{OutputPort}
-use Rattle.afdx_core.specs.OutputPorts.{Out, seen}
-use Rattle.afdx_core.specs.Inner.OutputPorts.{offered_to}
+use Rattle.afdx_core.specs.Inner.OutputPorts.{Out, seen, offered_to}
 use Rattle.afdx_core.proofs.Walk.{dues_set}
 use Rattle.afdx_core.proofs.output_port.offer_place.Goals as goal
 

@@ -1,7 +1,7 @@
-use Rattle.std.proofs.Common.{◌≡◌, ℕ, ◌+◌, ◌*◌, ◌^◌, ◌<◌, ◌≤◌, subst, sym, ap, ◌∙◌, arith}
+use Rattle.std.proofs.Common.{ℕ, ◌*◌, ◌^◌, ◌≤◌, subst, sym, ap, ◌∙◌}
 use Rattle.afdx_account.specs.Policing.{Terms}
 use Rattle.afdx_table.specs.Link.{Link}
-use Rattle.afdx_load.specs.Sums.{rate_of, burst_of, terms_of, weight_of}
+use Rattle.afdx_load.specs.Load.{terms_of, weight_of}
 use Rattle.afdx_load.proofs.ShareLemmas.{times, rate_is, burst_is, rate_small, burst_small}
 use Rattle.afdx_load.proofs.share.share_of.Goals as goal
 

@@ -6,7 +6,8 @@ use Rattle.std.specs.Prelude.{List}
 use Rattle.afdx_wiring.specs.declared.layout.Wire.{Wire}
 use Rattle.afdx_wiring.specs.File.{Layout}
 use Rattle.afdx_network.specs.Inner.Sites.{Site, Agrees}
-use Rattle.afdx_network.proofs.Stepping.{one_more_has, all_taken, ends_are_wired, have_run}
+use Rattle.afdx_network.proofs.Stepping.{one_more_has, ends_are_wired, have_run}
+use Rattle.afdx_network.proofs.Refusing.{all_taken}
 use Rattle.afdx_network.proofs.rounds.rests.Goals as goal
 
 abbrev no_wire : Wire
@@ -37,4 +38,4 @@ returns-clause-ok c = λ yes.
     let past : length wires ≤ i = search rules in
     let same = c.as_slice-wires.ensures.value ∙ ap (λ (l : Layout). l.wires) (c.behind-network.view_is ∙ c.layout.ensures.layout) in
     let each = all_from_yields_List (λ (s : Site). is_some s.outcome) _ _ c.all.result c.all.ensures.ran (YieldsList-from_slice sites cc) (λ x b q k. search (rules, tests)) in
-    (have_run sites (sym each ∙ yes), rw same at (all_taken (Agrees sites) wires i c.loop-wire.invariant past))
+    (have_run sites (sym each ∙ yes), rw same at (all_taken (Agrees sites) wires i past c.loop-wire.invariant))

@@ -1,6 +1,6 @@
 use Rattle.std.proofs.Common.{◌≡◌, ◌++◌, take}
 use Rattle.std.specs.List.{flat_map, All}
-use Rattle.afdx_pcap.specs.Entry.{IsWithinLimit}
+use Rattle.afdx_pcap.specs.Record.{IsWithinLimit}
 use Rattle.afdx_pcap.specs.Text.{header_text, record_text}
 use Rattle.afdx_pcap.proofs.writing.write_all.Given as goal
 

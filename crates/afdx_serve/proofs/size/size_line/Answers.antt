@@ -1,6 +1,6 @@
 use Rattle.std.proofs.Common.{ℕ, List, ◌++◌, ap, ◌∙◌}
 use Rattle.afdx_load.specs.Fits.{broken_rules}
-use Rattle.afdx_lines.specs.Lines.{ended}
+use Rattle.afdx_wiring.specs.Lines.{ended}
 use Rattle.afdx_serve.specs.Sizes.{verdict_text, delays_text}
 use Rattle.afdx_serve.proofs.size.size_line.Goals as goal
 

@@ -1,5 +1,5 @@
 use Rattle.std.proofs.Common.{List, subst}
-use Rattle.afdx_pcap.specs.Entry.{Entry}
+use Rattle.afdx_pcap.specs.Record.{Record}
 use Rattle.afdx_pcap.specs.Capture.{IsCapture}
 use Rattle.afdx_pcap.specs.Fault.{IsFault}
 use Rattle.afdx_session.specs.Texts.{texts_of}
@@ -19,7 +19,7 @@ loop-port-preserved g c =
     let sound = rw c.in_default.is at c.check_text.ensures.ok in
     sound_more c.loop-port.port-index (texts_of c.args.captures.now) (pair.0, pair.1.items) c.loop-port.invariant
     (text_read c.args.captures.now c.loop-port.port-index pair c.loop-port-test.true c.loop-port-item.is)
-    (subst (λ xs. (records : List Entry) × IsCapture xs records) c.deref.ensures.value sound)
+    (subst (λ xs. (records : List Record) × IsCapture xs records) c.deref.ensures.value sound)
 
 pub returns-clause-ok : goal.returns-clause-ok
 returns-clause-ok g c = sound_all c.loop-port.port-index c.args.captures.now c.loop-port-test.false c.loop-port.invariant

@@ -2,17 +2,17 @@ use Rattle.std.proofs.Common.{List, [], ◌++◌, take, string_bytes, sym, ap, �
 use Rattle.afdx_core.specs.declared.step.Row.{Row}
 use Rattle.afdx_core.specs.Rows.{each_after}
 use Rattle.afdx_trace.specs.Arrivals.{arrivals_heading, arrival_line}
-use Rattle.afdx_trace.specs.Inner.Telling.{Tells}
-use Rattle.afdx_trace.proofs.Fated.{tells_later, take_next, comes_next, reported_next, reported_all}
+use Rattle.afdx_trace.specs.Inner.Tracing.{Traces}
+use Rattle.afdx_trace.proofs.Fated.{traces_later, take_next, comes_next, reported_next, reported_all}
 use Rattle.afdx_trace.proofs.arrival_lines.arrivals.Goals as goal
 
-pub tell-requires-clause-tells : goal.tell-requires-clause-tells
-tell-requires-clause-tells g c =
+pub trace-requires-clause-traces : goal.trace-requires-clause-traces
+trace-requires-clause-traces g c =
     let i = c.loop-number.invariant in
     let rows = c.rows-rows.result.now in
     let n = c.loop-number.number in
     let x = c.index-rows-number.result in
-    tells_later c.args.done.now.run (take n rows) i.0 x.stamp c.loop-number.teller
+    traces_later c.args.done.now.run (take n rows) i.0 x.stamp c.loop-number.tracer
     (comes_next rows n x i.0 c.loop-number-test.true c.index-rows-number.is i.2).0 i.1
 
 pub loop-number-preserved : goal.loop-number-preserved
@@ -25,10 +25,10 @@ loop-number-preserved g c =
     let lt = c.loop-number-test.true in
     let is = c.index-rows-number.is in (
       x.stamp,
-      subst (λ (before : List Row). Tells r before x.stamp c.tell.new.self) (sym (take_next rows n x lt is)) c.in_ok-tell.ensures.tells,
+      subst (λ (before : List Row). Traces r before x.stamp c.trace.new.self) (sym (take_next rows n x lt is)) c.in_ok-trace.ensures.traces,
       (comes_next rows n x i.0 lt is i.2).1,
       reported_next (arrival_line r) rows n x (arrivals_heading ++ each_after (arrival_line r) [] rows) (string_bytes c.loop-number.text)
-          (string_bytes c.tell.new.text) lt is i.3 c.in_ok-tell.ensures.text,
+          (string_bytes c.trace.new.text) lt is i.3 c.in_ok-trace.ensures.text,
     )
 
 pub returns : goal.returns

@@ -1,4 +1,4 @@
-use Rattle.std.proofs.Common.{◌≡◌, ◌<◌, List, length, slice_index_or, Some, sym, subst, rules}
+use Rattle.std.proofs.Common.{◌≡◌, ◌<◌, List, length, slice_index_or, Some, subst, rules}
 use Rattle.std.specs.Prelude.{Contains}
 use Rattle.std.proofs.lemmas.List.Elements.{Contains-get_or}
 use Rattle.afdx_units.specs.declared.line.Speed.TheVariants.{Ten}

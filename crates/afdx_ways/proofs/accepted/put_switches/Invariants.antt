@@ -1,6 +1,6 @@
 use Rattle.std.proofs.Common.{◌≡◌, ◌++◌, List, ℕ, codes, drop, map, string_bytes}
 use Rattle.std.specs.Prelude.{flat_map}
-use Rattle.afdx_ways.specs.Lines.{ended}
+use Rattle.afdx_wiring.specs.Lines.{ended}
 use Rattle.afdx_ways.proofs.accepted.put_switches.Given as goal
 
 abbrev pub invariant-loop-name : goal.invariant-loop-name

@@ -1,7 +1,8 @@
 use Rattle.std.proofs.Common.{◌≡◌, ◌++◌, drop, map, string_bytes}
 use Rattle.std.specs.Prelude.{flat_map}
 use Rattle.afdx_wiring.specs.declared.ways.Way.{Way}
-use Rattle.afdx_ways.specs.Lines.{ended, way_text}
+use Rattle.afdx_wiring.specs.Lines.{ended}
+use Rattle.afdx_ways.specs.Lines.{way_text}
 use Rattle.afdx_ways.proofs.accepted.put_ways.Given as goal
 
 abbrev pub invariant-loop-way : goal.invariant-loop-way

@@ -1,6 +1,6 @@
 use Rattle.std.proofs.Common.{◌≡◌, ℕ, ◌+◌, ◌-◌, List, get_or, Option, All, false, ap, ◌∙◌, subst, arith}
 use Rattle.afdx_port.specs.Course.{starts_before}
-use Rattle.afdx_core.specs.Dues.{IsFirstBefore}
+use Rattle.afdx_core.specs.Inner.Dues.{IsFirstBefore}
 use Rattle.afdx_core.proofs.DueTrees.{none_before, first_before, stands_right}
 use Rattle.afdx_core.proofs.dues.Dues.first_before.Goals as goal
 

@@ -1,6 +1,5 @@
-use Rattle.std.proofs.Common.{◌≡◌, ◌≢◌, ℕ, ◌+◌, ◌/◌, ◌<◌, List, length, set, Option, ap, ◌∙◌, sym, refl, arith}
+use Rattle.std.proofs.Common.{◌≢◌, ℕ, ◌+◌, ◌/◌, ◌<◌, List, set, Option, ap, ◌∙◌, refl, arith}
 use Rattle.std.proofs.lemmas.List.{length-set}
-use Rattle.afdx_core.specs.Dues.{reported}
 use Rattle.afdx_core.proofs.DueTrees.{leaf_written, node_written, node_stays, leaves_kept, reported_written, tree_written, place_within}
 use Rattle.afdx_core.proofs.dues.Dues.set.Goals as goal
 

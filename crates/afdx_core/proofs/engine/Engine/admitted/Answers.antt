@@ -1,7 +1,7 @@
 use Rattle.std.proofs.Common.{◌≡◌, ◌==◌, Some, None, option_copied, find, ap, sym, ◌∙◌}
 use Rattle.afdx_core.specs.declared.output_port.OutputPort.{OutputPort}
 use Rattle.afdx_core.specs.State.{admitted_in}
-use Rattle.afdx_core.specs.Engine.{run_of}
+use Rattle.afdx_core.specs.Inner.Engine.{run_of}
 use Rattle.afdx_core.proofs.Calls.{port_found, follow_found}
 use Rattle.afdx_core.proofs.engine.Engine.admitted.Goals as goal
 

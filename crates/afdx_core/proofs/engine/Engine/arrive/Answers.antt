@@ -1,6 +1,6 @@
 use Rattle.std.proofs.Common.{ap, sym, ◌∙◌, subst}
 use Rattle.afdx_core.specs.declared.step.Row.{Row}
-use Rattle.afdx_core.specs.Engine.{IsSized}
+use Rattle.afdx_core.specs.Inner.Engine.{IsSized}
 use Rattle.afdx_core.proofs.Steps.{no_place}
 use Rattle.afdx_core.proofs.Calls.{sized_at}
 use Rattle.afdx_core.proofs.engine.Engine.arrive.Goals as goal

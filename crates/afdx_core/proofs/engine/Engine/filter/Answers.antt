@@ -1,7 +1,7 @@
 use Rattle.std.proofs.Common.{subst}
 use Rattle.afdx_core.specs.State.{State}
 use Rattle.afdx_core.specs.Held.{IsTaken}
-use Rattle.afdx_core.specs.Engine.{state_of}
+use Rattle.afdx_core.specs.Inner.Engine.{state_of}
 use Rattle.afdx_core.proofs.engine.Engine.filter.Goals as goal
 
 pub returns-in-Ok-clause-ok : goal.returns-in-Ok-clause-ok

@@ -1,11 +1,10 @@
-use Rattle.std.proofs.Common.{◌≡◌, ◌≤◌, ℕ, length, map, drop, List, ap, ap₂, sym, ◌∙◌, subst, arith}
+use Rattle.std.proofs.Common.{◌≡◌, length, map, drop, List, ap, ap₂, sym, ◌∙◌, subst, arith}
 use Rattle.afdx_port.specs.declared.Aged.{Aged}
 use Rattle.afdx_port.specs.declared.Item.{Item}
 use Rattle.afdx_port.specs.Service.{aged_of}
 use Rattle.afdx_port.specs.Content.{Content, done, advanced}
-use Rattle.afdx_store.specs.Seen.{copies_of}
-use Rattle.afdx_core.specs.OutputPorts.{Out}
-use Rattle.afdx_core.specs.Copies.{copies_at, newly_aged, Enough}
+use Rattle.afdx_core.specs.Inner.OutputPorts.{Out}
+use Rattle.afdx_core.specs.Inner.Copies.{copies_at, newly_aged, Enough}
 use Rattle.afdx_core.proofs.Copies.{aged_longer}
 use Rattle.afdx_core.proofs.Counts.{advanced_copies, enough_one}
 use Rattle.afdx_core.proofs.output_port.OutputPort.carry.Goals as goal

@@ -3,7 +3,7 @@ use Rattle.afdx_port.specs.declared.Aged.{Aged}
 use Rattle.afdx_port.specs.declared.Item.{Item}
 use Rattle.afdx_port.specs.Service.{aged_of}
 use Rattle.afdx_port.specs.Content.{Content, done, closed}
-use Rattle.afdx_core.specs.Copies.{copies_at, newly_aged, Enough}
+use Rattle.afdx_core.specs.Inner.Copies.{copies_at, newly_aged, Enough}
 use Rattle.afdx_core.proofs.Copies.{aged_longer}
 use Rattle.afdx_core.proofs.Counts.{closed_copies, enough_one}
 use Rattle.afdx_core.proofs.output_port.OutputPort.end.Goals as goal

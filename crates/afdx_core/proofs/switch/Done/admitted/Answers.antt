@@ -1,7 +1,7 @@
 use Rattle.std.proofs.Common.{sym, subst}
 use Rattle.std.specs.Prelude.{AllPairs, ◌≤◌}
 use Rattle.afdx_table.specs.Content.{port_row}
-use Rattle.afdx_core.specs.Engine.{run_of}
+use Rattle.afdx_core.specs.Inner.Engine.{run_of}
 use Rattle.afdx_core.proofs.Ordered.{admitted_rise}
 use Rattle.afdx_core.proofs.switch.Done.admitted.Goals as goal
 

@@ -1,4 +1,4 @@
-use Rattle.afdx_core.specs.Engine.{state_of}
+use Rattle.afdx_core.specs.Inner.Engine.{state_of}
 use Rattle.afdx_core.proofs.Runs.{appended_run}
 use Rattle.afdx_core.proofs.switch.Done.next_out_into.Goals as goal
 

@@ -1,4 +1,4 @@
-use Rattle.afdx_core.specs.Engine.{run_of}
+use Rattle.afdx_core.specs.Inner.Engine.{run_of}
 use Rattle.afdx_core.proofs.Runs.{advanced_run}
 use Rattle.afdx_core.proofs.switch.Switch.advance.Goals as goal
 

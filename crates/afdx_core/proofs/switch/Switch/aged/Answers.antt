@@ -1,6 +1,6 @@
 use Rattle.std.proofs.Common.{ap, ◌∙◌}
 use Rattle.afdx_core.specs.State.{State}
-use Rattle.afdx_core.specs.Engine.{run_of}
+use Rattle.afdx_core.specs.Inner.Engine.{run_of}
 use Rattle.afdx_core.proofs.Runs.{none_aged}
 use Rattle.afdx_core.proofs.switch.Switch.aged.Goals as goal
 

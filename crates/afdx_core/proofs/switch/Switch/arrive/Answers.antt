@@ -1,6 +1,6 @@
 use Rattle.std.proofs.Common.{ap, ◌∙◌}
 use Rattle.afdx_core.specs.State.{State}
-use Rattle.afdx_core.specs.Engine.{state_of}
+use Rattle.afdx_core.specs.Inner.Engine.{state_of}
 use Rattle.afdx_core.proofs.Runs.{arrived_run, answered}
 use Rattle.afdx_core.proofs.switch.Switch.arrive.Goals as goal
 

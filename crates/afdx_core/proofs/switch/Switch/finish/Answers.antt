@@ -2,7 +2,7 @@ use Rattle.std.proofs.Common.{sym, ap, subst, ◌∙◌}
 use Rattle.afdx_table.specs.WellFormed.{IsWellFormed}
 use Rattle.afdx_load.specs.Accepted.{IsAccepted}
 use Rattle.afdx_core.specs.State.{Run, State}
-use Rattle.afdx_core.specs.Engine.{run_of}
+use Rattle.afdx_core.specs.Inner.Engine.{run_of}
 use Rattle.afdx_core.specs.Isolation.{IsRun}
 use Rattle.afdx_core.proofs.Runs.{finished}
 use Rattle.afdx_core.proofs.switch.Switch.finish.Goals as goal

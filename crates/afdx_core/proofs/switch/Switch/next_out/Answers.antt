@@ -1,7 +1,7 @@
 use Rattle.std.proofs.Common.{IfOk, subst, ◌∙◌}
 use Rattle.afdx_core.specs.State.{State}
 use Rattle.afdx_core.specs.Held.{IsNext}
-use Rattle.afdx_core.specs.Engine.{state_of}
+use Rattle.afdx_core.specs.Inner.Engine.{state_of}
 use Rattle.afdx_core.proofs.Runs.{handed_run}
 use Rattle.afdx_core.proofs.switch.Switch.next_out.Goals as goal
 

@@ -1,5 +1,5 @@
 use Rattle.std.proofs.Common.{◌∙◌}
-use Rattle.afdx_core.specs.Engine.{state_of}
+use Rattle.afdx_core.specs.Inner.Engine.{state_of}
 use Rattle.afdx_core.proofs.Runs.{appended_run}
 use Rattle.afdx_core.proofs.switch.Switch.next_out_into.Goals as goal
 

@@ -1,5 +1,4 @@
-use Rattle.std.proofs.Common.{◌≡◌, ap, option_map, sym}
-use Rattle.afdx_units.specs.declared.line.Priority.{Priority}
+use Rattle.std.proofs.Common.{ap, option_map}
 use Rattle.afdx_count.specs.declared.link_tallies.LinkTally.{LinkTally}
 use Rattle.afdx_count.specs.Tally.{one_passed}
 use Rattle.afdx_count.proofs.Placed.{changed_in, unchanged, still_numbered, found_in, not_found}

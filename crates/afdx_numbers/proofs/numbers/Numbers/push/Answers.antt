@@ -1,6 +1,6 @@
 use Rattle.std.proofs.Common.{◌≡◌, ℕ, nat_eq, List, [], ◌∷◌, ◌++◌, length, set, sym, ap, ◌∙◌, subst, arith}
 use Rattle.std.specs.List.{list_any}
-use Rattle.afdx_numbers.specs.Places.{ArePlaces}
+use Rattle.afdx_numbers.specs.Inner.Places.{ArePlaces}
 use Rattle.afdx_numbers.proofs.PlaceLemmas.{has_place, places-push}
 use Rattle.afdx_numbers.proofs.numbers.Numbers.push.Goals as goal
 

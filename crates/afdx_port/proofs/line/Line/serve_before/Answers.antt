@@ -1,7 +1,4 @@
-use Rattle.std.proofs.Common.{◌≡◌, ℕ, ◌<◌, ◌≤◌, false, List, [], ◌∷◌, ◌++◌, length, arith}
-use Rattle.afdx_port.specs.declared.Item.{Item}
-use Rattle.afdx_port.specs.Course.{starts_before}
-use Rattle.afdx_port.specs.Inner.Course.{first_start}
+use Rattle.std.proofs.Common.{arith}
 use Rattle.afdx_port.proofs.Course.{waits_from}
 use Rattle.afdx_port.proofs.line.Line.serve_before.Goals as goal
 

@@ -1,6 +1,6 @@
 use Rattle.std.proofs.Common.{arith, refl, sym, true, ◌∙◌}
+use Rattle.std.proofs.lemmas.Bool.{both_ways}
 use Rattle.afdx_session.proofs.Rounds.{same_both}
-use Rattle.afdx_session.proofs.Lending.{not_both}
 use Rattle.afdx_session.proofs.Carrying.{one_fewer}
 use Rattle.afdx_session.proofs.machine.Machine.carry_all.Goals as goal
 
@@ -43,4 +43,4 @@ loop-given-smaller-then-given-eq-RECORDS_BETWEEN_DRAINS g c =
 pub returns-clause-ok : goal.returns-clause-ok
 returns-clause-ok g c =
     let on = rw c.if-branch.false at c.in_ok-carry_one.ensures.ok in
-    record { carrying = on.carrying; texts = on.texts ∙ c.loop-given.invariant.texts; fewer = λ more. absurd (not_both true refl (sym more)); all = on.all }
+    record { carrying = on.carrying; texts = on.texts ∙ c.loop-given.invariant.texts; fewer = λ more. absurd (both_ways true (sym more) refl); all = on.all }

@@ -1,7 +1,7 @@
-use Rattle.std.proofs.Common.{zero, refl, ◌+◌, ◌≡◌, ◌≢◌, ◌<◌, ◌-◌, suc, ℕ, true, false, get_or, set, slice_index_or, is_some, None, Some, List, Option, length, ap, sym, ◌∙◌, arith, subst}
+use Rattle.std.proofs.Common.{zero, refl, ◌+◌, ◌≡◌, ◌≢◌, ◌-◌, suc, ℕ, true, get_or, set, is_some, None, Some, Option, ap, ◌∙◌, arith, subst}
 use Rattle.slab.specs.Slab.{Slab, get, slab_len, with_value, Updates}
-use Rattle.afdx_store.specs.Seen.{StoreValue, Held, one_less}
-use Rattle.afdx_store.specs.Kept.{seen_from, IsKeptStore, value_of}
+use Rattle.afdx_store.specs.Seen.{StoreValue, one_less}
+use Rattle.afdx_store.specs.Inner.Kept.{seen_from, IsKeptStore, value_of}
 use Rattle.afdx_store.specs.declared.store.Store.TheInside.{Inside}
 use Rattle.std.proofs.lemmas.List.{get_or-set_same, get_or-set_other}
 use Rattle.afdx_store.specs.declared.store.Slot.{Slot}

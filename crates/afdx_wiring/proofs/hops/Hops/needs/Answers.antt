@@ -1,9 +1,8 @@
 use Rattle.std.proofs.Common.{◌≡◌, ◌+◌, ◌++◌, ◌∙◌, ap, subst, get_or, drop, map, List}
 use Rattle.afdx_table.specs.Content.{Content}
 use Rattle.afdx_wiring.specs.declared.jitters.RowNeed.{RowNeed}
-use Rattle.afdx_wiring.specs.Net.{Network, Row}
+use Rattle.afdx_wiring.specs.Net.{Network, Row, rows_from}
 use Rattle.afdx_wiring.specs.Needs.{need_in}
-use Rattle.afdx_wiring.proofs.Chains.{rows_from}
 use Rattle.afdx_wiring.proofs.NeedLemmas.{needs_go}
 use Rattle.afdx_wiring.proofs.hops.Hops.needs.Goals as goal
 

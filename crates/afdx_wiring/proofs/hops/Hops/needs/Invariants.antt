@@ -1,7 +1,6 @@
 use Rattle.std.proofs.Common.{◌≡◌, ◌++◌, drop, map}
-use Rattle.afdx_wiring.specs.Net.{rows_of}
+use Rattle.afdx_wiring.specs.Net.{rows_from, rows_of}
 use Rattle.afdx_wiring.specs.Needs.{need_in}
-use Rattle.afdx_wiring.proofs.Chains.{rows_from}
 use Rattle.afdx_wiring.proofs.hops.Hops.needs.Given as goal
 
 abbrev pub invariant-loop-switch : goal.invariant-loop-switch

@@ -1,7 +1,6 @@
 use Rattle.std.proofs.Common.{◌≡◌, drop}
-use Rattle.afdx_wiring.specs.Net.{rows_of}
+use Rattle.afdx_wiring.specs.Net.{rows_from, rows_of}
 use Rattle.afdx_wiring.specs.Order.{first_of, has_source}
-use Rattle.afdx_wiring.proofs.Chains.{rows_from}
 use Rattle.afdx_wiring.proofs.network.Network.all_have_sources.Given as goal
 
 abbrev pub invariant-loop-switch : goal.invariant-loop-switch

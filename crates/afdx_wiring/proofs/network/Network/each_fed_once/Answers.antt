@@ -1,8 +1,8 @@
 use Rattle.std.proofs.Common.{rules, ◌≡◌, ◌+◌, ◌<◌, ◌∙◌, sym, subst, get_or, length, drop, List, []}
 use Rattle.afdx_table.specs.Content.{Content}
-use Rattle.afdx_wiring.specs.Net.{Row, rows_in, rows_of}
+use Rattle.afdx_wiring.specs.Net.{Row, rows_in, rows_from, rows_of}
 use Rattle.afdx_wiring.specs.Order.{fed_numbers, each_once}
-use Rattle.afdx_wiring.proofs.Chains.{rows_from, next_rows}
+use Rattle.afdx_wiring.proofs.Chains.{next_rows}
 use Rattle.afdx_wiring.proofs.OnceLemmas.{go_further, stop_there, gives_refusal}
 use Rattle.afdx_wiring.proofs.network.Network.each_fed_once.Goals as goal
 

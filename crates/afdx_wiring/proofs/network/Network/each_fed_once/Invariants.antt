@@ -1,7 +1,6 @@
 use Rattle.std.proofs.Common.{◌≡◌, [], drop}
-use Rattle.afdx_wiring.specs.Net.{rows_of}
+use Rattle.afdx_wiring.specs.Net.{rows_from, rows_of}
 use Rattle.afdx_wiring.specs.Order.{fed_numbers, each_once}
-use Rattle.afdx_wiring.proofs.Chains.{rows_from}
 use Rattle.afdx_wiring.proofs.network.Network.each_fed_once.Given as goal
 
 abbrev pub invariant-loop-switch : goal.invariant-loop-switch

@@ -1,0 +1,43 @@
+-- The line and the status of any failure (profile).
+use Rattle.std.specs.Prelude.{◌≡◌, ◌⊎◌, ℕ, codes, List, ◌++◌, Some, None, string_bytes}
+use Rattle.afdx_failures.specs.declared.failure.Failure.{Failure}
+use Rattle.afdx_failures.specs.declared.failure.Failure.TheVariants as failure
+use Rattle.afdx_wiring.specs.Lines.{ended}
+use Rattle.afdx_lines.specs.Lines.{table_line, capture_line, load_line, network_failure_line, network_status}
+
+abbrev pub memory_line : List ℕ
+memory_line = ended (codes "afdx: memory")
+
+abbrev pub line_of : Failure → List ℕ
+line_of failure.Usage = ended (codes "afdx: usage")
+line_of (failure.Table refusal) = table_line refusal
+line_of (failure.Load f) = load_line f
+line_of (failure.Capture f) = capture_line None f
+line_of (failure.PortCapture port f) = capture_line (Some port) f
+line_of (failure.Network f) = network_failure_line f
+line_of (failure.Get name) = ended (codes "afdx: device get " ++ string_bytes name)
+line_of (failure.Put name) = ended (codes "afdx: device put " ++ string_bytes name)
+line_of failure.Read = ended (codes "afdx: device read")
+line_of failure.Write = ended (codes "afdx: device write")
+line_of failure.Memory = memory_line
+
+abbrev pub status_of : Failure → ℕ
+status_of failure.Usage = 2
+status_of (failure.Table refusal) = 3
+status_of (failure.Capture f) = 3
+status_of (failure.PortCapture port f) = 3
+status_of (failure.Load f) = 4
+status_of (failure.Network f) = network_status f
+status_of _ = 5
+
+-- the line holds a number or a name, for which it takes memory
+abbrev pub IsMade : Failure → Type 0
+IsMade failure.Usage = ⊥
+IsMade failure.Read = ⊥
+IsMade failure.Write = ⊥
+IsMade failure.Memory = ⊥
+IsMade _ = Unit {0}
+
+-- the failure that is reported: this one; or memory, where that ran out for its line
+abbrev pub ReportsAs : Failure → Failure → Type 0
+ReportsAs f reported = (reported ≡ f) ⊎ (IsMade f × (reported ≡ failure.Memory))

@@ -1,0 +1,77 @@
+//! What is reported of a failure.
+
+ghost use Rattle.std.specs.Prelude.{◌≡◌, ◌≤◌, ◌++◌, codes, string_bytes, IfOk, MatchResult};
+ghost use Rattle.afdx_failures.specs.declared.failure.Failure.{Failure as Failing};
+ghost use Rattle.afdx_failures.specs.Reporting.{line_of, memory_line, status_of, ReportsAs};
+ghost use Rattle.afdx_wiring.specs.Lines.{ended};
+ghost use Rattle.afdx_devices.specs.Output.{AppendsPrefix};
+
+use crate::failure::Failure;
+use afdx_devices::write_bytes;
+use afdx_lines::{capture_line, load_line, network_failure_line, network_status, table_line};
+use std::alloc::{AllocError, Global};
+use std::io::Write;
+
+/// Writes a line, as far as the writer takes it, and gives the status.
+fn write_line<E: Write>(err: &mut E, line: &str, status: u8) -> u8
+    ensures status { result ≡ status }
+    ensures line { AppendsPrefix (E.contents err.old) (E.contents err.new) line.now }
+{
+    let _ = write_bytes(err, line.as_bytes());
+    status
+}
+
+/// Writes a line that was made, and gives the status; where memory ran out for it, that of memory.
+fn write_made<E: Write>(err: &mut E, line: Result<String, AllocError>, status: u8) -> u8
+    ensures { MatchResult line
+        (λ text. (result ≡ status) × AppendsPrefix (E.contents err.old) (E.contents err.new) (string_bytes text))
+        (λ _. (result ≡ 5) × AppendsPrefix (E.contents err.old) (E.contents err.new) memory_line) }
+{
+    match line {
+        Ok(text) => write_line(err, &text, status),
+        Err(_) => write_line(err, "afdx: memory\n", 5),
+    }
+}
+
+/// The line that a folder's failure has.
+fn device_line(alloc: Global, call: &str, name: &str) -> Result<String, AllocError>
+    ensures { IfOk result (λ line. string_bytes line ≡ ended (codes "afdx: device " ++ call.now ++ codes " " ++ name.now)) }
+{
+    let mut line = String::from_str(alloc, "afdx: device ")?;
+    line.push_str(call)?;
+    line.push_str(" ")?;
+    line.push_str(name)?;
+    line.push_str("\n")?;
+    Ok(line)
+}
+
+/// Writes the line of a failure, as far as the writer takes it, and gives the failure's status: 2 for refused arguments,
+/// 3 for a refused table, network or capture, 4 for a refused load or jitter or a network that does not come to rest, 5 for a
+/// device or memory.
+///
+/// Only a line with a number or a name takes memory. Where that is refused, memory is the failure. O(line).
+pub fn report<E: Write>(alloc: Global, failure: &Failure, err: &mut E) -> u8
+    ensures reported { (reported : Failing) × ReportsAs failure.now reported × (result ≡ status_of reported)
+        × AppendsPrefix (E.contents err.old) (E.contents err.new) (line_of reported) }
+    ensures failed { 2 ≤ result }
+{
+    match failure {
+        Failure::Usage => write_line(err, "afdx: usage\n", 2),
+        Failure::Table(refusal) => write_made(err, table_line(alloc, *refusal), 3),
+        Failure::Capture(fault) => write_made(err, capture_line(alloc, None, *fault), 3),
+        Failure::PortCapture(port, fault) => {
+            write_made(err, capture_line(alloc, Some(*port), *fault), 3)
+        }
+        Failure::Load(fault) => write_made(err, load_line(alloc, *fault), 4),
+        Failure::Network(refusal) => write_made(
+            err,
+            network_failure_line(alloc, refusal),
+            network_status(refusal),
+        ),
+        Failure::Get(name) => write_made(err, device_line(alloc, "get", name), 5),
+        Failure::Put(name) => write_made(err, device_line(alloc, "put", name), 5),
+        Failure::Read => write_line(err, "afdx: device read\n", 5),
+        Failure::Write => write_line(err, "afdx: device write\n", 5),
+        Failure::Memory => write_line(err, "afdx: memory\n", 5),
+    }
+}

@@ -1,0 +1,203 @@
+//! The lines of arrivals, one after the other.
+
+ghost use Rattle.std.specs.Prelude.{◌≡◌, ◌<◌, ◌∷◌, [], ◌++◌, codes, decimal, map, flat_map, length, string_bytes, IfOk, IfErr, OnOk, Some};
+ghost use Rattle.afdx_filter.specs.Place.{place_named};
+ghost use Rattle.afdx_core.specs.Kept.{AccountsAgree};
+ghost use Rattle.afdx_trace.specs.Csv.{field, joined, optional};
+ghost use Rattle.afdx_trace.specs.Arrivals.{verdict_word, record_in, frame_fields, fate_fields, arrival_line};
+ghost use Rattle.afdx_trace.specs.Inner.Taken.{AreTaken};
+ghost use Rattle.afdx_trace.specs.Inner.Tracing.{AreCounted, IsPassed, IsPoliced, Traces};
+
+use crate::fields::{put_number, put_optional, put_ports, put_word};
+use crate::flags::{Flags, all_taken, refusing};
+use afdx_account::{Account, early_by};
+use afdx_core::laws::filtered_touch_no_account;
+use afdx_core::{Done, Row, accounts_of, police};
+use afdx_filter::Verdict;
+use afdx_table::Table;
+use afdx_table::laws::{links_are_found, links_stand_at_their_places};
+use std::alloc::{AllocError, Allocator};
+
+fn verdict_word(verdict: Verdict) -> &'static str
+    ensures { result.now ≡ verdict_word verdict }
+{
+    match verdict {
+        Verdict::Cut => "cut",
+        Verdict::Short => "short",
+        Verdict::Long => "long",
+        Verdict::Foreign => "foreign",
+        Verdict::NoLink => "no-link",
+        Verdict::WrongPort => "wrong-port",
+        Verdict::TooBig => "too-big",
+        Verdict::Clean(_) => "clean",
+    }
+}
+
+/// The place of a clean frame's link.
+fn clean_place(table: &Table, verdict: Verdict) -> Option<usize>
+    ensures { result ≡ place_named table.now verdict }
+{
+    match verdict {
+        Verdict::Clean(id) => table.link_place(id),
+        _ => None,
+    }
+}
+
+/// Offers a frame to the account of its link, at this place: the ports that it is then offered to where it is passed, else
+/// the nanoseconds by which it came early.
+fn offer<'t>(
+    table: &'t Table,
+    accounts: &mut [Account],
+    place: usize,
+    before: &[Row],
+    row: &Row,
+) -> Result<&'t [u8], u64>
+    requires place { place_named table.now row.now.verdict ≡ Some place }
+    requires agree { AccountsAgree table.now.links before.now row.now.stamp accounts.old }
+    ensures passed { IfOk result (λ to. IsPassed table.now before.now row.now to.now) }
+    ensures policed { IfErr result (λ early. IsPoliced table.now before.now row.now early) }
+    ensures agree { AccountsAgree table.now.links (before.now ++ row.now ∷ []) row.now.stamp accounts.new }
+{
+    links_stand_at_their_places();
+    links_are_found();
+    let link = table.link_at(place).unwrap();
+    let early = early_by(&accounts[place], row.stamp, row.size);
+    if police(accounts, place, row) {
+        Ok(link.to.as_slice())
+    } else {
+        Err(early)
+    }
+}
+
+/// Counts an arrival; its number among the records of its port's capture, from 1.
+fn count(records: &mut [usize; 256], before: &[Row], row: &Row) -> usize
+    requires { AreCounted before.now records.old }
+    ensures number { result ≡ record_in before.now row.now }
+    ensures counted { AreCounted (before.now ++ row.now ∷ []) records.new }
+{
+    let records = &mut records[usize::from(row.in_port)];
+    *records += 1;
+    *records
+}
+
+/// Appends the number of a link, if there is one.
+fn put_link<A: Allocator + Copy>(text: &mut String<A>, link: Option<u16>) -> Result<(), AllocError>
+    ensures { OnOk result (string_bytes text.new ≡ string_bytes text.old ++ field (optional link)) }
+{
+    match link {
+        Some(number) => put_number(text, u64::from(number)),
+        None => put_word(text, ""),
+    }
+}
+
+/// Appends the fields of an arrival, up to its size.
+fn put_frame<A: Allocator + Copy>(
+    text: &mut String<A>,
+    before: &[Row],
+    place: usize,
+    row: &Row,
+) -> Result<(), AllocError>
+    requires { place ≡ record_in before.now row.now }
+    ensures { OnOk result (string_bytes text.new ≡ string_bytes text.old ++ frame_fields before.now row.now) }
+{
+    write!(text, "{}", before.len())?;
+    put_number(text, u64::from(row.in_port))?;
+    put_number(text, place as u64)?;
+    put_number(text, row.stamp.ns())?;
+    put_link(text, row.link)?;
+    put_number(text, u64::from(row.size))
+}
+
+/// Appends the fields of a fate and ends the line.
+fn put_fate<A: Allocator + Copy>(
+    text: &mut String<A>,
+    word: &str,
+    early: Option<u64>,
+    full: &[u8],
+) -> Result<(), AllocError>
+    ensures { OnOk result (string_bytes text.new ≡ string_bytes text.old
+        ++ flat_map field (word.now ∷ optional early ∷ joined (codes ";") (map decimal full.now) ∷ []) ++ codes "\n") }
+{
+    put_word(text, word)?;
+    put_optional(text, early)?;
+    text.push_str(",")?;
+    put_ports(text, full)?;
+    text.push_str("\n")
+}
+
+/// What is kept of the arrivals so far: the accounts of the links, how many came in at each port, and which copies each
+/// port took.
+#[derive(Drop)]
+pub(crate) struct Tracer<A: Allocator> {
+    alloc: A,
+    accounts: Vec<Account, A>,
+    records: [usize; 256],
+    taken: Vec<Flags<A>, A>,
+}
+
+impl<A: Allocator + Copy> Tracer<A> {
+    /// Before the first arrival.
+    pub(crate) fn new<B: Allocator + Copy>(alloc: A, done: &Done<'_, B>) -> Result<Self, AllocError>
+        ensures { IfOk result (λ tracer. Traces done.now.run [] 0 tracer) }
+    {
+        let accounts = accounts_of(alloc, done.table())?;
+        let taken = all_taken(alloc, done)?;
+        Ok(Tracer {
+            alloc,
+            accounts,
+            records: [0; 256],
+            taken,
+        })
+    }
+
+    /// The word of an arrival's fate, how early it came where it was policed, and the ports that refused it where it was
+    /// passed.
+    fn fate<B: Allocator + Copy>(
+        &mut self,
+        done: &Done<'_, B>,
+        before: &[Row],
+        row: &Row,
+    ) -> Result<(&'static str, Option<u64>, Vec<u8, A>), AllocError>
+        requires agree { AccountsAgree done.now.run.table.links before.now row.now.stamp self.old.accounts.items }
+        requires taken { AreTaken done.now.run self.old.taken.items }
+        requires within { length before.now < length done.now.run.rows }
+        ensures fields { IfOk result (λ reported. reported.0.now ∷ optional reported.1 ∷ joined (codes ";") (map decimal reported.2.items) ∷ []
+            ≡ fate_fields done.now.run before.now row.now) }
+        ensures agree { AccountsAgree done.now.run.table.links (before.now ++ row.now ∷ []) row.now.stamp self.new.accounts.items }
+        ensures records { self.new.records ≡ self.old.records }
+        ensures taken { self.new.taken ≡ self.old.taken }
+    {
+        filtered_touch_no_account();
+        links_stand_at_their_places();
+        let table = done.table();
+        let Some(place) = clean_place(table, row.verdict) else {
+            return Ok((verdict_word(row.verdict), None, Vec::new(self.alloc)));
+        };
+        match offer(table, &mut self.accounts, place, before, row) {
+            Ok(to) => {
+                let full = refusing(self.alloc, &self.taken, before.len(), to)?;
+                Ok(("passed", None, full))
+            }
+            Err(early) => Ok(("policed", Some(early), Vec::new(self.alloc))),
+        }
+    }
+
+    /// Appends the line of an arrival that came after these.
+    pub(crate) fn trace<B: Allocator + Copy>(
+        &mut self,
+        text: &mut String<A>,
+        done: &Done<'_, B>,
+        before: &[Row],
+        row: &Row,
+    ) -> Result<(), AllocError>
+        requires traces { Traces done.now.run before.now row.now.stamp self.old }
+        requires within { length before.now < length done.now.run.rows }
+        ensures text { OnOk result (string_bytes text.new ≡ string_bytes text.old ++ arrival_line done.now.run before.now row.now) }
+        ensures traces { OnOk result (Traces done.now.run (before.now ++ row.now ∷ []) row.now.stamp self.new) }
+    {
+        let place = count(&mut self.records, before, row);
+        let (word, early, full) = self.fate(done, before, row)?;
+        put_frame(text, before, place, row)?;
+        put_fate(text, word, early, &full)
+    }
+}
