@@ -108,7 +108,7 @@ Example: mkdir rows && afdx trace table.toml in rows";
 const NETWORK: &str = "Its commands are check, jitter and run: see afdx network --help.";
 
 /// What the program says of its version: its own number, and the kit that it is proved with.
-const VERSION: &str = "0.1.0\nrattle-kit-13b logic dac8208d650f15bf";
+const VERSION: &str = "0.1.0\nrattle-kit-13f logic dac8208d650f15bf";
 
 /// A command without its arguments.
 pub(crate) fn with_no_arguments<'a>(

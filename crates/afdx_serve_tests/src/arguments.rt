@@ -142,7 +142,7 @@ Status: 0 done, 2 arguments, 3 no capture, 5 memory or a device.
 Example: afdx alone --id 10 --bag 1 --jitter 0 --size 1000 < in.pcap > out.pcap
 ";
 
-const VERSION: &str = "afdx 0.1.0\nrattle-kit-13b logic dac8208d650f15bf\n";
+const VERSION: &str = "afdx 0.1.0\nrattle-kit-13f logic dac8208d650f15bf\n";
 
 #[test]
 fn passes_what_conforms(rt: HostRuntime) -> Result<(), Fail> {
