@@ -3,11 +3,11 @@
 
 usage: bench/memory.py [AFDX]        the program that `./test` builds where none is said
 
-One link sends a frame each millisecond, so that one frame at most is in flight. Its peak beside what it reads and writes
-is reported for each frame, for small frames and for large ones, and for runs that are twice as long. A frame's bytes lie in the
-input and in the output alone, so a large frame takes no more than a small one, and no more where the run is twice as long.
-A text that grows takes up to twice its length on the way: of eight counts of frames, up to the double of the first, the
-least number is reported. Needs 1 GB under /tmp.
+One link sends a frame each millisecond, so that one frame at most is in flight. Its peak beside what it reads is reported for
+each frame, for small frames and for large ones, and for runs that are twice as long. Of what it writes it holds a part for
+each port. A frame's bytes lie in the input alone, so a large frame takes no more than a small one, and no more where the run
+is twice as long. A list that grows takes up to twice its length on the way: of eight counts of frames, up to the double of the
+first, the least number is reported. Needs 1 GB under /tmp.
 """
 import os
 import sys
@@ -43,11 +43,11 @@ priority = "low"
 
 
 def peak_of(afdx, room, count, size):
-    """The bytes that a run of so many frames takes at its peak, and those that it reads and writes."""
+    """The bytes that a run of so many frames takes at its peak, and those that it reads."""
     write_capture(f"{room}/in/port-1.pcap", count, size, MILLISECOND)
     arguments = [afdx, "run", f"{room}/table.toml", f"{room}/in", f"{room}/out"]
     _, megabytes = measured(arguments, f"{room}/table.toml", f"{room}/report")
-    files = [f"{room}/{side}/port-{port}.pcap" for side in ("in", "out") for port in (1, 2)]
+    files = [f"{room}/in/port-{port}.pcap" for port in (1, 2)]
     return megabytes * 1_024_000, sum(map(os.path.getsize, files))
 
 
@@ -56,8 +56,8 @@ def beside(afdx, room, first, size):
     least = None
     for step in range(STEPS):
         count = round(first * 2 ** (step / STEPS))
-        peak, texts = peak_of(afdx, room, count, size)
-        each = (peak - texts) / count
+        peak, read = peak_of(afdx, room, count, size)
+        each = (peak - read) / count
         least = each if least is None else min(least, each)
     return least
 
@@ -75,7 +75,7 @@ def main():
         for size, fewest in FIRST.items():
             for first in (fewest, 2 * fewest):
                 each = beside(afdx, room, first, size)
-                print(f"frames of {size} bytes, {first} to {2 * first} of them: {each:.0f} bytes for each beside input and output")
+                print(f"frames of {size} bytes, {first} to {2 * first} of them: {each:.0f} bytes for each beside the input")
                 numbers.append(each)
     if max(numbers) - min(numbers) > ALLOWED:
         sys.exit("memory grows with the bytes of the frames")

@@ -82,6 +82,12 @@ through_a_link() {
         cmp elsewhere.pcap table.toml
 }
 
+# with_a_fault: where a capture has a fault behind its first frames, the new files are removed.
+with_a_fault() {
+    again && head -c 99 given/port-2.pcap >in/port-2.pcap && run_over in out && said 3 "afdx: capture P11 CutData, port 2, record 1" &&
+        cp given/port-2.pcap in && stands 0
+}
+
 # from_a_fifo: a capture is read from a FIFO.
 from_a_fifo() {
     again && instead mkfifo in/port-1.pcap && { cat given/port-1.pcap >in/port-1.pcap & } && run_over in out && said 0 "" &&
@@ -106,10 +112,10 @@ limited() { # limited ARGUMENT..: no file may grow past 8 KiB
     (trap '' XFSZ && ulimit -f 8 && "$@")
 }
 
-# limit_ends: the same, where the system ends the program: what was written so far is beside the name.
+# limit_ends: the same, where the system ends the program: no capture was moved, and what was written so far is beside the names.
 limit_ends() {
     again && run_over in out bash -c 'ulimit -c 0 -f 8 && exec "$@"' - && [ "$(cat status.txt)" -eq 153 ] &&
-        rm out/port-2.pcap.new-0 && stands 1
+        rm out/port-1.pcap.new-0 out/port-2.pcap.new-0 && stands 0
 }
 
 redirected() { # redirected REDIRECTION ARGUMENT..
@@ -156,7 +162,7 @@ each_half() {
     done
 }
 
-# stays_beside: where neither the move nor the removal can be done, the new file stays beside the name.
+# stays_beside: where neither the move nor the removal can be done, the new file stays beside the name; the next one is removed.
 stays_beside() {
     again && run_over in out preloaded "FAIL=rename:1,unlink:1" && said 5 "$put_1" && rm out/port-1.pcap.new-0 && stands 0
 }
@@ -249,6 +255,7 @@ check "a hard link to another port's capture" keeps in out 1 "$put_2" ln -f in/p
 check "a hard link to the table" keeps in out 0 "$put_1" ln -f table.toml out/port-1.pcap
 check "a link to a file that was not got is replaced" through_a_link ../elsewhere.pcap
 check "so is a link to nothing" through_a_link ../nothing.pcap
+check "a capture with a fault" with_a_fault
 check "a FIFO in OUT" keeps in out 0 "$put_1" instead mkfifo out/port-1.pcap
 check "a FIFO in IN is read" from_a_fifo
 check "a folder in a capture's place in OUT" keeps in out 1 "$put_2" instead mkdir out/port-2.pcap

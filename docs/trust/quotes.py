@@ -3,8 +3,9 @@
 
     docs/trust/quotes.py           writes each quote anew from its source, also where that has moved to another file
     docs/trust/quotes.py --check   changes nothing; fails where a quote is not its source's text, where a name is not found, and
-                                   where something that the contracts of ROOTS rest on is not quoted, or something else is, and
-                                   where a word of the kit has no meaning in the table of these words
+                                   where something that the contracts of ROOTS rest on is not quoted, or something else is,
+                                   where a word of the kit has no meaning in the table of these words, and where what a quote has
+                                   under another name (`use .. as`) stands in backticks under that name on no page
     docs/trust/quotes.py --list    prints what the contracts of ROOTS rest on, and where it stands
 
 A quote is a line `<!-- quote FILE NAME.. -->`, and after it the file's name and the block of code, which this script writes. In a
@@ -103,6 +104,14 @@ def imports(text, keyword):
     return brought
 
 
+def other_names(text, keyword):
+    """The words that `use` lines bring for what has another name."""
+    groups = re.findall(rf"^\s*{keyword} Rattle\.[\w.]+?\.\{{([^}}]*)\}}", text, re.M)
+    others = [name.partition(" as ")[2].strip() for names in groups for name in names.split(",")]
+    others += re.findall(rf"^\s*{keyword} Rattle\.[\w.]+ as (\w+)", text, re.M)
+    return set(others) - {""}
+
+
 def words_of(text):
     """The words of a definition or clause that may name another one: all but the fields. A bound name counts as well, so that
     more may be found than is named, and never less."""
@@ -134,7 +143,7 @@ def type_in(crate, name, modules):
     raise Missing(f"no type {name} in {named.relative_to(TOP)}")
 
 
-def uses_of_definition(file, name, kit):
+def uses_of_definition(file, name, kit, others):
     text, definitions = read(file), defined_in(file)
     body = without_comments(definitions[name], "--")
     brought = imports(text, "use")
@@ -143,6 +152,7 @@ def uses_of_definition(file, name, kit):
         part = sign.strip("◌").split("◌")[0] if "◌" in sign else None
         if part and sign != name and (part in body or (part == ">>=" and "←" in body)):
             words.add(sign)
+    others |= words & other_names(text, "use")
     return named(words, brought, {word: (file, word) for word in definitions}, kit)
 
 
@@ -226,7 +236,7 @@ def has_model(file, name):
     return re.search(rf"^impl.* Model for {name}\b", read(file), re.M) is not None
 
 
-def uses_of_item(file, name, kit):
+def uses_of_item(file, name, kit, others):
     text = rust_item(file, name)
     code = without_comments(text, "//")
     brought = imports(read(file), "ghost use") | imports(text, "ghost use")
@@ -237,6 +247,7 @@ def uses_of_item(file, name, kit):
         ghost = set()
     else:
         ghost = named(words_of(clauses), brought, {}, kit)
+        others |= words_of(clauses) & (other_names(read(file), "ghost use") | other_names(text, "ghost use"))
     return ghost | types_in(file, name, code)
 
 
@@ -280,8 +291,8 @@ def home_of(file, name):
 
 
 def closure():
-    """Each thing that the roots name, directly or not, and the kit's words among them."""
-    kit, seen = set(), {}
+    """Each thing that the roots name, directly or not, the kit's words among them, and the words that are other names."""
+    kit, others, seen = set(), set(), {}
     waiting = [(home_of(f"crates/{crate}/src/lib.rt", name), name) for crate, name in ROOTS]
     while waiting:
         file, name = waiting.pop()
@@ -290,9 +301,9 @@ def closure():
         if (file, name) in seen:
             continue
         uses = uses_of_definition if file.endswith(".antt") else uses_of_item
-        seen[(file, name)] = uses(file, name, kit)
+        seen[(file, name)] = uses(file, name, kit, others)
         waiting.extend(seen[(file, name)])
-    return seen, kit
+    return seen, kit, others
 
 
 # ---- the page
@@ -348,9 +359,15 @@ def without_meaning(pages, kit):
     return [f"a word of the kit without a meaning: {word}" for word in sorted(words - explained)]
 
 
+def unexplained(pages, others):
+    """The other names that stand in backticks on no page."""
+    prose = "\n".join(re.sub(r"^```.*?^```$", "", page, flags=re.M | re.S) for page in pages)
+    return [f"another name, which no page explains: {name}" for name in sorted(others) if f"`{name}`" not in prose]
+
+
 def main(words):
     try:
-        needed, kit = closure()
+        needed, kit, others = closure()
     except Missing as error:
         sys.exit(f"quotes.py: {error}")
     if words == ["--list"]:
@@ -367,7 +384,7 @@ def main(words):
             page.write_text(new, encoding="utf-8")
         elif new != old:
             wrong.append(f"{page.name}: a quote is not its source's text: run docs/trust/quotes.py")
-    wrong += judged(there, needed) + without_meaning(texts, kit)
+    wrong += judged(there, needed) + without_meaning(texts, kit) + unexplained(texts, others)
     print("\n".join([*wrong, f"{len(there)} quotes, {len(needed)} needed"]))
     sys.exit(1 if wrong else 0)
 

@@ -7,7 +7,7 @@ use Rattle.std.proofs.lemmas.Bool.{leb-true, le-leb, and_parts, cases_lt}
 use Rattle.afdx_account.specs.declared.frame.Frame.{Frame}
 use Rattle.afdx_account.specs.Policing.{Terms, paid, allowance, conforms, passed_frames}
 use Rattle.afdx_account.specs.Level.{headroom, NoneLater, credited_level}
-use Rattle.afdx_account.specs.Early.{later_by, credit_time, early_by, EarlyIsLeast, EarlyByTheLevel, TellsEarly}
+use Rattle.afdx_account.specs.Early.{later_by, credit_time, early_by, EarlyIsLeast, EarlyByTheLevel, IsEarlyBy}
 use Rattle.afdx_account.proofs.Tested.{tested_conforms, conforming_passes}
 use Rattle.afdx_account.proofs.Windows.{Sound, NoneLater-later, passed_early, passed_sound, headroom-later}
 
@@ -100,9 +100,9 @@ pub early_by_the_level : EarlyByTheLevel
 early_by_the_level t frames f some early = by_headroom t (passed_frames t frames) f some (passed_sound t [] frames f.stamp early tt)
 
 -- an account that says what its level lacks
-pub tells_early : (t : Terms) (since level at size now early : ℕ) → 0 < t.rate → since ≤ at
-    → now ≡ credited_level t level (at - since) → early ≡ credit_time t (t.price size - now) → TellsEarly t since level at size early
-tells_early t since level at size now early some le now-is early-is frames after =
+pub is_early_by : (t : Terms) (since level at size now early : ℕ) → 0 < t.rate → since ≤ at
+    → now ≡ credited_level t level (at - since) → early ≡ credit_time t (t.price size - now) → IsEarlyBy t since level at size early
+is_early_by t since level at size now early some le now-is early-is frames after =
     let f : Frame = record { stamp = at; size = size } in
     let latest = NoneLater-later frames since at le after.latest in
     let passed = passed_frames t frames in

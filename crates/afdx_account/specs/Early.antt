@@ -31,6 +31,6 @@ EarlyByTheLevel = (t : Terms) (frames : List Frame) (f : Frame) → 0 < t.rate �
     → early_by t (passed_frames t frames) f ≡ credit_time t (t.price f.size - headroom t (passed_frames t frames) f.stamp)
 
 -- whatever frames were offered before, a frame of this size at an instant comes so early
-abbrev pub TellsEarly : Terms → (since level at size : ℕ) → ℕ → Type 0
-TellsEarly t since level at size early = (frames : List Frame) → IsLevelAfter t since level frames
+abbrev pub IsEarlyBy : Terms → (since level at size : ℕ) → ℕ → Type 0
+IsEarlyBy t since level at size early = (frames : List Frame) → IsLevelAfter t since level frames
     → early ≡ early_by t (passed_frames t frames) (record { stamp = at; size = size })

@@ -2,6 +2,7 @@
 
 ghost use Rattle.std.specs.Prelude.{◌≡◌, ◌≤◌, []};
 ghost use Rattle.afdx_units.specs.declared.line.Speed.{Speed};
+ghost use Rattle.afdx_units.specs.Line.{greatest_size};
 ghost use Rattle.afdx_account.specs.Policing.{terms_by, weight_by};
 ghost use Rattle.afdx_account.specs.Level.{IsLevelAfter};
 
@@ -22,7 +23,7 @@ pub enum Account {
 impl Account {
     /// A full account for frames of at most `max_size` bytes, at most 1518, with a jitter of at most 10 ms.
     pub fn new(police: Police, max_size: u32, bag: Bag, jitter_ns: u64) -> Account
-        requires size_limit { max_size ≤ 1518 }
+        requires size_limit { max_size ≤ greatest_size }
         requires jitter_limit { jitter_ns ≤ 10000000 }
         ensures terms { ⟦<Account as Meter>⟧.terms result ≡ terms_by police max_size bag jitter_ns }
         ensures full { IsLevelAfter (terms_by police max_size bag jitter_ns) 0 (⟦<Account as Meter>⟧.level result 0) [] }

@@ -3,6 +3,7 @@
 ghost use Rattle.std.specs.Prelude.{◌≡◌, ◌+◌, ◌*◌, ◌-◌, ◌≤◌, []};
 ghost use Rattle.afdx_units.specs.Time.{bag_ns};
 ghost use Rattle.afdx_units.specs.declared.line.Speed.{Speed};
+ghost use Rattle.afdx_units.specs.Line.{greatest_size};
 ghost use Rattle.afdx_account.specs.Policing.{byte_terms, byte_weight};
 ghost use Rattle.afdx_account.specs.Level.{IsLevelAfter};
 
@@ -20,7 +21,7 @@ pub struct ByteAccount {
     jitter: u64,
     level: u64,
     since: Stamp,
-    ghost size_limit: { max_size ≤ 1518 },
+    ghost size_limit: { max_size ≤ greatest_size },
     ghost jitter_limit: { jitter ≤ 10000000 },
     ghost not_above_full: { level ≤ max_size * (bag_ns bag + jitter) },
 }
@@ -28,7 +29,7 @@ pub struct ByteAccount {
 impl ByteAccount {
     /// A full account for frames of at most `max_size` bytes, at most 1518, with a jitter of at most 10 ms.
     pub fn new(max_size: u32, bag: Bag, jitter_ns: u64) -> ByteAccount
-        requires size_limit { max_size ≤ 1518 }
+        requires size_limit { max_size ≤ greatest_size }
         requires jitter_limit { jitter_ns ≤ 10000000 }
         ensures terms { ⟦<ByteAccount as Meter>⟧.terms result ≡ byte_terms max_size bag jitter_ns }
         ensures full { IsLevelAfter (byte_terms max_size bag jitter_ns) 0 (⟦<ByteAccount as Meter>⟧.level result 0) [] }

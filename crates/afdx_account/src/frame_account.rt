@@ -3,6 +3,7 @@
 ghost use Rattle.std.specs.Prelude.{◌≡◌, ◌+◌, ◌*◌, ◌-◌, ◌≤◌, []};
 ghost use Rattle.afdx_units.specs.Time.{bag_ns};
 ghost use Rattle.afdx_units.specs.declared.line.Speed.{Speed};
+ghost use Rattle.afdx_units.specs.Line.{greatest_size};
 ghost use Rattle.afdx_account.specs.Policing.{frame_terms, frame_weight};
 ghost use Rattle.afdx_account.specs.Level.{IsLevelAfter};
 
@@ -19,7 +20,7 @@ pub struct FrameAccount {
     jitter: u64,
     level: u64,
     since: Stamp,
-    ghost size_limit: { max_size ≤ 1518 },
+    ghost size_limit: { max_size ≤ greatest_size },
     ghost jitter_limit: { jitter ≤ 10000000 },
     ghost not_above_full: { level ≤ bag_ns bag + jitter },
 }
@@ -27,7 +28,7 @@ pub struct FrameAccount {
 impl FrameAccount {
     /// A full account for frames of at most `max_size` bytes, at most 1518, with a jitter of at most 10 ms.
     pub fn new(max_size: u32, bag: Bag, jitter_ns: u64) -> FrameAccount
-        requires size_limit { max_size ≤ 1518 }
+        requires size_limit { max_size ≤ greatest_size }
         requires jitter_limit { jitter_ns ≤ 10000000 }
         ensures terms { ⟦<FrameAccount as Meter>⟧.terms result ≡ frame_terms bag jitter_ns }
         ensures full { IsLevelAfter (frame_terms bag jitter_ns) 0 (⟦<FrameAccount as Meter>⟧.level result 0) [] }

@@ -2,7 +2,7 @@
 
 ghost use Rattle.std.specs.Prelude.{◌≡◌, ◌↔◌, ℕ, ◌+◌, ◌*◌, ◌-◌, ◌≤◌, IsTrue, if◌then◌else◌};
 ghost use Rattle.afdx_units.specs.declared.line.Speed.{Speed};
-ghost use Rattle.afdx_units.specs.Line.{cost_of};
+ghost use Rattle.afdx_units.specs.Line.{least_size, cost_of};
 ghost use Rattle.afdx_account.specs.Policing.{parts, Terms};
 ghost use Rattle.afdx_account.specs.Level.{PassesWhatConforms, credited_level};
 
@@ -63,7 +63,7 @@ pub trait Meter {
         ensures greatest { greatest self.new ≡ greatest self.old }
 
         // A frame of the link that is passed adds its line time to a port's work, and the level falls by at least as much.
-        ensures paid { IsTrue result → (speed : Speed) → 64 ≤ size → size ≤ greatest self.old
+        ensures paid { IsTrue result → (speed : Speed) → least_size ≤ size → size ≤ greatest self.old
             → parts * cost_of speed size + weight_of self.new speed * level self.new at ≤ weight_of self.old speed * level self.old at }
 
         // Whatever frames were offered to a full account before, the frame is passed exactly where it
@@ -78,6 +78,6 @@ pub trait Meter {
         → level m later ≡ credited_level (terms m) (level m at) (later - at) };
 
     /// What a frame costs pays for its line time, where the link allows its size.
-    ghost pays: { (m : Self) (speed : Speed) (size : ℕ) → 64 ≤ size → size ≤ greatest m
+    ghost pays: { (m : Self) (speed : Speed) (size : ℕ) → least_size ≤ size → size ≤ greatest m
         → parts * cost_of speed size ≤ weight_of m speed * (terms m).price size };
 }

@@ -1,7 +1,7 @@
 //! How early a frame comes.
 
 ghost use Rattle.std.specs.Prelude.{◌≡◌, ◌-◌, ◌<◌, ◌≤◌};
-ghost use Rattle.afdx_account.specs.Early.{credit_time, TellsEarly};
+ghost use Rattle.afdx_account.specs.Early.{credit_time, IsEarlyBy};
 
 use crate::meter::Meter;
 use afdx_units::Stamp;
@@ -12,7 +12,7 @@ pub fn early_by<M: Meter>(meter: &M, at: Stamp, size: u32) -> u64
     requires in_order { M.since meter.now ≤ at }
     requires credited { 0 < (M.terms meter.now).rate }
     ensures by_level { result ≡ credit_time (M.terms meter.now) ((M.terms meter.now).price size - M.level meter.now at) }
-    ensures by_windows { TellsEarly (M.terms meter.now) (M.since meter.now) (M.level meter.now (M.since meter.now)) at size result }
+    ensures by_windows { IsEarlyBy (M.terms meter.now) (M.since meter.now) (M.level meter.now (M.since meter.now)) at size result }
 {
     let lacking = meter.price(size).saturating_sub(meter.level_at(at));
     lacking.div_ceil(meter.rate())

@@ -11,7 +11,7 @@ use Rattle.afdx_pcap.specs.declared.fault.PcapFault.{PcapFault}
 use Rattle.afdx_pcap.specs.declared.fault.PcapFault.TheVariants.{Memory}
 use Rattle.afdx_pcap.specs.Fault.{IsFault}
 use Rattle.afdx_pcap.specs.Capture.{IsCapture}
-use Rattle.afdx_pcap.specs.Reading.{Reading, whole_reading, Taking, HasTaken, HasNext, IsNext, IsSound, taken_in}
+use Rattle.afdx_pcap.specs.Reading.{Reading, whole_reading, Taking, HasTaken, HasNext, IsNext, IsSound, as_taking}
 use Rattle.afdx_pcap.specs.Reading as reading
 use Rattle.afdx_pcap.specs.Text.{capture_text, record_text}
 use Rattle.afdx_filter.specs.Frame.{frame_of}
@@ -94,7 +94,7 @@ pub record Writes (link : Alone) (bytes : List ℕ) (frames : Reading) (account 
   pub reads : frames ≡ whole_reading bytes frames.given
   pub written : List ℕ
   pub appended : Appends old now written
-  pub policed : Polices link bytes (taken_in frames) account (written ++ part)
+  pub policed : Polices link bytes (as_taking frames) account (written ++ part)
 
 -- the text of a frame that passes joins the part, of which a prefix may be written
 abbrev pub Grows : Bool → Record → Option (List ℕ) → Option (List ℕ) → List ℕ → List ℕ → Type 0
@@ -116,9 +116,9 @@ module _ (g : Ground) (link : Alone) (bytes : List ℕ) (frames later : Reading)
     (w : Writes link bytes frames old a b part) (next : IsNext frames.bytes frames.given r) (came : later ≡ whole_reading frames.bytes (frames.given + 1))
     (own : IsTrue (is_own link r) → IsOffered old new (frame_of r) passes) (others : is_own link r ≡ false → (passes ≡ false) × (new ≡ old)) where
   -- the frame is policed
-  pub with_frame : (longer : List ℕ) → longer ≡ cond passes ((w.written ++ part) ++ record_text r) (w.written ++ part) → Polices link bytes (taken_in later) new longer
+  pub with_frame : (longer : List ℕ) → longer ≡ cond passes ((w.written ++ part) ++ record_text r) (w.written ++ part) → Polices link bytes (as_taking later) new longer
   with_frame longer grown =
-      one_further g link bytes (taken_in frames) (taken_in later) old new (w.written ++ part) longer r passes w.policed next (ap taken_in came) own others grown
+      one_further g link bytes (as_taking frames) (as_taking later) old new (w.written ++ part) longer r passes w.policed next (ap as_taking came) own others grown
 
   -- and then the loop has come one frame further
   pub writes_on : (c : Option (List ℕ)) (rest : List ℕ) → Grows passes r b c part rest → Writes link bytes later new a c rest
@@ -139,7 +139,7 @@ module _ (g : Ground) (link : Alone) (bytes : List ℕ) (frames later : Reading)
   stopped begin c all passed whole prefix =
       let text = w.written ++ (part ++ record_text r) in
       let policed = with_frame text (rw passed (sym (append_assoc w.written part (record_text r)))) in
-      let answer = whole_answer g begin link bytes (taken_in later) new text all whole policed in
+      let answer = whole_answer g begin link bytes (as_taking later) new text all whole policed in
       (text ++ answer.0, answer.1, AppendsPrefix-longer a c text answer.0 (AppendsPrefix-after a b c w.written (part ++ record_text r) w.appended prefix))
 
 -- at the end all of the answer was written, or a prefix of it
@@ -147,6 +147,6 @@ pub all_written : {E : Type 0} (g : Ground) (link : Alone) (bytes : List ℕ) (f
     → Writes link bytes frames account a b part → IsSound frames.bytes frames.given true → OnOk result (Appends b c part) → AppendsPrefix b c part
     → MatchResult result (λ _. (text : List ℕ) × IsAnswer link bytes text × Appends a c text) (λ _. (text : List ℕ) × IsAnswer link bytes text × AppendsPrefix a c text)
 all_written g link bytes frames account a b c part (Ok x) w sound all prefix =
-    (w.written ++ part, all_policed g link bytes (taken_in frames) account (w.written ++ part) w.policed sound, Appends-trans a b c w.written part w.appended all)
+    (w.written ++ part, all_policed g link bytes (as_taking frames) account (w.written ++ part) w.policed sound, Appends-trans a b c w.written part w.appended all)
 all_written g link bytes frames account a b c part (Err e) w sound all prefix =
-    (w.written ++ part, all_policed g link bytes (taken_in frames) account (w.written ++ part) w.policed sound, AppendsPrefix-after a b c w.written part w.appended prefix)
+    (w.written ++ part, all_policed g link bytes (as_taking frames) account (w.written ++ part) w.policed sound, AppendsPrefix-after a b c w.written part w.appended prefix)

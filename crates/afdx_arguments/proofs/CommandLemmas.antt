@@ -19,7 +19,19 @@ pub if_argument : {E : Type 0} (old : Command) (a : Arg) (r : Result Command E) 
 if_argument old a (Ok new) app rule is is_rule local adds = with_argument old new a app rule is is_rule local adds
 if_argument old a (Err e) app rule is is_rule local adds = (tt, tt)
 
+-- the rule of the last argument is this
+pub if_rule : {E : Type 0} (r : Result Command E) (app : App) (a : Arg) (rule : Rule) → rule_of a ≡ rule → IfOk r (λ c. app_of c ≡ with_rule app (rule_of a))
+    → IfOk r (λ c. app_of c ≡ with_rule app rule)
+if_rule (Ok new) app a rule is h = h ∙ ap (λ x. with_rule app x) is
+if_rule (Err e) app a rule is h = tt
+
 -- ---- subcommands
+
+-- the program before the last command is this
+pub if_program : {E : Type 0} (r : Result Command E) (program : Command) (app inner : App) → app_of program ≡ app → IfOk r (λ c. app_of c ≡ with_subcommand (app_of program) inner.top)
+    → IfOk r (λ c. app_of c ≡ with_subcommand app inner.top)
+if_program (Ok new) program app inner is h = h ∙ ap (λ (a : App). with_subcommand a inner.top) is
+if_program (Err e) program app inner is h = tt
 
 pub with_one_more : (old sub new : Command) (app inner : App) → AddsSubcommand old sub new → (out-Command sub).has_globals ≡ false → app_of old ≡ app → app_of sub ≡ inner
     → app_of new ≡ with_subcommand app inner.top

@@ -1,6 +1,7 @@
 //! A virtual link by itself.
 
 ghost use Rattle.std.specs.Prelude.{◌≤◌};
+ghost use Rattle.afdx_units.specs.Line.{least_size, greatest_size};
 
 use afdx_units::{Bag, GREATEST_SIZE, LEAST_SIZE};
 
@@ -24,8 +25,8 @@ pub struct Alone {
     /// The greatest size of a frame, in bytes.
     pub max_size: u32,
     ghost jitter_limit: { jitter ≤ 10000000 },
-    ghost least_size: { 64 ≤ max_size },
-    ghost most_size: { max_size ≤ 1518 },
+    ghost size_least: { least_size ≤ max_size },
+    ghost size_most: { max_size ≤ greatest_size },
 }
 
 impl Alone {

@@ -1,6 +1,7 @@
 //! From the arguments to what they ask for.
 
-ghost use Rattle.std.specs.Prelude.{◌≡◌, ℕ, true, false, map, option_map, string_bytes, MatchOption, MatchResult};
+ghost use Rattle.std.specs.Prelude.{◌≡◌, ℕ, codes, true, false, map, option_map, string_bytes, MatchOption, MatchResult, Some};
+ghost use Rattle.std.specs.Str.{bytes_eq};
 ghost use Rattle.clap.specs.Words.{app_of, fault_of, first_of, found_of, is_simple, is_simple_and_free, kind_of, rows_of, subcommand_rows_of};
 ghost use Rattle.afdx_arguments.specs.declared.alone.Alone.{Alone as Link};
 ghost use Rattle.afdx_arguments.specs.declared.request.Paths.{Paths as Files};
@@ -93,6 +94,28 @@ fn inputs_of<'a>(matches: &ArgMatches<'a>) -> Option<Inputs<'a>>
     })
 }
 
+/// What a subcommand of runs asks for.
+fn run_asked<'a>(name: &str, inner: &ArgMatches<'a>) -> Option<Request<'a>>
+    requires alone { bytes_eq name.now (codes "alone") ≡ false }
+    requires check { bytes_eq name.now (codes "check") ≡ false }
+    requires size { bytes_eq name.now (codes "size") ≡ false }
+    ensures { MatchOption result ((request : Asked) → AsksFor (Some (name.now, rows_of (found_of inner.now))) request → ⊥)
+        (AsksFor (Some (name.now, rows_of (found_of inner.now)))) }
+{
+    if name == "run" {
+        let paths = paths_of(inner)?;
+        Some(Request::Run(paths))
+    } else if name == "measure" {
+        let inputs = inputs_of(inner)?;
+        Some(Request::Measure(inputs))
+    } else if name == "trace" {
+        let paths = paths_of(inner)?;
+        Some(Request::Trace(paths))
+    } else {
+        None
+    }
+}
+
 /// What the subcommand that was entered asks for.
 fn asked<'a>(matches: &ArgMatches<'a>) -> Option<Request<'a>>
     ensures { MatchOption result ((request : Asked) → AsksFor (subcommand_rows_of matches.now) request → ⊥)
@@ -108,17 +131,8 @@ fn asked<'a>(matches: &ArgMatches<'a>) -> Option<Request<'a>>
     } else if name == "size" {
         let table = argument(inner, "TABLE")?;
         Some(Request::Size(table))
-    } else if name == "run" {
-        let paths = paths_of(inner)?;
-        Some(Request::Run(paths))
-    } else if name == "measure" {
-        let inputs = inputs_of(inner)?;
-        Some(Request::Measure(inputs))
-    } else if name == "trace" {
-        let paths = paths_of(inner)?;
-        Some(Request::Trace(paths))
     } else {
-        None
+        run_asked(name, inner)
     }
 }
 

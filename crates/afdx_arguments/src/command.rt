@@ -1,7 +1,7 @@
 //! The command line, as `clap` reads it.
 
 ghost use Rattle.std.specs.Prelude.{◌≡◌, codes, false, IfOk};
-ghost use Rattle.clap.specs.Words.{app_of, new_app, rule_of, with_subcommand};
+ghost use Rattle.clap.specs.Words.{App, app_of, new_app, rule_of, with_rule, with_subcommand};
 ghost use Rattle.clap.specs.declared.builder.command.Command.TheViews.{out-Command};
 ghost use Rattle.afdx_arguments.specs.Commands.{number_rule, path_rule, flag_rule, alone_app, check_app, size_app, paths_app, measure_app, network_app, bare_program, program};
 
@@ -123,31 +123,50 @@ pub(crate) fn with_no_arguments<'a>(
     Command::new(alloc, name).about(about).after_help(more)
 }
 
+/// A command with one more argument, the last.
+pub(crate) fn with_argument<'a>(
+    command: Result<Command<'a>, AllocError>,
+    argument: Arg<'a>,
+) -> Result<Command<'a>, AllocError>
+    requires { argument.global ≡ false }
+    ensures app { (app : App) → IfOk command.entry (λ c. app_of c ≡ app)
+        → IfOk result (λ c. app_of c ≡ with_rule app (rule_of argument.entry)) }
+    ensures local { IfOk command.entry (λ c. (out-Command c).has_globals ≡ false)
+        → IfOk result (λ c. (out-Command c).has_globals ≡ false) }
+{
+    command?.arg(argument)
+}
+
+/// A program with one more command, the last.
+pub(crate) fn with_command<'a>(
+    program: Command<'a>,
+    command: Result<Command<'a>, AllocError>,
+) -> Result<Command<'a>, AllocError>
+    requires { IfOk command (λ c. (out-Command c).has_globals ≡ false) }
+    ensures { (app : App) → IfOk command.entry (λ c. app_of c ≡ app)
+        → IfOk result (λ c. app_of c ≡ with_subcommand (app_of program.entry) app.top) }
+{
+    program.subcommand(command?)
+}
+
 fn alone<'a>(alloc: Global) -> Result<Command<'a>, AllocError>
     ensures app { IfOk result (λ c. app_of c ≡ alone_app) }
     ensures local { IfOk result (λ c. (out-Command c).has_globals ≡ false) }
 {
     let about = "Polices one virtual link of the capture on standard input";
-    with_no_arguments(alloc, "alone", about, ALONE)
-        .arg(number_option(alloc, "id", "N", "The link's number, 0 to 65535"))?
-        .arg(number_option(
-            alloc,
-            "bag",
-            "MS",
-            "Its BAG in ms: 1, 2, 4, 8, 16, 32, 64 or 128",
-        ))?
-        .arg(number_option(
-            alloc,
-            "jitter",
-            "US",
-            "Its greatest jitter in us, 0 to 10000",
-        ))?
-        .arg(number_option(
-            alloc,
-            "size",
-            "N",
-            "Its greatest frame size in bytes, 64 to 1518",
-        ))
+    let id = number_option(alloc, "id", "N", "The link's number, 0 to 65535");
+    let gaps = "Its BAG in ms: 1, 2, 4, 8, 16, 32, 64 or 128";
+    let bag = number_option(alloc, "bag", "MS", gaps);
+    let jitter = number_option(
+        alloc,
+        "jitter",
+        "US",
+        "Its greatest jitter in us, 0 to 10000",
+    );
+    let sizes = "Its greatest frame size in bytes, 64 to 1518";
+    let size = number_option(alloc, "size", "N", sizes);
+    let command = with_no_arguments(alloc, "alone", about, ALONE).arg(id);
+    with_argument(with_argument(with_argument(command, bag), jitter), size)
 }
 
 #[tactic(auto, unfolding(crate::specs::Commands::check_app))]
@@ -187,11 +206,15 @@ fn with_paths<'a>(
     ensures app { IfOk result (λ c. app_of c ≡ paths_app name.entry.now) }
     ensures local { IfOk result (λ c. (out-Command c).has_globals ≡ false) }
 {
-    with_no_arguments(alloc, name, about, more)
-        .arg(path(alloc, "TABLE", "The configuration table"))?
-        .arg(path(alloc, "IN", "The folder of port-1.pcap and so on"))?
-        .arg(path(alloc, "OUT", output))?
-        .arg(flag(alloc, "unchecked", "Runs a table whatever its load"))
+    let table = path(alloc, "TABLE", "The configuration table");
+    let input = path(alloc, "IN", "The folder of port-1.pcap and so on");
+    let output = path(alloc, "OUT", output);
+    let unchecked = flag(alloc, "unchecked", "Runs a table whatever its load");
+    let command = with_no_arguments(alloc, name, about, more).arg(table);
+    with_argument(
+        with_argument(with_argument(command, input), output),
+        unchecked,
+    )
 }
 
 fn run<'a>(alloc: Global) -> Result<Command<'a>, AllocError>
@@ -208,14 +231,12 @@ fn measure<'a>(alloc: Global) -> Result<Command<'a>, AllocError>
     ensures local { IfOk result (λ c. (out-Command c).has_globals ≡ false) }
 {
     let about = "Prints the delays of each link and how full each buffer was";
-    with_no_arguments(alloc, "measure", about, MEASURE)
-        .arg(path(alloc, "TABLE", "The configuration table"))?
-        .arg(path(alloc, "IN", "The folder of port-1.pcap and so on"))?
-        .arg(flag(
-            alloc,
-            "unchecked",
-            "Runs a table whatever its load, and prints no bounds",
-        ))
+    let table = path(alloc, "TABLE", "The configuration table");
+    let input = path(alloc, "IN", "The folder of port-1.pcap and so on");
+    let what = "Runs a table whatever its load, and prints no bounds";
+    let unchecked = flag(alloc, "unchecked", what);
+    let command = with_no_arguments(alloc, "measure", about, MEASURE).arg(table);
+    with_argument(with_argument(command, input), unchecked)
 }
 
 fn trace<'a>(alloc: Global) -> Result<Command<'a>, AllocError>
@@ -250,30 +271,24 @@ fn bare_program<'a>(alloc: Global) -> Command<'a>
 fn with_checks<'a>(alloc: Global) -> Result<Command<'a>, AllocError>
     ensures { IfOk result (λ c. app_of c ≡ with_subcommand (with_subcommand bare_program alone_app.top) check_app.top) }
 {
-    let alone = alone(alloc)?;
-    let program = bare_program(alloc).subcommand(alone)?;
-    let check = check(alloc)?;
-    program.subcommand(check)
+    let program = with_command(bare_program(alloc), alone(alloc))?;
+    with_command(program, check(alloc))
 }
 
 /// A program with the commands `size` and `run` too.
 fn with_run<'a>(alloc: Global, program: Command<'a>) -> Result<Command<'a>, AllocError>
     ensures { IfOk result (λ c. app_of c ≡ with_subcommand (with_subcommand (app_of program.entry) size_app.top) (paths_app (codes "run")).top) }
 {
-    let size = size(alloc)?;
-    let program = program.subcommand(size)?;
-    let run = run(alloc)?;
-    program.subcommand(run)
+    let program = with_command(program, size(alloc))?;
+    with_command(program, run(alloc))
 }
 
 /// A program with the commands `measure` and `trace` too.
 fn with_rows<'a>(alloc: Global, program: Command<'a>) -> Result<Command<'a>, AllocError>
     ensures { IfOk result (λ c. app_of c ≡ with_subcommand (with_subcommand (app_of program.entry) measure_app.top) (paths_app (codes "trace")).top) }
 {
-    let measure = measure(alloc)?;
-    let program = program.subcommand(measure)?;
-    let trace = trace(alloc)?;
-    program.subcommand(trace)
+    let program = with_command(program, measure(alloc))?;
+    with_command(program, trace(alloc))
 }
 
 /// The whole program.

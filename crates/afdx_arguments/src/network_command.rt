@@ -5,7 +5,7 @@ ghost use Rattle.clap.specs.Words.{app_of, with_subcommand};
 ghost use Rattle.clap.specs.declared.builder.command.Command.TheViews.{out-Command};
 ghost use Rattle.afdx_arguments.specs.Commands.{network_check_app, network_jitter_app, network_run_app, bare_network, network_program};
 
-use crate::command::{path, with_no_arguments};
+use crate::command::{path, with_argument, with_command, with_no_arguments};
 use clap::Command;
 use std::alloc::{AllocError, Global};
 
@@ -67,18 +67,13 @@ fn run<'a>(alloc: Global) -> Result<Command<'a>, AllocError>
     ensures local { IfOk result (λ c. (out-Command c).has_globals ≡ false) }
 {
     let about = "Runs the switches of a network over one capture for each port without a wire";
-    with_no_arguments(alloc, "run", about, RUN)
-        .arg(path(alloc, "NET", "The network file"))?
-        .arg(path(
-            alloc,
-            "IN",
-            "The folder of a folder of captures for each switch",
-        ))?
-        .arg(path(
-            alloc,
-            "OUT",
-            "The folder of a folder for each switch's captures",
-        ))
+    let network = path(alloc, "NET", "The network file");
+    let inputs = "The folder of a folder of captures for each switch";
+    let input = path(alloc, "IN", inputs);
+    let outputs = "The folder of a folder for each switch's captures";
+    let output = path(alloc, "OUT", outputs);
+    let command = with_no_arguments(alloc, "run", about, RUN).arg(network);
+    with_argument(with_argument(command, input), output)
 }
 
 /// The program without its commands.
@@ -95,18 +90,13 @@ fn bare_network<'a>(alloc: Global) -> Result<Command<'a>, AllocError>
 fn with_checks<'a>(alloc: Global) -> Result<Command<'a>, AllocError>
     ensures { IfOk result (λ c. app_of c ≡ with_subcommand (with_subcommand bare_network network_check_app.top) network_jitter_app.top) }
 {
-    let bare = bare_network(alloc)?;
-    let check = check(alloc)?;
-    let program = bare.subcommand(check)?;
-    let jitter = jitter(alloc)?;
-    program.subcommand(jitter)
+    let program = with_command(bare_network(alloc)?, check(alloc))?;
+    with_command(program, jitter(alloc))
 }
 
 /// The program that reads the arguments after `afdx`, where the first of them is `network`.
 pub(crate) fn network_program<'a>(alloc: Global) -> Result<Command<'a>, AllocError>
     ensures { IfOk result (λ c. app_of c ≡ network_program) }
 {
-    let checks = with_checks(alloc)?;
-    let run = run(alloc)?;
-    checks.subcommand(run)
+    with_command(with_checks(alloc)?, run(alloc))
 }

@@ -15,7 +15,7 @@ use Rattle.afdx_port.specs.declared.Item.{Item}
 use Rattle.afdx_load.specs.Load.{terms_of}
 use Rattle.afdx_core.specs.declared.step.Row.{Row}
 use Rattle.afdx_core.specs.Rows.{frame_of_row, account_frames, says_clean, passes, named, copy_of, copies_by, copies, each_after, feed_of}
-use Rattle.afdx_isolation.specs.Arrivals.{frame_in}
+use Rattle.afdx_isolation.specs.Arrivals.{frame_of_item}
 use Rattle.afdx_core.specs.Inner.Agreement.{part_of}
 use Rattle.afdx_core.proofs.Feeds.{account-same, account-other}
 
@@ -44,7 +44,7 @@ other_by i j port (Some m) before row ne is = by_copy (passes m before row && le
   differs a e = grind (arith, nat_tests)
 
   by_copy : (b : Bool) → part_of i (cond b (copy_of m before row ∷ []) []) ≡ []
-  by_copy true = ap (λ v. map frame_in (cond v (copy_of m before row ∷ []) [])) (differs m.id (is m refl))
+  by_copy true = ap (λ v. map frame_of_item (cond v (copy_of m before row ∷ []) [])) (differs m.id (is m refl))
   by_copy false = refl
 
 others : (t : Content) (i port : ℕ) (before : List Row) (row : Row) (v : Verdict) → says_clean i v ≡ false → part_of i (copies_by (named t v) port before row) ≡ []
@@ -70,7 +70,7 @@ one_more next t i port l before row found leads = by_clean (says_clean i row.ver
 
   by_pass : (b : Bool) → cond b (passed_frames (terms_of l) (account_frames i before) ++ frame_of_row row ∷ []) (passed_frames (terms_of l) (account_frames i before))
       ≡ passed_frames (terms_of l) (account_frames i before) ++ part_of i (cond (b && true) (copy_of l before row ∷ []) [])
-  by_pass true = ap (λ v. passed_frames (terms_of l) (account_frames i before) ++ map frame_in (cond v (copy_of l before row ∷ []) [])) (sym id)
+  by_pass true = ap (λ v. passed_frames (terms_of l) (account_frames i before) ++ map frame_of_item (cond v (copy_of l before row ∷ []) [])) (sym id)
   by_pass false = sym (append-nil (passed_frames (terms_of l) (account_frames i before)))
 
   by_clean : (b : Bool) → says_clean i row.verdict ≡ b → passed_frames (terms_of l) (account_frames i (before ++ row ∷ [])) ≡ passed_frames (terms_of l) (account_frames i before)
@@ -89,7 +89,8 @@ one_more next t i port l before row found leads = by_clean (says_clean i row.ver
       ∙ ap (λ fs. passed_frames (terms_of l) (account_frames i before) ++ fs) (sym (others t i port before row row.verdict is))
 
 part-append : (i : ℕ) (xs ys : List Item) → part_of i (xs ++ ys) ≡ part_of i xs ++ part_of i ys
-part-append i xs ys = ap (map frame_in) (filter-append (λ (x : Item). x.link == i) xs ys) ∙ map-append frame_in (filter (λ (x : Item). x.link == i) xs) (filter (λ (x : Item). x.link == i) ys)
+part-append i xs ys = ap (map frame_of_item) (filter-append (λ (x : Item). x.link == i) xs ys)
+    ∙ map-append frame_of_item (filter (λ (x : Item). x.link == i) xs) (filter (λ (x : Item). x.link == i) ys)
 
 all_more : NextFrameJoinsWhereItConforms → (t : Content) (i port : ℕ) (l : Link) (before rows : List Row) → link_row t i ≡ Some l → leads_to port l ≡ true
     → passed_frames (terms_of l) (account_frames i before) ++ part_of i (each_after (copies t port) before rows) ≡ passed_frames (terms_of l) (account_frames i (before ++ rows))

@@ -23,7 +23,7 @@ use Rattle.afdx_account.specs.Level.{InOrder}
 use Rattle.afdx_account.specs.Inner.Laws.{NextJoinsWhereItConforms, PassedByTheirFrames}
 use Rattle.afdx_port.specs.declared.Item.{Item}
 use Rattle.afdx_port.specs.Admission.{admitted, AllFitIn}
-use Rattle.afdx_isolation.specs.Arrivals.{own, frame_in}
+use Rattle.afdx_isolation.specs.Arrivals.{own, frame_of_item}
 use Rattle.afdx_isolation.specs.Inner.Arrivals.{joins, feed_after, feed_of as offered_of}
 use Rattle.afdx_isolation.specs.Inner.Table.{flows_at, IsCleanIn, OffersWhatThePolicingPasses, AcceptedTablesIsolate as TablesIsolate, BuffersHoldTheBacklog as TablesHoldTheBacklog, ArriveAt}
 use Rattle.afdx_isolation.specs.Table.{settings_of}
@@ -61,13 +61,13 @@ module _ (links : LinksAreFound) (t : Content) where
 
   -- ---- the copies of a link's own frames carry these frames
 
-  own-append : (i : ℕ) (xs ys : List Item) → map frame_in (own i (xs ++ ys)) ≡ map frame_in (own i xs) ++ map frame_in (own i ys)
-  own-append i xs ys = ap (map frame_in) (filter-append (λ (x : Item). nat_eq x.link i) xs ys) ∙ map-append frame_in (own i xs) (own i ys)
+  own-append : (i : ℕ) (xs ys : List Item) → map frame_of_item (own i (xs ++ ys)) ≡ map frame_of_item (own i xs) ++ map frame_of_item (own i ys)
+  own-append i xs ys = ap (map frame_of_item) (filter-append (λ (x : Item). nat_eq x.link i) xs ys) ∙ map-append frame_of_item (own i xs) (own i ys)
 
   own_one : (l : Link) → link_row t l.id ≡ Some l → (before : List Row) (row : Row) (v : Verdict)
-      → map frame_in (own l.id (copy_by (named t v) before row)) ≡ map frame_of_row (cond (says_clean l.id v) (row ∷ []) [])
+      → map frame_of_item (own l.id (copy_by (named t v) before row)) ≡ map frame_of_row (cond (says_clean l.id v) (row ∷ []) [])
   own_one l found before row (Clean j) = by (link_row t j) refl where
-    by : (o : Option Link) → link_row t j ≡ o → map frame_in (own l.id (copy_by o before row)) ≡ map frame_of_row (cond (l.id == j) (row ∷ []) [])
+    by : (o : Option Link) → link_row t j ≡ o → map frame_of_item (own l.id (copy_by o before row)) ≡ map frame_of_row (cond (l.id == j) (row ∷ []) [])
     by None is = ap (λ b. map frame_of_row (cond b (row ∷ []) [])) (sym (decide (l.id == j) refl)) where
       decide : (b : Bool) → (l.id == j) ≡ b → (l.id == j) ≡ false
       decide true was = let none : Some l ≡ None = sym found ∙ ap (link_row t) (eqb-true l.id j was) ∙ is in (cc)
@@ -75,7 +75,7 @@ module _ (links : LinksAreFound) (t : Content) where
     by (Some m) is =
         let same = (links.is_row t j m is).0 in
         out (nat_eq m.id l.id) ∙ ap (λ b. map frame_of_row (cond b (row ∷ []) [])) (turned m.id l.id j same) where
-          out : (b : Bool) → map frame_in (cond b (copy_of m before row ∷ []) []) ≡ map frame_of_row (cond b (row ∷ []) [])
+          out : (b : Bool) → map frame_of_item (cond b (copy_of m before row ∷ []) []) ≡ map frame_of_row (cond b (row ∷ []) [])
           out true = refl
           out false = refl
 
@@ -89,19 +89,19 @@ module _ (links : LinksAreFound) (t : Content) where
   own_one l found before row WrongPort = refl
   own_one l found before row TooBig = refl
 
-  own_after : (l : Link) → link_row t l.id ≡ Some l → (before rows : List Row) → map frame_in (own l.id (each_after copy before rows))
+  own_after : (l : Link) → link_row t l.id ≡ Some l → (before rows : List Row) → map frame_of_item (own l.id (each_after copy before rows))
       ≡ map frame_of_row (filter (λ (row : Row). says_clean l.id row.verdict) rows)
   own_after l found before [] = refl
   own_after l found before (row ∷ rows) =
       own-append l.id (copy before row) (each_after copy (before ++ row ∷ []) rows)
-      ∙ ap (λ fs. fs ++ map frame_in (own l.id (each_after copy (before ++ row ∷ []) rows))) (own_one l found before row row.verdict)
+      ∙ ap (λ fs. fs ++ map frame_of_item (own l.id (each_after copy (before ++ row ∷ []) rows))) (own_one l found before row row.verdict)
       ∙ ap (λ fs. map frame_of_row (cond (says_clean l.id row.verdict) (row ∷ []) []) ++ fs) (own_after l found (before ++ row ∷ []) rows)
       ∙ joined (says_clean l.id row.verdict) (filter (λ (row : Row). says_clean l.id row.verdict) rows) where
         joined : (b : Bool) (more : List Row) → map frame_of_row (cond b (row ∷ []) []) ++ map frame_of_row more ≡ map frame_of_row (cond b (row ∷ more) more)
         joined true more = refl
         joined false more = refl
 
-  pub own_frames_are : (l : Link) → link_row t l.id ≡ Some l → (rows : List Row) → map frame_in (own l.id (clean_copies t rows)) ≡ account_frames l.id rows
+  pub own_frames_are : (l : Link) → link_row t l.id ≡ Some l → (rows : List Row) → map frame_of_item (own l.id (clean_copies t rows)) ≡ account_frames l.id rows
   unfolding clean_copies account_frames
   own_frames_are l found rows = own_after l found [] rows
 
@@ -173,23 +173,23 @@ module _ (links : LinksAreFound) (t : Content) where
     unfolding clean_copies
     all_clean rows h = clean_after [] rows h
 
-  in_order_after : (low from : ℕ) (before rows : List Row) → low ≤ from → InOrder from (map frame_of_row rows) → InOrder low (map frame_in (each_after copy before rows))
+  in_order_after : (low from : ℕ) (before rows : List Row) → low ≤ from → InOrder from (map frame_of_row rows) → InOrder low (map frame_of_item (each_after copy before rows))
   in_order_after low from before [] le order = tt
   in_order_after low from before (row ∷ rows) le order =
       let here : low ≤ row.stamp = (let h = order.0 in omega (arith, le, h)) in
       by here (in_order_after low row.stamp (before ++ row ∷ []) rows here order.1) (in_order_after row.stamp row.stamp (before ++ row ∷ []) rows (omega arith) order.1) (named t row.verdict) where
-        by : low ≤ row.stamp → InOrder low (map frame_in (each_after copy (before ++ row ∷ []) rows)) → InOrder row.stamp (map frame_in (each_after copy (before ++ row ∷ []) rows))
-            → (o : Option Link) → InOrder low (map frame_in (copy_by o before row ++ each_after copy (before ++ row ∷ []) rows))
+        by : low ≤ row.stamp → InOrder low (map frame_of_item (each_after copy (before ++ row ∷ []) rows)) → InOrder row.stamp (map frame_of_item (each_after copy (before ++ row ∷ []) rows))
+            → (o : Option Link) → InOrder low (map frame_of_item (copy_by o before row ++ each_after copy (before ++ row ∷ []) rows))
         by le out joins' None = out
         by le out joins' (Some l) = (le, joins')
 
-  pub in_order : (rows : List Row) → InOrder 0 (map frame_of_row rows) → InOrder 0 (map frame_in (clean_copies t rows))
+  pub in_order : (rows : List Row) → InOrder 0 (map frame_of_row rows) → InOrder 0 (map frame_of_item (clean_copies t rows))
   unfolding clean_copies
   in_order rows order = in_order_after 0 0 [] rows (omega arith) order
 
 pub passed_are : LinksAreFound → PassedByTheirFrames Item → PassedCopiesArePassedFrames
 passed_are links by_frames t l rows well among =
-    by_frames frame_in (terms_of l) (own l.id (clean_copies t rows))
+    by_frames frame_of_item (terms_of l) (own l.id (clean_copies t rows))
     ∙ ap (passed_frames (terms_of l)) (own_frames_are links t l (links.found t well l among) rows)
 
 -- ---- the theorem
@@ -228,9 +228,9 @@ module _ (links : LinksAreFound) (have_link : CleanFramesHaveALink) (offers : Of
 abbrev grown : Terms → List (Frame × List ℕ) → Frame × List ℕ → List (Frame × List ℕ)
 grown t seen x = cond (conforms t (map (λ (y : Frame × List ℕ). y.0) seen) x.0) (seen ++ x ∷ []) seen
 
-frames_seen : (bytes : ℕ → List ℕ) (xs : List Item) → map frame_in xs ≡ map (λ (y : Frame × List ℕ). y.0) (map (with_bytes bytes) xs)
+frames_seen : (bytes : ℕ → List ℕ) (xs : List Item) → map frame_of_item xs ≡ map (λ (y : Frame × List ℕ). y.0) (map (with_bytes bytes) xs)
 frames_seen bytes [] = refl
-frames_seen bytes (x ∷ xs) = ap (λ fs. frame_in x ∷ fs) (frames_seen bytes xs)
+frames_seen bytes (x ∷ xs) = ap (λ fs. frame_of_item x ∷ fs) (frames_seen bytes xs)
 
 seen_grown : (bytes : ℕ → List ℕ) (b : Bool) (xs : List Item) (x : Item)
     → map (with_bytes bytes) (cond b (xs ++ x ∷ []) xs) ≡ cond b (map (with_bytes bytes) xs ++ with_bytes bytes x ∷ []) (map (with_bytes bytes) xs)
@@ -239,14 +239,14 @@ seen_grown bytes false xs x = refl
 
 module _ (next : NextJoinsWhereItConforms Item) (t : Terms) where
   abbrev seen : (ℕ → List ℕ) → List Item → List (Frame × List ℕ)
-  seen bytes xs = map (with_bytes bytes) (passed_of frame_in t xs)
+  seen bytes xs = map (with_bytes bytes) (passed_of frame_of_item t xs)
 
   seen-push : (bytes : ℕ → List ℕ) (xs : List Item) (x : Item) → seen bytes (xs ++ x ∷ []) ≡ grown t (seen bytes xs) (with_bytes bytes x)
   seen-push bytes xs x =
-      let ps = passed_of frame_in t xs in
-      ap (map (with_bytes bytes)) (next frame_in t xs x)
-      ∙ seen_grown bytes (conforms t (map frame_in ps) (frame_in x)) ps x
-      ∙ ap (λ fs. cond (conforms t fs (frame_in x)) (seen bytes xs ++ with_bytes bytes x ∷ []) (seen bytes xs)) (frames_seen bytes ps)
+      let ps = passed_of frame_of_item t xs in
+      ap (map (with_bytes bytes)) (next frame_of_item t xs x)
+      ∙ seen_grown bytes (conforms t (map frame_of_item ps) (frame_of_item x)) ps x
+      ∙ ap (λ fs. cond (conforms t fs (frame_of_item x)) (seen bytes xs ++ with_bytes bytes x ∷ []) (seen bytes xs)) (frames_seen bytes ps)
 
   -- of copies that are seen alike, those that are passed are seen alike, and so with more of them
   seen_alike : (bytes bytes' : ℕ → List ℕ) (before before' xs ys : List Item) → seen bytes before ≡ seen bytes' before' → map (with_bytes bytes) xs ≡ map (with_bytes bytes') ys
@@ -267,5 +267,5 @@ pub others_nothing : NextJoinsWhereItConforms Item → AcceptedTablesIsolate →
 others_nothing next isolate r r' bytes bytes' run run' well well' accepted accepted' ends ends' p p' l l' at at' among among' leads leads' terms same =
     ap (map (with_bytes bytes)) ((isolate r run well accepted).all_passed_once_finished ends p at l among leads)
     ∙ seen_alike next (terms_of l) bytes bytes' [] [] (own l.id (clean_copies r.table r.rows)) (own l'.id (clean_copies r'.table r'.rows)) refl same
-    ∙ ap (λ t. map (with_bytes bytes') (passed_of frame_in t (own l'.id (clean_copies r'.table r'.rows)))) terms
+    ∙ ap (λ t. map (with_bytes bytes') (passed_of frame_of_item t (own l'.id (clean_copies r'.table r'.rows)))) terms
     ∙ sym (ap (map (with_bytes bytes')) ((isolate r' run' well' accepted').all_passed_once_finished ends' p' at' l' among' leads'))

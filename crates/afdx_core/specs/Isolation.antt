@@ -13,7 +13,7 @@ use Rattle.afdx_account.specs.Level.{InOrder}
 use Rattle.afdx_port.specs.declared.Item.{Item}
 use Rattle.afdx_port.specs.declared.Sent.{Sent}
 use Rattle.afdx_port.specs.declared.Offer.TheVariants.{Queued}
-use Rattle.afdx_isolation.specs.Arrivals.{own, frame_in}
+use Rattle.afdx_isolation.specs.Arrivals.{own, frame_of_item}
 use Rattle.afdx_isolation.specs.Table.{IsInBoundAt}
 use Rattle.afdx_load.specs.Load.{terms_of}
 use Rattle.afdx_core.specs.declared.step.Row.{Row}
@@ -45,12 +45,12 @@ clean_copies t rows = each_after (λ before row. copy_by (named t row.verdict) b
 
 -- those of a link's own frames that its policing passes
 abbrev pub passed_copies : Content → Link → List Row → List Item
-passed_copies t l rows = passed_of frame_in (terms_of l) (own l.id (clean_copies t rows))
+passed_copies t l rows = passed_of frame_of_item (terms_of l) (own l.id (clean_copies t rows))
 
 -- their frames are the link's passed frames
 abbrev pub PassedCopiesArePassedFrames : Type 0
 PassedCopiesArePassedFrames = (t : Content) (l : Link) (rows : List Row) → IsWellFormed t → Contains t.links l
-    → map frame_in (passed_copies t l rows) ≡ passed_frames (terms_of l) (account_frames l.id rows)
+    → map frame_of_item (passed_copies t l rows) ≡ passed_frames (terms_of l) (account_frames l.id rows)
 
 -- the copies of a link's frames that a port has sent
 abbrev pub sent_copies : Run → PortRow → Link → List Item
@@ -82,7 +82,7 @@ NoStepIsFull = (r : Run) (port : ℕ) (frame : Record) → IsRun r → refusal_o
 
 -- a copy as others see it: its frame, and the bytes that came with the arrival of its number
 abbrev pub with_bytes : (ℕ → List ℕ) → Item → Frame × List ℕ
-with_bytes bytes x = (frame_in x, bytes x.number)
+with_bytes bytes x = (frame_of_item x, bytes x.number)
 
 -- two worlds: where two links of two accepted tables have the same terms and the same own frames, with the same bytes, the same frames
 -- with the same bytes leave for them in the same order at each of their ports, whatever else the tables have and whatever else came

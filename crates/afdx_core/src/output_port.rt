@@ -5,6 +5,7 @@ ghost use Rattle.std.specs.Prelude.{IfSome, None, nat_eq};
 ghost use Rattle.std.specs.List.{IsDistinct};
 ghost use Rattle.std.specs.Vec.{vec_capacity};
 ghost use Rattle.afdx_units.specs.Time.{last_second};
+ghost use Rattle.afdx_units.specs.Line.{least_size, greatest_size};
 ghost use Rattle.afdx_table.specs.WellFormed.{IsPort};
 ghost use Rattle.afdx_table.specs.Link.{names_port};
 ghost use Rattle.afdx_isolation.specs.Table.{settings_of};
@@ -12,7 +13,7 @@ ghost use Rattle.afdx_port.specs.Content.{fresh, done, answer};
 ghost use Rattle.afdx_port.specs.Service.{sent_of};
 ghost use Rattle.afdx_store.specs.Seen.{copies_of};
 ghost use Rattle.afdx_core.specs.Inner.OutputPorts.{seen, PlacesAre, dues_of, IsCounted, queued_by, counted};
-ghost use Rattle.afdx_core.specs.Inner.OutputPorts.{offered_to, offered_at, BecameAt, touched, carried, carried_due, ended, CanTake, CanCarry, Became, answer_at};
+ghost use Rattle.afdx_core.specs.Inner.OutputPorts.{offered_to, offered_at, BecameAt, touched, carried, carried_due, ended_out, CanTake, CanCarry, Became, answer_at};
 ghost use Rattle.afdx_core.specs.Inner.Copies.{copies_at, copies_in, newly_aged, Discards, HoldsCopies, Thinned, Enough, AddsCopies};
 ghost use Rattle.afdx_core.specs.declared.output_port.OutputPort.{OutputPort as OneOutputPort};
 
@@ -86,7 +87,7 @@ impl<A: Allocator + Copy> OutputPort<A> {
     fn end(&mut self, store: &mut Store<'_, A>)
         requires counted { IsCounted self.old }
         requires holds { (i : ℕ) → copies_at self.old.port.content self.old.handed i ≤ copies_of (slice_index_or store.old.held i None) }
-        ensures seen { seen self.new ≡ ended (seen self.old) }
+        ensures seen { seen self.new ≡ ended_out (seen self.old) }
         ensures store { Discards (newly_aged self.old.port.content self.new.port.content) store.old.held store.new.held }
         ensures room { store.new.room ≡ store.old.room }
     {
@@ -224,7 +225,7 @@ pub(crate) fn end_all<A: Allocator + Copy>(
 )
     requires can { All (λ o. IsCounted o) output_ports.old }
     requires holds { HoldsCopies store.old.held output_ports.old }
-    ensures output_ports { Became ended output_ports.old output_ports.new }
+    ensures output_ports { Became ended_out output_ports.old output_ports.new }
     ensures holds { HoldsCopies store.new.held output_ports.new }
     ensures thinned { Thinned store.old.held store.new.held }
 {
@@ -258,8 +259,8 @@ fn offer_place<A: Allocator + Copy>(
     requires place { place < length output_ports.old }
     requires can { (d : OneOutputPort A) → CanTake item.now (slice_index_or output_ports.old place d) }
     requires not_late { item.now.stamp < last_second }
-    requires least { 64 ≤ item.now.size }
-    requires largest { item.now.size ≤ 1518 }
+    requires least { least_size ≤ item.now.size }
+    requires largest { item.now.size ≤ greatest_size }
     requires dues { dues.old ≡ dues_of output_ports.old }
     ensures answer { (d : OneOutputPort A) → result ≡ answer item.now (slice_index_or output_ports.old place d).port.content }
     ensures output_ports { BecameAt (offered_to item.now) place output_ports.old output_ports.new }
@@ -282,8 +283,8 @@ fn offer_to<A: Allocator + Copy>(
     requires can { All (λ o. (o.row.id == port) ≡ true → CanTake item.now o) output_ports.old }
     requires once { IsDistinct nat_eq (map (λ o. o.row.id) output_ports.old) }
     requires not_late { item.now.stamp < last_second }
-    requires least { 64 ≤ item.now.size }
-    requires largest { item.now.size ≤ 1518 }
+    requires least { least_size ≤ item.now.size }
+    requires largest { item.now.size ≤ greatest_size }
     requires dues { dues.old ≡ dues_of output_ports.old }
     requires places { PlacesAre places.now (map (λ o. o.row) output_ports.old) }
     ensures answer { result ≡ answer_at item.now output_ports.old port }
@@ -325,8 +326,8 @@ pub(crate) fn offer_all<A: Allocator + Copy>(
     requires once { IsDistinct nat_eq (map (λ o. o.row.id) output_ports.old) }
     requires distinct { IsDistinct nat_eq to.now }
     requires not_late { item.now.stamp < last_second }
-    requires least { 64 ≤ item.now.size }
-    requires largest { item.now.size ≤ 1518 }
+    requires least { least_size ≤ item.now.size }
+    requires largest { item.now.size ≤ greatest_size }
     requires room { vec_len answers.old + length to.now ≤ vec_capacity answers.old }
     requires dues { dues.old ≡ dues_of output_ports.old }
     requires places { PlacesAre places.now (map (λ o. o.row) output_ports.old) }

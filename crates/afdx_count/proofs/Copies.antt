@@ -3,7 +3,7 @@ use Rattle.std.proofs.Common.{◌≡◌, ℕ, ◌+◌, ◌<◌, ◌==◌, ◌&&�
 use Rattle.std.proofs.Common.{append_assoc, inl, inr}
 use Rattle.std.specs.Prelude.{count_by}
 use Rattle.std.specs.List.{AllByRecursion, IsDistinct}
-use Rattle.std.proofs.lemmas.Bool.{cases_Bool}
+use Rattle.std.proofs.lemmas.Bool.{cases_Bool, eqb-true}
 use Rattle.std.proofs.lemmas.List.{append-nil}
 use Rattle.std.proofs.lemmas.Option.{none-some}
 use Rattle.afdx_units.specs.declared.line.Priority.{Priority}
@@ -29,10 +29,10 @@ use Rattle.afdx_count.specs.declared.counters.InCount.{InCount}
 use Rattle.afdx_count.specs.declared.port_tallies.PortTally.{PortTally}
 use Rattle.afdx_count.specs.declared.link_tallies.LinkTally.{LinkTally}
 use Rattle.afdx_count.specs.Counting.{capped, with_fate, is_of, answers_of, with_answers, with_ended}
-use Rattle.afdx_count.specs.Tally.{new_port, new_link, with_arrival, with_class, with_copies, class_of, noted_link, noted_port, ended_port, ended}
+use Rattle.afdx_count.specs.Tally.{new_port, new_link, with_arrival, with_class, with_copies, class_of, noted_link, noted_port, ended_port, ended_tally}
 use Rattle.afdx_count.specs.Run.{of_priority, turned_away, arrivals_at, input_counts, output_counts, port_counts, link_tally, counts_so_far, events_of, run_after, steps_of, noted_all}
 use Rattle.afdx_count.specs.Inner.Laws.{StartsWithNone, NoteCountsOneMore, EndCountsTheRun, NotesCountTheRun}
-use Rattle.afdx_count.proofs.Placed.{equal, itself, turned, lower_differs}
+use Rattle.afdx_count.proofs.Placed.{itself, turned, lower_differs}
 use Rattle.afdx_count.proofs.Notes.{map_same, map_twice}
 use Rattle.afdx_count.proofs.Runs.{each-push, input-push, link-push, answer_after, one_offered, other_offered}
 
@@ -53,7 +53,7 @@ found_all P p (x ∷ xs) y all is = by_head (p x) is (found_all P p xs y all.1) 
   by_head false e ih = ih e
 
 pub named_row : (t : Content) (v : Verdict) (l : Link) → named t v ≡ Some l → link_row t l.id ≡ Some l
-named_row t (Clean i) l is = ap (link_row t) (equal l.id i (find_true (λ (m : Link). m.id == i) t.links l is)) ∙ is
+named_row t (Clean i) l is = ap (link_row t) (eqb-true l.id i (find_true (λ (m : Link). m.id == i) t.links l is)) ∙ is
 named_row t Cut l is = absurd (none-some l is)
 named_row t Short l is = absurd (none-some l is)
 named_row t Long l is = absurd (none-some l is)
@@ -94,7 +94,7 @@ unfolding IsDistinct
 answers_once A port [] d = refl
 answers_once A port (q ∷ to) d =
     elim (cases_Bool (nat_eq q port)) [
-      | inl hit ↦ let e = equal q port hit in rw hit ((λ j. A (e j) ∷ none_of A port to (rw e at d.0) j))
+      | inl hit ↦ let e = eqb-true q port hit in rw hit ((λ j. A (e j) ∷ none_of A port to (rw e at d.0) j))
       | inr miss ↦ rw miss (answers_once A port to d.1)
     ]
 
@@ -245,6 +245,6 @@ notes_from t before (row ∷ rows) formed =
 
 pub notes_count_the_run : NotesCountTheRun
 notes_count_the_run t rows formed =
-    ap (λ tally. ended (after_finish (run_after t rows)) (noted_all (steps_of t rows) tally)) (starts_with_none t)
-    ∙ ap (ended (after_finish (run_after t rows))) (notes_from t [] rows formed)
+    ap (λ tally. ended_tally (after_finish (run_after t rows)) (noted_all (steps_of t rows) tally)) (starts_with_none t)
+    ∙ ap (ended_tally (after_finish (run_after t rows))) (notes_from t [] rows formed)
     ∙ end_counts_the_run (run_after t rows) formed

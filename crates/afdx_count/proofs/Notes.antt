@@ -8,7 +8,7 @@ use Rattle.afdx_units.specs.declared.line.Priority.{Priority}
 use Rattle.afdx_units.specs.declared.line.Priority.TheVariants.{High, Low}
 use Rattle.afdx_filter.specs.declared.outcome.Verdict.{Verdict}
 use Rattle.afdx_port.specs.declared.Offer.{Offer}
-use Rattle.afdx_port.specs.Content.{is_full}
+use Rattle.afdx_port.specs.Content.{answers_full}
 use Rattle.afdx_core.specs.declared.step.Fate.TheVariants.{Filtered}
 use Rattle.afdx_core.specs.Step.{Step}
 use Rattle.afdx_core.specs.State.{Run}
@@ -56,8 +56,9 @@ pub one_answer_more : (a : Offer) (more : List Offer) (c : OutCount) → with_an
 one_answer_more a [] c = refl
 one_answer_more a (b ∷ bs) c =
     let offered-is = offered_more c.offered (length (b ∷ bs)) in
-    let full-is = full_more c.full (cond (is_full a) 1 0) (count_by is_full (b ∷ bs)) (count_by is_full (a ∷ b ∷ bs)) (count_by is_full (a ∷ [])) (count_one is_full a (b ∷ bs))
-    (zero-add (cond (is_full a) 1 0)) in
+    let full-is = full_more c.full (cond (answers_full a) 1 0) (count_by answers_full (b ∷ bs)) (count_by answers_full (a ∷ b ∷ bs)) (count_by answers_full (a ∷ []))
+    (count_one answers_full a (b ∷ bs))
+    (zero-add (cond (answers_full a) 1 0)) in
     (λ j. record c { offered = offered-is j; full = full-is j })
 
 answers_more : (port : ℕ) (o : ℕ × Offer) (os : List (ℕ × Offer)) (c : OutCount) → with_answers (answers_of port (o ∷ os)) c

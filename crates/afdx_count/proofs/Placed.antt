@@ -3,7 +3,7 @@ use Rattle.std.proofs.Common.{◌≡◌, ℕ, zero, suc, ◌<◌, nat_eq, true, 
 use Rattle.std.proofs.Common.{sym, ap, ◌∙◌, arith, inl, inr, ◌||◌}
 use Rattle.std.specs.Prelude.{IfSome, IfNone}
 use Rattle.std.specs.List.{AllByRecursion, IsDistinct, list_any}
-use Rattle.std.proofs.lemmas.Option.{slice_get_within, none-some}
+use Rattle.std.proofs.lemmas.Option.{slice_get_within, none-some, same_Some}
 use Rattle.std.proofs.lemmas.List.{length-map, map-append}
 use Rattle.std.proofs.lemmas.List.Sorted.{IsPermutation-append_comm}
 use Rattle.std.proofs.lemmas.Map.Keys.{IsDistinct-IsPermutation}
@@ -11,17 +11,11 @@ use Rattle.std.proofs.lemmas.Bool.{cases_Bool, true≢false}
 use Rattle.std.proofs.lemmas.Bool.Decides.{nat_tests}
 use Rattle.afdx_count.specs.Inner.Places.{IsPlaceOf, changed_at}
 
-pub equal : (a b : ℕ) → nat_eq a b ≡ true → a ≡ b
-equal a b e = grind (arith, nat_tests)
-
 pub itself : (a : ℕ) → nat_eq a a ≡ true
 itself a = grind (arith, nat_tests)
 
 pub turned : (a b : ℕ) → nat_eq a b ≡ false → nat_eq b a ≡ false
 turned a b e = grind (arith, nat_tests)
-
-same : {X : Type 0} (x y : X) → Some x ≡ Some y → x ≡ y
-same x y h = cc
 
 pub lower_differs : (a b : ℕ) → a < b → nat_eq a b ≡ false
 lower_differs a b lt = grind (arith, nat_tests)
@@ -39,7 +33,7 @@ unlisted n ks (Some place) h = tt
 
 all_at : {X : Type 0} (P : X → Type 0) (xs : List X) (i : ℕ) (x : X) → AllByRecursion P xs → slice_get xs i ≡ Some x → P x
 all_at P [] i x all at = absurd (none-some x at)
-all_at P (y ∷ ys) zero x all at = rw (sym (same y x at)) all.0
+all_at P (y ∷ ys) zero x all at = rw (sym (same_Some y x at)) all.0
 all_at P (y ∷ ys) (suc i) x all at = all_at P ys i x all.1 at
 
 module _ {X : Type 0} (number : X → ℕ) where
@@ -56,7 +50,7 @@ module _ {X : Type 0} (number : X → ℕ) where
   unfolding IsDistinct
   found n [] i x d at is = absurd (none-some n at)
   found n (y ∷ ys) zero x d at is =
-      let e : nat_eq (number y) n ≡ true = ap (nat_eq (number y)) (sym (same (number y) n at)) ∙ itself (number y) in
+      let e : nat_eq (number y) n ≡ true = ap (nat_eq (number y)) (sym (same_Some (number y) n at)) ∙ itself (number y) in
       ap Some is ∙ ap (λ b. cond b (Some y) (find (λ y. nat_eq (number y) n) ys)) (sym e)
   found n (y ∷ ys) (suc i) x d at is =
       let e : nat_eq (number y) n ≡ false = all_at (λ k. nat_eq (number y) k ≡ false) (map number ys) i n d.0 at in
@@ -80,7 +74,7 @@ module _ {X : Type 0} (number : X → ℕ) where
   unfolding IsDistinct
   changed n f [] i x d at is = absurd (none-some n at)
   changed n f (y ∷ ys) zero x d at is =
-      let e : number y ≡ n = same (number y) n at in
+      let e : number y ≡ n = same_Some (number y) n at in
       let hit : nat_eq (number y) n ≡ true = ap (nat_eq (number y)) (sym e) ∙ itself (number y) in
       ap (λ z. f z ∷ ys) is
       ∙ ap (λ zs. f y ∷ zs) (stay n f ys (rw e at d.0))
@@ -179,5 +173,5 @@ module _ {X : Type 0} (number : X → ℕ) where
   number_at n xs seen i x view at is = ap number (is ∙ ap (λ (ys : List X). get_or ys i x) view) ∙ by_place seen i at where
     by_place : (ys : List X) (k : ℕ) → slice_get (map number ys) k ≡ Some n → number (get_or ys k x) ≡ n
     by_place [] k e = absurd (none-some n e)
-    by_place (y ∷ ys) zero e = same (number y) n e
+    by_place (y ∷ ys) zero e = same_Some (number y) n e
     by_place (y ∷ ys) (suc k) e = by_place ys k e

@@ -16,7 +16,7 @@ use Rattle.afdx_port.specs.declared.Offer.{Offer}
 use Rattle.afdx_port.specs.declared.Offer.TheVariants.{Queued, Full}
 use Rattle.afdx_port.specs.Service.{Event, aged_of, sent_of}
 use Rattle.afdx_port.specs.Admission.{fits, admitted}
-use Rattle.afdx_port.specs.Content.{is_full}
+use Rattle.afdx_port.specs.Content.{answers_full}
 use Rattle.afdx_core.specs.declared.step.Row.{Row}
 use Rattle.afdx_core.specs.declared.step.Fate.{Fate}
 use Rattle.afdx_core.specs.declared.step.Fate.TheVariants.{Filtered, Policed, Passed}
@@ -26,7 +26,7 @@ use Rattle.afdx_count.specs.declared.counters.LinkCount.{LinkCount}
 use Rattle.afdx_count.specs.declared.link_tallies.LinkTally.{LinkTally}
 use Rattle.afdx_count.specs.Counting.{capped, up, with_verdict, with_fate, verdict_in, is_of, with_answers}
 use Rattle.afdx_count.specs.Tally.{noted_link}
-use Rattle.afdx_count.specs.Run.{counted, is_cut, is_short, is_long, is_foreign, has_no_link, is_at_wrong_port, is_too_big, is_clean, arrivals_at, input_counts, is_passed, is_policed, link_counts}
+use Rattle.afdx_count.specs.Run.{counted, is_partial, is_short, is_long, is_foreign, has_no_link, is_at_wrong_port, is_too_big, is_clean, arrivals_at, input_counts, is_passed, is_policed, link_counts}
 use Rattle.afdx_count.specs.Run.{turned_away, of_priority, output_counts, link_tally}
 
 pub each-push : {X Y : Type 0} (f : List X → X → List Y) (before xs : List X) (x : X) → each_after f before (xs ++ x ∷ []) ≡ each_after f before xs ++ f (before ++ xs) x
@@ -54,7 +54,7 @@ counted-push test xs x =
 input-all : (rows : List Row) (row : Row) → input_counts (rows ++ row ∷ []) ≡ with_verdict row.verdict (record (input_counts rows) { seen = up (capped (length rows)) })
 input-all rows row =
     let seen = capped_more (length (rows ++ row ∷ [])) (length rows) 1 (length-append rows (row ∷ [])) in
-    let e1 = counted-push (λ (r : Row). is_cut r.verdict) rows row in
+    let e1 = counted-push (λ (r : Row). is_partial r.verdict) rows row in
     let e2 = counted-push (λ (r : Row). is_short r.verdict) rows row in
     let e3 = counted-push (λ (r : Row). is_long r.verdict) rows row in
     let e4 = counted-push (λ (r : Row). is_foreign r.verdict) rows row in
@@ -67,7 +67,7 @@ input-all rows row =
       grown : Verdict → InCount → InCount
       grown v c = record {
         seen = c.seen;
-        cut = cond (is_cut v) (up c.cut) c.cut;
+        cut = cond (is_partial v) (up c.cut) c.cut;
         short = cond (is_short v) (up c.short) c.short;
         long = cond (is_long v) (up c.long) c.long;
         foreign = cond (is_foreign v) (up c.foreign) c.foreign;
@@ -190,7 +190,7 @@ one_offered priority s feed x events is =
     let e1 = of_priority-push priority feed x ∙ ap (λ b. cond b (up (of_priority priority feed)) (of_priority priority feed)) is in
     let e2 = ap (of_priority priority) (turned-push s feed x) ∙ by_fit (fits s (admitted s feed) x) in
     (λ j. record { offered = e1 j; full = e2 j; aged = counted (λ a. is_of priority a.item.priority) (aged_of events); sent = counted (λ e. is_of priority e.item.priority) (sent_of events) }) where
-      by_fit : (b : Bool) → of_priority priority (turned_away s feed ++ cond b [] (x ∷ [])) ≡ capped (of_priority priority (turned_away s feed) + count_by is_full (cond b Queued Full ∷ []))
+      by_fit : (b : Bool) → of_priority priority (turned_away s feed ++ cond b [] (x ∷ [])) ≡ capped (of_priority priority (turned_away s feed) + count_by answers_full (cond b Queued Full ∷ []))
       by_fit true = ap (of_priority priority) (append-nil (turned_away s feed)) ∙ capped_zero (count_by (λ (item : Item). is_of priority item.priority) (turned_away s feed)) where
         capped_zero : (n : ℕ) → capped n ≡ capped (capped n + 0)
         capped_zero n = omega arith

@@ -1,7 +1,7 @@
 -- What the counts add up to.
 use Rattle.std.proofs.Common.{◌≡◌, ℕ, ◌+◌, ◌<◌, ◌≤◌, ◌==◌, nat_eq, Bool, true, false, cond, List, [], ◌∷◌, ◌++◌, length, Option, Some, None, refl, sym, ap, ◌∙◌, arith, inl, inr, add-zero, zero-add}
 use Rattle.std.specs.Prelude.{count_by}
-use Rattle.std.proofs.lemmas.Bool.{cases_Bool}
+use Rattle.std.proofs.lemmas.Bool.{cases_Bool, eqb-true}
 use Rattle.std.proofs.lemmas.List.Sums.{sum_by_push}
 use Rattle.std.proofs.lemmas.Option.{none-some}
 use Rattle.afdx_table.specs.Link.{Link}
@@ -18,9 +18,8 @@ use Rattle.afdx_core.specs.declared.step.Fate.{Fate}
 use Rattle.afdx_core.specs.declared.step.Fate.TheVariants.{Passed, Policed}
 use Rattle.afdx_core.specs.Rows.{each_after, fates_of, fate_of, fate_by, named, passes, says_clean, own_frames}
 use Rattle.afdx_count.specs.Counting.{greatest_count, capped, is_of}
-use Rattle.afdx_count.specs.Run.{is_cut, is_short, is_long, is_foreign, has_no_link, is_at_wrong_port, is_too_big, is_clean, is_passed, is_policed, turned_away}
+use Rattle.afdx_count.specs.Run.{is_partial, is_short, is_long, is_foreign, has_no_link, is_at_wrong_port, is_too_big, is_clean, is_passed, is_policed, turned_away}
 use Rattle.afdx_count.specs.Inner.Laws.{SeenIsTheSum, PassedAndPolicedAreClean, OfferedIsTheSum}
-use Rattle.afdx_count.proofs.Placed.{equal}
 use Rattle.afdx_count.proofs.Copies.{find_true}
 use Rattle.afdx_count.proofs.Notes.{count_one}
 
@@ -39,7 +38,7 @@ number_of test rows = count_by (λ (row : Row). test row.verdict) rows
 number-cons : (test : Verdict → Bool) (row : Row) (rows : List Row) → number_of test (row ∷ rows) ≡ cond (test row.verdict) 1 0 + number_of test rows
 number-cons test row rows = count_one (λ (r : Row). test r.verdict) row rows
 
-one_verdict : (v : Verdict) → cond (is_cut v) 1 0 + cond (is_short v) 1 0 + cond (is_long v) 1 0 + cond (is_foreign v) 1 0 + cond (has_no_link v) 1 0 + cond (is_at_wrong_port v) 1 0
+one_verdict : (v : Verdict) → cond (is_partial v) 1 0 + cond (is_short v) 1 0 + cond (is_long v) 1 0 + cond (is_foreign v) 1 0 + cond (has_no_link v) 1 0 + cond (is_at_wrong_port v) 1 0
     + cond (is_too_big v) 1 0 + cond (is_clean v) 1 0 ≡ 1
 one_verdict Cut = refl
 one_verdict Short = refl
@@ -50,7 +49,7 @@ one_verdict WrongPort = refl
 one_verdict TooBig = refl
 one_verdict (Clean i) = refl
 
-all_verdicts : (rows : List Row) → length rows ≡ number_of is_cut rows + number_of is_short rows + number_of is_long rows + number_of is_foreign rows + number_of has_no_link rows
+all_verdicts : (rows : List Row) → length rows ≡ number_of is_partial rows + number_of is_short rows + number_of is_long rows + number_of is_foreign rows + number_of has_no_link rows
     + number_of is_at_wrong_port rows + number_of is_too_big rows + number_of is_clean rows
 all_verdicts [] = refl
 all_verdicts (row ∷ rows) =
@@ -58,7 +57,7 @@ all_verdicts (row ∷ rows) =
       arith,
       one_verdict row.verdict,
       all_verdicts rows,
-      number-cons is_cut row rows,
+      number-cons is_partial row rows,
       number-cons is_short row rows,
       number-cons is_long row rows,
       number-cons is_foreign row rows,
@@ -77,7 +76,7 @@ sum_below n a b c d e f g h is lt =
 
 pub seen_is_the_sum : SeenIsTheSum
 seen_is_the_sum rows lt =
-    sum_below (length rows) (number_of is_cut rows) (number_of is_short rows) (number_of is_long rows) (number_of is_foreign rows) (number_of has_no_link rows) (number_of is_at_wrong_port rows)
+    sum_below (length rows) (number_of is_partial rows) (number_of is_short rows) (number_of is_long rows) (number_of is_foreign rows) (number_of has_no_link rows) (number_of is_at_wrong_port rows)
     (number_of is_too_big rows) (number_of is_clean rows) (all_verdicts rows) lt
 
 -- ---- frames of a link
@@ -95,14 +94,14 @@ one_fate t l before row found = by_verdict row.verdict refl where
   absent : (j : ℕ) → link_row t j ≡ None → nat_eq l.id j ≡ false
   absent j none =
       elim (cases_Bool (nat_eq l.id j)) [
-        | inl hit ↦ absurd (none-some l (sym none ∙ ap (link_row t) (sym (equal l.id j hit)) ∙ found))
+        | inl hit ↦ absurd (none-some l (sym none ∙ ap (link_row t) (sym (eqb-true l.id j hit)) ∙ found))
         | inr miss ↦ miss
       ]
 
   by_link : (j : ℕ) (m : Option Link) → row.verdict ≡ Clean j → link_row t j ≡ m
       → cond (is_passed l.id (fate_by m before row)) 1 0 + cond (is_policed l.id (fate_by m before row)) 1 0 ≡ cond (nat_eq l.id j) 1 0
   by_link j None clean is = ap (λ b. cond b 1 0) (sym (absent j is))
-  by_link j (Some m) clean is = by_pass (passes m before row) m.id j (equal m.id j (find_true (λ (k : Link). k.id == j) t.links m is))
+  by_link j (Some m) clean is = by_pass (passes m before row) m.id j (eqb-true m.id j (find_true (λ (k : Link). k.id == j) t.links m is))
 
   by_verdict : (v : Verdict) → row.verdict ≡ v → cond (is_passed l.id (fate_by (named t v) before row)) 1 0 + cond (is_policed l.id (fate_by (named t v) before row)) 1 0 ≡ cond (says_clean l.id v) 1 0
   by_verdict Cut is = refl

@@ -7,7 +7,7 @@ use Rattle.afdx_filter.specs.declared.outcome.Verdict.TheVariants.{Cut, Short, L
 use Rattle.afdx_port.specs.declared.Offer.{Offer}
 use Rattle.afdx_port.specs.declared.Sent.{Sent}
 use Rattle.afdx_port.specs.declared.Aged.{Aged}
-use Rattle.afdx_port.specs.Content.{is_full}
+use Rattle.afdx_port.specs.Content.{answers_full}
 use Rattle.afdx_core.specs.declared.step.Fate.{Fate}
 use Rattle.afdx_core.specs.declared.step.Fate.TheVariants.{Filtered, Policed, Passed}
 use Rattle.afdx_count.specs.declared.counters.InCount.{InCount}
@@ -66,7 +66,7 @@ abbrev pub with_answers : List Offer → OutCount → OutCount
 with_answers [] c = c
 with_answers (offer ∷ offers) c = record c {
   offered = capped (c.offered + length (offer ∷ offers));
-  full = capped (c.full + count_by is_full (offer ∷ offers));
+  full = capped (c.full + count_by answers_full (offer ∷ offers));
 }
 
 abbrev pub is_of : Priority → Priority → Bool

@@ -32,9 +32,9 @@ counted test xs = capped (count_by test xs)
 
 -- ---- the arrivals at a port
 
-abbrev pub is_cut : Verdict → Bool
-is_cut Cut = true
-is_cut _ = false
+abbrev pub is_partial : Verdict → Bool
+is_partial Cut = true
+is_partial _ = false
 
 abbrev pub is_short : Verdict → Bool
 is_short Short = true
@@ -71,7 +71,7 @@ arrivals_at port rows = filter (λ row. port == row.in_port) rows
 abbrev pub input_counts : List Row → InCount
 input_counts rows = record {
   seen = capped (length rows);
-  cut = counted (λ row. is_cut row.verdict) rows;
+  cut = counted (λ row. is_partial row.verdict) rows;
   short = counted (λ row. is_short row.verdict) rows;
   long = counted (λ row. is_long row.verdict) rows;
   foreign = counted (λ row. is_foreign row.verdict) rows;

@@ -104,5 +104,5 @@ ended_port r p = record p {
 }
 
 -- what each port sent and discarded counts there
-abbrev pub ended : Run → Tally → Tally
-ended r t = record { ports = map (ended_port r) t.ports; links = t.links }
+abbrev pub ended_tally : Run → Tally → Tally
+ended_tally r t = record { ports = map (ended_port r) t.ports; links = t.links }

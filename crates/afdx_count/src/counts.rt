@@ -1,7 +1,7 @@
 //! The counters of a run.
 
 ghost use Rattle.std.specs.Prelude.{◌≡◌, string_bytes, IfOk};
-ghost use Rattle.afdx_count.specs.Tally.{fresh, noted, ended, input_of, count_of, out_count_of};
+ghost use Rattle.afdx_count.specs.Tally.{fresh, noted, ended_tally, input_of, count_of, out_count_of};
 ghost use Rattle.afdx_count.specs.Report.{report_of};
 
 use crate::counters::{InCount, LinkCount, OutCount};
@@ -57,7 +57,7 @@ impl<A: Allocator + Copy> Counts<A> {
     /// Counts what the ports sent and discarded. It takes no memory. O(copies that were sent or discarded), and for each port
     /// two look-ups among the ports.
     pub fn note_end<B: Allocator + Copy>(&mut self, done: &Done<'_, B>)
-        ensures { self.new ≡ ended done.now.run self.old }
+        ensures { self.new ≡ ended_tally done.now.run self.old }
     {
         self.ports.note_end(done);
     }

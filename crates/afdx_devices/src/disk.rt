@@ -5,8 +5,10 @@ ghost use Rattle.std.specs.Prelude.{◌≡◌, None};
 use crate::device_log::DeviceLog;
 use crate::folder::{Folder, FolderFault};
 use crate::input::read_to_end;
-use crate::whole_file::replace_file;
-use std::alloc::Allocator;
+use crate::new_file::NewFile;
+use crate::output::WriteFault;
+use crate::whole_file::WholeFile;
+use std::alloc::{AllocError, Allocator};
 use std::fs;
 use std::fs::{Metadata, OpenFile};
 use std::io::ErrorKind;
@@ -32,10 +34,12 @@ impl FileId {
 /// The files of the system, by their paths. It does not show their bytes.
 ///
 /// A put never harms a file: it replaces a file as a whole or leaves it as it is, and it fails where the name leads to a
-/// file that was got, to one that may not be written, or to what is no file.
+/// file that was got, to one that may not be written, or to what is no file. No new file is made beside such a name; that it
+/// is none is asked once more before the move.
 #[derive(Drop)]
 pub struct Disk<'a, R: Files, A: Allocator> {
     rt: &'a R,
+    alloc: A,
     got: Vec<FileId, A>,
     log: DeviceLog<A>,
 }
@@ -47,6 +51,7 @@ impl<'a, R: Files, A: Allocator + Copy> Disk<'a, R, A> {
     {
         Disk {
             rt,
+            alloc,
             got: Vec::new(alloc),
             log: DeviceLog::new(alloc),
         }
@@ -82,6 +87,8 @@ fn may_be_put<R: Files>(rt: &R, name: &str, got: &[FileId]) -> bool {
 }
 
 impl<R: Files, A: Allocator + Copy> Folder for Disk<'_, R, A> {
+    type New = WholeFile<R, A>;
+
     ghost failed = { λ disk. disk.log };
 
     fn get<B: Allocator + Copy>(
@@ -101,18 +108,32 @@ impl<R: Files, A: Allocator + Copy> Folder for Disk<'_, R, A> {
 
     fn put<B: Allocator + Copy>(
         &mut self,
-        alloc: B,
+        _alloc: B,
         name: &str,
         bytes: &[u8],
     ) -> Result<(), FolderFault> {
+        let mut new = self.begin(name)?;
+        new.append(bytes)?;
+        self.put_new(new, name)
+    }
+
+    fn begin(&mut self, name: &str) -> Result<WholeFile<R, A>, AllocError> {
         if !may_be_put(self.rt, name, &self.got) {
-            return Err(self.log.note(name));
+            return Ok(WholeFile::failed());
         }
-        match replace_file(self.rt, alloc, name, bytes) {
+        WholeFile::beside(self.rt, self.alloc, name)
+    }
+
+    fn put_new(&mut self, new: WholeFile<R, A>, name: &str) -> Result<(), FolderFault> {
+        let may_be = may_be_put(self.rt, name, &self.got);
+        match new.put(self.rt, name, may_be) {
             Ok(()) => Ok(()),
-            Err(FolderFault::Memory) => Err(FolderFault::Memory),
-            Err(FolderFault::Device) => Err(self.log.note(name)),
+            Err(WriteFault) => Err(self.log.note(name)),
         }
+    }
+
+    fn abandon(&mut self, new: WholeFile<R, A>) {
+        new.remove(self.rt);
     }
 
     fn failures(&self) -> u64 {

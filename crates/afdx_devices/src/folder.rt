@@ -1,9 +1,10 @@
 //! A folder of files.
 
-ghost use Rattle.std.specs.Prelude.{◌≡◌, Option, None, IfOk, OnOk};
+ghost use Rattle.std.specs.Prelude.{◌≡◌, [], Option, Some, None, IfOk, IfSome, OnOk};
 ghost use Rattle.afdx_devices.specs.Files.{Files, DeviceLog, Shows, KeepsFiles, PutsFile, KeepsOthers, HasCause};
 
 use crate::input::InputFault;
+use crate::new_file::NewFile;
 use std::alloc::{AllocError, AllocFailed, Allocator};
 use thiserror::Error;
 
@@ -53,6 +54,9 @@ impl From<InputFault> for FolderFault {
 
 /// A folder, by the bytes that are under each name. It counts its failures, and keeps the name of the last one.
 pub trait Folder {
+    /// A file that is written in parts, before it is put.
+    type New: NewFile + Drop;
+
     /// The files, where it shows them.
     ghost files: { Self → Option Files } = { λ _. None };
     /// How often it has failed, as far as 64 bits go, and the name that the last of these calls was for.
@@ -86,6 +90,34 @@ pub trait Folder {
         ensures bytes { OnOk result (PutsFile (files self.old) (files self.new) name.now bytes.now) }
         ensures others { KeepsOthers (files self.old) (files self.new) name.now }
         ensures cause { HasCause name.now (failed self.old) (failed self.new) result };
+
+    /// A new file of no bytes, to be put under a name. Nothing else changes, and a failure of the device is answered when it is
+    /// put. An error is out of memory.
+    ///
+    /// O(name).
+    fn begin(&mut self, name: &str) -> Result<Self::New, AllocError>
+        ensures bytes { IfOk result (λ new. IfSome (files self.old) (λ _. Self.New.contents new ≡ Some [])) }
+        ensures same { KeepsFiles (files self.old) (files self.new) }
+        ensures failed { failed self.new ≡ failed self.old };
+
+    /// Puts a new file under the name that it was begun for, in place of what is there. After an error it is gone, and nothing
+    /// is said of what is there.
+    ///
+    /// # Errors
+    ///
+    /// As `put`, also where the device failed since the file was begun.
+    ///
+    /// O(bytes).
+    fn put_new(&mut self, new: Self::New, name: &str) -> Result<(), FolderFault>
+        ensures bytes { OnOk result (IfSome (Self.New.contents new)
+            (λ bytes. PutsFile (files self.old) (files self.new) name.now bytes)) }
+        ensures others { KeepsOthers (files self.old) (files self.new) name.now }
+        ensures cause { HasCause name.now (failed self.old) (failed self.new) result };
+
+    /// Lets a new file go. Nothing else changes, and no failure is counted.
+    fn abandon(&mut self, new: Self::New)
+        ensures same { KeepsFiles (files self.old) (files self.new) }
+        ensures failed { failed self.new ≡ failed self.old };
 
     /// The count of failures, which stays at its greatest value. O(1).
     fn failures(&self) -> u64

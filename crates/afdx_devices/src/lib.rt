@@ -1,13 +1,14 @@
 //! Readers, writers and folders of files, with what is known of them where they fail.
 //!
 //! [`read_to_end`] and [`write_bytes`] make a bounded number of calls and try none again. A [`Folder`] names which file it
-//! failed for at last; [`Disk`] is the one of real files.
+//! failed for at last; [`Disk`] is the one of real files. A file is put as a whole, or as a [`NewFile`] that was written in parts.
 #![tactic(auto)]
 
 mod device_log;
 mod disk;
 mod folder;
 mod input;
+mod new_file;
 mod output;
 mod whole_file;
 
@@ -15,4 +16,6 @@ pub use device_log::DeviceLog;
 pub use disk::Disk;
 pub use folder::{Folder, FolderFault};
 pub use input::{InputFault, read_to_end};
+pub use new_file::NewFile;
 pub use output::{WriteFault, write_bytes};
+pub use whole_file::WholeFile;

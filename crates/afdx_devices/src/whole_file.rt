@@ -1,11 +1,12 @@
 //! A file that is put as a whole or not at all.
 
 use crate::folder::FolderFault;
+use crate::new_file::NewFile;
 use crate::output::{WriteFault, write_bytes};
-use std::alloc::Allocator;
+use std::alloc::{AllocError, Allocator};
 use std::fs;
 use std::fs::{File, OpenFile};
-use std::io::{ErrorKind, Write};
+use std::io::ErrorKind;
 use std::rt::Files;
 
 /// How many names are tried for a new file (profile).
@@ -28,46 +29,81 @@ fn create_beside<R: Files, A: Allocator + Copy>(
     Err(FolderFault::Device)
 }
 
-/// Writes all the bytes, and waits until the device has them.
-fn fill<F: Write + OpenFile>(file: &mut F, bytes: &[u8]) -> Result<(), WriteFault> {
-    write_bytes(file, bytes)?;
-    match file.sync_all() {
-        Ok(()) => Ok(()),
-        Err(_) => Err(WriteFault),
+/// Waits until the device has what was written, and moves the file onto a name.
+fn finish<R: Files>(rt: &R, file: &R::File, beside: &str, name: &str) -> Result<(), WriteFault> {
+    if file.sync_all().is_err() || fs::rename(rt, beside, name).is_err() {
+        return Err(WriteFault);
     }
+    Ok(())
 }
 
-/// Fills a new file and moves it onto a name.
-fn fill_and_move<R: Files>(
-    rt: &R,
-    mut file: R::File,
-    beside: &str,
-    name: &str,
-    bytes: &[u8],
-) -> Result<(), WriteFault> {
-    fill(&mut file, bytes)?;
-    match fs::rename(rt, beside, name) {
-        Ok(()) => Ok(()),
-        Err(_) => Err(WriteFault),
-    }
+/// A file that was made, and its name.
+#[derive(Drop)]
+struct Made<R: Files, A: Allocator> {
+    file: R::File,
+    beside: String<A>,
 }
 
-/// Puts a file of these bytes in place of what is under a name. Its folder is not made.
+/// A new file beside the name onto which it is moved at the end, or that one of these steps failed. It does not show its bytes.
 ///
-/// The bytes are written to a new file beside the name, which is moved onto the name once the device has them. Where one of
-/// these steps fails, what is under the name is as it was, and the new file is removed where that can be done.
-pub(crate) fn replace_file<R: Files, A: Allocator + Copy>(
-    rt: &R,
-    alloc: A,
-    name: &str,
-    bytes: &[u8],
-) -> Result<(), FolderFault> {
-    let (file, beside) = create_beside(rt, alloc, name)?;
-    match fill_and_move(rt, file, &beside, name, bytes) {
-        Ok(()) => Ok(()),
-        Err(WriteFault) => {
-            let _ = fs::remove_file(rt, beside.as_str());
-            Err(FolderFault::Device)
+/// Where a step fails, what is under the name is as it was, and the new file is removed where that can be done. One that is
+/// dropped, and neither put nor removed, stays.
+#[derive(Drop)]
+pub struct WholeFile<R: Files, A: Allocator> {
+    made: Option<Made<R, A>>,
+    has_failed: bool,
+}
+
+impl<R: Files, A: Allocator + Copy> WholeFile<R, A> {
+    /// That it could not be made.
+    pub(crate) fn failed() -> WholeFile<R, A> {
+        WholeFile {
+            made: None,
+            has_failed: true,
         }
+    }
+
+    /// A file of no bytes beside this name, whose folder is not made; or that it could not be made.
+    pub(crate) fn beside(rt: &R, alloc: A, name: &str) -> Result<WholeFile<R, A>, AllocError> {
+        match create_beside(rt, alloc, name) {
+            Ok((file, beside)) => Ok(WholeFile {
+                made: Some(Made { file, beside }),
+                has_failed: false,
+            }),
+            Err(FolderFault::Memory) => Err(AllocError),
+            Err(FolderFault::Device) => Ok(WholeFile::failed()),
+        }
+    }
+
+    /// Moves it onto a name once the device has its bytes, if it may be put there.
+    pub(crate) fn put(self, rt: &R, name: &str, may_be: bool) -> Result<(), WriteFault> {
+        let WholeFile { made, has_failed } = self;
+        let Some(made) = made else {
+            return Err(WriteFault);
+        };
+        if may_be && !has_failed && finish(rt, &made.file, &made.beside, name).is_ok() {
+            return Ok(());
+        }
+        let _ = fs::remove_file(rt, made.beside.as_str());
+        Err(WriteFault)
+    }
+
+    /// Removes it.
+    pub(crate) fn remove(self, rt: &R) {
+        if let Some(made) = self.made {
+            let _ = fs::remove_file(rt, made.beside.as_str());
+        }
+    }
+}
+
+impl<R: Files, A: Allocator> NewFile for WholeFile<R, A> {
+    fn append(&mut self, bytes: &[u8]) -> Result<(), AllocError> {
+        if self.has_failed {
+            return Ok(());
+        }
+        if let Some(made) = &mut self.made {
+            self.has_failed = write_bytes(&mut made.file, bytes).is_err();
+        }
+        Ok(())
     }
 }

@@ -2,23 +2,23 @@
 use Rattle.std.specs.Prelude.{◌≡◌, ◌⊎◌, ℕ, codes, List, ◌++◌, Some, None, string_bytes}
 use Rattle.afdx_failures.specs.declared.failure.Failure.{Failure}
 use Rattle.afdx_failures.specs.declared.failure.Failure.TheVariants as failure
-use Rattle.afdx_wiring.specs.Lines.{ended}
-use Rattle.afdx_lines.specs.Lines.{table_line, capture_line, load_line, network_failure_line, network_status}
+use Rattle.afdx_wiring.specs.Lines.{as_line}
+use Rattle.afdx_lines.specs.Lines.{memory_text, table_line, capture_line, load_line, network_failure_line, network_status}
 
 abbrev pub memory_line : List ℕ
-memory_line = ended (codes "afdx: memory")
+memory_line = as_line memory_text
 
 abbrev pub line_of : Failure → List ℕ
-line_of failure.Usage = ended (codes "afdx: usage")
+line_of failure.Usage = as_line (codes "afdx: usage")
 line_of (failure.Table refusal) = table_line refusal
 line_of (failure.Load f) = load_line f
 line_of (failure.Capture f) = capture_line None f
 line_of (failure.PortCapture port f) = capture_line (Some port) f
 line_of (failure.Network f) = network_failure_line f
-line_of (failure.Get name) = ended (codes "afdx: device get " ++ string_bytes name)
-line_of (failure.Put name) = ended (codes "afdx: device put " ++ string_bytes name)
-line_of failure.Read = ended (codes "afdx: device read")
-line_of failure.Write = ended (codes "afdx: device write")
+line_of (failure.Get name) = as_line (codes "afdx: device get " ++ string_bytes name)
+line_of (failure.Put name) = as_line (codes "afdx: device put " ++ string_bytes name)
+line_of failure.Read = as_line (codes "afdx: device read")
+line_of failure.Write = as_line (codes "afdx: device write")
 line_of failure.Memory = memory_line
 
 abbrev pub status_of : Failure → ℕ

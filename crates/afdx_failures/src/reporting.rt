@@ -3,7 +3,7 @@
 ghost use Rattle.std.specs.Prelude.{◌≡◌, ◌≤◌, ◌++◌, codes, string_bytes, IfOk, MatchResult};
 ghost use Rattle.afdx_failures.specs.declared.failure.Failure.{Failure as Failing};
 ghost use Rattle.afdx_failures.specs.Reporting.{line_of, memory_line, status_of, ReportsAs};
-ghost use Rattle.afdx_wiring.specs.Lines.{ended};
+ghost use Rattle.afdx_wiring.specs.Lines.{as_line};
 ghost use Rattle.afdx_devices.specs.Output.{AppendsPrefix};
 
 use crate::failure::Failure;
@@ -35,7 +35,7 @@ fn write_made<E: Write>(err: &mut E, line: Result<String, AllocError>, status: u
 
 /// The line that a folder's failure has.
 fn device_line(alloc: Global, call: &str, name: &str) -> Result<String, AllocError>
-    ensures { IfOk result (λ line. string_bytes line ≡ ended (codes "afdx: device " ++ call.now ++ codes " " ++ name.now)) }
+    ensures { IfOk result (λ line. string_bytes line ≡ as_line (codes "afdx: device " ++ call.now ++ codes " " ++ name.now)) }
 {
     let mut line = String::from_str(alloc, "afdx: device ")?;
     line.push_str(call)?;

@@ -8,7 +8,7 @@ use Rattle.afdx_units.specs.declared.line.Speed.TheVariants.{Hundred}
 use Rattle.afdx_account.specs.Policing.{byte_terms, byte_weight}
 use Rattle.afdx_port.specs.declared.Settings.{Settings}
 use Rattle.afdx_port.specs.declared.Item.{Item}
-use Rattle.afdx_isolation.specs.Inner.Flow.{Flow, IsPaidFor, Carries, AreDistinct, bound, demand_of}
+use Rattle.afdx_isolation.specs.Inner.Flow.{Flow, IsPaidFor, CarriesFlows, AreDistinct, bound, demand_of}
 use Rattle.afdx_isolation.specs.Inner.Arrivals.{passed, feed_of, StampsDoNotFall}
 
 -- a frame of 1000 bytes in each ms, and one of 500 bytes, policed by bytes, on a line of 100 Mbit/s
@@ -29,7 +29,7 @@ bounds : (bound (demand_of port (control ∷ bulk ∷ [])) High ≡ 146600) × (
 bounds = (refl, refl)
 
 -- the buffer is the least, and the greatest delay the low bound
-carries : Carries port (control ∷ bulk ∷ [])
+carries : CarriesFlows port (control ∷ bulk ∷ [])
 carries = record {
   rate = omega arith;
   buffer = omega arith;

@@ -20,7 +20,7 @@ use Rattle.afdx_port.specs.Inner.Order.{highs, lows, line_up, in_line}
 use Rattle.afdx_port.specs.Inner.Course.{line_at}
 use Rattle.afdx_port.specs.Inner.Work.{item_cost, work, HaveCome}
 use Rattle.afdx_account.specs.Policing.{parts}
-use Rattle.afdx_isolation.specs.Inner.Flow.{Flow, Demand, IsPaidFor, IsWithinRate, HasBuffer, IsWithinDelay, Carries, AreDistinct, high_flows, low_flows, demand_of, bound}
+use Rattle.afdx_isolation.specs.Inner.Flow.{Flow, Demand, IsPaidFor, IsWithinRate, HasBuffer, IsWithinDelay, CarriesFlows, AreDistinct, high_flows, low_flows, demand_of, bound}
 use Rattle.afdx_isolation.specs.Inner.Potential.{costs, IsWithinPotentials, KeepsPotentials, EndsBy, BeginsAs, held}
 use Rattle.afdx_isolation.specs.Inner.Account.{AreWithinCaps, Grow, AreDebited, IsOfAFlow, charge}
 use Rattle.afdx_isolation.specs.Inner.Kept.{IsKeptLevel}
@@ -225,11 +225,11 @@ module _ (g : Ground) (s : Settings) (flows : List Flow) (paid : All (IsPaidFor 
       let bound' = All-contains (λ (flow : Flow). flow.priority ≡ priority → bound demand priority ≤ s.max_delay) flows r.flow quick r.among is in
       timely s demand priority event refl (leaves r.flow r.among priority is) bound' class (h.ends k d lt)
 
-  delay_of : Carries s flows → (priority : Priority) → IsWithinDelay s flows priority
+  delay_of : CarriesFlows s flows → (priority : Priority) → IsWithinDelay s flows priority
   delay_of a High = a.high
   delay_of a Low = a.low
 
-  pub all_in_time : Carries s flows → (items : List Item) (now : ℕ) (level : Flow → ℕ) → Keeps items now level → All (IsTimely s demand) (service s 0 items)
+  pub all_in_time : CarriesFlows s flows → (items : List Item) (now : ℕ) (level : Flow → ℕ) → Keeps items now level → All (IsTimely s demand) (service s 0 items)
   all_in_time a items now level h k d lt =
       let priority = (item_of (get_or (service s 0 items) k d)).priority in
       in_time items now level priority (delay_of a priority) h k d lt refl

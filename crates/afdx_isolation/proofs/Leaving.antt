@@ -10,16 +10,16 @@ use Rattle.afdx_port.specs.declared.Sent.{Sent}
 use Rattle.afdx_port.specs.Service.{Event, sending, aging, instant, item_of, reach, service, before, sent_of, aged_of}
 use Rattle.afdx_port.specs.Admission.{admitted}
 use Rattle.afdx_port.specs.Content.{Content, done}
-use Rattle.afdx_isolation.specs.Inner.Flow.{Flow, Demand, Carries, demand_of}
+use Rattle.afdx_isolation.specs.Inner.Flow.{Flow, Demand, CarriesFlows, demand_of}
 use Rattle.afdx_isolation.specs.Inner.Account.{IsOfAFlow}
-use Rattle.afdx_isolation.specs.Arrivals.{own, frame_in}
+use Rattle.afdx_isolation.specs.Arrivals.{own, frame_of_item}
 use Rattle.afdx_isolation.specs.Inner.Arrivals.{passed, feed_of}
 use Rattle.afdx_isolation.specs.Inner.Claims.{Arrive, IsInBound, IsTimely, IsIsolatedPort, IsIsolatedSoFar, OthersChangeNothing}
 use Rattle.afdx_isolation.specs.Inner.Ground.{Ground}
 use Rattle.afdx_isolation.proofs.Keeping.{all_in_time, ordered}
 use Rattle.afdx_isolation.proofs.Offered.{kept, none_full, exactly}
 
-pub isolated : (g : Ground) (s : Settings) (flows : List Flow) (arrivals : List Item) → Arrive s flows arrivals → Carries s flows → IsIsolatedPort s flows arrivals
+pub isolated : (g : Ground) (s : Settings) (flows : List Flow) (arrivals : List Item) → Arrive s flows arrivals → CarriesFlows s flows → IsIsolatedPort s flows arrivals
 isolated g s flows arrivals arrive carries =
     let feed = feed_of flows arrivals in
     let all = kept g s flows arrivals arrive carries.rate in
@@ -81,7 +81,7 @@ module _ (g : Ground) (s : Settings) (demand : Demand) (items : List Item) (time
         λ is. (cc),
       )
 
-pub isolated_so_far : (g : Ground) (c : Content) (flows : List Flow) (arrivals : List Item) → Arrive c.settings flows arrivals → Carries c.settings flows
+pub isolated_so_far : (g : Ground) (c : Content) (flows : List Flow) (arrivals : List Item) → Arrive c.settings flows arrivals → CarriesFlows c.settings flows
     → c.admitted ≡ admitted c.settings (feed_of flows arrivals) → IsIsolatedSoFar flows arrivals c
 isolated_so_far g c flows arrivals arrive carries is =
     let s = c.settings in
@@ -104,9 +104,9 @@ isolated_so_far g c flows arrivals arrive carries is =
 
 pub others_nothing : Ground → OthersChangeNothing
 others_nothing g s s' flows flows' flow flow' arrivals arrivals' arrive carries arrive' carries' among among' terms same =
-    ap (map frame_in) ((isolated g s flows arrivals arrive carries).exactly_passed flow among)
-    ∙ g.by_frames frame_in flow.terms (own flow.id arrivals)
+    ap (map frame_of_item) ((isolated g s flows arrivals arrive carries).exactly_passed flow among)
+    ∙ g.by_frames frame_of_item flow.terms (own flow.id arrivals)
     ∙ ap (passed_frames flow.terms) same
-    ∙ ap (λ t. passed_frames t (map frame_in (own flow'.id arrivals'))) terms
-    ∙ sym (g.by_frames frame_in flow'.terms (own flow'.id arrivals'))
-    ∙ sym (ap (map frame_in) ((isolated g s' flows' arrivals' arrive' carries').exactly_passed flow' among'))
+    ∙ ap (λ t. passed_frames t (map frame_of_item (own flow'.id arrivals'))) terms
+    ∙ sym (g.by_frames frame_of_item flow'.terms (own flow'.id arrivals'))
+    ∙ sym (ap (map frame_of_item) ((isolated g s' flows' arrivals' arrive' carries').exactly_passed flow' among'))

@@ -11,13 +11,13 @@ use Rattle.afdx_account.specs.Level.{headroom, NoneLater}
 use Rattle.afdx_port.specs.declared.Item.{Item}
 use Rattle.afdx_isolation.specs.Inner.Flow.{Flow, AreDistinct}
 use Rattle.afdx_isolation.specs.Inner.Account.{Grow, AreDebited, charge}
-use Rattle.afdx_isolation.specs.Arrivals.{own, frame_in}
+use Rattle.afdx_isolation.specs.Arrivals.{own, frame_of_item}
 use Rattle.afdx_isolation.specs.Inner.Arrivals.{is_passed, joins, level_after}
 use Rattle.afdx_isolation.specs.Inner.Ground.{Ground}
 
 -- the frames of one link
 abbrev pub frames : ℕ → List Item → List Frame
-frames id arrivals = map frame_in (own id arrivals)
+frames id arrivals = map frame_of_item (own id arrivals)
 
 -- no frame of any link is later
 abbrev pub Early : List Item → ℕ → Type 0
@@ -33,13 +33,13 @@ none_longer : (fs : List Frame) (now later : ℕ) → now ≤ later → NoneLate
 none_longer [] now later le h = tt
 none_longer (f ∷ fs) now later le h = (let here = h.0 in omega (arith, here), none_longer fs now later le h.1)
 
-own-push : (id : ℕ) (before : List Item) (x : Item) → frames id (before ++ x ∷ []) ≡ cond (nat_eq x.link id) (frames id before ++ frame_in x ∷ []) (frames id before)
+own-push : (id : ℕ) (before : List Item) (x : Item) → frames id (before ++ x ∷ []) ≡ cond (nat_eq x.link id) (frames id before ++ frame_of_item x ∷ []) (frames id before)
 own-push id before x =
     let p = λ (x : Item). nat_eq x.link id in
-    ap (map frame_in) (filter-append p before (x ∷ []))
-    ∙ (elim (nat_eq x.link id) as (λ v. map frame_in (filter p before ++ cond v (x ∷ []) []) ≡ cond v (frames id before ++ frame_in x ∷ []) (frames id before)) [
-      | true ↦ map-append frame_in (filter p before) (x ∷ [])
-      | false ↦ ap (map frame_in) (append-nil (filter p before))
+    ap (map frame_of_item) (filter-append p before (x ∷ []))
+    ∙ (elim (nat_eq x.link id) as (λ v. map frame_of_item (filter p before ++ cond v (x ∷ []) []) ≡ cond v (frames id before ++ frame_of_item x ∷ []) (frames id before)) [
+      | true ↦ map-append frame_of_item (filter p before) (x ∷ [])
+      | false ↦ ap (map frame_of_item) (append-nil (filter p before))
     ])
 
 pub early_later : (before : List Item) (now later : ℕ) → now ≤ later → Early before now → Early before later
@@ -47,8 +47,8 @@ early_later before now later le early id = none_longer (frames id before) now la
 
 pub early_push : (before : List Item) (x : Item) → Early before x.stamp → Early (before ++ x ∷ []) x.stamp
 early_push before x early id = subst (λ fs. NoneLater fs x.stamp) (sym (own-push id before x))
-    (elim (nat_eq x.link id) as (λ v. NoneLater (cond v (frames id before ++ frame_in x ∷ []) (frames id before)) x.stamp) [
-      | true ↦ none_push (frames id before) (frame_in x) (early id)
+    (elim (nat_eq x.link id) as (λ v. NoneLater (cond v (frames id before ++ frame_of_item x ∷ []) (frames id before)) x.stamp) [
+      | true ↦ none_push (frames id before) (frame_of_item x) (early id)
       | false ↦ early id
     ])
 
@@ -75,21 +75,21 @@ none_joined (k ∷ flows) before x h = All-cons (λ flow. is_passed before x flo
       right a b h = grind (arith, nat_tests)
 
 pub passed_link : (before : List Item) (x : Item) (flow : Flow) → is_passed before x flow ≡ true → x.link ≡ flow.id
-passed_link before x flow h = same x.link flow.id (conforms flow.terms (passed_frames flow.terms (frames flow.id before)) (frame_in x)) h where
+passed_link before x flow h = same x.link flow.id (conforms flow.terms (passed_frames flow.terms (frames flow.id before)) (frame_of_item x)) h where
   same : (m n : ℕ) (b : Bool) → nat_eq m n && b ≡ true → m ≡ n
   same m n b h = grind (arith, nat_tests)
 
 module _ (g : Ground) where
   -- what is passed of a link's arrivals, with one more
   pub passed_step : (flow : Flow) (before : List Item) (x : Item) → passed_frames flow.terms (frames flow.id (before ++ x ∷ []))
-      ≡ cond (is_passed before x flow) (passed_frames flow.terms (frames flow.id before) ++ frame_in x ∷ []) (passed_frames flow.terms (frames flow.id before))
+      ≡ cond (is_passed before x flow) (passed_frames flow.terms (frames flow.id before) ++ frame_of_item x ∷ []) (passed_frames flow.terms (frames flow.id before))
   passed_step flow before x =
       let t = flow.terms in
       let fs = frames flow.id before in
       ap (passed_frames t) (own-push flow.id before x)
-      ∙ (elim (nat_eq x.link flow.id) as (λ v. passed_frames t (cond v (fs ++ frame_in x ∷ []) fs)
-      ≡ cond (v && conforms t (passed_frames t fs) (frame_in x)) (passed_frames t fs ++ frame_in x ∷ []) (passed_frames t fs)) [
-        | true ↦ g.next_frame t fs (frame_in x)
+      ∙ (elim (nat_eq x.link flow.id) as (λ v. passed_frames t (cond v (fs ++ frame_of_item x ∷ []) fs)
+      ≡ cond (v && conforms t (passed_frames t fs) (frame_of_item x)) (passed_frames t fs ++ frame_of_item x ∷ []) (passed_frames t fs)) [
+        | true ↦ g.next_frame t fs (frame_of_item x)
         | false ↦ refl
       ])
 
@@ -106,7 +106,7 @@ module _ (g : Ground) where
       let t = flow.terms in
       let fs = frames flow.id before in
       let ps = passed_frames t fs in
-      let f = frame_in x in
+      let f = frame_of_item x in
       let step : level_after (before ++ x ∷ []) x.stamp flow ≡ headroom t (ps ++ f ∷ []) x.stamp = ap (λ qs. headroom t qs x.stamp) (passed_step flow before x ∙ ap (λ v. cond v (ps ++ f ∷ []) ps) is)
       in
       let push = g.debited t ps f in
@@ -124,7 +124,7 @@ module _ (g : Ground) where
   level_kept flow before x is =
       let t = flow.terms in
       let ps = passed_frames t (frames flow.id before) in
-      ap (λ qs. headroom t qs x.stamp) (passed_step flow before x ∙ ap (λ v. cond v (ps ++ frame_in x ∷ []) ps) is)
+      ap (λ qs. headroom t qs x.stamp) (passed_step flow before x ∙ ap (λ v. cond v (ps ++ frame_of_item x ∷ []) ps) is)
 
   -- of a flow's own arrival, its own policing decides
   pub own_passes : (flows : List Flow) → AreDistinct flows → (before : List Item) (x : Item) (flow : Flow) → Contains flows flow → joins flows before x ≡ true → x.link ≡ flow.id
@@ -145,7 +145,7 @@ module _ (g : Ground) where
       let price : charge x flow ≡ flow.terms.price x.size = ap (λ v. cond v (flow.terms.price x.size) 0) is in
       omega (arith, own', price))
       (λ (is : nat_eq flow.id x.link ≡ false).
-      let kept = level_kept flow before x (apart' x.link flow.id (conforms flow.terms (passed_frames flow.terms (frames flow.id before)) (frame_in x)) is) in
+      let kept = level_kept flow before x (apart' x.link flow.id (conforms flow.terms (passed_frames flow.terms (frames flow.id before)) (frame_of_item x)) is) in
       let price : charge x flow ≡ 0 = ap (λ v. cond v (flow.terms.price x.size) 0) is in
       omega (arith, kept, price))
       (cases_Bool (nat_eq flow.id x.link)) where

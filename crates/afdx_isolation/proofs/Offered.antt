@@ -15,7 +15,7 @@ use Rattle.afdx_port.specs.Admission.{admit_all, admitted}
 use Rattle.afdx_isolation.specs.Inner.Flow.{Flow, IsPaidFor, IsWithinRate, HasBuffer, AreDistinct}
 use Rattle.afdx_isolation.specs.Inner.Account.{Grow, IsOfAFlow}
 use Rattle.afdx_isolation.specs.Inner.Kept.{IsKeptLevel}
-use Rattle.afdx_isolation.specs.Arrivals.{own, frame_in}
+use Rattle.afdx_isolation.specs.Arrivals.{own, frame_of_item}
 use Rattle.afdx_isolation.specs.Inner.Arrivals.{IsClean, passed, is_passed, joins, feed_after, feed_of, level_after}
 use Rattle.afdx_isolation.specs.Inner.Claims.{Arrive}
 use Rattle.afdx_isolation.specs.Inner.Ground.{Ground}
@@ -52,7 +52,7 @@ module _ (g : Ground) (s : Settings) (flows : List Flow) (paid : All (IsPaidFor 
   gathered true x items rest = append_assoc items (x ∷ []) rest
   gathered false x items rest = refl
 
-  pub kept_all : (before arrivals items : List Item) (now to : ℕ) → Early before now → now ≤ to → InOrder now (map frame_in arrivals) → AllByRecursion (λ (x : Item). x.stamp ≤ to) arrivals
+  pub kept_all : (before arrivals items : List Item) (now to : ℕ) → Early before now → now ≤ to → InOrder now (map frame_of_item arrivals) → AllByRecursion (λ (x : Item). x.stamp ≤ to) arrivals
       → All (IsClean flows) arrivals
       → Keeps items (reach s now) (level_after before now) → Keeps (items ++ feed_after flows before arrivals) (reach s to) (level_after (before ++ arrivals) to)
   kept_all before [] items now to early le order late clean h =
@@ -77,7 +77,7 @@ module _ (g : Ground) (s : Settings) (flows : List Flow) (paid : All (IsPaidFor 
   room_for buffer before items x clean early h false is rest = refl
 
   -- each copy has room
-  pub full_none : HasBuffer s flows → (before arrivals items : List Item) (now : ℕ) → Early before now → InOrder now (map frame_in arrivals) → All (IsClean flows) arrivals
+  pub full_none : HasBuffer s flows → (before arrivals items : List Item) (now : ℕ) → Early before now → InOrder now (map frame_of_item arrivals) → All (IsClean flows) arrivals
       → Keeps items (reach s now) (level_after before now) → admit_all s items (feed_after flows before arrivals) ≡ items ++ feed_after flows before arrivals
   full_none buffer before [] items now early order clean h = sym (append-nil items)
   full_none buffer before (x ∷ arrivals) items now early order clean h =
@@ -125,26 +125,27 @@ module _ (g : Ground) (flows : List Flow) (apart : AreDistinct flows) (flow : Fl
     decide false h = sym (ap (λ v. cond v (x ∷ own flow.id rest) (own flow.id rest)) (All-contains (λ l. is_passed before x l ≡ false) flows flow (none_joined flows before x h) among))
     decide true h = ap (λ v. cond v (x ∷ own flow.id rest) (own flow.id rest)) (⊎_elim
         (λ (is : nat_eq x.link flow.id ≡ true). is ∙ sym (own_passes g flows apart before x flow among h (eqb-true _ _ is)))
-        (λ (is : nat_eq x.link flow.id ≡ false). is ∙ sym (out (nat_eq x.link flow.id) (conforms flow.terms (passed_frames flow.terms (frames flow.id before)) (frame_in x)) is))
+        (λ (is : nat_eq x.link flow.id ≡ false). is ∙ sym (out (nat_eq x.link flow.id) (conforms flow.terms (passed_frames flow.terms (frames flow.id before)) (frame_of_item x)) is))
         (cases_Bool (nat_eq x.link flow.id)))
 
-  after : (before arrivals : List Item) → own flow.id (feed_after flows before arrivals) ≡ passed_after frame_in flow.terms (passed_frames flow.terms (frames flow.id before)) (own flow.id arrivals)
+  after : (before arrivals : List Item) → own flow.id (feed_after flows before arrivals)
+      ≡ passed_after frame_of_item flow.terms (passed_frames flow.terms (frames flow.id before)) (own flow.id arrivals)
   after before [] = refl
   after before (x ∷ arrivals) =
       let t = flow.terms in
       let ps = passed_frames t (frames flow.id before) in
       let rest = feed_after flows (before ++ x ∷ []) arrivals in
-      let ih = after (before ++ x ∷ []) arrivals ∙ ap (λ qs. passed_after frame_in t qs (own flow.id arrivals)) (passed_step g flow before x) in
-      filtered before x rest ∙ step (nat_eq x.link flow.id) (conforms t ps (frame_in x)) ps (own flow.id arrivals) (own flow.id rest) refl ih where
+      let ih = after (before ++ x ∷ []) arrivals ∙ ap (λ qs. passed_after frame_of_item t qs (own flow.id arrivals)) (passed_step g flow before x) in
+      filtered before x rest ∙ step (nat_eq x.link flow.id) (conforms t ps (frame_of_item x)) ps (own flow.id arrivals) (own flow.id rest) refl ih where
         one : (c : Bool) (ys zs : List Item) → ys ≡ zs → cond c (x ∷ ys) ys ≡ cond c (x ∷ []) [] ++ zs
         one true ys zs is = ap (λ ys. x ∷ ys) is
         one false ys zs is = is
 
-        step : (v c : Bool) (ps : List Frame) (rows rest : List Item) → c ≡ conforms flow.terms ps (frame_in x) → rest
-            ≡ passed_after frame_in flow.terms (cond (v && c) (ps ++ frame_in x ∷ []) ps) rows
-            → cond (v && c) (x ∷ rest) rest ≡ passed_after frame_in flow.terms ps (cond v (x ∷ rows) rows)
-        step true c ps rows rest is ih = one c rest (passed_after frame_in flow.terms (cond c (ps ++ frame_in x ∷ []) ps) rows) ih
-            ∙ ap (λ b. cond b (x ∷ []) [] ++ passed_after frame_in flow.terms (cond b (ps ++ frame_in x ∷ []) ps) rows) is
+        step : (v c : Bool) (ps : List Frame) (rows rest : List Item) → c ≡ conforms flow.terms ps (frame_of_item x) → rest
+            ≡ passed_after frame_of_item flow.terms (cond (v && c) (ps ++ frame_of_item x ∷ []) ps) rows
+            → cond (v && c) (x ∷ rest) rest ≡ passed_after frame_of_item flow.terms ps (cond v (x ∷ rows) rows)
+        step true c ps rows rest is ih = one c rest (passed_after frame_of_item flow.terms (cond c (ps ++ frame_of_item x ∷ []) ps) rows) ih
+            ∙ ap (λ b. cond b (x ∷ []) [] ++ passed_after frame_of_item flow.terms (cond b (ps ++ frame_of_item x ∷ []) ps) rows) is
         step false c ps rows rest is ih = ih
 
   pub exactly : (arrivals : List Item) → own flow.id (feed_of flows arrivals) ≡ passed flow arrivals

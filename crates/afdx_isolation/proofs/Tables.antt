@@ -26,10 +26,10 @@ use Rattle.afdx_table.specs.Content.{Content}
 use Rattle.afdx_table.specs.WellFormed.{IsLink, IsWellFormed}
 use Rattle.afdx_load.specs.Load.{behind, is_high_link, is_low_link, routed, rate_of, burst_of, time_of, greatest, links_load, load_of, terms_of}
 use Rattle.afdx_load.specs.Bounds.{backlog, byte_time}
-use Rattle.afdx_load.specs.Accepted.{Carries as CarriesLoad}
+use Rattle.afdx_load.specs.Accepted.{Carries}
 use Rattle.afdx_load.specs.Inner.Laws.{AsksWhatItsAccountGives, EachLinkAsks, AcceptedKeepsBounds}
-use Rattle.afdx_isolation.specs.Inner.Flow.{Flow, IsPaidFor, Carries, AreDistinct, high_flows, low_flows, rates, bursts, longest, demand_of, bound}
-use Rattle.afdx_isolation.specs.Arrivals.{own, frame_in}
+use Rattle.afdx_isolation.specs.Inner.Flow.{Flow, IsPaidFor, CarriesFlows, AreDistinct, high_flows, low_flows, rates, bursts, longest, demand_of, bound}
+use Rattle.afdx_isolation.specs.Arrivals.{own, frame_of_item}
 use Rattle.afdx_isolation.specs.Inner.Arrivals.{IsClean, is_passed, joins, feed_of}
 use Rattle.afdx_isolation.specs.Inner.Claims.{Arrive, IsInBound, IsIsolatedSoFar, IsolatesSoFar, NoneIsFull}
 use Rattle.afdx_isolation.specs.Table.{settings_of, bound_of}
@@ -161,8 +161,8 @@ module _ (latency : ℕ) (row : PortRow) (asks : AsksWhatItsAccountGives) where
       × (0 < (links_load row.speed links).lows → ((links_load row.speed links).high_rate < parts)
       × ((links_load row.speed links).burst / (parts - (links_load row.speed links).high_rate) + latency ≤ row.max_delay))
 
-  carries : (links : List Link) → (0 < (links_load row.speed links).highs + (links_load row.speed links).lows → CarriesLoad row (behind latency (links_load row.speed links))) → KeepsBounds links
-      → Carries (settings_of latency row) (map (flow_of row.speed) links)
+  carries : (links : List Link) → (0 < (links_load row.speed links).highs + (links_load row.speed links).lows → Carries row (behind latency (links_load row.speed links))) → KeepsBounds links
+      → CarriesFlows (settings_of latency row) (map (flow_of row.speed) links)
   carries [] h bounds = record {
     rate = omega arith;
     buffer = omega arith;
@@ -206,6 +206,10 @@ module _ (latency : ℕ) (row : PortRow) (asks : AsksWhatItsAccountGives) where
         given v w o iv iw = ap (λ v. cond (v && w) o None) iv ∙ ap (λ w. cond w o None) iw
 
 -- ---- the links of a table
+
+-- whether a link's policing passes an arrival after those before it
+abbrev policing_passes : Link → List Item → Item → Bool
+policing_passes link before x = conforms (terms_of link) (passed_frames (terms_of link) (map frame_of_item (own link.id before))) (frame_of_item x)
 
 module _ (t : Content) (row : PortRow) (well : IsWellFormed t) where
   abbrev links : List Link
@@ -259,13 +263,13 @@ module _ (t : Content) (row : PortRow) (well : IsWellFormed t) where
 
   -- a link's own flow decides of its arrivals
   pub offers : (link : Link) → Contains t.links link → (before : List Item) (x : Item) → x.link ≡ link.id
-      → joins (flows_at t row) before x ≡ (leads_to row.id link && conforms (terms_of link) (passed_frames (terms_of link) (map frame_in (own link.id before))) (frame_in x))
-  offers link in_table before x same = decide (leads_to row.id link) (conforms (terms_of link) (passed_frames (terms_of link) (map frame_in (own link.id before))) (frame_in x)) refl refl where
+      → joins (flows_at t row) before x ≡ (leads_to row.id link && conforms (terms_of link) (passed_frames (terms_of link) (map frame_of_item (own link.id before))) (frame_of_item x))
+  offers link in_table before x same = decide (leads_to row.id link) (policing_passes link before x) refl refl where
     equal : (m n : ℕ) → m ≡ n → nat_eq m n ≡ true
     equal m n h = grind (arith, nat_tests)
 
-    own_passes : (c : Bool) → conforms (terms_of link) (passed_frames (terms_of link) (map frame_in (own link.id before))) (frame_in x) ≡ c → is_passed before x (flow_of row.speed link) ≡ c
-    own_passes c is = ap (λ v. v && conforms (terms_of link) (passed_frames (terms_of link) (map frame_in (own link.id before))) (frame_in x)) (equal x.link link.id same) ∙ is
+    own_passes : (c : Bool) → policing_passes link before x ≡ c → is_passed before x (flow_of row.speed link) ≡ c
+    own_passes c is = ap (λ v. v && policing_passes link before x) (equal x.link link.id same) ∙ is
 
     one : (flow : Flow) → Contains (flows_at t row) flow → is_passed before x flow ≡ true → (leads_to row.id link ≡ true) × (is_passed before x (flow_of row.speed link) ≡ true)
     one flow among passes =
@@ -283,8 +287,7 @@ module _ (t : Content) (row : PortRow) (well : IsWellFormed t) where
         (λ (is : joins (flows_at t row) before x ≡ false). is)
         (cases_Bool (joins (flows_at t row) before x))
 
-    decide : (v c : Bool) → leads_to row.id link ≡ v → conforms (terms_of link) (passed_frames (terms_of link) (map frame_in (own link.id before))) (frame_in x) ≡ c → joins (flows_at t row) before x
-        ≡ (v && c)
+    decide : (v c : Bool) → leads_to row.id link ≡ v → policing_passes link before x ≡ c → joins (flows_at t row) before x ≡ (v && c)
     decide false c leads is = never (λ yes _. absurd (both_ways (leads_to row.id link) leads yes))
     decide true false leads is = never (λ _ yes. absurd (both_ways (is_passed before x (flow_of row.speed link)) (own_passes false is) yes))
     decide true true leads is = ⊎_elim
@@ -311,9 +314,9 @@ isolated_at pays asks some keeps isolates t arrivals h row among c settings is =
     } in
     let bounds : KeepsBounds t.latency row asks links = All-contains (λ (row : PortRow). KeepsBounds t.latency row asks (routed row.id t.links)) t.ports row (keeps t h.well_formed h.accepted) among in
     let accepted = All-contains (λ (row : PortRow). 0 < (load_of t.latency row.speed row.id t.links).highs + (load_of t.latency row.speed row.id t.links).lows
-    → CarriesLoad row (load_of t.latency row.speed row.id t.links)) t.ports row h.accepted among in
-    let carried : Carries s flows = carries t.latency row asks links accepted bounds in
-    let all : IsIsolatedSoFar flows arrivals c = isolates c flows arrivals (subst (λ s. Arrive s flows arrivals) (sym settings) arrive) (subst (λ s. Carries s flows) (sym settings) carried)
+    → Carries row (load_of t.latency row.speed row.id t.links)) t.ports row h.accepted among in
+    let carried : CarriesFlows s flows = carries t.latency row asks links accepted bounds in
+    let all : IsIsolatedSoFar flows arrivals c = isolates c flows arrivals (subst (λ s. Arrive s flows arrivals) (sym settings) arrive) (subst (λ s. CarriesFlows s flows) (sym settings) carried)
     (subst (λ s. c.admitted ≡ admitted s (feed_of flows arrivals)) (sym settings) is) in
     let in_bound : All (IsInBound s (demand_of s flows)) (sent_of (done c)) = subst (λ s. All (IsInBound s (demand_of s flows)) (sent_of (done c))) settings all.in_bound in
     record {
@@ -349,8 +352,9 @@ none_past pays asks some keeps full t arrivals h row among bytes holds =
     let bounds : KeepsBounds t.latency own asks (routed row.id t.links) = All-contains (λ (row : PortRow). KeepsBounds t.latency row asks (routed row.id t.links)) t.ports row
     (keeps t h.well_formed h.accepted) among in
     let accepted = All-contains (λ (row : PortRow). 0 < (load_of t.latency row.speed row.id t.links).highs + (load_of t.latency row.speed row.id t.links).lows
-    → CarriesLoad row (load_of t.latency row.speed row.id t.links)) t.ports row h.accepted among in
-    let carried : Carries s flows = carries t.latency own asks (routed row.id t.links) (λ has. let c = accepted has in record { rate = c.rate; buffer = holds; high = c.high; low = c.low }) bounds in
+    → Carries row (load_of t.latency row.speed row.id t.links)) t.ports row h.accepted among in
+    let carried : CarriesFlows s flows =
+    carries t.latency own asks (routed row.id t.links) (λ has. let c = accepted has in record { rate = c.rate; buffer = holds; high = c.high; low = c.low }) bounds in
     full s flows arrivals arrive carried.rate carried.buffer
 
 pub holds_backlog : PricesPay → AsksWhatItsAccountGives → EachLinkAsks → AcceptedKeepsBounds → NoneIsFull → AdmittedFit → BuffersServeAlike → AcceptedTablesIsolate
@@ -369,13 +373,13 @@ pub others_in_tables : PassedByTheirFrames Item → AcceptedTablesIsolate → Ot
 others_in_tables by_frames isolate t t' arrivals arrivals' h h' row row' among among' link link' in_table in_table' leads leads' terms same c c' settings settings' admits admits' ends ends' =
     all t arrivals h row among link in_table leads c settings admits ends
     ∙ ap (passed_frames (terms_of link)) same
-    ∙ ap (λ terms. passed_frames terms (map frame_in (own link'.id arrivals'))) terms
+    ∙ ap (λ terms. passed_frames terms (map frame_of_item (own link'.id arrivals'))) terms
     ∙ sym (all t' arrivals' h' row' among' link' in_table' leads' c' settings' admits' ends') where
       all : (t : Content) (arrivals : List Item) → ArriveAt t arrivals → (row : PortRow) → Contains t.ports row → (link : Link) → Contains t.links link → leads_to row.id link ≡ true
           → (c : PortContent) → c.settings ≡ settings_of t.latency row → c.admitted ≡ admitted (settings_of t.latency row) (feed_of (flows_at t row) arrivals) → c.finished ≡ true
-          → frames_for link.id c ≡ passed_frames (terms_of link) (map frame_in (own link.id arrivals))
+          → frames_for link.id c ≡ passed_frames (terms_of link) (map frame_of_item (own link.id arrivals))
       all t arrivals h row among link in_table leads c settings admits ends =
           let prefix = (isolate t arrivals h row among c settings admits).prefix_of_passed link in_table leads in
           let sent' = own link.id (map (λ (x : Sent). x.item) (sent_of (done c))) in
-          ap (map frame_in) (sym (append-nil sent') ∙ ap (λ ys. sent' ++ ys) (sym (prefix.2 ends)) ∙ prefix.1)
-          ∙ by_frames frame_in (terms_of link) (own link.id arrivals)
+          ap (map frame_of_item) (sym (append-nil sent') ∙ ap (λ ys. sent' ++ ys) (sym (prefix.2 ends)) ∙ prefix.1)
+          ∙ by_frames frame_of_item (terms_of link) (own link.id arrivals)

@@ -8,5 +8,5 @@ abbrev pub own : ℕ → List Item → List Item
 own id arrivals = filter (λ x. nat_eq x.link id) arrivals
 
 -- an arrival as its account sees it
-abbrev pub frame_in : Item → Frame
-frame_in x = record { stamp = x.stamp; size = x.size }
+abbrev pub frame_of_item : Item → Frame
+frame_of_item x = record { stamp = x.stamp; size = x.size }

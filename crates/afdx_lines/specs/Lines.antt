@@ -12,10 +12,14 @@ use Rattle.afdx_load.specs.declared.fault.LoadFault.{LoadFault}
 use Rattle.afdx_wiring.specs.declared.fault.NetworkFault.{NetworkFault}
 use Rattle.afdx_wiring.specs.declared.fault.NetworkFault.TheVariants as net
 use Rattle.afdx_wiring.specs.declared.fault.Short.{Short}
-use Rattle.afdx_wiring.specs.Lines.{ended}
+use Rattle.afdx_wiring.specs.Lines.{as_line}
 use Rattle.afdx_wiring.specs.Names.{key_text as wiring_key_text, place_text as wiring_place_text}
 use Rattle.afdx_lines.specs.declared.network_failure.NetworkFailure.{NetworkFailure}
 use Rattle.afdx_lines.specs.declared.network_failure.NetworkFailure.TheVariants as network
+
+-- that memory ran out, wherever it did
+abbrev pub memory_text : List ℕ
+memory_text = codes "afdx: memory"
 
 -- ---- of a table
 
@@ -40,7 +44,7 @@ abbrev pub table_text : TableFault → List ℕ
 table_text refusal = codes "afdx: table " ++ refusal_text refusal
 
 abbrev pub table_line : TableFault → List ℕ
-table_line refusal = ended (table_text refusal)
+table_line refusal = as_line (table_text refusal)
 
 -- ---- of a capture
 
@@ -77,7 +81,7 @@ abbrev pub capture_text : Option ℕ → PcapFault → List ℕ
 capture_text port f = codes "afdx: capture " ++ fault_text f ++ part (codes ", port ") port ++ part (codes ", record ") (record_of f)
 
 abbrev pub capture_line : Option ℕ → PcapFault → List ℕ
-capture_line port f = ended (capture_text port f)
+capture_line port f = as_line (capture_text port f)
 
 -- ---- of a load
 
@@ -91,7 +95,7 @@ abbrev pub load_fault_text : LoadFault → List ℕ
 load_fault_text f = codes "afdx: load " ++ rule_text f.rule ++ codes ", port " ++ decimal f.port ++ codes ", need " ++ decimal f.need ++ codes ", limit " ++ decimal f.limit
 
 abbrev pub load_line : LoadFault → List ℕ
-load_line f = ended (load_fault_text f)
+load_line f = as_line (load_fault_text f)
 
 -- ---- of a network
 
@@ -112,7 +116,7 @@ short_text rule name short = network_rule rule ++ switch_part name ++ link_part 
 
 -- what is reported of a refusal, which may be of the switch of this name
 abbrev pub network_text : Option (List ℕ) → NetworkFault → List ℕ
-network_text name net.Memory = codes "afdx: memory"
+network_text name net.Memory = memory_text
 network_text name net.Toml = network_rule (codes "G1 Toml")
 network_text name (net.UnknownKey at) = network_rule (codes "G2 UnknownKey") ++ codes ", " ++ wiring_place_text at
 network_text name (net.MissingKey at key) = network_rule (codes "G2 MissingKey") ++ codes ", " ++ wiring_place_text at ++ codes ", " ++ wiring_key_text key
@@ -144,7 +148,7 @@ network_failure_text (network.Capture port fault name) = capture_text (Some port
 network_failure_text network.Unsettled = network_rule (codes "R1 Unsettled")
 
 abbrev pub network_failure_line : NetworkFailure → List ℕ
-network_failure_line f = ended (network_failure_text f)
+network_failure_line f = as_line (network_failure_text f)
 
 abbrev pub fault_status : NetworkFault → ℕ
 fault_status net.Memory = 5

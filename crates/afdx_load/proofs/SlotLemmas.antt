@@ -10,8 +10,7 @@ use Rattle.afdx_table.specs.declared.rows.PortRow.{PortRow}
 use Rattle.afdx_table.specs.Content.{Content, port_row}
 use Rattle.afdx_table.specs.WellFormed.{IsPort, Rises}
 use Rattle.afdx_load.specs.Load.{Load, asked_of, behind, load_of, port_load}
-use Rattle.afdx_load.specs.Inner.PortLoads.{AreLoads}
-use Rattle.afdx_load.specs.Inner.Slots.{speed_at}
+use Rattle.afdx_load.specs.Inner.Slots.{speed_at, AreLoads}
 
 pub any_default : (rows : List PortRow) (i : ℕ) (d e : PortRow) → i < length rows → get_or rows i d ≡ get_or rows i e
 any_default [] i d e h = absurd (omega arith)

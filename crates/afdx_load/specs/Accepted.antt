@@ -13,15 +13,15 @@ use Rattle.afdx_load.specs.declared.fault.LoadFault.{LoadFault}
 
 -- the port can give this load: the links ask for no more than the line, the buffer holds what may wait, and each
 -- priority's bound is within the greatest delay
-pub record Carries (row : PortRow) (s : Load) : Type 0 where
-  pub rate : s.rate ≤ parts
-  pub buffer : backlog s ≤ byte_time row.speed row.buffer
-  pub high : IfSome (high_bound s) (λ bound. bound ≤ row.max_delay)
-  pub low : IfSome (low_bound s) (λ bound. bound ≤ row.max_delay)
+pub record Carries (row : PortRow) (load : Load) : Type 0 where
+  pub rate : load.rate ≤ parts
+  pub buffer : backlog load ≤ byte_time row.speed row.buffer
+  pub high : IfSome (high_bound load) (λ bound. bound ≤ row.max_delay)
+  pub low : IfSome (low_bound load) (λ bound. bound ≤ row.max_delay)
 
 -- each port with links carries their load
 abbrev pub IsAccepted : Content → Type 0
-IsAccepted c = All (λ row. let s = load_of c.latency row.speed row.id c.links in 0 < s.highs + s.lows → Carries row s) c.ports
+IsAccepted c = All (λ row. let load = load_of c.latency row.speed row.id c.links in 0 < load.highs + load.lows → Carries row load) c.ports
 
 -- the fault of a need past its limit
 abbrev pub past : ℕ → Rule → ℕ → ℕ → Option LoadFault
@@ -34,12 +34,12 @@ past_bound port rule limit (Some need) = past port rule limit need
 
 -- the first rule that a port's load breaks
 unfoldable pub fault_at : PortRow → Load → Option LoadFault
-fault_at row s =
+fault_at row load =
     option_or (option_or (option_or
-    (past row.id Rate parts s.rate)
-    (past row.id Buffer (byte_time row.speed row.buffer) (backlog s)))
-    (past_bound row.id HighDelay row.max_delay (high_bound s)))
-    (past_bound row.id LowDelay row.max_delay (low_bound s))
+    (past row.id Rate parts load.rate)
+    (past row.id Buffer (byte_time row.speed row.buffer) (backlog load)))
+    (past_bound row.id HighDelay row.max_delay (high_bound load)))
+    (past_bound row.id LowDelay row.max_delay (low_bound load))
 
 -- the fault of the first port that has one; a table's ports rise, so that it is the lowest
 abbrev pub first_fault : ℕ → List Link → List PortRow → Option LoadFault

@@ -9,19 +9,19 @@ use Rattle.afdx_load.specs.declared.delays.Bounds.{Bounds}
 -- nanoseconds from the arrival of a high frame to its end on the line: the latency, and, rounded down, all that high links may
 -- ask for at once, which goes before it, and the low frame that the line had begun; where there are high links
 abbrev pub high_bound : Load → Option ℕ
-high_bound s = if nat_lt 0 s.highs then Some ((s.high_burst + parts * s.low_largest) / parts + s.latency) else None
+high_bound load = if nat_lt 0 load.highs then Some ((load.high_burst + parts * load.low_largest) / parts + load.latency) else None
 
 -- the same of a low frame: the latency, and all that any link may ask for at once, over the part of the line that the high links leave;
 -- where there are low links and such a part
 abbrev pub low_bound : Load → Option ℕ
-low_bound s = if nat_lt 0 s.lows && nat_lt s.high_rate parts then Some (s.burst / (parts - s.high_rate) + s.latency) else None
+low_bound load = if nat_lt 0 load.lows && nat_lt load.high_rate parts then Some (load.burst / (parts - load.high_rate) + load.latency) else None
 
 abbrev pub bounds_of : Load → Bounds
-bounds_of s = record { high = high_bound s; low = low_bound s }
+bounds_of load = record { high = high_bound load; low = low_bound load }
 
 -- what may wait and be on the line at once, in parts of a nanosecond
 abbrev pub backlog : Load → ℕ
-backlog s = s.burst + parts * s.largest
+backlog load = load.burst + parts * load.largest
 
 -- the line time of so many bytes, in parts of a nanosecond
 abbrev pub byte_time : Speed → ℕ → ℕ

@@ -9,10 +9,10 @@ use Rattle.afdx_load.specs.declared.fault.Rule.TheVariants.{Rate, Buffer, HighDe
 
 -- what a load needs by a rule, where the rule speaks of it
 abbrev pub need_of : Rule → Load → Option ℕ
-need_of Rate s = Some s.rate
-need_of Buffer s = Some (backlog s)
-need_of HighDelay s = high_bound s
-need_of LowDelay s = low_bound s
+need_of Rate load = Some load.rate
+need_of Buffer load = Some (backlog load)
+need_of HighDelay load = high_bound load
+need_of LowDelay load = low_bound load
 
 -- what a port can give by a rule
 abbrev pub limit_of : Rule → PortRow → ℕ

@@ -11,13 +11,13 @@ use Rattle.afdx_load.specs.declared.fault.Rule.TheVariants.{Rate, Buffer, HighDe
 
 -- the load needs more by this rule than the port can give; a bound that is not there breaks nothing
 abbrev pub is_broken : PortRow → Load → Rule → Bool
-is_broken row s rule = option_map_or (λ need. nat_lt (limit_of rule row) need) (need_of rule s) false
+is_broken row load rule = option_map_or (λ need. nat_lt (limit_of rule row) need) (need_of rule load) false
 
 -- the rules that it breaks, in their order
 abbrev pub broken_rules : PortRow → Load → List Rule
-broken_rules row s = filter (is_broken row s) (Rate ∷ Buffer ∷ HighDelay ∷ LowDelay ∷ [])
+broken_rules row load = filter (is_broken row load) (Rate ∷ Buffer ∷ HighDelay ∷ LowDelay ∷ [])
 
 -- a table is accepted exactly where each port with links breaks none
 abbrev pub AcceptedWhereEachPortFits : Type 0
 AcceptedWhereEachPortFits = (c : Content) →
-    IsAccepted c ↔ All (λ row. let s = load_of c.latency row.speed row.id c.links in 0 < s.highs + s.lows → broken_rules row s ≡ []) c.ports
+    IsAccepted c ↔ All (λ row. let load = load_of c.latency row.speed row.id c.links in 0 < load.highs + load.lows → broken_rules row load ≡ []) c.ports

@@ -1,6 +1,5 @@
 pub mod Adding
 pub mod First
 pub mod Laws
-pub mod PortLoads
 pub mod Slots
 pub mod Small

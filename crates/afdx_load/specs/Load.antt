@@ -85,7 +85,7 @@ asked_of speed port links = links_load speed (routed port links)
 
 -- the same load where a frame is queued one latency after its arrival
 abbrev pub behind : ℕ → Load → Load
-behind latency s = record s { latency = latency }
+behind latency load = record load { latency = latency }
 
 -- the load of a port at a switch of this latency
 abbrev pub load_of : ℕ → Speed → ℕ → List Link → Load

@@ -1,7 +1,7 @@
 //! The check of a table.
 
 ghost use Rattle.std.specs.Prelude.{◌≡◌, ◌*◌, ◌≤◌, MatchResult, Some};
-ghost use Rattle.afdx_load.specs.Inner.PortLoads.{AreLoads};
+ghost use Rattle.afdx_load.specs.Inner.Slots.{AreLoads};
 ghost use Rattle.afdx_load.specs.Accepted.{past, past_bound, fault_at, first_fault, IsAccepted};
 
 use crate::bounding::{PARTS, backlog, bounds};

@@ -3,9 +3,9 @@
 ghost use Rattle.std.specs.Prelude.{◌≡◌, ℕ, true, ◌<◌, ◌≤◌, length, slice_index_or};
 ghost use Rattle.std.specs.List.{AllByRecursion};
 ghost use Rattle.afdx_table.specs.WellFormed.{IsPort, Rises, IsLink};
+ghost use Rattle.afdx_units.specs.Line.{greatest_size};
 ghost use Rattle.afdx_load.specs.Load.{Load, port_load};
-ghost use Rattle.afdx_load.specs.Inner.PortLoads.{AreLoads};
-ghost use Rattle.afdx_load.specs.Inner.Slots.{are_slots, HasSpeeds, HaveRoom, with_routed};
+ghost use Rattle.afdx_load.specs.Inner.Slots.{are_slots, HasSpeeds, AreLoads, HaveRoom, with_routed};
 
 use crate::port_load::Load;
 use crate::port_loads::{Loads, SLOTS};
@@ -39,7 +39,7 @@ fn speeds(ports: &[PortRow]) -> [Speed; SLOTS]
 fn add_link(loads: &mut [Load; SLOTS], speeds: &[Speed; SLOTS], link: &LinkRow)
     requires room { HaveRoom loads.old }
     requires members { are_slots link.now.to ≡ true }
-    requires size { link.now.max_size ≤ 1518 }
+    requires size { link.now.max_size ≤ greatest_size }
     requires jitter { link.now.jitter ≤ 10000000 }
     ensures { (port : ℕ) (d : Load) → port < 25 → slice_index_or loads.new port d ≡ with_routed speeds.now loads.old link.now port d }
 {

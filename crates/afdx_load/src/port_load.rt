@@ -4,6 +4,7 @@ ghost use Rattle.std.specs.Prelude.{◌≡◌, ◌+◌, ◌<◌, ◌≤◌, ◌^
 ghost use Rattle.afdx_load.specs.Load.{links_load, behind};
 ghost use Rattle.afdx_load.specs.Inner.Adding.{with_link};
 ghost use Rattle.afdx_units.specs.declared.line.Speed.{Speed};
+ghost use Rattle.afdx_units.specs.Line.{greatest_size};
 
 use crate::share::share_of;
 use afdx_table::LinkRow;
@@ -80,7 +81,7 @@ impl Load {
     /// The load with one more link.
     pub(crate) fn with(self, speed: Speed, link: &LinkRow) -> Load
         requires room { self.highs + self.lows < 4096 }
-        requires size { link.now.max_size ≤ 1518 }
+        requires size { link.now.max_size ≤ greatest_size }
         requires jitter { link.now.jitter ≤ 10000000 }
         ensures { result ≡ with_link speed self link.now }
     {

@@ -2,7 +2,7 @@
 
 ghost use Rattle.std.specs.Prelude.{◌≡◌};
 ghost use Rattle.afdx_load.specs.Load.{port_load};
-ghost use Rattle.afdx_load.specs.Inner.PortLoads.{AreLoads};
+ghost use Rattle.afdx_load.specs.Inner.Slots.{AreLoads};
 
 use crate::port_load::Load;
 use afdx_table::Table;
@@ -23,7 +23,7 @@ pub struct Loads<'a> {
 
 impl<'a> Model for Loads<'a> {
     ghost use Rattle.afdx_table.specs.Content.{Content};
-    ghost use Rattle.afdx_load.specs.Inner.PortLoads.{AreLoads};
+    ghost use Rattle.afdx_load.specs.Inner.Slots.{AreLoads};
 
     ghost Value = { Content };
 

@@ -1,6 +1,7 @@
 //! What one link asks of a line, by its account.
 
 ghost use Rattle.std.specs.Prelude.{◌≡◌, ◌≤◌, ◌^◌};
+ghost use Rattle.afdx_units.specs.Line.{greatest_size};
 ghost use Rattle.afdx_load.specs.Load.{rate_of, burst_of, time_of};
 
 use afdx_account::{Account, Meter};
@@ -20,7 +21,7 @@ pub(crate) struct Share {
 
 /// What a link asks of a line of this speed: its account's credit and its greatest level, by what a unit is worth.
 pub(crate) fn share_of(speed: Speed, link: &LinkRow) -> Share
-    requires size { link.now.max_size ≤ 1518 }
+    requires size { link.now.max_size ≤ greatest_size }
     requires jitter { link.now.jitter ≤ 10000000 }
     ensures rate { result.rate ≡ rate_of speed link.now }
     ensures burst { result.burst ≡ burst_of speed link.now }

@@ -9,7 +9,7 @@ use Rattle.std.proofs.lemmas.List.{length-set, length-take, length-replicate, ma
 use Rattle.std.proofs.lemmas.List.Elements.{filter-append}
 use Rattle.afdx_port.specs.declared.Sent.{Sent}
 use Rattle.afdx_measure.specs.declared.delays.Delays.{Delays}
-use Rattle.afdx_measure.specs.Delays.{delay_of, delays_of, reported, AreDelays}
+use Rattle.afdx_measure.specs.Delays.{delay_of, delays_of, summary_of, AreDelaysByLink}
 
 pub fold_push : {X Y : Type 0} (f : Y → X → Y) (a : Y) (xs : List X) (x : X) → fold f a (xs ++ x ∷ []) ≡ f (fold f a xs) x
 fold_push f a [] x = refl
@@ -44,20 +44,20 @@ fewer link (x ∷ sent) = elim (x.item.link == link) as (λ b. length (map delay
       | false ↦ omega (arith, fewer link sent)
     ]
 
-pub no_more_than_sent : (sent : List Sent) (all : List Delays) (link : ℕ) (d : Delays) → link < 65536 → AreDelays sent all → (get_or all link d).count ≤ length sent
+pub no_more_than_sent : (sent : List Sent) (all : List Delays) (link : ℕ) (d : Delays) → link < 65536 → AreDelaysByLink sent all → (get_or all link d).count ≤ length sent
 no_more_than_sent sent all link d lt h =
     let is = ap (λ (x : Delays). x.count) (h.each link d lt) in
     omega (arith, is, fewer link sent)
 
 pub copy_more : (sent : List Sent) (x : Sent) (all : List Delays) (new : Delays) → x.item.link < 65536
-    → new ≡ reported (delays_of x.item.link sent ++ delay_of x ∷ []) → AreDelays sent all → AreDelays (sent ++ x ∷ []) (set all x.item.link new)
+    → new ≡ summary_of (delays_of x.item.link sent ++ delay_of x ∷ []) → AreDelaysByLink sent all → AreDelaysByLink (sent ++ x ∷ []) (set all x.item.link new)
 copy_more sent x all new lt more h = record { long = length-set all x.item.link new ∙ h.long; each = each }
   where
-    here : (d : Delays) → get_or (set all x.item.link new) x.item.link d ≡ reported (delays_of x.item.link (sent ++ x ∷ []))
+    here : (d : Delays) → get_or (set all x.item.link new) x.item.link d ≡ summary_of (delays_of x.item.link (sent ++ x ∷ []))
     here d =
-        get_or-set_same all x.item.link new d (omega (arith, lt, h.long)) ∙ more ∙ ap reported (sym (of_the_link sent x))
+        get_or-set_same all x.item.link new d (omega (arith, lt, h.long)) ∙ more ∙ ap summary_of (sym (of_the_link sent x))
 
-    each : (link : ℕ) (d : Delays) → link < 65536 → get_or (set all x.item.link new) link d ≡ reported (delays_of link (sent ++ x ∷ []))
+    each : (link : ℕ) (d : Delays) → link < 65536 → get_or (set all x.item.link new) link d ≡ summary_of (delays_of link (sent ++ x ∷ []))
     each link d less = elim (cases_lt link x.item.link) [
       | inl lt ↦ elsewhere link d less (λ e. omega (arith, lt, e))
       | inr ge ↦ elim (cases_lt x.item.link link) [
@@ -65,12 +65,12 @@ copy_more sent x all new lt more h = record { long = length-set all x.item.link 
         | inr le ↦ let e : link ≡ x.item.link = omega (arith, ge, le) in rw e (here d)
       ]
     ] where
-      elsewhere : (link : ℕ) (d : Delays) → link < 65536 → link ≢ x.item.link → get_or (set all x.item.link new) link d ≡ reported (delays_of link (sent ++ x ∷ []))
+      elsewhere : (link : ℕ) (d : Delays) → link < 65536 → link ≢ x.item.link → get_or (set all x.item.link new) link d ≡ summary_of (delays_of link (sent ++ x ∷ []))
       elsewhere link d less differ =
-          get_or-set_other all x.item.link link new d differ ∙ h.each link d less ∙ ap reported (sym (of_another link sent x differ))
+          get_or-set_other all x.item.link link new d differ ∙ h.each link d less ∙ ap summary_of (sym (of_another link sent x differ))
 
 -- nothing was sent
-pub none_sent : (n : ℕ) (all : List Delays) (none : Delays) → n ≡ 65536 → all ≡ replicate n none → none ≡ reported [] → AreDelays [] all
+pub none_sent : (n : ℕ) (all : List Delays) (none : Delays) → n ≡ 65536 → all ≡ replicate n none → none ≡ summary_of [] → AreDelaysByLink [] all
 none_sent n all none is same h = record {
   long = ap length same ∙ length-replicate n none ∙ is;
   each = λ link d lt. ap (λ (ds : List Delays). get_or ds link d) same ∙ get_or-replicate n link none d (omega (arith, is, lt)) ∙ h;
@@ -78,18 +78,18 @@ none_sent n all none is same h = record {
 
 -- the next copy
 pub next_copy : (sent : List Sent) (i : ℕ) (x : Sent) (all : List Delays) (place delay : ℕ) (old new : Delays) → i < length sent → x ≡ get_or sent i x → x.item.link < 65536
-    → place ≡ x.item.link → delay ≡ delay_of x → old ≡ get_or all place old → ((ns : List ℕ) → old ≡ reported ns → new ≡ reported (ns ++ delay ∷ []))
-    → AreDelays (take i sent) all → AreDelays (take (i + 1) sent) (set all place new)
+    → place ≡ x.item.link → delay ≡ delay_of x → old ≡ get_or all place old → ((ns : List ℕ) → old ≡ summary_of ns → new ≡ summary_of (ns ++ delay ∷ []))
+    → AreDelaysByLink (take i sent) all → AreDelaysByLink (take (i + 1) sent) (set all place new)
 next_copy sent i x all place delay old new inside is lt place_is delay_is at more h =
     let so_far = delays_of x.item.link (take i sent) in
-    let one : new ≡ reported (so_far ++ delay_of x ∷ []) =
-    more so_far (at ∙ ap (λ (n : ℕ). get_or all n old) place_is ∙ h.each x.item.link old lt) ∙ ap (λ (n : ℕ). reported (so_far ++ n ∷ [])) delay_is in
+    let one : new ≡ summary_of (so_far ++ delay_of x ∷ []) =
+    more so_far (at ∙ ap (λ (n : ℕ). get_or all n old) place_is ∙ h.each x.item.link old lt) ∙ ap (λ (n : ℕ). summary_of (so_far ++ n ∷ [])) delay_is in
     let longer = take_more sent i x inside ∙ ap (λ (y : Sent). take i sent ++ y ∷ []) (sym is) in
-    subst (λ (n : ℕ). AreDelays (take (i + 1) sent) (set all n new)) (sym place_is) (subst (λ (xs : List Sent). AreDelays xs (set all x.item.link new)) (sym longer) (copy_more (take i
+    subst (λ (n : ℕ). AreDelaysByLink (take (i + 1) sent) (set all n new)) (sym place_is) (subst (λ (xs : List Sent). AreDelaysByLink xs (set all x.item.link new)) (sym longer) (copy_more (take i
     sent) x all new lt one h))
 
 -- and how many there are so far
-pub still_fewer : (sent : List Sent) (i link : ℕ) (all : List Delays) (d : Delays) → i < length sent → link < 65536 → d ≡ get_or all link d → AreDelays (take i sent) all → d.count ≤ i
+pub still_fewer : (sent : List Sent) (i link : ℕ) (all : List Delays) (d : Delays) → i < length sent → link < 65536 → d ≡ get_or all link d → AreDelaysByLink (take i sent) all → d.count ≤ i
 still_fewer sent i link all d inside lt is h =
     let count = ap (λ (x : Delays). x.count) is in
     let most = no_more_than_sent (take i sent) all link d lt h in

@@ -8,10 +8,11 @@ use Rattle.afdx_table.specs.Content.{port_row}
 use Rattle.afdx_core.specs.State.{Run, sent_in}
 use Rattle.afdx_measure.specs.declared.delays.Delays.{Delays}
 use Rattle.afdx_measure.specs.declared.reporting.AtPort.{AtPort}
-use Rattle.afdx_measure.specs.Delays.{delays_of, reported, AreDelays}
+use Rattle.afdx_measure.specs.Delays.{delays_of, summary_of, AreDelaysByLink}
 use Rattle.afdx_measure.specs.Report.{AreGathered}
 
-pub gathered_more : {Z : Type 0} (r : Run) (ports : List PortRow) (p : PortRow) (all : List (AtPort Z)) (d : AtPort Z) → d.port ≡ p.id → AreDelays (sent_in r (port_row r.table d.port)) d.delays.items
+pub gathered_more : {Z : Type 0} (r : Run) (ports : List PortRow) (p : PortRow) (all : List (AtPort Z)) (d : AtPort Z) → d.port ≡ p.id
+    → AreDelaysByLink (sent_in r (port_row r.table d.port)) d.delays.items
     → AreGathered r ports all → AreGathered r (ports ++ p ∷ []) (all ++ d ∷ [])
 gathered_more r [] p [] d is delays h = (is, delays, tt)
 gathered_more r [] p (e ∷ all) d is delays h = absurd h
@@ -20,7 +21,7 @@ gathered_more r (q ∷ ports) p (e ∷ all) d is delays h = (h.0, h.1, gathered_
 
 -- what stands at a place
 pub gathered_at : {Z : Type 0} (r : Run) (ports : List PortRow) (all : List (AtPort Z)) (i : ℕ) (d : AtPort Z) → i < length all → AreGathered r ports all
-    → AreDelays (sent_in r (port_row r.table (get_or all i d).port)) (get_or all i d).delays.items
+    → AreDelaysByLink (sent_in r (port_row r.table (get_or all i d).port)) (get_or all i d).delays.items
 gathered_at r ports [] i d lt h = absurd (omega (arith, lt))
 gathered_at r [] (e ∷ all) i d lt h = absurd h
 gathered_at r (p ∷ ports) (e ∷ all) zero d lt h = h.1
@@ -52,21 +53,21 @@ none_there r (p ∷ ports) (e ∷ all) (suc i) n le h = none_there r ports all i
 
 pub one_more_port : {Z : Type 0} (r : Run) (ports : List PortRow) (i : ℕ) (e : PortRow) (all longer : List (AtPort Z)) (d : AtPort Z) → longer ≡ all ++ d ∷ [] → i < length ports → d.port
     ≡ (get_or ports i e).id
-    → AreDelays (sent_in r (port_row r.table d.port)) d.delays.items → AreGathered r (take i ports) all → AreGathered r (take (i + 1) ports) longer
+    → AreDelaysByLink (sent_in r (port_row r.table d.port)) d.delays.items → AreGathered r (take i ports) all → AreGathered r (take (i + 1) ports) longer
 one_more_port {Z} r ports i e all longer d grown lt is delays h =
     subst (λ (xs : List PortRow). AreGathered r xs longer) (sym (take_more ports i e lt))
     (subst (λ (ys : List (AtPort Z)). AreGathered r (take i ports ++ get_or ports i e ∷ []) ys) (sym grown) (gathered_more r (take i ports) (get_or ports i e) all d is delays h))
 
 pub gathered_here : {Z : Type 0} (r : Run) (ports : List PortRow) (all : List (AtPort Z)) (i : ℕ) (d : AtPort Z) → i < length all → d ≡ get_or all i d → AreGathered r ports all
-    → AreDelays (sent_in r (port_row r.table d.port)) d.delays.items
-gathered_here {Z} r ports all i d lt is h = subst (λ (x : AtPort Z). AreDelays (sent_in r (port_row r.table x.port)) x.delays.items) (sym is) (gathered_at r ports all i d lt h)
+    → AreDelaysByLink (sent_in r (port_row r.table d.port)) d.delays.items
+gathered_here {Z} r ports all i d lt is h = subst (λ (x : AtPort Z). AreDelaysByLink (sent_in r (port_row r.table x.port)) x.delays.items) (sym is) (gathered_at r ports all i d lt h)
 
 pub reported_of : {Z : Type 0} (r : Run) (ports : List PortRow) (all : List (AtPort Z)) (i : ℕ) (d : AtPort Z) (link place port : ℕ) (x : Delays) → i < length all → d ≡ get_or all i d → place ≡ link
     → link < 65536
-    → x ≡ get_or d.delays.items place x → d.port ≡ port → AreGathered r ports all → x ≡ reported (delays_of link (sent_in r (port_row r.table port)))
+    → x ≡ get_or d.delays.items place x → d.port ≡ port → AreGathered r ports all → x ≡ summary_of (delays_of link (sent_in r (port_row r.table port)))
 reported_of r ports all i d link place port x lt is place_is small stands same h =
     let here = gathered_here r ports all i d lt is h in
-    stands ∙ ap (λ (k : ℕ). get_or d.delays.items k x) place_is ∙ here.each link x small ∙ ap (λ (n : ℕ). reported (delays_of link (sent_in r (port_row r.table n)))) same
+    stands ∙ ap (λ (k : ℕ). get_or d.delays.items k x) place_is ∙ here.each link x small ∙ ap (λ (n : ℕ). summary_of (delays_of link (sent_in r (port_row r.table n)))) same
 
 pub passed_on : {Z : Type 0} (r : Run) (ports : List PortRow) (all : List (AtPort Z)) (i n : ℕ) (d : AtPort Z) → i < length all → d ≡ get_or all i d → (d.port == n) ≡ false → AreGathered r ports all
     → row_from n i ports ≡ row_from n (i + 1) ports

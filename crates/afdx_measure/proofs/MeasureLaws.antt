@@ -24,7 +24,7 @@ use Rattle.afdx_core.specs.Inner.Backlog.{BuffersHoldTheBacklog}
 use Rattle.afdx_core.specs.Isolation.{IsRun, AcceptedTablesIsolate}
 use Rattle.afdx_core.specs.State.{Run, port_in, sent_in}
 use Rattle.afdx_measure.specs.declared.filling.Filling.{Filling}
-use Rattle.afdx_measure.specs.Delays.{delay_of, delays_of, range_of, reported}
+use Rattle.afdx_measure.specs.Delays.{delay_of, delays_of, range_of, summary_of}
 use Rattle.afdx_measure.specs.Peak.{is_fuller, fillings, peak_of}
 use Rattle.afdx_measure.specs.Ports.{peak_at}
 
@@ -64,7 +64,7 @@ delays_within t p (x ∷ sent) link bound priority within of_one is =
 
 delays_are_within : (t : Content) (p : PortRow) (sent : List Sent) (link bound : ℕ) (priority : Priority) → All (IsInBoundAt t p) sent
     → All (λ (x : Sent). x.item.link ≡ link → x.item.priority ≡ priority) sent → bound_of (load_of t.latency p.speed p.id t.links) priority ≡ Some bound
-    → IfSome (reported (delays_of link sent)).range (λ range. range.greatest ≤ bound)
+    → IfSome (summary_of (delays_of link sent)).range (λ range. range.greatest ≤ bound)
 delays_are_within t p sent link bound priority within of_one is = range_within bound (delays_of link sent) (delays_within t p sent link bound priority within of_one is)
 
 -- ---- peaks
@@ -96,7 +96,7 @@ peak_is_within law r p =
 
 pub bounded : AcceptedTablesIsolate → CopiesHaveTheirLinksPriority → (r : Run) → IsRun r → IsWellFormed r.table → IsAccepted r.table → (p : PortRow) → Contains r.table.ports p
     → (l : Link) → Contains r.table.links l → (bound : ℕ) → bound_of (load_of r.table.latency p.speed p.id r.table.links) l.priority ≡ Some bound
-    → IfSome (reported (delays_of l.id (sent_in r (Some p)))).range (λ range. range.greatest ≤ bound)
+    → IfSome (summary_of (delays_of l.id (sent_in r (Some p)))).range (λ range. range.greatest ≤ bound)
 bounded isolate priorities r run well accepted p among l in_table bound is =
     delays_are_within r.table p (sent_in r (Some p)) l.id bound l.priority ((isolate r run well accepted).in_bound p among) (priorities r p l well in_table) is
 

@@ -19,13 +19,13 @@ range_of [] = None
 range_of (n ∷ ns) = Some (record { least = fold min n ns; greatest = fold max n ns })
 
 -- what is reported of them
-abbrev pub reported : List ℕ → Delays
-reported ns = record { count = length ns; range = range_of ns }
+abbrev pub summary_of : List ℕ → Delays
+summary_of ns = record { count = length ns; range = range_of ns }
 
 -- these are reported of each link's copies among what a port sent, by the links' numbers
-pub record AreDelays (sent : List Sent) (all : List Delays) : Type 0 where
+pub record AreDelaysByLink (sent : List Sent) (all : List Delays) : Type 0 where
   pub long : length all ≡ 65536
-  pub each : (link : ℕ) (d : Delays) → link < 65536 → slice_index_or all link d ≡ reported (delays_of link sent)
+  pub each : (link : ℕ) (d : Delays) → link < 65536 → slice_index_or all link d ≡ summary_of (delays_of link sent)
 
 -- ---- the law: they are one of them, and no other is less or greater
 

@@ -11,7 +11,7 @@ use Rattle.afdx_core.specs.Isolation.{IsRun}
 use Rattle.afdx_core.specs.State.{Run, port_in, sent_in}
 use Rattle.afdx_measure.specs.declared.delays.Delays.{Delays}
 use Rattle.afdx_measure.specs.declared.filling.Filling.{Filling}
-use Rattle.afdx_measure.specs.Delays.{delays_of, reported}
+use Rattle.afdx_measure.specs.Delays.{delays_of, summary_of}
 use Rattle.afdx_measure.specs.Peak.{fillings, peak_of}
 
 -- how full the port's buffer was
@@ -20,7 +20,7 @@ peak_at r p = peak_of (fillings (settings_of r.table.latency p) [] (port_in r p)
 
 -- the delays of a link's copies at the port
 abbrev pub delays_at : Run → PortRow → ℕ → Delays
-delays_at r p link = reported (delays_of link (sent_in r (Some p)))
+delays_at r p link = summary_of (delays_of link (sent_in r (Some p)))
 
 -- ---- the laws
 

@@ -9,7 +9,7 @@ use Rattle.afdx_load.specs.Load.{Load, port_load}
 use Rattle.afdx_isolation.specs.Table.{bound_of}
 use Rattle.afdx_core.specs.State.{Run, sent_in}
 use Rattle.afdx_measure.specs.declared.reporting.AtPort.{AtPort}
-use Rattle.afdx_measure.specs.Delays.{delays_of, reported, AreDelays}
+use Rattle.afdx_measure.specs.Delays.{delays_of, summary_of, AreDelaysByLink}
 use Rattle.afdx_measure.specs.Ports.{peak_at}
 use Rattle.afdx_measure.specs.Lines.{link_line, peak_line}
 
@@ -24,7 +24,7 @@ bound_at promised t port priority = if promised then bound_by (port_load t port)
 
 -- the line of a link at the port of a number
 abbrev pub line_at : Bool → Run → Link → ℕ → List ℕ
-line_at promised r l port = link_line l.id port (reported (delays_of l.id (sent_in r (port_row r.table port)))) (bound_at promised r.table port l.priority)
+line_at promised r l port = link_line l.id port (summary_of (delays_of l.id (sent_in r (port_row r.table port)))) (bound_at promised r.table port l.priority)
 
 -- the lines of a link, and that of a port
 abbrev pub link_lines : Bool → Run → Link → List ℕ
@@ -43,4 +43,4 @@ abbrev pub AreGathered : {Z : Type 0} → Run → List PortRow → List (AtPort 
 AreGathered r [] [] = Unit {0}
 AreGathered r [] (d ∷ all) = ⊥
 AreGathered r (p ∷ ports) [] = ⊥
-AreGathered r (p ∷ ports) (d ∷ all) = (d.port ≡ p.id) × AreDelays (sent_in r (port_row r.table d.port)) d.delays.items × AreGathered r ports all
+AreGathered r (p ∷ ports) (d ∷ all) = (d.port ≡ p.id) × AreDelaysByLink (sent_in r (port_row r.table d.port)) d.delays.items × AreGathered r ports all

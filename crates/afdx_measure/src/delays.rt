@@ -1,7 +1,7 @@
 //! The delays of what a port sent.
 
 ghost use Rattle.std.specs.Prelude.{◌≡◌, ℕ, ◌-◌, ◌<◌, ◌^◌, List, [], ◌∷◌, ◌++◌, IfOk};
-ghost use Rattle.afdx_measure.specs.Delays.{delay_of, reported, AreDelays};
+ghost use Rattle.afdx_measure.specs.Delays.{delay_of, summary_of, AreDelaysByLink};
 
 use afdx_port::Sent;
 use std::alloc::{AllocError, Allocator};
@@ -35,7 +35,7 @@ impl Range {
 impl Delays {
     /// Those of no copies.
     pub(crate) fn none() -> Delays
-        ensures { result ≡ reported [] }
+        ensures { result ≡ summary_of [] }
     {
         Delays {
             count: 0,
@@ -46,7 +46,7 @@ impl Delays {
     /// The same with one copy more.
     fn with(self, delay: u64) -> Delays
         requires room { self.count < 2 ^ 64 - 1 }
-        ensures { (ns : List ℕ) → self ≡ reported ns → result ≡ reported (ns ++ delay ∷ []) }
+        ensures { (ns : List ℕ) → self ≡ summary_of ns → result ≡ summary_of (ns ++ delay ∷ []) }
     {
         let range = match self.range {
             Some(range) => Range {
@@ -76,7 +76,7 @@ pub fn delays_by_link<A: Allocator + Copy>(
     alloc: A,
     sent: &[Sent],
 ) -> Result<Vec<Delays, A>, AllocError>
-    ensures { IfOk result (λ all. AreDelays sent.now all.items) }
+    ensures { IfOk result (λ all. AreDelaysByLink sent.now all.items) }
 {
     let mut all = vec![in alloc; Delays::none(); 65_536]?;
     for copy in sent {

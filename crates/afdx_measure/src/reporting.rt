@@ -3,7 +3,7 @@
 ghost use Rattle.std.specs.Prelude.{◌≡◌, ◌++◌, true, Some, flat_map, string_bytes, IfOk, OnOk};
 ghost use Rattle.afdx_table.specs.Content.{port_row};
 ghost use Rattle.afdx_core.specs.State.{sent_in};
-ghost use Rattle.afdx_measure.specs.Delays.{delays_of, reported};
+ghost use Rattle.afdx_measure.specs.Delays.{delays_of, summary_of};
 ghost use Rattle.afdx_measure.specs.Report.{bound_at, link_lines, port_line, report_of, AreGathered};
 
 use crate::delays::{Delays, delays_by_link};
@@ -49,7 +49,7 @@ fn delays_at<A: Allocator + Copy>(
     port: u8,
 ) -> Delays
     requires { AreGathered done.now.run done.now.run.table.ports all.now }
-    ensures { result ≡ reported (delays_of link (sent_in done.now.run (port_row done.now.run.table port))) }
+    ensures { result ≡ summary_of (delays_of link (sent_in done.now.run (port_row done.now.run.table port))) }
 {
     for at in all {
         if at.port == port {

@@ -26,7 +26,7 @@ use Rattle.afdx_wiring.specs.declared.layout.End.{End}
 use Rattle.afdx_wiring.specs.declared.layout.Wire.{Wire}
 use Rattle.afdx_wiring.specs.Net.{Network, Row, Back, port_at, row_at, rows_of, rows_on, ingress, wire_to, bound_in, IsWayBack, AreDelays, source_of}
 use Rattle.afdx_wiring.specs.Rules.{Joins, GoesOn}
-use Rattle.afdx_network.specs.Way.{Node, Stage, IsStage, Leg, Follows, IsWay, AreEnough, delayed}
+use Rattle.afdx_network.specs.Way.{Node, Stage, IsStage, Leg, IsLegFrom, IsWay, AreEnough, delayed}
 use Rattle.afdx_network.specs.Runs.{SwitchRun, Given}
 use Rattle.afdx_network.specs.Ways.{node_of, IsStageAt, GoesOver, IsWayFrom, IsWayIn}
 use Rattle.afdx_network.specs.Laws.{IsAcceptedRun}
@@ -218,7 +218,7 @@ module _ (g : Ground) (net : Network) (given : Given) (runs : List SwitchRun) (a
         ap (records_of k.run.isolated.read) (sym to_port) ∙ b.comes ∙ ap (λ (run : SwitchRun). map (delayed wire.delay) (run.isolated.out b.port)) here_is
         ∙ ap (λ (p : PortRow). map (delayed wire.delay) (h.run.isolated.out p)) same
 
-    follows : Follows x s
+    follows : IsLegFrom x s
     follows = record {
       number = ap (λ (l : Link). l.id) k.link ∙ over.number ∙ ap (λ (l : Link). l.id) (sym h.link);
       constant = ap (λ (n : Node). n.table.constant) k.node ∙ constants ∙ ap (λ (n : Node). n.table.constant) (sym h.node);

@@ -20,7 +20,7 @@ use Rattle.afdx_load.specs.Load.{terms_of}
 use Rattle.afdx_core.specs.Rows.{says_clean}
 use Rattle.afdx_core.specs.Merge.{records_of}
 use Rattle.afdx_session.specs.Headline.{bytes_of}
-use Rattle.afdx_network.specs.Way.{Stage, IsStage, Leg, Follows, delayed, come_to, passed_at, leave}
+use Rattle.afdx_network.specs.Way.{Stage, IsStage, Leg, IsLegFrom, delayed, come_to, passed_at, leave}
 use Rattle.afdx_network.proofs.Lists.{apart, all_weaken, all_map, all_unmap, all_tested, filter_of_map, filter_alike, all_passed}
 
 says : (i : ℕ) (v : Verdict) → says_clean i v ≡ true → v ≡ Clean i
@@ -81,7 +81,7 @@ module _ (exact : CleanExactly) (links : LinksAreFound) where
       over_bytes (IsOf x.node.table.constant x.link) (passed_at x) (leave x) ((here.node.isolated x.port here.has).passed x.link here.known here.leads) (passed_clean x here)
 
   -- a record on the wire is a clean frame of the link at the next switch exactly where it has the link's number
-  module _ (x : Stage) (s : Leg) (here : IsStage x) (there : IsStage s.stage) (follows : Follows x s) where
+  module _ (x : Stage) (s : Leg) (here : IsStage x) (there : IsStage s.stage) (follows : IsLegFrom x s) where
     abbrev says_again : Record → Bool
     says_again r = says_clean s.stage.link.id (verdict_of s.stage.node.table s.stage.link.from (delayed s.cable r))
 

@@ -19,7 +19,7 @@ use Rattle.afdx_load.specs.Accepted.{IsAccepted}
 use Rattle.afdx_load.specs.Inner.Laws.{AcceptedKeepsBounds}
 use Rattle.afdx_isolation.specs.Table.{bound_of}
 use Rattle.afdx_wiring.specs.Net.{Network, Row, Back, rows_of, ingress, wire_to, bound_in, IsWayBack}
-use Rattle.afdx_network.specs.Way.{Stage, Leg, last_of}
+use Rattle.afdx_network.specs.Way.{Stage, Leg, last_stage}
 use Rattle.afdx_network.specs.Runs.{SwitchRun, Given}
 use Rattle.afdx_network.specs.Ways.{node_of, IsStageAt, GoesOver, IsWayFrom, IsWayIn}
 use Rattle.afdx_network.specs.Laws.{IsAcceptedRun, EndsAt}
@@ -109,7 +109,7 @@ module _ (g : Ground) (keeps : AcceptedKeepsBounds) (net : Network) (given : Giv
     pub first : Stage
     pub all : List Leg
     pub way : IsWayIn net runs first all
-    pub same : last_of first all ≡ last_of x legs
+    pub same : last_stage first all ≡ last_stage x legs
 
   earlier : (b : Back) (r : Row) (run : SwitchRun) (before : RowBefore g net given runs acc b r run) → StageThere b.row before.here before.port
   earlier b r run before = stage_there b.row before.here before.port before.here_is before.known before.has before.leads
@@ -134,7 +134,7 @@ module _ (g : Ground) (keeps : AcceptedKeepsBounds) (net : Network) (given : Giv
       record { first = rest.first; all = rest.all; way = rest.way; same = rest.same }
 
   pub ways_are_there : (r : Row) (run : SwitchRun) (p : PortRow) → slice_get runs r.switch ≡ Some run → Contains run.table.links r.link → Contains run.table.ports p → leads_to p.id r.link ≡ true
-      → (x : Stage) × (legs : List Leg) × IsWayIn net runs x legs × EndsAt run r p (last_of x legs)
+      → (x : Stage) × (legs : List Leg) × IsWayIn net runs x legs × EndsAt run r p (last_stage x legs)
   ways_are_there r run p is known among leads =
       let row = rows_have net r run.table (table_at g net given runs acc r.switch run is) known in
       let back = All-contains (λ (q : Row). (backs : List Back) × IsWayBack net q backs) (rows_of net) r acc.accepted.fits.sources row in

@@ -13,21 +13,14 @@ use Rattle.afdx_table.specs.Content.{Content, link_row}
 use Rattle.afdx_table.specs.WellFormed.{IsWellFormed}
 use Rattle.afdx_table.specs.Inner.Found.{LinksAreFound}
 use Rattle.afdx_wiring.specs.declared.layout.Wire.{Wire}
-use Rattle.afdx_wiring.specs.Net.{Network, Row, Back, row_at, row_in, rows_from, rows_of, IsWayBack}
+use Rattle.afdx_wiring.specs.Net.{Network, Row, Back, row_at, row_in, rows_from, rows_of, IsRowOf, IsWayBack}
 use Rattle.afdx_network.proofs.Lists.{all_weaken, all_map, all_append}
 use Rattle.afdx_network.proofs.Found.{all_at, all_by, of_all}
 use Rattle.afdx_network.proofs.Rows.{row_is}
 
 -- ---- the table that a row is of
 
-pub record IsRowOf (tables : List Content) (n : ℕ) (r : Row) : Type 0 where
-  pub place : ℕ
-  pub table : Content
-  pub switch : r.switch ≡ n + place
-  pub table_is : slice_get tables place ≡ Some table
-  pub known : Contains table.links r.link
-
-row_later : (u : Content) (tables : List Content) (n : ℕ) (r : Row) → IsRowOf tables (n + 1) r → IsRowOf (u ∷ tables) n r
+row_later : (u : Content) (tables : List Content) (n : ℕ) (r : Row) → IsRowOf (n + 1) tables r → IsRowOf n (u ∷ tables) r
 row_later u tables n r h = let switch = h.switch in record {
   place = suc h.place;
   table = h.table;
@@ -36,16 +29,16 @@ row_later u tables n r h = let switch = h.switch in record {
   known = h.known;
 }
 
-all_rows : (n : ℕ) (tables : List Content) → AllByRecursion (IsRowOf tables n) (rows_from n tables)
+all_rows : (n : ℕ) (tables : List Content) → AllByRecursion (IsRowOf n tables) (rows_from n tables)
 all_rows n [] = tt
 all_rows n (u ∷ tables) =
-    all_append (IsRowOf (u ∷ tables) n) (map (row_in n) u.links) (rows_from (n + 1) tables)
-    (all_map (IsRowOf (u ∷ tables) n) (row_in n) u.links
-    (all_by (λ (l : Link). IsRowOf (u ∷ tables) n (row_in n l)) u.links (λ l among. record { place = 0; table = u; switch = omega arith; table_is = refl; known = among })))
-    (all_weaken (IsRowOf tables (n + 1)) (IsRowOf (u ∷ tables) n) (rows_from (n + 1) tables) (row_later u tables n) (all_rows (n + 1) tables))
+    all_append (IsRowOf n (u ∷ tables)) (map (row_in n) u.links) (rows_from (n + 1) tables)
+    (all_map (IsRowOf n (u ∷ tables)) (row_in n) u.links
+    (all_by (λ (l : Link). IsRowOf n (u ∷ tables) (row_in n l)) u.links (λ l among. record { place = 0; table = u; switch = omega arith; table_is = refl; known = among })))
+    (all_weaken (IsRowOf (n + 1) tables) (IsRowOf n (u ∷ tables)) (rows_from (n + 1) tables) (row_later u tables n) (all_rows (n + 1) tables))
 
-pub row_of_table : (net : Network) (r : Row) → Contains (rows_of net) r → IsRowOf net.tables 0 r
-row_of_table net r among = of_all (IsRowOf net.tables 0) (rows_of net) r (all_rows 0 net.tables) among
+pub row_of_table : (net : Network) (r : Row) → Contains (rows_of net) r → IsRowOf 0 net.tables r
+row_of_table net r among = of_all (IsRowOf 0 net.tables) (rows_of net) r (all_rows 0 net.tables) among
 
 -- what is found under a number has it, at a switch of the network
 pub record IsFound (net : Network) (switch id : ℕ) (r : Row) : Type 0 where

@@ -16,7 +16,7 @@ use Rattle.afdx_series.specs.Delay.{hop_of, joined, at_once, IsEnough}
 use Rattle.afdx_series.specs.Series.{ComeLater}
 use Rattle.afdx_series.specs.Laws.{JitterEnough, CrossingIsAHop, DelaysAddUp, DelaysBeginAtOnce}
 use Rattle.afdx_session.specs.Headline.{passed_records, bytes_of, IsInBound}
-use Rattle.afdx_network.specs.Way.{Stage, IsStage, Leg, Follows, IsWay, last_of, AreEnough, span_least, span_most, come_to, passed_at, leave, delayed, IsInTime, NonePoliced, IsDelivered}
+use Rattle.afdx_network.specs.Way.{Stage, IsStage, Leg, IsLegFrom, IsWay, last_stage, AreEnough, span_least, span_most, come_to, passed_at, leave, delayed, IsInTime, NonePoliced, IsDelivered}
 use Rattle.afdx_network.proofs.Lists.{all_weaken, zip_weaken}
 use Rattle.afdx_network.proofs.Clean.{IsOf, passed_clean, comes_to_the_next}
 use Rattle.afdx_network.proofs.Crossing.{same_bytes, hop, Within, at_first, and_a_port, and_a_cable, summed}
@@ -46,8 +46,8 @@ pub record IsThere (first : Link) (own : List Record) (d : Delays) (least : ℕ 
 
 -- and at the end of the way
 pub record IsAtTheEnd (first : Link) (own : List Record) (least : ℕ → ℕ) (most : ℕ) (x : Stage) (legs : List Leg) : Type 0 where
-  pub bytes : bytes_of (leave (last_of x legs)) ≡ bytes_of (passed_records first own)
-  pub within : AllZip (Within (λ size. least size + span_least size x legs) (most + span_most x legs)) (passed_records first own) (leave (last_of x legs))
+  pub bytes : bytes_of (leave (last_stage x legs)) ≡ bytes_of (passed_records first own)
+  pub within : AllZip (Within (λ size. least size + span_least size x legs) (most + span_most x legs)) (passed_records first own) (leave (last_stage x legs))
   pub none : NonePoliced legs
 
 pub first_stage : (x : Stage) (legs : List Leg) → IsWay x legs → IsStage x
@@ -79,7 +79,7 @@ module _ (g : Ground) (first : Link) (own : List Record) where
     left_within : AllZip (Within (λ size. least size + (x.node.table.latency + cost_of x.port.speed size)) (most + x.bound)) (passed_records first own) (leave x)
     left_within = and_a_port x.node.table x.port x.link x.bound here.bound_is least most (passed_records first own) (passed_at x) (leave x) there.bytes there.within left_in_bound
 
-    module _ (s : Leg) (onward : IsStage s.stage) (follows : Follows x s) where
+    module _ (s : Leg) (onward : IsStage s.stage) (follows : IsLegFrom x s) where
       abbrev over : Delays
       over = hop_of x.port.speed x.node.table.latency x.bound s.cable
 
@@ -132,7 +132,7 @@ module _ (g : Ground) (first : Link) (own : List Record) where
       record {
         bytes = rest.bytes;
         within = summed (λ size. least_there size + span_least size s.stage legs) (λ size. least size + span_least size x (s ∷ legs))
-            (((most + x.bound) + s.cable) + span_most s.stage legs) (most + span_most x (s ∷ legs)) (passed_records first own) (leave (last_of s.stage legs))
+            (((most + x.bound) + s.cable) + span_most s.stage legs) (most + span_most x (s ∷ legs)) (passed_records first own) (leave (last_stage s.stage legs))
             (λ size. omega arith) (omega arith) rest.within;
         none = (passes_all d least most x way.0 there s onward way.1 enough.0, rest.none);
       }
@@ -149,7 +149,7 @@ ways_deliver g x legs way enough =
     let at_end = on_the_way g x.link (come_to x) at_once (λ size. 0) 0 x legs start way enough in
     record {
       bytes = at_end.bytes;
-      in_time = zip_weaken (Within (λ size. 0 + span_least size x legs) (0 + span_most x legs)) (IsInTime x legs) (passed_at x) (leave (last_of x legs))
+      in_time = zip_weaken (Within (λ size. 0 + span_least size x legs) (0 + span_most x legs)) (IsInTime x legs) (passed_at x) (leave (last_stage x legs))
           (λ came left h. let least = h.least_is in let most = h.most_is in record { least = omega (arith, least); most = omega (arith, most) }) at_end.within;
       none_policed = at_end.none;
     }

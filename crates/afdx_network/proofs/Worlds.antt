@@ -5,11 +5,11 @@ use Rattle.afdx_pcap.specs.Record.{Record}
 use Rattle.afdx_table.specs.Link.{Link}
 use Rattle.afdx_core.specs.Merge.{records_of}
 use Rattle.afdx_session.specs.Headline.{own_records, passed_records, bytes_of, OwnFramesAreTheLinksAlone}
-use Rattle.afdx_network.specs.Way.{Stage, IsStage, Leg, last_of, leave, IsDelivered}
+use Rattle.afdx_network.specs.Way.{Stage, IsStage, Leg, last_stage, leave, IsDelivered}
 
 pub two_worlds : OwnFramesAreTheLinksAlone → (x x' : Stage) (legs legs' : List Leg) → IsDelivered x legs → IsDelivered x' legs' → IsStage x → IsStage x'
     → x.link ≡ x'.link → x.node.table.constant ≡ x'.node.table.constant → records_of x.node.read x.link.from ≡ records_of x'.node.read x'.link.from
-    → bytes_of (leave (last_of x legs)) ≡ bytes_of (leave (last_of x' legs'))
+    → bytes_of (leave (last_stage x legs)) ≡ bytes_of (leave (last_stage x' legs'))
 two_worlds alone x x' legs legs' one two stage stage' same constant read =
     let known : Contains x'.node.table.links x.link = subst (Contains x'.node.table.links) (sym same) stage'.known in
     let came : records_of x.node.read x.link.from ≡ records_of x'.node.read x.link.from

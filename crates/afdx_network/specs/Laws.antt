@@ -13,7 +13,7 @@ use Rattle.afdx_session.specs.Headline.{bytes_of}
 use Rattle.afdx_series.specs.Delay.{at_once}
 use Rattle.afdx_wiring.specs.Net.{Network, Row, Back, rows_of, IsWayBack}
 use Rattle.afdx_wiring.specs.Rules.{IsAcceptedNetwork}
-use Rattle.afdx_network.specs.Way.{Stage, Leg, IsNode, IsWay, last_of, AreEnough, leave, IsDelivered}
+use Rattle.afdx_network.specs.Way.{Stage, Leg, IsNode, IsWay, last_stage, AreEnough, leave, IsDelivered}
 use Rattle.afdx_network.specs.Runs.{SwitchRun, Given, IsFedBy, IsNetworkRun, AreRuns, IsRunOf}
 use Rattle.afdx_network.specs.Ways.{node_of, IsWayIn}
 
@@ -49,7 +49,7 @@ NetworkRunsDeliver = (net : Network) (given : Given) (runs : List SwitchRun) →
 abbrev pub OthersChangeNothingInNetworks : Type 0
 OthersChangeNothingInNetworks = (net net' : Network) (given given' : Given) (runs runs' : List SwitchRun) → IsAcceptedRun net given runs → IsAcceptedRun net' given' runs'
     → (x x' : Stage) (legs legs' : List Leg) → IsWayIn net runs x legs → IsWayIn net' runs' x' legs' → x.link ≡ x'.link → x.node.table.constant ≡ x'.node.table.constant
-    → records_of x.node.read x.link.from ≡ records_of x'.node.read x'.link.from → bytes_of (leave (last_of x legs)) ≡ bytes_of (leave (last_of x' legs'))
+    → records_of x.node.read x.link.from ≡ records_of x'.node.read x'.link.from → bytes_of (leave (last_stage x legs)) ≡ bytes_of (leave (last_stage x' legs'))
 
 -- a way ends at a row, at a port that it leads to
 pub record EndsAt (run : SwitchRun) (r : Row) (p : PortRow) (x : Stage) : Type 0 where
@@ -61,7 +61,7 @@ pub record EndsAt (run : SwitchRun) (r : Row) (p : PortRow) (x : Stage) : Type 0
 abbrev pub WaysAreThere : Type 0
 WaysAreThere = (net : Network) (given : Given) (runs : List SwitchRun) → IsAcceptedRun net given runs
     → (r : Row) (run : SwitchRun) (p : PortRow) → slice_get runs r.switch ≡ Some run → Contains run.table.links r.link → Contains run.table.ports p
-    → leads_to p.id r.link ≡ true → (x : Stage) × (legs : List Leg) × IsWayIn net runs x legs × EndsAt run r p (last_of x legs)
+    → leads_to p.id r.link ≡ true → (x : Stage) × (legs : List Leg) × IsWayIn net runs x legs × EndsAt run r p (last_stage x legs)
 
 -- where what comes in next is what came in, it is a run of the network, however it was found: in the order of the wires, or by rounds
 abbrev pub RestIsAgreement : Type 0

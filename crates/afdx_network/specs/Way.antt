@@ -53,41 +53,41 @@ pub record Leg : Type 0 where
 
 -- ARINC 664 Part 7: a virtual link has one number, one gap and one greatest size, and a network has one constant; profile: and one
 -- kind of policing. The cable goes from the port of x to the port at which the link comes in at the next stage
-pub record Follows (x : Stage) (s : Leg) : Type 0 where
-  pub number : s.stage.link.id ≡ x.link.id
-  pub constant : s.stage.node.table.constant ≡ x.node.table.constant
-  pub size : s.stage.link.max_size ≡ x.link.max_size
-  pub bag : s.stage.link.bag ≡ x.link.bag
-  pub police : s.stage.link.police ≡ x.link.police
-  pub wired : records_of s.stage.node.read s.stage.link.from ≡ map (delayed s.cable) (x.node.out x.port)
+pub record IsLegFrom (x : Stage) (leg : Leg) : Type 0 where
+  pub number : leg.stage.link.id ≡ x.link.id
+  pub constant : leg.stage.node.table.constant ≡ x.node.table.constant
+  pub size : leg.stage.link.max_size ≡ x.link.max_size
+  pub bag : leg.stage.link.bag ≡ x.link.bag
+  pub police : leg.stage.link.police ≡ x.link.police
+  pub wired : records_of leg.stage.node.read leg.stage.link.from ≡ map (delayed leg.cable) (x.node.out x.port)
 
 -- ---- a way
 
 -- a first stage, and the legs after it
 abbrev pub IsWay : Stage → List Leg → Type 0
 IsWay x [] = IsStage x
-IsWay x (s ∷ legs) = IsStage x × Follows x s × IsWay s.stage legs
+IsWay x (leg ∷ legs) = IsStage x × IsLegFrom x leg × IsWay leg.stage legs
 
-abbrev pub last_of : Stage → List Leg → Stage
-last_of x [] = x
-last_of x (s ∷ legs) = last_of s.stage legs
+abbrev pub last_stage : Stage → List Leg → Stage
+last_stage x [] = x
+last_stage x (leg ∷ legs) = last_stage leg.stage legs
 
 -- the jitter of each later row is enough for all of the way to it: each is compared with the first row
 abbrev pub AreEnough : Link → Delays → Stage → List Leg → Type 0
 AreEnough first d x [] = Unit {0}
-AreEnough first d x (s ∷ legs) =
-    let e = joined d (hop_of x.port.speed x.node.table.latency x.bound s.cable) in
-    IsEnough e first.jitter s.stage.link.jitter × AreEnough first e s.stage legs
+AreEnough first d x (leg ∷ legs) =
+    let e = joined d (hop_of x.port.speed x.node.table.latency x.bound leg.cable) in
+    IsEnough e first.jitter leg.stage.link.jitter × AreEnough first e leg.stage legs
 
 -- nanoseconds from the arrival of a frame of this size at the first switch to its end on the last line: the least, by latencies,
 -- line times and cables, and the most, by bounds, which have the latencies in them, and cables
 abbrev pub span_least : ℕ → Stage → List Leg → ℕ
 span_least size x [] = x.node.table.latency + cost_of x.port.speed size
-span_least size x (s ∷ legs) = (x.node.table.latency + cost_of x.port.speed size) + s.cable + span_least size s.stage legs
+span_least size x (leg ∷ legs) = (x.node.table.latency + cost_of x.port.speed size) + leg.cable + span_least size leg.stage legs
 
 abbrev pub span_most : Stage → List Leg → ℕ
 span_most x [] = x.bound
-span_most x (s ∷ legs) = x.bound + s.cable + span_most s.stage legs
+span_most x (leg ∷ legs) = x.bound + leg.cable + span_most leg.stage legs
 
 -- ---- what is delivered
 
@@ -108,12 +108,12 @@ pub record IsInTime (x : Stage) (legs : List Leg) (came left : Record) : Type 0 
 -- after the first switch no frame of the link is policed
 abbrev pub NonePoliced : List Leg → Type 0
 NonePoliced [] = Unit {0}
-NonePoliced (s ∷ legs) = (passed_at s.stage ≡ come_to s.stage) × NonePoliced legs
+NonePoliced (leg ∷ legs) = (passed_at leg.stage ≡ come_to leg.stage) × NonePoliced legs
 
 -- what leaves at the end of the way has, one by one and in order, the bytes of what the first policing passes; each in time
 pub record IsDelivered (x : Stage) (legs : List Leg) : Type 0 where
-  pub bytes : bytes_of (leave (last_of x legs)) ≡ bytes_of (passed_at x)
-  pub in_time : AllZip (IsInTime x legs) (passed_at x) (leave (last_of x legs))
+  pub bytes : bytes_of (leave (last_stage x legs)) ≡ bytes_of (passed_at x)
+  pub in_time : AllZip (IsInTime x legs) (passed_at x) (leave (last_stage x legs))
   pub none_policed : NonePoliced legs
 
 -- ---- the theorem
@@ -126,4 +126,4 @@ WaysDeliver = (x : Stage) (legs : List Leg) → IsWay x legs → AreEnough x.lin
 abbrev pub OthersChangeNothingOnTheWay : Type 0
 OthersChangeNothingOnTheWay = (x x' : Stage) (legs legs' : List Leg) → IsDelivered x legs → IsDelivered x' legs' → IsStage x → IsStage x'
     → x.link ≡ x'.link → x.node.table.constant ≡ x'.node.table.constant → records_of x.node.read x.link.from ≡ records_of x'.node.read x'.link.from
-    → bytes_of (leave (last_of x legs)) ≡ bytes_of (leave (last_of x' legs'))
+    → bytes_of (leave (last_stage x legs)) ≡ bytes_of (leave (last_stage x' legs'))

@@ -22,16 +22,16 @@ pub record IsStageAt (net : Network) (runs : List SwitchRun) (r : Row) (x : Stag
   pub bound_is : bound_at net r x.port ≡ Some x.bound
 
 -- from that port over a wire to the next switch's row of the link
-pub record GoesOver (net : Network) (r : Row) (x : Stage) (next : Row) (s : Leg) : Type 0 where
+pub record GoesOver (net : Network) (r : Row) (x : Stage) (next : Row) (leg : Leg) : Type 0 where
   pub wire : Wire
   pub wire_is : wire_to net (ingress next) ≡ Some wire
   pub start : wire.from ≡ record { switch = r.switch; port = x.port.id }
-  pub cable : s.cable ≡ wire.delay
+  pub cable : leg.cable ≡ wire.delay
   pub number : next.link.id ≡ r.link.id
 
 abbrev pub IsWayFrom : Network → List SwitchRun → Row → Stage → List Leg → Type 0
 IsWayFrom net runs r x [] = IsStageAt net runs r x
-IsWayFrom net runs r x (s ∷ legs) = IsStageAt net runs r x × (next : Row) × GoesOver net r x next s × IsWayFrom net runs next s.stage legs
+IsWayFrom net runs r x (leg ∷ legs) = IsStageAt net runs r x × (next : Row) × GoesOver net r x next leg × IsWayFrom net runs next leg.stage legs
 
 -- a way, from the row that an end system feeds on
 abbrev pub IsWayIn : Network → List SwitchRun → Stage → List Leg → Type 0

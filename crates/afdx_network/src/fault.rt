@@ -16,7 +16,7 @@ pub enum NetworkRunFault {
     WrongPorts(usize),
     /// What comes in at this port of a switch is no capture, and this is its first fault.
     Capture(usize, u8, PcapFault),
-    /// R1: the wires' texts did not come to rest.
+    /// The wires' texts did not come to rest.
     Unsettled,
 }
 

@@ -40,7 +40,7 @@ fn all_leave(alloc: Global, outcomes: &[Outcome<Global>], left: &[At]) -> Result
 type Line = (usize, &'static str);
 
 /// Whether a switch's report has this line.
-fn tells(
+fn has_line(
     alloc: Global,
     outcomes: &[Outcome<Global>],
     (switch, line): Line,
@@ -55,13 +55,13 @@ fn tells(
 }
 
 /// The same of each of these lines.
-fn all_tell(
+fn have_lines(
     alloc: Global,
     outcomes: &[Outcome<Global>],
     lines: &[Line],
 ) -> Result<bool, AllocError> {
     for line in lines {
-        if !tells(alloc, outcomes, *line)? {
+        if !has_line(alloc, outcomes, *line)? {
             return Ok(false);
         }
     }
@@ -80,7 +80,7 @@ fn leads_to(
 ) -> Result<bool, Fail> {
     let network = cleared(alloc, texts, wires)?;
     let outcomes = outcomes(alloc, &network, came)?;
-    Ok(all_leave(alloc, &outcomes, left)? && all_tell(alloc, &outcomes, lines)?)
+    Ok(all_leave(alloc, &outcomes, left)? && have_lines(alloc, &outcomes, lines)?)
 }
 
 /// The tables of the two switches, with this jitter at the second one.

@@ -4,9 +4,9 @@ use Rattle.afdx_pcap.specs.declared.bytes.Bytes.{Bytes}
 use Rattle.afdx_pcap.specs.declared.bytes.Bytes.TheVariants.{Owned, Lent}
 
 -- the bytes, whoever owns them
-abbrev pub bytes_of : {Z : Type 0} → Bytes Z → List ℕ
-bytes_of (Owned v) = v.items
-bytes_of (Lent s) = s.now
+abbrev pub plain_bytes : {Z : Type 0} → Bytes Z → List ℕ
+plain_bytes (Owned v) = v.items
+plain_bytes (Lent s) = s.now
 
 abbrev pub is_lent : {Z : Type 0} → Bytes Z → Bool
 is_lent (Owned v) = false

@@ -25,8 +25,8 @@ pub record Taking : Type 0 where
   pub bytes : List ℕ
   pub given : ℕ
 
-abbrev pub taken_in : Reading → Taking
-taken_in r = record { bytes = r.bytes; given = r.given }
+abbrev pub as_taking : Reading → Taking
+as_taking r = record { bytes = r.bytes; given = r.given }
 
 -- the record after the first n whole ones
 abbrev pub IsNext : List ℕ → ℕ → Record → Type 0

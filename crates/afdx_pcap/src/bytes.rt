@@ -1,7 +1,7 @@
 //! Bytes that are owned or lent.
 
 ghost use Rattle.std.specs.Prelude.{◌≡◌, ◌++◌, false, is_ok, if◌then◌else◌};
-ghost use Rattle.afdx_pcap.specs.Bytes.{bytes_of, is_lent};
+ghost use Rattle.afdx_pcap.specs.Bytes.{plain_bytes, is_lent};
 
 use std::alloc::{AllocError, Allocator};
 
@@ -14,7 +14,7 @@ pub enum Bytes<'a, A: Allocator> {
 
 impl<'a, A: Allocator> Bytes<'a, A> {
     pub fn as_slice(&self) -> &[u8]
-        ensures { result.now ≡ bytes_of self.now }
+        ensures { result.now ≡ plain_bytes self.now }
     {
         match self {
             Bytes::Owned(bytes) => bytes,
@@ -25,7 +25,7 @@ impl<'a, A: Allocator> Bytes<'a, A> {
     /// Puts more bytes behind those that are owned.
     pub fn extend(&mut self, more: &[u8]) -> Result<(), AllocError>
         requires { is_lent self.old ≡ false }
-        ensures bytes { bytes_of self.new ≡ (if is_ok result then bytes_of self.old ++ more.now else bytes_of self.old) }
+        ensures bytes { plain_bytes self.new ≡ (if is_ok result then plain_bytes self.old ++ more.now else plain_bytes self.old) }
         ensures lent { is_lent self.new ≡ false }
     {
         match self {

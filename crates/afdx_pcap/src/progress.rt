@@ -2,7 +2,7 @@
 
 ghost use Rattle.std.specs.Prelude.{◌≡◌, ◌≢◌, ◌+◌, false, Ok, Err, None, IfOk, IfErr, IfSome, not, ◌||◌, if◌then◌else◌};
 ghost use Rattle.afdx_pcap.specs.declared.fault.PcapFault.TheVariants.{Memory};
-ghost use Rattle.afdx_pcap.specs.Bytes.{bytes_of, is_lent};
+ghost use Rattle.afdx_pcap.specs.Bytes.{plain_bytes, is_lent};
 ghost use Rattle.afdx_pcap.specs.Capture.{header_of};
 ghost use Rattle.afdx_pcap.specs.Fault.{is_cut};
 ghost use Rattle.afdx_pcap.specs.Reading.{Answers, At, HasNext, IsNext, RestFault, IsAtPlace, answer_of};
@@ -126,11 +126,11 @@ pub fn next_record<'a, A: Allocator>(
     closed: bool,
     progress: Option<Progress>,
 ) -> Result<Option<(Record<'a, A>, Progress)>, PcapFault>
-    requires { IsAtPlace (bytes_of bytes.now) given progress }
-    ensures answer { Answers (bytes_of bytes.now) given closed (answer_of result) }
+    requires { IsAtPlace (plain_bytes bytes.now) given progress }
+    ensures answer { Answers (plain_bytes bytes.now) given closed (answer_of result) }
     ensures memory { IfErr result (λ fault. fault ≡ Memory
-        → HasNext (bytes_of bytes.now) given × (is_lent bytes.now ≡ false)) }
-    ensures progress { IfOk result (λ o. IfSome o (λ x. At (bytes_of bytes.now) (given + 1) x.1)) }
+        → HasNext (plain_bytes bytes.now) given × (is_lent bytes.now ≡ false)) }
+    ensures progress { IfOk result (λ o. IfSome o (λ x. At (plain_bytes bytes.now) (given + 1) x.1)) }
 {
     match bytes {
         Bytes::Lent(bytes) => next_lent(bytes, given, closed, progress),

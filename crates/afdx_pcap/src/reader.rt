@@ -28,13 +28,13 @@ pub struct Reader<'a, A: Allocator> {
 
 impl<'a, A: Allocator> Model for Reader<'a, A> {
     ghost use Rattle.std.specs.Prelude.{◌≡◌, true};
-    ghost use Rattle.afdx_pcap.specs.Bytes.{bytes_of, is_lent};
+    ghost use Rattle.afdx_pcap.specs.Bytes.{plain_bytes, is_lent};
     ghost use Rattle.afdx_pcap.specs.Reading.{Reading, IsAtPlace};
 
     ghost Value = { Reading };
 
     ghost view = { λ r. record {
-      bytes = bytes_of r.bytes;
+      bytes = plain_bytes r.bytes;
       given = r.given;
       closed = r.closed;
       fault = r.fault;
@@ -42,7 +42,7 @@ impl<'a, A: Allocator> Model for Reader<'a, A> {
     } };
 
     // What is lent is whole, so that nothing is fed behind it.
-    ghost invariant = { λ r. IsAtPlace (bytes_of r.bytes) r.given r.progress
+    ghost invariant = { λ r. IsAtPlace (plain_bytes r.bytes) r.given r.progress
         × (is_lent r.bytes ≡ true → r.closed ≡ true) };
 }
 

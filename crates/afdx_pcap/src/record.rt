@@ -23,14 +23,14 @@ pub struct Record<'a, A: Allocator> {
 
 impl<'a, A: Allocator> Model for Record<'a, A> {
     ghost use Rattle.std.specs.Prelude.{◌≤◌, length};
-    ghost use Rattle.afdx_pcap.specs.Bytes.{bytes_of};
+    ghost use Rattle.afdx_pcap.specs.Bytes.{plain_bytes};
     ghost use Rattle.afdx_pcap.specs.Record.{Record as Seen, captured_limit};
 
     ghost Value = { Seen };
 
-    ghost view = { λ r. record { stamp = r.stamp; original = r.original; bytes = bytes_of r.bytes } };
+    ghost view = { λ r. record { stamp = r.stamp; original = r.original; bytes = plain_bytes r.bytes } };
 
-    ghost invariant = { λ r. length (bytes_of r.bytes) ≤ captured_limit };
+    ghost invariant = { λ r. length (plain_bytes r.bytes) ≤ captured_limit };
 }
 
 impl<'a, A: Allocator> Record<'a, A> {

@@ -37,9 +37,9 @@ abbrev pub answer : Item → Content → Offer
 answer x c = if fits c.settings c.admitted x then Queued else Full
 
 -- whether a port answered Full to an offer
-abbrev pub is_full : Offer → Bool
-is_full Queued = false
-is_full Full = true
+abbrev pub answers_full : Offer → Bool
+answers_full Queued = false
+answers_full Full = true
 
 -- the content after an offer
 abbrev pub offered : Item → Content → Content

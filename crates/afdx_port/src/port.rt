@@ -2,6 +2,7 @@
 
 ghost use Rattle.std.specs.Prelude.{◌≡◌, ℕ, ◌+◌, ◌<◌, ◌≤◌, ◌++◌, [], ◌∷◌, true, false, All, OnOk};
 ghost use Rattle.afdx_units.specs.Time.{last_second};
+ghost use Rattle.afdx_units.specs.Line.{least_size, greatest_size};
 ghost use Rattle.afdx_port.specs.Service.{sent_of, aged_of};
 ghost use Rattle.afdx_port.specs.Admission.{fits};
 ghost use Rattle.afdx_port.specs.Inner.Sound.{IsSmall};
@@ -115,8 +116,8 @@ impl<A: Allocator + Copy> Port<A> {
         requires not_late { item.stamp < last_second }
         requires in_order { self.old.content.horizon ≤ item.stamp }
         requires numbered { All (λ other. other.number < item.number) self.old.content.admitted }
-        requires least { 64 ≤ item.size }
-        requires largest { item.size ≤ 1518 }
+        requires least { least_size ≤ item.size }
+        requires largest { item.size ≤ greatest_size }
         ensures answer { result ≡ answer item self.old.content }
         ensures content { self.new.content ≡ offered item self.old.content }
         ensures room { self.old.room ≤ self.new.room + 1 }

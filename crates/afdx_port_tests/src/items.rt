@@ -2,6 +2,7 @@
 
 ghost use Rattle.std.specs.Prelude.{◌≡◌, ℕ, ◌+◌, ◌<◌, ◌≤◌, false, All};
 ghost use Rattle.afdx_units.specs.Time.{last_second};
+ghost use Rattle.afdx_units.specs.Line.{least_size, greatest_size};
 
 use afdx_port::{Item, Offer, Port};
 use afdx_units::{Priority, Speed, Stamp};
@@ -15,8 +16,8 @@ fn offer(port: &mut Port<Global>, number: usize, at: u64, size: u32, priority: P
     requires not_late { at < last_second }
     requires in_order { port.old.content.horizon ≤ at }
     requires numbered { All (λ other. other.number < number) port.old.content.admitted }
-    requires least { 64 ≤ size }
-    requires largest { size ≤ 1518 }
+    requires least { least_size ≤ size }
+    requires largest { size ≤ greatest_size }
     ensures room { port.old.room ≤ port.new.room + 1 }
     ensures open { port.new.content.finished ≡ false }
     ensures horizon { port.new.content.horizon ≡ at }

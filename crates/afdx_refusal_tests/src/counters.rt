@@ -51,7 +51,7 @@ fn fresh<'a>(memory: &'a Memory, table: &Table, wants: &mut u64) -> Option<Count
 }
 
 /// Whether the report is this text; none where memory runs out.
-fn tell<A: Allocator + Copy>(counts: &Counts<A>, memory: &Memory, text: &str) -> Option<bool> {
+fn reports<A: Allocator + Copy>(counts: &Counts<A>, memory: &Memory, text: &str) -> Option<bool> {
     match counts.report(memory) {
         Ok(report) => Some(report.as_str() == text),
         Err(_) => None,
@@ -59,17 +59,17 @@ fn tell<A: Allocator + Copy>(counts: &Counts<A>, memory: &Memory, text: &str) ->
 }
 
 /// Whether it is this text.
-fn tell_again<A: Allocator + Copy>(
+fn reports_again<A: Allocator + Copy>(
     counts: &Counts<A>,
     memory: &Memory,
     text: &str,
     wants: &mut u64,
 ) -> bool {
-    match tell(counts, memory, text) {
+    match reports(counts, memory, text) {
         Some(right) => right,
         None => {
             count(wants);
-            tell(counts, memory, text) == Some(true)
+            reports(counts, memory, text) == Some(true)
         }
     }
 }
@@ -80,9 +80,9 @@ impl Calls for Reporting<'_> {
         let Some(mut counts) = fresh(memory, self.table, &mut wants) else {
             return Ok(Some(false));
         };
-        let before = tell_again(&counts, memory, NO_FRAMES, &mut wants);
+        let before = reports_again(&counts, memory, NO_FRAMES, &mut wants);
         counts.note(self.step);
-        let after = tell_again(&counts, memory, ONE_FRAME, &mut wants);
+        let after = reports_again(&counts, memory, ONE_FRAME, &mut wants);
         Ok(made_again(before && after, wants))
     }
 }

@@ -3,8 +3,8 @@
 use crate::growths::{Calls, Memory, refuse};
 use crate::tables::plan_of;
 use afdx_refusing::Refusing;
-use afdx_samples::{Link, Sample, capture, frame, link, port, single, small, table};
-use afdx_session::{Outcome, RunFault, run};
+use afdx_samples::{Link, MemoryFile, Sample, capture, frame, link, port, single, small, table};
+use afdx_session::{Outcome, RunFault, run, run_into};
 use std::alloc::{AllocError, Allocator, Global};
 use std::test::*;
 
@@ -93,6 +93,72 @@ impl Calls for Running<'_> {
         let ample = Refusing::new(self.alloc, 0);
         let answer = ran(self.alloc, memory, &ample, self.table, self.came)?;
         Ok(is_right(self, answer))
+    }
+}
+
+/// So many files of no bytes, whose bytes take other memory.
+fn files_of<A: Allocator + Copy>(
+    memory: A,
+    ample: A,
+    count: usize,
+) -> Result<Vec<MemoryFile<A>, A>, AllocError> {
+    let mut files = Vec::new(ample);
+    for _place in 0..count {
+        files.push(MemoryFile {
+            bytes: Vec::new(memory),
+        })?;
+    }
+    Ok(files)
+}
+
+/// What these files have, each with the port of the capture at its place.
+fn texts_in<A: Allocator + Copy>(
+    ample: A,
+    captures: &[(u8, Vec<u8>)],
+    files: Vec<MemoryFile<A>, A>,
+) -> Result<Vec<(u8, Vec<u8, A>), A>, AllocError> {
+    let mut texts = Vec::new(ample);
+    for ((port, _), file) in captures.iter().zip(files) {
+        texts.push((*port, file.bytes))?;
+    }
+    Ok(texts)
+}
+
+/// What a run into files answers, whose captures take other memory, with what the files have.
+fn ran_into<A: Allocator + Copy>(
+    alloc: Global,
+    memory: A,
+    ample: A,
+    table: &str,
+    came: &[(u8, Vec<u8>)],
+) -> Result<Result<Outcome<A>, RunFault>, Fail> {
+    let captures = copied(ample, came)?;
+    let mut files = files_of(memory, ample, came.len())?;
+    let plan = plan_of(alloc, table)?;
+    if files.len() != captures.len() {
+        return Ok(Err(RunFault::WrongPorts));
+    }
+    match run_into(memory, plan, &captures, &mut files) {
+        Ok(counts) => Ok(Ok(Outcome {
+            captures: texts_in(ample, came, files)?,
+            counts,
+        })),
+        Err(fault) => Ok(Err(fault)),
+    }
+}
+
+/// The same run, into files.
+#[derive(Clone, Copy)]
+struct IntoFiles<'a> {
+    running: Running<'a>,
+}
+
+impl Calls for IntoFiles<'_> {
+    fn answer(&self, memory: &Memory) -> Result<Option<bool>, Fail> {
+        let running = self.running;
+        let ample = Refusing::new(running.alloc, 0);
+        let answer = ran_into(running.alloc, memory, &ample, running.table, running.came)?;
+        Ok(is_right(&running, answer))
     }
 }
 
@@ -208,5 +274,7 @@ fn hundred_frames_at_three_ports(rt: HostRuntime) -> Result<(), Fail> {
         left: &whole.left,
         report: &whole.report,
     };
-    refuse(&rt, alloc, "run of a hundred frames", &calls, 100)
+    refuse(&rt, alloc, "run of a hundred frames", &calls, 100)?;
+    let into_files = IntoFiles { running: calls };
+    refuse(&rt, alloc, "the same into files", &into_files, 100)
 }

@@ -1,16 +1,18 @@
-//! Tables, networks, frames and captures that the crates' tests start from.
+//! Tables, networks, frames, captures and files that the crates' tests start from.
 //!
 //! They are in a crate of their own, so that each is written once. No program uses it.
 #![tactic(auto)]
 
 mod captures;
 mod frames;
+mod memory_file;
 mod networks;
 mod rows;
 mod tables;
 
 pub use captures::{FRAME, HEADER, capture, joined};
 pub use frames::{Sample, frame, large, one_of_each, record, small};
+pub use memory_file::MemoryFile;
 pub use networks::{
     Ends, MULTICAST, RING, four_ports, four_ports_each, multicast, network_file, ring, small_link,
     three_switches, two_switches,

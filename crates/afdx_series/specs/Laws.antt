@@ -1,6 +1,7 @@
 -- The laws of accounts in series, over the definitions alone.
 use Rattle.std.specs.Prelude.{◌≡◌, ℕ, ◌-◌, ◌≤◌, List, [], map}
 use Rattle.std.specs.List.{AllZip, AllByRecursion}
+use Rattle.afdx_units.specs.Line.{least_size}
 use Rattle.afdx_units.specs.declared.bag.Bag.{Bag}
 use Rattle.afdx_units.specs.declared.line.Speed.{Speed}
 use Rattle.afdx_units.specs.declared.police.Police.{Police}
@@ -31,9 +32,9 @@ JitterEnough A = (frame_of : A → Frame) (d : Delays) (police : Police) (max_si
     → IsEnough d first later → ComeLater d (passed_frames (terms_by police max_size bag first) frames) (map frame_of xs)
     → passed_of frame_of (terms_by police max_size bag later) xs ≡ xs
 
--- frames of at least 64 bytes that cross a switch and a cable come later by the hop
+-- frames of the least size or more that cross a switch and a cable come later by the hop
 abbrev pub CrossingIsAHop : Type 0
-CrossingIsAHop = (speed : Speed) (latency bound cable : ℕ) (fs gs : List Frame) → AllByRecursion (λ f. 64 ≤ f.size) fs
+CrossingIsAHop = (speed : Speed) (latency bound cable : ℕ) (fs gs : List Frame) → AllByRecursion (λ f. least_size ≤ f.size) fs
     → AllZip (Crosses speed latency bound cable) fs gs → ComeLater (hop_of speed latency bound cable) fs gs
 
 -- delays add up

@@ -1,7 +1,7 @@
 //! The jitter that a link needs on its way.
 
 ghost use Rattle.std.specs.Prelude.{◌≡◌, ℕ, ◌≤◌, ◌*◌, ◌↔◌};
-ghost use Rattle.afdx_series.specs.Delay.{IsEnough, need_of};
+ghost use Rattle.afdx_series.specs.Delay.{IsEnough, least_jitter};
 
 use crate::delays::Delays;
 
@@ -13,7 +13,7 @@ const MICROSECOND: u64 = 1000;
 pub fn need(delays: Delays, jitter: u64) -> u64
     requires jitter_limit { jitter ≤ 10000000 }
     requires most_limit { delays.most ≤ 1152921504606846976 }
-    ensures value { result ≡ need_of delays jitter }
+    ensures value { result ≡ least_jitter delays jitter }
     ensures least { (us : ℕ) → IsEnough delays jitter (us * 1000) ↔ (result ≤ us) }
 {
     (jitter + delays.most)

@@ -11,14 +11,14 @@ use Rattle.afdx_table.specs.Content.{Content}
 use Rattle.afdx_failures.specs.declared.failure.Failure.{Failure}
 use Rattle.afdx_failures.specs.declared.failure.Failure.TheVariants as failure
 use Rattle.afdx_devices.specs.Files.{Files, Shows, ShowsAll, KeepsFiles, KeepsOthers, PutsFile, PutsFiles, DeviceLog, one_more}
-use Rattle.afdx_serve.specs.Runs.{capture_name, names_in, bytes_of, GetsUpTo, port_names, StopsAt, FailsToGet, FailsToGetAll, FailsToPutOne, FailsToPut}
+use Rattle.afdx_serve.specs.Runs.{capture_name, names_in, bytes_of_captures, GetsUpTo, port_names, StopsAt, FailsToGet, FailsToGetAll, FailsToPutOne, FailsToPut}
 use Rattle.afdx_serve.proofs.FileLemmas.{KeepsFiles-trans, Shows-before, PutsFiles-before, ShowsAll-before, ShowsAll-push, PutsFiles-nil, one_put, two_put}
 
 -- one more capture was got
-pub one_more_got : (a b : Option Files) (path : List ℕ) (captures : List Text) (c : Text) → KeepsFiles a b → ShowsAll a (names_in path captures) (bytes_of captures)
-    → Shows b (capture_name path c.0) c.1 → ShowsAll a (names_in path (captures ++ c ∷ [])) (bytes_of (captures ++ c ∷ []))
+pub one_more_got : (a b : Option Files) (path : List ℕ) (captures : List Text) (c : Text) → KeepsFiles a b → ShowsAll a (names_in path captures) (bytes_of_captures captures)
+    → Shows b (capture_name path c.0) c.1 → ShowsAll a (names_in path (captures ++ c ∷ [])) (bytes_of_captures (captures ++ c ∷ []))
 one_more_got a b path captures c keeps before one =
-    let more = ShowsAll-push a (names_in path captures) (bytes_of captures) (capture_name path c.0) c.1 before (Shows-before a b _ _ keeps one) in
+    let more = ShowsAll-push a (names_in path captures) (bytes_of_captures captures) (capture_name path c.0) c.1 before (Shows-before a b _ _ keeps one) in
     rw (map-append (λ (x : Text). capture_name path x.0) captures (c ∷ []), map-append (λ (x : Text). x.1) captures (c ∷ [])) more
 
 -- ---- the first or the second of two files
@@ -89,12 +89,13 @@ second_put (Err f) a b c n m x y names texts first before after same named repor
 -- ---- the loops over captures
 
 -- an element of a mapped list
-mapped : {X Y : Type 0} (f : X → Y) (xs : List X) (i : ℕ) (d : X) → i < length xs → slice_get (map f xs) i ≡ Some (f (get_or xs i d))
+pub mapped : {X Y : Type 0} (f : X → Y) (xs : List X) (i : ℕ) (d : X) → i < length xs → slice_get (map f xs) i ≡ Some (f (get_or xs i d))
 mapped f xs i d lt = slice_get-map f xs i ∙ ap (option_map f) (slice_get-get_or xs i d lt)
 
 -- the name of a port's capture, where those of the ports before it were got
 pub gets_up_to : (files : Option Files) (path name : List ℕ) (t : Content) (ports : List PortRow) (i : ℕ) (d : PortRow) (captures : List Text) → ports ≡ t.ports → i < length ports
-    → name ≡ capture_name path (get_or ports i d).id → ShowsAll files (names_in path captures) (bytes_of captures) → map (λ (x : Text). x.0) captures ≡ map (λ (p : PortRow). p.id) (take i ports)
+    → name ≡ capture_name path (get_or ports i d).id → ShowsAll files (names_in path captures) (bytes_of_captures captures) → map (λ (x : Text). x.0) captures
+    ≡ map (λ (p : PortRow). p.id) (take i ports)
     → GetsUpTo name files path t
 gets_up_to files path name t ports i d captures all lt is got ids =
     let named : PortRow → List ℕ = λ p. capture_name path p.id in
@@ -103,9 +104,9 @@ gets_up_to files path name t ports i d captures all lt is got ids =
     ∙ sym (take-map named i ports) ∙ ap (λ (ps : List PortRow). take i (map named ps)) all in
     record {
       place = i;
-      got = bytes_of captures;
+      got = bytes_of_captures captures;
       is_there = subst (λ (ps : List PortRow). slice_get (map named ps) i ≡ Some name) all (mapped named ports i d lt ∙ ap (λ (n : List ℕ). Some n) (sym is));
-      earlier = subst (λ (names : List (List ℕ)). ShowsAll files names (bytes_of captures)) earlier got;
+      earlier = subst (λ (names : List (List ℕ)). ShowsAll files names (bytes_of_captures captures)) earlier got;
     }
 
 pub GetsUpTo-before : (name path : List ℕ) (a b : Option Files) (t : Content) → KeepsFiles a b → GetsUpTo name b path t → GetsUpTo name a path t
@@ -114,9 +115,9 @@ GetsUpTo-before name path a b t keeps s = record { place = s.place; got = s.got;
 -- one more port's capture was got
 pub one_more_capture : {Z : Type 0} (a b c : Option Files) (path name : List ℕ) (ports : List PortRow) (i : ℕ) (d : PortRow) (old new : List (ℕ × Vec ℕ Z)) (bytes : Vec ℕ Z)
     → new ≡ old ++ ((get_or ports i d).id, bytes) ∷ [] → i < length ports → KeepsFiles a b → KeepsFiles b c
-    → ShowsAll a (names_in path (texts_of old)) (bytes_of (texts_of old)) → map (λ (x : Text). x.0) (texts_of old) ≡ map (λ (p : PortRow). p.id) (take i ports)
+    → ShowsAll a (names_in path (texts_of old)) (bytes_of_captures (texts_of old)) → map (λ (x : Text). x.0) (texts_of old) ≡ map (λ (p : PortRow). p.id) (take i ports)
     → name ≡ capture_name path (get_or ports i d).id → Shows b name bytes.items
-    → ShowsAll a (names_in path (texts_of new)) (bytes_of (texts_of new)) × (map (λ (x : Text). x.0) (texts_of new) ≡ map (λ (p : PortRow). p.id) (take (i + 1) ports)) × KeepsFiles a c
+    → ShowsAll a (names_in path (texts_of new)) (bytes_of_captures (texts_of new)) × (map (λ (x : Text). x.0) (texts_of new) ≡ map (λ (p : PortRow). p.id) (take (i + 1) ports)) × KeepsFiles a c
 one_more_capture {Z} a b c path name ports i d old new bytes grown lt first second got ids named shows =
     let view : ℕ × Vec ℕ Z → Text = λ pair. (pair.0, pair.1.items) in
     let one : Text = ((get_or ports i d).id, bytes.items) in
@@ -124,7 +125,7 @@ one_more_capture {Z} a b c path name ports i d old new bytes grown lt first seco
     let more = one_more_got a b path (texts_of old) one first got (subst (λ (n : List ℕ). Shows b n bytes.items) named shows) in
     let further : map (λ (p : PortRow). p.id) (take (i + 1) ports) ≡ map (λ (p : PortRow). p.id) (take i ports) ++ (get_or ports i d).id ∷ [] =
     ap (map (λ (p : PortRow). p.id)) (take_more ports i d lt) ∙ map-append (λ (p : PortRow). p.id) (take i ports) (get_or ports i d ∷ []) in (
-      subst (λ (ts : List Text). ShowsAll a (names_in path ts) (bytes_of ts)) (sym texts) more,
+      subst (λ (ts : List Text). ShowsAll a (names_in path ts) (bytes_of_captures ts)) (sym texts) more,
       ap (map (λ (x : Text). x.0)) texts ∙ map-append (λ (x : Text). x.0) (texts_of old) (one ∷ []) ∙ ap (λ (l : List ℕ). l ++ (get_or ports i d).id ∷ []) ids ∙ sym further,
       KeepsFiles-trans a b c first second,
     )

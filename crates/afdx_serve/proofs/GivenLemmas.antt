@@ -18,7 +18,7 @@ use Rattle.afdx_ways.specs.Lines.{Names, name_of}
 use Rattle.afdx_failures.specs.declared.failure.Failure.{Failure}
 use Rattle.afdx_failures.specs.declared.failure.Failure.TheVariants as failure
 use Rattle.afdx_devices.specs.Files.{Files, Shows, ShowsAll, KeepsFiles, DeviceLog, one_more}
-use Rattle.afdx_serve.specs.Runs.{capture_name, names_in, bytes_of, FailsToGet}
+use Rattle.afdx_serve.specs.Runs.{capture_name, names_in, bytes_of_captures, FailsToGet}
 use Rattle.afdx_serve.specs.Networks.{names_of}
 use Rattle.afdx_serve.specs.NetworkRuns.{switch_folder, names_at, bytes_at, HasGiven, open_names, GetsGiven, FailsToGetGiven}
 use Rattle.afdx_serve.specs.Inner.OpenPorts.{HasOpen, GetsNamed, FailsToGetNamed}
@@ -112,7 +112,7 @@ all_ports p ports i d within =
 
 -- the captures of these ports to which no wire goes were got, and nothing else was done
 pub record GotOpen (a b : Option Files) (first now : DeviceLog) (folder : List ℕ) (p : ℕ → Bool) (ports : List PortRow) (texts : List Text) : Type 0 where
-  pub got : ShowsAll a (names_in folder texts) (bytes_of texts)
+  pub got : ShowsAll a (names_in folder texts) (bytes_of_captures texts)
   pub ids : map (λ text. text.0) texts ≡ filter p (map (λ r. r.id) ports)
   pub same : KeepsFiles a b
   pub failed : now ≡ first
@@ -127,7 +127,7 @@ gets_open a b first now folder name p ports all i d texts same within passes is 
     let split : filter p (ids_of all) ≡ numbers_in texts ++ port ∷ filter p rest =
     ap (λ (ps : List PortRow). filter p (ids_of ps)) (sym same) ∙ all_ports p ports i d within
     ∙ ap (λ (ns : List ℕ). filter p (ids_of (take i ports)) ++ ns) (one_taken p port rest passes) ∙ ap (λ (ns : List ℕ). ns ++ port ∷ filter p rest) (sym so_far.ids) in
-    stands_next a name (names_in folder texts) (named folder (filter p rest)) (named folder (filter p (ids_of all))) (bytes_of texts)
+    stands_next a name (names_in folder texts) (named folder (filter p rest)) (named folder (filter p (ids_of all))) (bytes_of_captures texts)
     (ap (named folder) split ∙ map-append (capture_name folder) (numbers_in texts) (port ∷ filter p rest)
     ∙ ap (λ (ns : List (List ℕ)). ns ++ capture_name folder port ∷ named folder (filter p rest)) (sym (named_are folder texts))
     ∙ ap (λ (n : List ℕ). names_in folder texts ++ n ∷ named folder (filter p rest)) (sym is)) so_far.got
@@ -142,7 +142,7 @@ one_more_open {Z} a b c first before now folder name p ports i d old new bytes g
     let one : Text = ((get_or ports i d).id, bytes.items) in
     let texts : texts_of new ≡ texts_of old ++ one ∷ [] = ap (map view) grown ∙ map-append view old (_ ∷ []) in
     record {
-      got = subst (λ (ts : List Text). ShowsAll a (names_in folder ts) (bytes_of ts)) (sym texts)
+      got = subst (λ (ts : List Text). ShowsAll a (names_in folder ts) (bytes_of_captures ts)) (sym texts)
           (one_more_got a b folder (texts_of old) one so_far.same so_far.got (subst (λ (n : List ℕ). Shows b n bytes.items) is shows.0));
       ids = ap numbers_in texts ∙ map-append (λ (text : Text). text.0) (texts_of old) (one ∷ []) ∙ ap (λ (ns : List ℕ). ns ++ one.0 ∷ []) so_far.ids
           ∙ ap (λ (ns : List ℕ). filter p (ids_of (take i ports)) ++ ns) (sym (one_taken p one.0 [] passes)) ∙ sym (more_ports p ports i d within);
@@ -313,7 +313,7 @@ module _ (files b : Option Files) (path : List ℕ) (net : Network) (i : ℕ) (d
   got_one_more texts has = record {
     has = subst (λ (ns : List (List ℕ)). ShowsAll files ns (bytes_at (given ++ texts ∷ []))) (sym names_are)
         (subst (ShowsAll files (names_at path names given ++ names_in own texts)) (sym bytes_are)
-        (ShowsAll-append files (names_at path names given) (names_in own texts) (bytes_at given) (bytes_of texts) so_far.has (ShowsAll-before files b _ _ keeps has.0)));
+        (ShowsAll-append files (names_at path names given) (names_in own texts) (bytes_at given) (bytes_of_captures texts) so_far.has (ShowsAll-before files b _ _ keeps has.0)));
     ids = grown ∙ ap (λ (numbers : List ℕ). given_ids given ++ numbers ∷ []) has.1 ∙ ap (λ (all : List (List ℕ)). all ++ ids ∷ []) so_far.ids
         ∙ sym (open_ids-append net 0 i (take i net.tables) (t ∷ []) place_is) ∙ ap (open_ids net 0) (sym taken);
   } where
@@ -323,8 +323,8 @@ module _ (files b : Option Files) (path : List ℕ) (net : Network) (i : ℕ) (d
     taken : take (i + 1) net.tables ≡ take i net.tables ++ t ∷ []
     taken = take_more net.tables i d within ∙ ap (λ (u : Content). take i net.tables ++ u ∷ []) (sym table_is)
 
-    bytes_are : bytes_at (given ++ texts ∷ []) ≡ bytes_at given ++ bytes_of texts
-    bytes_are = flat_map-append bytes_of given (texts ∷ []) ∙ ap (λ (bs : List (List ℕ)). bytes_at given ++ bs) (append-nil (bytes_of texts))
+    bytes_are : bytes_at (given ++ texts ∷ []) ≡ bytes_at given ++ bytes_of_captures texts
+    bytes_are = flat_map-append bytes_of_captures given (texts ∷ []) ∙ ap (λ (bs : List (List ℕ)). bytes_at given ++ bs) (append-nil (bytes_of_captures texts))
 
     names_are : names_at path names (given ++ texts ∷ []) ≡ names_at path names given ++ names_in own texts
     names_are =

@@ -29,7 +29,7 @@ use Rattle.afdx_lines.specs.declared.network_failure.NetworkFailure.TheVariants 
 use Rattle.afdx_failures.specs.declared.failure.Failure.{Failure}
 use Rattle.afdx_failures.specs.declared.failure.Failure.TheVariants as failure
 use Rattle.afdx_devices.specs.Files.{Files, with_file, with_files, KeepsFiles, PutsFiles, DeviceLog, one_more}
-use Rattle.afdx_serve.specs.Runs.{capture_name, names_in, bytes_of, report_in, StopsAt, FailsToPut}
+use Rattle.afdx_serve.specs.Runs.{capture_name, names_in, bytes_of_captures, report_in, StopsAt, FailsToPut}
 use Rattle.afdx_serve.specs.Networks.{names_of, HasNetwork}
 use Rattle.afdx_serve.specs.NetworkRuns.{switch_folder, names_at, bytes_at, captures_of, reports_of, HasGiven, LeadsToNetwork, GetsGiven, FailsToGetGiven, FailsToLeadNetwork, StopsNetwork}
 use Rattle.afdx_serve.specs.Serving.{world, PutsNetwork, FailsToRunNetwork}
@@ -213,7 +213,7 @@ module _ {X Y : Type 0} (f : X → List (List ℕ)) (g : Y → List (List ℕ)) 
 
 -- the names that are held and the captures are such lists
 held_same : {Y Z : Type 0} (held : List (Vec (String Z) Y)) (all : List (List Text)) → AreAsMany held all
-    → map (λ (v : Vec (String Z) Y). length (map (λ (s : String Z). string_bytes s) v.items)) held ≡ map (λ (own : List Text). length (bytes_of own)) all
+    → map (λ (v : Vec (String Z) Y). length (map (λ (s : String Z). string_bytes s) v.items)) held ≡ map (λ (own : List Text). length (bytes_of_captures own)) all
 held_same held all many = held_counts held ∙ many ∙ λ j. map (λ (own : List Text). sym (length-map own (λ (c : Text). c.1)) j) all
 
 -- as many names as captures, of each switch
@@ -236,23 +236,25 @@ capture_at left i e lt = get_or-map (λ (r : Results). r.captures) left i e e.ca
 -- the captures of one switch more were put
 pub switch_put : {Y Z : Type 0} (held : List (Vec (String Z) Y)) (left : List Results) (i : ℕ) (d : Vec (String Z) Y) (e : Results) (a b c : Option Files) → AreAsMany held (captures_of left)
     → i < length held → i < length left → PutsFiles a b (held_names (take i held)) (bytes_at (take i (captures_of left)))
-    → PutsFiles b c (map (λ (s : String Z). string_bytes s) (get_or held i d).items) (bytes_of (get_or left i e).captures)
+    → PutsFiles b c (map (λ (s : String Z). string_bytes s) (get_or held i d).items) (bytes_of_captures (get_or left i e).captures)
     → PutsFiles a c (held_names (take (i + 1) held)) (bytes_at (take (i + 1) (captures_of left)))
 switch_put {Y} {Z} held left i d e a b c many lt within before one =
-    more_put (λ (v : Vec (String Z) Y). map (λ (s : String Z). string_bytes s) v.items) bytes_of held (captures_of left) (held_same held (captures_of left) many) i d e.captures a b c lt before
-    (subst (λ (own : List Text). PutsFiles b c (map (λ (s : String Z). string_bytes s) (get_or held i d).items) (bytes_of own)) (sym (capture_at left i e within)) one)
+    more_put (λ (v : Vec (String Z) Y). map (λ (s : String Z). string_bytes s) v.items) bytes_of_captures held (captures_of left) (held_same held (captures_of left) many) i d e.captures a b c lt
+    before
+    (subst (λ (own : List Text). PutsFiles b c (map (λ (s : String Z). string_bytes s) (get_or held i d).items) (bytes_of_captures own)) (sym (capture_at left i e within)) one)
 
 -- those of one were not all
 module _ {Y Z : Type 0} (held : List (Vec (String Z) Y)) (left : List Results) (i : ℕ) (d : Vec (String Z) Y) (e : Results) (a b c : Option Files) (first before after : DeviceLog)
     (many : AreAsMany held (captures_of left)) (lt : i < length held) (within : i < length left) (same : before ≡ first)
     (put : PutsFiles a b (held_names (take i held)) (bytes_at (take i (captures_of left)))) where
-  stops_at_switch : (name : List ℕ) → StopsAt name (map (λ (s : String Z). string_bytes s) (get_or held i d).items) (bytes_of (get_or left i e).captures) b c
+  stops_at_switch : (name : List ℕ) → StopsAt name (map (λ (s : String Z). string_bytes s) (get_or held i d).items) (bytes_of_captures (get_or left i e).captures) b c
       → StopsAt name (held_names held) (bytes_at (captures_of left)) a c
   stops_at_switch name s =
-      stops_in (λ (v : Vec (String Z) Y). map (λ (x : String Z). string_bytes x) v.items) bytes_of held (captures_of left) (held_same held (captures_of left) many) name i d e.captures a b c lt put
-      (subst (λ (own : List Text). StopsAt name (map (λ (x : String Z). string_bytes x) (get_or held i d).items) (bytes_of own) b c) (sym (capture_at left i e within)) s)
+      stops_in (λ (v : Vec (String Z) Y). map (λ (x : String Z). string_bytes x) v.items) bytes_of_captures held (captures_of left) (held_same held (captures_of left) many) name i d e.captures a b c
+      lt put
+      (subst (λ (own : List Text). StopsAt name (map (λ (x : String Z). string_bytes x) (get_or held i d).items) (bytes_of_captures own) b c) (sym (capture_at left i e within)) s)
 
-  pub switch_not_put : (f : Failure) → FailsToPut f (map (λ (s : String Z). string_bytes s) (get_or held i d).items) (bytes_of (get_or left i e).captures) b c before after
+  pub switch_not_put : (f : Failure) → FailsToPut f (map (λ (s : String Z). string_bytes s) (get_or held i d).items) (bytes_of_captures (get_or left i e).captures) b c before after
       → FailsToPut f (held_names held) (bytes_at (captures_of left)) a c first after
   switch_not_put (failure.Put name) h = (stops_at_switch (string_bytes name) h.0, h.1 ∙ ap (one_more (string_bytes name)) same)
   switch_not_put failure.Memory h = (h.0, stops_at_switch h.0 h.1)

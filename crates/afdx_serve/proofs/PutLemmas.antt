@@ -1,90 +1,95 @@
--- Outputs that are put one after the other, each written when its turn comes.
-use Rattle.std.proofs.Common.{◌≡◌, ℕ, zero, suc, ◌+◌, ◌<◌, ◌≤◌, List, [], ◌∷◌, length, map, take, get_or, slice_get, Option, Some, None, Global, String, string_bytes, refl, sym, ap, subst, ◌∙◌, arith}
-use Rattle.std.proofs.lemmas.List.{length-map}
-use Rattle.std.proofs.lemmas.Option.{slice_get-map, get_or_from_slice_get}
-use Rattle.std.specs.Prelude.{option_map}
-use Rattle.afdx_table.specs.declared.rows.PortRow.{PortRow}
-use Rattle.afdx_table.specs.Content.{Content}
-use Rattle.afdx_core.specs.Merge.{Arrival}
+-- New files that are begun, written and put.
+use Rattle.std.proofs.Common.{◌≡◌, ℕ, zero, suc, ◌+◌, ◌<◌, List, [], ◌∷◌, ◌++◌, length, take, drop, get_or, slice_get, min, Option, Some, None, refl, ap, subst, sym, ◌∙◌, arith}
+use Rattle.std.specs.Prelude.{IfSome}
+use Rattle.std.specs.Io.KnownBytes.{Appends}
+use Rattle.std.proofs.Math.Seq.{take-append_seam}
+use Rattle.std.proofs.lemmas.List.{length-take, take_more}
+use Rattle.std.proofs.lemmas.Option.{same_Some, slice_get-get_or, slice_get_within, get_or_from_slice_get}
 use Rattle.afdx_session.specs.Texts.{Text}
-use Rattle.afdx_session.specs.Output.{output_text, outputs}
-use Rattle.afdx_session.specs.Carried.{Rest, IsLeft}
-use Rattle.afdx_devices.specs.Files.{Files, PutsFile, PutsFiles, KeepsOthers, DeviceLog}
-use Rattle.afdx_serve.specs.Runs.{bytes_of, StopsAt}
-use Rattle.afdx_serve.proofs.CaptureLemmas.{stops_at}
-use Rattle.afdx_serve.proofs.FileLemmas.{PutsFiles-nil, one_more_file}
+use Rattle.afdx_session.specs.Written.{AreAppended}
+use Rattle.afdx_devices.specs.Files.{Files, KeepsFiles, PutsFile, PutsFiles}
+use Rattle.afdx_serve.specs.Runs.{bytes_of_captures}
+use Rattle.afdx_serve.specs.Inner.Outputs.{AreEmpty, HaveBytes}
+use Rattle.afdx_serve.proofs.FileLemmas.{one_more_put}
 
--- the outputs of the ports before a place were put, and the others are left
-pub record ArePut (t : Content) (arrivals : List Arrival) (names : List (String Global)) (n : ℕ) (old new : Option Files) (first now : DeviceLog) (rest : Rest) : Type 0 where
-  pub left : IsLeft t arrivals n rest
-  pub put : PutsFiles old new (take n (map (λ (s : String Global). string_bytes s) names)) (take n (bytes_of (outputs t arrivals)))
-  pub failed : now ≡ first
+-- what holds of each element of a list and of one more
+pushed : {N : Type 0} (P : N → Type 0) (files : List N) (new : N) → ((place : ℕ) (n : N) → slice_get files place ≡ Some n → P n) → P new → (place : ℕ) (n : N)
+    → slice_get (files ++ new ∷ []) place ≡ Some n
+    → P n
+pushed P [] new was one zero n is = subst P (same_Some new n is) one
+pushed P [] new was one (suc place) n is = absurd cc
+pushed P (x ∷ files) new was one zero n is = was zero n is
+pushed P (x ∷ files) new was one (suc place) n is = pushed P files new (λ p m at. was (suc p) m at) one place n is
 
-pub none_put : (t : Content) (arrivals : List Arrival) (names : List (String Global)) (a : Option Files) (log : DeviceLog) (rest : Rest) → IsLeft t arrivals 0 rest
-    → ArePut t arrivals names 0 a a log log rest
-none_put t arrivals names a log rest left = record { left = left; put = PutsFiles-nil a; failed = refl }
+-- one more new file was begun
+pub empty_push : {N : Type 0} (contents : N → Option (List ℕ)) (a b : Option Files) (files : List N) (new : N) → KeepsFiles a b → AreEmpty contents a files → IfSome b (λ _. contents new ≡ Some [])
+    → AreEmpty contents a (files ++ new ∷ [])
+empty_push contents None b files new keeps was one = tt
+empty_push contents (Some f) None files new keeps was one = absurd keeps
+empty_push contents (Some f) (Some g) files new keeps was one = pushed (λ n. contents n ≡ Some []) files new was one
 
--- there are as many outputs as ports
-as_many : (t : Content) (arrivals : List Arrival) → length (outputs t arrivals) ≡ length t.ports
-as_many t arrivals = length-map t.ports (λ (p : PortRow). (p.id, output_text t arrivals p))
-
-pub within_texts : (t : Content) (arrivals : List Arrival) (n : ℕ) (rest : Rest) → IsLeft t arrivals n rest → n < length t.ports → n < length rest.texts
-within_texts t arrivals n rest left lt =
-    let a = sym (length-map rest.texts (λ (x : Text). x.0)) ∙ ap length left.ports ∙ length-map t.ports (λ (p : PortRow). p.id) in
-    omega (arith, a, lt)
+-- ---- they are written
 
 -- there is an element at a place within a list
-pub within : {X : Type 0} (xs : List X) (k : ℕ) → k < length xs → (x : X) × (slice_get xs k ≡ Some x)
+within : {X : Type 0} (xs : List X) (k : ℕ) → k < length xs → (x : X) × (slice_get xs k ≡ Some x)
 within [] k lt = absurd (omega (arith, lt))
 within (x ∷ xs) zero lt = (x, refl)
 within (x ∷ xs) (suc k) lt = within xs k (omega (arith, lt))
 
-output_at : (t : Content) (arrivals : List Arrival) (i : ℕ) (p : PortRow) → slice_get t.ports i ≡ Some p → (get_or (outputs t arrivals) i (0, [])).1 ≡ output_text t arrivals p
-output_at t arrivals i p is =
-    let view : PortRow → Text = λ q. (q.id, output_text t arrivals q) in
-    ap (λ (x : Text). x.1) (get_or_from_slice_get (outputs t arrivals) i (view p) (0, []) (slice_get-map view t.ports i ∙ ap (option_map view) is))
+-- the text whose bytes are at a place
+text_of : (texts : List Text) (place : ℕ) (bytes : List ℕ) → slice_get (bytes_of_captures texts) place ≡ Some bytes → (text : Text) × (slice_get texts place ≡ Some text) × (text.1 ≡ bytes)
+text_of [] place bytes is = absurd cc
+text_of (x ∷ texts) zero bytes is = (x, refl, same_Some x.1 bytes is)
+text_of (x ∷ texts) (suc place) bytes is = text_of texts place bytes is
+
+to_none : (new : Option (List ℕ)) (bytes : List ℕ) → Appends (Some []) new bytes → new ≡ Some bytes
+to_none None bytes appended = absurd appended
+to_none (Some all) bytes appended = ap (λ (xs : List ℕ). Some xs) appended
+
+-- a list that was lent as a whole
+pub written_back : {X : Type 0} (old new : List X) (len : ℕ) → len ≡ length new → take len (new ++ drop (length new) old) ≡ new
+written_back old new len same = ap (λ n. take n (new ++ drop (length new) old)) same ∙ take-append_seam new (drop (length new) old)
+
+-- what was appended to new files is what they have
+pub have_bytes : {N : Type 0} (contents : N → Option (List ℕ)) (a b : Option Files) (old new : List N) (texts : List Text) → KeepsFiles a b → AreEmpty contents b old
+    → AreAppended contents old new texts → HaveBytes contents a new (bytes_of_captures texts)
+have_bytes contents None b old new texts keeps empty appended = tt
+have_bytes contents (Some f) None old new texts keeps empty appended = absurd keeps
+have_bytes contents (Some f) (Some g) old new texts keeps empty appended = λ place n bytes is_new is_bytes.
+    let lt = slice_get_within new place n is_new in
+    let long = appended.0 in
+    let o = within old place (omega (arith, lt, long)) in
+    let text = text_of texts place bytes is_bytes in
+    let grown = subst (λ (k : Option (List ℕ)). Appends k (contents n) text.0.1) (empty place o.0 o.1) (appended.1 place o.0 n text.0 o.1 is_new text.1) in
+    to_none (contents n) bytes (subst (Appends (Some []) (contents n)) text.2 grown)
+
+-- ---- they are put
+
+-- the next of the elements that are left
+next_of : {N : Type 0} (files : List N) (i : ℕ) (new : N) (rest : List N) → drop i files ≡ new ∷ rest → (slice_get files i ≡ Some new) × (drop (suc i) files ≡ rest)
+next_of [] zero new rest is = absurd cc
+next_of [] (suc i) new rest is = absurd cc
+next_of (x ∷ files) zero new rest is = (ap (λ xs. slice_get xs 0) is, ap (drop 1) is)
+next_of (x ∷ files) (suc i) new rest is = next_of files i new rest is
+
+pub next_left : {N : Type 0} (files : List N) (i : ℕ) (new : N) (rest : List N) → drop i files ≡ new ∷ rest → (slice_get files i ≡ Some new) × (drop (i + 1) files ≡ rest)
+next_left files i new rest is =
+    let more : i + 1 ≡ suc i = omega arith in
+    let next = next_of files i new rest is in
+    (next.0, ap (λ n. drop n files) more ∙ next.1)
+
+take_next : {X : Type 0} (xs : List X) (i : ℕ) (x : X) → slice_get xs i ≡ Some x → take (i + 1) xs ≡ take i xs ++ x ∷ []
+take_next xs i x is = take_more xs i x (slice_get_within xs i x is) ∙ ap (λ y. take i xs ++ y ∷ []) (get_or_from_slice_get xs i x x is)
 
 -- one more was put
-pub more_put : (t : Content) (arrivals : List Arrival) (names : List (String Global)) (i : ℕ) (p : PortRow) (d : String Global) (a b c : Option Files) (first log now : DeviceLog) (old new : Rest)
-    (name bytes : List ℕ) → length names ≡ length t.ports → i < length names
-    → slice_get t.ports i ≡ Some p → ArePut t arrivals names i a b first log old → IsLeft t arrivals (i + 1) new → bytes ≡ output_text t arrivals p → name ≡ string_bytes (get_or names i d)
-    → PutsFile b c name bytes → now ≡ log
-    → ArePut t arrivals names (i + 1) a c first now new
-more_put t arrivals names i p d a b c first log now old new name bytes count lt is_port was left text named one same =
-    let put = subst (λ (n : List ℕ). PutsFile b c n (get_or (outputs t arrivals) i (0, [])).1) named (subst (PutsFile b c name) (text ∙ sym (output_at t arrivals i p is_port)) one) in
-    record {
-      left = left;
-      put = one_more_file (λ (s : String Global). string_bytes s) (λ (x : Text). x.1) names (outputs t arrivals) i d (0, []) a b c (count ∙ sym (as_many t arrivals)) lt was.put put;
-      failed = same ∙ was.failed;
-    }
-
--- this one was not
-pub stops_here : (t : Content) (arrivals : List Arrival) (names : List (String Global)) (i : ℕ) (d : String Global) (a b c : Option Files) (first log : DeviceLog) (rest : Rest) (name : List ℕ)
-    → i < length names → ArePut t arrivals names i a b first log rest
-    → name ≡ string_bytes (get_or names i d) → KeepsOthers b c name → StopsAt name (map (λ (s : String Global). string_bytes s) names) (bytes_of (outputs t arrivals)) a c
-stops_here t arrivals names i d a b c first log rest name lt was named others =
-    subst (λ (n : List ℕ). StopsAt n (map (λ (s : String Global). string_bytes s) names) (bytes_of (outputs t arrivals)) a c) (sym named)
-    (stops_at (λ (s : String Global). string_bytes s) names (bytes_of (outputs t arrivals)) i d a b c lt was.put (subst (KeepsOthers b c) named others))
-
-pub KeepsOthers-refl : (a : Option Files) (name : List ℕ) → KeepsOthers a a name
-KeepsOthers-refl None name = tt
-KeepsOthers-refl (Some f) name = λ q other. refl
-
--- all were
-take_all : {X : Type 0} (xs : List X) (n : ℕ) → length xs ≤ n → take n xs ≡ xs
-take_all [] zero le = refl
-take_all [] (suc n) le = refl
-take_all (x ∷ xs) zero le = absurd (omega (arith, le))
-take_all (x ∷ xs) (suc n) le = ap (λ ys. x ∷ ys) (take_all xs n (omega (arith, le)))
-
-pub all_are_put : (t : Content) (arrivals : List Arrival) (names : List (String Global)) (n : ℕ) (a b : Option Files) (first now : DeviceLog) (rest : Rest) → length names ≡ length t.ports
-    → length names ≤ n → ArePut t arrivals names n a b first now rest
-    → PutsFiles a b (map (λ (s : String Global). string_bytes s) names) (bytes_of (outputs t arrivals)) × (now ≡ first)
-all_are_put t arrivals names n a b first now rest count le was =
-    let named : take n (map (λ (s : String Global). string_bytes s) names) ≡ map (λ (s : String Global). string_bytes s) names = take_all _ n
-    (omega (arith, le, length-map names (λ (s : String Global). string_bytes s))) in
-    let texts : take n (bytes_of (outputs t arrivals)) ≡ bytes_of (outputs t arrivals) =
-    take_all _ n (omega (arith, le, count, as_many t arrivals, length-map (outputs t arrivals) (λ (x : Text). x.1))) in (
-      subst (λ (ns : List (List ℕ)). PutsFiles a b ns (bytes_of (outputs t arrivals))) named (subst (PutsFiles a b (take n (map (λ (s : String Global). string_bytes s) names))) texts was.put),
-      was.failed,
-    )
+pub put_next : {N : Type 0} (contents : N → Option (List ℕ)) (first b c : Option Files) (files : List N) (names all : List (List ℕ)) (i : ℕ) (new : N) (name : List ℕ) → slice_get files i ≡ Some new
+    → slice_get names i ≡ Some name → length all ≡ length names → HaveBytes contents first files all → PutsFiles first b (take i names) (take i all)
+    → IfSome (contents new) (λ bytes. PutsFile b c name bytes)
+    → PutsFiles first c (take (i + 1) names) (take (i + 1) all)
+put_next contents None b c files names all i new name is_new is_name same has before put = tt
+put_next contents (Some f) b c files names all i new name is_new is_name same has before put =
+    let lt : i < length all = let within = slice_get_within names i name is_name in omega (arith, same, within) in
+    let is_bytes : slice_get all i ≡ Some (get_or all i []) = slice_get-get_or all i [] lt in
+    let one = subst (λ (o : Option (List ℕ)). IfSome o (λ bytes. PutsFile b c name bytes)) (has i new (get_or all i []) is_new is_bytes) put in
+    let lengths : length (take i names) ≡ length (take i all) = length-take i names ∙ ap (min i) (sym same) ∙ sym (length-take i all) in
+    rw (take_next names i name is_name, take_next all i (get_or all i []) is_bytes) (one_more_put (Some f) b c (take i names) (take i all) name (get_or all i []) lengths before one)

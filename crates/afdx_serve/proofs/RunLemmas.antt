@@ -1,5 +1,5 @@
 -- What a run did, and why it was not done.
-use Rattle.std.proofs.Common.{◌≡◌, ℕ, Bool, true, false, not, List, Option, Result, Ok, Err, refl, sym, ap, subst, ◌∙◌, inl, inr}
+use Rattle.std.proofs.Common.{◌≡◌, ℕ, Bool, true, false, not, List, Option, Result, Ok, Err, sym, ap, subst, ◌∙◌, inl, inr}
 use Rattle.std.specs.Prelude.{MatchResult}
 use Rattle.std.proofs.Common.{map, length, String, Global}
 use Rattle.std.specs.Prelude.{string_bytes}
@@ -7,10 +7,13 @@ use Rattle.std.proofs.lemmas.List.{length-map}
 use Rattle.std.proofs.lemmas.Simd.{map-map}
 use Rattle.afdx_table.specs.declared.rows.PortRow.{PortRow}
 use Rattle.afdx_table.specs.Content.{Content}
-use Rattle.afdx_core.specs.Merge.{Arrival, merged}
-use Rattle.afdx_session.specs.Texts.{Text, AreOfPorts}
-use Rattle.afdx_session.specs.Output.{output_text, outputs}
-use Rattle.afdx_session.specs.Carried.{Rest, IsCarried, results_of}
+use Rattle.afdx_core.specs.Merge.{merged}
+use Rattle.afdx_table.specs.WellFormed.{TablesAreWellFormed}
+use Rattle.afdx_count.specs.Tally.{Tally}
+use Rattle.afdx_count.specs.Report.{report_of}
+use Rattle.afdx_session.specs.Texts.{Text}
+use Rattle.afdx_session.specs.Output.{output_text}
+use Rattle.afdx_session.specs.Written.{IsWritten}
 use Rattle.afdx_core.specs.State.{State}
 use Rattle.afdx_core.specs.Isolation.{IsIsolatedRun}
 use Rattle.afdx_session.specs.declared.plan.Plan.{Plan}
@@ -22,13 +25,15 @@ use Rattle.afdx_failures.specs.declared.failure.Failure.{Failure}
 use Rattle.afdx_failures.specs.declared.failure.Failure.TheVariants as failure
 use Rattle.afdx_devices.specs.Files.{Files, DeviceLog, KeepsFiles, PutsFiles, one_more}
 use Rattle.afdx_serve.specs.Measures.{IsMeasured, MeasuresTo}
-use Rattle.afdx_serve.specs.Runs.{inputs_of, IsRunOf, LeadsTo, names_in, bytes_of, StopsAt, StopsRun, FailsToPut, FailsToEnd, FailsToRun, HasPlan, FailsToGetAll, FailsToGather, FailsToLead}
-use Rattle.afdx_serve.specs.Runs.{capture_name}
+use Rattle.afdx_serve.specs.Runs.{inputs_of, IsRunOf, LeadsTo, names_in, bytes_of_captures, StopsAt, StopsRun, FailsToPut, FailsToEnd, FailsToRun, HasPlan, FailsToGetAll, FailsToGather, FailsToLead}
+use Rattle.afdx_serve.specs.Runs.{capture_name, report_in}
+use Rattle.afdx_serve.specs.Inner.Outputs.{AreEmpty, HaveBytes}
 use Rattle.afdx_serve.specs.Traces.{trace_names, trace_texts, IsTraceIn, PutsTrace, StopsTrace, FailsToTrace}
 use Rattle.std.specs.Io.KnownBytes.{Keeps}
 use Rattle.afdx_serve.specs.Serving.{world, PutsResults, FailsToRunAll}
 use Rattle.afdx_serve.proofs.CaptureLemmas.{StopsAt-before, GetsUpTo-before}
 use Rattle.afdx_serve.proofs.FileLemmas.{PutsFiles-before}
+use Rattle.afdx_serve.proofs.PutLemmas.{have_bytes}
 
 -- what was led to was not all put
 module _ (paths : Paths) (names all : List (List ℕ)) (a b c : Option Files) (first before after : DeviceLog) (keeps : KeepsFiles a b) (same : before ≡ first)
@@ -47,14 +52,14 @@ module _ (paths : Paths) (names all : List (List ℕ)) (a b c : Option Files) (f
   not_all_put failure.Write h = absurd h
 
 module _ (paths : Paths) (results : Results) (a b c : Option Files) (first before after : DeviceLog) (leads : LeadsTo paths a results) (keeps : KeepsFiles a b) (same : before ≡ first) where
-  stopped : (name : List ℕ) → StopsAt name (names_in paths.output.now results.captures) (bytes_of results.captures) a c → StopsRun name paths a c
+  stopped : (name : List ℕ) → StopsAt name (names_in paths.output.now results.captures) (bytes_of_captures results.captures) a c → StopsRun name paths a c
   stopped name stops = (results, leads, stops)
 
-  not_put_run : (f : Failure) → FailsToPut f (names_in paths.output.now results.captures) (bytes_of results.captures) b c before after → FailsToRun f paths a c first after
-  not_put_run = not_all_put paths (names_in paths.output.now results.captures) (bytes_of results.captures) a b c first before after keeps same (λ name. StopsRun name paths a c) stopped
+  not_put_run : (f : Failure) → FailsToPut f (names_in paths.output.now results.captures) (bytes_of_captures results.captures) b c before after → FailsToRun f paths a c first after
+  not_put_run = not_all_put paths (names_in paths.output.now results.captures) (bytes_of_captures results.captures) a b c first before after keeps same (λ name. StopsRun name paths a c) stopped
 
   -- what was led to was not all put, and nothing was written
-  pub not_all : (f : Failure) (w v : Option (List ℕ)) → Keeps w v → FailsToPut f (names_in paths.output.now results.captures) (bytes_of results.captures) b c before after
+  pub not_all : (f : Failure) (w v : Option (List ℕ)) → Keeps w v → FailsToPut f (names_in paths.output.now results.captures) (bytes_of_captures results.captures) b c before after
       → FailsToRunAll f paths (world w a first) (world v c after)
   not_all (failure.Put name) w v none h = (not_put_run (failure.Put name) h, none)
   not_all failure.Memory w v none h = (not_put_run failure.Memory h, none)
@@ -69,7 +74,7 @@ module _ (paths : Paths) (results : Results) (a b c : Option Files) (first befor
   not_all failure.Write w v none h = absurd h
 
   -- what was led to was put
-  pub all_put : PutsFiles b c (names_in paths.output.now results.captures) (bytes_of results.captures) → after ≡ before → (w v : Option (List ℕ))
+  pub all_put : PutsFiles b c (names_in paths.output.now results.captures) (bytes_of_captures results.captures) → after ≡ before → (w v : Option (List ℕ))
       → PutsResults paths (world w a first) (world v c after) results
   all_put put count w v = (leads, PutsFiles-before a b c _ _ keeps put, count ∙ same)
 
@@ -179,31 +184,53 @@ not_led_run paths a b plan captures first after of keeps count w v none f h = no
     (not_led (inputs_of paths) a plan captures first after of count f h)
 
 -- what the run of the captures leads to is what the files lead to
-pub leads_to : AcceptedRunsIsolate → (paths : Paths) (files : Option Files) (plan : Plan) (captures : List Text) (rest : Rest) → IsRunOf (inputs_of paths) files plan captures
-    → (carried : IsCarried (table_in plan) captures rest)
-    → LeadsTo paths files (results_of (table_in plan) (merged carried.read))
-leads_to isolate paths files plan captures rest of carried = record {
+pub leads_to : TablesAreWellFormed → AcceptedRunsIsolate → (paths : Paths) (files : Option Files) (plan : Plan) (captures : List Text) (results : Results)
+    → IsRunOf (inputs_of paths) files plan captures → IsOutcome (table_in plan) captures results → LeadsTo paths files results
+leads_to formed isolate paths files plan captures results of outcome = record {
   table = table_in plan;
   captures = captures;
   has_plan = of.has_plan;
   has_captures = of.has_captures;
   outcome = outcome;
-  isolated = λ checked. isolate (table_in plan) captures (results_of (table_in plan) (merged carried.read)) carried.left.formed (of.has_plan.1 checked) outcome;
-} where
-  outcome : IsOutcome (table_in plan) captures (results_of (table_in plan) (merged carried.read))
-  outcome = record { ports = carried.ports; read = carried.read; are_read = carried.are_read; captures = refl; counts = refl }
+  isolated = λ checked. let text = of.has_plan.0 in isolate (table_in plan) captures results (formed text.0 (table_in plan) text.2) (of.has_plan.1 checked) outcome;
+}
 
 -- the names of the outputs are those of the captures
-pub same_names : (path : List ℕ) (t : Content) (arrivals : List Arrival) (captures : List Text) → AreOfPorts t captures → names_in path captures ≡ names_in path (outputs t arrivals)
-same_names path t arrivals captures ports =
+pub same_names : (path : List ℕ) (t : Content) (captures : List Text) (results : Results) → IsOutcome t captures results → names_in path captures ≡ names_in path results.captures
+same_names path t captures results is =
     sym (map-map (capture_name path) (λ (x : Text). x.0) captures)
-    ∙ ap (map (capture_name path)) ports
+    ∙ ap (map (capture_name path)) is.ports
     ∙ map-map (capture_name path) (λ (p : PortRow). p.id) t.ports
-    ∙ sym (map-map (λ (x : Text). capture_name path x.0) (λ (p : PortRow). (p.id, output_text t arrivals p)) t.ports)
+    ∙ sym (map-map (λ (x : Text). capture_name path x.0) (λ (p : PortRow). (p.id, output_text t (merged is.read) p)) t.ports)
+    ∙ ap (names_in path) (sym is.captures)
 
--- there are as many names as ports
-pub same_count : (path : List ℕ) (names : List (String Global)) (t : Content) (captures : List Text) → map (λ (s : String Global). string_bytes s) names ≡ names_in path captures
-    → AreOfPorts t captures → length names ≡ length t.ports
-same_count path names t captures is ports =
-    sym (length-map names (λ (s : String Global). string_bytes s)) ∙ ap length is ∙ length-map captures (λ (x : Text). capture_name path x.0)
-    ∙ sym (length-map captures (λ (x : Text). x.0)) ∙ ap length ports ∙ length-map t.ports (λ (p : PortRow). p.id)
+-- there are as many names as captures
+pub same_count : (path : List ℕ) (names : List (String Global)) (captures : List Text) → map (λ (s : String Global). string_bytes s) names ≡ names_in path captures → length names ≡ length captures
+same_count path names captures is = sym (length-map names (λ (s : String Global). string_bytes s)) ∙ ap length is ∙ length-map captures (λ (x : Text). capture_name path x.0)
+
+-- ---- outputs in files
+
+-- what the files of a run lead to is in these new files, which are to be put under these names, and this is the report
+pub record IsLed {N : Type 0} (contents : N → Option (List ℕ)) (paths : Paths) (a : Option Files) (files : List N) (names : List (String Global)) (report : List ℕ) : Type 0 where
+  pub results : Results
+  pub leads : LeadsTo paths a results
+  pub named : map (λ (s : String Global). string_bytes s) names ≡ names_in paths.output.now results.captures
+  pub many : length (bytes_of_captures results.captures) ≡ length names
+  pub have : HaveBytes contents a files (bytes_of_captures results.captures)
+  pub reported : report ≡ report_in results
+
+pub led : TablesAreWellFormed → AcceptedRunsIsolate → {N : Type 0} (contents : N → Option (List ℕ)) (paths : Paths) (a b : Option Files) (plan : Plan) (captures : List Text)
+    (names : List (String Global)) (old new : List N) (counts : Tally) (report : List ℕ)
+    → IsRunOf (inputs_of paths) a plan captures → KeepsFiles a b → map (λ (s : String Global). string_bytes s) names ≡ names_in paths.output.now captures → AreEmpty contents b old
+    → IsWritten contents (table_in plan) captures old new counts → report ≡ report_of counts → IsLed contents paths a new names report
+led formed isolate contents paths a b plan captures names old new counts report of keeps named empty is reported =
+    let all = is.results.captures in
+    let same = named ∙ same_names paths.output.now (table_in plan) captures is.results is.outcome in
+    record {
+      results = is.results;
+      leads = leads_to formed isolate paths a plan captures is.results of is.outcome;
+      named = same;
+      many = length-map all (λ (x : Text). x.1) ∙ sym (same_count paths.output.now names all same);
+      have = have_bytes contents a b old new all keeps empty is.appended;
+      reported = reported ∙ ap report_of is.counted;
+    }

@@ -6,11 +6,11 @@ use Rattle.afdx_table.specs.Link.{Link}
 use Rattle.afdx_table.specs.Content.{Content}
 use Rattle.afdx_load.specs.Load.{Load, load_of}
 use Rattle.afdx_load.specs.Bounds.{backlog, byte_time, high_bound, low_bound}
-use Rattle.afdx_wiring.specs.Lines.{ended}
+use Rattle.afdx_wiring.specs.Lines.{as_line}
 
 -- the least buffer of a port, in bytes, that holds what may wait and be on the line at once
 abbrev pub IsLeastBuffer : PortRow → Load → ℕ → Type 0
-IsLeastBuffer row s least = (bytes : ℕ) → (backlog s ≤ byte_time row.speed bytes) ↔ (least ≤ bytes)
+IsLeastBuffer row load least = (bytes : ℕ) → (backlog load ≤ byte_time row.speed bytes) ↔ (least ≤ bytes)
 
 -- a bound in nanoseconds, which only a priority with links has
 abbrev pub bound_text : Option ℕ → List ℕ
@@ -19,15 +19,15 @@ bound_text (Some bound) = decimal bound
 
 -- what a port's links may ask for, and what that leads to
 abbrev pub load_text : PortRow → Load → ℕ → List ℕ
-load_text row s least =
-    codes "port " ++ decimal row.id ++ codes " rate " ++ decimal s.rate ++ codes " buffer " ++ decimal least
-    ++ codes " high " ++ bound_text (high_bound s) ++ codes " low " ++ bound_text (low_bound s)
+load_text row load least =
+    codes "port " ++ decimal row.id ++ codes " rate " ++ decimal load.rate ++ codes " buffer " ++ decimal least
+    ++ codes " high " ++ bound_text (high_bound load) ++ codes " low " ++ bound_text (low_bound load)
 
 -- the line of a port; a port without links has none
 abbrev pub IsLineOf : PortRow → Load → List ℕ → Type 0
-IsLineOf row s line =
-    (0 < s.highs + s.lows → (least : ℕ) × IsLeastBuffer row s least × (line ≡ ended (load_text row s least)))
-    × ((0 < s.highs + s.lows → ⊥) → line ≡ [])
+IsLineOf row load line =
+    (0 < load.highs + load.lows → (least : ℕ) × IsLeastBuffer row load least × (line ≡ as_line (load_text row load least)))
+    × ((0 < load.highs + load.lows → ⊥) → line ≡ [])
 
 -- the text has what each of these ports has, in their order
 abbrev pub AreTextsOf : (PortRow → List ℕ → Type 0) → List PortRow → List ℕ → Type 0
@@ -40,4 +40,4 @@ AreLinesOf latency links = AreTextsOf (λ row line. IsLineOf row (load_of latenc
 
 -- the lines of a table's ports by rising number, and that it is accepted
 abbrev pub IsCheckOf : Content → List ℕ → Type 0
-IsCheckOf t text = (lines : List ℕ) × AreLinesOf t.latency t.links t.ports lines × (text ≡ lines ++ ended (codes "accepted"))
+IsCheckOf t text = (lines : List ℕ) × AreLinesOf t.latency t.links t.ports lines × (text ≡ lines ++ as_line (codes "accepted"))

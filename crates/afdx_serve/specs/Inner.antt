@@ -1,2 +1,3 @@
 pub mod NetworkRunning
 pub mod OpenPorts
+pub mod Outputs

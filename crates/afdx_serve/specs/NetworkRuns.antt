@@ -16,7 +16,7 @@ use Rattle.afdx_lines.specs.declared.network_failure.NetworkFailure.TheVariants 
 use Rattle.afdx_failures.specs.declared.failure.Failure.{Failure}
 use Rattle.afdx_failures.specs.declared.failure.Failure.TheVariants as failure
 use Rattle.afdx_devices.specs.Files.{Files, ShowsAll, KeepsFiles, DeviceLog, one_more}
-use Rattle.afdx_serve.specs.Runs.{capture_name, names_in, bytes_of, report_in, StopsAt}
+use Rattle.afdx_serve.specs.Runs.{capture_name, names_in, bytes_of_captures, report_in, StopsAt}
 use Rattle.afdx_serve.specs.Networks.{names_of, HasNetwork, FailsToGetNetwork, FailsToAcceptNetwork}
 
 -- ---- names
@@ -31,7 +31,7 @@ names_at path (name ∷ names) (texts ∷ more) = names_in (switch_folder path n
 names_at path _ _ = []
 
 abbrev pub bytes_at : List (List Text) → List (List ℕ)
-bytes_at all = flat_map bytes_of all
+bytes_at all = flat_map bytes_of_captures all
 
 abbrev pub captures_of : List Results → List (List Text)
 captures_of left = map (λ r. r.captures) left

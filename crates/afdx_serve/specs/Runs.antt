@@ -26,8 +26,8 @@ capture_name folder port = folder ++ codes "/port-" ++ decimal port ++ codes ".p
 abbrev pub names_in : List ℕ → List Text → List (List ℕ)
 names_in folder captures = map (λ c. capture_name folder c.0) captures
 
-abbrev pub bytes_of : List Text → List (List ℕ)
-bytes_of captures = map (λ c. c.1) captures
+abbrev pub bytes_of_captures : List Text → List (List ℕ)
+bytes_of_captures captures = map (λ c. c.1) captures
 
 -- ---- what is got
 
@@ -49,7 +49,7 @@ HasPlan files inputs t = HasTable files inputs.table.now t × (inputs.unchecked 
 
 -- these are the captures of the table's ports in the folder
 abbrev pub HasCaptures : Option Files → List ℕ → Content → List Text → Type 0
-HasCaptures files path t captures = AreOfPorts t captures × ShowsAll files (names_in path captures) (bytes_of captures)
+HasCaptures files path t captures = AreOfPorts t captures × ShowsAll files (names_in path captures) (bytes_of_captures captures)
 
 -- the files hold a table and captures, which lead to this
 pub record LeadsTo (paths : Paths) (files : Option Files) (results : Results) : Type 0 where
@@ -153,7 +153,7 @@ FailsToPut _ names all old new before after = ⊥
 -- the files lead to results, of which those before this name were put
 abbrev pub StopsRun : List ℕ → Paths → Option Files → Option Files → Type 0
 StopsRun name paths old new =
-    (results : Results) × LeadsTo paths old results × StopsAt name (names_in paths.output.now results.captures) (bytes_of results.captures) old new
+    (results : Results) × LeadsTo paths old results × StopsAt name (names_in paths.output.now results.captures) (bytes_of_captures results.captures) old new
 
 -- what the files of a run lead to was not put, where `Stops` says of a name that the files before it were
 abbrev pub FailsToEnd : (List ℕ → Type 0) → Failure → Paths → Option Files → Option Files → DeviceLog → DeviceLog → Type 0

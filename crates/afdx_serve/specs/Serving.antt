@@ -32,7 +32,7 @@ use Rattle.afdx_devices.specs.Input.{AreGiven}
 use Rattle.afdx_devices.specs.Output.{AppendsPrefix}
 use Rattle.afdx_serve.specs.Measures.{MeasuresTo}
 use Rattle.afdx_serve.specs.Traces.{PutsTrace, FailsToTrace}
-use Rattle.afdx_serve.specs.Runs.{HasTable, HasNoTable, LeadsTo, FailsToGather, FailsToRun, names_in, bytes_of, report_in}
+use Rattle.afdx_serve.specs.Runs.{HasTable, HasNoTable, LeadsTo, FailsToGather, FailsToRun, names_in, bytes_of_captures, report_in}
 
 -- what commands work on, as far as it is reported
 pub record World : Type 0 where
@@ -193,7 +193,7 @@ FailsToPerformNetwork f (ask.Run paths) old new = FailsToRunNetwork f paths old 
 -- the files lead to results, which were put
 abbrev pub PutsResults : Paths → World → World → Results → Type 0
 PutsResults paths old new results =
-    LeadsTo paths old.files results × PutsFiles old.files new.files (names_in paths.output.now results.captures) (bytes_of results.captures) × (new.failed ≡ old.failed)
+    LeadsTo paths old.files results × PutsFiles old.files new.files (names_in paths.output.now results.captures) (bytes_of_captures results.captures) × (new.failed ≡ old.failed)
 
 -- and their report was written
 abbrev pub Runs : Paths → World → World → Type 0

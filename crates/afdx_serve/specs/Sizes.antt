@@ -10,7 +10,7 @@ use Rattle.afdx_load.specs.Bounds.{high_bound, low_bound}
 use Rattle.afdx_load.specs.Fits.{broken_rules}
 use Rattle.afdx_load.specs.declared.fault.Rule.{Rule}
 use Rattle.afdx_load.specs.declared.fault.Rule.TheVariants.{Rate, Buffer, HighDelay, LowDelay}
-use Rattle.afdx_wiring.specs.Lines.{ended}
+use Rattle.afdx_wiring.specs.Lines.{as_line}
 use Rattle.afdx_serve.specs.Checks.{IsLeastBuffer, AreTextsOf}
 
 -- a need beside its limit, in one unit
@@ -44,22 +44,22 @@ verdict_text (rule ∷ rules) = codes " breaks" ++ letters_of (rule ∷ rules)
 
 -- what a port's links need of the line and of the buffer, and what it has, in parts of the line and in bytes
 abbrev pub amounts_text : PortRow → Load → ℕ → List ℕ
-amounts_text row s least =
-    codes "port " ++ decimal row.id ++ codes " rate " ++ pair_text (decimal s.rate) parts ++ codes " buffer " ++ pair_text (decimal least) row.buffer
+amounts_text row load least =
+    codes "port " ++ decimal row.id ++ codes " rate " ++ pair_text (decimal load.rate) parts ++ codes " buffer " ++ pair_text (decimal least) row.buffer
 
 -- their bounds beside the greatest delay, in nanoseconds
 abbrev pub delays_text : PortRow → Load → List ℕ
-delays_text row s = codes " high " ++ delay_text s.highs (high_bound s) row.max_delay ++ codes " low " ++ delay_text s.lows (low_bound s) row.max_delay
+delays_text row load = codes " high " ++ delay_text load.highs (high_bound load) row.max_delay ++ codes " low " ++ delay_text load.lows (low_bound load) row.max_delay
 
 -- these, and the rules that are broken
 abbrev pub size_text : PortRow → Load → ℕ → List ℕ
-size_text row s least = amounts_text row s least ++ delays_text row s ++ verdict_text (broken_rules row s)
+size_text row load least = amounts_text row load least ++ delays_text row load ++ verdict_text (broken_rules row load)
 
 -- the line of a port; a port without links has none
 abbrev pub IsSizeOf : PortRow → Load → List ℕ → Type 0
-IsSizeOf row s line =
-    (0 < s.highs + s.lows → (least : ℕ) × IsLeastBuffer row s least × (line ≡ ended (size_text row s least)))
-    × ((0 < s.highs + s.lows → ⊥) → line ≡ [])
+IsSizeOf row load line =
+    (0 < load.highs + load.lows → (least : ℕ) × IsLeastBuffer row load least × (line ≡ as_line (size_text row load least)))
+    × ((0 < load.highs + load.lows → ⊥) → line ≡ [])
 
 -- the lines of these ports, in their order
 abbrev pub AreSizesOf : ℕ → List Link → List PortRow → List ℕ → Type 0

@@ -4,7 +4,7 @@ ghost use Rattle.std.specs.Prelude.{◌≡◌, ℕ, ◌++◌, Some, IfOk, OnOk, 
 ghost use Rattle.afdx_table.specs.Content.{port_row};
 ghost use Rattle.afdx_load.specs.Load.{load_of};
 ghost use Rattle.afdx_load.specs.Accepted.{IsAccepted};
-ghost use Rattle.afdx_wiring.specs.Lines.{ended};
+ghost use Rattle.afdx_wiring.specs.Lines.{as_line};
 ghost use Rattle.afdx_serve.specs.Checks.{IsLeastBuffer, bound_text, load_text, IsLineOf, AreLinesOf, IsCheckOf};
 ghost use Rattle.afdx_serve.specs.Serving.{world, FailsToAccept, Checks, FailsToCheck};
 
@@ -31,7 +31,7 @@ fn push_bound(line: &mut String, bound: Option<u128>) -> Result<(), AllocError>
 
 /// The line of a port with links.
 fn load_line(alloc: Global, row: &PortRow, load: &Load) -> Result<String, AllocError>
-    ensures { IfOk result (λ line. (least : ℕ) × IsLeastBuffer row.now load.now least × (string_bytes line ≡ ended (load_text row.now load.now least))) }
+    ensures { IfOk result (λ line. (least : ℕ) × IsLeastBuffer row.now load.now least × (string_bytes line ≡ as_line (load_text row.now load.now least))) }
 {
     let least = least_buffer(load, row.speed);
     let bounds = bounds(load);

@@ -13,6 +13,7 @@ mod network_get;
 mod network_jitter;
 mod network_run;
 mod network_serving;
+mod outputs;
 mod put;
 mod run;
 mod serving;

@@ -5,7 +5,7 @@ ghost use Rattle.afdx_session.specs.Texts.{Text, texts_of};
 ghost use Rattle.afdx_network.specs.Given.{given_of, is_open, AreGiven};
 ghost use Rattle.afdx_network.specs.Runs.{IsRunOf};
 ghost use Rattle.afdx_devices.specs.Files.{KeepsFiles, PutsFiles};
-ghost use Rattle.afdx_serve.specs.Runs.{capture_name, bytes_of, FailsToPut};
+ghost use Rattle.afdx_serve.specs.Runs.{capture_name, bytes_of_captures, FailsToPut};
 ghost use Rattle.afdx_serve.specs.Networks.{names_of};
 ghost use Rattle.afdx_serve.specs.NetworkRuns.{switch_folder, bytes_at, captures_of, reports_of, HasGiven, FailsToGetGiven};
 ghost use Rattle.afdx_serve.specs.Inner.OpenPorts.{HasOpen, FailsToGetNamed};
@@ -174,9 +174,9 @@ fn put_captures<F: Folder>(
 ) -> Result<(), Failure>
     requires { length names.now ≡ length captures.now }
     ensures { MatchResult result
-        (λ _. PutsFiles (F.files folder.old) (F.files folder.new) (map string_bytes names.now) (bytes_of (texts_of captures.now))
+        (λ _. PutsFiles (F.files folder.old) (F.files folder.new) (map string_bytes names.now) (bytes_of_captures (texts_of captures.now))
         × (F.failed folder.new ≡ F.failed folder.old))
-        (λ f. FailsToPut f (map string_bytes names.now) (bytes_of (texts_of captures.now))
+        (λ f. FailsToPut f (map string_bytes names.now) (bytes_of_captures (texts_of captures.now))
         (F.files folder.old) (F.files folder.new) (F.failed folder.old) (F.failed folder.new)) }
 {
     for place in 0..names.len() {

@@ -4,7 +4,7 @@ ghost use Rattle.std.specs.Prelude.{◌≡◌, ℕ, ◌++◌, [], Some, IfOk, On
 ghost use Rattle.afdx_table.specs.Content.{port_row};
 ghost use Rattle.afdx_load.specs.Load.{load_of};
 ghost use Rattle.afdx_load.specs.Fits.{is_broken, broken_rules};
-ghost use Rattle.afdx_wiring.specs.Lines.{ended};
+ghost use Rattle.afdx_wiring.specs.Lines.{as_line};
 ghost use Rattle.afdx_serve.specs.Checks.{IsLeastBuffer};
 ghost use Rattle.afdx_serve.specs.Sizes.{delay_text, letter_of, letters_of, verdict_text, amounts_text, delays_text, size_text, IsSizeOf, AreSizesOf};
 ghost use Rattle.afdx_serve.specs.Serving.{world, Sizes, FailsToSize};
@@ -122,7 +122,7 @@ fn push_delays(line: &mut String, row: &PortRow, load: &Load) -> Result<(), Allo
 
 /// The line of a port with links.
 fn size_line(alloc: Global, row: &PortRow, load: &Load) -> Result<String, AllocError>
-    ensures { IfOk result (λ line. (least : ℕ) × IsLeastBuffer row.now load.now least × (string_bytes line ≡ ended (size_text row.now load.now least))) }
+    ensures { IfOk result (λ line. (least : ℕ) × IsLeastBuffer row.now load.now least × (string_bytes line ≡ as_line (size_text row.now load.now least))) }
 {
     let least = least_buffer(load, row.speed);
     let mut line = amounts(alloc, row, load, least)?;

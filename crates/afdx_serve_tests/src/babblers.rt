@@ -1,7 +1,7 @@
 //! Two babbling ports beside a quiet one. Values from outside: instants worked out by hand, bytes of pcap 2.4 captures, printed
 //! lines.
 
-use crate::fixtures::{CHECKED, RUN, answers, folder_of, tells};
+use crate::fixtures::{CHECKED, RUN, answers, answers_over_files, folder_of};
 use crate::memory_folder::MemoryFolder;
 use afdx_samples::{HEADER, Sample, capture, large, link, port, small, table};
 use std::alloc::{AllocError, Global};
@@ -82,7 +82,7 @@ fn checks_the_table(rt: HostRuntime) -> Result<(), Fail> {
     let alloc = rt.alloc();
     let lines = "port 4 rate 979292160 buffer 7516 high - low 478170\naccepted\n";
     assert!(rt;
-        tells(
+        answers_over_files(
             rt.alloc(),
             "afdx check t",
             &three_to_one(alloc)?,

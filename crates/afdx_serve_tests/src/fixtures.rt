@@ -4,7 +4,7 @@ use crate::memory_folder::MemoryFolder;
 use afdx_devices::FolderFault;
 use afdx_samples::{HEADER, Port, Sample, capture, double, frame, large, port, single, small};
 use afdx_serve::serve;
-use std::alloc::{AllocError, Global};
+use std::alloc::{AllocError, Allocator, Global};
 
 /// A frame of link 10, of which so many bytes are captured.
 pub(crate) fn captured(bytes: u32, seconds: u32, nanos: u32) -> Sample {
@@ -93,6 +93,16 @@ impl OneFrame {
         ]
     }
 
+    /// Adds what is there.
+    pub(crate) fn add_to<A: Allocator + Copy>(
+        &self,
+        folder: &mut MemoryFolder<A>,
+    ) -> Result<(), AllocError> {
+        folder.add("t", self.table.as_bytes())?;
+        folder.add("in/port-1.pcap", &self.came)?;
+        folder.add("in/port-2.pcap", &HEADER)
+    }
+
     /// What is there. The call of number `failing` fails so.
     pub(crate) fn folder(
         &self,
@@ -100,9 +110,7 @@ impl OneFrame {
         fault: FolderFault,
     ) -> Result<MemoryFolder<Global>, AllocError> {
         let mut folder = MemoryFolder::failing(self.alloc, failing, fault);
-        folder.add("t", self.table.as_bytes())?;
-        folder.add("in/port-1.pcap", &self.came)?;
-        folder.add("in/port-2.pcap", &HEADER)?;
+        self.add_to(&mut folder)?;
         Ok(folder)
     }
 
@@ -202,11 +210,11 @@ impl Served {
 }
 
 /// What the program answers over a folder.
-pub(crate) fn answer_over(
+pub(crate) fn answer_over<A: Allocator + Copy>(
     alloc: Global,
     line: &str,
     mut input: &[u8],
-    folder: &mut MemoryFolder<Global>,
+    folder: &mut MemoryFolder<A>,
 ) -> Result<Served, AllocError> {
     let arguments = split(alloc, line)?;
     let mut out = Vec::new(alloc);
@@ -219,10 +227,10 @@ pub(crate) fn answer_over(
 pub(crate) type Said<'a> = (u8, &'a str, &'a str);
 
 /// Whether the program answers so over a folder.
-pub(crate) fn answers(
+pub(crate) fn answers<A: Allocator + Copy>(
     alloc: Global,
     line: &str,
-    folder: &mut MemoryFolder<Global>,
+    folder: &mut MemoryFolder<A>,
     (status, out, err): Said,
 ) -> Result<bool, AllocError> {
     let got = answer_over(alloc, line, b"", folder)?;
@@ -230,7 +238,7 @@ pub(crate) fn answers(
 }
 
 /// Whether it answers so over a folder with a table and with captures of ports 1 and up.
-pub(crate) fn tells(
+pub(crate) fn answers_over_files(
     alloc: Global,
     line: &str,
     table: &str,

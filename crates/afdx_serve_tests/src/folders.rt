@@ -1,10 +1,11 @@
-//! The folder in memory that the tests have, with each of its growths refused in turn. Each call that is out of memory is made
-//! once more.
+//! The folder in memory that the tests have, with each of its growths refused in turn: by its calls, of which each that is out
+//! of memory is made once more, and in a run.
 
-use crate::fixtures::OneFrame;
+use crate::fixtures::{OneFrame, REPORT, RUN, answer_over};
 use crate::growths::{Calls, Memory, growths};
 use crate::memory_folder::MemoryFolder;
 use afdx_devices::{Folder, FolderFault};
+use std::alloc::Global;
 use std::test::*;
 
 /// A call of a folder, for the file at this place.
@@ -145,5 +146,46 @@ fn files_put_and_got(rt: HostRuntime) -> Result<(), Fail> {
     let refused = growths(&rt, alloc, &Calling { run: &run })?;
     assert!(rt; refused >= 18);
     println!(rt; "Folder in memory: {refused} growths refused")?;
+    Ok(())
+}
+
+/// The run of one frame.
+#[derive(Clone, Copy)]
+struct Running<'a> {
+    alloc: Global,
+    run: &'a OneFrame,
+}
+
+impl Calls for Running<'_> {
+    fn answer(&self, memory: &Memory) -> Option<bool> {
+        let mut folder = MemoryFolder::new(memory);
+        let Ok(()) = self.run.add_to(&mut folder) else {
+            return None;
+        };
+        let Ok(got) = answer_over(self.alloc, RUN, b"", &mut folder) else {
+            return Some(false);
+        };
+        let files = self.run.files();
+        if got.is(0, REPORT.as_bytes(), b"") {
+            return Some(folder.holds(&files, 5));
+        }
+        // The captures that were put are the first, and no new file is left.
+        let is_left = folder.holds(&files, 3) || folder.holds(&files, 4);
+        if got.is(5, b"", b"afdx: memory\n") && is_left {
+            return None;
+        }
+        Some(false)
+    }
+}
+
+/// A growth at least for the name and for the bytes of each file that is there, for each new file that is begun, for the bytes
+/// of the frame that leaves, and for the name of each file that is put.
+#[test]
+fn new_files_are_put_or_let_go(rt: HostRuntime) -> Result<(), Fail> {
+    let alloc = rt.alloc();
+    let run = OneFrame::new(alloc)?;
+    let refused = growths(&rt, alloc, &Running { alloc, run: &run })?;
+    assert!(rt; refused >= 11);
+    println!(rt; "Run over a folder in memory: {refused} growths refused")?;
     Ok(())
 }

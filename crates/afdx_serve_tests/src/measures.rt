@@ -1,6 +1,6 @@
 //! `afdx measure` over a folder in memory. Values from outside: a table, captures, and lines that were worked out by hand.
 
-use crate::fixtures::{Broken, OneFrame, crowd, crowded, early, refuses, tells};
+use crate::fixtures::{Broken, OneFrame, answers_over_files, crowd, crowded, early, refuses};
 use afdx_devices::FolderFault;
 use afdx_samples::{HEADER, capture, later, mixed, single, small};
 use std::test::Fail;
@@ -19,7 +19,7 @@ fn tells_of_one_link(rt: HostRuntime) -> Result<(), Fail> {
     let table = single(alloc)?;
     let early = early(alloc)?;
     assert!(rt;
-        tells(
+        answers_over_files(
             rt.alloc(),
             MEASURE,
             &table,
@@ -32,7 +32,7 @@ fn tells_of_one_link(rt: HostRuntime) -> Result<(), Fail> {
         )?
     );
     assert!(rt;
-        tells(
+        answers_over_files(
             rt.alloc(),
             "afdx measure t in --unchecked",
             &table,
@@ -54,7 +54,7 @@ fn counts_the_latency(rt: HostRuntime) -> Result<(), Fail> {
     // The second is queued when the line is free of the first.
     let two = capture(alloc, &[small(10, 0), small(10, 6_720)])?;
     assert!(rt;
-        tells(
+        answers_over_files(
             rt.alloc(),
             MEASURE,
             &table,
@@ -75,7 +75,7 @@ fn tells_what_was_lost_by_what_is_missing(rt: HostRuntime) -> Result<(), Fail> {
     let table = crowded(alloc)?;
     let (first, second) = crowd(alloc)?;
     assert!(rt;
-        tells(
+        answers_over_files(
             rt.alloc(),
             "afdx measure t in --unchecked",
             &table,

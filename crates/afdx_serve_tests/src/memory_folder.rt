@@ -5,7 +5,8 @@ ghost use Rattle.std.specs.Str.{bytes_eq};
 ghost use Rattle.afdx_devices.specs.Files.{HasCause};
 ghost use Rattle.afdx_serve_tests.specs.declared.memory_folder.File.{File};
 
-use afdx_devices::{DeviceLog, Folder, FolderFault};
+use afdx_devices::{DeviceLog, Folder, FolderFault, NewFile};
+use afdx_samples::MemoryFile;
 use std::alloc::{AllocError, Allocator};
 
 /// A name, and the bytes that are under it.
@@ -15,11 +16,13 @@ struct File<A: Allocator> {
     bytes: Vec<u8, A>,
 }
 
-/// The files, the one that was put last first. The call of number `failing`, from 1, fails so; 0 is none.
+/// The files, the one that was put last first, and how many new ones were neither put nor let go. Of the calls that get or put,
+/// the one of number `failing`, from 1, fails so; 0 is none.
 #[derive(Debug, Drop)]
 pub(crate) struct MemoryFolder<A: Allocator> {
     alloc: A,
     files: Vec<File<A>, A>,
+    begun: usize,
     calls: u64,
     failing: u64,
     fault: FolderFault,
@@ -37,6 +40,7 @@ impl<A: Allocator + Copy> MemoryFolder<A> {
         MemoryFolder {
             alloc,
             files: Vec::new(alloc),
+            begun: 0,
             calls: 0,
             failing,
             fault,
@@ -58,9 +62,9 @@ impl<A: Allocator + Copy> MemoryFolder<A> {
         Ok(())
     }
 
-    /// Whether it has the first so many of these files and no others, each once.
+    /// Whether it has the first so many of these files and no others, each once, and no new ones.
     pub(crate) fn holds(&self, files: &[(&str, &[u8])], count: usize) -> bool {
-        let mut all = self.files.len() == count;
+        let mut all = self.count() == count;
         for place in 0..count {
             all = all
                 && match files.get(place) {
@@ -71,9 +75,9 @@ impl<A: Allocator + Copy> MemoryFolder<A> {
         all
     }
 
-    /// How many times a file was added or put.
+    /// How many times a file was added or put, and how many new ones are left beside these.
     pub(crate) fn count(&self) -> usize {
-        self.files.len()
+        self.files.len().saturating_add(self.begun)
     }
 
     /// How many calls it was given.
@@ -117,6 +121,8 @@ fn call<A: Allocator + Copy>(folder: &mut MemoryFolder<A>, name: &str) -> Result
 }
 
 impl<B: Allocator + Copy> Folder for MemoryFolder<B> {
+    type New = MemoryFile<B>;
+
     ghost files = { λ m. Some (λ name. option_map (λ f. f.bytes.items) (find (λ f. bytes_eq (string_bytes f.name) name) m.files.items)) };
 
     ghost failed = { λ m. m.log };
@@ -142,17 +148,32 @@ impl<B: Allocator + Copy> Folder for MemoryFolder<B> {
         name: &str,
         bytes: &[u8],
     ) -> Result<(), FolderFault> {
-        call(self, name)?;
-        let Ok(name) = String::from_str(self.alloc, name) else {
+        let mut new = self.begin(name)?;
+        if new.append(bytes).is_err() {
+            self.abandon(new);
             return Err(FolderFault::Memory);
-        };
-        let Ok(bytes) = Vec::from_slice(self.alloc, bytes) else {
-            return Err(FolderFault::Memory);
-        };
-        match self.files.insert(0, File { name, bytes }) {
-            Ok(()) => Ok(()),
-            Err(_) => Err(FolderFault::Memory),
         }
+        self.put_new(new, name)
+    }
+
+    /// With room for the header of a capture.
+    fn begin(&mut self, _name: &str) -> Result<MemoryFile<B>, AllocError> {
+        let bytes = Vec::with_capacity(self.alloc, 24)?;
+        self.begun = self.begun.saturating_add(1);
+        Ok(MemoryFile { bytes })
+    }
+
+    fn put_new(&mut self, new: MemoryFile<B>, name: &str) -> Result<(), FolderFault> {
+        self.begun = self.begun.saturating_sub(1);
+        call(self, name)?;
+        let name = String::from_str(self.alloc, name)?;
+        let bytes = new.bytes;
+        self.files.insert(0, File { name, bytes })?;
+        Ok(())
+    }
+
+    fn abandon(&mut self, _new: MemoryFile<B>) {
+        self.begun = self.begun.saturating_sub(1);
     }
 
     fn failures(&self) -> u64 {

@@ -1,8 +1,8 @@
 //! `afdx run` over a folder in memory. Values from outside: a table, captures and printed lines.
 
 use crate::fixtures::{
-    Broken, CHECKED, OneFrame, REPORT, RUN, Served, answer_over, answers, captured, folder_of,
-    refuses, tells,
+    Broken, CHECKED, OneFrame, REPORT, RUN, Served, answer_over, answers, answers_over_files,
+    captured, folder_of, refuses,
 };
 use crate::memory_folder::MemoryFolder;
 use afdx_devices::FolderFault;
@@ -58,7 +58,7 @@ fn checks_a_table(rt: HostRuntime) -> Result<(), Fail> {
     ] {
         let text = single_to(alloc, mbit, buffer)?;
         assert!(rt;
-            tells(rt.alloc(), "afdx check t", &text, &[], (status, out, err))?,
+            answers_over_files(rt.alloc(), "afdx check t", &text, &[], (status, out, err))?,
             "{mbit} {buffer}"
         );
     }
@@ -70,7 +70,7 @@ fn checks_a_mixed_table(rt: HostRuntime) -> Result<(), Fail> {
     let alloc = rt.alloc();
     let lines = "port 2 rate 979292160 buffer 7516 high 282430 low 568836\naccepted\n";
     assert!(rt;
-        tells(
+        answers_over_files(
             rt.alloc(),
             "afdx check t",
             &mixed(alloc)?,
@@ -251,7 +251,10 @@ fn tells_a_tables_refusal(rt: HostRuntime) -> Result<(), Fail> {
             "afdx: table C10 NoSuchPort, link 1\n",
         ),
     ] {
-        assert!(rt; tells(rt.alloc(), RUN, text, &[], (3, "", line))?, "{line}");
+        assert!(rt;
+            answers_over_files(rt.alloc(), RUN, text, &[], (3, "", line))?,
+            "{line}"
+        );
     }
     Ok(())
 }

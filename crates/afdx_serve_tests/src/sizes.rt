@@ -1,6 +1,6 @@
 //! `afdx size` over a folder in memory. Values from outside: tables, and lines that were worked out by hand.
 
-use crate::fixtures::{answer_over, answers, tells};
+use crate::fixtures::{answer_over, answers, answers_over_files};
 use crate::memory_folder::MemoryFolder;
 use afdx_devices::FolderFault;
 use afdx_samples::{Link, Port, link, mixed, port, single, table};
@@ -126,7 +126,7 @@ fn has_no_lines_without_links(rt: HostRuntime) -> Result<(), Fail> {
 #[test]
 fn refuses_what_is_no_table(rt: HostRuntime) -> Result<(), Fail> {
     let said = (3, "", "afdx: table C6 Range, top, version\n");
-    assert!(rt; tells(rt.alloc(), "afdx size t", "version = 4", &[], said)?);
+    assert!(rt; answers_over_files(rt.alloc(), "afdx size t", "version = 4", &[], said)?);
     let mut broken = MemoryFolder::failing(rt.alloc(), 1, FolderFault::Device);
     let said = (5, "", "afdx: device get t\n");
     assert!(rt; answers(rt.alloc(), "afdx size t", &mut broken, said)?);

@@ -2,7 +2,7 @@
 use Rattle.std.proofs.Common.{◌≡◌, ℕ, zero, suc, ◌+◌, ◌-◌, ◌<◌, ◌≤◌, nat_le, Bool, true, false, cond, List, [], ◌∷◌, length, length-set, set, get_or, slice_get, Option, Some, None, inl, inr, refl}
 use Rattle.std.proofs.Common.{ap, sym, ◌∙◌, arith, subst}
 use Rattle.std.specs.List.{AllByRecursion}
-use Rattle.std.proofs.lemmas.Bool.{cases_Bool, cases_lt, le-leb, lt-leb, both_ways}
+use Rattle.std.proofs.lemmas.Bool.{cases_Bool, le-leb, lt-leb, both_ways}
 use Rattle.afdx_pcap.specs.Record.{Record}
 use Rattle.afdx_pcap.specs.Reading.{IsWrong}
 use Rattle.afdx_pcap.specs.Capture.{IsCapture}
@@ -20,9 +20,10 @@ use Rattle.afdx_session.specs.declared.plan.RunFault.{RunFault}
 use Rattle.afdx_session.specs.declared.plan.RunFault.TheVariants as run
 use Rattle.afdx_session.specs.Texts.{Text}
 use Rattle.afdx_session.specs.Reading.{IsSound}
-use Rattle.afdx_session.specs.Inner.Settled.{first_place, IsGiven, HandsOut}
-use Rattle.afdx_session.specs.Inner.Lanes.{limit_at, with_waiting, head_of, head_stamp, IsFirstUpTo, IsFirstOf, IsWithinPlace, IsLimit, NoneGoes, IsReadOn, HasDrawn, IsLaneFault}
-use Rattle.afdx_session.specs.Inner.Lent.{AreSound, IsOver, texts_over, left_of, left_in, IsOneFault, IsCarrying, CarriesOn, HandsOn}
+use Rattle.afdx_session.specs.Inner.Settled.{first_place, IsGiven, HandsOut, IsWithin}
+use Rattle.afdx_session.proofs.FirstHeads.{set_twice, heads_set}
+use Rattle.afdx_session.specs.Inner.Lanes.{limit_at, with_waiting, head_of, heads_of, head_at, IsFirstUpTo, IsFirstOf, IsLimit, NoneGoes, IsReadOn, HasDrawn, IsLaneFault}
+use Rattle.afdx_session.specs.Inner.Lent.{AreSound, IsOver, texts_over, taken_by, left_of, left_in, IsOneFault, IsCarrying, CarriesOn, HandsOn}
 use Rattle.afdx_session.specs.Inner.Kept.{AreOfTable, AreOut, Every, IsGoing, AreTouched, IsGrown, AreGrown, IsOfSameTable}
 use Rattle.afdx_session.specs.Inner.View.{HasGone, IsRound}
 use Rattle.afdx_session.proofs.Firsts.{get-map}
@@ -32,7 +33,10 @@ use Rattle.afdx_session.proofs.Going.{reads_on}
 use Rattle.afdx_session.proofs.Intakes.{still_of_table, touched_of}
 use Rattle.afdx_session.proofs.Settles.{back_items}
 use Rattle.afdx_session.proofs.Calls.{handed_stays, handed_same, drained_back, touched_table}
-use Rattle.afdx_session.proofs.Lending.{draws_over, drawn_adds, ports_stay}
+use Rattle.afdx_session.proofs.Lending.{draws_over, drawn_adds, ports_stay, taken_stays}
+use Rattle.afdx_count.specs.Tally.{Tally}
+use Rattle.afdx_session.proofs.Closing.{no_fault}
+use Rattle.afdx_session.proofs.Rounds.{GoesFrom}
 use Rattle.afdx_session.proofs.Numbered.{all_slice_get, set_here, rest_same}
 use Rattle.afdx_session.proofs.ReadUp.{read_same, all_set}
 
@@ -43,7 +47,7 @@ record Waits {Z : Type 0} (l : Lane Z) (t : ℕ) : Type 0 where
   still_open : l.ended ≡ false
   last : l.last ≡ t
 
-waits_for : {Z : Type 0} (l : Lane Z) (t : ℕ) → IsOver l → head_stamp (Some l) ≡ Some t → Waits l t
+waits_for : {Z : Type 0} (l : Lane Z) (t : ℕ) → IsOver l → head_of l.waiting.items ≡ Some t → Waits l t
 waits_for {Z} l t over head = elim (cases_Bool l.ended) [
   | inl ended ↦ absurd (none (ap head_of (sym (over.read ended).0) ∙ head))
   | inr still_open ↦
@@ -53,7 +57,7 @@ waits_for {Z} l t over head = elim (cases_Bool l.ended) [
   none : None ≡ Some t → ⊥
   none e = absurd cc
 
-head_is : {Z : Type 0} (l : Lane Z) → IsOver l → l.ended ≡ false → head_stamp (Some l) ≡ Some l.last
+head_is : {Z : Type 0} (l : Lane Z) → IsOver l → l.ended ≡ false → head_of l.waiting.items ≡ Some l.last
 head_is l over still_open = let one = over.head still_open in ap head_of one.1 ∙ ap Some (sym one.2)
 
 -- a place before all that others have come to is the first
@@ -64,7 +68,7 @@ first_of_two p q (Some m) le same = by (nat_le q.0 m.0) where
   by true = ap (λ b. cond b p q) (le-leb p.0 q.0 le)
   by false = same
 
-first_stays : {Z : Type 0} (p : ℕ × ℕ) (lanes : List (Lane Z)) → AllByRecursion IsOver lanes → ((j u : ℕ) → j < length lanes → head_stamp (slice_get lanes j) ≡ Some u → p.0 ≤ u)
+first_stays : {Z : Type 0} (p : ℕ × ℕ) (lanes : List (Lane Z)) → AllByRecursion IsOver lanes → ((j u : ℕ) → j < length lanes → head_at (heads_of lanes) j ≡ Some u → p.0 ≤ u)
     → first_place p (limit_at lanes) ≡ p
 first_stays p [] over sooner = refl
 first_stays {Z} p (l ∷ lanes) over sooner =
@@ -76,9 +80,9 @@ first_stays {Z} p (l ∷ lanes) over sooner =
           ∙ first_of_two p (l.last, l.port) (limit_at lanes) (sooner 0 l.last (omega arith) (head_is l over.0 still_open)) rest
     ]
 
-limit_from : {Z : Type 0} (l : Lane Z) (t : ℕ) (ls : List (Lane Z)) (j : ℕ) → AllByRecursion IsOver ls → slice_get ls j ≡ Some l → head_stamp (slice_get ls j) ≡ Some t
-    → ((i u : ℕ) → i < length ls → head_stamp (slice_get ls i) ≡ Some u → t ≤ u)
-    → ((i u : ℕ) → i < j → head_stamp (slice_get ls i) ≡ Some u → t < u) → limit_at ls ≡ Some (t, l.port)
+limit_from : {Z : Type 0} (l : Lane Z) (t : ℕ) (ls : List (Lane Z)) (j : ℕ) → AllByRecursion IsOver ls → slice_get ls j ≡ Some l → head_at (heads_of ls) j ≡ Some t
+    → ((i u : ℕ) → i < length ls → head_at (heads_of ls) i ≡ Some u → t ≤ u)
+    → ((i u : ℕ) → i < j → head_at (heads_of ls) i ≡ Some u → t < u) → limit_at ls ≡ Some (t, l.port)
 limit_from l t [] j all is here sooner former = absurd cc
 limit_from {Z} l t (m ∷ ls) zero all is here sooner former =
     let w = waits_for m t all.0 here in
@@ -97,19 +101,19 @@ limit_from {Z} l t (m ∷ ls) (suc j) all is here sooner former =
     ]
 
 -- the first record that waits lies at the limit
-pub limit_first : {Z : Type 0} (lanes : List (Lane Z)) (k t : ℕ) (l : Lane Z) → AllByRecursion IsOver lanes → IsFirstUpTo lanes (length lanes) k t → slice_get lanes k ≡ Some l → limit_at lanes
-    ≡ Some (t, l.port)
+pub limit_first : {Z : Type 0} (lanes : List (Lane Z)) (k t : ℕ) (l : Lane Z) → AllByRecursion IsOver lanes → IsFirstUpTo (heads_of lanes) (length lanes) k t → slice_get lanes k ≡ Some l
+    → limit_at lanes ≡ Some (t, l.port)
 limit_first lanes k t l over first at = limit_from l t lanes k over at first.here first.sooner first.former
 
 -- so it goes whatever the limit is
 pub no_limit : {Z : Type 0} (lanes : List (Lane Z)) → AllByRecursion IsOver lanes → IsLimit None lanes
 no_limit lanes over place stamp lane first at = (
-  (λ within. subst (λ o. IsWithinPlace o stamp lane.port) (sym (limit_first lanes place stamp lane over first at)) (inr (refl, omega arith))),
+  (λ within. subst (λ o. IsWithin o stamp lane.port) (sym (limit_first lanes place stamp lane over first at)) (inr (refl, omega arith))),
   λ within. tt,
 )
 
 -- where none goes, all have ended
-all_ended : {Z : Type 0} (lanes : List (Lane Z)) → AllByRecursion IsOver lanes → ((j : ℕ) → j < length lanes → head_stamp (slice_get lanes j) ≡ None)
+all_ended : {Z : Type 0} (lanes : List (Lane Z)) → AllByRecursion IsOver lanes → ((j : ℕ) → j < length lanes → head_at (heads_of lanes) j ≡ None)
     → AllByRecursion (λ (l : Lane Z). l.ended ≡ true) lanes
 all_ended [] over none = tt
 all_ended {Z} (l ∷ lanes) over none = (
@@ -126,12 +130,12 @@ pub none_left : {Z : Type 0} (lanes : List (Lane Z)) (first : Option (ℕ × ℕ
     → AllByRecursion (λ (l : Lane Z). l.ended ≡ true) lanes
 none_left {Z} lanes first over none = by first none.is none.past where
   by : (found : Option (ℕ × ℕ)) → IsFirstOf lanes found → ((place stamp : ℕ) (lane : Lane Z) → found ≡ Some (place, stamp) → slice_get lanes place ≡ Some lane
-      → IsWithinPlace (limit_at lanes) stamp lane.port → ⊥)
+      → IsWithin (limit_at lanes) stamp lane.port → ⊥)
       → AllByRecursion (λ (l : Lane Z). l.ended ≡ true) lanes
   by None is past = all_ended lanes over is
   by (Some x) is past =
       let at = lane_at lanes x.0 is.within in
-      absurd (past x.0 x.1 at.0 refl at.1 (subst (λ o. IsWithinPlace o x.1 at.0.port) (sym (limit_first lanes x.0 x.1 at.0 over is at.1)) (inr (refl, omega arith))))
+      absurd (past x.0 x.1 at.0 refl at.1 (subst (λ o. IsWithin o x.1 at.0.port) (sym (limit_first lanes x.0 x.1 at.0 over is at.1)) (inr (refl, omega arith))))
 
 -- ---- the lanes
 
@@ -144,7 +148,14 @@ texts_touched (l ∷ old) (n ∷ new) touched =
     ∙ ap (λ r. (l.port, r.bytes) ∷ texts_over new) touched.0.reader
     ∙ ap (λ ts. (l.port, l.reader.bytes) ∷ ts) (texts_touched old new touched.1)
 
-texts_set : {Z : Type 0} (lanes : List (Lane Z)) (k : ℕ) (old new : Lane Z) → slice_get lanes k ≡ Some old → new.port ≡ old.port → new.reader.bytes ≡ old.reader.bytes → texts_over (set lanes k new)
+pub taken_touched : {Z : Type 0} (old new : List (Lane Z)) → AreTouched old new → taken_by new ≡ taken_by old
+taken_touched [] [] touched = refl
+taken_touched [] (n ∷ new) touched = absurd touched
+taken_touched (l ∷ old) [] touched = absurd touched
+taken_touched (l ∷ old) (n ∷ new) touched = ap (λ k. k ∷ taken_by new) touched.0.taken ∙ ap (λ ns. l.taken ∷ ns) (taken_touched old new touched.1)
+
+pub texts_set : {Z : Type 0} (lanes : List (Lane Z)) (k : ℕ) (old new : Lane Z) → slice_get lanes k ≡ Some old → new.port ≡ old.port → new.reader.bytes ≡ old.reader.bytes
+    → texts_over (set lanes k new)
     ≡ texts_over lanes
 texts_set [] k old new at port bytes = absurd cc
 texts_set {Z} (l ∷ lanes) zero old new at port bytes =
@@ -178,11 +189,6 @@ left_drawn {Z} false old new closed still_open on drawn =
     let is : left_of new ≡ 0 = ap (λ b. cond b 0 (length new.reader.bytes - new.reader.given + 1)) (drawn.read.ended ∙ on.ended ∙ closed) in
     omega (arith, was, is)
 
-set_twice : {X : Type 0} (xs : List X) (k : ℕ) (x y : X) → set (set xs k x) k y ≡ set xs k y
-set_twice [] k x y = refl
-set_twice (z ∷ xs) zero x y = refl
-set_twice (z ∷ xs) (suc k) x y = ap (λ ys. z ∷ ys) (set_twice xs k x y)
-
 -- ---- one record
 
 pub gone_within : {Z : Type 0} (old new : List (Lane Z)) (place : ℕ) → HasGone old new place → place < length new
@@ -195,7 +201,6 @@ gone_within {Z} old new place gone =
 pub record IsGone {Z : Type 0} (lanes : List (Lane Z)) (place : ℕ) (l : Lane Z) : Type 0 where
   pub at : slice_get lanes place ≡ Some l
   pub closed : l.reader.closed ≡ true
-  pub taken : l.taken ≡ 0
   pub still_open : l.ended ≡ false
   pub none : l.waiting.items ≡ []
 
@@ -203,11 +208,14 @@ pub record IsGone {Z : Type 0} (lanes : List (Lane Z)) (place : ℕ) (l : Lane Z
 pub gone_at : {Z : Type 0} (old new : List (Lane Z)) (place : ℕ) (l d : Lane Z) → HasGone old new place → l ≡ get_or new place d → slice_get new place ≡ Some l
 gone_at {Z} old new place l d gone is = at_index new place d (gone_within old new place gone) ∙ ap Some (sym is)
 
+gone_same : {Z : Type 0} (old new : List (Lane Z)) (place : ℕ) (l : Lane Z) (gone : HasGone old new place) → slice_get new place ≡ Some l → l ≡ with_waiting gone.rest gone.lane
+gone_same {Z} old new place l gone at =
+    same_Some l (with_waiting gone.rest gone.lane) (sym at ∙ ap (λ (ls : List (Lane Z)). slice_get ls place) gone.lanes ∙ set_here old place gone.lane (with_waiting gone.rest gone.lane) gone.at)
+
 pub gone_lane : {Z : Type 0} (old new : List (Lane Z)) (place : ℕ) (l : Lane Z) → AllByRecursion IsOver old → HasGone old new place → slice_get new place ≡ Some l → IsGone new place l
 gone_lane {Z} old new place l over gone at = subst (IsGone new place) (sym same) (record {
   at = subst (λ (x : Lane Z). slice_get new place ≡ Some x) same at;
   closed = was.closed;
-  taken = was.taken;
   still_open = waits.still_open;
   none = let one = was.head waits.still_open in rest_same (sym gone.head ∙ one.1);
 }) where
@@ -218,7 +226,19 @@ gone_lane {Z} old new place l over gone at = subst (IsGone new place) (sym same)
   waits = waits_for gone.lane gone.frame.stamp was (ap head_of gone.head)
 
   same : l ≡ with_waiting gone.rest gone.lane
-  same = same_Some l (with_waiting gone.rest gone.lane) (sym at ∙ ap (λ (ls : List (Lane Z)). slice_get ls place) gone.lanes ∙ set_here old place gone.lane (with_waiting gone.rest gone.lane) gone.at)
+  same = gone_same old new place l gone at
+
+-- a lane whose first record was taken, before it is given
+pub went_gone : {Z : Type 0} (limit : Option (ℕ × ℕ)) (old new : List (Lane Z)) (port place : ℕ) (frame : Record) → GoesFrom limit old new place port frame → HasGone old new place
+went_gone {Z} limit old new port place frame from =
+    let goes = from.goes in
+    subst (HasGone old new) from.here (record { lane = goes.lane; frame = frame; rest = goes.rest; at = goes.at; head = goes.head; lanes = goes.lanes })
+
+-- it can be read on
+pub went_on : {Z : Type 0} (t : Content) (old new : List (Lane Z)) (s : State) (counts : Tally) (place : ℕ) (l : Lane Z) → IsGoing t old s counts
+    → HasGone old new place → slice_get new place ≡ Some l → l.reader.fault ≡ None
+went_on {Z} t old new s counts place l going gone at =
+    ap (λ (x : Lane Z). x.reader.fault) (gone_same old new place l gone at) ∙ no_fault old going.streams place gone.lane going.lanes_are gone.at
 
 -- it went, and the next one was read
 pub carries_one : {Z : Type 0} → MergedIsAMerge → MergedIsByStampAndPort → (found : Bool) (old mid next : Machine Z) (place : ℕ) (l new : Lane Z) → IsCarrying old
@@ -241,6 +261,7 @@ carries_one {Z} merge sorted found old mid next place l new carrying touched sam
         over = rw lanes over;
       };
       texts = ap (λ ls. texts_over ls) lanes ∙ texts_set mid.lanes.items place l new at on.port on.bytes ∙ texts_touched old.lanes.items mid.lanes.items touched;
+      taken = ap (λ ls. taken_by ls) lanes ∙ taken_stays mid.lanes.items place l new at on.taken ∙ taken_touched old.lanes.items mid.lanes.items touched;
       fewer = λ more. omega (arith, fewer, was, now);
       all = λ none. absurd (both_ways true none refl);
     } where
@@ -252,7 +273,15 @@ carries_one {Z} merge sorted found old mid next place l new carrying touched sam
 
       over : AllByRecursion IsOver (set mid.lanes.items place new)
       over = subst (AllByRecursion IsOver) (sym (ap (λ (ls : List (Lane Z)). set ls place new) has_gone.lanes ∙ set_twice old.lanes.items place (with_waiting has_gone.rest has_gone.lane) new))
-          (all_set IsOver old.lanes.items place new carrying.over (draws_over found l new gone.closed gone.taken gone.still_open gone.none on drawn))
+          (all_set IsOver old.lanes.items place new carrying.over (draws_over found l new gone.closed gone.still_open gone.none on drawn))
+
+-- the stamps follow the lanes
+pub heads_drawn : {Z : Type 0} (heads : List (Option ℕ)) (old mid : List (Lane Z)) (place : ℕ) (l : Lane Z) (head : Option ℕ) → heads ≡ heads_of old → HasGone old mid place
+    → head ≡ head_of l.waiting.items → set heads place head ≡ heads_of (set mid place l)
+heads_drawn {Z} heads old mid place l head are gone same =
+    ap (λ hs. set hs place head) are
+    ∙ ap (set (heads_of old) place) same
+    ∙ heads_set old mid place (with_waiting gone.rest gone.lane) l gone.lanes
 
 -- none was left
 pub carries_none : {Z : Type 0} (old next : Machine Z) → IsCarrying old → IsOfSameTable old.switch next.switch → IsRound None old next → CarriesOn false old next
@@ -264,6 +293,7 @@ carries_none {Z} old next carrying same round = record {
     over = over;
   };
   texts = ap (λ ls. texts_over ls) lanes;
+  taken = ap (λ ls. taken_by ls) lanes;
   fewer = λ more. absurd (both_ways true (sym more) refl);
   all = λ is. let none = round.none refl in none_left next.lanes.items none.0 over none.1;
 } where
@@ -289,17 +319,9 @@ carries_fault old mid place l run.Failed touched gone why = why
 
 -- ---- what has left goes out
 
--- fewer than go before that
-pub one_fewer : (n : ℕ) → n < 256 → (n + 1 ≡ 256 → ⊥) → n + 1 < 256
-one_fewer n few other = elim (cases_lt (n + 1) 256) [
-  | inl lt ↦ lt
-  | inr ge ↦ absurd (other (omega (arith, few, ge)))
-]
-
 over_grown : {Z : Type 0} (l n : Lane Z) → IsGrown l n → IsOver l → IsOver n
 over_grown l n grown over = record {
   closed = ap (λ r. r.closed) grown.touched.reader ∙ over.closed;
-  taken = grown.touched.taken ∙ over.taken;
   head = λ still_open. let one = over.head (sym grown.touched.ended ∙ still_open) in (one.0, ap (λ w. w.items) grown.waiting ∙ one.1, grown.last ∙ one.2);
   read = λ ended. let all = over.read (sym grown.touched.ended ∙ ended) in (ap (λ w. w.items) grown.waiting ∙ all.0, read_same l n grown.touched.reader grown.touched.ended all.1);
 }
@@ -324,6 +346,7 @@ hands_on {Z} m next start now carrying hands is grown out lanes counts = record 
   };
   same = same;
   texts = texts_touched m.lanes.items next.lanes.items touched;
+  taken = taken_touched m.lanes.items next.lanes.items touched;
   left = left_touched m.lanes.items next.lanes.items touched;
 } where
   t : Content
@@ -346,12 +369,12 @@ hands_on {Z} m next start now carrying hands is grown out lanes counts = record 
       (out t carrying.going.given carrying.going.since (subst (λ (ls : List (Lane Z)). AreOfTable t ls) (sym is) carrying.of) carrying.going.is_given carrying.going.come
       (subst (λ (ls : List (Lane Z)). AreOut t carrying.going.given carrying.going.since m.switch ls Every) (sym is) carrying.going.outs))
 
--- nothing goes out
-same_table : (s : State) → IsOfSameTable s s
+pub same_table : (s : State) → IsOfSameTable s s
 same_table s = record { table = refl; accepted = refl; handed = refl }
 
+-- nothing goes out
 pub hands_none : {Z : Type 0} (m : Machine Z) → IsCarrying m → HandsOn m m
-hands_none m carrying = record { carrying = carrying; same = same_table m.switch; texts = refl; left = refl }
+hands_none m carrying = record { carrying = carrying; same = same_table m.switch; texts = refl; taken = refl; left = refl }
 
 -- ---- a fault
 

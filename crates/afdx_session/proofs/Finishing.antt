@@ -13,7 +13,7 @@ use Rattle.afdx_port.specs.Inner.Admission.{EarlierEventsStayAdmitted}
 use Rattle.afdx_port.specs.Inner.Order.{ReachesInOrder}
 use Rattle.afdx_core.specs.State.{after_finish}
 use Rattle.afdx_core.specs.Merge.{Arrival, Capture, merged}
-use Rattle.afdx_count.specs.Tally.{ended}
+use Rattle.afdx_count.specs.Tally.{ended_tally}
 use Rattle.afdx_count.specs.Run.{counts_so_far, counts_of}
 use Rattle.afdx_count.specs.Inner.Laws.{EndCountsTheRun}
 use Rattle.afdx_session.specs.declared.lane.Lane.{Lane}
@@ -78,7 +78,8 @@ pub finished : {Z : Type 0} → EarlierEventsStayAdmitted → ReachesInOrder →
     → (old new : Machine Z) (begun : Bool) (results : Results) → IsKeptMachine old begun false
     → IsOfSameTable old.switch new.switch → AreHalfDone old.lanes.items new.lanes.items → AreEndedLanes old.lanes.items new.lanes.items
     → IsRunning new.switch.run.table new.lanes.items new.switch new.counts
-    → results.captures ≡ map (λ (l : Lane Z). (l.port, l.out.items)) new.lanes.items → results.counts ≡ ended (after_finish new.switch.run) new.counts → IsFinished (seen_of old begun false) results
+    → results.captures ≡ map (λ (l : Lane Z). (l.port, l.out.items)) new.lanes.items → results.counts ≡ ended_tally (after_finish new.switch.run) new.counts
+    → IsFinished (seen_of old begun false) results
 finished {Z} stay reaches ends takes law isolate old new begun results kept same half closed running captures counts = record {
   none_failed = refl;
   whole = whole;
@@ -86,7 +87,7 @@ finished {Z} stay reaches ends takes law isolate old new begun results kept same
   captures = captures ∙ same_lists (λ (l : Lane Z). (l.port, l.out.items)) (λ (p : PortRow). rest_of v (p.id, output_text t (merged read) p)) (λ (l : Lane Z). l.port) (λ (p : PortRow). p.id)
       new.lanes.items t.ports of.ports rest
       ∙ sym (map-map (rest_of v) (λ (p : PortRow). (p.id, output_text t (merged read) p)) t.ports);
-  counts = counts ∙ ap (ended (after_finish new.switch.run)) counted ∙ law new.switch.run formed
+  counts = counts ∙ ap (ended_tally (after_finish new.switch.run)) counted ∙ law new.switch.run formed
       ∙ ap (λ (c : Content). counts_of c new.switch.run.rows) run.going.is_given.table ∙ ap (counts_of t) run.going.is_given.rows ∙ ap (λ (xs : List Arrival). counts_of t (rows_of t xs)) (sym given);
   isolated = λ accepted. isolate t (texts_in v) whole kept.of.formed (kept.accepted accepted) outcome;
 } where

@@ -12,8 +12,8 @@ use Rattle.afdx_pcap.specs.declared.format.Head.{Head}
 use Rattle.afdx_pcap.specs.Record.{Record}
 use Rattle.afdx_pcap.specs.Capture.{Splits, IsCapture, after, parts_of_second, stamp_of, head_of}
 use Rattle.afdx_core.specs.Merge.{Arrival, Capture, Rises, arrivals_of}
+use Rattle.afdx_core.specs.Inner.Merge.{AreInOrder}
 use Rattle.afdx_session.specs.Texts.{Text}
-use Rattle.afdx_session.specs.Inner.Merging.{AreInOrder}
 use Rattle.afdx_session.specs.Reading.{AreCaptures, AreMerged}
 use Rattle.afdx_session.proofs.Joining.{by_stamp-in_order, by_stamp_every, records_weaken}
 

@@ -20,15 +20,15 @@ use Rattle.afdx_core.specs.Rows.{row_of}
 use Rattle.afdx_core.specs.State.{Run, State, refusal_of, step_of, after_advance}
 use Rattle.afdx_core.specs.Held.{Keeps, IsTaken}
 use Rattle.afdx_core.specs.Merge.{Arrival, Capture, merged, arrivals_of}
+use Rattle.afdx_core.specs.Inner.Merge.{AreInOrder}
 use Rattle.afdx_count.specs.Tally.{Tally, noted}
 use Rattle.afdx_count.specs.Run.{counts_so_far}
 use Rattle.afdx_count.specs.Inner.Laws.{NoteCountsOneMore}
 use Rattle.afdx_session.specs.declared.lane.Lane.{Lane}
 use Rattle.afdx_session.specs.Output.{rows_of, written}
 use Rattle.afdx_session.specs.Streams.{Stream, frontier}
-use Rattle.afdx_session.specs.Inner.Merging.{AreInOrder}
-use Rattle.afdx_session.specs.Inner.Settled.{without, IsGiven, HeadFrom, AllRise, IsPast}
-use Rattle.afdx_session.specs.Inner.Lanes.{waiting_of, limit_at, with_waiting, IsWithinPlace, IsFirstOf, IsFirstUpTo, Goes, NoneGoes}
+use Rattle.afdx_session.specs.Inner.Settled.{without, IsGiven, HeadFrom, AllRise, IsPast, IsWithin}
+use Rattle.afdx_session.specs.Inner.Lanes.{waiting_of, limit_at, heads_of, with_waiting, IsFirstOf, IsFirstUpTo, Goes, NoneGoes}
 use Rattle.afdx_session.specs.Inner.Kept.{AreLanesOf, AreOfTable, come_to, text_up_to, IsOut, IsGoing, HasCome}
 use Rattle.afdx_session.proofs.Joining.{AllFrom, frames-from, by_stamp-in_order}
 use Rattle.afdx_session.proofs.Settling.{all_back}
@@ -36,7 +36,8 @@ use Rattle.afdx_session.proofs.Gathering.{Known, all_known}
 use Rattle.afdx_session.proofs.Numbered.{all_slice_get}
 use Rattle.afdx_session.proofs.Giving.{first_goes, limit_frontier, rest_from_frontier, merged_from}
 use Rattle.afdx_session.proofs.Later.{same_sent, same_bytes}
-use Rattle.afdx_session.proofs.Firsts.{limit_is, is_past, first_comes, map-set, get-map, none_waits, lane_goes}
+use Rattle.std.proofs.lemmas.List.{map-set}
+use Rattle.afdx_session.proofs.Firsts.{limit_is, is_past, first_comes, get-map, none_waits, lane_goes}
 use Rattle.afdx_session.proofs.Drawing.{gives, comes}
 use Rattle.afdx_session.proofs.Going.{Early, lanes_early, waiting_rise, lanes_ascend, same_lanes, outs_stay}
 
@@ -109,12 +110,12 @@ arrives {Z} t old new s counts port frame goes going = record {
   prefix : option_map (λ (p : ℕ × ℕ). p.0) (limit_at old) ≡ frontier going.streams
   prefix = ap (option_map (λ (p : ℕ × ℕ). p.0)) (limit_is old going.streams going.lanes_are) ∙ limit_frontier going.streams
 
-  by_limit : (p : Option (ℕ × ℕ)) → limit_at old ≡ p → IsWithinPlace (limit_at old) frame.stamp port → frame.stamp ≤ come_to (frontier going.streams)
+  by_limit : (p : Option (ℕ × ℕ)) → limit_at old ≡ p → IsWithin (limit_at old) frame.stamp port → frame.stamp ≤ come_to (frontier going.streams)
   by_limit None is within =
       let here = ap come_to (sym prefix ∙ ap (option_map (λ (q : ℕ × ℕ). q.0)) is) in
       omega (arith, early, here)
   by_limit (Some p) is within =
-      at (subst (λ o. IsWithinPlace o frame.stamp port) is within) (ap come_to (sym prefix ∙ ap (option_map (λ (q : ℕ × ℕ). q.0)) is)) where
+      at (subst (λ o. IsWithin o frame.stamp port) is within) (ap come_to (sym prefix ∙ ap (option_map (λ (q : ℕ × ℕ). q.0)) is)) where
         at : (frame.stamp < p.0) ⊎ ((frame.stamp ≡ p.0) × (port ≤ p.1)) → come_to (frontier going.streams) ≡ p.0 → frame.stamp ≤ come_to (frontier going.streams)
         at (inl lt) here = omega (arith, lt, here)
         at (inr same) here = let e = same.0 in omega (arith, e, here)
@@ -213,9 +214,9 @@ rest_waits {Z = Z} t lanes s counts first going none = by_first first none.is no
   rise : AllRise waiting
   rise = waiting_rise lanes going.streams going.lanes_are going.settling.queued
 
-  by_limit : (x : ℕ × ℕ) (l : Lane Z) (p : Option (ℕ × ℕ)) → limit_at lanes ≡ p → IsFirstUpTo lanes (length lanes) x.0 x.1 → (IsWithinPlace (limit_at lanes) x.1 l.port → ⊥)
+  by_limit : (x : ℕ × ℕ) (l : Lane Z) (p : Option (ℕ × ℕ)) → limit_at lanes ≡ p → IsFirstUpTo (heads_of lanes) (length lanes) x.0 x.1 → (IsWithin (limit_at lanes) x.1 l.port → ⊥)
       → AllFrom n (merged waiting)
-  by_limit x l None same is out = absurd (out (subst (λ o. IsWithinPlace o x.1 l.port) (sym same) tt))
+  by_limit x l None same is out = absurd (out (subst (λ o. IsWithin o x.1 l.port) (sym same) tt))
   by_limit x l (Some p) same is out =
       let prefix : frontier going.streams ≡ Some p.0 = sym (prefix_is lanes going.streams going.lanes_are) ∙ ap (option_map (λ (q : ℕ × ℕ). q.0)) same in
       let past = subst (λ o. IsPast o x.1) (limit_is lanes going.streams going.lanes_are) (is_past (limit_at lanes) x.1 l.port out) in
@@ -223,7 +224,7 @@ rest_waits {Z = Z} t lanes s counts first going none = by_first first none.is no
       (rest_from_frontier going.streams waiting x.0 x.1 p.0 rise (first_comes lanes x.0 x.1 is) past prefix)
 
   by_first : (found : Option (ℕ × ℕ)) → IsFirstOf lanes found → ((place stamp : ℕ) (lane : Lane Z) → found ≡ Some (place, stamp) → slice_get lanes place ≡ Some lane
-      → IsWithinPlace (limit_at lanes) stamp lane.port → ⊥)
+      → IsWithin (limit_at lanes) stamp lane.port → ⊥)
       → AllFrom n (merged waiting)
   by_first None is past = merged_from n waiting (empty_heads n waiting (none_waits lanes is)) rise
   by_first (Some x) is past =

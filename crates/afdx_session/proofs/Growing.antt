@@ -21,7 +21,7 @@ use Rattle.afdx_port.specs.Inner.Course.{EventsAreInParts}
 use Rattle.afdx_isolation.specs.Table.{settings_of}
 use Rattle.afdx_core.specs.Rows.{feed_of}
 use Rattle.afdx_core.specs.Merge.{Arrival, Capture, Rises, arrivals_of, placed, by_stamp, merged}
-use Rattle.afdx_session.specs.Inner.Merging.{AreInOrder}
+use Rattle.afdx_core.specs.Inner.Merge.{AreInOrder}
 use Rattle.afdx_session.specs.Output.{rows_of, sent_by, written, output_of, output_text}
 use Rattle.afdx_session.specs.Streams.{Stream, captures_of, last_of, merged_so_far, least, frontier, sent_up_to, output_so_far, text_so_far, GoesOn, GoOn, whole_of}
 use Rattle.afdx_session.proofs.Joining.{AllFrom, first-placed, later-placed, frames-from, weaken, by_stamp-in_order, records_weaken}

@@ -10,13 +10,13 @@ use Rattle.afdx_core.specs.State.{State}
 use Rattle.afdx_core.specs.Merge.{merged}
 use Rattle.afdx_count.specs.Tally.{Tally}
 use Rattle.afdx_session.specs.declared.lane.Lane.{Lane}
-use Rattle.afdx_session.specs.Session.{Intake, fed, ended}
+use Rattle.afdx_session.specs.Session.{Intake, fed, closed_intake}
 use Rattle.afdx_session.specs.Inner.Settled.{IsSettling}
 use Rattle.afdx_session.specs.Streams.{Stream}
 use Rattle.afdx_session.specs.Inner.Lanes.{intake_of, waiting_of, IsStill}
 use Rattle.afdx_session.specs.Inner.Kept.{IsLaneOf, AreLanesOf, AreOfTable, text_up_to, IsGoing, IsRunning, IsTouched, AreTouched, AreGrown, IsMarked}
 use Rattle.afdx_session.specs.Inner.View.{IsHalfDone, AreHalfDone, IsSettledLane, AreSettledLanes, intakes_of}
-use Rattle.afdx_session.proofs.Firsts.{map-set}
+use Rattle.std.proofs.lemmas.List.{map-set}
 use Rattle.afdx_session.proofs.Gone.{touched_none, touched_both}
 
 -- ---- lanes that were touched
@@ -183,7 +183,7 @@ unfolding read_intake
 fed_intake begun old new piece marked port bytes closed taken = rw (port, bytes, closed, taken, all_bytes old.reader.bytes old.undone marked.undone) refl
 
 pub ended_intake : {Z : Type 0} (begun : Bool) (old new : Lane Z) → IsMarked begun old → new.port ≡ old.port → new.reader.bytes ≡ old.reader.bytes → new.reader.closed ≡ true → new.taken ≡ old.taken
-    → read_intake new ≡ ended (intake_of old)
+    → read_intake new ≡ closed_intake (intake_of old)
 unfolding read_intake
 ended_intake begun old new marked port bytes closed taken = rw (port, bytes, closed, taken, all_bytes old.reader.bytes old.undone marked.undone) refl
 

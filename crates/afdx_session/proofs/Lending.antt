@@ -18,7 +18,7 @@ use Rattle.afdx_session.specs.declared.plan.RunFault.TheVariants as run
 use Rattle.afdx_session.specs.Texts.{Text, texts_of, AreOfPorts}
 use Rattle.afdx_session.specs.Reading.{IsFaultAt}
 use Rattle.afdx_session.specs.Inner.Lanes.{IsStill, IsReadOn, HasReadAll, Adds, HasDrawn}
-use Rattle.afdx_session.specs.Inner.Lent.{IsOver, texts_over, IsOneFault}
+use Rattle.afdx_session.specs.Inner.Lent.{IsOver, texts_over, taken_by, IsOneFault}
 use Rattle.afdx_session.specs.Inner.Kept.{AreOfTable, IsGoing, AreTouched}
 use Rattle.afdx_session.specs.Inner.View.{IsFreshLane, AreFreshLanes, AreLent, AreSettledLanes}
 use Rattle.afdx_session.proofs.Firsts.{get-map}
@@ -47,17 +47,15 @@ adds_lent old mid new text more fresh lent last waiting adds = record {
 }
 
 -- a lane whose last record has gone reads the next one
-pub draws_over : {Z : Type 0} (found : Bool) (old new : Lane Z) → old.reader.closed ≡ true → old.taken ≡ 0 → old.ended ≡ false → old.waiting.items ≡ [] → IsReadOn old new → HasDrawn found old new
+pub draws_over : {Z : Type 0} (found : Bool) (old new : Lane Z) → old.reader.closed ≡ true → old.ended ≡ false → old.waiting.items ≡ [] → IsReadOn old new → HasDrawn found old new
     → IsOver new
-draws_over true old new closed taken still_open none on drawn = record {
+draws_over true old new closed still_open none on drawn = record {
   closed = on.ended ∙ closed;
-  taken = on.taken ∙ taken;
   head = λ is. (drawn.frame, drawn.adds.queue ∙ ap (λ rs. rs ++ drawn.frame ∷ []) none, drawn.last);
   read = λ is. absurd (both_ways new.ended (drawn.ended ∙ still_open) is);
 }
-draws_over false old new closed taken still_open none on drawn = record {
+draws_over false old new closed still_open none on drawn = record {
   closed = on.ended ∙ closed;
-  taken = on.taken ∙ taken;
   head = λ is. absurd (both_ways new.ended is (drawn.read.ended ∙ on.ended ∙ closed));
   read = λ is. (drawn.adds.queue ∙ ap (λ rs. rs ++ []) none, drawn.read);
 }
@@ -67,12 +65,12 @@ drawn_adds true old new drawn = (drawn.frame ∷ [], drawn.adds)
 drawn_adds false old new drawn = ([], drawn.adds)
 
 pub lends_first : {Z : Type 0} (found : Bool) (old mid new : Lane Z) (text : List ℕ) → IsFreshLane old.port old → mid.reader ≡ whole_reading text 0 → mid.last ≡ old.last → mid.waiting ≡ old.waiting
-    → mid.ended ≡ old.ended → mid.taken ≡ old.taken → IsReadOn mid new → HasDrawn found mid new
+    → mid.ended ≡ old.ended → IsReadOn mid new → HasDrawn found mid new
     → ((more : List Record) × Adds old new more) × IsOver new
-lends_first found old mid new text fresh lent last waiting ended taken on drawn =
+lends_first found old mid new text fresh lent last waiting ended on drawn =
     let added = drawn_adds found mid new drawn in (
       (added.0, adds_lent old mid new text added.0 fresh lent last waiting added.1),
-      draws_over found mid new (ap (λ r. r.closed) lent) (taken ∙ fresh.taken) (ended ∙ fresh.ended) (ap (λ w. w.items) waiting ∙ fresh.waiting) on drawn,
+      draws_over found mid new (ap (λ r. r.closed) lent) (ended ∙ fresh.ended) (ap (λ w. w.items) waiting ∙ fresh.waiting) on drawn,
     )
 
 -- a lane is over a text
@@ -140,15 +138,21 @@ ports_stay [] k old new at port = absurd cc
 ports_stay {Z = Z} (l ∷ lanes) zero old new at port = ap (λ n. n ∷ map (λ (x : Lane Z). x.port) lanes) (port ∙ ap (λ (x : Lane Z). x.port) (sym (same_Some l old at)))
 ports_stay {Z = Z} (l ∷ lanes) (suc k) old new at port = ap (λ ns. l.port ∷ ns) (ports_stay lanes k old new at port)
 
+pub taken_stays : {Z : Type 0} (lanes : List (Lane Z)) (k : ℕ) (old new : Lane Z) → slice_get lanes k ≡ Some old → new.taken ≡ old.taken → taken_by (set lanes k new) ≡ taken_by lanes
+taken_stays [] k old new at taken = absurd cc
+taken_stays {Z = Z} (l ∷ lanes) zero old new at taken = ap (λ n. n ∷ taken_by lanes) (taken ∙ ap (λ (x : Lane Z). x.taken) (sym (same_Some l old at)))
+taken_stays (l ∷ lanes) (suc k) old new at taken = ap (λ ns. l.taken ∷ ns) (taken_stays lanes k old new at taken)
+
 pub record Lends {Z : Type 0} (start : Machine Z) (texts : List Text) (now : List (Lane Z)) (n : ℕ) : Type 0 where
   pub lent : LentUpTo n texts now
   pub of : AreOfTable start.switch.run.table now
   pub going : IsGoing start.switch.run.table now start.switch start.counts
+  pub taken : taken_by now ≡ taken_by start.lanes.items
 
 pub lends_none : {Z : Type 0} (start : Machine Z) (texts : List Text) → map (λ (text : Text). text.0) texts ≡ map (λ (p : PortRow). p.id) start.switch.run.table.ports
     → AreFreshLanes start.switch.run.table.ports start.lanes.items → AreOfTable start.switch.run.table start.lanes.items
     → IsGoing start.switch.run.table start.lanes.items start.switch start.counts → Lends start texts start.lanes.items 0
-lends_none start texts ports fresh of going = record { lent = lent_none texts start.switch.run.table.ports start.lanes.items ports fresh; of = of; going = going }
+lends_none start texts ports fresh of going = record { lent = lent_none texts start.switch.run.table.ports start.lanes.items ports fresh; of = of; going = going; taken = refl }
 
 pub lends_next : {Z : Type 0} (start : Machine Z) (texts : List Text) (now : List (Lane Z)) (n : ℕ) (l : Lane Z) → Lends start texts now n → slice_get now n ≡ Some l → IsNextOf texts n l
 lends_next start texts now n l lends at = next_lane n texts now l lends.lent at
@@ -165,6 +169,7 @@ lends_one {Z = Z} merge sorted start texts now n old new text more lends at text
       of = still_of_table start.switch.run.table now (set now n new) (ports_stay now n old new at still.port) lends.of;
       going = reads_on merge sorted start.switch.run.table now start.switch start.counts n old new more lends.of at next.fresh.ended still.port (ap (λ o. o.items) still.out) still.taken adds
           lends.going;
+      taken = taken_stays now n old new at still.taken ∙ lends.taken;
     }
 
 -- the text at a place has a fault
@@ -229,12 +234,21 @@ lent_settled (text ∷ texts) (l ∷ a) (m ∷ b) (n ∷ c) lent touched settled
     )
 
 -- where all have ended, they are lent
-pub over_lent : {Z : Type 0} (lanes : List (Lane Z)) → AllByRecursion IsOver lanes → AllByRecursion (λ (l : Lane Z). l.ended ≡ true) lanes → AreLent (texts_over lanes) lanes
-over_lent [] over ended = tt
-over_lent (l ∷ lanes) over ended = (
-  record { port = refl; bytes = refl; closed = over.0.closed; sound = whole_text l over.0 ended.0; taken = over.0.taken },
-  over_lent lanes over.1 ended.1,
+pub over_lent : {Z : Type 0} (lanes : List (Lane Z)) → AllByRecursion IsOver lanes → AllByRecursion (λ (l : Lane Z). l.ended ≡ true) lanes → AllByRecursion (λ (l : Lane Z). l.taken ≡ 0) lanes
+    → AreLent (texts_over lanes) lanes
+over_lent [] over ended none = tt
+over_lent (l ∷ lanes) over ended none = (
+  record { port = refl; bytes = refl; closed = over.0.closed; sound = whole_text l over.0 ended.0; taken = none.0 },
+  over_lent lanes over.1 ended.1 none.1,
 )
+
+-- nothing was taken of lanes that were fresh
+pub none_taken : {Z : Type 0} (ports : List PortRow) (old new : List (Lane Z)) → AreFreshLanes ports old → taken_by new ≡ taken_by old → AllByRecursion (λ (l : Lane Z). l.taken ≡ 0) new
+none_taken ports old [] fresh same = tt
+none_taken [] [] (n ∷ new) fresh same = absurd cc
+none_taken [] (l ∷ old) (n ∷ new) fresh same = absurd fresh
+none_taken (p ∷ ports) [] (n ∷ new) fresh same = absurd fresh
+none_taken (p ∷ ports) (l ∷ old) (n ∷ new) fresh same = (first_same same ∙ fresh.0.taken, none_taken ports old new fresh.1 (rest_same same))
 
 -- and all was read
 pub over_read : {Z : Type 0} (lanes : List (Lane Z)) → AllByRecursion IsOver lanes → AllByRecursion (λ (l : Lane Z). l.ended ≡ true) lanes → AllByRecursion HasReadAll lanes

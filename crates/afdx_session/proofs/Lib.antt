@@ -22,7 +22,7 @@ pub mod WholeRuns
 pub mod Drawing
 pub mod Laning
 pub mod Limits
-pub mod Heads
+pub mod FirstHeads
 pub mod Gone
 pub mod Given
 pub mod Going
@@ -48,3 +48,5 @@ pub mod Readings
 pub mod Pieces
 pub mod Readable
 pub mod Writing
+pub mod Prefix
+pub mod Parts

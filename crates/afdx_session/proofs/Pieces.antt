@@ -21,7 +21,8 @@ use Rattle.afdx_session.specs.Texts.{Text}
 use Rattle.afdx_session.specs.Reading.{AreCaptures}
 use Rattle.afdx_session.specs.Output.{output_text}
 use Rattle.afdx_session.specs.Streams.{Stream, AreWhole, whole_of, text_so_far, GoOn}
-use Rattle.afdx_session.specs.Session.{Intake, Seen, fresh_intake, AreStreams, HasGoneOut, taken_in, intake_at, taken_of, refusal_at, refusal, changed, fed, ended, took, after_take, IsFedOn, AreFedOn}
+use Rattle.afdx_session.specs.Session.{Intake, Seen, fresh_intake, AreStreams, HasGoneOut, taken_in, intake_at, taken_of, refusal_at, refusal, changed, fed, closed_intake, took, after_take}
+use Rattle.afdx_session.specs.Session.{IsFedOn, AreFedOn}
 use Rattle.afdx_session.specs.Finish.{text_in, texts_in, rest_of}
 use Rattle.afdx_session.specs.Inner.Pieces.{GoesOnTo, CallsGoOn, WasTaken, NothingWasTaken, TakenStays, TakesJoin, IsContinued, bytes_in, capture_at, TakenIsAPrefix, TakesAndRestAreTheOutput}
 use Rattle.afdx_session.proofs.Growing.{prefix_of_output}
@@ -91,7 +92,7 @@ calls_go_on = record {
   feed = λ v port piece none. record { table = refl; fed = changed_fed port (fed piece) v.intakes (λ i found. fed_more v port piece i none found); begun = λ is. refl };
   close = λ v port. record {
     table = refl;
-    fed = changed_fed port ended v.intakes (λ i found. record { port = refl; more = []; bytes = sym (append-nil i.bytes); ended = λ closed. (refl, refl) });
+    fed = changed_fed port closed_intake v.intakes (λ i found. record { port = refl; more = []; bytes = sym (append-nil i.bytes); ended = λ closed. (refl, refl) });
     begun = λ is. refl;
   };
   take = λ v port n. record {

@@ -31,27 +31,27 @@ use Rattle.afdx_session.proofs.Numbered.{all_slice_get}
 
 -- ---- records of bytes that came are within the limit
 
-abbrev Within : Arrival → Type 0
-Within a = IsWithinLimit a.frame
+abbrev AreWithinLimit : List Arrival → Type 0
+AreWithinLimit arrivals = AllByRecursion (λ a. IsWithinLimit a.frame) arrivals
 
 records_within : (f : Format) (last : ℕ) (bytes : List ℕ) (rs : List Record) (rest : List ℕ) → Splits f last bytes rs rest → AllByRecursion IsWithinLimit rs
 records_within f last bytes [] rest splits = tt
 records_within f last bytes (r ∷ rs) rest splits = (splits.0.not_huge, records_within f r.stamp (after r bytes) rs rest splits.1)
 
-captures_within : (texts : List Text) (read : List Capture) → AreCaptures texts read → AllByRecursion Within (arrivals_of read)
+captures_within : (texts : List Text) (read : List Capture) → AreCaptures texts read → AreWithinLimit (arrivals_of read)
 captures_within [] [] are = tt
 captures_within [] (c ∷ read) are = absurd are
 captures_within (text ∷ texts) [] are = absurd are
 captures_within (text ∷ texts) (c ∷ read) are =
-    port_every Within c.port c.records (arrivals_of read) (records_within are.1.format 0 (drop 24 text.1) c.records [] are.1.records) (captures_within texts read are.2)
+    port_every (λ a. IsWithinLimit a.frame) c.port c.records (arrivals_of read) (records_within are.1.format 0 (drop 24 text.1) c.records [] are.1.records) (captures_within texts read are.2)
 
-bytes_within : (arrivals : List Arrival) (number : ℕ) → AllByRecursion Within arrivals → length (bytes_at arrivals number) ≤ captured_limit
+bytes_within : (arrivals : List Arrival) (number : ℕ) → AreWithinLimit arrivals → length (bytes_at arrivals number) ≤ captured_limit
 bytes_within arrivals number all = by_slot (slice_get arrivals number) refl where
   by_slot : (o : Option Arrival) → slice_get arrivals number ≡ o → length (bytes_in o) ≤ captured_limit
   by_slot None is = omega arith
-  by_slot (Some a) is = all_slice_get Within arrivals number a all is
+  by_slot (Some a) is = all_slice_get (λ a. IsWithinLimit a.frame) arrivals number a all is
 
-written_within : (arrivals : List Arrival) (sent : List Sent) → AllByRecursion Within arrivals → AllByRecursion IsWithinLimit (map (written arrivals) sent)
+written_within : (arrivals : List Arrival) (sent : List Sent) → AreWithinLimit arrivals → AllByRecursion IsWithinLimit (map (written arrivals) sent)
 written_within arrivals [] all = tt
 written_within arrivals (x ∷ sent) all = (bytes_within arrivals x.item.number all, written_within arrivals sent all)
 
@@ -88,5 +88,5 @@ module _ (order : EndsDoNotFall) (soon : EndsWithinASecond) (have_link : CleanFr
   outputs_are_readable t texts read formed are early p among = (
     output_readable t (merged read) p formed among early,
     All-from_recursion IsWithinLimit (output_of t (merged read) p)
-        (written_within (merged read) (sent_by t (merged read) p) (by_stamp_every Within (arrivals_of read) (captures_within texts read are))),
+        (written_within (merged read) (sent_by t (merged read) p) (by_stamp_every (λ a. IsWithinLimit a.frame) (arrivals_of read) (captures_within texts read are))),
   )

@@ -18,8 +18,8 @@ use Rattle.afdx_count.specs.Tally.{Tally, noted}
 use Rattle.afdx_count.specs.Inner.Laws.{NoteCountsOneMore}
 use Rattle.afdx_session.specs.declared.lane.Lane.{Lane}
 use Rattle.afdx_session.specs.declared.machine.Machine.{Machine}
-use Rattle.afdx_session.specs.Inner.Settled.{first_place}
-use Rattle.afdx_session.specs.Inner.Lanes.{waiting_of, limit_at, with_waiting, IsWithinPlace, IsFirstIn, IsLimit, Goes, GoesAt, NoneGoes}
+use Rattle.afdx_session.specs.Inner.Settled.{first_place, IsWithin}
+use Rattle.afdx_session.specs.Inner.Lanes.{waiting_of, limit_at, heads_of, with_waiting, IsFirstIn, IsLimit, Goes, GoesAt, NoneGoes}
 use Rattle.afdx_session.specs.Inner.Kept.{AreOfTable, IsGoing, AreTouched, IsOfSameTable}
 use Rattle.afdx_session.specs.Inner.View.{HasGone, IsRound}
 use Rattle.afdx_session.proofs.Gone.{at_index}
@@ -62,8 +62,8 @@ goes_as_limit {Z = Z} limit lanes new port frame is goes = record {
   port_is = goes.port_is;
   head = goes.head;
   first = goes.first;
-  within = subst (λ n. IsWithinPlace (limit_at lanes) frame.stamp n) (sym goes.port_is)
-      ((is goes.place frame.stamp goes.lane goes.first goes.at).0 (subst (λ n. IsWithinPlace limit frame.stamp n) goes.port_is goes.within));
+  within = subst (λ n. IsWithin (limit_at lanes) frame.stamp n) (sym goes.port_is)
+      ((is goes.place frame.stamp goes.lane goes.first goes.at).0 (subst (λ n. IsWithin limit frame.stamp n) goes.port_is goes.within));
   lanes = goes.lanes;
 }
 
@@ -71,12 +71,12 @@ none_as_limit : {Z : Type 0} (limit : Option (ℕ × ℕ)) (lanes : List (Lane Z
 none_as_limit {Z = Z} limit lanes first is none = record {
   is = none.is;
   past = λ place stamp lane found at within.
-      none.past place stamp lane found at ((is place stamp lane (subst (IsFirstIn lanes (length lanes)) found none.is) at).1 within);
+      none.past place stamp lane found at ((is place stamp lane (subst (IsFirstIn (heads_of lanes) (length lanes)) found none.is) at).1 within);
 }
 
 -- the limit is one
 pub own_limit : {Z : Type 0} (limit : Option (ℕ × ℕ)) (lanes : List (Lane Z)) → limit ≡ limit_at lanes → IsLimit limit lanes
-own_limit limit lanes is place stamp lane first at = (subst (λ o. IsWithinPlace o stamp lane.port) is, subst (λ o. IsWithinPlace o stamp lane.port) (sym is))
+own_limit limit lanes is place stamp lane first at = (subst (λ o. IsWithin o stamp lane.port) is, subst (λ o. IsWithin o stamp lane.port) (sym is))
 
 -- a record that goes changes it in nothing
 pub limit_stays : {Z : Type 0} (lanes new : List (Lane Z)) (place : ℕ) → HasGone lanes new place → limit_at new ≡ limit_at lanes

@@ -12,7 +12,7 @@ use Rattle.afdx_table.specs.Content.{Content, port_row}
 use Rattle.afdx_port.specs.Inner.Admission.{EarlierEventsStayAdmitted}
 use Rattle.afdx_port.specs.Inner.Order.{ReachesInOrder}
 use Rattle.afdx_core.specs.State.{after_finish}
-use Rattle.afdx_count.specs.Tally.{ended as after_end}
+use Rattle.afdx_count.specs.Tally.{ended_tally}
 use Rattle.afdx_count.specs.Inner.Laws.{EndCountsTheRun}
 use Rattle.afdx_session.specs.declared.lane.Lane.{Lane}
 use Rattle.afdx_session.specs.declared.machine.Machine.{Machine}
@@ -23,7 +23,8 @@ use Rattle.afdx_session.specs.Outcome.{Results}
 use Rattle.afdx_session.specs.Headline.{AcceptedRunsIsolate}
 use Rattle.afdx_session.specs.Finish.{IsFinished, IsNotFinished}
 use Rattle.afdx_session.specs.Streams.{AllStartBeforeTheLastInstant}
-use Rattle.afdx_session.specs.Session.{Intake, Seen, intake_bytes, taken_in, taken_of, refusal_at, refusal, fed_bytes, changed, fed, ended, took, after_feed, after_close, after_take, after_failure}
+use Rattle.afdx_session.specs.Session.{Intake, Seen, intake_bytes, taken_in, taken_of, refusal_at, refusal, fed_bytes, changed, fed, closed_intake, took, after_feed, after_close, after_take}
+use Rattle.afdx_session.specs.Session.{after_failure}
 use Rattle.afdx_session.specs.Session.{IsRefused, IsSoundSoFar, HasGoneOut}
 use Rattle.afdx_session.specs.Lanes.{IsPieceFault}
 use Rattle.afdx_session.specs.Inner.Lanes.{intake_of}
@@ -31,7 +32,8 @@ use Rattle.afdx_session.specs.Inner.Kept.{AreOfTable, IsOfSameTable, IsRunning}
 use Rattle.afdx_session.specs.Inner.View.{intakes_of, seen_of, gone_out, IsShownAt, IsKeptMachine, IsReady, AreHalfDone, AreEndedLanes, texts_at, IsTaken, IsOpenAt, IsFed, IsEnded, IsNotFed}
 use Rattle.afdx_session.specs.Inner.View.{IsNotEnded}
 use Rattle.afdx_session.proofs.Gone.{at_index}
-use Rattle.afdx_session.proofs.Firsts.{map-set, get-map}
+use Rattle.std.proofs.lemmas.List.{map-set}
+use Rattle.afdx_session.proofs.Firsts.{get-map}
 use Rattle.afdx_session.proofs.Places.{IsPlaceOf, position_at, position_none, place_of_port, no_such_row, is_lane_of}
 use Rattle.afdx_session.proofs.Shown.{kept_ready, kept_failed}
 use Rattle.afdx_session.proofs.Ending.{TakenAreTheCapture}
@@ -86,9 +88,10 @@ pub seen_ended : {Z : Type 0} (old new : Machine Z) (begun : Bool) (port place :
 seen_ended old new begun port place of is_open same is =
     let at = open_is old.switch.run.table old.lanes.items port place of is_open in
     let lane : is.lane ≡ at.lane = same_Some is.lane at.lane (sym is.at ∙ at.at) in
-    seen_parts old.switch.run.table new.switch.run.table old.switch.accepted new.switch.accepted (changed port ended (intakes_of old.lanes.items)) (intakes_of new.lanes.items) true false same.table
+    seen_parts old.switch.run.table new.switch.run.table old.switch.accepted new.switch.accepted (changed port closed_intake (intakes_of old.lanes.items)) (intakes_of new.lanes.items) true false
+    same.table
     same.accepted
-    (is.intakes ∙ ap (λ l. set (intakes_of old.lanes.items) place (ended (intake_of l))) lane ∙ sym (at.changed_is ended))
+    (is.intakes ∙ ap (λ l. set (intakes_of old.lanes.items) place (closed_intake (intake_of l))) lane ∙ sym (at.changed_is closed_intake))
 
 -- the call failed
 pub seen_failed : {Z : Type 0} (old new : Machine Z) (begun : Bool) → IsOfSameTable old.switch new.switch → AreHalfDone old.lanes.items new.lanes.items → seen_of new begun true
@@ -177,7 +180,7 @@ pub kept_ended : {Z : Type 0} → EarlierEventsStayAdmitted → ReachesInOrder �
     → IsEnded old.lanes.items new.lanes.items place → IsReady new true → IsKeptMachine old begun failed → IsKeptMachine new true failed
 kept_ended stay reaches ends old new begun failed place not_failed same is ready kept =
     subst (λ b. IsKeptMachine new true b) (sym not_failed)
-    (kept_ready stay reaches ends old new begun failed same (ports_after old.lanes.items new.lanes.items place is.lane (ended (intake_of is.lane)) is.at refl is.intakes) kept ready)
+    (kept_ready stay reaches ends old new begun failed same (ports_after old.lanes.items new.lanes.items place is.lane (closed_intake (intake_of is.lane)) is.at refl is.intakes) kept ready)
 
 -- the call failed
 pub kept_half : {Z : Type 0} (old new : Machine Z) (begun failed : Bool) → failed ≡ false → IsOfSameTable old.switch new.switch → AreHalfDone old.lanes.items new.lanes.items
@@ -320,7 +323,7 @@ pub answers_finished : {Z : Type 0} → EarlierEventsStayAdmitted → ReachesInO
     → seen_of old begun failed ≡ v → failed ≡ false → IsKeptMachine old begun failed → IsOfSameTable old.switch new.switch → AreHalfDone old.lanes.items new.lanes.items
     → AreEndedLanes old.lanes.items new.lanes.items
     → IsRunning new.switch.run.table new.lanes.items new.switch new.counts → results.captures ≡ map (λ (l : Lane Z). (l.port, l.out.items)) new.lanes.items → results.counts
-    ≡ after_end (after_finish new.switch.run) new.counts → IsFinished v results
+    ≡ ended_tally (after_finish new.switch.run) new.counts → IsFinished v results
 answers_finished stay reaches ends takes law isolate old new begun failed v results view not_failed kept same half closed running captures counts =
     subst (λ w. IsFinished w results) (seen_so_far old begun failed v view not_failed)
     (finished stay reaches ends takes law isolate old new begun results (subst (λ b. IsKeptMachine old begun b) not_failed kept) same half closed running captures counts)

@@ -7,7 +7,7 @@ use Rattle.afdx_table.specs.Content.{Content}
 use Rattle.afdx_port.specs.Inner.Admission.{EarlierEventsStayAdmitted}
 use Rattle.afdx_port.specs.Inner.Order.{ReachesInOrder}
 use Rattle.afdx_core.specs.State.{after_finish}
-use Rattle.afdx_count.specs.Tally.{ended}
+use Rattle.afdx_count.specs.Tally.{ended_tally}
 use Rattle.afdx_count.specs.Inner.Laws.{EndCountsTheRun}
 use Rattle.afdx_session.specs.declared.lane.Lane.{Lane}
 use Rattle.afdx_session.specs.declared.machine.Machine.{Machine}
@@ -91,7 +91,7 @@ is_refusal t texts run.Failed ports is = is
 -- the end of such a machine gives the whole output
 pub lent_outcome : {Z : Type 0} → EarlierEventsStayAdmitted → ReachesInOrder → AllStartBeforeTheLastInstant → TakenAreTheCapture → EndCountsTheRun → AcceptedRunsIsolate
     → (accepted : Bool) (t : Content) (texts : List Text) (new : Machine Z) (results : Results) → HasCarried accepted t texts new
-    → results.captures ≡ map (λ (l : Lane Z). (l.port, l.out.items)) new.lanes.items → results.counts ≡ ended (after_finish new.switch.run) new.counts → IsOutcome t texts results
+    → results.captures ≡ map (λ (l : Lane Z). (l.port, l.out.items)) new.lanes.items → results.counts ≡ ended_tally (after_finish new.switch.run) new.counts → IsOutcome t texts results
     × (accepted ≡ true → IsIsolated t texts results)
 lent_outcome {Z} stay reaches ends takes law isolate accepted t texts new results carried captures counts =
     (seen_as (λ c ts r. IsOutcome c ts r) end.outcome, λ cleared. seen_as (λ c ts r. IsIsolated c ts r) (end.isolated (carried.accepted ∙ cleared))) where

@@ -1,8 +1,12 @@
--- Outputs that are written one at a time, when a run is over.
-use Rattle.std.proofs.Common.{◌≡◌, ◌≢◌, ℕ, zero, suc, ◌+◌, ◌≤◌, ◌==◌, Bool, true, List, [], ◌∷◌, ◌++◌, map, length, drop, slice_get, slice_index, Option, Some, None, refl, ap, sym, ◌∙◌, arith, subst}
+-- What is left of the outputs when a run is over.
+use Rattle.std.proofs.Common.{◌≡◌, ◌≢◌, ◌⊎◌, ℕ, zero, suc, ◌+◌, ◌<◌, ◌≤◌, ◌==◌, Bool, true, List, [], ◌∷◌, ◌++◌, map, length, take, drop, set, slice_get, slice_index, Option, Some, None}
+use Rattle.std.proofs.Common.{refl, ap, sym, ◌∙◌, arith, subst, inl, inr, append_assoc, length-set, Vec}
 use Rattle.std.specs.List.{AllByRecursion, flat_map, position}
-use Rattle.std.proofs.lemmas.List.{append-nil, length-map, map-append}
-use Rattle.std.proofs.lemmas.Option.{same_Some}
+use Rattle.std.specs.Io.KnownBytes.{Appends}
+use Rattle.std.proofs.KnownBytes.{Appends-trans}
+use Rattle.std.proofs.lemmas.Bool.{cases_lt}
+use Rattle.std.proofs.lemmas.List.{append-nil, length-map, map-append, take-append-drop, take-append-le}
+use Rattle.std.proofs.lemmas.Option.{same_Some, slice_get_within}
 use Rattle.afdx_pcap.specs.Record.{Record}
 use Rattle.afdx_pcap.specs.Text.{record_text, capture_text}
 use Rattle.afdx_table.specs.declared.rows.PortRow.{PortRow}
@@ -17,28 +21,32 @@ use Rattle.afdx_core.specs.State.{Run, State, sent_in, port_after, place_of, nex
 use Rattle.afdx_core.specs.Held.{Keeps}
 use Rattle.afdx_core.specs.Isolation.{IsRun}
 use Rattle.afdx_core.specs.Merge.{Arrival, arrivals_of, by_stamp, merged}
-use Rattle.afdx_count.specs.Tally.{ended}
+use Rattle.afdx_count.specs.Tally.{ended_tally}
 use Rattle.afdx_count.specs.Run.{counts_so_far, counts_of}
 use Rattle.afdx_count.specs.Inner.Laws.{EndCountsTheRun}
 use Rattle.afdx_session.specs.declared.lane.Lane.{Lane}
 use Rattle.afdx_session.specs.declared.machine.Machine.{Machine}
-use Rattle.afdx_session.specs.Texts.{Text, AreOfPorts}
+use Rattle.afdx_session.specs.Texts.{Text, texts_of, AreOfPorts}
 use Rattle.afdx_session.specs.Reading.{AreCaptures}
 use Rattle.afdx_session.specs.Outcome.{IsDoneOf}
-use Rattle.afdx_session.specs.Output.{rows_of, written, output_text, sent_by}
+use Rattle.afdx_session.specs.Output.{rows_of, written, output_text, outputs, sent_by}
 use Rattle.afdx_session.specs.Replay.{HasBytesOf, left_at, IsDrained}
 use Rattle.afdx_session.specs.Streams.{Stream, captures_of, sent_up_to}
 use Rattle.afdx_session.specs.Inner.Settled.{Draws}
 use Rattle.afdx_session.specs.Inner.Lanes.{waiting_of}
-use Rattle.afdx_session.specs.Inner.Lent.{IsOver, texts_over, HaveGone, HasPassed}
-use Rattle.afdx_session.specs.Inner.Kept.{AreLanesOf, text_up_to, IsOut, IsGoing}
-use Rattle.afdx_session.specs.Carried.{Rest, IsLeft, IsCarried}
+use Rattle.afdx_session.specs.Inner.Lent.{IsOver, texts_over, taken_by, HaveGone, HasPassed}
+use Rattle.afdx_session.specs.Inner.Kept.{AreLanesOf, AreOfTable, text_up_to, IsOut, IsGoing}
+use Rattle.afdx_session.specs.Inner.Files.{HavePrefixes, HasWritten}
+use Rattle.afdx_session.specs.Inner.Rest.{Rest, IsLeft, HaveRests, HasRest}
+use Rattle.afdx_session.specs.Written.{AreAppended}
 use Rattle.afdx_session.proofs.Draining.{none_left}
 use Rattle.afdx_session.proofs.Drawing.{sent-prefix, capture-append, same_handed}
+use Rattle.afdx_session.proofs.Firsts.{get-map}
+use Rattle.afdx_session.proofs.Parts.{at_set}
 use Rattle.afdx_session.proofs.Ending.{TakenAreTheCapture, lane_capture}
 use Rattle.afdx_session.proofs.Growing.{sent_later}
 use Rattle.afdx_session.proofs.Handing.{its_place}
-use Rattle.afdx_session.proofs.Numbered.{all_slice_get, first_same, rest_same}
+use Rattle.afdx_session.proofs.Numbered.{first_same, rest_same}
 use Rattle.afdx_session.proofs.Replaying.{bytes_stay}
 
 -- ---- lists
@@ -79,13 +87,13 @@ left_stays port k old new drained other =
     ∙ ap (λ b. sent_with old.run.table old.run.rows old.run.latest b (slice_get old.run.table.ports k)) drained.finished
     ∙ sym (sent_is old.run (slice_get old.run.table.ports k)))
 
--- its output is then written, and those behind it are left
-pub writes : (t : Content) (arrivals : List Arrival) (n : ℕ) (p : PortRow) (old new : Rest) (text : Text) (before out : List ℕ) → IsLeft t arrivals n old → slice_get t.ports n ≡ Some p
-    → slice_get old.texts n ≡ Some text → new.texts ≡ old.texts → new.counts ≡ old.counts → before ≡ text.1
+-- the rest of its output is then written, and those behind it are left
+pub writes : (t : Content) (arrivals : List Arrival) (n k : ℕ) (p : PortRow) (old new : Rest) (text : Text) (before out : List ℕ) → IsLeft t arrivals n old → slice_get t.ports n ≡ Some p
+    → slice_get old.taken n ≡ Some k → slice_get old.texts n ≡ Some text → new.texts ≡ old.texts → new.taken ≡ old.taken → new.counts ≡ old.counts → before ≡ text.1
     → ((given : List Arrival) (place : ℕ) → place_of old.state.run text.0 ≡ Some place → length given ≡ length old.state.run.rows → HasBytesOf given old.state
     → Draws given text.0 place old.state new.state before out)
-    → next_by new.state.run (place_of new.state.run text.0) ≡ None → IsLeft t arrivals (n + 1) new × (out ≡ output_text t arrivals p)
-writes t arrivals n p old new text before out left is_port is_text texts counts before_is draws none = (
+    → next_by new.state.run (place_of new.state.run text.0) ≡ None → IsLeft t arrivals (n + 1) new × (take k (output_text t arrivals p) ++ out ≡ output_text t arrivals p)
+writes t arrivals n k p old new text before out left is_port is_taken is_text texts taken counts before_is draws none = (
   record {
     formed = left.formed;
     table = drawn.drained.table ∙ left.table;
@@ -93,16 +101,15 @@ writes t arrivals n p old new text before out left is_port is_text texts counts 
     handed = same_handed text.0 old.state new.state left.handed drawn.drained;
     frames = drawn.drained.frames arrivals left.long left.frames;
     ports = ap (map (λ (x : Text). x.0)) texts ∙ left.ports;
+    many = ap length taken ∙ left.many;
     counts = counts ∙ left.counts;
-    rest = λ place q other le is_q is_other.
-        ap (λ more. other.1 ++ flat_map record_text (map (written arrivals) more)) (left_stays text.0 place old.state new.state drawn.drained (behind place le))
-        ∙ left.rest place q other (omega (arith, le)) is_q (ap (λ ts. slice_get ts place) (sym texts) ∙ is_other);
+    rest = λ place j q other le is_q is_j is_other.
+        ap (λ more. take j (output_text t arrivals q) ++ other.1 ++ flat_map record_text (map (written arrivals) more)) (left_stays text.0 place old.state new.state drawn.drained (behind place le))
+        ∙ left.rest place j q other (omega (arith, le)) is_q (ap (λ ns. slice_get ns place) (sym taken) ∙ is_j) (ap (λ ts. slice_get ts place) (sym texts) ∙ is_other);
   },
-  sym (append-nil out)
-      ∙ ap (λ more. out ++ flat_map record_text (map (written arrivals) more)) (sym none_now)
-      ∙ sym drawn.rest
-      ∙ ap (λ prefix. prefix ++ flat_map record_text (map (written arrivals) (left_at old.state.run (Some n)))) before_is
-      ∙ left.rest n p text (omega arith) is_port is_text,
+  ap (λ xs. take k (output_text t arrivals p) ++ xs) out_is
+      ∙ sym (append_assoc (take k (output_text t arrivals p)) text.1 (flat_map record_text (map (written arrivals) (left_at old.state.run (Some n)))))
+      ∙ left.rest n k p text (omega arith) is_port is_taken is_text,
 ) where
   id : p.id ≡ text.0
   id = sym (number_at (λ (x : Text). x.0) (λ (q : PortRow). q.id) old.texts t.ports n text p left.ports is_text is_port)
@@ -121,6 +128,13 @@ writes t arrivals n p old new text before out left is_port is_text texts counts 
 
   none_now : left_at new.state.run (Some n) ≡ []
   none_now = ap (left_at new.state.run) (sym place_now) ∙ none_left new.state.run (place_of new.state.run text.0) none
+
+  out_is : out ≡ text.1 ++ flat_map record_text (map (written arrivals) (left_at old.state.run (Some n)))
+  out_is =
+      sym (append-nil out)
+      ∙ ap (λ more. out ++ flat_map record_text (map (written arrivals) more)) (sym none_now)
+      ∙ sym drawn.rest
+      ∙ ap (λ prefix. prefix ++ flat_map record_text (map (written arrivals) (left_at old.state.run (Some n)))) before_is
 
   behind : (place : ℕ) → n + 1 ≤ place → place_of old.state.run text.0 ≢ Some place
   behind place le is = let same = same_Some n place (sym place_is ∙ is) in absurd (omega (arith, same, le))
@@ -163,24 +177,37 @@ all_sent : (t : Content) (given : List Arrival) (p : PortRow) → sent_up_to t g
 unfolding sent_up_to sent_by
 all_sent t given p = refl
 
--- what a lane has of the output, and what the finished switch did not hand out, are the whole
+-- what went before, what a lane has of the output, and what the finished switch did not hand out, are the whole
 rest_of_port : {Z : Type 0} → EventsAreInParts → ReachesInOrder → (given : List Arrival) (since : ℕ) (s : State) (p : PortRow) (place : ℕ) (l : Lane Z) → s.run.rows ≡ rows_of s.run.table given
-    → slice_get s.run.table.ports place ≡ Some p → l.taken ≡ 0
-    → IsOut s.run.table given since s p place l → l.out.items ++ flat_map record_text (map (written given) (left_at (after_finish s.run) (Some place))) ≡ output_text s.run.table given p
-rest_of_port {Z} parts reaches given since s p place l rows is_port taken out =
-    ap (λ more. l.out.items ++ flat_map record_text (map (written given) more)) left_is
-    ∙ ap (λ text. text ++ flat_map record_text (map (written given) rest.0)) (out.left ∙ ap (λ n. drop n (text_up_to t given since p)) taken)
-    ∙ sym (capture-append (map (written given) first) (map (written given) rest.0))
-    ∙ ap capture_text (sym (map-append (written given) first rest.0))
-    ∙ ap (λ sent. capture_text (map (written given) sent)) (sym rest.1 ∙ all_sent t given p) where
+    → slice_get s.run.table.ports place ≡ Some p → IsOut s.run.table given since s p place l
+    → take l.taken (output_text s.run.table given p) ++ l.out.items ++ flat_map record_text (map (written given) (left_at (after_finish s.run) (Some place))) ≡ output_text s.run.table given p
+rest_of_port {Z} parts reaches given since s p place l rows is_port out =
+    ap (λ more. take l.taken (output_text t given p) ++ l.out.items ++ flat_map record_text (map (written given) more)) left_is
+    ∙ ap (λ xs. take l.taken xs ++ l.out.items ++ behind) whole
+    ∙ ap (λ xs. xs ++ l.out.items ++ behind) (take-append-le l.taken text behind out.taken)
+    ∙ ap (λ xs. take l.taken text ++ xs ++ behind) out.left
+    ∙ ap (λ xs. xs ++ behind) (take-append-drop l.taken text)
+    ∙ sym whole where
       t : Content
       t = s.run.table
+
+      text : List ℕ
+      text = text_up_to t given since p
 
       first : List Sent
       first = sent_up_to t given (Some since) p
 
       rest : (more : List Sent) × (sent_up_to t given None p ≡ first ++ more)
       rest = sent_later parts reaches t given since None p tt
+
+      behind : List ℕ
+      behind = flat_map record_text (map (written given) rest.0)
+
+      whole : output_text t given p ≡ text ++ behind
+      whole =
+          ap (λ sent. capture_text (map (written given) sent)) (sym (all_sent t given p) ∙ rest.1)
+          ∙ ap capture_text (map-append (written given) first rest.0)
+          ∙ capture-append (map (written given) first) (map (written given) rest.0)
 
       left_is : left_at (after_finish s.run) (Some place) ≡ rest.0
       left_is =
@@ -220,15 +247,19 @@ passed_done takes cleared t texts m s passed run accepted is_run =
       accepted = accepted ∙ passed.accepted;
     }
 
--- what is left of it
-pub carried : {Z : Type 0} → EventsAreInParts → ReachesInOrder → TakenAreTheCapture → EndCountsTheRun → (t : Content) (texts : List Text) (m : Machine Z) (r : Rest) → AreOfPorts t texts
-    → m.switch.run.table ≡ t → HaveGone texts m → r.state.run ≡ after_finish m.switch.run → Keeps m.switch r.state → r.counts ≡ ended (after_finish m.switch.run) m.counts
-    → r.texts ≡ map (λ (l : Lane Z). (l.port, l.out.items)) m.lanes.items → IsCarried t texts r
-carried {Z} parts reaches takes law t texts m r ports table gone run keeps counts outs = record {
+-- what is left of it, beside what went to the files
+pub rest_is_left : {F Z : Type 0} → EventsAreInParts → ReachesInOrder → TakenAreTheCapture → EndCountsTheRun
+    → (contents : F → Option (List ℕ)) (t : Content) (texts : List Text) (m : Machine Z) (r : Rest)
+    (files now : List F) → AreOfPorts t texts → m.switch.run.table ≡ t → HasWritten contents texts m files now
+    → r.state.run ≡ after_finish m.switch.run → Keeps m.switch r.state → r.counts ≡ ended_tally (after_finish m.switch.run) m.counts
+    → r.texts ≡ map (λ (l : Lane Z). (l.port, l.out.items)) m.lanes.items → r.taken ≡ taken_by m.lanes.items → HasRest contents t texts r files now
+rest_is_left {F} {Z} parts reaches takes law contents t texts m r files now ports table has run keeps counts outs taken = record {
   ports = ports;
   read = captures_of going.streams;
-  are_read = all_read takes texts m gone;
+  are_read = all_read takes texts m has.gone;
   left = subst (λ (c : Content). IsLeft c (merged (captures_of going.streams)) 0 r) table (subst (λ xs. IsLeft u xs 0 r) (sym given_is) left);
+  prefixes = subst (λ (c : Content). HavePrefixes contents c (merged (captures_of going.streams)) r.taken files now) table
+      (subst (λ ns. HavePrefixes contents u (merged (captures_of going.streams)) ns files now) (sym taken) (has.more (captures_of going.streams) (all_read takes texts m has.gone)));
 } where
   u : Content
   u = m.switch.run.table
@@ -237,13 +268,13 @@ carried {Z} parts reaches takes law t texts m r ports table gone run keeps count
   lanes = m.lanes.items
 
   going : IsGoing u lanes m.switch m.counts
-  going = gone.carrying.going
+  going = has.gone.carrying.going
 
   given : List Arrival
   given = going.given
 
   given_is : merged (captures_of going.streams) ≡ given
-  given_is = all_given texts m gone
+  given_is = all_given texts m has.gone
 
   rows : m.switch.run.rows ≡ rows_of u given
   rows = going.is_given.rows
@@ -251,19 +282,99 @@ carried {Z} parts reaches takes law t texts m r ports table gone run keeps count
   long : length m.switch.run.rows ≡ length given
   long = ap length rows ∙ length-map given _
 
+  of : AreOfTable u lanes
+  of = has.gone.carrying.of
+
   left : IsLeft u given 0 r
   left = record {
-    formed = gone.carrying.of.formed;
+    formed = of.formed;
     table = ap (λ (x : Run). x.table) run;
     long = sym (ap (λ (x : Run). length x.rows) run ∙ long);
-    handed = ap (λ (x : Run). length x.handed) run ∙ gone.carrying.handed ∙ ap (λ (x : Run). length x.table.ports) (sym run);
+    handed = ap (λ (x : Run). length x.handed) run ∙ has.gone.carrying.handed ∙ ap (λ (x : Run). length x.table.ports) (sym run);
     frames = bytes_stay given m.switch r.state (omega (arith, long)) keeps going.is_given.frames;
-    ports = ap (map (λ (x : Text). x.0)) outs ∙ out_ports lanes ∙ gone.carrying.of.ports;
-    counts = counts ∙ ap (ended (after_finish m.switch.run)) (going.counts_are ∙ ap (counts_so_far u) (sym rows)) ∙ law m.switch.run gone.carrying.of.formed ∙ ap (counts_of u) rows;
-    rest = λ place p text le is_port is_text.
+    ports = ap (map (λ (x : Text). x.0)) outs ∙ out_ports lanes ∙ of.ports;
+    many = ap length taken ∙ length-map lanes (λ l. l.taken) ∙ sym (length-map lanes (λ l. l.port)) ∙ ap length of.ports ∙ length-map u.ports (λ p. p.id);
+    counts = counts ∙ ap (ended_tally (after_finish m.switch.run)) (going.counts_are ∙ ap (counts_so_far u) (sym rows)) ∙ law m.switch.run of.formed ∙ ap (counts_of u) rows;
+    rest = λ place k p text le is_port is_k is_text.
         let from = mapped_from (λ (l : Lane Z). (l.port, l.out.items)) lanes place text (ap (λ ts. slice_get ts place) (sym outs) ∙ is_text) in
-        let over = all_slice_get IsOver lanes place from.0 gone.carrying.over from.1 in
-        ap (λ (x : Text). x.1 ++ flat_map record_text (map (written given) (left_at r.state.run (Some place)))) (sym from.2)
-        ∙ ap (λ (x : Run). from.0.out.items ++ flat_map record_text (map (written given) (left_at x (Some place)))) run
-        ∙ rest_of_port parts reaches given going.since m.switch p place from.0 rows is_port over.taken (going.outs place p from.0 tt is_port from.1);
+        let taken_is = same_Some from.0.taken k (sym (get-map (λ (l : Lane Z). l.taken) lanes place from.0 from.1) ∙ ap (λ ns. slice_get ns place) (sym taken) ∙ is_k) in
+        ap (λ j. take j (output_text u given p) ++ text.1 ++ flat_map record_text (map (written given) (left_at r.state.run (Some place)))) (sym taken_is)
+        ∙ ap (λ (x : Text). take from.0.taken (output_text u given p) ++ x.1 ++ flat_map record_text (map (written given) (left_at r.state.run (Some place)))) (sym from.2)
+        ∙ ap (λ (x : Run). take from.0.taken (output_text u given p) ++ from.0.out.items ++ flat_map record_text (map (written given) (left_at x (Some place)))) run
+        ∙ rest_of_port parts reaches given going.since m.switch p place from.0 rows is_port (going.outs place p from.0 tt is_port from.1);
   }
+
+-- ---- the files have the whole
+
+-- there are as many captures as ports
+pub as_many_texts : {Y : Type 0} (t : Content) (captures : List (ℕ × Vec ℕ Y)) → AreOfPorts t (texts_of captures) → length captures ≡ length t.ports
+as_many_texts t captures ports =
+    let a = length-map {B = Text} captures (λ pair. (pair.0, pair.1.items)) in
+    let b = length-map (texts_of captures) (λ (text : Text). text.0) in
+    let same = ap length ports in
+    let d = length-map t.ports (λ (p : PortRow). p.id) in
+    omega (arith, a, b, same, d)
+
+pub rests_none : {F : Type 0} (contents : F → Option (List ℕ)) (t : Content) (arrivals : List Arrival) (taken : List ℕ) (files : List F) → HaveRests contents t arrivals taken 0 files files
+rests_none contents t arrivals taken files = record {
+  long = refl;
+  rests = λ place k p f g lt is_port is_k is_f is_g. absurd (omega (arith, lt));
+  others = λ place le. refl;
+}
+
+pub get_at : {X : Type 0} (xs : List X) (n : ℕ) → n < length xs → (x : X) × (slice_get xs n ≡ Some x)
+get_at [] n lt = absurd (omega (arith, lt))
+get_at (x ∷ xs) zero lt = (x, refl)
+get_at (x ∷ xs) (suc n) lt = get_at xs n (omega (arith, lt))
+
+-- one more has its rest
+pub rests_on : {F : Type 0} (contents : F → Option (List ℕ)) (t : Content) (arrivals : List Arrival) (taken : List ℕ) (n : ℕ) (files now : List F) (old new : F) (bytes : List ℕ)
+    → slice_get now n ≡ Some old → Appends (contents old) (contents new) bytes
+    → ((p : PortRow) (k : ℕ) → slice_get t.ports n ≡ Some p → slice_get taken n ≡ Some k → take k (output_text t arrivals p) ++ bytes ≡ output_text t arrivals p)
+    → HaveRests contents t arrivals taken n files now → HaveRests contents t arrivals taken (n + 1) files (set now n new)
+rests_on {F} contents t arrivals taken n files now old new bytes at appends whole was = record {
+  long = length-set now n new ∙ was.long;
+  rests = λ place k p f g lt is_port is_k is_f is_g. by place k p f g lt is_port is_k is_f (at_set now n place new g is_g);
+  others = λ place le. set_behind now n place new (omega (arith, le)) ∙ was.others place (omega (arith, le));
+} where
+  below : (place : ℕ) → place < n + 1 → place ≢ n → place < n
+  below place lt ne = elim (cases_lt place n) [
+    | inl less ↦ less
+    | inr ge ↦ absurd (ne (omega (arith, lt, ge)))
+  ]
+
+  set_behind : (xs : List F) (k place : ℕ) (x : F) → k < place → slice_get (set xs k x) place ≡ slice_get xs place
+  set_behind [] k place x lt = refl
+  set_behind (y ∷ xs) zero zero x lt = absurd (omega (arith, lt))
+  set_behind (y ∷ xs) zero (suc place) x lt = refl
+  set_behind (y ∷ xs) (suc k) zero x lt = absurd (omega (arith, lt))
+  set_behind (y ∷ xs) (suc k) (suc place) x lt = set_behind xs k place x (omega (arith, lt))
+
+  by : (place k : ℕ) (p : PortRow) (f g : F) → place < n + 1 → slice_get t.ports place ≡ Some p → slice_get taken place ≡ Some k → slice_get files place ≡ Some f
+      → ((place ≡ n) × (g ≡ new)) ⊎ ((place ≢ n) × (slice_get now place ≡ Some g))
+      → (more : List ℕ) × Appends (contents f) (contents g) more × (take k (output_text t arrivals p) ++ more ≡ output_text t arrivals p)
+  by place k p f g lt is_port is_k is_f (inr other) = let ne = other.0 in was.rests place k p f g (below place lt ne) is_port is_k is_f other.1
+  by place k p f g lt is_port is_k is_f (inl here) =
+      let same : f ≡ old = same_Some f old (sym is_f ∙ ap (slice_get files) here.0 ∙ sym (was.others n (omega arith)) ∙ at) in (
+        bytes,
+        subst (λ (x : F). Appends (contents f) (contents x) bytes) (sym here.1) (subst (λ (x : F). Appends (contents x) (contents new) bytes) (sym same) appends),
+        whole p k (ap (slice_get t.ports) (sym here.0) ∙ is_port) (ap (slice_get taken) (sym here.0) ∙ is_k),
+      )
+
+-- what went before and the rest are the outputs
+pub all_appended : {F : Type 0} (contents : F → Option (List ℕ)) (t : Content) (arrivals : List Arrival) (taken : List ℕ) (files mid now : List F) → length taken ≡ length t.ports
+    → HavePrefixes contents t arrivals taken files mid → HaveRests contents t arrivals taken (length t.ports) mid now → AreAppended contents files now (outputs t arrivals)
+all_appended {F} contents t arrivals taken files mid now many prefixes rests = (
+  rests.long ∙ prefixes.long,
+  λ place f g text is_f is_g is_text.
+      let from = mapped_from (λ (p : PortRow). (p.id, output_text t arrivals p)) t.ports place text is_text in
+      let lt = slice_get_within t.ports place from.0 from.1 in
+      let there = slice_get_within files place f is_f in
+      let long = prefixes.long in
+      let h = get_at mid place (omega (arith, there, long)) in
+      let k = get_at taken place (omega (arith, lt, many)) in
+      let rest = rests.rests place k.0 from.0 h.0 g lt from.1 k.1 h.1 is_g in
+      let first = prefixes.each place k.0 from.0 f h.0 from.1 k.1 is_f h.1 in
+      subst (λ xs. Appends (contents f) (contents g) xs) (rest.2 ∙ ap (λ (x : Text). x.1) from.2)
+      (Appends-trans (contents f) (contents h.0) (contents g) (take k.0 (output_text t arrivals from.0)) rest.0 first rest.1),
+)

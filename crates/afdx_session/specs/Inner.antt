@@ -1,9 +1,10 @@
+pub mod Files
 pub mod Kept
 pub mod Lanes
 pub mod Lent
-pub mod Merging
 pub mod OneMerge
 pub mod Pieces
 pub mod Readable
+pub mod Rest
 pub mod Settled
 pub mod View

@@ -1,4 +1,3 @@
-pub mod Carried
 pub mod Finish
 pub mod Headline
 pub mod Inner
@@ -10,3 +9,4 @@ pub mod Replay
 pub mod Session
 pub mod Streams
 pub mod Texts
+pub mod Written

@@ -91,8 +91,8 @@ changed port f (i ∷ intakes) = if i.port == port then f i ∷ intakes else i �
 abbrev pub fed : List ℕ → Intake → Intake
 fed piece i = record { port = i.port; bytes = i.bytes ++ piece; closed = i.closed; taken = i.taken }
 
-abbrev pub ended : Intake → Intake
-ended i = record { port = i.port; bytes = i.bytes; closed = true; taken = i.taken }
+abbrev pub closed_intake : Intake → Intake
+closed_intake i = record { port = i.port; bytes = i.bytes; closed = true; taken = i.taken }
 
 abbrev pub took : ℕ → Intake → Intake
 took n i = record { port = i.port; bytes = i.bytes; closed = i.closed; taken = n }
@@ -102,7 +102,7 @@ abbrev pub after_feed : Seen → ℕ → List ℕ → Seen
 after_feed v port piece = record { table = v.table; accepted = v.accepted; intakes = changed port (fed piece) v.intakes; begun = true; failed = v.failed }
 
 abbrev pub after_close : Seen → ℕ → Seen
-after_close v port = record { table = v.table; accepted = v.accepted; intakes = changed port ended v.intakes; begun = true; failed = v.failed }
+after_close v port = record { table = v.table; accepted = v.accepted; intakes = changed port closed_intake v.intakes; begun = true; failed = v.failed }
 
 abbrev pub after_take : Seen → ℕ → ℕ → Seen
 after_take v port n = record { table = v.table; accepted = v.accepted; intakes = changed port (took n) v.intakes; begun = v.begun; failed = v.failed }

@@ -5,14 +5,18 @@ ghost use Rattle.std.specs.Prelude.{if◌then◌else◌, ◌+◌, IsTrue, ◌↔
 ghost use Rattle.afdx_pcap.specs.Record as pcap;
 ghost use Rattle.afdx_pcap.specs.Reading.{Answers};
 ghost use Rattle.afdx_session.specs.Lanes.{IsPieceFault};
-ghost use Rattle.afdx_session.specs.Inner.Lanes.{HasReadAll, HasDrawn, IsReadOn, Adds, IsLaneFault, limit_at, best_place, IsFirstOf, IsWithinPlace, head_of, sooner_of, IsStill, GoesAt};
+ghost use Rattle.afdx_session.specs.Inner.Settled.{IsWithin};
+ghost use Rattle.afdx_session.specs.Inner.Lanes.{HasReadAll, HasDrawn, IsReadOn, Adds, IsLaneFault, limit_at, best_place, IsFirstUpTo, head_of, heads_of, IsStill, GoesAt};
 ghost use Rattle.afdx_session.specs.Inner.Lanes.{NoneGoes};
 ghost use Rattle.afdx_session.specs.Inner.Lent.{IsOver};
+ghost use Rattle.afdx_session.specs.Inner.Files.{HandsOver};
+ghost use Rattle.std.specs.Io.KnownBytes.{Appends};
 ghost use Rattle.afdx_session.specs.Reading.{IsFaultAt};
 ghost use Rattle.afdx_session.specs.Inner.View.{IsFreshLane, AreFreshLanes, IsSettledLane, IsTaken, IsOpenAt, intakes_of};
 ghost use Rattle.afdx_session.specs.Session.{refusal_at};
 
 use crate::plan::RunFault;
+use afdx_devices::NewFile;
 use afdx_pcap::laws::taken_records_are_the_first;
 use afdx_pcap::{PcapFault, Reader, Record, write_header};
 use afdx_table::PortRow;
@@ -20,6 +24,10 @@ use afdx_units::Stamp;
 use std::alloc::{AllocError, Allocator};
 use std::collections::VecDeque;
 use std::mem;
+
+/// The least number of bytes of an output that go to its file while a run goes on: so many that the calls of the system are
+/// few, and so few that the parts of 24 ports stay at hand.
+const PART: usize = 16_384;
 
 /// A port's capture as far as it has come, and its output as far as it was not taken.
 ///
@@ -189,6 +197,19 @@ impl<'a, A: Allocator + Copy> Lane<'a, A> {
         self.ready = 0;
         bytes
     }
+
+    /// What there is of the output goes to a file, where it is a part at least. O(bytes).
+    pub(crate) fn hand_over<F: NewFile>(&mut self, file: &mut F) -> Result<(), AllocError>
+        requires bound { self.old.taken + length self.old.out.items < 2 ^ 128 }
+        ensures { OnOk result ((bytes : List ℕ) × HandsOver bytes self.old self.new × Appends (F.contents file.old) (F.contents file.new) bytes) }
+    {
+        if self.out.len() >= PART {
+            file.append(&self.out)?;
+            self.taken += self.out.len() as u128;
+            self.out.clear();
+        }
+        Ok(())
+    }
 }
 
 /// A lane for each port.
@@ -259,8 +280,8 @@ pub(crate) fn limit_of<A: Allocator + Copy>(lanes: &[Lane<'_, A>]) -> Option<(St
     limit
 }
 
-/// The stamp of the first record that waits at a lane.
-fn head_of<A: Allocator>(lane: &Lane<'_, A>) -> Option<Stamp>
+/// The stamp of the first record that waits at a lane. O(1).
+pub(crate) fn head_of<A: Allocator>(lane: &Lane<'_, A>) -> Option<Stamp>
     ensures { result ≡ head_of lane.now.waiting.items }
 {
     match lane.waiting.front() {
@@ -269,42 +290,9 @@ fn head_of<A: Allocator>(lane: &Lane<'_, A>) -> Option<Stamp>
     }
 }
 
-/// The first by stamp of what was found and of the head at a place; the former of equal ones.
-fn sooner_of(
-    former: Option<(usize, Stamp)>,
-    place: usize,
-    head: Option<Stamp>,
-) -> Option<(usize, Stamp)>
-    ensures { result ≡ sooner_of former place head }
-{
-    match (former, head) {
-        (Some((at, stamp)), Some(next)) => {
-            if stamp <= next {
-                Some((at, stamp))
-            } else {
-                Some((place, next))
-            }
-        }
-        (None, Some(next)) => Some((place, next)),
-        (_, None) => former,
-    }
-}
-
-/// The place of the lane whose first record comes first by stamp, of equal ones the first lane, and the stamp;
-/// none where nothing waits. O(ports).
-pub(crate) fn first_of<A: Allocator>(lanes: &[Lane<'_, A>]) -> Option<(usize, Stamp)>
-    ensures { IsFirstOf lanes.now result }
-{
-    let mut first: Option<(usize, Stamp)> = None;
-    for place in 0..lanes.len() {
-        first = sooner_of(first, place, head_of(&lanes[place]));
-    }
-    first
-}
-
 /// Whether an arrival at this stamp and port lies at the limit or before it.
 pub(crate) fn is_within(limit: Option<(Stamp, u8)>, stamp: Stamp, port: u8) -> bool
-    ensures { IsTrue result ↔ IsWithinPlace limit stamp port }
+    ensures { IsTrue result ↔ IsWithin limit stamp port }
 {
     match limit {
         Some((last, at)) => stamp < last || (stamp == last && port <= at),
@@ -312,24 +300,20 @@ pub(crate) fn is_within(limit: Option<(Stamp, u8)>, stamp: Stamp, port: u8) -> b
     }
 }
 
-/// Takes the first of all records that wait, where it lies within the limit, and the place of its lane. O(ports).
+/// Takes the first of all records that wait, which is that of the lane at this place and has this stamp, where it lies
+/// within the limit. O(1).
 pub(crate) fn take_settled<'a, A: Allocator>(
     lanes: &mut [Lane<'a, A>],
+    place: usize,
+    stamp: Stamp,
     limit: Option<(Stamp, u8)>,
-) -> Option<(usize, Record<'a, A>)>
-    ensures some { IfSome result (λ x. GoesAt limit lanes.old lanes.new x.0 x.1) }
-    ensures none { IfNone result ((lanes.new ≡ lanes.old) × ((first : Option (ℕ × ℕ)) × NoneGoes limit lanes.old first)) }
+) -> Option<Record<'a, A>>
+    requires { IsFirstUpTo (heads_of lanes.old) (length lanes.old) place stamp }
+    ensures some { IfSome result (λ frame. GoesAt limit lanes.old lanes.new place frame) }
+    ensures none { IfNone result ((lanes.new ≡ lanes.old) × NoneGoes limit lanes.old (Some (place, stamp))) }
 {
-    let first = first_of(lanes);
-    let (place, stamp) = match first {
-        Some(found) => found,
-        None => return None,
-    };
     if !is_within(limit, stamp, lanes[place].port) {
         return None;
     }
-    match lanes[place].waiting.pop_front() {
-        Some(record) => Some((place, record)),
-        None => None,
-    }
+    lanes[place].waiting.pop_front()
 }

@@ -3,12 +3,13 @@
 //! [`run`] reads the captures, merges their records by stamp and then by port number, puts them through the
 //! switch and writes what each port sends. Contracts see its answer as a function of the bytes that came in:
 //! each capture that goes out is the one text of the frames that the definitions of the crates below let
-//! leave at its port. [`carried`] makes the same run, and lets each output be written when its place comes.
+//! leave at its port. [`run_into`] makes the same run, whose outputs go to files in parts while it goes on.
 //! [`finished`] answers the switch itself, for what is asked of it beside that.
 #![tactic(auto)]
 
 mod check;
 mod drain;
+mod heads;
 mod lane;
 pub mod laws;
 mod machine;
@@ -18,6 +19,5 @@ mod session;
 mod whole;
 
 pub use plan::{Outcome, Plan, RunFault};
-pub use rest::Carried;
 pub use session::Session;
-pub use whole::{carried, finished, run};
+pub use whole::{finished, run, run_into};

@@ -6,29 +6,37 @@ ghost use Rattle.afdx_table.specs.WellFormed.{IsWellFormed};
 ghost use Rattle.afdx_load.specs.Accepted.{IsAccepted};
 ghost use Rattle.afdx_session.specs.Outcome.{table_in, is_cleared};
 ghost use Rattle.afdx_core.specs.Step.{Step};
-ghost use Rattle.afdx_core.specs.Held.{reported, IsTaken, Keeps};
+ghost use Rattle.afdx_core.specs.Held.{not_of_memory, IsTaken, Keeps};
 ghost use Rattle.afdx_core.specs.Rows.{row_of};
 ghost use Rattle.afdx_core.specs.State.{refusal_of, fresh_state, after_finish};
-ghost use Rattle.afdx_count.specs.Tally.{noted, fresh, ended};
+ghost use Rattle.afdx_count.specs.Tally.{noted, fresh, ended_tally};
 ghost use Rattle.afdx_session.specs.Inner.Kept.{AreOfTable, AreTouched, IsOfSameTable, IsGoing, IsRunning, come_to};
-ghost use Rattle.afdx_session.specs.Inner.Lanes.{limit_at, NoneGoes, IsLimit};
-ghost use Rattle.afdx_session.specs.Inner.Lent.{texts_over, IsOneFault, IsCarrying, CarriesOn, HandsOn, HaveGone};
+ghost use Rattle.afdx_session.specs.Inner.Lanes.{limit_at, heads_of, NoneGoes, IsLimit};
+ghost use Rattle.afdx_session.specs.Inner.Lent.{texts_over, taken_by, left_in, IsOneFault, IsCarrying, CarriesOn, HandsOn, HaveGone};
+ghost use Rattle.afdx_session.specs.Inner.Files.{PutsOut, Proceeds, HasWritten};
+ghost use Rattle.std.specs.List.{AllByRecursion};
 ghost use Rattle.afdx_session.specs.Inner.View.{IsRound, IsReady, IsOpenAt, IsFed, IsNotFed, IsEnded, IsNotEnded, AreSettledLanes, AreFreshLanes, AreHalfDone, AreEndedLanes, AreLent, texts_at};
 ghost use Rattle.afdx_session.specs.Texts.{texts_of, AreOfPorts};
 ghost use Rattle.afdx_session.specs.Reading.{IsReadFault};
 
 use crate::check::check_texts;
 use crate::drain::drain_all;
-use crate::lane::{Lane, lanes_of, limit_of, take_settled};
+use crate::heads::Heads;
+use crate::lane::{Lane, head_of, lanes_of, limit_of, take_settled};
 use crate::plan::{Outcome, Plan, RunFault};
-use crate::rest::Carried;
+use crate::rest::Rest;
 use afdx_core::laws::{merged_is_a_merge, merged_is_by_stamp_and_port};
 use afdx_core::{CoreFault, Switch};
 use afdx_count::Counts;
 use afdx_count::laws::note_counts_one_more;
+use afdx_devices::NewFile;
 use afdx_pcap::Record;
-use afdx_pcap::laws::{each_file_has_one_reading, taken_records_are_the_first};
-use afdx_port::laws::{arrivals_change_nothing_earlier, stamps_keep_their_order};
+use afdx_pcap::laws::{
+    each_file_has_one_reading, taken_records_are_the_first, taken_records_begin_the_capture,
+};
+use afdx_port::laws::{
+    arrivals_change_nothing_earlier, events_follow_the_line, stamps_keep_their_order,
+};
 use afdx_units::Stamp;
 use std::alloc::{AllocError, Allocator};
 
@@ -55,7 +63,7 @@ pub(crate) struct Machine<'a, A: Allocator> {
 
 /// The fault that an arrival is refused for where its port is the table's and its stamp does not go back.
 fn out_of_memory(fault: CoreFault) -> AllocError
-    requires { reported fault ≡ None }
+    requires { not_of_memory fault ≡ None }
 {
     match fault {
         CoreFault::Memory => AllocError,
@@ -80,6 +88,26 @@ fn instant_of(limit: Option<(Stamp, u8)>) -> Stamp
     match limit {
         Some((stamp, _)) => stamp,
         None => last_instant(),
+    }
+}
+
+/// Where a capture has this fault, that of the lowest port that has one; else the same fault. O(bytes).
+fn first_fault<A: Allocator + Copy>(
+    alloc: A,
+    captures: &[(u8, Vec<u8, A>)],
+    fault: RunFault,
+) -> RunFault
+    requires { IsOneFault (texts_of captures.now) fault }
+    ensures { IsReadFault (texts_of captures.now) result }
+{
+    each_file_has_one_reading();
+    if let RunFault::Capture(..) = fault {
+        match check_texts(alloc, captures) {
+            Ok(()) => unreachable!(),
+            Err(first) => first,
+        }
+    } else {
+        fault
     }
 }
 
@@ -133,8 +161,11 @@ impl<'a, A: Allocator + Copy> Machine<'a, A> {
         arrivals_change_nothing_earlier();
         stamps_keep_their_order();
         note_counts_one_more();
-        match take_settled(&mut self.lanes, limit) {
-            Some((place, frame)) => {
+        let Some((place, stamp)) = Heads::of(&self.lanes).first() else {
+            return Ok(None);
+        };
+        match take_settled(&mut self.lanes, place, stamp, limit) {
+            Some(frame) => {
                 let port = self.lanes[place].port;
                 self.give(port, frame)?;
                 Ok(Some(place))
@@ -233,6 +264,7 @@ impl<'a, A: Allocator + Copy> Machine<'a, A> {
         requires going { IsGoing self.old.switch.run.table self.old.lanes.items self.old.switch self.old.counts }
         ensures switch { self.new.switch ≡ self.old.switch }
         ensures ok { OnOk result (IsCarrying self.new × (texts_over self.new.lanes.items ≡ texts_of captures.now)) }
+        ensures taken { OnOk result (taken_by self.new.lanes.items ≡ taken_by self.old.lanes.items) }
         ensures err { IfErr result (λ fault. IsOneFault (texts_of captures.now) fault) }
     {
         merged_is_a_merge();
@@ -246,18 +278,31 @@ impl<'a, A: Allocator + Copy> Machine<'a, A> {
     /// The first of all records that wait goes to the switch, and the next one of its capture is read. Whether there
     /// was one. O(ports).
     ///
-    /// One of each capture that has not ended waits, so the first of them comes before whatever is still to be read.
-    fn carry_one(&mut self) -> Result<bool, RunFault>
-        requires { IsCarrying self.old }
+    /// One of each capture that has not ended waits, so the first of them comes before whatever is still to be read. The
+    /// next one is read before it goes, so that the processor gets its bytes while the switch works.
+    fn carry_one(&mut self, heads: &mut Heads) -> Result<bool, RunFault>
+        requires carrying { IsCarrying self.old }
+        requires heads { heads.old ≡ heads_of self.old.lanes.items }
+        ensures heads { OnOk result (heads.new ≡ heads_of self.new.lanes.items) }
         ensures same { IsOfSameTable self.old.switch self.new.switch }
         ensures ok { IfOk result (λ more. CarriesOn more self.old self.new) }
         ensures err { IfErr result (λ fault. IsOneFault (texts_over self.old.lanes.items) fault) }
     {
+        arrivals_change_nothing_earlier();
+        stamps_keep_their_order();
+        note_counts_one_more();
         merged_is_a_merge();
         merged_is_by_stamp_and_port();
-        match self.give_next(None)? {
-            Some(place) => {
-                self.lanes[place].draw()?;
+        let Some((place, stamp)) = heads.first() else {
+            return Ok(false);
+        };
+        match take_settled(&mut self.lanes, place, stamp, None) {
+            Some(frame) => {
+                let lane = &mut self.lanes[place];
+                let port = lane.port;
+                lane.draw()?;
+                heads.set(place, head_of(lane));
+                self.give(port, frame)?;
                 Ok(true)
             }
             None => Ok(false),
@@ -276,6 +321,22 @@ impl<'a, A: Allocator + Copy> Machine<'a, A> {
         }
     }
 
+    /// Some records go to the switch, by stamp and then by port. Whether more may be left. O(ports) for each of them.
+    fn carry_some(&mut self) -> Result<bool, RunFault>
+        requires { IsCarrying self.old }
+        ensures same { IsOfSameTable self.old.switch self.new.switch }
+        ensures ok { IfOk result (λ more. CarriesOn more self.old self.new) }
+        ensures err { IfErr result (λ fault. IsOneFault (texts_over self.old.lanes.items) fault) }
+    {
+        let mut heads = Heads::of(&self.lanes);
+        for _ in 0..RECORDS_BETWEEN_DRAINS {
+            if !self.carry_one(&mut heads)? {
+                return Ok(false);
+            }
+        }
+        Ok(true)
+    }
+
     /// All records go to the switch, by stamp and then by port.
     fn carry_all(&mut self, frames: Leaving) -> Result<(), RunFault>
         requires { IsCarrying self.old }
@@ -283,13 +344,53 @@ impl<'a, A: Allocator + Copy> Machine<'a, A> {
         ensures ok { OnOk result (CarriesOn false self.old self.new) }
         ensures err { IfErr result (λ fault. IsOneFault (texts_over self.old.lanes.items) fault) }
     {
-        let mut given = 0;
-        while self.carry_one()? {
-            given += 1;
-            if given == RECORDS_BETWEEN_DRAINS {
-                self.let_out(frames)?;
-                given = 0;
-            }
+        while self.carry_some()? {
+            self.let_out(frames)?;
+        }
+        Ok(())
+    }
+
+    /// What the lanes have of their outputs goes to the files, of each port where it is a part at least. O(ports), and
+    /// O(bytes) of what goes.
+    fn hand_over<F: NewFile>(&mut self, files: &mut [F]) -> Result<(), AllocError>
+        requires carrying { IsCarrying self.old }
+        requires files { length files.old ≡ length self.old.lanes.items }
+        ensures puts { OnOk result (PutsOut F.contents self.old files.old self.new.lanes.items files.new) }
+        ensures switch { self.new.switch ≡ self.old.switch }
+        ensures counts { self.new.counts ≡ self.old.counts }
+    {
+        arrivals_change_nothing_earlier();
+        stamps_keep_their_order();
+        events_follow_the_line();
+        taken_records_are_the_first();
+        taken_records_begin_the_capture();
+        each_file_has_one_reading();
+        for place in 0..self.lanes.len() {
+            self.lanes[place].hand_over(&mut files[place])?;
+        }
+        Ok(())
+    }
+
+    /// What has left goes out to the lanes, and from there to the files.
+    fn put_out<F: NewFile>(&mut self, files: &mut [F]) -> Result<(), AllocError>
+        requires carrying { IsCarrying self.old }
+        requires files { length files.old ≡ length self.old.lanes.items }
+        ensures ok { OnOk result (Proceeds F.contents self.old files.old self.new files.new × (left_in self.new.lanes.items ≡ left_in self.old.lanes.items)) }
+    {
+        self.let_out(Leaving::GoOut)?;
+        self.hand_over(files)
+    }
+
+    /// All records go to the switch, by stamp and then by port, and what leaves goes to the files in parts.
+    fn carry_into<F: NewFile>(&mut self, files: &mut [F]) -> Result<(), RunFault>
+        requires carrying { IsCarrying self.old }
+        requires files { length files.old ≡ length self.old.lanes.items }
+        ensures ok { OnOk result (Proceeds F.contents self.old files.old self.new files.new
+            × AllByRecursion (λ l. l.ended ≡ true) self.new.lanes.items) }
+        ensures err { IfErr result (λ fault. IsOneFault (texts_over self.old.lanes.items) fault) }
+    {
+        while self.carry_some()? {
+            self.put_out(files)?;
         }
         Ok(())
     }
@@ -308,6 +409,7 @@ impl<'a, A: Allocator + Copy> Machine<'a, A> {
         requires going { IsGoing self.old.switch.run.table self.old.lanes.items self.old.switch self.old.counts }
         ensures same { IsOfSameTable self.old.switch self.new.switch }
         ensures ok { OnOk result (HaveGone (texts_of captures.now) self.new) }
+        ensures taken { OnOk result (taken_by self.new.lanes.items ≡ taken_by self.old.lanes.items) }
         ensures err { IfErr result (λ fault. IsOneFault (texts_of captures.now) fault) }
     {
         self.lend_all(alloc, captures)?;
@@ -330,16 +432,58 @@ impl<'a, A: Allocator + Copy> Machine<'a, A> {
         requires going { IsGoing self.old.switch.run.table self.old.lanes.items self.old.switch self.old.counts }
         ensures same { IsOfSameTable self.old.switch self.new.switch }
         ensures ok { OnOk result (HaveGone (texts_of captures.now) self.new) }
+        ensures taken { OnOk result (taken_by self.new.lanes.items ≡ taken_by self.old.lanes.items) }
         ensures err { IfErr result (λ fault. IsReadFault (texts_of captures.now) fault) }
     {
-        each_file_has_one_reading();
         match self.lend_and_carry(alloc, captures, frames) {
             Ok(()) => Ok(()),
-            Err(RunFault::Capture(..)) => {
-                check_texts(alloc, captures)?;
-                unreachable!()
-            }
-            Err(fault) => Err(fault),
+            Err(fault) => Err(first_fault(alloc, captures, fault)),
+        }
+    }
+
+    /// The captures of all ports come whole, and all their records go to the switch; what leaves goes to the files, unless
+    /// a capture has a fault.
+    fn lend_and_write<F: NewFile>(
+        &mut self,
+        alloc: A,
+        captures: &'a [(u8, Vec<u8, A>)],
+        files: &mut [F],
+    ) -> Result<(), RunFault>
+        requires of { AreOfTable self.old.switch.run.table self.old.lanes.items }
+        requires ports { AreOfPorts self.old.switch.run.table (texts_of captures.now) }
+        requires handed { length self.old.switch.run.handed ≡ length self.old.switch.run.table.ports }
+        requires fresh { AreFreshLanes self.old.switch.run.table.ports self.old.lanes.items }
+        requires going { IsGoing self.old.switch.run.table self.old.lanes.items self.old.switch self.old.counts }
+        requires files { length files.old ≡ length captures.now }
+        ensures ok { OnOk result (IsOfSameTable self.old.switch self.new.switch × HasWritten F.contents (texts_of captures.now) self.new files.old files.new) }
+        ensures err { IfErr result (λ fault. IsOneFault (texts_of captures.now) fault) }
+    {
+        self.lend_all(alloc, captures)?;
+        self.carry_into(files)
+    }
+
+    /// The captures of all ports come whole, and stay where they are; all their records go to the switch, and what leaves
+    /// goes to the files.
+    ///
+    /// Of several faults that of the lowest port is answered.
+    pub(crate) fn pass_into<F: NewFile>(
+        &mut self,
+        alloc: A,
+        captures: &'a [(u8, Vec<u8, A>)],
+        files: &mut [F],
+    ) -> Result<(), RunFault>
+        requires of { AreOfTable self.old.switch.run.table self.old.lanes.items }
+        requires ports { AreOfPorts self.old.switch.run.table (texts_of captures.now) }
+        requires handed { length self.old.switch.run.handed ≡ length self.old.switch.run.table.ports }
+        requires fresh { AreFreshLanes self.old.switch.run.table.ports self.old.lanes.items }
+        requires going { IsGoing self.old.switch.run.table self.old.lanes.items self.old.switch self.old.counts }
+        requires files { length files.old ≡ length captures.now }
+        ensures ok { OnOk result (IsOfSameTable self.old.switch self.new.switch × HasWritten F.contents (texts_of captures.now) self.new files.old files.new) }
+        ensures err { IfErr result (λ fault. IsReadFault (texts_of captures.now) fault) }
+    {
+        match self.lend_and_write(alloc, captures, files) {
+            Ok(()) => Ok(()),
+            Err(fault) => Err(first_fault(alloc, captures, fault)),
         }
     }
 
@@ -403,11 +547,12 @@ impl<'a, A: Allocator + Copy> Machine<'a, A> {
     }
 
     /// The switch carries out all that is left, and all counts.
-    pub(crate) fn into_carried(self) -> Carried<'a, A>
+    pub(crate) fn into_rest(self) -> Rest<'a, A>
         ensures run { result.state.run ≡ after_finish self.entry.switch.run }
         ensures keeps { Keeps self.entry.switch result.state }
-        ensures counts { result.counts ≡ ended (after_finish self.entry.switch.run) self.entry.counts }
+        ensures counts { result.counts ≡ ended_tally (after_finish self.entry.switch.run) self.entry.counts }
         ensures texts { result.texts ≡ map (λ l. (l.port, l.out.items)) self.entry.lanes.items }
+        ensures taken { result.taken ≡ taken_by self.entry.lanes.items }
     {
         let Machine {
             switch,
@@ -416,7 +561,7 @@ impl<'a, A: Allocator + Copy> Machine<'a, A> {
         } = self;
         let switch = switch.finish();
         counts.note_end(&switch);
-        Carried {
+        Rest {
             switch,
             counts,
             lanes,
@@ -428,7 +573,7 @@ impl<'a, A: Allocator + Copy> Machine<'a, A> {
         requires none { room.items ≡ [] }
         requires room { length self.lanes.items ≤ vec_capacity room }
         ensures captures { result.captures ≡ map (λ l. (l.port, l.out.items)) self.entry.lanes.items }
-        ensures counts { result.counts ≡ ended (after_finish self.entry.switch.run) self.entry.counts }
+        ensures counts { result.counts ≡ ended_tally (after_finish self.entry.switch.run) self.entry.counts }
     {
         let Machine {
             switch,

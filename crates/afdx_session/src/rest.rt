@@ -1,6 +1,6 @@
-//! A run that is over, whose outputs are written one at a time.
+//! A run that is over, the rest of whose outputs is still to be written.
 
-ghost use Rattle.std.specs.Prelude.{◌≡◌, ◌+◌, ◌<◌, ◌++◌, ℕ, Some, None, List, length, slice_get, OnOk};
+ghost use Rattle.std.specs.Prelude.{◌≡◌, ◌+◌, ◌<◌, ◌++◌, ℕ, Some, None, List, length, take, slice_get, OnOk};
 ghost use Rattle.afdx_table.specs.declared.rows.PortRow.{PortRow};
 ghost use Rattle.afdx_table.specs.Content.{Content};
 ghost use Rattle.afdx_core.specs.Merge.{Arrival};
@@ -8,32 +8,37 @@ ghost use Rattle.afdx_core.specs.State.{place_of, next_by};
 ghost use Rattle.afdx_session.specs.Output.{output_text};
 ghost use Rattle.afdx_session.specs.Replay.{HasBytesOf, IsDrained};
 ghost use Rattle.afdx_session.specs.Inner.Settled.{Draws};
-ghost use Rattle.afdx_session.specs.Carried.{IsLeft};
+ghost use Rattle.afdx_session.specs.Inner.Rest.{IsLeft, HaveRests};
 
 use crate::lane::Lane;
 use afdx_core::Done;
 use afdx_count::Counts;
+use afdx_devices::NewFile;
 use std::alloc::{AllocError, Allocator};
 use std::marker::Model;
 
-/// A run that is over: the switch that carried out all, and the counts. The outputs of its ports are still to be written,
-/// so that no more than one of them need be held at a time.
+/// A run that is over: the switch that carried out all, the counts, and what the lanes have of the ports' outputs.
 ///
-/// Contracts see the switch, the counts, and what was written of each port's output before the end.
+/// Contracts see the switch, the counts, and of each port how many bytes of its output went before and those that there are.
 #[derive(Drop)]
-pub struct Carried<'a, A: Allocator> {
+pub(crate) struct Rest<'a, A: Allocator> {
     pub(crate) switch: Done<'a, A>,
     pub(crate) counts: Counts<A>,
     pub(crate) lanes: Vec<Lane<'a, A>, A>,
 }
 
-impl<'a, A: Allocator> Model for Carried<'a, A> {
+impl<'a, A: Allocator> Model for Rest<'a, A> {
     ghost use Rattle.std.specs.Prelude.{map};
-    ghost use Rattle.afdx_session.specs.Carried.{Rest};
+    ghost use Rattle.afdx_session.specs.Inner.Rest.{Rest as Seen};
 
-    ghost Value = { Rest };
+    ghost Value = { Seen };
 
-    ghost view = { λ c. record { state = c.switch; counts = c.counts; texts = map (λ l. (l.port, l.out.items)) c.lanes.items } };
+    ghost view = { λ r. record {
+      state = r.switch;
+      counts = r.counts;
+      taken = map (λ l. l.taken) r.lanes.items;
+      texts = map (λ l. (l.port, l.out.items)) r.lanes.items;
+    } };
 }
 
 /// The texts of all frames that a port sent and did not hand out go behind what is there. Each frame's bytes are
@@ -53,32 +58,38 @@ fn drain_rest<A: Allocator + Copy, B: Allocator>(
     Ok(())
 }
 
-impl<'a, A: Allocator + Copy> Carried<'a, A> {
-    /// The counts of the run. O(1).
-    pub fn counts(&self) -> &Counts<A>
-        ensures { result.now ≡ self.now.counts }
-    {
-        &self.counts
-    }
-
-    /// Writes the output of the port at a place in the table's order, as a capture, in place of what the text holds.
-    /// It can be written once, and after those of the ports before it.
-    ///
-    /// An error says that memory ran out; nothing is promised then of this output or of a later one. O(bytes of the
-    /// capture), beside what the text takes to grow.
-    pub fn write<B: Allocator>(
-        &mut self,
-        place: usize,
-        text: &mut Vec<u8, B>,
-    ) -> Result<(), AllocError>
+impl<'a, A: Allocator + Copy> Rest<'a, A> {
+    /// Writes the rest of the output of the port at a place, in place of what the text holds. It can be written once, and
+    /// after those of the ports before it.
+    fn write(&mut self, place: usize, text: &mut Vec<u8, A>) -> Result<(), AllocError>
         requires left { (t : Content) × (arrivals : List Arrival) × IsLeft t arrivals place self.old }
         requires within { place < length self.old.texts }
-        ensures { (t : Content) (arrivals : List Arrival) (p : PortRow) → IsLeft t arrivals place self.old → slice_get t.ports place ≡ Some p
-            → OnOk result (IsLeft t arrivals (place + 1) self.new × (text.new.items ≡ output_text t arrivals p)) }
+        ensures taken { self.new.taken ≡ self.old.taken }
+        ensures rest { (t : Content) (arrivals : List Arrival) (p : PortRow) (k : ℕ) → IsLeft t arrivals place self.old
+            → slice_get t.ports place ≡ Some p → slice_get self.old.taken place ≡ Some k
+            → OnOk result (IsLeft t arrivals (place + 1) self.new × (take k (output_text t arrivals p) ++ text.new.items ≡ output_text t arrivals p)) }
     {
         let lane = &self.lanes[place];
         text.clear();
         text.extend_from_slice(&lane.out)?;
         drain_rest(&mut self.switch, lane.port, text)
+    }
+
+    /// The rest of each output goes to its file. O(bytes).
+    pub(crate) fn write_all<F: NewFile>(
+        &mut self,
+        alloc: A,
+        files: &mut [F],
+    ) -> Result<(), AllocError>
+        requires { (t : Content) × (arrivals : List Arrival) × IsLeft t arrivals 0 self.old × (length files.old ≡ length t.ports) }
+        ensures { (t : Content) (arrivals : List Arrival) → IsLeft t arrivals 0 self.old → length files.old ≡ length t.ports
+            → OnOk result (IsLeft t arrivals (length t.ports) self.new × HaveRests F.contents t arrivals self.old.taken (length t.ports) files.old files.new) }
+    {
+        let mut text = Vec::new(alloc);
+        for place in 0..files.len() {
+            self.write(place, &mut text)?;
+            files[place].append(&text)?;
+        }
+        Ok(())
     }
 }

@@ -18,7 +18,7 @@ pub(crate) struct Reported {
     pub(crate) report: String,
 }
 
-fn tell(alloc: Global, outcome: Outcome<Global>) -> Result<Reported, AllocError> {
+fn into_reported(alloc: Global, outcome: Outcome<Global>) -> Result<Reported, AllocError> {
     let report = outcome.counts.report(alloc)?;
     let Outcome { captures, .. } = outcome;
     Ok(Reported { captures, report })
@@ -31,7 +31,7 @@ pub(crate) fn whole(
     captures: &[(u8, Vec<u8>)],
 ) -> Result<Reported, Fail> {
     let outcome = run(alloc, plan(alloc, setting)?, captures)?;
-    let reported = tell(alloc, outcome)?;
+    let reported = into_reported(alloc, outcome)?;
     Ok(reported)
 }
 
@@ -70,7 +70,7 @@ pub(crate) fn finish(
 /// What the end of a session gives, where it has an outcome.
 pub(crate) fn rest(alloc: Global, session: Session<Global>) -> Option<Reported> {
     match finish(session) {
-        Ok(outcome) => tell(alloc, outcome).ok(),
+        Ok(outcome) => into_reported(alloc, outcome).ok(),
         Err(_) => None,
     }
 }

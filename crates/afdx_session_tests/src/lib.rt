@@ -12,6 +12,8 @@ mod formats;
 #[cfg(test)]
 mod latency;
 #[cfg(test)]
+mod parts;
+#[cfg(test)]
 mod pieces;
 #[cfg(test)]
 mod policing;
@@ -19,8 +21,6 @@ mod policing;
 mod ports;
 #[cfg(test)]
 mod refused;
-#[cfg(test)]
-mod rest;
 #[cfg(test)]
 mod runs;
 #[cfg(test)]

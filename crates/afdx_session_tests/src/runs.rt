@@ -39,7 +39,7 @@ fn report(alloc: Global, outcome: &Outcome<Global>) -> Result<String, AllocError
 }
 
 /// Whether the report of a run has this text in it.
-fn tells(alloc: Global, outcome: &Outcome<Global>, line: &str) -> Result<bool, AllocError> {
+fn has_line(alloc: Global, outcome: &Outcome<Global>, line: &str) -> Result<bool, AllocError> {
     let report = report(alloc, outcome)?;
     Ok(report.as_str().contains(line))
 }
@@ -54,7 +54,7 @@ fn reports(alloc: Global, outcome: &Outcome<Global>, text: &str) -> Result<bool,
 fn is_wanted(alloc: Global, outcome: &Outcome<Global>, wanted: Wanted) -> Result<bool, AllocError> {
     match wanted {
         Wanted::Left(texts, line) => {
-            Ok(puts(alloc, outcome, texts)? && tells(alloc, outcome, line)?)
+            Ok(puts(alloc, outcome, texts)? && has_line(alloc, outcome, line)?)
         }
         Wanted::Reported(texts, text) => {
             Ok(puts(alloc, outcome, texts)? && reports(alloc, outcome, text)?)

@@ -31,6 +31,8 @@ pub(crate) enum Text {
     OneOfEach,
     /// A thousand of the largest frames of link 20 at once.
     Babble,
+    /// Three hundred of the largest frames of link 10, one each millisecond.
+    Steady,
 }
 
 /// A frame of size 64 and one of size 1518, both of link 10, at the start of 1970.
@@ -105,6 +107,14 @@ fn damaged(
     Ok(bytes)
 }
 
+fn steady(alloc: Global) -> Result<Vec<u8>, AllocError> {
+    let mut samples = Vec::new(alloc);
+    for millis in 0..300u32 {
+        samples.push(large(10, millis * 1_000_000))?;
+    }
+    capture(alloc, &samples)
+}
+
 /// The bytes of a text.
 pub(crate) fn bytes(alloc: Global, text: Text) -> Result<Vec<u8>, AllocError> {
     match text {
@@ -114,6 +124,7 @@ pub(crate) fn bytes(alloc: Global, text: Text) -> Result<Vec<u8>, AllocError> {
         Text::Damaged(frames, place, patch, length) => damaged(alloc, frames, place, patch, length),
         Text::OneOfEach => capture(alloc, &one_of_each()),
         Text::Babble => capture(alloc, &[large(20, 0); 1000]),
+        Text::Steady => steady(alloc),
     }
 }
 

@@ -2,7 +2,6 @@
 use Rattle.std.proofs.Common.{◌≡◌, ◌⊎◌, ◌==◌, ℕ, ℤ, pos, negsuc, Bool, true, List, [], ◌∷◌, find, Option, Some, None, option_map, option_and_then, Result, Ok, refl, sym, ap, ◌∙◌, subst, inl, inr}
 use Rattle.std.proofs.Common.{arith}
 use Rattle.std.specs.Str.{bytes_eq}
-use Rattle.std.specs.Prelude.{codes}
 use Rattle.std.proofs.lemmas.Bool.{cases_Bool}
 use Rattle.std.proofs.lemmas.Bool.Decides.{nat_tests}
 use Rattle.std.proofs.lemmas.Slice.Eq.{bytes_eq-Decides}
@@ -20,12 +19,12 @@ use Rattle.afdx_table.specs.declared.fault.Key.{Key}
 use Rattle.afdx_table.specs.declared.fault.Key.TheVariants as key
 use Rattle.afdx_table.specs.declared.fault.TableFault.{TableFault}
 use Rattle.afdx_table.specs.declared.fault.TableFault.TheVariants.{MissingKey, Kind, Range}
-use Rattle.afdx_table.specs.Names.{key_text, speed_of, bags, bag_of, priority_text, priority_of, police_of}
+use Rattle.afdx_table.specs.Names.{key_text, speed_of, bags, bag_of, priority_text, priority_of, police_text, police_of}
 use Rattle.afdx_table.specs.Refusal.{or_refuse}
 use Rattle.afdx_table.specs.Fields.{natural_of, are_known, known_at, all_of, value_at, number_in, text_in, number_at, bounded, bounded_at, text_at, if_present, optional_number_at, optional_text_at}
 use Rattle.afdx_table.specs.Fields.{tables_in, tables_at, as_natural, bounded_natural, all_bounded, numbers_at}
 use Rattle.afdx_table.specs.Links.{police_from}
-use Rattle.afdx_table.specs.Inner.Holds.{Has, HasNone, HasNumber, HasText, number_items, HasNumbers, table_items, HasTables, mbit_of, police_text, HasPolice, HasSpeed}
+use Rattle.afdx_table.specs.Inner.Holds.{Has, HasNone, HasNumber, HasText, number_items, HasNumbers, table_items, HasTables, mbit_of, HasPolice, HasSpeed}
 use Rattle.afdx_table.proofs.Steps.{steps, ok_inside}
 
 -- ---- values of one kind
@@ -272,31 +271,31 @@ unfolding bag_of
 bag-says ms bag h = equal (bag_ms bag) ms (found-passes (λ b. bag_ms b == ms) bags bag h)
 
 pub priority-says : (text : List ℕ) (priority : Priority) → priority_of text ≡ Some priority → text ≡ priority_text priority
-priority-says text priority h = elim (cases_Bool (bytes_eq text (codes "high"))) [
+priority-says text priority h = elim (cases_Bool (bytes_eq text (priority_text High))) [
   | inl high ↦
       let g : Some High ≡ Some priority = rw high at h in
       let same : High ≡ priority = cc in
-      (bytes_eq-Decides text (codes "high")).0 high ∙ ap priority_text same
-  | inr not_high ↦ elim (cases_Bool (bytes_eq text (codes "low"))) [
+      (bytes_eq-Decides text (priority_text High)).0 high ∙ ap priority_text same
+  | inr not_high ↦ elim (cases_Bool (bytes_eq text (priority_text Low))) [
     | inl low ↦
         let g : Some Low ≡ Some priority = rw (not_high, low) at h in
         let same : Low ≡ priority = cc in
-        (bytes_eq-Decides text (codes "low")).0 low ∙ ap priority_text same
+        (bytes_eq-Decides text (priority_text Low)).0 low ∙ ap priority_text same
     | inr not_low ↦ let g = rw (not_high, not_low) at h in absurd cc
   ]
 ]
 
 police_named : (text : List ℕ) (police : Police) → police_of text ≡ Some police → text ≡ police_text police
-police_named text police h = elim (cases_Bool (bytes_eq text (codes "byte"))) [
+police_named text police h = elim (cases_Bool (bytes_eq text (police_text Byte))) [
   | inl by_bytes ↦
       let g : Some Byte ≡ Some police = rw by_bytes at h in
       let same : Byte ≡ police = cc in
-      (bytes_eq-Decides text (codes "byte")).0 by_bytes ∙ ap police_text same
-  | inr other ↦ elim (cases_Bool (bytes_eq text (codes "frame"))) [
+      (bytes_eq-Decides text (police_text Byte)).0 by_bytes ∙ ap police_text same
+  | inr other ↦ elim (cases_Bool (bytes_eq text (police_text Frame))) [
     | inl by_frames ↦
         let g : Some Frame ≡ Some police = rw (other, by_frames) at h in
         let same : Frame ≡ police = cc in
-        (bytes_eq-Decides text (codes "frame")).0 by_frames ∙ ap police_text same
+        (bytes_eq-Decides text (police_text Frame)).0 by_frames ∙ ap police_text same
     | inr neither ↦ let g = rw (other, neither) at h in absurd cc
   ]
 ]

@@ -62,8 +62,12 @@ priority_text High = codes "high"
 priority_text Low = codes "low"
 
 abbrev pub priority_of : List ℕ → Option Priority
-priority_of text = if bytes_eq text (codes "high") then Some High else if bytes_eq text (codes "low") then Some Low else None
+priority_of text = if bytes_eq text (priority_text High) then Some High else if bytes_eq text (priority_text Low) then Some Low else None
 
 -- ARINC 664 Part 7 has two kinds of policing; profile: their names
+abbrev pub police_text : Police → List ℕ
+police_text Byte = codes "byte"
+police_text Frame = codes "frame"
+
 abbrev pub police_of : List ℕ → Option Police
-police_of text = if bytes_eq text (codes "byte") then Some Byte else if bytes_eq text (codes "frame") then Some Frame else None
+police_of text = if bytes_eq text (police_text Byte) then Some Byte else if bytes_eq text (police_text Frame) then Some Frame else None

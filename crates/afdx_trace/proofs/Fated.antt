@@ -15,14 +15,14 @@ use Rattle.afdx_core.specs.declared.step.Row.{Row}
 use Rattle.afdx_core.specs.declared.step.Fate.TheVariants.{Policed, Passed}
 use Rattle.afdx_core.specs.Rows.{named, fate_by, each_after, account_frames, frame_of_row}
 use Rattle.afdx_core.specs.State.{Run}
-use Rattle.afdx_trace.specs.Csv.{joined, optional}
+use Rattle.afdx_trace.specs.Csv.{joined_by, optional}
 use Rattle.afdx_trace.specs.Arrivals.{verdict_word, fate_word, early_in, full_in, fate_fields, refusing}
 use Rattle.afdx_trace.specs.declared.tracer.Tracer.{Tracer}
 use Rattle.afdx_trace.specs.Inner.Tracing.{IsPassed, IsPoliced, Traces}
 
 -- the fields of a fate, by the link
 abbrev fields_by : Run → List Row → Row → Option Link → List (List ℕ)
-fields_by r before row o = fate_word (fate_by o before row) ∷ optional (early_in o before row) ∷ joined (codes ";") (map decimal (full_in r o before row)) ∷ []
+fields_by r before row o = fate_word (fate_by o before row) ∷ optional (early_in o before row) ∷ joined_by (codes ";") (map decimal (full_in r o before row)) ∷ []
 
 pub filtered_fields : (r : Run) (before : List Row) (row : Row) → named r.table row.verdict ≡ None → verdict_word row.verdict ∷ [] ∷ [] ∷ [] ≡ fate_fields r before row
 filtered_fields r before row none = sym (ap (fields_by r before row) none)
@@ -31,12 +31,12 @@ filtered_fields r before row none = sym (ap (fields_by r before row) none)
 abbrev judged_fields : Run → List Row → Row → Link → Bool → List (List ℕ)
 judged_fields r before row l p = fate_word (cond p (Passed l.id) (Policed l.id))
     ∷ optional (cond p None (Some (early_by (terms_of l) (passed_frames (terms_of l) (account_frames l.id before)) (frame_of_row row))))
-    ∷ joined (codes ";") (map decimal (cond p (refusing r (length before) l.to) [])) ∷ []
+    ∷ joined_by (codes ";") (map decimal (cond p (refusing r (length before) l.to) [])) ∷ []
 
 pub passed_fields : (r : Run) (before : List Row) (row : Row) (to full : List ℕ) → IsPassed r.table before row to → full ≡ refusing r (length before) to
-    → codes "passed" ∷ [] ∷ joined (codes ";") (map decimal full) ∷ [] ≡ fate_fields r before row
+    → codes "passed" ∷ [] ∷ joined_by (codes ";") (map decimal full) ∷ [] ≡ fate_fields r before row
 passed_fields r before row to full p is =
-    ap (λ (ports : List ℕ). codes "passed" ∷ [] ∷ joined (codes ";") (map decimal ports) ∷ []) (is ∙ ap (refusing r (length before)) p.leads)
+    ap (λ (ports : List ℕ). codes "passed" ∷ [] ∷ joined_by (codes ";") (map decimal ports) ∷ []) (is ∙ ap (refusing r (length before)) p.leads)
     ∙ sym (ap (fields_by r before row) p.names ∙ ap (judged_fields r before row p.link) p.is_passed)
 
 pub policed_fields : (r : Run) (before : List Row) (row : Row) (early : ℕ) → IsPoliced r.table before row early

@@ -17,7 +17,7 @@ use Rattle.afdx_account.specs.declared.account.Account.{Account}
 use Rattle.afdx_account.specs.Policing.{Terms, terms_by, passed_frames}
 use Rattle.afdx_account.specs.Level.{IsLevelAfter}
 use Rattle.afdx_account.specs.Account.{account_terms, account_since, account_level}
-use Rattle.afdx_account.specs.Early.{TellsEarly, early_by}
+use Rattle.afdx_account.specs.Early.{IsEarlyBy, early_by}
 use Rattle.afdx_load.specs.Load.{terms_of}
 use Rattle.afdx_core.specs.declared.step.Row.{Row}
 use Rattle.afdx_core.specs.Rows.{named, account_frames, frame_of_row}
@@ -73,7 +73,7 @@ is_credited ports r b a before latest m limits some same agrees =
     subst (λ (t : Terms). 0 < t.rate) (sym (agrees.terms ∙ ap terms_of same)) (credits b.now.police b.now.max_size b.now.bag b.now.jitter link.size_least)
 
 pub comes_early : (m l : Link) (a : Account) (before : List Row) (latest : ℕ) (row : Row) (early : ℕ) → AccountAgrees m a before latest → m ≡ l
-    → TellsEarly (account_terms a) (account_since a) (account_level a (account_since a)) row.stamp row.size early
+    → IsEarlyBy (account_terms a) (account_since a) (account_level a (account_since a)) row.stamp row.size early
     → early ≡ early_by (terms_of l) (passed_frames (terms_of l) (account_frames l.id before)) (frame_of_row row)
 comes_early m l a before latest row early agrees same tells =
     let own = subst (λ (x : Link). AccountAgrees x a before latest) same agrees in

@@ -19,7 +19,7 @@ use Rattle.afdx_port.specs.declared.Offer.{Offer}
 use Rattle.afdx_port.specs.declared.Offer.TheVariants.{Queued, Full}
 use Rattle.afdx_port.specs.Service.{Event, sending, aging, item_of as item_in, service, sent_of, aged_of}
 use Rattle.afdx_port.specs.Admission.{fits, admit, admit_all, admitted}
-use Rattle.afdx_port.specs.Content.{done, is_full}
+use Rattle.afdx_port.specs.Content.{done, answers_full}
 use Rattle.afdx_port.specs.Inner.Events.{EachHasOneEvent}
 use Rattle.afdx_isolation.specs.Table.{settings_of}
 use Rattle.afdx_core.specs.declared.step.Row.{Row}
@@ -213,13 +213,13 @@ module _ (one : EachHasOneEvent) (r : Run) (ends : r.finished ≡ true) (before 
   abbrev answer_at : ℕ → Offer
   answer_at port = answer_of (run_before r before) (copy_of l before row) (port_row r.table port)
 
-  refuses : (port : ℕ) → leads_to port l ≡ true → not (took r port (length before)) ≡ is_full (answer_at port)
+  refuses : (port : ℕ) → leads_to port l ≡ true → not (took r port (length before)) ≡ answers_full (answer_at port)
   refuses port leads = by (port_row r.table port) refl where
-    reported : (b : Bool) → not b ≡ is_full (cond b Queued Full)
+    reported : (b : Bool) → not b ≡ answers_full (cond b Queued Full)
     reported true = refl
     reported false = refl
 
-    by : (o : Option PortRow) → port_row r.table port ≡ o → not (took r port (length before)) ≡ is_full (answer_of (run_before r before) (copy_of l before row) o)
+    by : (o : Option PortRow) → port_row r.table port ≡ o → not (took r port (length before)) ≡ answers_full (answer_of (run_before r before) (copy_of l before row) o)
     by None none = ap (λ (o : Option PortRow). not (list_any (λ (x : Sent). x.item.number == length before) (sent_in r o) || list_any (λ (x : Aged). x.item.number == length before) (aged_in r o)))
         none
     by (Some p) row_is =
@@ -234,8 +234,8 @@ module _ (one : EachHasOneEvent) (r : Run) (ends : r.finished ≡ true) (before 
   all_refuse [] among = refl
   all_refuse (port ∷ ports) among =
       ap (λ (b : Bool). cond b (port ∷ refusing r (length before) ports) (refusing r (length before) ports)) (refuses port (among port (ap (λ (b : Bool). b || names_port port ports) (equal port))))
-      ∙ ap (λ (others : List ℕ). cond (is_full (answer_at port)) (port ∷ others) others) (all_refuse ports (λ q in_them. among q (later q in_them)))
-      ∙ kept (is_full (answer_at port)) where
+      ∙ ap (λ (others : List ℕ). cond (answers_full (answer_at port)) (port ∷ others) others) (all_refuse ports (λ q in_them. among q (later q in_them)))
+      ∙ kept (answers_full (answer_at port)) where
         or_true : (a b : Bool) → b ≡ true → (a || b) ≡ true
         or_true true b h = refl
         or_true false b h = h
@@ -247,7 +247,7 @@ module _ (one : EachHasOneEvent) (r : Run) (ends : r.finished ≡ true) (before 
         answers = map (λ (q : ℕ). (q, answer_at q)) ports
 
         kept : (b : Bool) → cond b (port ∷ full_ports answers) (full_ports answers)
-            ≡ map (λ (o : ℕ × Offer). o.0) (cond b ((port, answer_at port) ∷ filter (λ (o : ℕ × Offer). is_full o.1) answers) (filter (λ (o : ℕ × Offer). is_full o.1) answers))
+            ≡ map (λ (o : ℕ × Offer). o.0) (cond b ((port, answer_at port) ∷ filter (λ (o : ℕ × Offer). answers_full o.1) answers) (filter (λ (o : ℕ × Offer). answers_full o.1) answers))
         kept true = refl
         kept false = refl
 

@@ -13,7 +13,7 @@ use Rattle.afdx_core.specs.declared.step.Fate.{Fate}
 use Rattle.afdx_core.specs.declared.step.Fate.TheVariants.{Filtered, Policed, Passed}
 use Rattle.afdx_core.specs.Rows.{each_after, named, passes, fate_of, account_frames, frame_of_row}
 use Rattle.afdx_core.specs.State.{Run, sent_in, aged_in}
-use Rattle.afdx_trace.specs.Csv.{field, joined, optional}
+use Rattle.afdx_trace.specs.Csv.{next_field, joined_by, optional}
 
 abbrev pub arrivals_heading : List ℕ
 arrivals_heading = codes "frame,port,record,stamp,link,size,fate,early,full\n"
@@ -59,7 +59,7 @@ full_in r (Some l) before row = if passes l before row then refusing r (length b
 abbrev pub fate_fields : Run → List Row → Row → List (List ℕ)
 fate_fields r before row =
     let link = named r.table row.verdict in
-    fate_word (fate_of r.table before row) ∷ optional (early_in link before row) ∷ joined (codes ";") (map decimal (full_in r link before row)) ∷ []
+    fate_word (fate_of r.table before row) ∷ optional (early_in link before row) ∷ joined_by (codes ";") (map decimal (full_in r link before row)) ∷ []
 
 -- the arrival's number among the records of its port's capture, from 1
 abbrev pub record_in : List Row → Row → ℕ
@@ -68,10 +68,10 @@ record_in before row = count_by (λ other. other.in_port == row.in_port) before 
 -- the fields before these: first the number of arrivals before it
 abbrev pub frame_fields : List Row → Row → List ℕ
 frame_fields before row = decimal (length before)
-    ++ flat_map field (decimal row.in_port ∷ decimal (record_in before row) ∷ decimal row.stamp ∷ optional row.link ∷ decimal row.size ∷ [])
+    ++ flat_map next_field (decimal row.in_port ∷ decimal (record_in before row) ∷ decimal row.stamp ∷ optional row.link ∷ decimal row.size ∷ [])
 
 abbrev pub arrival_line : Run → List Row → Row → List ℕ
-arrival_line r before row = frame_fields before row ++ flat_map field (fate_fields r before row) ++ codes "\n"
+arrival_line r before row = frame_fields before row ++ flat_map next_field (fate_fields r before row) ++ codes "\n"
 
 -- a heading, then each arrival in order
 abbrev pub arrivals_text : Run → List ℕ

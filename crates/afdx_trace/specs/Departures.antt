@@ -11,23 +11,23 @@ use Rattle.afdx_port.specs.Service.{Event, sending, aging, instant, came}
 use Rattle.afdx_port.specs.Content.{done}
 use Rattle.afdx_isolation.specs.Table.{settings_of}
 use Rattle.afdx_core.specs.State.{Run, port_in}
-use Rattle.afdx_trace.specs.Csv.{field}
+use Rattle.afdx_trace.specs.Csv.{next_field}
 
 abbrev pub departures_heading : List ℕ
 departures_heading = codes "port,record,frame,link,priority,size,came,start,left,delay,outcome\n"
 
 -- the fields of a copy, each after a comma: it came at the instant at which it was queued
 abbrev pub item_fields : Settings → Item → List ℕ
-item_fields s x = flat_map field (decimal x.number ∷ decimal x.link ∷ priority_text x.priority ∷ decimal x.size ∷ decimal (came s x) ∷ [])
+item_fields s x = flat_map next_field (decimal x.number ∷ decimal x.link ∷ priority_text x.priority ∷ decimal x.size ∷ decimal (came s x) ∷ [])
 
 -- a copy that a port sent, as the record of this number of its output; its delay is reckoned from the stamp of its frame
 abbrev pub sent_line : ℕ → Settings → ℕ → Sent → List ℕ
-sent_line port s number x = decimal port ++ field (decimal number) ++ item_fields s x.item
-    ++ flat_map field (decimal x.begin ∷ decimal x.end ∷ decimal (x.end - x.item.stamp) ∷ codes "sent\n" ∷ [])
+sent_line port s number x = decimal port ++ next_field (decimal number) ++ item_fields s x.item
+    ++ flat_map next_field (decimal x.begin ∷ decimal x.end ∷ decimal (x.end - x.item.stamp) ∷ codes "sent\n" ∷ [])
 
 -- a copy that a port discarded for its age at an instant: it is no record, and leaves at none
 abbrev pub aged_line : ℕ → Settings → Aged → List ℕ
-aged_line port s x = decimal port ++ field [] ++ item_fields s x.item ++ flat_map field (decimal x.at ∷ [] ∷ [] ∷ codes "aged\n" ∷ [])
+aged_line port s x = decimal port ++ next_field [] ++ item_fields s x.item ++ flat_map next_field (decimal x.at ∷ [] ∷ [] ∷ codes "aged\n" ∷ [])
 
 -- a port's events in order, where so many copies were sent before them
 abbrev pub event_lines : ℕ → Settings → ℕ → List Event → List ℕ

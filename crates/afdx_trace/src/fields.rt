@@ -1,7 +1,7 @@
 //! Fields of a line, separated by commas.
 
 ghost use Rattle.std.specs.Prelude.{◌≡◌, ◌++◌, codes, decimal, map, string_bytes, OnOk};
-ghost use Rattle.afdx_trace.specs.Csv.{field, joined, optional};
+ghost use Rattle.afdx_trace.specs.Csv.{next_field, joined_by, optional};
 
 use std::alloc::{AllocError, Allocator};
 
@@ -10,7 +10,7 @@ pub(crate) fn put_number<A: Allocator + Copy>(
     text: &mut String<A>,
     number: u64,
 ) -> Result<(), AllocError>
-    ensures { OnOk result (string_bytes text.new ≡ string_bytes text.old ++ field (decimal number)) }
+    ensures { OnOk result (string_bytes text.new ≡ string_bytes text.old ++ next_field (decimal number)) }
 {
     text.push_str(",")?;
     write!(text, "{number}")
@@ -21,7 +21,7 @@ pub(crate) fn put_optional<A: Allocator + Copy>(
     text: &mut String<A>,
     number: Option<u64>,
 ) -> Result<(), AllocError>
-    ensures { OnOk result (string_bytes text.new ≡ string_bytes text.old ++ field (optional number)) }
+    ensures { OnOk result (string_bytes text.new ≡ string_bytes text.old ++ next_field (optional number)) }
 {
     match number {
         Some(number) => put_number(text, number),
@@ -34,7 +34,7 @@ pub(crate) fn put_word<A: Allocator + Copy>(
     text: &mut String<A>,
     word: &str,
 ) -> Result<(), AllocError>
-    ensures { OnOk result (string_bytes text.new ≡ string_bytes text.old ++ field word.now) }
+    ensures { OnOk result (string_bytes text.new ≡ string_bytes text.old ++ next_field word.now) }
 {
     text.push_str(",")?;
     text.push_str(word)
@@ -45,7 +45,7 @@ pub(crate) fn put_ports<A: Allocator + Copy>(
     text: &mut String<A>,
     ports: &[u8],
 ) -> Result<(), AllocError>
-    ensures { OnOk result (string_bytes text.new ≡ string_bytes text.old ++ joined (codes ";") (map decimal ports.now)) }
+    ensures { OnOk result (string_bytes text.new ≡ string_bytes text.old ++ joined_by (codes ";") (map decimal ports.now)) }
 {
     let Some((first, others)) = ports.split_first() else {
         return Ok(());

@@ -3,7 +3,7 @@
 ghost use Rattle.std.specs.Prelude.{◌≡◌, ◌<◌, ◌∷◌, [], ◌++◌, codes, decimal, map, flat_map, length, string_bytes, IfOk, IfErr, OnOk, Some};
 ghost use Rattle.afdx_filter.specs.Place.{place_named};
 ghost use Rattle.afdx_core.specs.Kept.{AccountsAgree};
-ghost use Rattle.afdx_trace.specs.Csv.{field, joined, optional};
+ghost use Rattle.afdx_trace.specs.Csv.{next_field, joined_by, optional};
 ghost use Rattle.afdx_trace.specs.Arrivals.{verdict_word, record_in, frame_fields, fate_fields, arrival_line};
 ghost use Rattle.afdx_trace.specs.Inner.Taken.{AreTaken};
 ghost use Rattle.afdx_trace.specs.Inner.Tracing.{AreCounted, IsPassed, IsPoliced, Traces};
@@ -82,7 +82,7 @@ fn count(records: &mut [usize; 256], before: &[Row], row: &Row) -> usize
 
 /// Appends the number of a link, if there is one.
 fn put_link<A: Allocator + Copy>(text: &mut String<A>, link: Option<u16>) -> Result<(), AllocError>
-    ensures { OnOk result (string_bytes text.new ≡ string_bytes text.old ++ field (optional link)) }
+    ensures { OnOk result (string_bytes text.new ≡ string_bytes text.old ++ next_field (optional link)) }
 {
     match link {
         Some(number) => put_number(text, u64::from(number)),
@@ -116,7 +116,7 @@ fn put_fate<A: Allocator + Copy>(
     full: &[u8],
 ) -> Result<(), AllocError>
     ensures { OnOk result (string_bytes text.new ≡ string_bytes text.old
-        ++ flat_map field (word.now ∷ optional early ∷ joined (codes ";") (map decimal full.now) ∷ []) ++ codes "\n") }
+        ++ flat_map next_field (word.now ∷ optional early ∷ joined_by (codes ";") (map decimal full.now) ∷ []) ++ codes "\n") }
 {
     put_word(text, word)?;
     put_optional(text, early)?;
@@ -161,7 +161,7 @@ impl<A: Allocator + Copy> Tracer<A> {
         requires agree { AccountsAgree done.now.run.table.links before.now row.now.stamp self.old.accounts.items }
         requires taken { AreTaken done.now.run self.old.taken.items }
         requires within { length before.now < length done.now.run.rows }
-        ensures fields { IfOk result (λ reported. reported.0.now ∷ optional reported.1 ∷ joined (codes ";") (map decimal reported.2.items) ∷ []
+        ensures fields { IfOk result (λ reported. reported.0.now ∷ optional reported.1 ∷ joined_by (codes ";") (map decimal reported.2.items) ∷ []
             ≡ fate_fields done.now.run before.now row.now) }
         ensures agree { AccountsAgree done.now.run.table.links (before.now ++ row.now ∷ []) row.now.stamp self.new.accounts.items }
         ensures records { self.new.records ≡ self.old.records }

@@ -5,7 +5,7 @@ use Rattle.std.specs.Option.{option_map_or}
 use Rattle.afdx_wiring.specs.declared.layout.End.{End}
 use Rattle.afdx_wiring.specs.declared.ways.Way.{Way}
 use Rattle.afdx_wiring.specs.declared.jitters.RowNeed.{RowNeed}
-use Rattle.afdx_wiring.specs.Lines.{ended}
+use Rattle.afdx_wiring.specs.Lines.{as_line}
 
 -- the names of the switches, by their places
 abbrev pub Names : Type 0
@@ -52,13 +52,13 @@ greatest_text names w = codes "greatest " ++ decimal w.delays.most ++ codes " li
 -- what is reported of an accepted network of these ways
 abbrev pub accepted_text : Names → List Way → List ℕ
 accepted_text names ways =
-    flat_map (λ name. ended (codes "switch " ++ name ++ codes " accepted")) names ++ flat_map (λ w. ended (way_text names w)) ways
-    ++ option_map_or (λ w. ended (greatest_text names w)) (greatest_of ways) [] ++ ended (codes "accepted")
+    flat_map (λ name. as_line (codes "switch " ++ name ++ codes " accepted")) names ++ flat_map (λ w. as_line (way_text names w)) ways
+    ++ option_map_or (λ w. as_line (greatest_text names w)) (greatest_of ways) [] ++ as_line (codes "accepted")
 
 -- ---- jitters
 
 abbrev pub jitter_line : Names → RowNeed → List ℕ
-jitter_line names r = ended (codes "switch " ++ name_of names r.switch ++ codes " link " ++ decimal r.link ++ codes " jitter_us " ++ decimal r.need)
+jitter_line names r = as_line (codes "switch " ++ name_of names r.switch ++ codes " link " ++ decimal r.link ++ codes " jitter_us " ++ decimal r.need)
 
 abbrev pub jitter_text : Names → List RowNeed → List ℕ
 jitter_text names = flat_map (jitter_line names)

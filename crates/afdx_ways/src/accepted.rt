@@ -1,7 +1,7 @@
 //! What is reported of an accepted network.
 
 ghost use Rattle.std.specs.Prelude.{◌≡◌, ◌++◌, codes, map, flat_map, option_copied, string_bytes, IfOk, OnOk};
-ghost use Rattle.afdx_wiring.specs.Lines.{ended};
+ghost use Rattle.afdx_wiring.specs.Lines.{as_line};
 ghost use Rattle.afdx_ways.specs.Lines.{last_end, numbers_text, way_text, longest, greatest_of, greatest_text, accepted_text};
 
 use crate::ends::{put_end, put_ends};
@@ -30,7 +30,7 @@ fn last_end(way: &Way) -> End
 
 /// Appends the line of a way.
 fn put_way(text: &mut String, names: &[String], way: &Way) -> Result<(), AllocError>
-    ensures { OnOk result (string_bytes text.new ≡ string_bytes text.old ++ ended (way_text (map string_bytes names.now) way.now)) }
+    ensures { OnOk result (string_bytes text.new ≡ string_bytes text.old ++ as_line (way_text (map string_bytes names.now) way.now)) }
 {
     write!(text, "link {} from ", way.link)?;
     put_end(text, names, way.from)?;
@@ -47,7 +47,7 @@ fn put_way(text: &mut String, names: &[String], way: &Way) -> Result<(), AllocEr
 /// Appends the lines of ways.
 fn put_ways(text: &mut String, names: &[String], ways: &[Way]) -> Result<(), AllocError>
     ensures { OnOk result (string_bytes text.new
-        ≡ string_bytes text.old ++ flat_map (λ w. ended (way_text (map string_bytes names.now) w)) ways.now) }
+        ≡ string_bytes text.old ++ flat_map (λ w. as_line (way_text (map string_bytes names.now) w)) ways.now) }
 {
     for way in ways {
         put_way(text, names, way)?;
@@ -58,7 +58,7 @@ fn put_ways(text: &mut String, names: &[String], ways: &[Way]) -> Result<(), All
 /// Appends a line for each switch.
 fn put_switches(text: &mut String, names: &[String]) -> Result<(), AllocError>
     ensures { OnOk result (string_bytes text.new
-        ≡ string_bytes text.old ++ flat_map (λ name. ended (codes "switch " ++ name ++ codes " accepted")) (map string_bytes names.now)) }
+        ≡ string_bytes text.old ++ flat_map (λ name. as_line (codes "switch " ++ name ++ codes " accepted")) (map string_bytes names.now)) }
 {
     for name in names {
         text.push_str("switch ")?;
@@ -89,7 +89,7 @@ fn greatest_of(ways: &[Way]) -> Option<&Way>
 
 /// Appends the line of the greatest way.
 fn put_greatest(text: &mut String, names: &[String], way: &Way) -> Result<(), AllocError>
-    ensures { OnOk result (string_bytes text.new ≡ string_bytes text.old ++ ended (greatest_text (map string_bytes names.now) way.now)) }
+    ensures { OnOk result (string_bytes text.new ≡ string_bytes text.old ++ as_line (greatest_text (map string_bytes names.now) way.now)) }
 {
     write!(text, "greatest {}", way.delays.most)?;
     write!(text, " link {} to ", way.link)?;

@@ -1,5 +1,5 @@
 -- Chains of rules that nothing breaks: each is kept.
-use Rattle.std.proofs.Common.{◌≡◌, ℕ, suc, ◌+◌, ◌<◌, Bool, true, false, not, List, [], ◌∷◌, ◌++◌, length, map, drop, get_or, slice_get, Some, Ok, Err, refl, ap, sym, ◌∙◌, add-one, arith}
+use Rattle.std.proofs.Common.{◌≡◌, ℕ, suc, ◌+◌, ◌<◌, Bool, true, false, not, List, [], ◌∷◌, ◌++◌, length, map, drop, get_or, Ok, Err, refl, ap, sym, ◌∙◌, add-one, arith}
 use Rattle.std.proofs.Math.Seq.{drop-cons}
 use Rattle.std.specs.Prelude.{Contains, Result}
 use Rattle.std.specs.List.{AllByRecursion}
@@ -10,11 +10,8 @@ use Rattle.afdx_wiring.specs.declared.fault.At.TheVariants as place
 use Rattle.afdx_wiring.specs.declared.fault.NetworkFault.{NetworkFault}
 use Rattle.afdx_wiring.specs.declared.layout.Wire.{Wire}
 use Rattle.afdx_wiring.specs.Refusal.{◌>>=◌, unless}
-use Rattle.afdx_wiring.specs.Net.{Row, row_in, rows_in, rows_from}
+use Rattle.afdx_wiring.specs.Net.{Row, row_in, rows_in, rows_from, IsRowOf}
 use Rattle.afdx_wiring.specs.Order.{Answer, first_of, by_wires}
-
-pub some_same : {X : Type 0} {a b : X} → Some a ≡ Some b → a ≡ b
-some_same h = cc
 
 -- a rule that is kept
 abbrev pub fine : Answer
@@ -108,14 +105,6 @@ rows_stop rule n ts t e within is broken =
     ap (first_of rule) (next_rows n ts t within is) ∙ first_append rule (rows_in n t.links) rest ∙ ap (λ (a : Answer). a >>= λ _. first_of rule rest) broken
 
 -- ---- the table that a row is of
-
--- a row is of the table at its place, of which n come before these
-pub record IsRowOf (n : ℕ) (ts : List Content) (r : Row) : Type 0 where
-  pub place : ℕ
-  pub table : Content
-  pub switch : r.switch ≡ n + place
-  pub table_is : slice_get ts place ≡ Some table
-  pub known : Contains table.links r.link
 
 later : (n : ℕ) (t : Content) (ts : List Content) (r : Row) → IsRowOf (n + 1) ts r → IsRowOf n (t ∷ ts) r
 later n t ts r s = record {

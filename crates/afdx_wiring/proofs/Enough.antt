@@ -4,18 +4,19 @@ use Rattle.std.proofs.Common.{refl, ap, sym, ◌∙◌, arith}
 use Rattle.std.specs.Prelude.{IfOk}
 use Rattle.std.proofs.lemmas.Bool.Decides.{nat_tests}
 use Rattle.std.proofs.lemmas.List.Elements.{All-from_recursion, All-contains}
+use Rattle.std.proofs.lemmas.Option.{same_Some}
 use Rattle.afdx_table.specs.declared.rows.PortRow.{PortRow}
 use Rattle.afdx_table.specs.Link.{Link}
 use Rattle.afdx_table.specs.Content.{Content, port_row, link_row}
 use Rattle.afdx_load.specs.Load.{load_of}
 use Rattle.afdx_load.specs.Bounds.{bounds_of}
 use Rattle.afdx_series.specs.declared.delays.Delays.{Delays}
-use Rattle.afdx_series.specs.Delay.{hop_of, joined, at_once, IsEnough, need_of}
+use Rattle.afdx_series.specs.Delay.{hop_of, joined, at_once, IsEnough, least_jitter}
 use Rattle.afdx_wiring.specs.Net.{Network, Row, Back, port_at, row_at, row_in, rows_of, bound_in, bound_at, IsWayBack, source_of, AreDelays}
 use Rattle.afdx_wiring.specs.Rules.{HasJitters}
 use Rattle.afdx_wiring.specs.Refusal.{Gives}
 use Rattle.afdx_wiring.specs.Order.{Answer, within_reason, hop_over, hop_from, hop_on, way_by, way_within, has_jitter, jitter_enough, most_rows, shortage}
-use Rattle.afdx_wiring.proofs.Chains.{fine, some_same, unless_so, all_kept}
+use Rattle.afdx_wiring.proofs.Chains.{fine, unless_so, all_kept}
 use Rattle.afdx_wiring.proofs.FeedLemmas.{before_is}
 
 -- ---- a hop
@@ -28,12 +29,12 @@ row_switch net switch id r h = by (slice_get net.tables switch) h where
   by (Some t) is = of_link (link_row t id) is where
     of_link : (l : Option Link) → option_map (row_in switch) l ≡ Some r → r.switch ≡ switch
     of_link None found = absurd cc
-    of_link (Some l) found = ap (λ (q : Row). q.switch) (sym (some_same found))
+    of_link (Some l) found = ap (λ (q : Row). q.switch) (sym (same_Some _ _ found))
 
 pub reasonable : (bound other : ℕ) → within_reason bound ≡ Some other → other ≡ bound
 reasonable bound other h = by (nat_le bound 1000000000000) h where
   by : (b : Bool) → cond b (Some bound) None ≡ Some other → other ≡ bound
-  by true is = sym (some_same is)
+  by true is = sym (same_Some _ _ is)
   by false is = absurd cc
 
 -- what a step back says of the hop
@@ -64,7 +65,7 @@ hop_says net b d hop id row_is hop_is t p bound before t_is p_is bound_is d_is =
       by None is found = absurd cc
       by (Some n) is found =
           let same : d ≡ joined before hop
-          = d_is ∙ ap (λ (m : ℕ). joined before (hop_of p.speed t.latency m b.wire.delay)) (sym (reasonable bound n is)) ∙ ap (joined before) (some_same found) in
+          = d_is ∙ ap (λ (m : ℕ). joined before (hop_of p.speed t.latency m b.wire.delay)) (sym (reasonable bound n is)) ∙ ap (joined before) (same_Some _ _ found) in
           record { least = ap (λ (e : Delays). e.least) same; most = ap (λ (e : Delays). e.most) same }
 
 -- ---- the way
@@ -77,7 +78,7 @@ pub record Found (far : ℕ × Delays) (source : Row) (d after : Delays) : Type 
 
 at_source : (r : Row) (d after : Delays) (far : ℕ × Delays) → Some (r.link.jitter, after) ≡ Some far → d ≡ at_once → Found far r d after
 at_source r d after far h are =
-    let same : (r.link.jitter, after) ≡ far = some_same h in
+    let same : (r.link.jitter, after) ≡ far = same_Some _ _ h in
     let d_least : d.least ≡ 0 = ap (λ (e : Delays). e.least) are in
     let d_most : d.most ≡ 0 = ap (λ (e : Delays). e.most) are in
     let far_least : after.least ≡ far.1.least = ap (λ (f : ℕ × Delays). f.1.least) same in
@@ -126,7 +127,7 @@ row_has net r backs d h way are = by (way_within most_rows net r at_once) refl h
       let jitter = found.jitter in
       let least : far.1.least ≡ d.least + 0 = found.least in
       let most : far.1.most ≡ d.most + 0 = found.most in
-      let enough = whole far.0 far.1.most far.1.least r.link.jitter (unless_so (nat_lt (r.link.jitter / 1000) (need_of far.1 far.0)) _ kept) in
+      let enough = whole far.0 far.1.most far.1.least r.link.jitter (unless_so (nat_lt (r.link.jitter / 1000) (least_jitter far.1 far.0)) _ kept) in
       omega (arith, jitter, least, most, enough)
 
 pub enough : (net : Network) → shortage net ≡ Ok tt → HasJitters net

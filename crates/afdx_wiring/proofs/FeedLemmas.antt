@@ -1,12 +1,13 @@
 -- Rows whose way back ends.
 use Rattle.std.proofs.Common.{◌≡◌, ℕ, zero, suc, Bool, true, false, cond, List, [], ◌∷◌, Option, Some, None, option_and_then, Ok, refl, ap, ◌∙◌, subst}
 use Rattle.std.specs.Option.{option_map_or}
+use Rattle.std.proofs.lemmas.Option.{same_Some}
 use Rattle.afdx_table.specs.Link.{leads_to}
 use Rattle.afdx_wiring.specs.declared.fault.NetworkFault.TheVariants as fault
 use Rattle.afdx_wiring.specs.declared.layout.Wire.{Wire}
 use Rattle.afdx_wiring.specs.Net.{Network, Row, Back, row_at, ingress, wire_to, IsWayBack}
 use Rattle.afdx_wiring.specs.Order.{leading, row_before, ends_by, ends_within, most_rows, has_source}
-use Rattle.afdx_wiring.proofs.Chains.{some_same, unless_not}
+use Rattle.afdx_wiring.proofs.Chains.{unless_not}
 
 -- ---- a step back
 
@@ -17,7 +18,7 @@ pub record Before (net : Network) (id : ℕ) (w : Wire) (b : Row) : Type 0 where
 led : (port : ℕ) (r b : Row) → leading port r ≡ Some b → (r ≡ b) × (leads_to port r.link ≡ true)
 led port r b h = by (leads_to port r.link) refl h where
   by : (t : Bool) → leads_to port r.link ≡ t → cond t (Some r) None ≡ Some b → (r ≡ b) × (leads_to port r.link ≡ true)
-  by true is found = (some_same found, is)
+  by true is found = (same_Some _ _ found, is)
   by false is found = absurd cc
 
 pub before_says : (net : Network) (id : ℕ) (w : Wire) (b : Row) → row_before net id w ≡ Some b → Before net id w b

@@ -6,7 +6,8 @@ use Rattle.std.specs.List.{AllByRecursion}
 use Rattle.std.specs.Str.{bytes_eq}
 use Rattle.std.proofs.lemmas.List.Elements.{All-from_recursion, All-contains}
 use Rattle.std.proofs.lemmas.Slice.Eq.{bytes_eq-Decides}
-use Rattle.std.proofs.lemmas.Bool.{eqb-true}
+use Rattle.std.proofs.lemmas.Bool.{eqb-true, and_parts}
+use Rattle.std.proofs.lemmas.Option.{same_Some}
 use Rattle.afdx_units.specs.declared.bag.Bag.{Bag}
 use Rattle.afdx_units.specs.declared.bag.Bag.TheVariants.{Ms1, Ms2, Ms4, Ms8, Ms16, Ms32, Ms64, Ms128}
 use Rattle.afdx_units.specs.declared.line.Speed.{Speed}
@@ -25,14 +26,10 @@ use Rattle.afdx_wiring.specs.declared.shared.Shared.{Shared}
 use Rattle.afdx_wiring.specs.declared.shared.Shared.TheVariants as shared
 use Rattle.afdx_wiring.specs.Refusal.{◌>>=◌, or_refuse, unless}
 use Rattle.afdx_wiring.specs.File.{is_end}
-use Rattle.afdx_wiring.specs.Net.{Network, Row, port_at, row_in, rows_of, rows_on}
+use Rattle.afdx_wiring.specs.Net.{Network, Row, port_at, row_in, rows_of, rows_on, IsRowOf}
 use Rattle.afdx_wiring.specs.Rules.{Joins, GoesOn}
 use Rattle.afdx_wiring.specs.Order.{Answer, first_of, same_constant, same_rate, same_speed, joined_at, same_police, same_terms, agrees, goes_on, all_go_on, shares}
-use Rattle.afdx_wiring.proofs.Chains.{fine, some_same, first_kept, rest_kept, unless_not, all_kept, IsRowOf, all_rows, all_weaken}
-
-both : (a b : Bool) → (a && b) ≡ true → (a ≡ true) × (b ≡ true)
-both true b is = (refl, is)
-both false b is = absurd cc
+use Rattle.afdx_wiring.proofs.Chains.{fine, first_kept, rest_kept, unless_not, all_kept, all_rows, all_weaken}
 
 -- ---- constants and speeds
 
@@ -94,19 +91,19 @@ joins net at w h =
 
 -- ---- rows
 
-reported : (a : Bag) → bag_of (bag_ms a) ≡ Some a
+bag_found : (a : Bag) → bag_of (bag_ms a) ≡ Some a
 unfolding bag_of
-reported Ms1 = refl
-reported Ms2 = refl
-reported Ms4 = refl
-reported Ms8 = refl
-reported Ms16 = refl
-reported Ms32 = refl
-reported Ms64 = refl
-reported Ms128 = refl
+bag_found Ms1 = refl
+bag_found Ms2 = refl
+bag_found Ms4 = refl
+bag_found Ms8 = refl
+bag_found Ms16 = refl
+bag_found Ms32 = refl
+bag_found Ms64 = refl
+bag_found Ms128 = refl
 
 bags : (a b : Bag) → bag_ms a ≡ bag_ms b → a ≡ b
-bags a b h = some_same (sym (reported a) ∙ ap bag_of h ∙ reported b)
+bags a b h = same_Some _ _ (sym (bag_found a) ∙ ap bag_of h ∙ bag_found b)
 
 polices : (a b : Police) → same_police a b ≡ true → a ≡ b
 polices Byte Byte h = refl
@@ -152,7 +149,7 @@ terms at l next h =
 -- what one rule says of the row that is found
 agreed : (what : Shared) (at : At) (w : Wire) (l : Link) (o : Option Link) (next : Link) → o ≡ Some next
     → (or_refuse (fault.NoRow at l.id) o >>= agrees what at w l) ≡ Ok tt → agrees what at w l next ≡ Ok tt
-agreed what at w l (Some m) next is h = ap (agrees what at w l) (some_same (sym is)) ∙ h
+agreed what at w l (Some m) next is h = ap (agrees what at w l) (same_Some _ _ (sym is)) ∙ h
 agreed what at w l None next is h = absurd cc
 
 there_is : (what : Shared) (at : At) (w : Wire) (l : Link) (o : Option Link) → (or_refuse (fault.NoRow at l.id) o >>= agrees what at w l) ≡ Ok tt → (next : Link) × (o ≡ Some next)
@@ -178,12 +175,12 @@ behind number port term there w l leads n p t =
       police = same.police;
     }
 
--- one rule kept on a wire, reported of the rows of its first table
+-- one rule kept on a wire, said of the rows of its first table
 on_wire : (what : Shared) (at : At) (w : Wire) (h t : Option Content) (here there : Content) → h ≡ Some here → t ≡ Some there → all_go_on what at w h t ≡ Ok tt
     → AllByRecursion (λ l. goes_on what at there w l ≡ Ok tt) here.links
 on_wire what at w (Some a) (Some b) here there h_is t_is kept =
     all_kept (goes_on what at there w) here.links
-    (ap (λ (c : Content). first_of (goes_on what at there w) c.links) (some_same (sym h_is)) ∙ ap (λ (c : Content). first_of (goes_on what at c w) a.links) (some_same (sym t_is)) ∙ kept)
+    (ap (λ (c : Content). first_of (goes_on what at there w) c.links) (same_Some _ _ (sym h_is)) ∙ ap (λ (c : Content). first_of (goes_on what at c w) a.links) (same_Some _ _ (sym t_is)) ∙ kept)
 on_wire what at w (Some a) None here there h_is t_is kept = absurd cc
 on_wire what at w None t here there h_is t_is kept = absurd cc
 
@@ -224,7 +221,7 @@ same_table : (net : Network) (w : Wire) (j : Joins net w) (r : Row) (s : IsRowOf
 same_table net w j r s at =
     let placed = s.switch in
     let place : s.place ≡ w.from.switch = omega (arith, at, placed) in
-    some_same (sym s.table_is ∙ ap (slice_get net.tables) place ∙ j.here_is)
+    same_Some _ _ (sym s.table_is ∙ ap (slice_get net.tables) place ∙ j.here_is)
 
 -- where the rules on rows were kept on a wire that joins, each row on it goes on
 pub all_go : (net : Network) (w : Wire) → Joins net w → SharesAt net shared.Number w → SharesAt net shared.Port w → SharesAt net shared.Terms w → AllByRecursion (GoesOn net w) (rows_on net w)
@@ -234,7 +231,7 @@ all_go net w j n p t =
     (all_weaken (IsRowOf 0 net.tables) _ (rows_of net) each (all_rows 0 net.tables))) where
       each : (r : Row) → IsRowOf 0 net.tables r → is_end (record { switch = r.switch; port = w.from.port }) w.from ≡ true → leads_to w.from.port r.link ≡ true → GoesOn net w r
       each r s at leads =
-          let parts = both (r.switch == w.from.switch) (w.from.port == w.from.port) at in
+          let parts = and_parts (r.switch == w.from.switch) (w.from.port == w.from.port) at in
           let table = same_table net w j r s (eqb-true r.switch w.from.switch parts.0) in
           let among = subst (λ (c : Content). Contains c.links r.link) table s.known in
           goes net w j r (behind n.0 p.0 t.0 j.there w r.link leads (each_link net shared.Number w j n r.link among) (each_link net shared.Port w j p r.link among)

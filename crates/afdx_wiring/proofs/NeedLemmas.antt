@@ -8,7 +8,7 @@ use Rattle.std.proofs.lemmas.Bool.{eqb-true}
 use Rattle.afdx_table.specs.Link.{Link, with_jitter}
 use Rattle.afdx_table.specs.Content.{Content}
 use Rattle.afdx_series.specs.declared.delays.Delays.{Delays}
-use Rattle.afdx_series.specs.Delay.{at_once, need_of}
+use Rattle.afdx_series.specs.Delay.{at_once, least_jitter}
 use Rattle.afdx_wiring.specs.declared.fault.Short.{Short}
 use Rattle.afdx_wiring.specs.declared.jitters.RowNeed.{RowNeed}
 use Rattle.afdx_wiring.specs.declared.fault.NetworkFault.{NetworkFault}
@@ -51,7 +51,7 @@ kept_where false e h = refl
 
 has_its_need : (r : Row) (o : Option (ℕ × Delays)) → nat_le (needed false o) 10000 ≡ true → r.link.jitter ≡ needed false o * 1000 → has_jitter r o ≡ Ok tt
 has_its_need r None few is = absurd cc
-has_its_need r (Some far) few is = kept_where (nat_lt (r.link.jitter / 1000) (need_of far.1 far.0)) _ (no_less r.link.jitter (need_of far.1 far.0) is)
+has_its_need r (Some far) few is = kept_where (nat_lt (r.link.jitter / 1000) (least_jitter far.1 far.0)) _ (no_less r.link.jitter (least_jitter far.1 far.0) is)
 
 each_has : (net : Network) (rs : List Row) → list_all is_met (map (need_in false net) rs) ≡ true → AllByRecursion (Fine (jitter_enough net)) rs
 each_has net [] h = tt

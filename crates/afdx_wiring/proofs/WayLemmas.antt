@@ -6,13 +6,14 @@ use Rattle.std.specs.List.{filter, AllZip}
 use Rattle.std.proofs.Math.Seq.{drop-cons}
 use Rattle.std.proofs.lemmas.List.{take_more, reverse-append}
 use Rattle.std.proofs.lemmas.List.Concat.{flat_map-append}
+use Rattle.std.proofs.lemmas.Option.{same_Some}
 use Rattle.afdx_table.specs.declared.rows.PortRow.{PortRow}
 use Rattle.afdx_table.specs.Link.{Link}
 use Rattle.afdx_table.specs.Content.{Content, port_row}
 use Rattle.afdx_load.specs.Load.{load_of}
 use Rattle.afdx_load.specs.Bounds.{bounds_of}
 use Rattle.afdx_series.specs.declared.delays.Delays.{Delays}
-use Rattle.afdx_series.specs.Delay.{hop_of, joined, need_of}
+use Rattle.afdx_series.specs.Delay.{hop_of, joined, least_jitter}
 use Rattle.afdx_wiring.specs.declared.exits.Exit.{Exit}
 use Rattle.afdx_wiring.specs.declared.layout.End.{End}
 use Rattle.afdx_wiring.specs.declared.layout.Wire.{Wire}
@@ -20,7 +21,7 @@ use Rattle.afdx_wiring.specs.declared.ways.Way.{Way}
 use Rattle.afdx_wiring.specs.Net.{Network, Row, Back, row_in, rows_in, rows_from, port_at, ingress, wire_to, bound_in, bound_at, source_of}
 use Rattle.afdx_wiring.specs.Order.{row_before, within_reason, hop_from, hop_on}
 use Rattle.afdx_wiring.specs.Ways.{leads_out, exits_at, IsWayOver, IsWayAlong, IsWayOut}
-use Rattle.afdx_wiring.proofs.Chains.{some_same, next_row, next_rows}
+use Rattle.afdx_wiring.proofs.Chains.{next_row, next_rows}
 use Rattle.afdx_wiring.proofs.Enough.{row_switch, reasonable, from_port}
 use Rattle.afdx_wiring.proofs.FeedLemmas.{before_says}
 
@@ -97,11 +98,11 @@ goes_over net r line hop same h = by (slice_get net.tables r.switch) refl h wher
           table_is = is;
           port_is = ap (option_and_then (λ (c : Content). port_row c line.from.port)) (ap (slice_get net.tables) (sym same) ∙ is) ∙ p_is;
           bound_is = ap (option_and_then (λ (c : Content). bound_in (bounds_of (load_of c.latency p.speed p.id c.links)) r.link.priority)) is ∙ b_is;
-          hop_is = sym (some_same last) ∙ ap (λ (m : ℕ). hop_of p.speed t.latency m line.delay) (reasonable bound n n_is);
+          hop_is = sym (same_Some _ _ last) ∙ ap (λ (m : ℕ). hop_of p.speed t.latency m line.delay) (reasonable bound n n_is);
         }
 
 pub longer : (net : Network) (r : Row) (line : Wire) (old new : Way) (hop : Delays) → r.switch ≡ line.from.switch → hop_on net r line.from.port line.delay ≡ Some hop → new.link ≡ old.link
-    → new.from ≡ old.from → new.jitter ≡ old.jitter → new.ports.items ≡ old.ports.items ++ line.from ∷ [] → new.jitters.items ≡ old.jitters.items ++ need_of old.delays old.jitter ∷ []
+    → new.from ≡ old.from → new.jitter ≡ old.jitter → new.ports.items ≡ old.ports.items ++ line.from ∷ [] → new.jitters.items ≡ old.jitters.items ++ least_jitter old.delays old.jitter ∷ []
     → new.delays ≡ joined old.delays hop → (source : Row) (stages : List Back) → IsWayOver net source stages old → IsWayOver net source (record { wire = line; row = r } ∷ stages) new
 longer net r line old new hop same h link from jitter ports jitters delays source stages w =
     let over = goes_over net r line hop same h in
@@ -110,7 +111,7 @@ longer net r line old new hop same h link from jitter ports jitters delays sourc
       from = from ∙ w.from;
       jitter = jitter ∙ w.jitter;
       ports = ports ∙ ap (λ (es : List End). es ++ line.from ∷ []) w.ports ∙ sym (reverse-append (line.from ∷ []) (map (λ (b : Back). b.wire.from) stages));
-      jitters = (old.delays, old.jitters.items, w.delays, w.jitters, jitters ∙ ap (λ (first : ℕ). old.jitters.items ++ need_of old.delays first ∷ []) w.jitter);
+      jitters = (old.delays, old.jitters.items, w.delays, w.jitters, jitters ∙ ap (λ (first : ℕ). old.jitters.items ++ least_jitter old.delays first ∷ []) w.jitter);
       delays = (over.table, over.port, over.bound, old.delays, over.table_is, over.port_is, over.bound_is, w.delays, delays ∙ ap (joined old.delays) over.hop_is);
     }
 

@@ -2,5 +2,5 @@
 use Rattle.std.specs.Prelude.{ℕ, List, [], ◌∷◌, ◌++◌}
 
 -- each line ends with a line feed
-abbrev pub ended : List ℕ → List ℕ
-ended line = line ++ 10 ∷ []
+abbrev pub as_line : List ℕ → List ℕ
+as_line line = line ++ 10 ∷ []

@@ -3,7 +3,7 @@ use Rattle.std.specs.Prelude.{◌≡◌, ℕ, ◌*◌, ◌/◌, ◌==◌, ◌&&�
 use Rattle.afdx_table.specs.Link.{Link}
 use Rattle.afdx_table.specs.Content.{Content}
 use Rattle.afdx_series.specs.declared.delays.Delays.{Delays}
-use Rattle.afdx_series.specs.Delay.{at_once, need_of}
+use Rattle.afdx_series.specs.Delay.{at_once, least_jitter}
 use Rattle.afdx_wiring.specs.declared.fault.Short.{Short}
 use Rattle.afdx_wiring.specs.declared.jitters.RowNeed.{RowNeed}
 use Rattle.afdx_wiring.specs.Net.{Network, Row, rows_of}
@@ -29,13 +29,13 @@ DiffersInJitters net other = (other.layout ≡ net.layout) × (map bare other.ta
 abbrev pub needed : (start : Bool) → Option (ℕ × Delays) → ℕ
 needed start None = 1000000000
 needed true (Some far) = far.0 / 1000
-needed false (Some far) = need_of far.1 far.0
+needed false (Some far) = least_jitter far.1 far.0
 
-abbrev pub reported : Row → (need : ℕ) → RowNeed
-reported r need = record { switch = r.switch; link = r.link.id; has = r.link.jitter; need = need }
+abbrev pub row_with_need : Row → (need : ℕ) → RowNeed
+row_with_need r need = record { switch = r.switch; link = r.link.id; has = r.link.jitter; need = need }
 
 abbrev pub need_in : (start : Bool) → Network → Row → RowNeed
-need_in start net r = reported r (needed start (way_within most_rows net r at_once))
+need_in start net r = row_with_need r (needed start (way_within most_rows net r at_once))
 
 -- a table has a jitter of at most 10,000 microseconds
 abbrev pub is_past : RowNeed → Bool

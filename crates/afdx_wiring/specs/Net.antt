@@ -1,5 +1,5 @@
 -- A network: what its file says, and the tables of its switches (profile). The wires of a link's way are found from its end.
-use Rattle.std.specs.Prelude.{◌≡◌, ℕ, true, List, [], ◌∷◌, map, filter, find, flat_map, slice_get, Option, Some, None, option_map, option_and_then}
+use Rattle.std.specs.Prelude.{◌≡◌, ℕ, ◌+◌, true, List, [], ◌∷◌, map, filter, find, flat_map, slice_get, Option, Some, None, option_map, option_and_then, Contains}
 use Rattle.std.specs.List.{enumerate_from}
 use Rattle.afdx_units.specs.declared.line.Priority.{Priority}
 use Rattle.afdx_units.specs.declared.line.Priority.TheVariants.{High, Low}
@@ -48,6 +48,14 @@ rows_from n tables = flat_map (λ at. rows_in at.0 at.1.links) (enumerate_from n
 -- all rows: by switch, then in the order of its table
 abbrev pub rows_of : Network → List Row
 rows_of net = rows_from 0 net.tables
+
+-- a row is of the table at its switch's place, of which n come before these
+pub record IsRowOf (n : ℕ) (tables : List Content) (r : Row) : Type 0 where
+  pub place : ℕ
+  pub table : Content
+  pub switch : r.switch ≡ n + place
+  pub table_is : slice_get tables place ≡ Some table
+  pub known : Contains table.links r.link
 
 -- the rows of its first switch that lead to a wire
 abbrev pub rows_on : Network → Wire → List Row

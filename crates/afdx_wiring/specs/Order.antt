@@ -18,7 +18,7 @@ use Rattle.afdx_load.specs.Accepted.{first_fault}
 use Rattle.afdx_load.specs.declared.fault.LoadFault.{LoadFault}
 use Rattle.afdx_load.specs.Bounds.{bounds_of}
 use Rattle.afdx_series.specs.declared.delays.Delays.{Delays}
-use Rattle.afdx_series.specs.Delay.{hop_of, joined, at_once, need_of}
+use Rattle.afdx_series.specs.Delay.{hop_of, joined, at_once, least_jitter}
 use Rattle.afdx_wiring.specs.declared.fault.At.{At}
 use Rattle.afdx_wiring.specs.declared.fault.At.TheVariants as place
 use Rattle.afdx_wiring.specs.declared.fault.NetworkFault.{NetworkFault}
@@ -207,8 +207,8 @@ way_within (suc n) net r after = way_by (way_within n net) net r after (wire_to 
 abbrev pub has_jitter : Row → Option (ℕ × Delays) → Answer
 has_jitter r None = Err (fault.NoSource r.switch r.link.id)
 has_jitter r (Some far) =
-    unless (nat_lt (r.link.jitter / 1000) (need_of far.1 far.0))
-    (fault.Jitter (record { switch = r.switch; link = r.link.id; need = need_of far.1 far.0; has = r.link.jitter / 1000 }))
+    unless (nat_lt (r.link.jitter / 1000) (least_jitter far.1 far.0))
+    (fault.Jitter (record { switch = r.switch; link = r.link.id; need = least_jitter far.1 far.0; has = r.link.jitter / 1000 }))
 
 abbrev pub jitter_enough : Network → Row → Answer
 jitter_enough net r = has_jitter r (way_within most_rows net r at_once)

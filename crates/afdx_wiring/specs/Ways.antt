@@ -5,7 +5,7 @@ use Rattle.std.specs.List.Sorted.{IsPermutation, IsSorted}
 use Rattle.std.specs.Ordering.{nat_cmp, ordering_then}
 use Rattle.std.specs.declared.cmp.Ordering.{Ordering}
 use Rattle.afdx_series.specs.declared.delays.Delays.{Delays}
-use Rattle.afdx_series.specs.Delay.{need_of}
+use Rattle.afdx_series.specs.Delay.{least_jitter}
 use Rattle.afdx_wiring.specs.declared.exits.Exit.{Exit}
 use Rattle.afdx_wiring.specs.declared.layout.End.{End}
 use Rattle.afdx_wiring.specs.declared.layout.Wire.{Wire}
@@ -47,7 +47,7 @@ line_of x = record { from = end_of x; to = end_of x; delay = 0 }
 abbrev pub AreNeedsOn : Network → (first : ℕ) → List Back → List ℕ → Type 0
 AreNeedsOn net first [] needs = needs ≡ []
 AreNeedsOn net first (b ∷ more) needs =
-    (d : Delays) × (earlier : List ℕ) × AreDelays net more d × AreNeedsOn net first more earlier × (needs ≡ earlier ++ need_of d first ∷ [])
+    (d : Delays) × (earlier : List ℕ) × AreDelays net more d × AreNeedsOn net first more earlier × (needs ≡ earlier ++ least_jitter d first ∷ [])
 
 -- the way from a source over these stages, each a row and the line behind its port, the last one first
 pub record IsWayOver (net : Network) (source : Row) (stages : List Back) (w : Way) : Type 0 where

@@ -4,7 +4,7 @@ ghost use Rattle.std.specs.Prelude.{◌≡◌, ◌≤◌, ◌++◌, ◌||◌, ma
 ghost use Rattle.std.specs.List.{list_all};
 ghost use Rattle.afdx_wiring.specs.Net.{rows_of};
 ghost use Rattle.afdx_wiring.specs.Order.{row_of};
-ghost use Rattle.afdx_wiring.specs.Needs.{bare, DiffersInJitters, AreNeeds, needed, reported, need_in, past_of, is_met};
+ghost use Rattle.afdx_wiring.specs.Needs.{bare, DiffersInJitters, AreNeeds, needed, row_with_need, need_in, past_of, is_met};
 
 use crate::fault::{NetworkFault, Short};
 use crate::hops::Hops;
@@ -48,8 +48,8 @@ pub struct Needs {
 }
 
 /// A row, and what it needs.
-fn reported(row: Row<'_>, need: u64) -> RowNeed
-    ensures { result ≡ reported (row_of row.entry) need }
+fn row_with_need(row: Row<'_>, need: u64) -> RowNeed
+    ensures { result ≡ row_with_need (row_of row.entry) need }
 {
     let link = row.link;
     RowNeed {
@@ -78,7 +78,7 @@ impl<'a> Hops<'a> {
         ensures { result ≡ need_in start self.now (row_of row.entry) }
     {
         let far = self.way_within(MOST_ROWS, row, Delays::none());
-        reported(row, needed(start, far))
+        row_with_need(row, needed(start, far))
     }
 
     /// Adds what the rows of a switch need.

@@ -3,7 +3,7 @@ use Rattle.std.specs.Prelude.{◌≡◌, ◌↔◌, ℕ, ◌*◌, ◌-◌, ◌�
 use Rattle.afdx_units.specs.declared.bag.Bag.{Bag}
 use Rattle.afdx_units.specs.declared.line.Speed.{Speed}
 use Rattle.afdx_units.specs.declared.police.Police.{Police}
-use Rattle.afdx_units.specs.Line.{cost_of}
+use Rattle.afdx_units.specs.Line.{least_size, cost_of}
 use Rattle.afdx_account.specs.declared.frame.Frame.{Frame}
 use Rattle.afdx_account.specs.Policing.{parts, Terms, Conforms, byte_terms, byte_weight, frame_terms, frame_weight, terms_by, weight_by, conforms, passed_of, passed_frames}
 use Rattle.afdx_account.specs.Level.{InOrder, headroom, NoneLater, credited_level, stepped}
@@ -54,7 +54,7 @@ HeadroomIsDebited = (t : Terms) (passed : List Frame) (f : Frame)
 
 -- what a frame costs in bytes pays for its line time
 abbrev pub BytePricesPay : Type 0
-BytePricesPay = (max_size : ℕ) (bag : Bag) (jitter : ℕ) (speed : Speed) (size : ℕ) → 64 ≤ size
+BytePricesPay = (max_size : ℕ) (bag : Bag) (jitter : ℕ) (speed : Speed) (size : ℕ) → least_size ≤ size
     → parts * cost_of speed size ≤ byte_weight bag speed * (byte_terms max_size bag jitter).price size
 
 -- by frames, the price pays for the line time of each frame that the link allows
@@ -64,5 +64,5 @@ FramePricesPay = (max_size : ℕ) (bag : Bag) (jitter : ℕ) (speed : Speed) (si
 
 -- by either kind
 abbrev pub PricesPay : Type 0
-PricesPay = (police : Police) (max_size : ℕ) (bag : Bag) (jitter : ℕ) (speed : Speed) (size : ℕ) → 64 ≤ size → size ≤ max_size
+PricesPay = (police : Police) (max_size : ℕ) (bag : Bag) (jitter : ℕ) (speed : Speed) (size : ℕ) → least_size ≤ size → size ≤ max_size
     → parts * cost_of speed size ≤ weight_by police max_size bag speed * (terms_by police max_size bag jitter).price size

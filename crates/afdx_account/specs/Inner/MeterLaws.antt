@@ -5,7 +5,7 @@ use Rattle.afdx_units.specs.declared.bag.Bag.{Bag}
 use Rattle.afdx_units.specs.declared.bag.Bag.TheVariants.{Ms1, Ms2, Ms4, Ms8, Ms16, Ms32, Ms64, Ms128}
 use Rattle.afdx_units.specs.declared.line.Speed.{Speed}
 use Rattle.afdx_units.specs.Time.{bag_ms, bag_ns}
-use Rattle.afdx_units.specs.Line.{tick_of, cost_of}
+use Rattle.afdx_units.specs.Line.{least_size, tick_of, cost_of}
 use Rattle.afdx_account.specs.declared.account.Account.{Account}
 use Rattle.afdx_account.specs.declared.account.Account.TheVariants.{Byte, Frame}
 use Rattle.afdx_account.specs.Policing.{parts, byte_weight, frame_weight}
@@ -31,7 +31,7 @@ parts_of_gap Ms64 = refl
 parts_of_gap Ms128 = refl
 
 -- whatever a byte takes on the line
-bytes_pay : (t k b size : ℕ) → k * b ≡ 128000000 → 64 ≤ size → 2048000000 * ((size + 20) * t) ≤ 21 * t * k * (size * b)
+bytes_pay : (t k b size : ℕ) → k * b ≡ 128000000 → least_size ≤ size → 2048000000 * ((size + 20) * t) ≤ 21 * t * k * (size * b)
 bytes_pay t k b size is h =
     let more : t * 64 ≤ t * size = mul-le-mul_left t h in
     let whole : 21 * t * k * (size * b) ≡ 21 * t * size * (k * b) = omega arith in
@@ -45,7 +45,7 @@ frames_pay t k b max_size size is h =
     let parts : 16 * ((max_size + 20) * t) * (k * b) ≡ 16 * ((max_size + 20) * t) * 128000000 = ap (λ (n : ℕ). 16 * ((max_size + 20) * t) * n) is in
     omega (arith, more, whole, parts)
 
-pub pays_for : (bag : Bag) (speed : Speed) (size : ℕ) → 64 ≤ size
+pub pays_for : (bag : Bag) (speed : Speed) (size : ℕ) → least_size ≤ size
     → parts * cost_of speed size ≤ byte_weight bag speed * (size * bag_ns bag)
 pays_for bag speed size h = bytes_pay (tick_of speed) (128 / bag_ms bag) (bag_ns bag) size (parts_of_gap bag) h
 
@@ -67,7 +67,7 @@ pub account_credited : (a : Account) (at later : ℕ) → account_since a ≤ at
 account_credited (Byte a) at later h k = fills (a.max_size * (bag_ns a.bag + a.jitter)) a.max_size a.level a.since at later h k
 account_credited (Frame a) at later h k = fills (bag_ns a.bag + a.jitter) 1 a.level a.since at later h k
 
-pub account_pays : (a : Account) (speed : Speed) (size : ℕ) → 64 ≤ size → size ≤ account_greatest a
+pub account_pays : (a : Account) (speed : Speed) (size : ℕ) → least_size ≤ size → size ≤ account_greatest a
     → parts * cost_of speed size ≤ account_weight a speed * (account_terms a).price size
 account_pays (Byte a) speed size h k = pays_for a.bag speed size h
 account_pays (Frame a) speed size h k = frame_pays_for a.bag speed a.max_size size k

@@ -13,11 +13,11 @@ use Rattle.afdx_load.specs.Load.{terms_of}
 use Rattle.afdx_core.specs.declared.step.Row.{Row}
 use Rattle.afdx_core.specs.Rows.{says_clean, named, account_frames, feed_of}
 use Rattle.afdx_core.specs.State.{Run, sent_in}
-use Rattle.afdx_isolation.specs.Arrivals.{frame_in}
+use Rattle.afdx_isolation.specs.Arrivals.{frame_of_item}
 
 -- the frames of a link among these items
 abbrev pub part_of : ℕ → List Item → List Frame
-part_of i items = map frame_in (filter (λ item. item.link == i) items)
+part_of i items = map frame_of_item (filter (λ item. item.link == i) items)
 
 -- a port that a link leads to is offered exactly what the link's policing passes of its own frames, in order
 abbrev pub FeedIsPassed : Type 0

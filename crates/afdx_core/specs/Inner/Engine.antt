@@ -6,6 +6,7 @@ use Rattle.afdx_table.specs.declared.rows.PortRow.{PortRow}
 use Rattle.afdx_table.specs.Link.{names_port}
 use Rattle.afdx_table.specs.Content.{Content}
 use Rattle.afdx_units.specs.Time.{last_second}
+use Rattle.afdx_units.specs.Line.{least_size, greatest_size}
 use Rattle.afdx_load.specs.Accepted.{IsAccepted}
 use Rattle.afdx_port.specs.declared.Sent.{Sent}
 use Rattle.afdx_port.specs.Content.{fresh, done}
@@ -75,7 +76,7 @@ pub record CanBeTaken {Z : Type 0} (e : Engine Z) (row : Row) : Type 0 where
 
 -- a row of a clean frame is within the sizes
 abbrev pub IsSized : Row → Type 0
-IsSized row = (64 ≤ row.size) × (row.size ≤ 1518)
+IsSized row = (least_size ≤ row.size) × (row.size ≤ greatest_size)
 
 -- the place of a port, and its next sent frame that was not handed out: its bytes are kept, and it can be counted
 pub record IsToHandOut {Z : Type 0} (e : Engine Z) (port place : ℕ) (s : Sent) : Type 0 where

@@ -8,9 +8,13 @@ use Rattle.afdx_core.specs.Merge.{Arrival, Capture, Rises, records_of, arrivals_
 abbrev pub part_at : ℕ → List Arrival → List Record
 part_at port arrivals = map (λ a. a.frame) (filter (λ a. a.port == port) arrivals)
 
+-- no stamp is below the one before it
+abbrev pub AreInOrder : List Arrival → Type 0
+AreInOrder arrivals = Rises (map (λ a. a.frame) arrivals)
+
 -- a merge: its stamps do not fall, and its part from each port is that port's records
 pub record IsMerge (captures : List Capture) (arrivals : List Arrival) : Type 0 where
-  pub in_order : Rises (map (λ a. a.frame) arrivals)
+  pub in_order : AreInOrder arrivals
   pub parts : (port : ℕ) → part_at port arrivals ≡ records_of captures port
 
 -- where no port's stamps fall, the program's merge is one

@@ -52,8 +52,8 @@ unfoldable pub carried_due : ℕ → Out → Out
 carried_due at o = if has_due at o.content then carried at o else o
 
 -- at the end
-abbrev pub ended : Out → Out
-ended o = record { row = o.row; content = closed o.content; handed = o.handed }
+abbrev pub ended_out : Out → Out
+ended_out o = record { row = o.row; content = closed o.content; handed = o.handed }
 
 -- an output port may take an item: it is not finished, has room, and nothing of it is due
 pub record CanTake {Z : Type 0} (item : Item) (o : OutputPort Z) : Type 0 where

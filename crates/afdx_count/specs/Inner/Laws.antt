@@ -14,7 +14,7 @@ use Rattle.afdx_core.specs.State.{Run, step_of, after_finish}
 use Rattle.afdx_count.specs.declared.counters.InCount.{InCount}
 use Rattle.afdx_count.specs.declared.counters.OutCount.{OutCount}
 use Rattle.afdx_count.specs.Counting.{greatest_count}
-use Rattle.afdx_count.specs.Tally.{fresh, noted, ended}
+use Rattle.afdx_count.specs.Tally.{fresh, noted, ended_tally}
 use Rattle.afdx_count.specs.Run.{input_counts, link_counts, output_counts, counts_so_far, counts_of, run_after, steps_of, noted_all}
 
 -- counters at 0 are the counts of no arrivals
@@ -27,12 +27,12 @@ NoteCountsOneMore = (r : Run) (row : Row) → IsWellFormed r.table → noted (st
 
 -- the end makes them the counts of the run
 abbrev pub EndCountsTheRun : Type 0
-EndCountsTheRun = (r : Run) → IsWellFormed r.table → ended (after_finish r) (counts_so_far r.table r.rows) ≡ counts_of r.table r.rows
+EndCountsTheRun = (r : Run) → IsWellFormed r.table → ended_tally (after_finish r) (counts_so_far r.table r.rows) ≡ counts_of r.table r.rows
 
 -- so the notes of all arrivals, and then the end, make the counts of the run
 abbrev pub NotesCountTheRun : Type 0
 NotesCountTheRun = (t : Content) (rows : List Row) → IsWellFormed t
-    → ended (after_finish (run_after t rows)) (noted_all (steps_of t rows) (fresh t)) ≡ counts_of t rows
+    → ended_tally (after_finish (run_after t rows)) (noted_all (steps_of t rows) (fresh t)) ≡ counts_of t rows
 
 -- ---- sums, while no counter is at its greatest value
 

@@ -1,5 +1,6 @@
 -- The accounts of a port's flows, as far as the potentials know them: levels that grow, and are debited.
 use Rattle.std.specs.Prelude.{ℕ, ◌+◌, ◌*◌, ◌≤◌, ◌≡◌, nat_eq, if◌then◌else◌, List, All, Contains}
+use Rattle.afdx_units.specs.Line.{least_size}
 use Rattle.afdx_port.specs.declared.Item.{Item}
 use Rattle.afdx_isolation.specs.Inner.Flow.{Flow}
 
@@ -24,5 +25,5 @@ pub record IsOfAFlow (flows : List Flow) (x : Item) : Type 0 where
   pub among : Contains flows flow
   pub same : flow.id ≡ x.link
   pub priority : flow.priority ≡ x.priority
-  pub least : 64 ≤ x.size
+  pub least : least_size ≤ x.size
   pub largest : x.size ≤ flow.largest

@@ -11,10 +11,10 @@ use Rattle.afdx_port.specs.Admission.{admitted}
 use Rattle.afdx_port.specs.Content.{Content, done}
 use Rattle.afdx_port.specs.Inner.Course.{line_at}
 use Rattle.afdx_port.specs.Inner.Work.{item_cost}
-use Rattle.afdx_isolation.specs.Inner.Flow.{Flow, Demand, IsPaidFor, IsWithinRate, HasBuffer, IsWithinDelay, Carries, AreDistinct, demand_of, bound}
+use Rattle.afdx_isolation.specs.Inner.Flow.{Flow, Demand, IsPaidFor, IsWithinRate, HasBuffer, IsWithinDelay, CarriesFlows, AreDistinct, demand_of, bound}
 use Rattle.afdx_isolation.specs.Inner.Potential.{KeepsPotentials}
 use Rattle.afdx_isolation.specs.Inner.Account.{IsOfAFlow}
-use Rattle.afdx_isolation.specs.Arrivals.{own, frame_in}
+use Rattle.afdx_isolation.specs.Arrivals.{own, frame_of_item}
 use Rattle.afdx_isolation.specs.Inner.Arrivals.{StampsDoNotFall, IsClean, passed, feed_of, level_after}
 
 -- arrivals at the switch of this port: the flows are policed at prices that pay for line time, no two have one number,
@@ -68,7 +68,7 @@ pub record IsIsolatedPort (s : Settings) (flows : List Flow) (arrivals : List It
       → own flow.id (map item_of (service s 0 (admitted s (feed_of flows arrivals)))) ≡ passed flow arrivals
 
 abbrev pub Isolates : Type 0
-Isolates = (s : Settings) (flows : List Flow) (arrivals : List Item) → Arrive s flows arrivals → Carries s flows → IsIsolatedPort s flows arrivals
+Isolates = (s : Settings) (flows : List Flow) (arrivals : List Item) → Arrive s flows arrivals → CarriesFlows s flows → IsIsolatedPort s flows arrivals
 
 -- of each link a prefix of what its policing passes of its own arrivals has left, in order, all of it once the port is finished
 abbrev pub PrefixLeaves : List Flow → List Item → Content → Type 0
@@ -85,17 +85,17 @@ pub record IsIsolatedSoFar (flows : List Flow) (arrivals : List Item) (c : Conte
   pub prefix : PrefixLeaves flows arrivals c
 
 abbrev pub IsolatesSoFar : Type 0
-IsolatesSoFar = (c : Content) (flows : List Flow) (arrivals : List Item) → Arrive c.settings flows arrivals → Carries c.settings flows
+IsolatesSoFar = (c : Content) (flows : List Flow) (arrivals : List Item) → Arrive c.settings flows arrivals → CarriesFlows c.settings flows
     → c.admitted ≡ admitted c.settings (feed_of flows arrivals) → IsIsolatedSoFar flows arrivals c
 
 -- the frames that leave a port for a link
 abbrev pub frames_for : ℕ → Settings → List Flow → List Item → List Frame
-frames_for id s flows arrivals = map frame_in (own id (map item_of (service s 0 (admitted s (feed_of flows arrivals)))))
+frames_for id s flows arrivals = map frame_of_item (own id (map item_of (service s 0 (admitted s (feed_of flows arrivals)))))
 
 -- they are the same at two ports, of two tables and two lists of arrivals, where the link's terms and its own frames are the
 -- same, whatever the other links are and send
 abbrev pub OthersChangeNothing : Type 0
 OthersChangeNothing = (s s' : Settings) (flows flows' : List Flow) (flow flow' : Flow) (arrivals arrivals' : List Item)
-    → Arrive s flows arrivals → Carries s flows → Arrive s' flows' arrivals' → Carries s' flows'
-    → Contains flows flow → Contains flows' flow' → flow.terms ≡ flow'.terms → map frame_in (own flow.id arrivals) ≡ map frame_in (own flow'.id arrivals')
+    → Arrive s flows arrivals → CarriesFlows s flows → Arrive s' flows' arrivals' → CarriesFlows s' flows'
+    → Contains flows flow → Contains flows' flow' → flow.terms ≡ flow'.terms → map frame_of_item (own flow.id arrivals) ≡ map frame_of_item (own flow'.id arrivals')
     → frames_for flow.id s flows arrivals ≡ frames_for flow'.id s' flows' arrivals'

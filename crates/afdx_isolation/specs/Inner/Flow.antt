@@ -2,7 +2,7 @@
 use Rattle.std.specs.Prelude.{ℕ, ◌+◌, ◌-◌, ◌*◌, ◌/◌, ◌<◌, ◌≤◌, ◌≡◌, max, not, filter, List, [], ◌∷◌, sum_by, All, Contains}
 use Rattle.afdx_units.specs.declared.line.Priority.{Priority}
 use Rattle.afdx_units.specs.declared.line.Priority.TheVariants.{High, Low}
-use Rattle.afdx_units.specs.Line.{cost_of, tick_of, is_high}
+use Rattle.afdx_units.specs.Line.{least_size, cost_of, tick_of, is_high}
 use Rattle.afdx_account.specs.Policing.{Terms, parts}
 use Rattle.afdx_port.specs.declared.Settings.{Settings}
 
@@ -17,7 +17,7 @@ pub record Flow : Type 0 where
 
 -- the price of each frame pays for its line time, and units are credited
 pub record IsPaidFor (s : Settings) (flow : Flow) : Type 0 where
-  pub pays : (size : ℕ) → 64 ≤ size → size ≤ flow.largest → parts * cost_of s.speed size ≤ flow.weight * flow.terms.price size
+  pub pays : (size : ℕ) → least_size ≤ size → size ≤ flow.largest → parts * cost_of s.speed size ≤ flow.weight * flow.terms.price size
   pub credited : 0 < flow.weight * flow.terms.rate
 
 abbrev pub high_flows : List Flow → List Flow
@@ -82,7 +82,7 @@ abbrev pub IsWithinDelay : Settings → List Flow → Priority → Type 0
 IsWithinDelay s flows priority = All (λ flow. flow.priority ≡ priority → bound (demand_of s flows) priority ≤ s.max_delay) flows
 
 -- a port that can give what its flows ask for
-pub record Carries (s : Settings) (flows : List Flow) : Type 0 where
+pub record CarriesFlows (s : Settings) (flows : List Flow) : Type 0 where
   pub rate : IsWithinRate s flows
   pub buffer : HasBuffer s flows
   pub high : IsWithinDelay s flows High

@@ -1,5 +1,6 @@
 -- The same on the rows of a table whose load is accepted.
 use Rattle.std.specs.Prelude.{◌≡◌, ℕ, ◌≤◌, true, ◌&&◌, List, [], ◌++◌, map, All, Contains}
+use Rattle.afdx_units.specs.Line.{least_size}
 use Rattle.afdx_units.specs.declared.line.Speed.{Speed}
 use Rattle.afdx_account.specs.declared.frame.Frame.{Frame}
 use Rattle.afdx_account.specs.Policing.{conforms, passed_of, passed_frames}
@@ -16,7 +17,7 @@ use Rattle.afdx_load.specs.Load.{routed, load_of, terms_of, weight_of}
 use Rattle.afdx_load.specs.Bounds.{backlog, byte_time}
 use Rattle.afdx_load.specs.Accepted.{IsAccepted}
 use Rattle.afdx_isolation.specs.Inner.Flow.{Flow}
-use Rattle.afdx_isolation.specs.Arrivals.{own, frame_in}
+use Rattle.afdx_isolation.specs.Arrivals.{own, frame_of_item}
 use Rattle.afdx_isolation.specs.Inner.Arrivals.{StampsDoNotFall, joins, feed_of}
 use Rattle.afdx_isolation.specs.Table.{IsInBoundAt, settings_of}
 
@@ -30,7 +31,7 @@ flows_at t row = map (flow_of row.speed) (routed row.id t.links)
 
 -- an arrival of a link has its priority, and a size that it allows
 abbrev pub IsCleanIn : Content → Item → Type 0
-IsCleanIn t x = All (λ link. link.id ≡ x.link → (link.priority ≡ x.priority) × (64 ≤ x.size) × (x.size ≤ link.max_size)) t.links
+IsCleanIn t x = All (λ link. link.id ≡ x.link → (link.priority ≡ x.priority) × (least_size ≤ x.size) × (x.size ≤ link.max_size)) t.links
 
 -- the arrivals at a switch with an accepted table
 pub record ArriveAt (t : Content) (arrivals : List Item) : Type 0 where
@@ -41,7 +42,7 @@ pub record ArriveAt (t : Content) (arrivals : List Item) : Type 0 where
 
 -- the arrivals of a link that its policing passes
 abbrev pub passed_by : Link → List Item → List Item
-passed_by link arrivals = passed_of frame_in (terms_of link) (own link.id arrivals)
+passed_by link arrivals = passed_of frame_of_item (terms_of link) (own link.id arrivals)
 
 -- what a port of the table has done so far, that was offered what these arrivals gave it
 pub record IsIsolatedAt (t : Content) (row : PortRow) (arrivals : List Item) (c : PortContent) : Type 0 where
@@ -70,11 +71,11 @@ BuffersHoldTheBacklog = (t : Content) (arrivals : List Item) → ArriveAt t arri
 -- a copy of an arrival of a link is offered to a port exactly where the link leads there and its policing passes the frame
 abbrev pub OffersWhatThePolicingPasses : Type 0
 OffersWhatThePolicingPasses = (t : Content) → IsWellFormed t → (row : PortRow) (link : Link) → Contains t.links link → (before : List Item) (x : Item) → x.link ≡ link.id
-    → joins (flows_at t row) before x ≡ (leads_to row.id link && conforms (terms_of link) (passed_frames (terms_of link) (map frame_in (own link.id before))) (frame_in x))
+    → joins (flows_at t row) before x ≡ (leads_to row.id link && conforms (terms_of link) (passed_frames (terms_of link) (map frame_of_item (own link.id before))) (frame_of_item x))
 
 -- the frames that a port has sent for a link once it is finished
 abbrev pub frames_for : ℕ → PortContent → List Frame
-frames_for id c = map frame_in (own id (map (λ (x : Sent). x.item) (sent_of (done c))))
+frames_for id c = map frame_of_item (own id (map (λ (x : Sent). x.item) (sent_of (done c))))
 
 -- in two tables, and after two lists of arrivals, these are the same at the ports of a link whose terms and whose own frames are
 -- the same, whatever the other links are and send
@@ -82,7 +83,7 @@ abbrev pub OthersChangeNothingInTables : Type 0
 OthersChangeNothingInTables = (t t' : Content) (arrivals arrivals' : List Item) → ArriveAt t arrivals → ArriveAt t' arrivals'
     → (row row' : PortRow) → Contains t.ports row → Contains t'.ports row'
     → (link link' : Link) → Contains t.links link → Contains t'.links link' → leads_to row.id link ≡ true → leads_to row'.id link' ≡ true
-    → terms_of link ≡ terms_of link' → map frame_in (own link.id arrivals) ≡ map frame_in (own link'.id arrivals')
+    → terms_of link ≡ terms_of link' → map frame_of_item (own link.id arrivals) ≡ map frame_of_item (own link'.id arrivals')
     → (c c' : PortContent) → c.settings ≡ settings_of t.latency row → c'.settings ≡ settings_of t'.latency row'
     → c.admitted ≡ admitted (settings_of t.latency row) (feed_of (flows_at t row) arrivals) → c'.admitted ≡ admitted (settings_of t'.latency row') (feed_of (flows_at t' row') arrivals')
     → c.finished ≡ true → c'.finished ≡ true → frames_for link.id c ≡ frames_for link'.id c'

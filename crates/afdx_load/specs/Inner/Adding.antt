@@ -7,28 +7,28 @@ use Rattle.afdx_table.specs.Link.{Link}
 use Rattle.afdx_load.specs.Load.{Load, rate_of, burst_of, time_of}
 
 abbrev pub counted : Priority → ℕ → ℕ → ℕ → Load → Load
-counted High rate burst time s = record {
-  highs = s.highs + 1;
-  lows = s.lows;
-  rate = s.rate + rate;
-  high_rate = s.high_rate + rate;
-  burst = s.burst + burst;
-  high_burst = s.high_burst + burst;
-  largest = max s.largest time;
-  low_largest = s.low_largest;
-  latency = s.latency;
+counted High rate burst time load = record {
+  highs = load.highs + 1;
+  lows = load.lows;
+  rate = load.rate + rate;
+  high_rate = load.high_rate + rate;
+  burst = load.burst + burst;
+  high_burst = load.high_burst + burst;
+  largest = max load.largest time;
+  low_largest = load.low_largest;
+  latency = load.latency;
 }
-counted Low rate burst time s = record {
-  highs = s.highs;
-  lows = s.lows + 1;
-  rate = s.rate + rate;
-  high_rate = s.high_rate;
-  burst = s.burst + burst;
-  high_burst = s.high_burst;
-  largest = max s.largest time;
-  low_largest = max s.low_largest time;
-  latency = s.latency;
+counted Low rate burst time load = record {
+  highs = load.highs;
+  lows = load.lows + 1;
+  rate = load.rate + rate;
+  high_rate = load.high_rate;
+  burst = load.burst + burst;
+  high_burst = load.high_burst;
+  largest = max load.largest time;
+  low_largest = max load.low_largest time;
+  latency = load.latency;
 }
 
 abbrev pub with_link : Speed → Load → Link → Load
-with_link speed s link = counted link.priority (rate_of speed link) (burst_of speed link) (time_of speed link) s
+with_link speed load link = counted link.priority (rate_of speed link) (burst_of speed link) (time_of speed link) load

@@ -1,7 +1,7 @@
 -- Laws over loads.
 use Rattle.std.specs.Prelude.{◌≡◌, ◌↔◌, ℕ, ◌+◌, ◌-◌, ◌*◌, ◌/◌, ◌<◌, ◌≤◌, ◌&&◌, List, None, All, sum_by, if◌then◌else◌}
 use Rattle.afdx_units.specs.declared.line.Speed.{Speed}
-use Rattle.afdx_units.specs.Line.{tick_of, cost_of}
+use Rattle.afdx_units.specs.Line.{least_size, tick_of, cost_of}
 use Rattle.afdx_table.specs.Link.{Link, leads_to}
 use Rattle.afdx_table.specs.Content.{Content}
 use Rattle.afdx_table.specs.WellFormed.{IsWellFormed}
@@ -9,12 +9,12 @@ use Rattle.afdx_load.specs.Load.{is_high_link, terms_of, weight_of, rate_of, bur
 use Rattle.afdx_account.specs.Policing.{parts}
 use Rattle.afdx_load.specs.Accepted.{IsAccepted, first_fault}
 
--- profile: the factor 21/16 of the rate of a link policed by bytes covers the 20 bytes that go with each frame exactly for frames of 64 bytes
--- and more, and at 64 there is nothing to spare
+-- profile: the factor 21/16 of the rate of a link policed by bytes covers the 20 bytes that go with each frame exactly for frames of the least
+-- size and more, and at that size there is nothing to spare
 abbrev pub FactorCoversOverhead : Type 0
 FactorCoversOverhead = (speed : Speed) →
-    ((size : ℕ) → (16 * cost_of speed size ≤ 21 * tick_of speed * size) ↔ (64 ≤ size))
-    × (16 * cost_of speed 64 ≡ 21 * tick_of speed * 64)
+    ((size : ℕ) → (16 * cost_of speed size ≤ 21 * tick_of speed * size) ↔ (least_size ≤ size))
+    × (16 * cost_of speed least_size ≡ 21 * tick_of speed * least_size)
 
 -- what a link asks for is what its account gives: its credit and its greatest level, each by what a unit is worth
 abbrev pub AsksWhatItsAccountGives : Type 0
@@ -24,25 +24,25 @@ AsksWhatItsAccountGives = (speed : Speed) (link : Link) →
 
 -- and each asks for something
 abbrev pub EachLinkAsks : Type 0
-EachLinkAsks = (speed : Speed) (link : Link) → 64 ≤ link.max_size → 0 < rate_of speed link
+EachLinkAsks = (speed : Speed) (link : Link) → least_size ≤ link.max_size → 0 < rate_of speed link
 
 -- each sum takes each link of the table that leads to the port once
 abbrev pub SumsTakeEachLinkOnce : Type 0
-SumsTakeEachLinkOnce = (latency : ℕ) (speed : Speed) (port : ℕ) (links : List Link) → let s = load_of latency speed port links in
-    (s.rate ≡ sum_by (λ link. if leads_to port link then rate_of speed link else 0) links)
-    × (s.burst ≡ sum_by (λ link. if leads_to port link then burst_of speed link else 0) links)
-    × (s.high_rate ≡ sum_by (λ link. if leads_to port link && is_high_link link then rate_of speed link else 0) links)
-    × (s.high_burst ≡ sum_by (λ link. if leads_to port link && is_high_link link then burst_of speed link else 0) links)
+SumsTakeEachLinkOnce = (latency : ℕ) (speed : Speed) (port : ℕ) (links : List Link) → let load = load_of latency speed port links in
+    (load.rate ≡ sum_by (λ link. if leads_to port link then rate_of speed link else 0) links)
+    × (load.burst ≡ sum_by (λ link. if leads_to port link then burst_of speed link else 0) links)
+    × (load.high_rate ≡ sum_by (λ link. if leads_to port link && is_high_link link then rate_of speed link else 0) links)
+    × (load.high_burst ≡ sum_by (λ link. if leads_to port link && is_high_link link then burst_of speed link else 0) links)
 
 -- a port has links exactly where its longest frame takes time
 abbrev pub LongestShowsLinks : Type 0
-LongestShowsLinks = (speed : Speed) (port : ℕ) (links : List Link) → let s = asked_of speed port links in
-    (0 < s.largest) ↔ (0 < s.highs + s.lows)
+LongestShowsLinks = (speed : Speed) (port : ℕ) (links : List Link) → let load = asked_of speed port links in
+    (0 < load.largest) ↔ (0 < load.highs + load.lows)
 
 -- where the line can give the rate and there is a low link, the high links leave a part of the line
 abbrev pub HighLinksLeaveAPart : Type 0
-HighLinksLeaveAPart = (c : Content) (speed : Speed) (port : ℕ) → IsWellFormed c → let s = load_of c.latency speed port c.links in
-    s.rate ≤ parts → 0 < s.lows → s.high_rate < parts
+HighLinksLeaveAPart = (c : Content) (speed : Speed) (port : ℕ) → IsWellFormed c → let load = load_of c.latency speed port c.links in
+    load.rate ≤ parts → 0 < load.lows → load.high_rate < parts
 
 -- a table is accepted exactly where it has no fault
 abbrev pub AcceptedMeansNoFault : Type 0
@@ -50,6 +50,6 @@ AcceptedMeansNoFault = (c : Content) → IsAccepted c ↔ (first_fault c.latency
 
 -- in an accepted table each port keeps its two bounds
 abbrev pub AcceptedKeepsBounds : Type 0
-AcceptedKeepsBounds = (c : Content) → IsWellFormed c → IsAccepted c → All (λ row. let s = load_of c.latency row.speed row.id c.links in
-    (0 < s.highs → (s.high_burst + parts * s.low_largest) / parts + c.latency ≤ row.max_delay)
-    × (0 < s.lows → (s.high_rate < parts) × (s.burst / (parts - s.high_rate) + c.latency ≤ row.max_delay))) c.ports
+AcceptedKeepsBounds = (c : Content) → IsWellFormed c → IsAccepted c → All (λ row. let load = load_of c.latency row.speed row.id c.links in
+    (0 < load.highs → (load.high_burst + parts * load.low_largest) / parts + c.latency ≤ row.max_delay)
+    × (0 < load.lows → (load.high_rate < parts) × (load.burst / (parts - load.high_rate) + c.latency ≤ row.max_delay))) c.ports

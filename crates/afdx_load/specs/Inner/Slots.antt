@@ -5,7 +5,7 @@ use Rattle.afdx_units.specs.declared.line.Speed.{Speed}
 use Rattle.afdx_units.specs.declared.line.Speed.TheVariants.{Ten}
 use Rattle.afdx_table.specs.Link.{Link, leads_to}
 use Rattle.afdx_table.specs.declared.rows.PortRow.{PortRow}
-use Rattle.afdx_load.specs.Load.{Load}
+use Rattle.afdx_load.specs.Load.{Load, asked_of}
 use Rattle.afdx_load.specs.Inner.Adding.{with_link}
 
 -- each is a place, and stands once
@@ -19,6 +19,10 @@ speed_at speeds port = slice_index_or speeds port Ten
 -- each port's speed stands in the place of its number
 abbrev pub HasSpeeds : List Speed → List PortRow → Type 0
 HasSpeeds speeds ports = All (λ row. (row.id < 25) × (speed_at speeds row.id ≡ row.speed)) ports
+
+-- each port's load, as the check and `Loads` have it, stands in the place of its number
+abbrev pub AreLoads : List Link → List PortRow → List Load → Type 0
+AreLoads links ports loads = All (λ row. (row.id < 25) × ((d : Load) → slice_index_or loads row.id d ≡ asked_of row.speed row.id links)) ports
 
 abbrev pub HaveRoom : List Load → Type 0
 HaveRoom loads = (port : ℕ) (d : Load) → port < 25 → (slice_index_or loads port d).highs + (slice_index_or loads port d).lows < 4096

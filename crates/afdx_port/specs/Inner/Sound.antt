@@ -1,6 +1,7 @@
 -- What is true of a line between two calls.
 use Rattle.std.specs.Prelude.{ℕ, ◌+◌, ◌<◌, ◌≤◌, List, All, sum_by, vec_len}
 use Rattle.std.specs.Vec.{vec_capacity}
+use Rattle.afdx_units.specs.Line.{greatest_size}
 use Rattle.afdx_units.specs.Time.{last_second, stamp_end}
 use Rattle.afdx_port.specs.declared.Item.{Item}
 use Rattle.afdx_port.specs.declared.line.Line.{Line}
@@ -9,7 +10,7 @@ use Rattle.afdx_port.specs.Inner.Queued.{line_of, count_of, IsQueued, HasPlace}
 
 -- an item whose sending ends within the range of stamps
 abbrev pub IsSmall : Item → Type 0
-IsSmall item = (item.stamp < last_second) × (item.size ≤ 1518)
+IsSmall item = (item.stamp < last_second) × (item.size ≤ greatest_size)
 
 -- the items that wait, in the order in which they start
 abbrev pub queue_of : {Z : Type 0} → Line Z → List Item

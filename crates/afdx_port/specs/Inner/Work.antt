@@ -1,6 +1,6 @@
 -- The work of a port: the line time that what it admitted still needs.
 use Rattle.std.specs.Prelude.{ℕ, ◌+◌, ◌-◌, ◌*◌, ◌<◌, ◌≤◌, ◌≡◌, min, max, false, nat_lt, if◌then◌else◌, List, [], ◌∷◌, ◌++◌, sum_by, filter, All}
-use Rattle.afdx_units.specs.Line.{cost_of, tick_of, is_high}
+use Rattle.afdx_units.specs.Line.{greatest_size, cost_of, tick_of, is_high}
 use Rattle.afdx_units.specs.Time.{second}
 use Rattle.afdx_port.specs.declared.Settings.{Settings}
 use Rattle.afdx_port.specs.declared.Item.{Item}
@@ -45,7 +45,7 @@ high_work s t items = ((left s t 0 items).free - t) + sum_by (item_cost s) (filt
 
 -- what is sent ends less than a second after it came
 abbrev pub EndsWithinASecond : Type 0
-EndsWithinASecond = (s : Settings) (free : ℕ) (items : List Item) → s.max_delay ≤ 500000000 → All (λ item. item.size ≤ 1518) items
+EndsWithinASecond = (s : Settings) (free : ℕ) (items : List Item) → s.max_delay ≤ 500000000 → All (λ item. item.size ≤ greatest_size) items
     → All (λ x. x.end < x.item.stamp + second) (sent_of (service s free items))
 
 -- the laws: what was admitted is worked off or still to do

@@ -7,11 +7,11 @@ use Rattle.afdx_network.specs.Given.{AreOpen}
 use Rattle.afdx_failures.specs.declared.failure.Failure.{Failure}
 use Rattle.afdx_failures.specs.declared.failure.Failure.TheVariants as failure
 use Rattle.afdx_devices.specs.Files.{Files, ShowsAll, DeviceLog, one_more}
-use Rattle.afdx_serve.specs.Runs.{names_in, bytes_of}
+use Rattle.afdx_serve.specs.Runs.{names_in, bytes_of_captures}
 
 -- these are the captures in a switch's folder, one for each of its ports to which no wire goes
 abbrev pub HasOpen : Option Files → List ℕ → Network → ℕ → Content → List Text → Type 0
-HasOpen files folder net n t texts = ShowsAll files (names_in folder texts) (bytes_of texts) × AreOpen net n t texts
+HasOpen files folder net n t texts = ShowsAll files (names_in folder texts) (bytes_of_captures texts) × AreOpen net n t texts
 
 -- the name is one of these, and those before it were got
 pub record GetsNamed (name : List ℕ) (files : Option Files) (names : List (List ℕ)) : Type 0 where

@@ -1,6 +1,7 @@
 -- What the machine has of its ports.
-use Rattle.std.specs.Prelude.{ℕ, ◌-◌, ◌≡◌, ◌<◌, ◌≤◌, ◌⊎◌, ◌↔◌, nat_le, Bool, true, false, if◌then◌else◌, List, [], ◌∷◌, ◌++◌, length, take, set, slice_get, Option, Some, None}
+use Rattle.std.specs.Prelude.{ℕ, ◌-◌, ◌≡◌, ◌<◌, ◌≤◌, ◌↔◌, nat_le, Bool, true, false, if◌then◌else◌, List, [], ◌∷◌, ◌++◌, length, map, take, set, slice_get, slice_index_or, Option, Some, None}
 use Rattle.std.specs.declared.collections.VecDeque.{VecDeque}
+use Rattle.afdx_units.specs.Time.{stamp_end}
 use Rattle.afdx_pcap.specs.Record.{Record}
 use Rattle.afdx_pcap.specs.Fault.{last_stamp}
 use Rattle.afdx_pcap.specs.Reading.{HasTaken, NoNext, IsSound, IsWrong}
@@ -9,7 +10,7 @@ use Rattle.afdx_session.specs.declared.lane.Lane.{Lane}
 use Rattle.afdx_session.specs.declared.plan.RunFault.{RunFault}
 use Rattle.afdx_session.specs.declared.plan.RunFault.TheVariants as run
 use Rattle.afdx_session.specs.Session.{Intake}
-use Rattle.afdx_session.specs.Inner.Settled.{first_place}
+use Rattle.afdx_session.specs.Inner.Settled.{first_place, IsWithin}
 
 -- as contracts see it: the bytes of a call that did not answer Ok do not count
 abbrev pub intake_of : {Z : Type 0} → Lane Z → Intake
@@ -84,40 +85,36 @@ abbrev pub best_place : Option (ℕ × ℕ) → ℕ × ℕ → ℕ × ℕ
 best_place None q = q
 best_place (Some p) q = if nat_le p.0 q.0 then p else q
 
--- an arrival at this stamp and port lies at the limit or before it
-abbrev pub IsWithinPlace : Option (ℕ × ℕ) → ℕ → ℕ → Type 0
-IsWithinPlace None stamp port = Unit {0}
-IsWithinPlace (Some p) stamp port = (stamp < p.0) ⊎ ((stamp ≡ p.0) × (port ≤ p.1))
-
 -- the stamp of the first of some records
 abbrev pub head_of : List Record → Option ℕ
 head_of [] = None
 head_of (r ∷ rs) = Some r.stamp
 
--- the first record that waits at a place
-abbrev pub head_stamp : {Z : Type 0} → Option (Lane Z) → Option ℕ
-head_stamp None = None
-head_stamp (Some l) = head_of l.waiting.items
+-- those of lanes
+abbrev pub heads_of : {Z : Type 0} → List (Lane Z) → List (Option ℕ)
+heads_of lanes = map (λ l. head_of l.waiting.items) lanes
 
--- up to some place: the first by stamp, and then by place, of the first records that wait
-pub record IsFirstUpTo {Z : Type 0} (lanes : List (Lane Z)) (n k t : ℕ) : Type 0 where
+-- the stamp that a number is kept for; one that is no instant is kept for none
+abbrev pub stamp_in : ℕ → Option ℕ
+stamp_in n = if nat_le stamp_end n then None else Some n
+
+-- the one at a place
+abbrev pub head_at : List (Option ℕ) → ℕ → Option ℕ
+head_at heads j = slice_index_or heads j None
+
+-- of those up to some place the first by stamp, and then by place
+pub record IsFirstUpTo (heads : List (Option ℕ)) (n k t : ℕ) : Type 0 where
   pub within : k < n
-  pub here : head_stamp (slice_get lanes k) ≡ Some t
-  pub sooner : (j u : ℕ) → j < n → head_stamp (slice_get lanes j) ≡ Some u → t ≤ u
-  pub former : (j u : ℕ) → j < k → head_stamp (slice_get lanes j) ≡ Some u → t < u
+  pub here : head_at heads k ≡ Some t
+  pub sooner : (j u : ℕ) → j < n → head_at heads j ≡ Some u → t ≤ u
+  pub former : (j u : ℕ) → j < k → head_at heads j ≡ Some u → t < u
 
-abbrev pub IsFirstIn : {Z : Type 0} → List (Lane Z) → ℕ → Option (ℕ × ℕ) → Type 0
-IsFirstIn lanes n None = (j : ℕ) → j < n → head_stamp (slice_get lanes j) ≡ None
-IsFirstIn lanes n (Some x) = IsFirstUpTo lanes n x.0 x.1
+abbrev pub IsFirstIn : List (Option ℕ) → ℕ → Option (ℕ × ℕ) → Type 0
+IsFirstIn heads n None = (j : ℕ) → j < n → head_at heads j ≡ None
+IsFirstIn heads n (Some x) = IsFirstUpTo heads n x.0 x.1
 
 abbrev pub IsFirstOf : {Z : Type 0} → List (Lane Z) → Option (ℕ × ℕ) → Type 0
-IsFirstOf lanes first = IsFirstIn lanes (length lanes) first
-
--- of what was found and of the head at a place the first by stamp, and the former of equal ones
-abbrev pub sooner_of : Option (ℕ × ℕ) → ℕ → Option ℕ → Option (ℕ × ℕ)
-sooner_of former place None = former
-sooner_of None place (Some u) = Some (place, u)
-sooner_of (Some x) place (Some u) = if nat_le x.1 u then Some x else Some (place, u)
+IsFirstOf lanes first = IsFirstIn (heads_of lanes) (length lanes) first
 
 -- what no call changes but that one that answers Ok
 pub record IsStill {Z : Type 0} (old new : Lane Z) : Type 0 where
@@ -139,8 +136,8 @@ pub record Goes {Z : Type 0} (limit : Option (ℕ × ℕ)) (old new : List (Lane
   pub at : slice_get old place ≡ Some lane
   pub port_is : port ≡ lane.port
   pub head : lane.waiting.items ≡ frame ∷ rest.items
-  pub first : IsFirstUpTo old (length old) place frame.stamp
-  pub within : IsWithinPlace limit frame.stamp port
+  pub first : IsFirstUpTo (heads_of old) (length old) place frame.stamp
+  pub within : IsWithin limit frame.stamp port
   pub lanes : new ≡ set old place (with_waiting rest lane)
 
 -- it went from the lane at this place
@@ -152,9 +149,9 @@ pub record GoesAt {Z : Type 0} (limit : Option (ℕ × ℕ)) (old new : List (La
 -- nothing waits, or the first of all is not within the limit
 pub record NoneGoes {Z : Type 0} (limit : Option (ℕ × ℕ)) (old : List (Lane Z)) (first : Option (ℕ × ℕ)) : Type 0 where
   pub is : IsFirstOf old first
-  pub past : (place stamp : ℕ) (lane : Lane Z) → first ≡ Some (place, stamp) → slice_get old place ≡ Some lane → IsWithinPlace limit stamp lane.port → ⊥
+  pub past : (place stamp : ℕ) (lane : Lane Z) → first ≡ Some (place, stamp) → slice_get old place ≡ Some lane → IsWithin limit stamp lane.port → ⊥
 
 -- it says of the first of what waits the same as the least place that a lane that has not ended has come to
 abbrev pub IsLimit : {Z : Type 0} → Option (ℕ × ℕ) → List (Lane Z) → Type 0
-IsLimit {Z} limit lanes = (place stamp : ℕ) (lane : Lane Z) → IsFirstUpTo lanes (length lanes) place stamp → slice_get lanes place ≡ Some lane
-    → IsWithinPlace limit stamp lane.port ↔ IsWithinPlace (limit_at lanes) stamp lane.port
+IsLimit {Z} limit lanes = (place stamp : ℕ) (lane : Lane Z) → IsFirstUpTo (heads_of lanes) (length lanes) place stamp → slice_get lanes place ≡ Some lane
+    → IsWithin limit stamp lane.port ↔ IsWithin (limit_at lanes) stamp lane.port

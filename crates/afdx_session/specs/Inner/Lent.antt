@@ -16,13 +16,16 @@ use Rattle.afdx_session.specs.Inner.Kept.{AreOfTable, IsGoing, IsOfSameTable}
 -- a lane over a whole capture: the last record that was read waits, or all were read and have gone
 pub record IsOver {Z : Type 0} (l : Lane Z) : Type 0 where
   pub closed : l.reader.closed ≡ true
-  pub taken : l.taken ≡ 0
   pub head : l.ended ≡ false → (frame : Record) × (l.waiting.items ≡ frame ∷ []) × (l.last ≡ frame.stamp)
   pub read : l.ended ≡ true → (l.waiting.items ≡ []) × HasReadAll l
 
 -- the captures that lanes are over
 abbrev pub texts_over : {Z : Type 0} → List (Lane Z) → List Text
 texts_over lanes = map (λ l. (l.port, l.reader.bytes)) lanes
+
+-- how many bytes of each lane's output were taken
+abbrev pub taken_by : {Z : Type 0} → List (Lane Z) → List ℕ
+taken_by lanes = map (λ l. l.taken) lanes
 
 -- no more than so many records are still to be read, and the end of each capture
 abbrev pub left_of : {Z : Type 0} → Lane Z → ℕ
@@ -55,6 +58,7 @@ pub record IsCarrying {Z : Type 0} (m : Machine Z) : Type 0 where
 pub record CarriesOn {Z : Type 0} (more : Bool) (old new : Machine Z) : Type 0 where
   pub carrying : IsCarrying new
   pub texts : texts_over new.lanes.items ≡ texts_over old.lanes.items
+  pub taken : taken_by new.lanes.items ≡ taken_by old.lanes.items
   pub fewer : more ≡ true → left_in new.lanes.items < left_in old.lanes.items
   pub all : more ≡ false → AllByRecursion (λ (l : Lane Z). l.ended ≡ true) new.lanes.items
 
@@ -63,6 +67,7 @@ pub record HandsOn {Z : Type 0} (old new : Machine Z) : Type 0 where
   pub carrying : IsCarrying new
   pub same : IsOfSameTable old.switch new.switch
   pub texts : texts_over new.lanes.items ≡ texts_over old.lanes.items
+  pub taken : taken_by new.lanes.items ≡ taken_by old.lanes.items
   pub left : left_in new.lanes.items ≡ left_in old.lanes.items
 
 -- all records of these captures have gone to the switch

@@ -81,10 +81,10 @@ abbrev pub limit : List Stream → Option (ℕ × ℕ)
 limit [] = None
 limit (s ∷ streams) = if s.closed then limit streams else Some (first_place (last_of s, s.port) (limit streams))
 
--- an arrival lies at that place or before it
-abbrev pub IsWithin : Option (ℕ × ℕ) → Arrival → Type 0
-IsWithin None a = Unit {0}
-IsWithin (Some p) a = (a.frame.stamp < p.0) ⊎ ((a.frame.stamp ≡ p.0) × (a.port ≤ p.1))
+-- an arrival at this stamp and port lies at that place or before it
+abbrev pub IsWithin : Option (ℕ × ℕ) → (stamp port : ℕ) → Type 0
+IsWithin None stamp port = Unit {0}
+IsWithin (Some p) stamp port = (stamp < p.0) ⊎ ((stamp ≡ p.0) × (port ≤ p.1))
 
 -- ---- which record goes next
 
@@ -111,7 +111,7 @@ without waiting k w rest = set waiting k (record { port = w.port; records = rest
 abbrev pub SettledRecordsGo : Type 0
 SettledRecordsGo = (streams : List Stream) (given : List Arrival) (waiting : List Capture) (k : ℕ) (w : Capture) (r : Record) (rest : List Record)
     → Ascend (ports_of (captures_of streams)) → AllRise waiting → slice_get waiting k ≡ Some w → w.records ≡ r ∷ rest → ComesFirst r.stamp k waiting
-    → IsWithin (limit streams) (record { port = w.port; frame = r }) → IsSettling streams given waiting
+    → IsWithin (limit streams) r.stamp w.port → IsSettling streams given waiting
     → IsSettling streams (given ++ record { port = w.port; frame = r } ∷ []) (without waiting k w rest)
 
 -- a stamp at the limit or past it

@@ -16,7 +16,7 @@ use Rattle.afdx_session.specs.Reading.{IsFaultAt, IsSound}
 use Rattle.afdx_session.specs.Texts.{Text, AreOfPorts}
 use Rattle.afdx_session.specs.Finish.{text_in}
 use Rattle.afdx_session.specs.Streams.{Stream, text_so_far}
-use Rattle.afdx_session.specs.Session.{Intake, Seen, AreStreams, IsSoundSoFar, fed, ended}
+use Rattle.afdx_session.specs.Session.{Intake, Seen, AreStreams, IsSoundSoFar, fed, closed_intake}
 use Rattle.afdx_session.specs.Lanes.{IsPieceFault}
 use Rattle.afdx_session.specs.Inner.Lanes.{intake_of, waiting_of, with_waiting, limit_at, HasReadAll, NoneGoes}
 use Rattle.afdx_session.specs.Inner.Kept.{AreOfTable, IsGoing, IsRunning, IsMarked, IsOfSameTable}
@@ -121,7 +121,7 @@ pub record IsFed {Z : Type 0} (old new : List (Lane Z)) (place : ℕ) (piece : L
 pub record IsEnded {Z : Type 0} (old new : List (Lane Z)) (place : ℕ) : Type 0 where
   pub lane : Lane Z
   pub at : slice_get old place ≡ Some lane
-  pub intakes : intakes_of new ≡ set (intakes_of old) place (ended (intake_of lane))
+  pub intakes : intakes_of new ≡ set (intakes_of old) place (closed_intake (intake_of lane))
   pub records : List Record
   pub capture : IsCapture (intake_of lane).bytes records
 
@@ -174,6 +174,14 @@ AreFreshLanes [] [] = Unit {0}
 AreFreshLanes [] (l ∷ lanes) = ⊥
 AreFreshLanes (p ∷ ports) [] = ⊥
 AreFreshLanes (p ∷ ports) (l ∷ lanes) = IsFreshLane p.id l × AreFreshLanes ports lanes
+
+-- a machine of a plan over this table that took nothing, for captures of the table's ports
+pub record IsBegun {Z : Type 0} (cleared : Bool) (t : Content) (texts : List Text) (m : Machine Z) : Type 0 where
+  pub ports : AreOfPorts m.switch.run.table texts
+  pub table : m.switch.run.table ≡ t
+  pub accepted : m.switch.accepted ≡ cleared
+  pub fresh : AreFreshLanes m.switch.run.table.ports m.lanes.items
+  pub kept : IsKeptMachine m false false
 
 -- ---- captures that come whole
 

@@ -1,5 +1,5 @@
 -- A table holds what its text says: each number, word and list is reported by the value under its key.
-use Rattle.std.specs.Prelude.{◌≡◌, ◌⊎◌, ℕ, pos, codes, true, Bool, ◌*◌, ◌≤◌, List, [], ◌∷◌, Some, None, Ok}
+use Rattle.std.specs.Prelude.{◌≡◌, ◌⊎◌, ℕ, pos, true, Bool, ◌*◌, ◌≤◌, List, [], ◌∷◌, Some, None, Ok}
 use Rattle.std.specs.List.{AllZip, count_by}
 use Rattle.hex.specs.Hex.{decode_sized}
 use Rattle.toml.specs.Data.{Data, integer, string, array, table, Items, no_items, item, Members, get_member}
@@ -7,11 +7,11 @@ use Rattle.afdx_units.specs.Time.{bag_ms}
 use Rattle.afdx_units.specs.declared.line.Speed.{Speed}
 use Rattle.afdx_units.specs.declared.line.Speed.TheVariants.{Ten, Hundred, Thousand}
 use Rattle.afdx_units.specs.declared.police.Police.{Police}
-use Rattle.afdx_units.specs.declared.police.Police.TheVariants.{Byte, Frame}
+use Rattle.afdx_units.specs.declared.police.Police.TheVariants.{Byte}
 use Rattle.afdx_table.specs.declared.fault.Key.{Key}
 use Rattle.afdx_table.specs.declared.fault.Key.TheVariants as key
 use Rattle.afdx_table.specs.declared.rows.PortRow.{PortRow}
-use Rattle.afdx_table.specs.Names.{key_text, priority_text}
+use Rattle.afdx_table.specs.Names.{key_text, priority_text, police_text}
 use Rattle.afdx_table.specs.Fields.{are_known}
 use Rattle.afdx_table.specs.Link.{Link}
 use Rattle.afdx_table.specs.Content.{Content}
@@ -73,11 +73,6 @@ pub record IsPortOf (version : ℕ) (ms : Members) (p : PortRow) : Type 0 where
   pub buffer : HasNumber ms key.Buffer p.buffer
   pub max_delay : (us : ℕ) × HasNumber ms key.MaxDelay us × (p.max_delay ≡ us * 1000)
   pub no_other : are_known port_keys ms ≡ true
-
--- profile: the names of the kinds of policing
-abbrev pub police_text : Police → List ℕ
-police_text Byte = codes "byte"
-police_text Frame = codes "frame"
 
 -- the kind of policing is stated, or by bytes
 abbrev pub HasPolice : Members → Police → Type 0

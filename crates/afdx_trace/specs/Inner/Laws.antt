@@ -1,7 +1,7 @@
 -- What holds of the events of a port, and of the ports that refused a copy.
 use Rattle.std.specs.Prelude.{◌≡◌, ℕ, true, false, List, ◌∷◌, ◌++◌, map, filter}
 use Rattle.afdx_port.specs.declared.Offer.{Offer}
-use Rattle.afdx_port.specs.Content.{Content, done, is_full}
+use Rattle.afdx_port.specs.Content.{Content, done, answers_full}
 use Rattle.afdx_core.specs.declared.step.Row.{Row}
 use Rattle.afdx_core.specs.Rows.{named}
 use Rattle.afdx_core.specs.State.{Run, offers_of}
@@ -14,7 +14,7 @@ EventsAreInOrder = (c : Content) → AreInOrder (done c)
 
 -- the ports that answered Full, of the answers of some ports
 abbrev pub full_ports : List (ℕ × Offer) → List ℕ
-full_ports offers = map (λ o. o.0) (filter (λ o. is_full o.1) offers)
+full_ports offers = map (λ o. o.0) (filter (λ o. answers_full o.1) offers)
 
 -- a run when it had taken these of its arrivals
 abbrev pub run_before : Run → List Row → Run

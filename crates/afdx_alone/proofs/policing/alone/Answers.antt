@@ -1,7 +1,7 @@
 use Rattle.std.proofs.Common.{rules, ◌≢◌, ◌∙◌, ap, subst}
 use Rattle.afdx_pcap.specs.declared.fault.PcapFault.TheVariants.{Memory}
 use Rattle.afdx_pcap.specs.Fault.{IsFault}
-use Rattle.afdx_pcap.specs.Reading.{Reading, taken_in}
+use Rattle.afdx_pcap.specs.Reading.{Reading, as_taking}
 use Rattle.afdx_alone.proofs.Progress.{may_be_offered, one_further, all_policed, wrong_answer}
 use Rattle.afdx_alone.proofs.policing.alone.Goals as goal
 
@@ -25,8 +25,8 @@ loop-frames-preserved g c =
     let next = rw c.in-Some.is at c.in_ok-frame.ensures.ok in (
       ap (λ (r : Reading). r.fault) next ∙ i.0,
       ap (λ (r : Reading). r.closed) next ∙ i.1,
-      one_further c.ground.ensures _ _ (taken_in c.loop-frames.frames) _ _ _ _ _ c.in-Some.frame c.passes.result i.2 (rw (i.0, c.in-Some.is) at c.in_ok-frame.ensures.answer)
-          (ap taken_in next) c.passes.ensures.own c.passes.ensures.others (search rules),
+      one_further c.ground.ensures _ _ (as_taking c.loop-frames.frames) _ _ _ _ _ c.in-Some.frame c.passes.result i.2 (rw (i.0, c.in-Some.is) at c.in_ok-frame.ensures.answer)
+          (ap as_taking next) c.passes.ensures.own c.passes.ensures.others (search rules),
     )
 
 -- the same where the frame's bytes are dropped
@@ -36,8 +36,8 @@ loop-frames-preserved-after-passes g c =
     let next = rw c.in-Some.is at c.in_ok-frame.ensures.ok in (
       ap (λ (r : Reading). r.fault) next ∙ i.0,
       ap (λ (r : Reading). r.closed) next ∙ i.1,
-      one_further c.ground.ensures _ _ (taken_in c.loop-frames.frames) _ _ _ _ _ c.in-Some.frame c.passes.result i.2 (rw (i.0, c.in-Some.is) at c.in_ok-frame.ensures.answer)
-          (ap taken_in next) c.passes.ensures.own c.passes.ensures.others (search rules),
+      one_further c.ground.ensures _ _ (as_taking c.loop-frames.frames) _ _ _ _ _ c.in-Some.frame c.passes.result i.2 (rw (i.0, c.in-Some.is) at c.in_ok-frame.ensures.answer)
+          (ap as_taking next) c.passes.ensures.own c.passes.ensures.others (search rules),
     )
 
 pub returns-clause-answer : goal.returns-clause-answer

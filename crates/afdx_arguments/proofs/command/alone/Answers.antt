@@ -1,13 +1,24 @@
-use Rattle.afdx_arguments.specs.Commands.{alone_app}
-use Rattle.afdx_arguments.proofs.CommandLemmas.{with_argument, if_argument}
+use Rattle.std.proofs.Common.{codes}
+use Rattle.clap.specs.Words.{App, new_app, with_rule}
+use Rattle.afdx_arguments.specs.Commands.{number_rule, alone_app}
+use Rattle.afdx_arguments.proofs.CommandLemmas.{if_argument, if_rule}
 use Rattle.afdx_arguments.proofs.command.alone.Goals as goal
+
+abbrev one_argument : App
+one_argument = with_rule (new_app (codes "alone")) (number_rule (codes "id"))
+
+abbrev two_arguments : App
+two_arguments = with_rule one_argument (number_rule (codes "bag"))
+
+abbrev three_arguments : App
+three_arguments = with_rule two_arguments (number_rule (codes "jitter"))
 
 pub returns : goal.returns
 unfolding alone_app
 returns c =
-    let one = with_argument c.with_no_arguments.result c.in_ok-arg.field-0 c.number_option.result _ _ (c.with_no_arguments.ensures.app, c.with_no_arguments.ensures.local)
-    c.number_option.ensures.rule c.number_option.ensures.local c.in_ok-arg.ensures in
-    let two = with_argument c.in_ok-arg.field-0 c.in_ok-arg-2.field-0 c.number_option-2.result _ _ one c.number_option-2.ensures.rule c.number_option-2.ensures.local c.in_ok-arg-2.ensures in
-    let three = with_argument c.in_ok-arg-2.field-0 c.in_ok-arg-3.field-0 c.number_option-3.result _ _ two c.number_option-3.ensures.rule c.number_option-3.ensures.local c.in_ok-arg-3.ensures in
-    let last = if_argument c.in_ok-arg-3.field-0 c.number_option-4.result c.arg-4.result _ _ three c.number_option-4.ensures.rule c.number_option-4.ensures.local c.arg-4.ensures in
-    record { app = last.0; local = last.1 }
+    let one = if_argument c.with_no_arguments.result c.number_option-id.result c.arg-command.result _ _ (c.with_no_arguments.ensures.app, c.with_no_arguments.ensures.local)
+    c.number_option-id.ensures.rule c.number_option-id.ensures.local c.arg-command.ensures in
+    let two = if_rule c.with_argument.result one_argument c.number_option-bag.result _ c.number_option-bag.ensures.rule (c.with_argument.ensures.app one_argument one.0) in
+    let three = if_rule c.with_argument-2.result two_arguments c.number_option-jitter.result _ c.number_option-jitter.ensures.rule (c.with_argument-2.ensures.app two_arguments two) in
+    let four = if_rule c.with_argument-3.result three_arguments c.number_option-size.result _ c.number_option-size.ensures.rule (c.with_argument-3.ensures.app three_arguments three) in
+    record { app = four; local = c.with_argument-3.ensures.local (c.with_argument-2.ensures.local (c.with_argument.ensures.local one.1)) }

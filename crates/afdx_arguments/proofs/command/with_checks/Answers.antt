@@ -1,9 +1,10 @@
-use Rattle.afdx_arguments.specs.Commands.{alone_app, check_app, bare_program}
-use Rattle.afdx_arguments.proofs.CommandLemmas.{with_one_more, if_one_more}
+use Rattle.std.proofs.Common.{ap, ◌∙◌}
+use Rattle.clap.specs.Words.{App, with_subcommand}
+use Rattle.afdx_arguments.specs.Commands.{alone_app, check_app}
+use Rattle.afdx_arguments.proofs.CommandLemmas.{if_program}
 use Rattle.afdx_arguments.proofs.command.with_checks.Goals as goal
 
 pub returns : goal.returns
 returns c =
-    let one = with_one_more c.bare_program.result c.in_ok-alone.alone c.in_ok-program.program bare_program alone_app c.in_ok-program.ensures c.in_ok-alone.ensures.local c.bare_program.ensures
-    c.in_ok-alone.ensures.app in
-    if_one_more c.in_ok-program.program c.in_ok-check.check c.subcommand-2.result _ check_app c.subcommand-2.ensures c.in_ok-check.ensures.local one c.in_ok-check.ensures.app
+    let one = c.in_ok-program.ensures alone_app c.alone.ensures.app ∙ ap (λ (a : App). with_subcommand a alone_app.top) c.bare_program.ensures in
+    if_program c.with_command-2.result c.in_ok-program.program _ check_app one (c.with_command-2.ensures check_app c.check.ensures.app)

@@ -1,13 +1,26 @@
-use Rattle.afdx_arguments.specs.Commands.{paths_app}
-use Rattle.afdx_arguments.proofs.CommandLemmas.{with_argument, if_argument}
+use Rattle.std.proofs.Common.{codes}
+use Rattle.clap.specs.Words.{App, Text, new_app, with_rule}
+use Rattle.afdx_arguments.specs.Commands.{path_rule, paths_app}
+use Rattle.afdx_arguments.proofs.CommandLemmas.{if_argument, if_rule}
 use Rattle.afdx_arguments.proofs.command.with_paths.Goals as goal
+
+abbrev one_argument : Text → App
+one_argument name = with_rule (new_app name) (path_rule (codes "TABLE"))
+
+abbrev two_arguments : Text → App
+two_arguments name = with_rule (one_argument name) (path_rule (codes "IN"))
+
+abbrev three_arguments : Text → App
+three_arguments name = with_rule (two_arguments name) (path_rule (codes "OUT"))
 
 pub returns : goal.returns
 unfolding paths_app
 returns c =
-    let one = with_argument c.with_no_arguments.result c.in_ok-arg.field-0 c.path.result _ _ (c.with_no_arguments.ensures.app, c.with_no_arguments.ensures.local)
-    c.path.ensures.rule c.path.ensures.local c.in_ok-arg.ensures in
-    let two = with_argument c.in_ok-arg.field-0 c.in_ok-arg-2.field-0 c.path-2.result _ _ one c.path-2.ensures.rule c.path-2.ensures.local c.in_ok-arg-2.ensures in
-    let three = with_argument c.in_ok-arg-2.field-0 c.in_ok-arg-3.field-0 c.path-3.result _ _ two c.path-3.ensures.rule c.path-3.ensures.local c.in_ok-arg-3.ensures in
-    let last = if_argument c.in_ok-arg-3.field-0 c.flag.result c.arg-4.result _ _ three c.flag.ensures.rule c.flag.ensures.local c.arg-4.ensures in
-    record { app = last.0; local = last.1 }
+    let one = if_argument c.with_no_arguments.result c.path-table.result c.arg-command.result _ _ (c.with_no_arguments.ensures.app, c.with_no_arguments.ensures.local)
+    c.path-table.ensures.rule c.path-table.ensures.local c.arg-command.ensures in
+    let two = if_rule c.with_argument.result (one_argument c.args.name.now) c.path-input.result _ c.path-input.ensures.rule (c.with_argument.ensures.app (one_argument c.args.name.now) one.0) in
+    let three = if_rule c.with_argument-2.result (two_arguments c.args.name.now) c.path-output.result _ c.path-output.ensures.rule
+    (c.with_argument-2.ensures.app (two_arguments c.args.name.now) two) in
+    let four = if_rule c.with_argument-3.result (three_arguments c.args.name.now) c.flag-unchecked.result _ c.flag-unchecked.ensures.rule
+    (c.with_argument-3.ensures.app (three_arguments c.args.name.now) three) in
+    record { app = four; local = c.with_argument-3.ensures.local (c.with_argument-2.ensures.local (c.with_argument.ensures.local one.1)) }

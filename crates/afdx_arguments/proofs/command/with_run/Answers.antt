@@ -1,9 +1,9 @@
-use Rattle.std.proofs.Common.{codes, refl}
+use Rattle.std.proofs.Common.{codes}
 use Rattle.afdx_arguments.specs.Commands.{size_app, paths_app}
-use Rattle.afdx_arguments.proofs.CommandLemmas.{with_one_more, if_one_more}
+use Rattle.afdx_arguments.proofs.CommandLemmas.{if_program}
 use Rattle.afdx_arguments.proofs.command.with_run.Goals as goal
 
 pub returns : goal.returns
 returns c =
-    let one = with_one_more c.args.program c.in_ok-size.size c.in_ok-program.program _ size_app c.in_ok-program.ensures c.in_ok-size.ensures.local refl c.in_ok-size.ensures.app in
-    if_one_more c.in_ok-program.program c.in_ok-run.run' c.subcommand-2.result _ (paths_app (codes "run")) c.subcommand-2.ensures c.in_ok-run.ensures.local one c.in_ok-run.ensures.app
+    let run = paths_app (codes "run") in
+    if_program c.with_command-2.result c.in_ok-program.program _ run (c.in_ok-program.ensures size_app c.size.ensures.app) (c.with_command-2.ensures run c.run.ensures.app)

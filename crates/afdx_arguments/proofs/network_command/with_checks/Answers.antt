@@ -1,9 +1,10 @@
-use Rattle.afdx_arguments.specs.Commands.{network_check_app, network_jitter_app, bare_network}
-use Rattle.afdx_arguments.proofs.CommandLemmas.{with_one_more, if_one_more}
+use Rattle.std.proofs.Common.{ap, ◌∙◌}
+use Rattle.clap.specs.Words.{App, with_subcommand}
+use Rattle.afdx_arguments.specs.Commands.{network_check_app, network_jitter_app}
+use Rattle.afdx_arguments.proofs.CommandLemmas.{if_program}
 use Rattle.afdx_arguments.proofs.network_command.with_checks.Goals as goal
 
 pub returns : goal.returns
 returns c =
-    let one = with_one_more c.in_ok-bare.bare c.in_ok-check.check c.in_ok-program.program bare_network network_check_app c.in_ok-program.ensures c.in_ok-check.ensures.local
-    c.in_ok-bare.ensures c.in_ok-check.ensures.app in
-    if_one_more c.in_ok-program.program c.in_ok-jitter.jitter c.subcommand-2.result _ network_jitter_app c.subcommand-2.ensures c.in_ok-jitter.ensures.local one c.in_ok-jitter.ensures.app
+    let one = c.in_ok-program.ensures network_check_app c.check.ensures.app ∙ ap (λ (a : App). with_subcommand a network_check_app.top) c.in_ok-bare_network.ensures in
+    if_program c.with_command-2.result c.in_ok-program.program _ network_jitter_app one (c.with_command-2.ensures network_jitter_app c.jitter.ensures.app)

@@ -2,7 +2,7 @@ use Rattle.std.proofs.Common.{◌≡◌, ◌<◌, ◌≤◌, ◌==◌, false, le
 use Rattle.std.proofs.lemmas.Bool.Decides.{nat_tests}
 use Rattle.afdx_table.specs.declared.rows.PortRow.{PortRow}
 use Rattle.afdx_core.specs.State.{sent_in}
-use Rattle.afdx_measure.specs.Delays.{delays_of, reported}
+use Rattle.afdx_measure.specs.Delays.{delays_of, summary_of}
 use Rattle.afdx_measure.proofs.Gathered.{gathered_here, reported_of, passed_on, none_there}
 use Rattle.afdx_measure.proofs.reporting.delays_at.Goals as goal
 
@@ -35,5 +35,5 @@ pub returns : goal.returns
 returns g c =
     let r = c.args.done.now.run in
     let past : length c.args.all.now ≤ c.loop-at.at-index = search rules in
-    c.none.ensures ∙ ap (λ (o : Option PortRow). reported (delays_of c.args.link (sent_in r o)))
+    c.none.ensures ∙ ap (λ (o : Option PortRow). summary_of (delays_of c.args.link (sent_in r o)))
     (sym (c.loop-at.invariant ∙ none_there r r.table.ports c.args.all.now c.loop-at.at-index c.args.port past c.requires))

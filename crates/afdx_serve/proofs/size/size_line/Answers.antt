@@ -1,6 +1,6 @@
 use Rattle.std.proofs.Common.{ℕ, List, ◌++◌, ap, ◌∙◌}
 use Rattle.afdx_load.specs.Fits.{broken_rules}
-use Rattle.afdx_wiring.specs.Lines.{ended}
+use Rattle.afdx_wiring.specs.Lines.{as_line}
 use Rattle.afdx_serve.specs.Sizes.{verdict_text, delays_text}
 use Rattle.afdx_serve.proofs.size.size_line.Goals as goal
 
@@ -10,4 +10,4 @@ returns c =
     let load = c.args.load.now in
     let delays = c.in_ok-push_delays.ensures ∙ ap (λ (t : List ℕ). t ++ delays_text row load) c.in_ok-line.ensures in
     let verdict = c.in_ok-push_verdict.ensures ∙ ap (λ (t : List ℕ). t ++ verdict_text (broken_rules row load)) delays in
-    (c.least_buffer-least.result, c.least_buffer-least.ensures, c.in_ok-push_str.ensures.bytes ∙ ap ended verdict)
+    (c.least_buffer-least.result, c.least_buffer-least.ensures, c.in_ok-push_str.ensures.bytes ∙ ap as_line verdict)

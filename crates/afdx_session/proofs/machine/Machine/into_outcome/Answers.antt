@@ -2,7 +2,7 @@ use Rattle.std.proofs.Common.{rules, ◌≡◌, ℕ, ◌<◌, ◌≤◌, List, [
 use Rattle.std.specs.Prelude.{vec_len}
 use Rattle.std.specs.Vec.Iter.{into_iter_items}
 use Rattle.std.proofs.lemmas.List.{length-append, length-map, map-append}
-use Rattle.afdx_count.specs.Tally.{ended}
+use Rattle.afdx_count.specs.Tally.{ended_tally}
 use Rattle.afdx_session.specs.Texts.{Text, texts_of}
 use Rattle.afdx_session.proofs.machine.Machine.into_outcome.Goals as goal
 
@@ -59,4 +59,4 @@ returns-clause-captures g c =
     at.invariant.texts ∙ ap (λ ls. map (λ l. (l.port, l.out.items)) ls) all
 
 pub returns-clause-counts : goal.returns-clause-counts
-returns-clause-counts g c = c.note_end-2.ensures ∙ ap (λ r. ended r c.args.self.counts) c.finish.ensures.run
+returns-clause-counts g c = c.note_end-2.ensures ∙ ap (λ r. ended_tally r c.args.self.counts) c.finish.ensures.run

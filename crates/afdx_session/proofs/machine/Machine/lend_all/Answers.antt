@@ -60,3 +60,6 @@ returns-clause-ok g c =
     let le : length items ≤ c.loop-place.place = let test = c.loop-place-test.false in let end = c.len-place-end.ensures in let long = c.loop-place.invariant.long in omega (arith, test, end, long) in
     let all = lends_all c.args.self.now (texts_of c.args.captures.now) items c.loop-place.place le lends in
     rw (c.loop-place.invariant.switch, c.loop-place.invariant.counts) (record { of = lends.of; handed = c.requires.handed; going = lends.going; over = all.0 }, all.1)
+
+pub returns-clause-taken : goal.returns-clause-taken
+returns-clause-taken g c = c.loop-place.invariant.lends.taken

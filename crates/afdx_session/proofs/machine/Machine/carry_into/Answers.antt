@@ -1,0 +1,17 @@
+use Rattle.std.proofs.Common.{refl, true, false}
+use Rattle.afdx_session.proofs.Parts.{proceeds_on, proceeds_then}
+use Rattle.afdx_session.proofs.machine.Machine.carry_into.Goals as goal
+
+pub loop-self-preserved : goal.loop-self-preserved
+loop-self-preserved g c =
+    let contents = g.F.NewFile.contents in
+    let start = c.args.self.now in
+    let mid = c.carry_some.new.self in
+    let on = rw c.if-branch.true at c.in_ok-carry_some.ensures.ok in
+    proceeds_then contents start mid c.put_out.new.self c.args.files.now c.loop-self.files c.put_out.new.files
+    (proceeds_on contents start c.loop-self.self mid c.args.files.now c.loop-self.files true c.loop-self.invariant c.carry_some.ensures.same on) c.in_ok-put_out.ensures.ok.0
+
+pub returns-clause-ok : goal.returns-clause-ok
+returns-clause-ok g c =
+    let on = rw c.if-branch.false at c.in_ok-carry_some.ensures.ok in
+    (proceeds_on g.F.NewFile.contents c.args.self.now c.loop-self.self c.carry_some.new.self c.args.files.now c.loop-self.files false c.loop-self.invariant c.carry_some.ensures.same on, on.all refl)

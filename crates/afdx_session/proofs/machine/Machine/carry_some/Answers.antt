@@ -1,0 +1,34 @@
+use Rattle.std.proofs.Common.{arith, refl, true, ◌∙◌, ap, length, List}
+use Rattle.afdx_session.specs.declared.lane.Lane.{Lane}
+use Rattle.afdx_session.proofs.FirstHeads.{lanes_few}
+use Rattle.std.proofs.lemmas.Bool.{both_ways}
+use Rattle.afdx_session.proofs.Rounds.{same_both}
+use Rattle.afdx_session.proofs.machine.Machine.carry_some.Goals as goal
+
+pub loop-preserved : goal.loop-preserved
+loop-preserved g c =
+    let was = c.loop.invariant in
+    let on = rw c.if-not-branch.false at c.in_ok-carry_one.ensures.ok in
+    let left = was.fewer in
+    let fewer = on.fewer refl in
+    record {
+      carrying = on.carrying;
+      same = same_both _ _ _ was.same c.carry_one.ensures.same;
+      texts = on.texts ∙ was.texts;
+      taken = on.taken ∙ was.taken;
+      heads = c.in_ok-carry_one.ensures.heads;
+      fewer = omega (arith, left, fewer);
+    }
+
+pub returns-clause-ok : goal.returns-clause-ok
+returns-clause-ok g c =
+    let was = c.loop.invariant in
+    let test = c.loop-test.false in
+    let left = was.fewer in
+    record { carrying = was.carrying; texts = was.texts; taken = was.taken; fewer = λ more. omega (arith, test, left); all = λ none. absurd (both_ways true none refl) }
+
+pub of-heads-requires : goal.of-heads-requires
+of-heads-requires g c =
+    let few = lanes_few c.args.self.now.switch.run.table c.args.self.now.lanes.items c.requires.of in
+    let same = ap (λ (ls : List (Lane _)). length ls) c.deref.ensures.value in
+    omega (arith, few, same)
