@@ -1,5 +1,5 @@
 #!/usr/bin/env bash
-# What stands where the outside fails: full, small and read-only file systems, links, what is no file, closed streams, calls
+# What is there where the outside fails: full, small and read-only file systems, links, what is no file, closed streams, calls
 # of the system that fail one after the other, and a program that is ended at any of them. Each name has the capture of an
 # older run or the whole new one, the status and the line say which, and no other file changes.
 . "$(dirname "$0")/common.sh"
@@ -29,9 +29,9 @@ said() {
     [ "$(cat status.txt)" -eq "$1" ] && [ "$(cat said.txt)" = "$2" ]
 }
 
-# stands COUNT [FOLDER]: in the folder the first COUNT captures are those of this run, the others those of the older one, and
+# are_there COUNT [FOLDER]: in the folder the first COUNT captures are those of this run, the others those of the older one, and
 # there is no other file; what came in is as it was.
-stands() {
+are_there() {
     local port
     rm -rf wanted && cp -a older wanted
     for port in $(seq "$1"); do
@@ -44,10 +44,10 @@ stands() {
 leaves() {
     local status=$1 line=$2 count=$3
     shift 3
-    again && run_over in out "$@" && said "$status" "$line" && stands "$count"
+    again && run_over in out "$@" && said "$status" "$line" && are_there "$count"
 }
 
-# --- What stands in the place of a file ---
+# --- What is in the place of a file ---
 
 # all_but COUNT: each file and folder, what it is, which, and what it holds, but for the first COUNT captures in OUT.
 all_but() {
@@ -78,20 +78,20 @@ instead() {
 
 # through_a_link TARGET: a link in OUT that leads to no file that was got is replaced, and what it leads to is as it was.
 through_a_link() {
-    again && ln -sf "$1" out/port-1.pcap && run_over in out && said 0 "" && [ ! -L out/port-1.pcap ] && stands 2 &&
+    again && ln -sf "$1" out/port-1.pcap && run_over in out && said 0 "" && [ ! -L out/port-1.pcap ] && are_there 2 &&
         cmp elsewhere.pcap table.toml
 }
 
 # with_a_fault: where a capture has a fault behind its first frames, the new files are removed.
 with_a_fault() {
     again && head -c 99 given/port-2.pcap >in/port-2.pcap && run_over in out && said 3 "afdx: capture P11 CutData, port 2, record 1" &&
-        cp given/port-2.pcap in && stands 0
+        cp given/port-2.pcap in && are_there 0
 }
 
 # from_a_fifo: a capture is read from a FIFO.
 from_a_fifo() {
     again && instead mkfifo in/port-1.pcap && { cat given/port-1.pcap >in/port-1.pcap & } && run_over in out && said 0 "" &&
-        rm in/port-1.pcap && cp given/port-1.pcap in && stands 2
+        rm in/port-1.pcap && cp given/port-1.pcap in && are_there 2
 }
 
 # --- File systems, streams and limits ---
@@ -101,7 +101,7 @@ mounted() {
     again && rm -rf after && mkdir after
     "${as_root[@]}" unshare -m sh -c "$3 && { '$afdx' run table.toml in out >answer.txt 2>said.txt; echo \$? >status.txt; cp -a out/. after; }"
     echo "status $(cat status.txt): $(cat said.txt)"
-    said 5 "$2" && stands "$1" after
+    said 5 "$2" && are_there "$1" after
 }
 
 small() { # small KIB: the commands for a file system of so many KiB that has the older captures
@@ -115,7 +115,7 @@ limited() { # limited ARGUMENT..: no file may grow past 8 KiB
 # limit_ends: the same, where the system ends the program: no capture was moved, and what was written so far is beside the names.
 limit_ends() {
     again && run_over in out bash -c 'ulimit -c 0 -f 8 && exec "$@"' - && [ "$(cat status.txt)" -eq 153 ] &&
-        rm out/port-1.pcap.new-0 out/port-2.pcap.new-0 && stands 0
+        rm out/port-1.pcap.new-0 out/port-2.pcap.new-0 && are_there 0
 }
 
 redirected() { # redirected REDIRECTION ARGUMENT..
@@ -148,7 +148,7 @@ each_fails() {
     for number in $(seq 20); do
         again && run_over in out preloaded "FAIL=$1:$number"
         [ -s said.txt ] && lines=$((lines + 1))
-        [ "$(cat status.txt)" -eq "$([ -s said.txt ] && echo 5 || echo 0)" ] && stands "$(new_ones)" || return 1
+        [ "$(cat status.txt)" -eq "$([ -s said.txt ] && echo 5 || echo 0)" ] && are_there "$(new_ones)" || return 1
         [ "$(grep -c "^$1" calls.txt)" -lt "$number" ] && break
     done
     [ "$number" -gt 2 ] && [ "$lines" -eq "$2" ]
@@ -164,7 +164,7 @@ each_half() {
 
 # stays_beside: where neither the move nor the removal can be done, the new file stays beside the name; the next one is removed.
 stays_beside() {
-    again && run_over in out preloaded "FAIL=rename:1,unlink:1" && said 5 "$put_1" && rm out/port-1.pcap.new-0 && stands 0
+    again && run_over in out preloaded "FAIL=rename:1,unlink:1" && said 5 "$put_1" && rm out/port-1.pcap.new-0 && are_there 0
 }
 
 # interrupted LINE ARGUMENT..: where each read is interrupted, afdx with these arguments ends with this line, and writes
@@ -176,7 +176,7 @@ interrupted() {
         again && : >said.txt
         INTERRUPTED=1 LD_PRELOAD="$PWD/failing.so" "$afdx" "$@" >answer.txt 2>"$error" <given/port-1.pcap
         echo $? >status.txt
-        [ ! -s answer.txt ] && said 5 "$([ "$error" = /dev/full ] || echo "$line")" && stands 0 || return 1
+        [ ! -s answer.txt ] && said 5 "$([ "$error" = /dev/full ] || echo "$line")" && are_there 0 || return 1
     done
 }
 
@@ -191,13 +191,13 @@ each_kill() {
         rm -rf left && mkdir left
         find out -name '*.new-*' -exec mv {} left \;
         echo "call $number, $(tail -1 calls.txt): $moved new, left beside: $(ls left)"
-        [ "$(cat status.txt)" -eq 137 ] && stands "$moved" || return 1
+        [ "$(cat status.txt)" -eq 137 ] && are_there "$moved" || return 1
         cp -a left/. out && run_over in out && said 0 "" && rm -rf found && mkdir found || return 1
         find out -name '*.new-*' -exec mv {} found \;
-        diff -r left found && stands 2 || return 1
+        diff -r left found && are_there 2 || return 1
     done
     echo "$((number - 1)) calls"
-    [ "$number" -gt 10 ] && stands 2
+    [ "$number" -gt 10 ] && are_there 2
 }
 
 cat >table.toml <<'END'

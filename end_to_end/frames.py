@@ -22,7 +22,7 @@ if os.path.exists(sys.argv[1]):
             seconds, nanos = divmod(record.stamp, model.SECOND)
             show(f"{seconds}.{nanos:09}", record.data)
 else:
-    for word in sys.argv[1:]:
-        stamp, link, size = word.split(":")
+    for argument in sys.argv[1:]:
+        stamp, link, size = argument.split(":")
         head = bytes.fromhex("03000000") + int(link).to_bytes(2, "big") + bytes.fromhex("0200000000010800")
         show(stamp, head.ljust(int(size) - 4, b"\0"))

@@ -1,5 +1,5 @@
 #!/usr/bin/env bash
-# What afdx run and afdx check refuse, on real files: the line, the status, and which files stand then.
+# What afdx run and afdx check refuse, on real files: the line, the status, and which files are there then.
 . "$(dirname "$0")/common.sh"
 install python3=python3 text2pcap=wireshark-common editcap=wireshark-common
 export PYTHONDONTWRITEBYTECODE=1
@@ -12,13 +12,13 @@ refused() {
     ends "$1" "$2" /dev/null "${@:3}" && [ -z "$(ls out)" ]
 }
 
-# fails_in_the_second: where the second capture cannot be written, the first one stands and no report is printed.
+# fails_in_the_second: where the second capture cannot be written, the first one is there and no report is printed.
 fails_in_the_second() {
     rm -rf out && mkdir -p out/port-2.pcap
     ends 5 "afdx: device put out/port-2.pcap" /dev/null run table.toml in out --unchecked && [ -s out/port-1.pcap ]
 }
 
-# fills_the_disk: where the report cannot be written, the captures stand.
+# fills_the_disk: where the report cannot be written, the captures are there.
 fills_the_disk() {
     local status=0
     rm -rf out && mkdir out

@@ -6,7 +6,7 @@ usage: refused.py LIBRARY STATUS LINE INPUT OUTPUT PROGRAM WORD..
 LIBRARY is refuse.c, built. Without a refusal the program, which reads INPUT and writes to OUTPUT (- is a pipe), ends with STATUS
 and, on standard error, LINE. With the Nth allocation refused, for each N until none is, it answers the same: status, both streams
 and the files of the folder `out`; or its status is 5, standard error is `afdx: memory`, nothing is on standard output, and the
-files that stand are the first of the right ones. Prints how many allocations were refused.
+files that are there are the first of the right ones. Prints how many allocations were refused.
 """
 import os
 import re
@@ -24,7 +24,7 @@ def names():
 
 
 def files():
-    """What stands there."""
+    """What is there."""
     return {str(path): path.read_bytes() for path in names()}
 
 

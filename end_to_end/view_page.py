@@ -42,8 +42,8 @@ def expect(what, holds):
 def browser():
     options = Options()
     options.binary_location = "/usr/bin/chromium"
-    for word in ("--headless=new", "--no-sandbox", "--disable-gpu", "--disable-dev-shm-usage"):
-        options.add_argument(word)
+    for argument in ("--headless=new", "--no-sandbox", "--disable-gpu", "--disable-dev-shm-usage"):
+        options.add_argument(argument)
     options.set_capability("goog:loggingPrefs", {"browser": "ALL"})
     return webdriver.Chrome(service=Service("/usr/bin/chromedriver"), options=options)
 
@@ -110,8 +110,8 @@ def check_page(page, options, rows, width):
 
 def main():
     parser = argparse.ArgumentParser()
-    for word in ("page", "table", "folder"):
-        parser.add_argument(word)
+    for argument in ("page", "table", "folder"):
+        parser.add_argument(argument)
     parser.add_argument("--unchecked", action="store_true")
     parser.add_argument("--seconds", type=float, default=10)
     options = parser.parse_args()

@@ -5,12 +5,12 @@
     docs/trust/quotes.py --check   changes nothing; fails where a quote is not its source's text, where a name is not found, and
                                    where something that the contracts of ROOTS rest on is not quoted, or something else is,
                                    where a word of the kit has no meaning in the table of these words, and where what a quote has
-                                   under another name (`use .. as`) stands in backticks under that name on no page
-    docs/trust/quotes.py --list    prints what the contracts of ROOTS rest on, and where it stands
+                                   under another name (`use .. as`) is in backticks under that name on no page
+    docs/trust/quotes.py --list    prints what the contracts of ROOTS rest on, and where it is
 
 A quote is a line `<!-- quote FILE NAME.. -->`, and after it the file's name and the block of code, which this script writes. In a
 file of specs/ a NAME is that of a definition. In a file of src/ it is that of a type, a trait or a function (its docstring and
-contract), `TYPE.FUNCTION` (one of the type's), or `TYPE.Model` (what contracts see of the type). The line `<!-- kit -->` stands before a
+contract), `TYPE.FUNCTION` (one of the type's), or `TYPE.Model` (what contracts see of the type). The line `<!-- kit -->` is before a
 table whose first column has the words of the kit that the quotes use, in backticks.
 """
 
@@ -199,7 +199,7 @@ def contract_at(lines, start):
 
 
 def rust_item(file, name):
-    """A type or trait, a function's docstring and contract, that of TYPE.FUNCTION, or TYPE.Model, as it stands in a file."""
+    """A type or trait, a function's docstring and contract, that of TYPE.FUNCTION, or TYPE.Model, as it is in a file."""
     lines = read(file).split("\n")
     type_name, _, model = name.partition(".")
     if model == "Model":
@@ -360,17 +360,17 @@ def without_meaning(pages, kit):
 
 
 def unexplained(pages, others):
-    """The other names that stand in backticks on no page."""
+    """The other names that are in backticks on no page."""
     prose = "\n".join(re.sub(r"^```.*?^```$", "", page, flags=re.M | re.S) for page in pages)
     return [f"another name, which no page explains: {name}" for name in sorted(others) if f"`{name}`" not in prose]
 
 
-def main(words):
+def main(arguments):
     try:
         needed, kit, others = closure()
     except Missing as error:
         sys.exit(f"quotes.py: {error}")
-    if words == ["--list"]:
+    if arguments == ["--list"]:
         print("\n".join([f"{file} {name}" for file, name in sorted(needed)] + sorted(kit)))
         return
     there, wrong, texts = [], [], []
@@ -380,7 +380,7 @@ def main(words):
         there += quotes
         wrong += faults
         texts.append(new)
-        if not words:
+        if not arguments:
             page.write_text(new, encoding="utf-8")
         elif new != old:
             wrong.append(f"{page.name}: a quote is not its source's text: run docs/trust/quotes.py")

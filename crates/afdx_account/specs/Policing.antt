@@ -77,7 +77,7 @@ abbrev pub conforms : Terms → List Frame → Frame → Bool
 conforms t [] f = nat_le (t.price f.size) (allowance t 0)
 conforms t (g ∷ gs) f = nat_le (paid t (g ∷ gs) + t.price f.size) (allowance t (f.stamp - g.stamp)) && conforms t gs f
 
--- those of a list, taken in order, whose frames conform to the frames passed before them; some were passed already
+-- profile: those of a list, taken in order, whose frames conform to the frames passed before them; some were passed already
 abbrev pub passed_after : {A : Type 0} → (A → Frame) → Terms → List Frame → List A → List A
 passed_after frame_of t passed [] = []
 passed_after frame_of t passed (x ∷ xs) =

@@ -18,7 +18,7 @@ use Rattle.afdx_filter.specs.Frame.{frame_of}
 use Rattle.afdx_arguments.specs.declared.alone.Alone.{Alone}
 use Rattle.afdx_alone.specs.Own.{is_own}
 use Rattle.afdx_alone.specs.Inner.Offer.{IsOffered}
-use Rattle.afdx_alone.specs.Answer.{IsAnswer, terms_of, passed_of_link}
+use Rattle.afdx_alone.specs.Answer.{IsAnswer, account_terms, passed_of_link}
 use Rattle.afdx_alone.specs.Inner.Ground.{Ground}
 use Rattle.afdx_devices.specs.Output.{AppendsPrefix}
 use Rattle.afdx_alone.proofs.Progress.{Polices, one_further, all_policed}
@@ -65,8 +65,8 @@ passed_more g t before (r ∷ rs) =
 
 passed_begin : Ground → (link : Alone) (seen later : List Record) → (more : List Record) × (passed_of_link link (seen ++ later) ≡ passed_of_link link seen ++ more)
 passed_begin g link seen later =
-    let more = passed_more g (terms_of link) (filter (is_own link) seen) (filter (is_own link) later) in
-    (more.0, ap (passed_of frame_of (terms_of link)) (filter-append (is_own link) seen later) ∙ more.1)
+    let more = passed_more g (account_terms link) (filter (is_own link) seen) (filter (is_own link) later) in
+    (more.0, ap (passed_of frame_of (account_terms link)) (filter-append (is_own link) seen later) ∙ more.1)
 
 text_begins : Ground → (rs more : List Record) → (rest : List ℕ) × (capture_text (rs ++ more) ≡ capture_text rs ++ rest)
 text_begins g rs [] = ([], ap capture_text (append-nil rs) ∙ sym (append-nil (capture_text rs)))

@@ -20,7 +20,7 @@ use Rattle.afdx_arguments.specs.declared.alone.Alone.{Alone}
 use Rattle.afdx_alone.specs.Own.{is_own}
 use Rattle.afdx_alone.specs.Faults.{IsFaultOf, fault_of}
 use Rattle.afdx_alone.specs.Inner.Offer.{IsOffered}
-use Rattle.afdx_alone.specs.Answer.{IsAnswer, terms_of, passed_of_link}
+use Rattle.afdx_alone.specs.Answer.{IsAnswer, account_terms, passed_of_link}
 use Rattle.afdx_alone.specs.Inner.Ground.{Ground}
 
 abbrev pub own_frames : Alone → List Record → List Frame
@@ -28,9 +28,9 @@ own_frames link seen = map frame_of (filter (is_own link) seen)
 
 -- the account, after these frames of a capture
 pub record Progress (link : Alone) (seen : List Record) (account : ByteAccount) : Type 0 where
-  pub terms : byte_account_terms account ≡ terms_of link
+  pub terms : byte_account_terms account ≡ account_terms link
   pub since : byte_account_since account ≤ last_stamp 0 seen
-  pub level : IsLevelAfter (terms_of link) (byte_account_since account) (byte_account_level account (byte_account_since account)) (own_frames link seen)
+  pub level : IsLevelAfter (account_terms link) (byte_account_since account) (byte_account_level account (byte_account_since account)) (own_frames link seen)
 
 -- the account with one more frame, which this one is passed or not
 pub record Taken (link : Alone) (seen : List Record) (r : Record) (account : ByteAccount) (passes : Bool) : Type 0 where
@@ -49,17 +49,17 @@ skipped g link seen r account order other p =
       progress = record {
         terms = p.terms;
         since = let old = p.since in omega (arith, latest, old, order);
-        level = subst (λ (own : List Record). IsLevelAfter (terms_of link) (byte_account_since account) (byte_account_level account (byte_account_since account)) (map frame_of own)) (sym same)
+        level = subst (λ (own : List Record). IsLevelAfter (account_terms link) (byte_account_since account) (byte_account_level account (byte_account_since account)) (map frame_of own)) (sym same)
             p.level;
       };
-      passed = ap (passed_of frame_of (terms_of link)) same;
+      passed = ap (passed_of frame_of (account_terms link)) same;
     }
 
 -- one of the link's own frames
 offered : Ground → (link : Alone) (seen : List Record) (r : Record) (old new : ByteAccount) (answer : Bool)
     → IsTrue (is_own link r) → IsOffered old new (frame_of r) answer → Progress link seen old → Taken link seen r new answer
 offered g link seen r old new answer own o p =
-    let t = terms_of link in
+    let t = account_terms link in
     let f = frame_of r in
     let before = filter (is_own link) seen in
     let more : filter (is_own link) (seen ++ r ∷ []) ≡ before ++ r ∷ [] =

@@ -8,12 +8,12 @@ use Rattle.afdx_filter.specs.Frame.{frame_of}
 use Rattle.afdx_arguments.specs.declared.alone.Alone.{Alone}
 use Rattle.afdx_alone.specs.Own.{is_own}
 
-abbrev pub terms_of : Alone → Terms
-terms_of link = byte_terms link.max_size link.bag link.jitter
+abbrev pub account_terms : Alone → Terms
+account_terms link = byte_terms link.max_size link.bag link.jitter
 
 -- those of a capture's frames that are the link's own and that its account passes
 abbrev pub passed_of_link : Alone → List Record → List Record
-passed_of_link link rs = passed_of frame_of (terms_of link) (filter (is_own link) rs)
+passed_of_link link rs = passed_of frame_of (account_terms link) (filter (is_own link) rs)
 
 -- the input is a capture, and the answer is the capture of the frames that the link's account passes
 abbrev pub IsAnswer : Alone → List ℕ → List ℕ → Type 0

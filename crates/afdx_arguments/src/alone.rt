@@ -3,15 +3,7 @@
 ghost use Rattle.std.specs.Prelude.{◌≤◌};
 ghost use Rattle.afdx_units.specs.Line.{least_size, greatest_size};
 
-use afdx_units::{Bag, GREATEST_SIZE, LEAST_SIZE};
-
-/// The number of a link is two bytes of an address (ARINC 664 Part 7).
-const GREATEST_ID: u64 = 65_535;
-
-/// The greatest jitter of a link, in microseconds (profile).
-const GREATEST_JITTER: u64 = 10_000;
-
-const NANOS_PER_MICROSECOND: u64 = 1_000;
+use afdx_units::{Bag, GREATEST_SIZE, LEAST_SIZE, MAX_JITTER, MAX_LINK_ID, MICROSECOND};
 
 /// What the policing of one virtual link goes by (ARINC 664 Part 7; limits: profile).
 #[derive(Clone, Copy, Debug, PartialEq, Eq)]
@@ -40,8 +32,8 @@ impl Alone {
             (λ link. HasNumbers link id bag jitter size) }
     {
         let bag = Bag::from_ms(bag)?;
-        let has_limits = id <= GREATEST_ID
-            && jitter <= GREATEST_JITTER
+        let has_limits = id <= MAX_LINK_ID
+            && jitter <= MAX_JITTER
             && u64::from(LEAST_SIZE) <= size
             && size <= u64::from(GREATEST_SIZE);
         if !has_limits {
@@ -50,7 +42,7 @@ impl Alone {
         Some(Alone {
             id: id as u16,
             bag,
-            jitter: jitter * NANOS_PER_MICROSECOND,
+            jitter: jitter * MICROSECOND,
             max_size: size as u32,
         })
     }

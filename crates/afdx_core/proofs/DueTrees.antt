@@ -161,7 +161,7 @@ first_before places tree instant leaf ok within same before fits =
       first = none_before places tree (get_or tree (32 + leaf) 0) ok (omega arith);
     }
 
--- a node's number stands at its right child where it does not stand at its left one
+-- a node's number is at its right child where it is not at its left one
 pub stands_right : (places : ℕ) (tree : List ℕ) (node x : ℕ) → IsTree places tree → 0 < node → node < 32 → get_or tree node 0 ≡ x → get_or tree (node * 2) 0 ≢ x → get_or tree (node * 2 + 1) 0 ≡ x
 stands_right places tree node x ok low high same other =
     let least = ok.least node low high in

@@ -20,7 +20,8 @@ mod log;
 mod output_port;
 mod step;
 mod switch;
+mod targets;
 
 pub use accounts::{accounts_of, police};
-pub use step::{CoreFault, Fate, Row, Step};
+pub use step::{CoreFault, Fate, Offers, Row, Step};
 pub use switch::{Done, Switch};

@@ -1,9 +1,8 @@
 //! An output port beside its row of the table.
 
-ghost use Rattle.std.specs.Prelude.{◌≡◌, ℕ, ◌+◌, ◌<◌, ◌≤◌, ◌==◌, true, false, List, ◌++◌, length, map, drop, All, OnOk, vec_len, find, option_copied, position, slice_get, slice_index_or, set};
+ghost use Rattle.std.specs.Prelude.{◌≡◌, ℕ, ◌+◌, ◌<◌, ◌≤◌, ◌==◌, true, false, List, [], length, map, drop, All, OnOk, find, option_copied, position, slice_get, slice_index_or, set};
 ghost use Rattle.std.specs.Prelude.{IfSome, None, nat_eq};
 ghost use Rattle.std.specs.List.{IsDistinct};
-ghost use Rattle.std.specs.Vec.{vec_capacity};
 ghost use Rattle.afdx_units.specs.Time.{last_second};
 ghost use Rattle.afdx_units.specs.Line.{least_size, greatest_size};
 ghost use Rattle.afdx_table.specs.WellFormed.{IsPort};
@@ -18,6 +17,7 @@ ghost use Rattle.afdx_core.specs.Inner.Copies.{copies_at, copies_in, newly_aged,
 ghost use Rattle.afdx_core.specs.declared.output_port.OutputPort.{OutputPort as OneOutputPort};
 
 use crate::dues::Dues;
+use crate::step::Offers;
 use afdx_port::laws::{each_has_one_event, events_follow_the_line, lagging_ports_follow};
 use afdx_port::{Aged, Item, Offer, Port, Sent};
 use afdx_store::Store;
@@ -312,15 +312,14 @@ fn copies_by(answer: Offer) -> usize
     }
 }
 
-/// Offers an item to these ports, in their order, and lists their answers in a list that has room for them.
-/// It answers how many queued it.
+/// Offers an item to these ports, in their order, and lists their answers. It answers how many queued it.
 pub(crate) fn offer_all<A: Allocator + Copy>(
     output_ports: &mut [OutputPort<A>],
     dues: &mut Dues,
     places: &[Option<usize>; 25],
     item: &Item,
     to: &[u8],
-    answers: &mut Vec<(u8, Offer), A>,
+    answers: &mut Offers,
 ) -> usize
     requires can { All (λ o. names_port o.row.id to.now ≡ true → CanTake item.now o) output_ports.old }
     requires once { IsDistinct nat_eq (map (λ o. o.row.id) output_ports.old) }
@@ -328,11 +327,12 @@ pub(crate) fn offer_all<A: Allocator + Copy>(
     requires not_late { item.now.stamp < last_second }
     requires least { least_size ≤ item.now.size }
     requires largest { item.now.size ≤ greatest_size }
-    requires room { vec_len answers.old + length to.now ≤ vec_capacity answers.old }
+    requires few { length to.now ≤ 24 }
+    requires none { answers.old.items ≡ [] }
     requires dues { dues.old ≡ dues_of output_ports.old }
     requires places { PlacesAre places.now (map (λ o. o.row) output_ports.old) }
     ensures output_ports { Became (touched item.now to.now) output_ports.old output_ports.new }
-    ensures answers { answers.new.items ≡ answers.old.items ++ map (λ port. (port, answer_at item.now output_ports.old port)) to.now }
+    ensures answers { answers.new.items ≡ map (λ port. (port, answer_at item.now output_ports.old port)) to.now }
     ensures copies { AddsCopies item.now.number result output_ports.old output_ports.new }
     ensures dues { dues.new ≡ dues_of output_ports.new }
 {
@@ -340,7 +340,7 @@ pub(crate) fn offer_all<A: Allocator + Copy>(
     for port in to {
         let answer = offer_to(output_ports, dues, places, item, *port);
         queued += copies_by(answer);
-        answers.push_reserved((*port, answer));
+        answers.push((*port, answer));
     }
     queued
 }

@@ -5,7 +5,7 @@ ghost use Rattle.std.specs.Prelude.{◌≡◌};
 use afdx_filter::Verdict;
 use afdx_port::Offer;
 use afdx_units::Stamp;
-use std::alloc::Allocator;
+use arrayvec::ArrayVec;
 use std::marker::Model;
 use thiserror::Error;
 
@@ -49,11 +49,14 @@ pub struct Row {
     pub in_port: u8,
 }
 
+/// Ports with the answer of each, in the order in which they were asked: they lie in the value, as a switch has at most 24.
+pub type Offers = ArrayVec<(u8, Offer), 24>;
+
 /// What became of an arrival.
 ///
 /// Contracts see it as a record of these fields, with the offers as a list of pairs.
 #[derive(Debug, Drop)]
-pub struct Step<A: Allocator> {
+pub struct Step {
     /// The number of arrivals that were taken before it.
     pub number: usize,
     /// The port at which it came in.
@@ -61,21 +64,21 @@ pub struct Step<A: Allocator> {
     pub fate: Fate,
     /// The ports that its link leads to, in the link's order, with the answer of each; none where
     /// it was not passed.
-    pub offers: Vec<(u8, Offer), A>,
+    pub offers: Offers,
     /// Where its link is in the table's file order, from 0, as the filter found it; none where it is no link's.
     /// Contracts do not see it: it spares a look-up, and who uses it looks whether that link has the number.
     pub place: Option<usize>,
 }
 
-impl<A: Allocator> Step<A> {
+impl Step {
     /// What became of the arrival of this row.
     pub(crate) fn of(
         number: usize,
         row: &Row,
         fate: Fate,
-        offers: Vec<(u8, Offer), A>,
+        offers: Offers,
         place: Option<usize>,
-    ) -> Step<A>
+    ) -> Step
         ensures { result ≡ record { number = number; in_port = row.now.in_port; fate = fate; offers = offers.items } }
     {
         Step {
@@ -88,7 +91,7 @@ impl<A: Allocator> Step<A> {
     }
 }
 
-impl<A: Allocator> Model for Step<A> {
+impl Model for Step {
     ghost use Rattle.afdx_core.specs.Step.{Step as Seen};
 
     ghost Value = { Seen };

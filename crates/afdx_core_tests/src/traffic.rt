@@ -43,10 +43,11 @@ pub(crate) fn arrive(
     let Some(frame) = record(alloc, sample) else {
         return (None, None, None, 0);
     };
-    match switch.arrive(in_port, frame) {
-        Ok(step) => (Some(step.fate), step.offers.get(0).copied(), None, 0),
-        Err((fault, back)) => (None, None, Some(fault), back.stamp().ns()),
-    }
+    let step = match switch.arrive(in_port, frame) {
+        Ok(step) => step,
+        Err((fault, back)) => return (None, None, Some(fault), back.stamp().ns()),
+    };
+    (Some(step.fate), step.offers.first().copied(), None, 0)
 }
 
 /// The first two offers, in the link's order.
@@ -59,10 +60,12 @@ pub(crate) fn offers(
     let Some(frame) = record(alloc, sample) else {
         return (None, None);
     };
-    match switch.arrive(in_port, frame) {
-        Ok(step) => (step.offers.get(0).copied(), step.offers.get(1).copied()),
-        Err(_) => (None, None),
-    }
+    let step = match switch.arrive(in_port, frame) {
+        Ok(step) => step,
+        Err(_) => return (None, None),
+    };
+    let offers = step.offers.as_slice();
+    (offers.first().copied(), offers.get(1).copied())
 }
 
 /// The end and the number of bytes of the next frame that a port hands out.

@@ -26,8 +26,8 @@ use Rattle.afdx_core.specs.Rows.{each_after, fates_of, feed_of, fate_of, fate_by
 use Rattle.afdx_core.specs.State.{Run, answer_of, offers_by, offers_of, step_of, sent_in, aged_in, after_finish}
 use Rattle.afdx_isolation.specs.Table.{settings_of}
 use Rattle.afdx_count.specs.declared.counters.InCount.{InCount}
-use Rattle.afdx_count.specs.declared.port_tallies.PortTally.{PortTally}
-use Rattle.afdx_count.specs.declared.link_tallies.LinkTally.{LinkTally}
+use Rattle.afdx_count.specs.declared.ports.PortTally.{PortTally}
+use Rattle.afdx_count.specs.declared.links.LinkTally.{LinkTally}
 use Rattle.afdx_count.specs.Counting.{capped, with_fate, is_of, answers_of, with_answers, with_ended}
 use Rattle.afdx_count.specs.Tally.{new_port, new_link, with_arrival, with_class, with_copies, class_of, noted_link, noted_port, ended_port, ended_tally}
 use Rattle.afdx_count.specs.Run.{of_priority, turned_away, arrivals_at, input_counts, output_counts, port_counts, link_tally, counts_so_far, events_of, run_after, steps_of, noted_all}

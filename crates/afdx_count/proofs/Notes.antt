@@ -13,8 +13,8 @@ use Rattle.afdx_core.specs.declared.step.Fate.TheVariants.{Filtered}
 use Rattle.afdx_core.specs.Step.{Step}
 use Rattle.afdx_core.specs.State.{Run}
 use Rattle.afdx_count.specs.declared.counters.OutCount.{OutCount}
-use Rattle.afdx_count.specs.declared.port_tallies.PortTally.{PortTally}
-use Rattle.afdx_count.specs.declared.link_tallies.LinkTally.{LinkTally}
+use Rattle.afdx_count.specs.declared.ports.PortTally.{PortTally}
+use Rattle.afdx_count.specs.declared.links.LinkTally.{LinkTally}
 use Rattle.afdx_count.specs.Counting.{capped, answers_of, with_answers}
 use Rattle.afdx_count.specs.Tally.{Tally, with_arrival, with_copies, with_class, class_of, noted_link, noted_port, noted, ended_port}
 use Rattle.afdx_count.specs.Inner.Places.{changed_at}

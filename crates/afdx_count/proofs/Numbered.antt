@@ -6,8 +6,8 @@ use Rattle.std.proofs.lemmas.List.{take_more, map-append}
 use Rattle.afdx_table.specs.declared.rows.PortRow.{PortRow}
 use Rattle.afdx_table.specs.Link.{Link}
 use Rattle.afdx_table.specs.WellFormed.{Rises}
-use Rattle.afdx_count.specs.declared.port_tallies.PortTally.{PortTally}
-use Rattle.afdx_count.specs.declared.link_tallies.LinkTally.{LinkTally}
+use Rattle.afdx_count.specs.declared.ports.PortTally.{PortTally}
+use Rattle.afdx_count.specs.declared.links.LinkTally.{LinkTally}
 use Rattle.afdx_count.specs.Tally.{new_port, new_link}
 use Rattle.afdx_count.proofs.Placed.{new_number, lower_differs}
 

@@ -23,7 +23,7 @@ use Rattle.afdx_core.specs.declared.step.Fate.TheVariants.{Filtered, Policed, Pa
 use Rattle.afdx_core.specs.Rows.{each_after, fates_of, fate_of, fate_by, named, passes}
 use Rattle.afdx_count.specs.declared.counters.InCount.{InCount}
 use Rattle.afdx_count.specs.declared.counters.LinkCount.{LinkCount}
-use Rattle.afdx_count.specs.declared.link_tallies.LinkTally.{LinkTally}
+use Rattle.afdx_count.specs.declared.links.LinkTally.{LinkTally}
 use Rattle.afdx_count.specs.Counting.{capped, up, with_verdict, with_fate, verdict_in, is_of, with_answers}
 use Rattle.afdx_count.specs.Tally.{noted_link}
 use Rattle.afdx_count.specs.Run.{counted, is_partial, is_short, is_long, is_foreign, has_no_link, is_at_wrong_port, is_too_big, is_clean, arrivals_at, input_counts, is_passed, is_policed, link_counts}

@@ -1,7 +1,7 @@
 -- The lines of an output port.
 use Rattle.std.proofs.Common.{◌≡◌, ℕ, List, ◌++◌, ap, ◌∙◌, append_assoc}
 use Rattle.std.specs.Prelude.{codes}
-use Rattle.afdx_count.specs.declared.port_tallies.PortTally.{PortTally}
+use Rattle.afdx_count.specs.declared.ports.PortTally.{PortTally}
 use Rattle.afdx_count.specs.Report.{class_line, out_lines}
 
 pub high_then_low : (old between now : List ℕ) (p : PortTally) → between ≡ old ++ class_line (codes " high offered ") p.id p.high → now ≡ between ++ class_line (codes " low offered ") p.id p.low → now

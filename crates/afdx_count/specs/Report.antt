@@ -1,8 +1,8 @@
 -- The report of a run as text (profile): lines that end with a line feed, numbers in decimal.
 use Rattle.std.specs.Prelude.{ℕ, codes, decimal, List, [], ◌∷◌, ◌++◌, flat_map}
 use Rattle.afdx_count.specs.declared.counters.OutCount.{OutCount}
-use Rattle.afdx_count.specs.declared.port_tallies.PortTally.{PortTally}
-use Rattle.afdx_count.specs.declared.link_tallies.LinkTally.{LinkTally}
+use Rattle.afdx_count.specs.declared.ports.PortTally.{PortTally}
+use Rattle.afdx_count.specs.declared.links.LinkTally.{LinkTally}
 use Rattle.afdx_count.specs.Tally.{Tally}
 
 -- a word and its number

@@ -13,8 +13,8 @@ use Rattle.afdx_core.specs.State.{Run, sent_in, aged_in}
 use Rattle.afdx_count.specs.declared.counters.InCount.{InCount}
 use Rattle.afdx_count.specs.declared.counters.LinkCount.{LinkCount}
 use Rattle.afdx_count.specs.declared.counters.OutCount.{OutCount}
-use Rattle.afdx_count.specs.declared.port_tallies.PortTally.{PortTally}
-use Rattle.afdx_count.specs.declared.link_tallies.LinkTally.{LinkTally}
+use Rattle.afdx_count.specs.declared.ports.PortTally.{PortTally}
+use Rattle.afdx_count.specs.declared.links.LinkTally.{LinkTally}
 use Rattle.afdx_count.specs.Counting.{up, no_input, no_link, no_output, with_fate, answers_of, with_answers, with_ended}
 
 pub record Tally : Type 0 where

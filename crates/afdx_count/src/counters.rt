@@ -54,33 +54,30 @@ pub(crate) fn up(count: u64) -> u64
 }
 
 impl InCount {
-    fn with_verdict(self, verdict: Verdict) -> InCount
-        ensures { result ≡ with_verdict verdict self }
+    fn note_verdict(&mut self, verdict: Verdict)
+        ensures { self.new ≡ with_verdict verdict self.old }
     {
-        let mut count = self;
         match verdict {
-            Verdict::Cut => count.cut = up(count.cut),
-            Verdict::Short => count.short = up(count.short),
-            Verdict::Long => count.long = up(count.long),
-            Verdict::Foreign => count.foreign = up(count.foreign),
-            Verdict::NoLink => count.no_link = up(count.no_link),
-            Verdict::WrongPort => count.wrong_port = up(count.wrong_port),
-            Verdict::TooBig => count.too_big = up(count.too_big),
-            Verdict::Clean(_) => count.clean = up(count.clean),
+            Verdict::Cut => self.cut = up(self.cut),
+            Verdict::Short => self.short = up(self.short),
+            Verdict::Long => self.long = up(self.long),
+            Verdict::Foreign => self.foreign = up(self.foreign),
+            Verdict::NoLink => self.no_link = up(self.no_link),
+            Verdict::WrongPort => self.wrong_port = up(self.wrong_port),
+            Verdict::TooBig => self.too_big = up(self.too_big),
+            Verdict::Clean(_) => self.clean = up(self.clean),
         }
-        count
     }
 
     /// Counts an arrival.
-    pub(crate) fn with_fate(self, fate: Fate) -> InCount
-        ensures { result ≡ with_fate fate self }
+    pub(crate) fn note(&mut self, fate: Fate)
+        ensures { self.new ≡ with_fate fate self.old }
     {
-        let mut count = self;
-        count.seen = up(count.seen);
+        self.seen = up(self.seen);
         match fate {
-            Fate::Filtered(verdict) => count.with_verdict(verdict),
-            Fate::Policed(link) => count.with_verdict(Verdict::Clean(link)),
-            Fate::Passed(link) => count.with_verdict(Verdict::Clean(link)),
+            Fate::Filtered(verdict) => self.note_verdict(verdict),
+            Fate::Policed(link) => self.note_verdict(Verdict::Clean(link)),
+            Fate::Passed(link) => self.note_verdict(Verdict::Clean(link)),
         }
     }
 }
@@ -93,16 +90,15 @@ fn is_of(priority: Priority, other: Priority) -> bool
 
 impl OutCount {
     /// Counts a copy that was offered.
-    pub(crate) fn with_offer(self, offer: Offer) -> OutCount
-        ensures { result ≡ with_answers (offer ∷ []) self }
+    pub(crate) fn note(&mut self, offer: Offer)
+        ensures { self.new ≡ with_answers (offer ∷ []) self.old }
     {
-        let mut count = self;
-        count.offered = up(count.offered);
+        let full = self.full;
+        self.offered = up(self.offered);
         match offer {
-            Offer::Full => count.full = up(count.full),
+            Offer::Full => self.full = up(full),
             Offer::Queued => {}
         }
-        count
     }
 
     /// Counts the copies of a priority that were sent and discarded.

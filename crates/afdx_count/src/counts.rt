@@ -5,8 +5,8 @@ ghost use Rattle.afdx_count.specs.Tally.{fresh, noted, ended_tally, input_of, co
 ghost use Rattle.afdx_count.specs.Report.{report_of};
 
 use crate::counters::{InCount, LinkCount, OutCount};
-use crate::link_tallies::Links;
-use crate::port_tallies::Ports;
+use crate::links::Links;
+use crate::ports::Ports;
 use crate::report::{put_inputs, put_links, put_outputs};
 use afdx_core::{Done, Step};
 use afdx_table::Table;
@@ -46,7 +46,7 @@ impl<A: Allocator + Copy> Counts<A> {
 
     /// Counts what a switch did with an arrival: the arrival at its port, the frame at its link, and its copies at the ports
     /// that were offered them. It takes no memory. O(offers), whatever the numbers of ports and links.
-    pub fn note<B: Allocator>(&mut self, step: &Step<B>)
+    pub fn note(&mut self, step: &Step)
         ensures { self.new ≡ noted step.now self.old }
     {
         self.ports.note_arrival(step.in_port, step.fate);

@@ -11,8 +11,8 @@
 mod counters;
 mod counts;
 pub mod laws;
-mod link_tallies;
-mod port_tallies;
+mod links;
+mod ports;
 mod report;
 
 pub use counters::{InCount, LinkCount, OutCount};

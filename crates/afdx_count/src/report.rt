@@ -4,8 +4,8 @@ ghost use Rattle.std.specs.Prelude.{◌≡◌, ◌++◌, map, flat_map, string_b
 ghost use Rattle.afdx_count.specs.Report.{line, in_line, link_line, class_line, out_lines};
 
 use crate::counters::OutCount;
-use crate::link_tallies::LinkTally;
-use crate::port_tallies::PortTally;
+use crate::links::LinkTally;
+use crate::ports::PortTally;
 use std::alloc::{AllocError, Allocator};
 
 /// A word and its number.

@@ -1,7 +1,7 @@
 //! Reports, and the readers.
 
 use crate::traffic::{counts_of, fresh, hasty, report_of};
-use afdx_core::{Fate, Step};
+use afdx_core::{Fate, Offers, Step};
 use afdx_count::Counts;
 use afdx_port::Offer;
 use afdx_samples::{Sample, large, narrow, one_of_each, single, small};
@@ -119,7 +119,7 @@ fn readers(rt: HostRuntime) -> Result<(), Fail> {
 }
 
 /// The report of a switch's table of which this step was noted.
-fn report_of_step(alloc: Global, step: &Step<Global>) -> Result<String, Fail> {
+fn report_of_step(alloc: Global, step: &Step) -> Result<String, Fail> {
     let mut counts = fresh(alloc, &single(alloc)?)?;
     counts.note(step);
     let report = counts.report(alloc)?;
@@ -129,8 +129,8 @@ fn report_of_step(alloc: Global, step: &Step<Global>) -> Result<String, Fail> {
 #[test]
 fn numbers_that_the_table_lacks(rt: HostRuntime) -> Result<(), Fail> {
     let alloc = rt.alloc();
-    let mut offers = Vec::new(alloc);
-    offers.push((2, Offer::Full))?;
+    let mut offers = Offers::new();
+    offers.push((2, Offer::Full));
     let step = Step {
         number: 0,
         in_port: 7,

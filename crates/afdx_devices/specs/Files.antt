@@ -18,7 +18,7 @@ with_files f _ _ = f
 
 -- ---- of a folder that may not show its files nothing is said
 
--- these bytes stand under the name
+-- these bytes are under the name
 abbrev pub Shows : Option Files → List ℕ → List ℕ → Type 0
 Shows None name bytes = ⊤
 Shows (Some f) name bytes = f name ≡ Some bytes
@@ -34,13 +34,13 @@ KeepsFiles None new = ⊤
 KeepsFiles (Some f) None = ⊥
 KeepsFiles (Some f) (Some g) = (q : List ℕ) → g q ≡ f q
 
--- what stands under other names has not changed
+-- what is under other names has not changed
 abbrev pub KeepsOthers : Option Files → Option Files → List ℕ → Type 0
 KeepsOthers None new name = ⊤
 KeepsOthers (Some f) None name = ⊥
 KeepsOthers (Some f) (Some g) name = (q : List ℕ) → bytes_eq q name ≡ false → g q ≡ f q
 
--- these bytes stand under the name, and nothing else has changed
+-- these bytes are under the name, and nothing else has changed
 abbrev pub PutsFile : Option Files → Option Files → List ℕ → List ℕ → Type 0
 PutsFile None new name bytes = ⊤
 PutsFile (Some f) None name bytes = ⊥

@@ -1,4 +1,4 @@
--- Where the link of a frame stands, by the verdict on it.
+-- Where the link of a frame is, by the verdict on it.
 use Rattle.std.specs.Prelude.{ℕ, Option, Some, None}
 use Rattle.afdx_table.specs.Content.{Content, link_place}
 use Rattle.afdx_filter.specs.declared.outcome.Verdict.{Verdict}

@@ -1,11 +1,11 @@
 //! The filter of the switch: the verdict on a frame that arrives at a port.
 #![tactic(auto)]
 
-mod deciding;
+mod judged;
 pub mod laws;
 mod outcome;
 
-pub use deciding::{Judged, judge, verdict};
+pub use judged::{Judged, judge, verdict};
 pub use outcome::Verdict;
 
 #[cfg(test)]

@@ -27,9 +27,9 @@ use Rattle.afdx_isolation.specs.Inner.Kept.{IsKeptLevel}
 use Rattle.afdx_isolation.specs.Arrivals.{own}
 use Rattle.afdx_isolation.specs.Inner.Claims.{IsTimely}
 use Rattle.afdx_isolation.specs.Inner.Ground.{Ground}
-use Rattle.afdx_isolation.proofs.Numbers.{stand_growth, stand_high, stand_low}
+use Rattle.afdx_isolation.proofs.Numbers.{keep_growth, keep_high, keep_low}
 use Rattle.afdx_isolation.proofs.Sums.{grown, capped, pays, falls, among_filter, high_part, low_leaves, within_longest}
-use Rattle.afdx_isolation.proofs.Waiting.{IsShort, lined_at, start_at, highs-line_up, lows-line_up, stand_starts}
+use Rattle.afdx_isolation.proofs.Waiting.{IsShort, lined_at, start_at, highs-line_up, lows-line_up, keep_starts}
 use Rattle.afdx_isolation.proofs.Ends.{ends, timely}
 
 line_none : (s : Settings) (now : ℕ) → line_at s now [] ≡ record { free = max 0 now; waiting = [] }
@@ -87,13 +87,13 @@ module _ (g : Ground) (s : Settings) (flows : List Flow) (paid : All (IsPaidFor 
         let there : now + d ≡ to = omega arith in
         let high_grow : Grow (high_flows flows) d level after = All-filter (λ flow. is_high flow.priority) (λ flow. (after flow ≤ flow.terms.cap) × (after flow ≤ level flow + flow.terms.rate * d))
         flows grow in
-        let grown' = stand_growth parts s demand now d q.free (held level flows) (held level (high_flows flows)) (held after flows) (held after (high_flows flows)) (highs q.waiting) (lows q.waiting)
+        let grown' = keep_growth parts s demand now d q.free (held level flows) (held level (high_flows flows)) (held after flows) (held after (high_flows flows)) (highs q.waiting) (lows q.waiting)
         (omega (arith, slow)) high_slow (grown flows d level after grow) (grown (high_flows flows) d level after high_grow) h.potentials in
         let small = recursion_from_All (IsShort parts s demand to (held after flows) (held after (high_flows flows)) capped' high_capped') q.waiting
         (waiting_all (λ (item : Item). is_high item.priority ≡ false → item_cost s item ≤ demand.low_largest) now items
         (All-weaker (IsOfAFlow flows) (λ (item : Item). is_high item.priority ≡ false → item_cost s item ≤ demand.low_largest) cost_most_low items h.of_flows)) in
         subst (KeepsPotentials s flows to after) (sym (g.goes_on s now to items le h.come))
-        (stand_starts parts s demand to (held after flows) (held after (high_flows flows)) capped' high_capped' q.free q.waiting (lined_at s now items) small
+        (keep_starts parts s demand to (held after flows) (held after (high_flows flows)) capped' high_capped' q.free q.waiting (lined_at s now items) small
         (subst (λ t. IsWithinPotentials parts s demand t q.free (held after flows) (held after (high_flows flows)) (highs q.waiting) (lows q.waiting)) there grown'));
     ends = h.ends;
   }
@@ -124,14 +124,14 @@ module _ (g : Ground) (s : Settings) (flows : List Flow) (paid : All (IsPaidFor 
       let ls : lows (items ++ x ∷ []) ≡ lows items = lows-push items x ∙ ap (λ v. lows items ++ cond (not v) (x ∷ []) []) is ∙ append-nil (lows items) in
       subst (λ xs. IsWithinPotentials parts s demand now start (held after flows) (held after (high_flows flows)) xs (lows (items ++ x ∷ []))) (sym hs)
       (subst (λ ys. IsWithinPotentials parts s demand now start (held after flows) (held after (high_flows flows)) (highs items ++ x ∷ []) ys) (sym ls)
-      (stand_high parts s demand now start (held level flows) (held level (high_flows flows)) (held after flows) (held after (high_flows flows)) x (highs items) (lows items) now-is
+      (keep_high parts s demand now start (held level flows) (held level (high_flows flows)) (held after flows) (held after (high_flows flows)) x (highs items) (lows items) now-is
       (omega (arith, price, gives)) (omega (arith, price, high_gives)) h)))
       (λ (is : is_high x.priority ≡ false).
       let hs : highs (items ++ x ∷ []) ≡ highs items = highs-push items x ∙ ap (λ v. highs items ++ cond v (x ∷ []) []) is ∙ append-nil (highs items) in
       let ls : lows (items ++ x ∷ []) ≡ lows items ++ x ∷ [] = lows-push items x ∙ ap (λ v. lows items ++ cond (not v) (x ∷ []) []) is in
       subst (λ xs. IsWithinPotentials parts s demand now start (held after flows) (held after (high_flows flows)) xs (lows (items ++ x ∷ []))) (sym hs)
       (subst (λ ys. IsWithinPotentials parts s demand now start (held after flows) (held after (high_flows flows)) (highs items) ys) (sym ls)
-      (stand_low parts s demand now start (held level flows) (held level (high_flows flows)) (held after flows) (held after (high_flows flows)) x (highs items) (lows items) now-is
+      (keep_low parts s demand now start (held level flows) (held level (high_flows flows)) (held after flows) (held after (high_flows flows)) x (highs items) (lows items) now-is
       (omega (arith, price, gives)) (falls (high_flows flows) x level after high_debits) (high_part (λ flow. flow.weight * after flow) flows) h)))
       (cases_Bool (is_high x.priority))
 
@@ -140,10 +140,10 @@ module _ (g : Ground) (s : Settings) (flows : List Flow) (paid : All (IsPaidFor 
   joined now level after items x now-is r debits h =
       let q = line_at s now items in
       let all = q.waiting ++ x ∷ [] in
-      let stands = comes now q.free level after q.waiting x now-is r debits h in
+      let kept_here = comes now q.free level after q.waiting x now-is r debits h in
       subst (KeepsPotentials s flows now after) (sym (g.joins s now items x (omega (arith, now-is))))
       (subst (λ xs. IsWithinPotentials parts s demand now q.free (held after flows) (held after (high_flows flows)) xs (lows (line_up all))) (sym (highs-line_up all))
-      (subst (λ ys. IsWithinPotentials parts s demand now q.free (held after flows) (held after (high_flows flows)) (highs all) ys) (sym (lows-line_up all)) stands))
+      (subst (λ ys. IsWithinPotentials parts s demand now q.free (held after flows) (held after (high_flows flows)) (highs all) ys) (sym (lows-line_up all)) kept_here))
 
   pub kept_pass : (items : List Item) (x : Item) (level after : Flow → ℕ) → IsOfAFlow flows x → AreDebited flows x level after → Keeps items (came s x) level → Keeps (items ++ x ∷ []) (came s x) after
   kept_pass items x level after r debits h =
@@ -181,12 +181,12 @@ module _ (g : Ground) (s : Settings) (flows : List Flow) (paid : All (IsPaidFor 
   has_room buffer items x level after r debits h =
       let now = came s x in
       let q = line_at s now items in
-      let stands = comes now q.free level after q.waiting x refl r debits h.potentials in
+      let kept_here = comes now q.free level after q.waiting x refl r debits h.potentials in
       let bytes = g.bytes s now demand.largest items (All-weaker (IsOfAFlow flows) (λ (item : Item). item_cost s item ≤ demand.largest) cost_most items h.of_flows) in
       let sum = costs_parts (q.waiting ++ x ∷ []) in
       let more = sum_by_push (item_cost s) q.waiting x in
       fits_by (tick_of s.speed) x.size (occupied s now items) s.buffer (work s now items) demand.largest demand.burst (costs s (highs (q.waiting ++ x ∷ []))) (costs s (lows (q.waiting ++ x ∷ [])))
-      (held after flows) (sum_by (item_cost s) q.waiting) now q.free (tick_some s.speed) (start_at s now items) bytes (g.work s now items) (omega (arith, sum, more)) stands.all_work
+      (held after flows) (sum_by (item_cost s) q.waiting) now q.free (tick_some s.speed) (start_at s now items) bytes (g.work s now items) (omega (arith, sum, more)) kept_here.all_work
       (omega (arith, buffer)) where
         tick_some : (speed : Speed) → 0 < tick_of speed
         tick_some Ten = omega arith

@@ -47,10 +47,10 @@ low_later : (n : ℕ) (s : Settings) (demand : Demand) (now d high_level high_le
 low_later n s demand now d high_level high_level' e e' y le grows h = let le' : e' ≤ e = omega arith in omega (arith, mul-le-mul_left n le', h, grows)
 
 -- d nanoseconds in which the levels grow no faster than the line works
-pub stand_growth : (n : ℕ) (s : Settings) (demand : Demand) (now d start level high_level level' high_level' : ℕ) (high low : List Item)
+pub keep_growth : (n : ℕ) (s : Settings) (demand : Demand) (now d start level high_level level' high_level' : ℕ) (high low : List Item)
     → demand.rate ≤ n → demand.high_rate ≤ n → level' ≤ level + demand.rate * d → high_level' ≤ high_level + demand.high_rate * d
     → IsWithinPotentials n s demand now start level high_level high low → IsWithinPotentials n s demand (now + d) start level' high_level' high low
-stand_growth n s demand now d start level high_level level' high_level' high low slow high_slow grows high_grows h = record {
+keep_growth n s demand now d start level high_level level' high_level' high low slow high_slow grows high_grows h = record {
   all_work = omega (arith, h.all_work, grows, mul-le-mul_right d slow);
   high_work = omega (arith, h.high_work, high_grows, mul-le-mul_right d high_slow);
   low_ends = ahead_weaker s (LowEnds n s demand now high_level) (LowEnds n s demand (now + d) high_level') 0 (start + costs s high) (start + costs s high) low (omega arith)
@@ -59,10 +59,10 @@ stand_growth n s demand now d start level high_level level' high_level' high low
 }
 
 -- a high item starts
-pub stand_high_start : (n : ℕ) (s : Settings) (demand : Demand) (now start start' level high_level : ℕ) (x : Item) (high low : List Item)
+pub keep_high_start : (n : ℕ) (s : Settings) (demand : Demand) (now start start' level high_level : ℕ) (x : Item) (high low : List Item)
     → start' ≤ start + item_cost s x
     → IsWithinPotentials n s demand now start level high_level (x ∷ high) low → IsWithinPotentials n s demand now start' level high_level high low
-stand_high_start n s demand now start start' level high_level x high low le h =
+keep_high_start n s demand now start start' level high_level x high low le h =
     let sum = sum_by-cons (item_cost s) x high in
     let one : start' + costs s high ≤ start + costs s (x ∷ high) = omega (arith, sum, le) in
     let two : start' + costs s high + costs s low ≤ start + costs s (x ∷ high) + costs s low = omega arith in
@@ -75,10 +75,10 @@ stand_high_start n s demand now start start' level high_level x high low le h =
     }
 
 -- a low item starts, before the instant at which the potentials are taken
-pub stand_low_start : (n : ℕ) (s : Settings) (demand : Demand) (now start start' level high_level : ℕ) (x : Item) (low : List Item)
+pub keep_low_start : (n : ℕ) (s : Settings) (demand : Demand) (now start start' level high_level : ℕ) (x : Item) (low : List Item)
     → start' ≤ start + item_cost s x → start ≤ now → item_cost s x ≤ demand.low_largest → high_level ≤ demand.high_burst
     → IsWithinPotentials n s demand now start level high_level [] (x ∷ low) → IsWithinPotentials n s demand now start' level high_level [] low
-stand_low_start n s demand now start start' level high_level x low le before small capped h =
+keep_low_start n s demand now start start' level high_level x low le before small capped h =
     let sum = sum_by-cons (item_cost s) x low in
     let two : start' + 0 + costs s low ≤ start + 0 + costs s (x ∷ low) = omega (arith, sum, le) in
     let one : start' + 0 ≤ now + demand.low_largest = omega (arith, le, before, small) in
@@ -98,10 +98,10 @@ either P a b pa pb = ⊎_elim
     (cases_lt a b)
 
 -- the line rests where nothing waits
-pub stand_rest : (n : ℕ) (s : Settings) (demand : Demand) (now start level high_level : ℕ)
+pub keep_rest : (n : ℕ) (s : Settings) (demand : Demand) (now start level high_level : ℕ)
     → level ≤ demand.burst → high_level ≤ demand.high_burst
     → IsWithinPotentials n s demand now start level high_level [] [] → IsWithinPotentials n s demand now (max start now) level high_level [] []
-stand_rest n s demand now start level high_level capped high_capped h = record {
+keep_rest n s demand now start level high_level capped high_capped h = record {
   all_work = either (λ e. n * (e + 0 + 0) + level ≤ n * now + demand.burst) now start (omega (arith, capped)) h.all_work;
   high_work = either (λ e. n * (e + 0) + high_level ≤ n * (now + demand.low_largest) + demand.high_burst) now start (omega (arith, high_capped)) h.high_work;
   low_ends = tt;
@@ -109,10 +109,10 @@ stand_rest n s demand now start level high_level capped high_capped h = record {
 }
 
 -- a high item comes, and is paid for
-pub stand_high : (n : ℕ) (s : Settings) (demand : Demand) (now start level high_level level' high_level' : ℕ) (x : Item) (high low : List Item)
+pub keep_high : (n : ℕ) (s : Settings) (demand : Demand) (now start level high_level level' high_level' : ℕ) (x : Item) (high low : List Item)
     → came s x ≡ now → n * item_cost s x + level' ≤ level → n * item_cost s x + high_level' ≤ high_level
     → IsWithinPotentials n s demand now start level high_level high low → IsWithinPotentials n s demand now start level' high_level' (high ++ x ∷ []) low
-stand_high n s demand now start level high_level level' high_level' x high low instant pays high_pays h =
+keep_high n s demand now start level high_level level' high_level' x high low instant pays high_pays h =
     let sum = sum_by_push (item_cost s) high x in
     let more : n * (start + costs s (high ++ x ∷ [])) ≡ n * (start + costs s high) + n * item_cost s x = ap (λ c. n * (start + c)) sum ∙ spread n start (costs s high) (item_cost s x) in
     let more_all : n * (start + costs s (high ++ x ∷ []) + costs s low) ≡ n * (start + costs s high + costs s low) + n * item_cost s x = ap (λ c. n * (start + c + costs s low)) sum
@@ -136,10 +136,10 @@ stand_high n s demand now start level high_level level' high_level' x high low i
       ends e h = rw instant (omega (arith, h))
 
 -- a low item comes, and is paid for
-pub stand_low : (n : ℕ) (s : Settings) (demand : Demand) (now start level high_level level' high_level' : ℕ) (x : Item) (high low : List Item)
+pub keep_low : (n : ℕ) (s : Settings) (demand : Demand) (now start level high_level level' high_level' : ℕ) (x : Item) (high low : List Item)
     → came s x ≡ now → n * item_cost s x + level' ≤ level → high_level' ≤ high_level → high_level' ≤ level'
     → IsWithinPotentials n s demand now start level high_level high low → IsWithinPotentials n s demand now start level' high_level' high (low ++ x ∷ [])
-stand_low n s demand now start level high_level level' high_level' x high low instant pays falls part h =
+keep_low n s demand now start level high_level level' high_level' x high low instant pays falls part h =
     let sum = sum_by_push (item_cost s) low x in
     let more_all : n * (start + costs s high + costs s (low ++ x ∷ [])) ≡ n * (start + costs s high + costs s low) + n * item_cost s x = ap (λ c. n * (start + costs s high + c)) sum
     ∙ spread_all n start (costs s high) (item_cost s x) (costs s low) in

@@ -15,7 +15,7 @@ use Rattle.afdx_port.specs.Inner.Course.{rest_in_line, line_at}
 use Rattle.afdx_port.specs.Inner.Work.{item_cost}
 use Rattle.afdx_isolation.specs.Inner.Flow.{Demand}
 use Rattle.afdx_isolation.specs.Inner.Potential.{IsWithinPotentials}
-use Rattle.afdx_isolation.proofs.Numbers.{stand_high_start, stand_low_start, stand_rest}
+use Rattle.afdx_isolation.proofs.Numbers.{keep_high_start, keep_low_start, keep_rest}
 
 -- no high item waits behind a low one
 abbrev pub LinedUp : List Item → Type 0
@@ -117,8 +117,8 @@ choose_no x y h = grind (arith, nat_tests)
 
 module _ (n : ℕ) (s : Settings) (demand : Demand) (to level high_level : ℕ) (capped : level ≤ demand.burst) (high_capped : high_level ≤ demand.high_burst) where
   -- the potentials at `to`, of a line that starts its next item at `start`
-  abbrev Stands : ℕ → List Item → Type 0
-  Stands start items = IsWithinPotentials n s demand to start level high_level (highs items) (lows items)
+  abbrev AtStart : ℕ → List Item → Type 0
+  AtStart start items = IsWithinPotentials n s demand to start level high_level (highs items) (lows items)
 
   -- a low item takes no longer than the longest low frame
   abbrev pub IsShort : Item → Type 0
@@ -126,37 +126,37 @@ module _ (n : ℕ) (s : Settings) (demand : Demand) (to level high_level : ℕ) 
 
   -- one start before `to`
   starts : (b : ℕ) (x : Item) (items : List Item) → (is_high x.priority ≡ false → highs items ≡ []) → IsShort x → b ≤ to
-      → Stands b (x ∷ items) → Stands (free_after (fate s b x)) items
+      → AtStart b (x ∷ items) → AtStart (free_after (fate s b x)) items
   starts b x items lined short before' h =
       let end = free_after (fate s b x) in
       let le = (fate_free s b x).1 in
       ⊎_elim
       (λ (is : is_high x.priority ≡ true).
-      stand_high_start n s demand to b end level high_level x (highs items) (lows items) le
+      keep_high_start n s demand to b end level high_level x (highs items) (lows items) le
       (subst (λ ys. IsWithinPotentials n s demand to b level high_level (x ∷ highs items) ys) (lows-high x items is)
       (subst (λ xs. IsWithinPotentials n s demand to b level high_level xs (lows (x ∷ items))) (highs-high x items is) h)))
       (λ (is : is_high x.priority ≡ false).
       let none : highs items ≡ [] = lined is in
       subst (λ xs. IsWithinPotentials n s demand to end level high_level xs (lows items)) (sym none)
-      (stand_low_start n s demand to b end level high_level x (lows items) le before' (short is) high_capped
+      (keep_low_start n s demand to b end level high_level x (lows items) le before' (short is) high_capped
       (subst (λ ys. IsWithinPotentials n s demand to b level high_level [] ys) (lows-low x items is)
       (subst (λ xs. IsWithinPotentials n s demand to b level high_level xs (lows (x ∷ items))) (highs-low x items is ∙ none) h))))
       (cases_Bool (is_high x.priority))
 
-  abbrev Rests : LineState → Type 0
-  Rests q = Stands (max q.free to) q.waiting
+  abbrev AtRest : LineState → Type 0
+  AtRest q = AtStart (max q.free to) q.waiting
 
   -- all starts before `to`
-  pub stand_starts : (b : ℕ) (items : List Item) → LinedUp items → AllByRecursion IsShort items → Stands b items → Rests (rest_in_line s to b items)
-  stand_starts b [] lined short h = stand_rest n s demand to b level high_level capped high_capped h
-  stand_starts b (x ∷ items) lined short h =
+  pub keep_starts : (b : ℕ) (items : List Item) → LinedUp items → AllByRecursion IsShort items → AtStart b items → AtRest (rest_in_line s to b items)
+  keep_starts b [] lined short h = keep_rest n s demand to b level high_level capped high_capped h
+  keep_starts b (x ∷ items) lined short h =
       let end = free_after (fate s b x) in
       ⊎_elim
       (λ (lt : b < to).
-      subst Rests (sym (choose_yes (rest_in_line s to end items) (record { free = b; waiting = x ∷ items }) lt))
-      (stand_starts end items lined.1 short.1 (starts b x items lined.0 short.0 (omega arith) h)))
+      subst AtRest (sym (choose_yes (rest_in_line s to end items) (record { free = b; waiting = x ∷ items }) lt))
+      (keep_starts end items lined.1 short.1 (starts b x items lined.0 short.0 (omega arith) h)))
       (λ (ge : to ≤ b).
       let same : b ≡ max b to = omega arith in
-      subst Rests (sym (choose_no (rest_in_line s to end items) (record { free = b; waiting = x ∷ items }) ge))
-      (subst (λ m. Stands m (x ∷ items)) same h))
+      subst AtRest (sym (choose_no (rest_in_line s to end items) (record { free = b; waiting = x ∷ items }) ge))
+      (subst (λ m. AtStart m (x ∷ items)) same h))
       (cases_lt b to)

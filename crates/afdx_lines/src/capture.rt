@@ -11,7 +11,7 @@ fn fault_text(alloc: Global, fault: PcapFault) -> Result<String, AllocError>
     ensures { IfOk result (λ text. string_bytes text ≡ fault_text fault) }
 {
     let name = match fault {
-        PcapFault::LinkType(argument) => return format!(in alloc; "P5 LinkType {argument}"),
+        PcapFault::LinkType(number) => return format!(in alloc; "P5 LinkType {number}"),
         PcapFault::Memory => "P1 Memory",
         PcapFault::NoHeader => "P2 NoHeader",
         PcapFault::Magic => "P3 Magic",

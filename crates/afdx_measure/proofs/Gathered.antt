@@ -19,7 +19,7 @@ gathered_more r [] p (e ∷ all) d is delays h = absurd h
 gathered_more r (q ∷ ports) p [] d is delays h = absurd h
 gathered_more r (q ∷ ports) p (e ∷ all) d is delays h = (h.0, h.1, gathered_more r ports p all d is delays h.2)
 
--- what stands at a place
+-- what is at a place
 pub gathered_at : {Z : Type 0} (r : Run) (ports : List PortRow) (all : List (AtPort Z)) (i : ℕ) (d : AtPort Z) → i < length all → AreGathered r ports all
     → AreDelaysByLink (sent_in r (port_row r.table (get_or all i d).port)) (get_or all i d).delays.items
 gathered_at r ports [] i d lt h = absurd (omega (arith, lt))
@@ -65,9 +65,9 @@ gathered_here {Z} r ports all i d lt is h = subst (λ (x : AtPort Z). AreDelaysB
 pub reported_of : {Z : Type 0} (r : Run) (ports : List PortRow) (all : List (AtPort Z)) (i : ℕ) (d : AtPort Z) (link place port : ℕ) (x : Delays) → i < length all → d ≡ get_or all i d → place ≡ link
     → link < 65536
     → x ≡ get_or d.delays.items place x → d.port ≡ port → AreGathered r ports all → x ≡ summary_of (delays_of link (sent_in r (port_row r.table port)))
-reported_of r ports all i d link place port x lt is place_is small stands same h =
+reported_of r ports all i d link place port x lt is place_is small there same h =
     let here = gathered_here r ports all i d lt is h in
-    stands ∙ ap (λ (k : ℕ). get_or d.delays.items k x) place_is ∙ here.each link x small ∙ ap (λ (n : ℕ). summary_of (delays_of link (sent_in r (port_row r.table n)))) same
+    there ∙ ap (λ (k : ℕ). get_or d.delays.items k x) place_is ∙ here.each link x small ∙ ap (λ (n : ℕ). summary_of (delays_of link (sent_in r (port_row r.table n)))) same
 
 pub passed_on : {Z : Type 0} (r : Run) (ports : List PortRow) (all : List (AtPort Z)) (i n : ℕ) (d : AtPort Z) → i < length all → d ≡ get_or all i d → (d.port == n) ≡ false → AreGathered r ports all
     → row_from n i ports ≡ row_from n (i + 1) ports

@@ -1,4 +1,4 @@
--- What stands in a list, and what is found there.
+-- What is in a list, and what is found there.
 use Rattle.std.proofs.Common.{◌≡◌, ℕ, zero, suc, ◌<◌, ◌==◌, Bool, true, false, cond, List, [], ◌∷◌, length, map, filter, find, get_or, slice_get, Some, option_map, refl, ap, sym, ◌∙◌, arith, subst}
 use Rattle.std.specs.Prelude.{All, Contains}
 use Rattle.std.specs.List.{AllByRecursion}
@@ -21,7 +21,7 @@ below a b e = grind (arith, nat_tests)
 pub get_map : {X Y : Type 0} (f : X → Y) (xs : List X) (n : ℕ) (x : X) → slice_get xs n ≡ Some x → slice_get (map f xs) n ≡ Some (f x)
 get_map f xs n x is = slice_get-map f xs n ∙ ap (option_map f) is
 
--- what stands in a mapped list is made of what stands there
+-- what is in a mapped list is made of what is there
 pub got_map : {X Y : Type 0} (f : X → Y) (xs : List X) (n : ℕ) (y : Y) → slice_get (map f xs) n ≡ Some y → (x : X) × (slice_get xs n ≡ Some x) × (f x ≡ y)
 got_map f [] n y is = absurd cc
 got_map f (x ∷ xs) zero y is = (x, refl, same_Some (f x) y is)
@@ -48,7 +48,7 @@ contains_at [] n x is = absurd cc
 contains_at (y ∷ xs) zero x is = contains_head xs x y (same_Some y x is)
 contains_at (y ∷ xs) (suc n) x is = contains_tail xs x y (contains_at xs n x is)
 
--- what holds of each element of a list, reported of each element
+-- what holds of each element of a list holds of all by recursion
 pub all_by : {X : Type 0} (P : X → Type 0) (xs : List X) → ((x : X) → Contains xs x → P x) → AllByRecursion P xs
 all_by P [] each = tt
 all_by P (x ∷ xs) each = (each x (contains_head xs x x refl), all_by P xs (λ y among. each y (contains_tail xs y x among)))

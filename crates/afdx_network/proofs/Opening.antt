@@ -57,7 +57,7 @@ one_goes p ids xs k n i were port fails =
       );
     }
 
--- another number stands there, or none
+-- another number is there, or none
 pub stop_here : (p : ℕ → Bool) (ids xs : List ℕ) (k n i : ℕ) → GoTogether p ids xs k n → drop k ids ≡ i ∷ drop (suc k) ids → p i ≡ true
     → (length xs ≤ n) ⊎ ((x : ℕ) × (drop n xs ≡ x ∷ drop (suc n) xs) × (x ≡ i → ⊥)) → xs ≡ filter p ids → ⊥
 stop_here p ids xs k n i were port passes why all = by why where

@@ -4,7 +4,7 @@ use Rattle.std.specs.Prelude.{Contains, slice_set}
 use Rattle.std.proofs.lemmas.List.Elements.{All-set, All-weaker, All-contains, All-contains_itself}
 use Rattle.std.proofs.lemmas.Option.{same_Some}
 
--- what stands in a list after a write was there, or was written
+-- what is in a list after a write was there, or was written
 pub members : {X : Type 0} (xs : List X) (place : ℕ) (v x : X) → Contains (slice_set xs place v) x → Contains xs x ⊎ (v ≡ x)
 members {X = X} xs place v x among =
     let P : X → Type 0 = λ y. Contains xs y ⊎ (v ≡ y) in
@@ -41,7 +41,7 @@ got_push (y ∷ ys) v x (suc n) is = by (got_push ys v x n is) where
   by (inl there) = inl there
   by (inr here) = inr (ap suc here.0, here.1)
 
--- what stands after so many others
+-- what comes after so many others
 pub got_seam : {X Y : Type 0} (f : X → Y) (ys zs all : List X) (x : X) → ys ++ x ∷ zs ≡ all → slice_get (map f all) (length ys) ≡ Some (f x)
 got_seam {X = X} f ys zs all x whole = subst (λ (xs : List X). slice_get (map f xs) (length ys) ≡ Some (f x)) whole (at ys) where
   at : (xs : List X) → slice_get (map f (xs ++ x ∷ zs)) (length xs) ≡ Some (f x)

@@ -40,20 +40,20 @@ later_again : (cable : ℕ) (rs : List Record) → map (delayed cable) (map agai
 later_again cable [] = refl
 later_again cable (r ∷ rs) = ap (λ (others : List Record). delayed cable r ∷ others) (later_again cable rs)
 
--- what leaves can be reported and be reported again, up to half a second later
-pub record CanBeReported (r : Record) : Type 0 where
+-- what leaves can be written, and written again up to half a second later
+pub record CanBeWritten (r : Record) : Type 0 where
   pub short : length r.bytes ≤ 1518
   pub early : r.stamp < last_second + half
 
-tells : (left : List Record) → AllByRecursion (λ (r : Record). length r.bytes ≤ 1518) left → AllByRecursion (λ (r : Record). r.stamp ≤ 4294967294999999999 + half) left
-    → AllByRecursion CanBeReported left
-tells [] short early = tt
-tells (r ∷ left) short early = let e = early.0 in (record { short = short.0; early = omega (arith, e) }, tells left short.1 early.1)
+all_written : (left : List Record) → AllByRecursion (λ (r : Record). length r.bytes ≤ 1518) left → AllByRecursion (λ (r : Record). r.stamp ≤ 4294967294999999999 + half) left
+    → AllByRecursion CanBeWritten left
+all_written [] short early = tt
+all_written (r ∷ left) short early = let e = early.0 in (record { short = short.0; early = omega (arith, e) }, all_written left short.1 early.1)
 
 module _ (exact : CleanExactly) (links : LinksAreFound) where
-  pub can_be_reported : (run : SwitchRun) (p : PortRow) → IsWellFormed run.table → IsAccepted run.table → Contains run.table.ports p → AllByRecursion CanBeReported (run.isolated.out p)
-  can_be_reported run p formed accepted among =
-      tells (run.isolated.out p) (leave_short exact links run.table run.isolated.read p (run.isolated.out p) formed isolated)
+  pub can_be_written : (run : SwitchRun) (p : PortRow) → IsWellFormed run.table → IsAccepted run.table → Contains run.table.ports p → AllByRecursion CanBeWritten (run.isolated.out p)
+  can_be_written run p formed accepted among =
+      all_written (run.isolated.out p) (leave_short exact links run.table run.isolated.read p (run.isolated.out p) formed isolated)
       (each_left (λ (r : Record). r.stamp ≤ 4294967294999999999 + half) run.table run.isolated.read p (run.isolated.out p) isolated each) where
         isolated : IsIsolatedAt run.table run.isolated.read p (run.isolated.out p)
         isolated = run.isolated.isolated p among
@@ -67,11 +67,11 @@ module _ (exact : CleanExactly) (links : LinksAreFound) where
 
 -- ---- read again
 
-limits : (cable : ℕ) (rs : List Record) → AllByRecursion CanBeReported rs → AllByRecursion IsWithinLimit (map (delayed cable) rs)
+limits : (cable : ℕ) (rs : List Record) → AllByRecursion CanBeWritten rs → AllByRecursion IsWithinLimit (map (delayed cable) rs)
 limits cable [] all = tt
 limits cable (r ∷ rs) all = let short = all.0.short in (omega (arith, short), limits cable rs all.1)
 
-instants : (cable : ℕ) (rs : List Record) → cable ≤ 1000000 → AllByRecursion CanBeReported rs → AllByRecursion (λ (r : Record). IsInstant r.stamp) (map (delayed cable) rs)
+instants : (cable : ℕ) (rs : List Record) → cable ≤ 1000000 → AllByRecursion CanBeWritten rs → AllByRecursion (λ (r : Record). IsInstant r.stamp) (map (delayed cable) rs)
 instants cable [] small all = tt
 instants cable (r ∷ rs) small all = let early = all.0.early in (omega (arith, early, small), instants cable rs small all.1)
 
@@ -79,7 +79,7 @@ originals : (cable : ℕ) (rs : List Record) → AllByRecursion (λ (r : Record)
 originals cable [] = tt
 originals cable (r ∷ rs) = (refl, originals cable rs)
 
-back_later : WrittenTextsReadBack → (cable : ℕ) (rs qs : List Record) → cable ≤ 1000000 → AllByRecursion CanBeReported rs
+back_later : WrittenTextsReadBack → (cable : ℕ) (rs qs : List Record) → cable ≤ 1000000 → AllByRecursion CanBeWritten rs
     → IsCapture (capture_text (map (delayed cable) rs)) qs → qs ≡ map (delayed cable) rs
 back_later back cable rs qs small all read =
     back (map (delayed cable) rs) qs (All-from_recursion IsWithinLimit (map (delayed cable) rs) (limits cable rs all))
@@ -93,7 +93,7 @@ again_is_now (r ∷ rs) =
     ap (λ (n : ℕ). whole n r.bytes ∷ map (delayed 0) rs) now ∙ ap (λ (others : List Record). again r ∷ others) (again_is_now rs)
 
 -- what is read of a text that left, so much later, is what left, so much later
-pub goes_on : WrittenTextsReadBack → (cable : ℕ) (rs left : List Record) → AllByRecursion CanBeReported rs → IsCapture (capture_text rs) left → map (delayed cable) left ≡ map (delayed cable) rs
+pub goes_on : WrittenTextsReadBack → (cable : ℕ) (rs left : List Record) → AllByRecursion CanBeWritten rs → IsCapture (capture_text rs) left → map (delayed cable) left ≡ map (delayed cable) rs
 goes_on back cable rs left all read =
     let texts : capture_text rs ≡ capture_text (map (delayed 0) rs)
     = ap (λ (text : List ℕ). header_text ++ text) (sym (ap (flat_map record_text) (again_is_now rs) ∙ same_texts rs)) in
@@ -108,9 +108,9 @@ module _ (exact : CleanExactly) (links : LinksAreFound) (back : WrittenTextsRead
       → Contains there.texts (to, capture_text (map (delayed cable) left)) → records_of there.isolated.read to ≡ map (delayed cable) (here.isolated.out p)
   wired here there cable to p bytes left formed accepted formed_there small among written read comes =
       let out = here.isolated.out p in
-      let reported = can_be_reported exact links here p formed accepted among in
+      let writable = can_be_written exact links here p formed accepted among in
       let text : bytes ≡ capture_text out = written_at here.table here.isolated.out here.results.captures p bytes formed here.isolated.captures among written in
-      let same : map (delayed cable) left ≡ map (delayed cable) out = goes_on back cable out left reported (subst (λ (b : List ℕ). IsCapture b left) text read) in
+      let same : map (delayed cable) left ≡ map (delayed cable) out = goes_on back cable out left writable (subst (λ (b : List ℕ). IsCapture b left) text read) in
       let at_end = read_at there.texts there.isolated.read to (capture_text (map (delayed cable) out)) there.isolated.are_read (numbers_rise there.table there.texts formed_there there.outcome.ports)
       (subst (λ (rs : List Record). Contains there.texts (to, capture_text rs)) same comes) in
-      at_end.all ∙ back_later back cable out at_end.records small reported at_end.capture
+      at_end.all ∙ back_later back cable out at_end.records small writable at_end.capture

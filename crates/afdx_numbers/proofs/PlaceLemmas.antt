@@ -44,7 +44,7 @@ not_listed n [] others = refl
 not_listed n (x ∷ xs) others =
     ap (λ b. b || list_any (λ k. nat_eq k n) xs) (ne_eqb x n (others 0 (omega arith))) ∙ not_listed n xs (λ k lt. others (suc k) (omega arith))
 
--- the number does not stand where its entry points, so it stands nowhere
+-- the number is not where its entry points, so it is nowhere
 pub nowhere : (n : ℕ) (xs places : List ℕ) (p : ℕ) → ArePlaces xs places → p ≡ get_or places n 0 → (p < length xs → get_or xs p 0 ≢ n) → (k : ℕ) → k < length xs → get_or xs k 0 ≢ n
 nowhere n xs places p ok entry other k lt is =
     let back : p ≡ k = entry ∙ ap (λ m. get_or places m 0) (sym is) ∙ ok.at k lt in

@@ -37,7 +37,7 @@ module _ (hs ls : List Item) (highs : All (λ (x : Item). is_high x.priority ≡
 pub filter_lows : (ws : List Item) → All (λ x. high x ≡ false) (filter low ws)
 filter_lows ws = All-weaker (λ x. low x ≡ true) (λ x. high x ≡ false) (λ x h. low_not_high x h) (filter low ws) (filter_passes low ws)
 
--- the new item stands behind those of its priority
+-- the new item is behind those of its priority
 pub queued_line : (hs ls : List Item) (x : Item) → All (λ (x : Item). is_high x.priority ≡ true) hs → All (λ (x : Item). is_high x.priority ≡ false) ls
     → cond (is_high x.priority) ((hs ++ x ∷ []) ++ ls) (hs ++ (ls ++ x ∷ [])) ≡ line_up ((hs ++ ls) ++ x ∷ [])
 queued_line hs ls x highs lows =

@@ -71,11 +71,12 @@ pub struct Aged {
 }
 
 /// The answer to an offer.
-#[derive(Clone, Copy, Debug, PartialEq, Eq)]
+#[derive(Clone, Copy, Debug, Default, PartialEq, Eq)]
 pub enum Offer {
     /// The item joined those that wait.
     Queued,
     /// The buffer had no room for it.
+    #[default]
     Full,
 }
 

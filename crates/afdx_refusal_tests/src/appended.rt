@@ -1,6 +1,6 @@
 //! Frames that a switch appends to a capture. Each call that is out of memory is made once more.
 
-use crate::growths::{Calls, Memory, count, made_again, refuse};
+use crate::allocations::{Calls, Memory, count, made_again, refuse};
 use crate::switches::{advances, arrive};
 use crate::tables::table_of;
 use afdx_core::{Done, Switch};

@@ -1,6 +1,6 @@
 //! Captures that are read and written.
 
-use crate::growths::{Calls, Memory, refuse};
+use crate::allocations::{Calls, Memory, refuse};
 use afdx_pcap::{PcapFault, Reader, Record, read_all, write_all};
 use afdx_samples::{Sample, capture, large, small};
 use std::alloc::{Allocator, Global};
@@ -36,7 +36,7 @@ impl Calls for Reading<'_> {
     }
 }
 
-/// One growth, for the list: the frames are lent.
+/// One allocation, for the list: the frames are lent.
 #[test]
 fn reading_a_whole_capture(rt: HostRuntime) -> Result<(), Fail> {
     let alloc = rt.alloc();
@@ -132,7 +132,7 @@ impl Calls for Feeding<'_> {
     }
 }
 
-/// Growths for the bytes, and one for the record's copy. Out of memory is for good.
+/// Allocations for the bytes, and one for the record's copy. Out of memory is for good.
 #[test]
 fn reader_byte_by_byte(rt: HostRuntime) -> Result<(), Fail> {
     let alloc = rt.alloc();

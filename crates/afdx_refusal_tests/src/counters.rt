@@ -1,8 +1,8 @@
 //! Counters and their report. Each call that is out of memory is made once more.
 
-use crate::growths::{Calls, Memory, count, made_again, refuse};
+use crate::allocations::{Calls, Memory, count, made_again, refuse};
 use crate::tables::table_of;
-use afdx_core::{Fate, Step};
+use afdx_core::{Fate, Offers, Step};
 use afdx_count::Counts;
 use afdx_port::Offer;
 use afdx_samples::single;
@@ -36,7 +36,7 @@ out 2 low offered 1 full 0 aged 0 sent 0
 #[derive(Clone, Copy)]
 struct Reporting<'a> {
     table: &'a Table,
-    step: &'a Step<Global>,
+    step: &'a Step,
 }
 
 /// New counters of a table's ports and links.
@@ -88,16 +88,16 @@ impl Calls for Reporting<'_> {
 }
 
 /// The arrival of the frame.
-fn one_step(alloc: Global) -> Result<Step<Global>, Fail> {
-    let mut offers = Vec::new(alloc);
-    offers.push((2, Offer::Queued))?;
-    Ok(Step {
+fn one_step() -> Step {
+    let mut offers = Offers::new();
+    offers.push((2, Offer::Queued));
+    Step {
         number: 0,
         in_port: 1,
         fate: Fate::Passed(10),
         offers,
         place: Some(0),
-    })
+    }
 }
 
 /// The counters are as before after each report, refused or not.
@@ -105,7 +105,7 @@ fn one_step(alloc: Global) -> Result<Step<Global>, Fail> {
 fn reports_before_and_after_a_frame(rt: HostRuntime) -> Result<(), Fail> {
     let alloc = rt.alloc();
     let table = table_of(alloc, &single(alloc)?)?;
-    let step = one_step(alloc)?;
+    let step = one_step();
     let calls = Reporting {
         table: &table,
         step: &step,

@@ -1,8 +1,10 @@
-//! Tests of each call that takes memory, with each of its growths refused in turn, and of captures that are cut at each byte.
+//! Tests of each call that takes memory, with each of its allocations refused in turn, and of captures that are cut at each byte.
 //!
 //! They are in a crate of their own, since a crate with tests is proved twice.
 #![tactic(auto)]
 
+#[cfg(test)]
+mod allocations;
 #[cfg(test)]
 mod appended;
 #[cfg(test)]
@@ -11,8 +13,6 @@ mod captures;
 mod counters;
 #[cfg(test)]
 mod cuts;
-#[cfg(test)]
-mod growths;
 #[cfg(test)]
 mod ports;
 #[cfg(test)]

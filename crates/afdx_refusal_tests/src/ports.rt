@@ -2,7 +2,7 @@
 
 ghost use Rattle.std.specs.Prelude.{◌≡◌, ◌+◌, ◌<◌, ◌≤◌, false, All};
 
-use crate::growths::{Calls, Memory, made_again, refuse};
+use crate::allocations::{Calls, Memory, made_again, refuse};
 use afdx_port::{Item, Offer, Port};
 use afdx_units::{Priority, Speed, Stamp};
 use std::alloc::{AllocError, Allocator};
@@ -51,7 +51,7 @@ impl Calls for Reserving {
     }
 }
 
-/// One growth at least for each queue and each list.
+/// One allocation at least for each queue and each list.
 #[test]
 fn room_for_two(rt: HostRuntime) -> Result<(), Fail> {
     refuse(&rt, rt.alloc(), "Port::reserve", &Reserving, 3)

@@ -1,6 +1,6 @@
 //! Whole runs.
 
-use crate::growths::{Calls, Memory, refuse};
+use crate::allocations::{Calls, Memory, refuse};
 use crate::tables::plan_of;
 use afdx_refusing::Refusing;
 use afdx_samples::{Link, MemoryFile, Sample, capture, frame, link, port, single, small, table};
@@ -186,7 +186,7 @@ fn of_one_frame(alloc: Global) -> Result<OneFrame, AllocError> {
     Ok(OneFrame { came, left })
 }
 
-/// Growths for the counters, for the lists of the switch and of the arrivals, and for what leaves: the record is lent.
+/// Allocations for the counters, for the lists of the switch and of the arrivals, and for what leaves: the record is lent.
 #[test]
 fn one_frame(rt: HostRuntime) -> Result<(), Fail> {
     let alloc = rt.alloc();

@@ -1,6 +1,6 @@
 //! A session that is fed in pieces, while what goes out is taken.
 
-use crate::growths::{Calls, Memory, refuse};
+use crate::allocations::{Calls, Memory, refuse};
 use crate::tables::plan_of;
 use afdx_samples::{HEADER, Sample, capture, double, port, small};
 use afdx_session::{Outcome, RunFault, Session};
@@ -242,7 +242,7 @@ fn all_texts(alloc: Global) -> Result<Vec<Vec<u8>>, AllocError> {
     Ok(texts)
 }
 
-/// Growths for the switch and the counters, for what came, for the records that wait, and for what goes out.
+/// Allocations for the switch and the counters, for what came, for the records that wait, and for what goes out.
 #[test]
 fn session_on_d(rt: HostRuntime) -> Result<(), Fail> {
     let alloc = rt.alloc();

@@ -3,7 +3,7 @@
 ghost use Rattle.std.specs.Prelude.{◌<◌};
 ghost use Rattle.afdx_units.specs.Time.{last_second};
 
-use crate::growths::{Calls, Memory, count, made_again, refuse};
+use crate::allocations::{Calls, Memory, count, made_again, refuse};
 use crate::tables::{cleared_of, table_of};
 use afdx_core::{CoreFault, Done, Fate, Step, Switch};
 use afdx_pcap::Record;
@@ -52,8 +52,8 @@ fn made_or_again<'a>(
 type Answer = (Option<Fate>, Option<(u8, Offer)>, Option<CoreFault>);
 
 /// What a step gives.
-fn reported<A: Allocator>(step: &Step<A>) -> Answer {
-    (Some(step.fate), step.offers.get(0).copied(), None)
+fn reported(step: &Step) -> Answer {
+    (Some(step.fate), step.offers.first().copied(), None)
 }
 
 /// The answer to a record that comes in once more, where memory ran out before; else the fault.
@@ -70,10 +70,11 @@ fn answer_again<A: Allocator + Copy>(
         return (None, None, Some(fault));
     }
     count(wants);
-    match switch.arrive(in_port, frame) {
-        Ok(step) => reported(&step),
-        Err((fault, _)) => (None, None, Some(fault)),
-    }
+    let step = match switch.arrive(in_port, frame) {
+        Ok(step) => step,
+        Err((fault, _)) => return (None, None, Some(fault)),
+    };
+    reported(&step)
 }
 
 /// The answer to a record that comes in at a port.
@@ -85,10 +86,11 @@ fn answer_to<A: Allocator + Copy>(
 ) -> Answer
     requires { frame.stamp < last_second }
 {
-    match switch.arrive(in_port, frame) {
-        Ok(step) => reported(&step),
-        Err((fault, back)) => answer_again(switch, in_port, fault, back, wants),
-    }
+    let step = match switch.arrive(in_port, frame) {
+        Ok(step) => step,
+        Err((fault, back)) => return answer_again(switch, in_port, fault, back, wants),
+    };
+    reported(&step)
 }
 
 /// The answer to a small frame of link 10, whose record takes other memory; nothing where it is no record.
@@ -205,7 +207,7 @@ impl Calls for Switching<'_> {
     }
 }
 
-/// A growth at least for the accounts, the ports, each list of each arrival, and each frame that is handed out.
+/// One allocation at least for the accounts, the ports, each list of each arrival, and each frame that is handed out.
 #[test]
 fn switch_by_calls(rt: HostRuntime) -> Result<(), Fail> {
     let alloc = rt.alloc();

@@ -1,7 +1,7 @@
 //! An allocator for tests: it passes each call on to another, but refuses one allocation.
 //!
 //! A test runs the same calls with the first allocation refused, with the second, and so on until none is left to be refused.
-//! So it sees each call run out of memory at each of its growths.
+//! So it sees each call run out of memory at each of its allocations.
 #![tactic(auto)]
 
 ghost use Rattle.std.specs.Prelude.{◌≡◌, ◌==◌, ◌-◌};

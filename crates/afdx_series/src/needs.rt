@@ -4,9 +4,7 @@ ghost use Rattle.std.specs.Prelude.{◌≡◌, ℕ, ◌≤◌, ◌*◌, ◌↔�
 ghost use Rattle.afdx_series.specs.Delay.{IsEnough, least_jitter};
 
 use crate::delays::Delays;
-
-/// Nanoseconds of a microsecond.
-const MICROSECOND: u64 = 1000;
+use afdx_units::MICROSECOND;
 
 /// The least jitter, in whole microseconds, that is enough after this part of its way for a link whose jitter is so many
 /// nanoseconds, at most 10 ms, at its first switch.

@@ -209,7 +209,7 @@ open_named path [] net n (t ∷ ts) = refl
 open_named path (name ∷ names) net n (t ∷ ts) =
     ap (λ (ns : List (List ℕ)). named (switch_folder path name) (filter (is_open net n) (ids_of t.ports)) ++ ns) (open_named path names net (n + 1) ts)
 
--- those of one switch stand after those of the switches before it
+-- those of one switch come after those of the switches before it
 all_named-append : (path : List ℕ) (names : Names) (before : List (List ℕ)) (ids : List ℕ) (more : List (List ℕ)) → length before < length names
     → all_named path names (before ++ ids ∷ more)
     ≡ all_named path names before ++ (named (switch_folder path (name_of names (length before))) ids ++ all_named path (drop (suc (length before)) names) more)

@@ -8,7 +8,7 @@ use Rattle.afdx_failures.specs.declared.failure.Failure.{Failure}
 use Rattle.afdx_devices.specs.Files.{KeepsFiles}
 use Rattle.afdx_serve.specs.Networks.{names_of, HasNetwork, IsRefused, FailsToGetNetwork}
 use Rattle.afdx_serve.specs.NetworkJitters.{fit_of}
-use Rattle.afdx_serve.specs.Serving.{World, WritesNothing, TellsJitters, FailsToGiveJitters}
+use Rattle.afdx_serve.specs.Serving.{World, WritesNothing, SaysJitters, FailsToGiveJitters}
 use Rattle.afdx_serve.proofs.NetworkLemmas.{of_lost, of_refused}
 
 module _ (path : List ℕ) (old new : World) (keeps : KeepsFiles old.files new.files) (none : WritesNothing old new) where
@@ -24,7 +24,7 @@ module _ (path : List ℕ) (old new : World) (keeps : KeepsFiles old.files new.f
       of_refused (λ f. FailsToGiveJitters f path old new) (names_of net.layout.switches) e (inl (keeps, none)) (λ x h. inl (inr (net, has, (e, why, h), count), keeps, none))
 
 -- a row needs more than a table can have
-pub past_reported : (path : List ℕ) (old new : World) (net : Network) (short : Short) → TellsJitters path net (Some short) old new
+pub past_reported : (path : List ℕ) (old new : World) (net : Network) (short : Short) → SaysJitters path net (Some short) old new
     → (f : Failure) → IsRefused (names_of net.layout.switches) (fault.NoJitter short) f → FailsToGiveJitters f path old new
-past_reported path old new net short tells =
-    of_refused (λ f. FailsToGiveJitters f path old new) (names_of net.layout.switches) (fault.NoJitter short) (inr (net, short, tells, tt)) (λ x h. inr (net, short, tells, h))
+past_reported path old new net short says =
+    of_refused (λ f. FailsToGiveJitters f path old new) (names_of net.layout.switches) (fault.NoJitter short) (inr (net, short, says, tt)) (λ x h. inr (net, short, says, h))

@@ -75,7 +75,7 @@ never_usage (ask.Run paths) old new h = elim h.0.0 [
   ]
 ]
 
--- a failure with a line that is made leaves what may stand where memory ran out
+-- a failure with a line that is made leaves what may be there where memory ran out
 pub spares : (f : Failure) (r : NetworkRequest) (old new : World) → IsMade f → FailsToPerformNetwork f r old new
     → (WritesNothing old new × KeepsFiles old.files new.files) ⊎ FailsToPerformNetwork failure.Memory r old new
 spares failure.Usage r old new made h = absurd made

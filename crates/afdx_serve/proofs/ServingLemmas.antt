@@ -43,7 +43,7 @@ module _ (arguments : List (List ℕ)) (input : Option (List ℕ)) (old new : Wo
     | inr out ↦ inr (request.Network r, asks, out)
   ]
 
-  -- a failure with a line that is made leaves what may stand where memory ran out
+  -- a failure with a line that is made leaves what may be there where memory ran out
   runs_out : (f : Failure) (r : Request) → IsMade f → Asks arguments r → FailsToPerform f r input old new → RunsOut arguments input old new
   runs_out failure.Usage r made asks h = absurd made
   runs_out failure.Read r made asks h = absurd made

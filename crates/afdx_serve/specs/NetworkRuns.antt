@@ -21,7 +21,7 @@ use Rattle.afdx_serve.specs.Networks.{names_of, HasNetwork, FailsToGetNetwork, F
 
 -- ---- names
 
--- profile: the captures of a switch stand in the folder of its name
+-- profile: the captures of a switch are in the folder of its name
 abbrev pub switch_folder : List ℕ → List ℕ → List ℕ
 switch_folder folder name = folder ++ codes "/" ++ name
 

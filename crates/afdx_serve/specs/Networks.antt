@@ -23,7 +23,7 @@ use Rattle.afdx_serve.specs.Runs.{FailsToGet}
 abbrev pub bytes_in : {Z : Type 0} → List (Vec ℕ Z) → List (List ℕ)
 bytes_in texts = map (λ text. text.items) texts
 
--- profile: a table's file stands beside the network file, unless its name begins with `/`
+-- profile: a table's file is beside the network file, unless its name begins with `/`
 abbrev pub table_names : List ℕ → List Switch → List (List ℕ)
 table_names path switches = map (λ s. path_with_file_name path s.path) switches
 

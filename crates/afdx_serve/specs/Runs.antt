@@ -71,7 +71,7 @@ pub record IsRunOf (inputs : Inputs) (files : Option Files) (plan : Plan) (captu
 abbrev pub port_names : List ℕ → Content → List (List ℕ)
 port_names path t = map (λ p. capture_name path p.id) t.ports
 
--- the name is that of a port's capture, and the captures of the ports before it were got; nothing is said of what stands under it
+-- the name is that of a port's capture, and the captures of the ports before it were got; nothing is said of what is under it
 pub record GetsUpTo (name : List ℕ) (files : Option Files) (path : List ℕ) (t : Content) : Type 0 where
   pub place : ℕ
   pub got : List (List ℕ)
@@ -84,7 +84,7 @@ report_in results = report_of results.counts
 
 -- ---- what is put
 
--- the files before this name were put, in order; nothing is said of what stands under it, and nothing else has changed
+-- the files before this name were put, in order; nothing is said of what is under it, and nothing else has changed
 pub record StopsAt (name : List ℕ) (names all : List (List ℕ)) (old new : Option Files) : Type 0 where
   pub place : ℕ
   pub before : Option Files

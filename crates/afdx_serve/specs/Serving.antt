@@ -34,7 +34,7 @@ use Rattle.afdx_serve.specs.Measures.{MeasuresTo}
 use Rattle.afdx_serve.specs.Traces.{PutsTrace, FailsToTrace}
 use Rattle.afdx_serve.specs.Runs.{HasTable, HasNoTable, LeadsTo, FailsToGather, FailsToRun, names_in, bytes_of_captures, report_in}
 
--- what commands work on, as far as it is reported
+-- what commands work on, as far as contracts see it
 pub record World : Type 0 where
   -- what the writer holds
   pub written : Option (List ℕ)
@@ -132,12 +132,12 @@ FailsToCheckNetwork f path old new =
     × KeepsFiles old.files new.files × WritesNothing old new
 
 -- the jitters that the rows of the file's network need were written; this is the first past what a table can have
-abbrev pub TellsJitters : List ℕ → Network → Option Short → World → World → Type 0
-TellsJitters path net past old new = (text : List ℕ) × JittersAre old.files path net past text × Appends old.written new.written text × KeepsFolder old new
+abbrev pub SaysJitters : List ℕ → Network → Option Short → World → World → Type 0
+SaysJitters path net past old new = (text : List ℕ) × JittersAre old.files path net past text × Appends old.written new.written text × KeepsFolder old new
 
 -- they were, and none is past that; so the check of the network accepts these jitters
 abbrev pub GivesJitters : List ℕ → World → World → Type 0
-GivesJitters path old new = (net : Network) × TellsJitters path net None old new
+GivesJitters path old new = (net : Network) × SaysJitters path net None old new
 
 -- why they were not, before a line was written
 abbrev pub FailsBeforeJitters : Failure → List ℕ → World → World → Type 0
@@ -149,7 +149,7 @@ FailsBeforeJitters f path old new =
 -- all were, and a row needs more than a table can have
 abbrev pub FailsPastJitters : Failure → List ℕ → World → World → Type 0
 FailsPastJitters f path old new =
-    (net : Network) × (short : Short) × TellsJitters path net (Some short) old new × IsRefused (names_of net.layout.switches) (NoJitter short) f
+    (net : Network) × (short : Short) × SaysJitters path net (Some short) old new × IsRefused (names_of net.layout.switches) (NoJitter short) f
 
 -- why a network has no such jitters, and what was written
 abbrev pub FailsToGiveJitters : Failure → List ℕ → World → World → Type 0
@@ -251,7 +251,7 @@ Serves arguments input old new =
     (AskForHelp arguments × ((text : List ℕ) × Appends old.written new.written text) × KeepsFolder old new)
     ⊎ ((r : Request) × Asks arguments r × Performs r input old new)
 
--- what may stand where memory ran out: some of a run's files, and nothing written
+-- what may be there where memory ran out: some of a run's files, and nothing written
 abbrev pub RunsOut : List (List ℕ) → Option (List ℕ) → World → World → Type 0
 RunsOut arguments input old new =
     (WritesNothing old new × KeepsFiles old.files new.files) ⊎ ((r : Request) × Asks arguments r × FailsToPerform failure.Memory r input old new)

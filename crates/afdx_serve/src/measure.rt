@@ -18,7 +18,7 @@ use std::alloc::Global;
 use std::io::Write;
 
 /// What is reported of captures of the table's ports; bounds are reported where the plan was checked.
-fn tell(
+fn of_captures(
     alloc: Global,
     plan: Plan,
     promised: bool,
@@ -45,7 +45,7 @@ fn text_of<F: Folder>(alloc: Global, inputs: &Inputs<'_>, folder: &mut F) -> Res
     ensures same { KeepsFiles (F.files folder.old) (F.files folder.new) }
 {
     let (plan, captures) = gather(alloc, inputs, folder)?;
-    tell(alloc, plan, !inputs.unchecked, &captures)
+    of_captures(alloc, plan, !inputs.unchecked, &captures)
 }
 
 /// Runs the switch over the captures of a folder as `run` does, and writes the delays of each link at each of its output

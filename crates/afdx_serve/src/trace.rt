@@ -34,7 +34,7 @@ impl Model for Pair {
 }
 
 /// What is reported of captures of the table's ports; the headline holds of their run, where the plan was checked.
-fn tell(alloc: Global, plan: Plan, captures: &[(u8, Vec<u8>)]) -> Result<Pair, Failure>
+fn of_captures(alloc: Global, plan: Plan, captures: &[(u8, Vec<u8>)]) -> Result<Pair, Failure>
     requires { AreOfPorts (table_in plan) (texts_of captures.now) }
     ensures { MatchResult result
         (λ texts. (s : State) × IsDoneOf (is_cleared plan) (table_in plan) (texts_of captures.now) s
@@ -58,7 +58,7 @@ fn traced<F: Folder>(alloc: Global, paths: &Paths<'_>, folder: &mut F) -> Result
     ensures same { KeepsFiles (F.files folder.old) (F.files folder.new) }
 {
     let (plan, captures) = gather(alloc, &inputs_of(paths), folder)?;
-    tell(alloc, plan, &captures)
+    of_captures(alloc, plan, &captures)
 }
 
 /// The name of a file in a folder.

@@ -144,6 +144,14 @@ Example: afdx alone --id 10 --bag 1 --jitter 0 --size 1000 < in.pcap > out.pcap
 
 const VERSION: &str = "afdx 0.1.0\nrattle-kit-13f logic dac8208d650f15bf\n";
 
+/// Whether of these frames those that conform are passed, in one capture.
+fn passes(alloc: Global, given: &[Sample], passed: &[Sample]) -> Result<bool, Fail> {
+    let input = capture(alloc, given)?;
+    let want = capture(alloc, passed)?;
+    let got = answer(alloc, LINK_10, &input)?;
+    Ok(got.is(0, want.as_slice(), b""))
+}
+
 #[test]
 fn passes_what_conforms(rt: HostRuntime) -> Result<(), Fail> {
     let alloc = rt.alloc();
@@ -152,16 +160,6 @@ fn passes_what_conforms(rt: HostRuntime) -> Result<(), Fail> {
     let early = captured(1514, 0, 999_999);
     let due = captured(1514, 0, 1_000_000);
     let far = captured(1514, 4_000_000_000, 0);
-    let foreign = Sample { first: 2, ..small };
-    let other_link = Sample { link: 11, ..small };
-    let cut = Sample {
-        original: 61,
-        ..small
-    };
-    let reported_short = Sample {
-        original: 0,
-        ..small
-    };
     for (name, given, passed) in [
         ("no frames", [].as_slice(), [].as_slice()),
         (
@@ -175,70 +173,81 @@ fn passes_what_conforms(rt: HostRuntime) -> Result<(), Fail> {
             [small; 24].as_slice(),
             [small; 23].as_slice(),
         ),
-        (
-            "frames of others",
-            [
-                foreign,
-                other_link,
-                cut,
-                captured(59, 0, 0),
-                captured(1515, 0, 0),
-                full,
-            ]
-            .as_slice(),
-            [full].as_slice(),
-        ),
-        (
-            "an original below the captured length",
-            [reported_short].as_slice(),
-            [small].as_slice(),
-        ),
     ] {
-        let input = capture(alloc, given)?;
-        let want = capture(alloc, passed)?;
-        let got = answer(alloc, LINK_10, &input)?;
-        assert!(rt; got.is(0, want.as_slice(), b""), "{name}");
+        assert!(rt; passes(alloc, given, passed)?, "{name}");
     }
     Ok(())
 }
 
 #[test]
-fn refuses_words(rt: HostRuntime) -> Result<(), Fail> {
+fn passes_frames_of_the_link_alone(rt: HostRuntime) -> Result<(), Fail> {
     let alloc = rt.alloc();
-    for line in [
-        "",
-        "afdx",
-        "afdx check --version",
-        "afdx check",
-        "afdx check t in",
-        "afdx size",
-        "afdx size t in",
-        "afdx run t in --unchecked",
-        "afdx run t in out more --unchecked",
-        "afdx run t in out --unchecked --unchecked",
-        "afdx measure t",
-        "afdx measure t in out",
-        "afdx trace t in",
-        "afdx trace t in out more",
-        "afdx network",
-        "afdx network size t",
-        "afdx network check",
-        "afdx network check n in",
-        "afdx network jitter n in",
-        "afdx network run n in",
-        "afdx alone",
-        "afdx alone --bag 3",
-        "afdx alone --id 10 --bag 1 --jitter 0",
-        "afdx alone --id 10 --bag 3 --jitter 0 --size 64",
-        "afdx alone --id 65536 --bag 1 --jitter 0 --size 64",
-        "afdx alone --id 10 --bag 1 --jitter 10001 --size 64",
-        "afdx alone --id 10 --bag 1 --jitter 0 --size 63",
-        "afdx alone --id 10 --bag 1 --jitter 0 --size 1519",
-        "afdx alone --id=-1 --bag 1 --jitter 0 --size 64",
-        "afdx alone --id ten --bag 1 --jitter 0 --size 64",
-        "afdx alone --id 1 --id 1 --bag 1 --jitter 0 --size 64",
-        "afdx alone --id 10 --bag 1 --jitter 0 --size 64 in",
-    ] {
+    let small = captured(60, 0, 0);
+    let full = captured(1514, 0, 0);
+    let foreign = Sample { first: 2, ..small };
+    let other_link = Sample { link: 11, ..small };
+    let cut = Sample {
+        original: 61,
+        ..small
+    };
+    let short = captured(59, 0, 0);
+    let long = captured(1515, 0, 0);
+    let others = [foreign, other_link, cut, short, long, full];
+    assert!(rt;
+        passes(alloc, others.as_slice(), [full].as_slice())?,
+        "frames of others"
+    );
+    let reported_short = Sample {
+        original: 0,
+        ..small
+    };
+    assert!(rt;
+        passes(alloc, [reported_short].as_slice(), [small].as_slice())?,
+        "an original below the captured length"
+    );
+    Ok(())
+}
+
+/// Arguments that are refused.
+const REFUSED: [&str; 32] = [
+    "",
+    "afdx",
+    "afdx check --version",
+    "afdx check",
+    "afdx check t in",
+    "afdx size",
+    "afdx size t in",
+    "afdx run t in --unchecked",
+    "afdx run t in out more --unchecked",
+    "afdx run t in out --unchecked --unchecked",
+    "afdx measure t",
+    "afdx measure t in out",
+    "afdx trace t in",
+    "afdx trace t in out more",
+    "afdx network",
+    "afdx network size t",
+    "afdx network check",
+    "afdx network check n in",
+    "afdx network jitter n in",
+    "afdx network run n in",
+    "afdx alone",
+    "afdx alone --bag 3",
+    "afdx alone --id 10 --bag 1 --jitter 0",
+    "afdx alone --id 10 --bag 3 --jitter 0 --size 64",
+    "afdx alone --id 65536 --bag 1 --jitter 0 --size 64",
+    "afdx alone --id 10 --bag 1 --jitter 10001 --size 64",
+    "afdx alone --id 10 --bag 1 --jitter 0 --size 63",
+    "afdx alone --id 10 --bag 1 --jitter 0 --size 1519",
+    "afdx alone --id=-1 --bag 1 --jitter 0 --size 64",
+    "afdx alone --id ten --bag 1 --jitter 0 --size 64",
+    "afdx alone --id 1 --id 1 --bag 1 --jitter 0 --size 64",
+    "afdx alone --id 10 --bag 1 --jitter 0 --size 64 in",
+];
+
+#[test]
+fn refuses_wrong_arguments(rt: HostRuntime) -> Result<(), Fail> {
+    let alloc = rt.alloc();
+    for line in REFUSED {
         let got = answer(alloc, line, &HEADER)?;
         assert!(rt; got.is(2, b"", b"afdx: usage\n"), "{line}");
     }
@@ -258,72 +267,67 @@ fn takes_values_at_their_limits(rt: HostRuntime) -> Result<(), Fail> {
     Ok(())
 }
 
+/// Whether a capture of these frames, of which so many bytes are left and one is another, is refused with this line.
+fn refuses(
+    alloc: Global,
+    samples: &[Sample],
+    left: usize,
+    changed: (usize, u8),
+    line: &str,
+) -> Result<bool, Fail> {
+    let (at, byte) = changed;
+    let mut input = capture(alloc, samples)?;
+    input.truncate(left);
+    if let Some(place) = input.get_mut(at) {
+        *place = byte;
+    }
+    let got = answer(alloc, LINK_10, &input)?;
+    Ok(got.is(3, b"", line.as_bytes()))
+}
+
 #[test]
-fn tells_the_first_fault(rt: HostRuntime) -> Result<(), Fail> {
+fn says_the_fault_of_a_header(rt: HostRuntime) -> Result<(), Fail> {
+    let alloc = rt.alloc();
+    let good = [captured(60, 1, 0)];
+    for (left, changed, line) in [
+        (23, (0, 0), "afdx: capture P2 NoHeader\n"),
+        (100, (0, 0), "afdx: capture P3 Magic\n"),
+        (100, (6, 3), "afdx: capture P4 Version\n"),
+        (100, (20, 113), "afdx: capture P5 LinkType 113\n"),
+    ] {
+        assert!(rt;
+            refuses(alloc, good.as_slice(), left, changed, line)?,
+            "{line}"
+        );
+    }
+    Ok(())
+}
+
+#[test]
+fn says_the_first_fault_of_a_record(rt: HostRuntime) -> Result<(), Fail> {
     let alloc = rt.alloc();
     let good = captured(60, 1, 0);
-    // The frames, how many bytes are left of their capture, a byte that is another, and the line.
-    for (samples, left, at, byte, line) in [
-        ([good].as_slice(), 23, 0, 0, "afdx: capture P2 NoHeader\n"),
-        ([good].as_slice(), 100, 0, 0, "afdx: capture P3 Magic\n"),
-        ([good].as_slice(), 100, 6, 3, "afdx: capture P4 Version\n"),
+    let first = captured(60, 0, 0);
+    let last = captured(60, 4_294_967_295, 0);
+    let same = (0, 0x4d);
+    for (samples, left, changed, line) in [
+        ([good].as_slice(), 39, same, "P6 CutHeader, record 1"),
+        ([good, good].as_slice(), 176, (111, 1), "P7 Huge, record 2"),
+        ([good].as_slice(), 100, (31, 0x40), "P8 Fraction, record 1"),
+        ([last].as_slice(), 100, same, "P9 Late, record 1"),
         (
-            [good].as_slice(),
-            100,
-            20,
-            113,
-            "afdx: capture P5 LinkType 113\n",
-        ),
-        (
-            [good].as_slice(),
-            39,
-            0,
-            0x4d,
-            "afdx: capture P6 CutHeader, record 1\n",
-        ),
-        (
-            [good, good].as_slice(),
+            [good, first].as_slice(),
             176,
-            111,
-            1,
-            "afdx: capture P7 Huge, record 2\n",
+            same,
+            "P10 Backwards, record 2",
         ),
-        (
-            [good].as_slice(),
-            100,
-            31,
-            0x40,
-            "afdx: capture P8 Fraction, record 1\n",
-        ),
-        (
-            [captured(60, 4_294_967_295, 0)].as_slice(),
-            100,
-            0,
-            0x4d,
-            "afdx: capture P9 Late, record 1\n",
-        ),
-        (
-            [good, captured(60, 0, 0)].as_slice(),
-            176,
-            0,
-            0x4d,
-            "afdx: capture P10 Backwards, record 2\n",
-        ),
-        (
-            [good].as_slice(),
-            99,
-            0,
-            0x4d,
-            "afdx: capture P11 CutData, record 1\n",
-        ),
+        ([good].as_slice(), 99, same, "P11 CutData, record 1"),
     ] {
-        let mut input = capture(alloc, samples)?;
-        input.truncate(left);
-        if let Some(place) = input.get_mut(at) {
-            *place = byte;
-        }
-        let got = answer(alloc, LINK_10, &input)?;
-        assert!(rt; got.is(3, b"", line.as_bytes()), "{line}");
+        let line = format!(in alloc; "afdx: capture {line}\n")?;
+        assert!(rt;
+            refuses(alloc, samples, left, changed, line.as_str())?,
+            "{line}"
+        );
     }
     Ok(())
 }

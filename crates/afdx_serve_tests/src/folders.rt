@@ -1,8 +1,8 @@
-//! The folder in memory that the tests have, with each of its growths refused in turn: by its calls, of which each that is out
+//! The folder in memory that the tests have, with each of its allocations refused in turn: by its calls, of which each that is out
 //! of memory is made once more, and in a run.
 
+use crate::allocations::{Calls, Memory, allocations};
 use crate::fixtures::{OneFrame, REPORT, RUN, answer_over};
-use crate::growths::{Calls, Memory, growths};
 use crate::memory_folder::MemoryFolder;
 use afdx_devices::{Folder, FolderFault};
 use std::alloc::Global;
@@ -137,15 +137,15 @@ impl Calls for Calling<'_> {
     }
 }
 
-/// A growth at least for the name and for the bytes of each file that is put, for the bytes of each that is got, and for the name
+/// One allocation at least for the name and for the bytes of each file that is put, for the bytes of each that is got, and for the name
 /// of the one that is not there.
 #[test]
 fn files_put_and_got(rt: HostRuntime) -> Result<(), Fail> {
     let alloc = rt.alloc();
     let run = OneFrame::new(alloc)?;
-    let refused = growths(&rt, alloc, &Calling { run: &run })?;
+    let refused = allocations(&rt, alloc, &Calling { run: &run })?;
     assert!(rt; refused >= 18);
-    println!(rt; "Folder in memory: {refused} growths refused")?;
+    println!(rt; "Folder in memory: {refused} allocations refused")?;
     Ok(())
 }
 
@@ -178,14 +178,14 @@ impl Calls for Running<'_> {
     }
 }
 
-/// A growth at least for the name and for the bytes of each file that is there, for each new file that is begun, for the bytes
+/// One allocation at least for the name and for the bytes of each file that is there, for each new file that is begun, for the bytes
 /// of the frame that leaves, and for the name of each file that is put.
 #[test]
 fn new_files_are_put_or_let_go(rt: HostRuntime) -> Result<(), Fail> {
     let alloc = rt.alloc();
     let run = OneFrame::new(alloc)?;
-    let refused = growths(&rt, alloc, &Running { alloc, run: &run })?;
+    let refused = allocations(&rt, alloc, &Running { alloc, run: &run })?;
     assert!(rt; refused >= 11);
-    println!(rt; "Run over a folder in memory: {refused} growths refused")?;
+    println!(rt; "Run over a folder in memory: {refused} allocations refused")?;
     Ok(())
 }

@@ -4,6 +4,8 @@
 #![tactic(auto)]
 
 #[cfg(test)]
+mod allocations;
+#[cfg(test)]
 mod arguments;
 #[cfg(test)]
 mod babblers;
@@ -13,8 +15,6 @@ mod devices;
 mod fixtures;
 #[cfg(test)]
 mod folders;
-#[cfg(test)]
-mod growths;
 #[cfg(test)]
 mod measures;
 #[cfg(test)]

@@ -14,7 +14,7 @@ out 2 occupied 64 of 100000 at 0
 ";
 
 #[test]
-fn tells_of_one_link(rt: HostRuntime) -> Result<(), Fail> {
+fn says_of_one_link(rt: HostRuntime) -> Result<(), Fail> {
     let alloc = rt.alloc();
     let table = single(alloc)?;
     let early = early(alloc)?;
@@ -70,7 +70,7 @@ fn counts_the_latency(rt: HostRuntime) -> Result<(), Fail> {
 }
 
 #[test]
-fn tells_what_was_lost_by_what_is_missing(rt: HostRuntime) -> Result<(), Fail> {
+fn says_what_was_lost_by_what_is_missing(rt: HostRuntime) -> Result<(), Fail> {
     let alloc = rt.alloc();
     let table = crowded(alloc)?;
     let (first, second) = crowd(alloc)?;

@@ -1,6 +1,6 @@
-//! The policing of one link, with each of its growths refused in turn, and of a capture that is cut at each byte.
+//! The policing of one link, with each of its allocations refused in turn, and of a capture that is cut at each byte.
 
-use crate::growths::{Calls, Memory, growths};
+use crate::allocations::{Calls, Memory, allocations};
 use afdx_alone::{AloneFault, alone};
 use afdx_arguments::Alone;
 use afdx_pcap::PcapFault;
@@ -32,7 +32,7 @@ impl Calls for Policing<'_> {
 
 /// The second frame comes a nanosecond too early. The answer alone is grown: the frames are lent.
 #[test]
-fn each_growth_refused(rt: HostRuntime) -> Result<(), Fail> {
+fn each_allocation_refused(rt: HostRuntime) -> Result<(), Fail> {
     let alloc = rt.alloc();
     let link = link().ok_or("a link")?;
     let came = [large(10, 0), large(10, 999_999), large(10, 1_000_000)];
@@ -43,9 +43,9 @@ fn each_growth_refused(rt: HostRuntime) -> Result<(), Fail> {
         input: &input,
         expected: &expected,
     };
-    let refused = growths(&rt, alloc, &calls)?;
+    let refused = allocations(&rt, alloc, &calls)?;
     assert!(rt; refused >= 2);
-    println!(rt; "alone: {refused} growths refused")?;
+    println!(rt; "alone: {refused} allocations refused")?;
     Ok(())
 }
 

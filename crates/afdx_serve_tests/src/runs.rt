@@ -219,7 +219,7 @@ fn is_refused(alloc: Global, left: [usize; 2], line: &str) -> Result<bool, Alloc
 }
 
 #[test]
-fn tells_a_ports_fault(rt: HostRuntime) -> Result<(), Fail> {
+fn says_a_ports_fault(rt: HostRuntime) -> Result<(), Fail> {
     // How many bytes are left of each port's capture, and the line.
     for (left, line) in [
         ([99, 23], "afdx: capture P11 CutData, port 1, record 1\n"),
@@ -231,7 +231,7 @@ fn tells_a_ports_fault(rt: HostRuntime) -> Result<(), Fail> {
 }
 
 #[test]
-fn tells_a_tables_refusal(rt: HostRuntime) -> Result<(), Fail> {
+fn says_a_tables_refusal(rt: HostRuntime) -> Result<(), Fail> {
     for (text, line) in [
         ("x = ", "afdx: table C2 Toml\n"),
         ("color = 1", "afdx: table C3 UnknownKey, top\n"),

@@ -28,7 +28,7 @@ fn strained(alloc: Global, links: &[Link]) -> Result<String, AllocError> {
 }
 
 #[test]
-fn tells_that_ports_fit(rt: HostRuntime) -> Result<(), Fail> {
+fn says_that_ports_fit(rt: HostRuntime) -> Result<(), Fail> {
     let alloc = rt.alloc();
     let one = sizes(rt.alloc(), &single(alloc)?)?;
     assert_eq!(rt;

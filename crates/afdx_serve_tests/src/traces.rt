@@ -43,7 +43,7 @@ fn puts(
 }
 
 #[test]
-fn tells_how_early_a_frame_was(rt: HostRuntime) -> Result<(), Fail> {
+fn says_how_early_a_frame_was(rt: HostRuntime) -> Result<(), Fail> {
     let alloc = rt.alloc();
     let early = early(alloc)?;
     assert!(rt;
@@ -81,7 +81,7 @@ fn counts_the_latency(rt: HostRuntime) -> Result<(), Fail> {
 }
 
 #[test]
-fn tells_what_was_full_and_what_aged(rt: HostRuntime) -> Result<(), Fail> {
+fn says_what_was_full_and_what_aged(rt: HostRuntime) -> Result<(), Fail> {
     let alloc = rt.alloc();
     let (first, second) = crowd(alloc)?;
     assert!(rt;

@@ -27,7 +27,7 @@ use Rattle.afdx_session.specs.Streams.{Stream, captures_of, merged_so_far, sent_
 use Rattle.afdx_session.specs.Inner.Lanes.{waiting_of}
 use Rattle.afdx_session.specs.Inner.Kept.{AreLanesOf, text_up_to, IsGoing}
 use Rattle.afdx_session.proofs.Joining.{by_stamp_every}
-use Rattle.afdx_session.proofs.Leaving.{length-admit_all}
+use Rattle.afdx_session.proofs.Losing.{length-admit_all}
 use Rattle.afdx_session.proofs.Numbered.{all_append}
 use Rattle.afdx_session.proofs.Settling.{all_prefix, arrived, all_arrived}
 

@@ -12,7 +12,7 @@ use Rattle.afdx_core.specs.State.{Run, State, sent_in, place_of, next_at, next_b
 use Rattle.afdx_core.specs.Held.{IsHanded}
 use Rattle.afdx_core.specs.Merge.{Arrival}
 use Rattle.afdx_session.specs.Output.{bytes_at, written}
-use Rattle.afdx_session.specs.Replay.{HasBytesOf, left_at}
+use Rattle.afdx_session.specs.Inner.Replay.{HasBytesOf, left_at}
 use Rattle.afdx_session.proofs.Numbered.{sent_numbered, all_slice_get}
 
 pub drop_at : {X : Type 0} (xs : List X) (n : ℕ) (x : X) → slice_get xs n ≡ Some x → drop n xs ≡ x ∷ drop (suc n) xs

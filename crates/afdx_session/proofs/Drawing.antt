@@ -18,7 +18,7 @@ use Rattle.afdx_core.specs.State.{Run, State, sent_in, place_of, next_by, after_
 use Rattle.afdx_core.specs.Held.{Keeps, IsTaken, IsHanded}
 use Rattle.afdx_core.specs.Merge.{Arrival}
 use Rattle.afdx_session.specs.Output.{rows_of, written}
-use Rattle.afdx_session.specs.Replay.{HasBytesOf, left_at, IsDrained}
+use Rattle.afdx_session.specs.Inner.Replay.{HasBytesOf, left_at, IsDrained}
 use Rattle.afdx_session.specs.Streams.{sent_up_to}
 use Rattle.afdx_session.specs.Inner.Settled.{IsGiven, IsAt, Draws}
 use Rattle.afdx_session.specs.declared.lane.Lane.{Lane}

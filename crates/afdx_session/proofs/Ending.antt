@@ -211,12 +211,12 @@ given_some {Z} t old new s counts run ended some =
       whole : merged_so_far going.streams ≡ going.given ++ waiting
       whole = going.settling.whole
 
-      prefix : come_to (frontier going.streams) ≡ last_instant
-      prefix = ap come_to (no_frontier going.streams (streams_ended old new going.streams ended going.lanes_are))
+      at_frontier : come_to (frontier going.streams) ≡ last_instant
+      at_frontier = ap come_to (no_frontier going.streams (streams_ended old new going.streams ended going.lanes_are))
 
       none : waiting ≡ []
       none = none_late waiting (subst (λ n. AllByRecursion (λ (a : Arrival). n ≤ a.frame.stamp) waiting)
-          (let come = going.come in let until = going.until in let since = run.out some in omega (arith, come, until, since, prefix)) going.later)
+          (let come = going.come in let until = going.until in let since = run.out some in omega (arith, come, until, since, at_frontier)) going.later)
           (all_back Early going.given waiting (subst (AllByRecursion Early) whole (lanes_early new going.streams going.lanes_are)))
 
 pub given_all : {Z : Type 0} (t : Content) (old new : List (Lane Z)) (s : State) (counts : Tally) (run : IsRunning t new s counts) → AreEndedLanes old new → merged (captures_of run.going.streams)

@@ -131,9 +131,9 @@ fresh_at {Z = Z} (p ∷ ports) (m ∷ lanes) zero l fresh at = (p.id, subst (λ 
   same e = cc
 fresh_at (p ∷ ports) (m ∷ lanes) (suc k) l fresh at = fresh_at ports lanes k l fresh.1 at
 
-fresh_prefix : (ports : List PortRow) → 0 < length (map fresh_stream ports) → 0 ≡ come_to (frontier (map fresh_stream ports))
-fresh_prefix [] some = absurd (omega (arith, some))
-fresh_prefix (p ∷ ports) some = by (frontier (map fresh_stream ports)) where
+fresh_frontier : (ports : List PortRow) → 0 < length (map fresh_stream ports) → 0 ≡ come_to (frontier (map fresh_stream ports))
+fresh_frontier [] some = absurd (omega (arith, some))
+fresh_frontier (p ∷ ports) some = by (frontier (map fresh_stream ports)) where
   by : (rest : Option ℕ) → 0 ≡ least 0 rest
   by None = refl
   by (Some m) = omega arith
@@ -189,7 +189,7 @@ fresh_running : {Z : Type 0} → StartsWithNone → (accepted : Bool) (t : Conte
 unfolding fresh_going
 fresh_running starts accepted t lanes fresh = record {
   going = fresh_going starts accepted t lanes fresh;
-  out = λ some. fresh_prefix t.ports (subst (λ n. 0 < n) (fresh_count t.ports lanes fresh) some);
+  out = λ some. fresh_frontier t.ports (subst (λ n. 0 < n) (fresh_count t.ports lanes fresh) some);
 }
 
 fresh_shown : {Z : Type 0} (t : Content) (lanes : List (Lane Z)) → AreFreshLanes t.ports lanes → IsShown t false lanes

@@ -107,15 +107,15 @@ arrives {Z} t old new s counts port frame goes going = record {
       let all : AllByRecursion Early (going.given ++ merged (map waiting_of old)) = subst (AllByRecursion Early) going.settling.whole (lanes_early old going.streams going.lanes_are) in
       (subst (AllByRecursion Early) next (all_back Early going.given (merged (map waiting_of old)) all)).0
 
-  prefix : option_map (λ (p : ℕ × ℕ). p.0) (limit_at old) ≡ frontier going.streams
-  prefix = ap (option_map (λ (p : ℕ × ℕ). p.0)) (limit_is old going.streams going.lanes_are) ∙ limit_frontier going.streams
+  at_frontier : option_map (λ (p : ℕ × ℕ). p.0) (limit_at old) ≡ frontier going.streams
+  at_frontier = ap (option_map (λ (p : ℕ × ℕ). p.0)) (limit_is old going.streams going.lanes_are) ∙ limit_frontier going.streams
 
   by_limit : (p : Option (ℕ × ℕ)) → limit_at old ≡ p → IsWithin (limit_at old) frame.stamp port → frame.stamp ≤ come_to (frontier going.streams)
   by_limit None is within =
-      let here = ap come_to (sym prefix ∙ ap (option_map (λ (q : ℕ × ℕ). q.0)) is) in
+      let here = ap come_to (sym at_frontier ∙ ap (option_map (λ (q : ℕ × ℕ). q.0)) is) in
       omega (arith, early, here)
   by_limit (Some p) is within =
-      at (subst (λ o. IsWithin o frame.stamp port) is within) (ap come_to (sym prefix ∙ ap (option_map (λ (q : ℕ × ℕ). q.0)) is)) where
+      at (subst (λ o. IsWithin o frame.stamp port) is within) (ap come_to (sym at_frontier ∙ ap (option_map (λ (q : ℕ × ℕ). q.0)) is)) where
         at : (frame.stamp < p.0) ⊎ ((frame.stamp ≡ p.0) × (port ≤ p.1)) → come_to (frontier going.streams) ≡ p.0 → frame.stamp ≤ come_to (frontier going.streams)
         at (inl lt) here = omega (arith, lt, here)
         at (inr same) here = let e = same.0 in omega (arith, e, here)
@@ -189,8 +189,8 @@ none_else t old new s counts port frame of arrives =
 -- ---- the switch comes to the frontier
 
 -- the instant that it comes to
-pub prefix_is : {Z : Type 0} (lanes : List (Lane Z)) (streams : List Stream) → AreLanesOf lanes streams → option_map (λ (p : ℕ × ℕ). p.0) (limit_at lanes) ≡ frontier streams
-prefix_is lanes streams are = ap (option_map (λ (p : ℕ × ℕ). p.0)) (limit_is lanes streams are) ∙ limit_frontier streams
+pub frontier_is : {Z : Type 0} (lanes : List (Lane Z)) (streams : List Stream) → AreLanesOf lanes streams → option_map (λ (p : ℕ × ℕ). p.0) (limit_at lanes) ≡ frontier streams
+frontier_is lanes streams are = ap (option_map (λ (p : ℕ × ℕ). p.0)) (limit_is lanes streams are) ∙ limit_frontier streams
 
 pub lane_at : {Z : Type 0} (ls : List (Lane Z)) (k : ℕ) → k < length ls → (l : Lane Z) × (slice_get ls k ≡ Some l)
 lane_at [] k lt = absurd (omega (arith, lt))
@@ -218,10 +218,10 @@ rest_waits {Z = Z} t lanes s counts first going none = by_first first none.is no
       → AllFrom n (merged waiting)
   by_limit x l None same is out = absurd (out (subst (λ o. IsWithin o x.1 l.port) (sym same) tt))
   by_limit x l (Some p) same is out =
-      let prefix : frontier going.streams ≡ Some p.0 = sym (prefix_is lanes going.streams going.lanes_are) ∙ ap (option_map (λ (q : ℕ × ℕ). q.0)) same in
+      let at_frontier : frontier going.streams ≡ Some p.0 = sym (frontier_is lanes going.streams going.lanes_are) ∙ ap (option_map (λ (q : ℕ × ℕ). q.0)) same in
       let past = subst (λ o. IsPast o x.1) (limit_is lanes going.streams going.lanes_are) (is_past (limit_at lanes) x.1 l.port out) in
-      subst (λ m. AllFrom m (merged waiting)) (sym (ap come_to prefix))
-      (rest_from_frontier going.streams waiting x.0 x.1 p.0 rise (first_comes lanes x.0 x.1 is) past prefix)
+      subst (λ m. AllFrom m (merged waiting)) (sym (ap come_to at_frontier))
+      (rest_from_frontier going.streams waiting x.0 x.1 p.0 rise (first_comes lanes x.0 x.1 is) past at_frontier)
 
   by_first : (found : Option (ℕ × ℕ)) → IsFirstOf lanes found → ((place stamp : ℕ) (lane : Lane Z) → found ≡ Some (place, stamp) → slice_get lanes place ≡ Some lane
       → IsWithin (limit_at lanes) stamp lane.port → ⊥)
@@ -255,12 +255,12 @@ comes_on {Z} t lanes s next counts first to going none to_is run keeps = record 
   at = at;
 } where
   at : next.run.latest ≡ come_to (frontier going.streams)
-  at = ap (λ (r : Run). r.latest) run ∙ to_is ∙ ap come_to (prefix_is lanes going.streams going.lanes_are)
+  at = ap (λ (r : Run). r.latest) run ∙ to_is ∙ ap come_to (frontier_is lanes going.streams going.lanes_are)
 
 -- that is no going back
 pub no_going_back : {Z : Type 0} (t : Content) (lanes : List (Lane Z)) (s : State) (counts : Tally) (to : ℕ) (going : IsGoing t lanes s counts) → to
     ≡ come_to (option_map (λ (p : ℕ × ℕ). p.0) (limit_at lanes)) → to < s.run.latest → ⊥
 no_going_back t lanes s counts to going to_is lt =
     let until = going.until in
-    let at = to_is ∙ ap come_to (prefix_is lanes going.streams going.lanes_are) in
+    let at = to_is ∙ ap come_to (frontier_is lanes going.streams going.lanes_are) in
     omega (arith, until, at, lt)

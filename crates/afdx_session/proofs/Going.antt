@@ -102,8 +102,8 @@ reached_early h (s ∷ streams) reached ends some = elim (cases_Bool s.closed) [
 ]
 
 -- so the frontier is no later than the last instant
-pub prefix_early : (streams : List Stream) (h : ℕ) → EarlyEnds streams → frontier streams ≡ Some h → h < last_second
-prefix_early streams h ends is =
+pub frontier_early : (streams : List Stream) (h : ℕ) → EarlyEnds streams → frontier streams ≡ Some h → h < last_second
+frontier_early streams h ends is =
     reached_early h streams (have_reached streams h is) ends (λ all. none (sym is ∙ no_frontier streams all)) where
       none : Some h ≡ None → ⊥
       none e = absurd cc
@@ -112,7 +112,7 @@ prefix_early streams h ends is =
 pub come_grows : (streams later : List Stream) → EarlyEnds streams → GoOn streams later → come_to (frontier streams) ≤ come_to (frontier later)
 come_grows streams later ends on = by_old (frontier streams) refl where
   by_new : (h : ℕ) (k : Option ℕ) → frontier streams ≡ Some h → frontier later ≡ k → h ≤ come_to k
-  by_new h None is next = let lt = prefix_early streams h ends is in omega (arith, lt)
+  by_new h None is next = let lt = frontier_early streams h ends is in omega (arith, lt)
   by_new h (Some k) is next = frontier_above h k later (reached_on h streams later (have_reached streams h is) on) next
 
   ended_on : (ss ns : List Stream) → AllEnded ss → GoOn ss ns → AllEnded ns
@@ -185,14 +185,14 @@ wait_from n (s ∷ streams) (t ∷ later) (w ∷ waiting) (v ∷ more) wait some
 
 -- whoever is not past the frontier was reached by all open captures
 not_past : (n : ℕ) (streams : List Stream) → n ≤ come_to (frontier streams) → HaveReached n streams
-not_past n streams le = by_prefix (frontier streams) refl where
+not_past n streams le = by_frontier (frontier streams) refl where
   closed_all : (ss : List Stream) → AllEnded ss → HaveReached n ss
   closed_all [] all = tt
   closed_all (s ∷ ss) all = ((λ (o : s.closed ≡ false). absurd (both_ways s.closed o all.0)), closed_all ss all.1)
 
-  by_prefix : (h : Option ℕ) → frontier streams ≡ h → HaveReached n streams
-  by_prefix None is = closed_all streams (all_ended streams is)
-  by_prefix (Some h) is = let same = ap come_to is in reached-weaken n h streams (omega (arith, le, same)) (have_reached streams h is)
+  by_frontier : (h : Option ℕ) → frontier streams ≡ h → HaveReached n streams
+  by_frontier None is = closed_all streams (all_ended streams is)
+  by_frontier (Some h) is = let same = ap come_to is in reached-weaken n h streams (omega (arith, le, same)) (have_reached streams h is)
 
 pub get-set : {X : Type 0} (xs : List X) (k j : ℕ) (old new x : X) → slice_get xs k ≡ Some old → slice_get (set xs k new) j ≡ Some x → ((j ≡ k) × (x ≡ new)) ⊎ (slice_get xs j ≡ Some x)
 get-set [] k j old new x at is = absurd cc

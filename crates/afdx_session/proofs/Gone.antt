@@ -17,7 +17,7 @@ use Rattle.afdx_core.specs.Merge.{Arrival, merged}
 use Rattle.afdx_count.specs.Tally.{Tally}
 use Rattle.afdx_session.specs.declared.lane.Lane.{Lane}
 use Rattle.afdx_session.specs.Output.{written}
-use Rattle.afdx_session.specs.Replay.{HasBytesOf, IsDrained}
+use Rattle.afdx_session.specs.Inner.Replay.{HasBytesOf, IsDrained}
 use Rattle.afdx_session.specs.Streams.{Stream, merged_so_far, frontier, sent_up_to, output_so_far, text_so_far, last_instant, AllStartBeforeTheLastInstant}
 use Rattle.afdx_session.specs.Inner.Settled.{IsSettling, IsGiven, IsAt, HandsOut, Draws}
 use Rattle.afdx_session.specs.Inner.Lanes.{waiting_of}
@@ -272,18 +272,18 @@ text_is {Z} stay reaches ends t lanes s counts run place p l of is_port is_lane 
   early = subst (AllByRecursion Early) whole (lanes_early lanes going.streams going.lanes_are)
 
   shown : (h : Option ℕ) → frontier going.streams ≡ h → output_so_far t going.streams p ≡ map (written going.given) (sent_up_to t going.given (Some going.since) p)
-  shown (Some h) prefix =
-      ap (λ f. map (written (merged_so_far going.streams)) (sent_up_to t (merged_so_far going.streams) f p)) prefix
+  shown (Some h) at_frontier =
+      ap (λ f. map (written (merged_so_far going.streams)) (sent_up_to t (merged_so_far going.streams) f p)) at_frontier
       ∙ ap (λ xs. map (written xs) (sent_up_to t xs (Some h) p)) whole
-      ∙ ap (map (written (going.given ++ waiting))) (same_sent stay reaches t going.given waiting h p (subst (λ f. AllFrom (come_to f) waiting) prefix later))
+      ∙ ap (map (written (going.given ++ waiting))) (same_sent stay reaches t going.given waiting h p (subst (λ f. AllFrom (come_to f) waiting) at_frontier later))
       ∙ same_bytes t going.given waiting (Some h) p
-      ∙ ap (λ n. map (written going.given) (sent_up_to t going.given (Some n) p)) (sym (since ∙ ap come_to prefix))
-  shown None prefix =
-      let none : waiting ≡ [] = none_late waiting (subst (λ f. AllFrom (come_to f) waiting) prefix later) (all_back Early going.given waiting early) in
-      ap (λ f. map (written (merged_so_far going.streams)) (sent_up_to t (merged_so_far going.streams) f p)) prefix
+      ∙ ap (λ n. map (written going.given) (sent_up_to t going.given (Some n) p)) (sym (since ∙ ap come_to at_frontier))
+  shown None at_frontier =
+      let none : waiting ≡ [] = none_late waiting (subst (λ f. AllFrom (come_to f) waiting) at_frontier later) (all_back Early going.given waiting early) in
+      ap (λ f. map (written (merged_so_far going.streams)) (sent_up_to t (merged_so_far going.streams) f p)) at_frontier
       ∙ ap (λ xs. map (written xs) (sent_up_to t xs None p)) (whole ∙ ap (λ xs. going.given ++ xs) none ∙ append-nil going.given)
       ∙ ap (map (written going.given)) (sym (ends t going.given p of.formed (within t.ports place p is_port) (all_prefix Early going.given waiting early)))
-      ∙ ap (λ n. map (written going.given) (sent_up_to t going.given (Some n) p)) (sym (since ∙ ap come_to prefix))
+      ∙ ap (λ n. map (written going.given) (sent_up_to t going.given (Some n) p)) (sym (since ∙ ap come_to at_frontier))
 
 -- ---- the loop over the lanes
 

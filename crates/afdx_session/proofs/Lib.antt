@@ -7,6 +7,9 @@ pub mod Draining
 pub mod Handing
 pub mod Ports
 pub mod Isolated
+pub mod PortParts
+pub mod Arriving
+pub mod Losing
 pub mod Leaving
 pub mod Worlds
 pub mod OneMerge

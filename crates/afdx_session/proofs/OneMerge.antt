@@ -11,7 +11,7 @@ use Rattle.afdx_session.specs.Texts.{Text}
 use Rattle.afdx_session.specs.Reading.{AreCaptures}
 use Rattle.afdx_session.specs.Inner.OneMerge.{MergedIsTheOnlyOne}
 use Rattle.afdx_session.proofs.Numbered.{all_append, first_same, rest_same}
-use Rattle.afdx_session.proofs.Leaving.{merge_is_read}
+use Rattle.afdx_session.proofs.PortParts.{merge_is_read}
 
 -- ---- one merge alone
 

@@ -41,7 +41,7 @@ position_at test xs k is =
 pub position_none : {X : Type 0} (test : X → Bool) (xs : List X) → position test xs ≡ None → length xs ≤ position_or_len test xs
 position_none test xs is = lt_false (position_or_len test xs) (length xs) (no_place (nat_lt (position_or_len test xs) (length xs)) (position_or_len test xs) is)
 
--- ---- what stands there
+-- ---- what is there
 
 abbrev pub is_lane_of : {Z : Type 0} → ℕ → Lane Z → Bool
 is_lane_of port l = l.port == port

@@ -30,7 +30,7 @@ use Rattle.afdx_session.specs.Texts.{Text, texts_of, AreOfPorts}
 use Rattle.afdx_session.specs.Reading.{AreCaptures}
 use Rattle.afdx_session.specs.Outcome.{IsDoneOf}
 use Rattle.afdx_session.specs.Output.{rows_of, written, output_text, outputs, sent_by}
-use Rattle.afdx_session.specs.Replay.{HasBytesOf, left_at, IsDrained}
+use Rattle.afdx_session.specs.Inner.Replay.{HasBytesOf, left_at, IsDrained}
 use Rattle.afdx_session.specs.Streams.{Stream, captures_of, sent_up_to}
 use Rattle.afdx_session.specs.Inner.Settled.{Draws}
 use Rattle.afdx_session.specs.Inner.Lanes.{waiting_of}

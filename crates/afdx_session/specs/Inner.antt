@@ -5,6 +5,7 @@ pub mod Lent
 pub mod OneMerge
 pub mod Pieces
 pub mod Readable
+pub mod Replay
 pub mod Rest
 pub mod Settled
 pub mod View

@@ -5,7 +5,6 @@ pub mod Lanes
 pub mod Outcome
 pub mod Output
 pub mod Reading
-pub mod Replay
 pub mod Session
 pub mod Streams
 pub mod Texts

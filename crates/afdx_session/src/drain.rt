@@ -3,7 +3,7 @@
 ghost use Rattle.std.specs.Prelude.{◌≡◌, ◌++◌, ◌≤◌, ℕ, Some, None, List, length, OnOk};
 ghost use Rattle.afdx_core.specs.Merge.{Arrival};
 ghost use Rattle.afdx_core.specs.State.{place_of, next_by};
-ghost use Rattle.afdx_session.specs.Replay.{HasBytesOf, IsDrained};
+ghost use Rattle.afdx_session.specs.Inner.Replay.{HasBytesOf, IsDrained};
 ghost use Rattle.afdx_session.specs.Inner.Settled.{IsGiven, HandsOut, Draws};
 ghost use Rattle.afdx_session.specs.Inner.Kept.{AreOfTable, AreOut, AreGrown, Every};
 ghost use Rattle.afdx_table.specs.Content.{Content};

@@ -139,13 +139,12 @@ impl<'a, A: Allocator + Copy> Machine<'a, A> {
             × IsTaken self.old.switch self.new.switch (row_of self.old.switch.run.table port frame.entry) frame.entry step
             × (self.new.counts ≡ noted step self.old.counts)) }
     {
-        match self.switch.arrive(port, frame) {
-            Ok(step) => {
-                self.counts.note(&step);
-                Ok(())
-            }
-            Err((fault, _)) => Err(out_of_memory(fault)),
-        }
+        let step = match self.switch.arrive(port, frame) {
+            Ok(step) => step,
+            Err((fault, _)) => return Err(out_of_memory(fault)),
+        };
+        self.counts.note(&step);
+        Ok(())
     }
 
     /// The first of all records that wait goes to the switch where it lies within the limit. The place of its lane.

@@ -9,7 +9,7 @@ use Rattle.std.proofs.lemmas.List.{length-map, map-append}
 use Rattle.std.proofs.lemmas.List.Quantifiers.{position-Some}
 use Rattle.afdx_table.specs.Link.{Link}
 use Rattle.afdx_table.specs.Links.{has_link}
-use Rattle.afdx_table.specs.Inner.Found.{LinksStandAtTheirPlaces}
+use Rattle.afdx_table.specs.Inner.Found.{LinksAreAtTheirPlaces}
 
 -- ---- a search of the rows by number is one of their numbers
 
@@ -78,8 +78,8 @@ module _ (id : ℕ) where
   pub not_found : (rows : List Link) → None ≡ position (λ l. nat_eq l.id id) rows → None ≡ find (λ l. nat_eq l.id id) rows
   not_found rows at = sym (none-from_absent _ (is_some-find rows ∙ sym (is_some-position rows) ∙ ap is_some (sym at)))
 
-pub links_stand_at_their_places : LinksStandAtTheirPlaces
-links_stand_at_their_places = record {
+pub links_are_at_their_places : LinksAreAtTheirPlaces
+links_are_at_their_places = record {
   at = λ table number place is. found number table.links place (sym is);
   none = λ table number is. sym (not_found number table.links (sym is));
 }

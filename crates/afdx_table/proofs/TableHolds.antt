@@ -31,9 +31,9 @@ use Rattle.afdx_table.proofs.Says.{numbers_at-says, speed-says, bag-says, priori
 use Rattle.afdx_table.proofs.PortsFormed.{fresh_port}
 use Rattle.afdx_table.proofs.LinksFormed.{fitting-fits}
 
--- a number that stands under a key
-abbrev stands : ℕ → Option Data
-stands n = Some (integer (pos n))
+-- a number under a key
+abbrev number_data : ℕ → Option Data
+number_data n = Some (integer (pos n))
 
 -- ---- ports
 
@@ -51,7 +51,7 @@ port_at-says version at before ms row h =
     let speed = speed-says version s3.value s4.value (there (Range at key.Mbit) (speed_of version s3.value) s4.value s4.first) in
     let says : IsPortOf version ms new = record {
       id = bounded_at-says at key.Id 1 24 ms s2.value s2.first;
-      speed = number_at-says at key.Mbit ms s3.value s3.first ∙ ap stands speed.0;
+      speed = number_at-says at key.Mbit ms s3.value s3.first ∙ ap number_data speed.0;
       has_speed = speed.1;
       buffer = bounded_at-says at key.Buffer 0 16777216 ms s5.value s5.first;
       max_delay = (s6.value, bounded_at-says at key.MaxDelay 1 500000 ms s6.value s6.first, refl);
@@ -111,7 +111,7 @@ row_at-says version at ms row h =
       id = bounded_at-says at key.Id 0 65535 ms s2.value s2.first;
       from = bounded_at-says at key.From 1 24 ms s3.value s3.first;
       to = numbers_at-says at key.To 1 24 ms s4.value s4.first;
-      bag = number_at-says at key.Bag ms s5.value s5.first ∙ ap stands (bag-says s5.value s6.value (there (Range at key.Bag) (bag_of s5.value) s6.value s6.first));
+      bag = number_at-says at key.Bag ms s5.value s5.first ∙ ap number_data (bag-says s5.value s6.value (there (Range at key.Bag) (bag_of s5.value) s6.value s6.first));
       jitter = (s7.value, bounded_at-says at key.Jitter 0 10000 ms s7.value s7.first, refl);
       max_size = bounded_at-says at key.MaxSize 64 1518 ms s8.value s8.first;
       priority =
@@ -159,7 +159,7 @@ version-says ms None n h v =
     (omega (arith, first), omega (arith, first), inl (no_number place.Top key.Version ms h, first))
 version-says ms (Some m) n h v =
     let is = bounded-same key.Version 1 3 m n v in
-    (is.1, is.2, inr (optional_number_at-says place.Top key.Version ms m h ∙ ap stands is.0))
+    (is.1, is.2, inr (optional_number_at-says place.Top key.Version ms m h ∙ ap number_data is.0))
 
 group-says : (r : Result (List ℕ) FromHexError) (bytes : List ℕ) → group_address r ≡ Ok bytes → r ≡ Ok bytes
 group-says (Err e) bytes h = absurd cc

@@ -2,7 +2,7 @@
 
 ghost use Rattle.afdx_table.specs.WellFormed.{TablesAreWellFormed};
 ghost use Rattle.afdx_table.specs.Inner.Holds.{TablesHoldTheirTexts};
-ghost use Rattle.afdx_table.specs.Inner.Found.{LinksAreFound, LinksStandAtTheirPlaces, PortsAreFound};
+ghost use Rattle.afdx_table.specs.Inner.Found.{LinksAreFound, LinksAreAtTheirPlaces, PortsAreFound};
 
 /// Every table of a text is well formed.
 pub fn tables_are_well_formed()
@@ -22,8 +22,8 @@ pub fn links_are_found()
 {}
 
 /// The link at the place of a number is the link of that number; where there is no place, there is no link.
-pub fn links_stand_at_their_places()
-    ensures { LinksStandAtTheirPlaces }
+pub fn links_are_at_their_places()
+    ensures { LinksAreAtTheirPlaces }
 {}
 
 /// Each port of a well-formed table is under its number.

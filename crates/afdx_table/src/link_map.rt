@@ -13,12 +13,12 @@ use std::marker::Model;
 ///
 /// Contracts see the list of their rows in order.
 #[derive(Drop)]
-pub(crate) struct Links {
+pub(crate) struct LinkMap {
     numbers: Numbers<Global>,
     rows: Vec<LinkRow>,
 }
 
-impl Model for Links {
+impl Model for LinkMap {
     ghost use Rattle.std.specs.Prelude.{◌≡◌, List, map};
     ghost use Rattle.afdx_table.specs.Link.{Link};
 
@@ -40,21 +40,21 @@ fn copy_rows(alloc: Global, rows: &[LinkRow]) -> Result<Vec<LinkRow>, AllocError
     Ok(copies)
 }
 
-impl Links {
-    pub(crate) fn new(alloc: Global) -> Links
+impl LinkMap {
+    pub(crate) fn new(alloc: Global) -> LinkMap
         ensures { result ≡ [] }
     {
-        Links {
+        LinkMap {
             numbers: Numbers::new(alloc),
             rows: Vec::new(alloc),
         }
     }
 
     /// The same links once more. O(n + m) for n links that together name m ports.
-    pub(crate) fn copy(&self, alloc: Global) -> Result<Links, AllocError>
+    pub(crate) fn copy(&self, alloc: Global) -> Result<LinkMap, AllocError>
         ensures { IfOk result (λ l. l ≡ self.now) }
     {
-        Ok(Links {
+        Ok(LinkMap {
             numbers: self.numbers.copy(alloc)?,
             rows: copy_rows(alloc, &self.rows)?,
         })

@@ -9,11 +9,11 @@ ghost use Rattle.afdx_table.specs.Links.{has_link, targets, link_keys, police_fr
 
 use crate::fault::{At, Key, TableFault};
 use crate::fields::Fields;
-use crate::limits::{MAX_JITTER, MAX_LINK_ID, MAX_PORT_ID};
-use crate::link_map::Links;
+use crate::limits::MAX_PORT_ID;
+use crate::link_map::LinkMap;
 use crate::ports::has_port;
 use crate::rows::{LinkRow, PortRow, bag_from_ms, nanos, police_from_text, priority_from_text};
-use afdx_units::{GREATEST_SIZE, LEAST_SIZE, Police};
+use afdx_units::{GREATEST_SIZE, LEAST_SIZE, MAX_JITTER, MAX_LINK_ID, Police};
 use std::alloc::Global;
 use toml::Table;
 
@@ -108,7 +108,7 @@ fn read_row(alloc: Global, version: u64, fields: &Fields<'_>) -> Result<LinkRow,
 
 /// A row beside the ports and the links before it.
 #[tactic(auto, unfolding(crate::specs::Links::fitting))]
-fn fit(at: At, ports: &[PortRow], before: &Links, row: LinkRow) -> Result<LinkRow, TableFault>
+fn fit(at: At, ports: &[PortRow], before: &LinkMap, row: LinkRow) -> Result<LinkRow, TableFault>
     ensures row { Gives (λ r. r) result (fitting at ports.now before.now row) }
     ensures fresh { IfOk result (λ r. has_link before.now r.id ≡ false) }
 {
@@ -132,7 +132,7 @@ fn read_link(
     version: u64,
     fields: &Fields<'_>,
     ports: &[PortRow],
-    before: &Links,
+    before: &LinkMap,
 ) -> Result<LinkRow, TableFault>
     ensures fresh { IfOk result (λ r. has_link before.now r.id ≡ false) }
     ensures row { Gives (λ r. r) result (link_at version fields.now.at ports.now before.now (table_view fields.now.table.now)) }
@@ -148,11 +148,11 @@ pub(crate) fn read_links(
     version: u64,
     ports: &[PortRow],
     tables: &[&Table],
-) -> Result<Links, TableFault>
+) -> Result<LinkMap, TableFault>
     ensures links { Gives (λ v. v) result (links_from version ports.now 0 [] (map (λ t. table_view t.now) tables.now)) }
     ensures memory { result ≡ Err Memory → 0 < length tables.now }
 {
-    let mut links = Links::new(alloc);
+    let mut links = LinkMap::new(alloc);
     for (index, table) in tables.iter().enumerate() {
         let fields = Fields {
             at: At::Link(index + 1),

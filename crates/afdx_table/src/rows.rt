@@ -3,8 +3,8 @@
 ghost use Rattle.std.specs.Prelude.{◌≡◌, ◌≤◌, ◌*◌, IfOk};
 ghost use Rattle.afdx_table.specs.Names.{speed_of, bag_of, priority_of, police_of};
 
-use crate::limits::{LATENCY_VERSION, NANOS_PER_MICROSECOND};
-use afdx_units::{Bag, Police, Priority, Speed};
+use crate::limits::LATENCY_VERSION;
+use afdx_units::{Bag, MICROSECOND, Police, Priority, Speed};
 use std::alloc::{AllocError, Global};
 use std::marker::Model;
 
@@ -86,7 +86,7 @@ pub(crate) fn nanos(micros: u64) -> u64
     requires { micros ≤ 500000 }
     ensures { result ≡ micros * 1000 }
 {
-    micros * NANOS_PER_MICROSECOND
+    micros * MICROSECOND
 }
 
 /// The speed of a line of so many Mbit/s, which a table of this version may have.

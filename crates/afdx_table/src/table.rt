@@ -12,7 +12,7 @@ ghost use Rattle.afdx_table.specs.WellFormed.{IsPort, IsLink, IsWellFormed};
 ghost use Rattle.afdx_table.specs.declared.fault.TableFault.TheVariants.{Memory};
 
 use crate::fault::TableFault;
-use crate::link_map::Links;
+use crate::link_map::LinkMap;
 use crate::links::read_links;
 use crate::ports::{port_of, read_ports};
 use crate::rows::{LinkRow, PortRow};
@@ -29,7 +29,7 @@ pub struct Table {
     constant: [u8; 4],
     latency: u64,
     ports: Vec<PortRow>,
-    links: Links,
+    links: LinkMap,
 }
 
 impl Model for Table {

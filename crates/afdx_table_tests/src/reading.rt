@@ -37,7 +37,7 @@ fn is_worked_link(row: &LinkRow, link: &WorkedLink) -> bool {
         && row.police == Police::Byte
 }
 
-/// Whether a worked table's link is found by its number, and stands at this place.
+/// Whether a worked table's link is found by its number, and is at this place.
 fn has_worked_link(table: &Table, place: usize, link: &WorkedLink) -> bool {
     let Some(row) = table.link(link.0) else {
         return false;

@@ -406,7 +406,7 @@ pub(crate) const POLICED: &[Row] = &[
     ),
 ];
 
-/// Texts with empty rows: what stands before them, how many ports and links they have, and what stands behind.
+/// Texts with empty rows: what comes before them, how many ports and links they have, and what comes behind.
 pub(crate) const TOO_MANY: &[(&str, usize, usize, &str, TableFault)] = &[
     ("", 25, 0, "", TableFault::TooMany(Key::Port)),
     ("", 0, 4097, "", TableFault::TooMany(Key::Link)),

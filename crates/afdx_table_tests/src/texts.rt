@@ -174,7 +174,7 @@ pub(crate) const POLICE: &[(&str, &str, &str, Police)] = &[
     (SINGLE, "", "", Police::Byte),
 ];
 
-/// What stands before the table with one link, and the latency then.
+/// What comes before the table with one link, and the latency then.
 pub(crate) const HEADS: &[(&str, u64)] = &[
     ("", 0),
     ("version = 2\n", 0),

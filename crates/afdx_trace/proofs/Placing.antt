@@ -9,7 +9,7 @@ use Rattle.afdx_table.specs.declared.rows.PortRow.{PortRow}
 use Rattle.afdx_table.specs.Link.{Link}
 use Rattle.afdx_table.specs.Content.{Content, link_row}
 use Rattle.afdx_table.specs.WellFormed.{IsLink}
-use Rattle.afdx_table.specs.Inner.Found.{LinksAreFound, LinksStandAtTheirPlaces}
+use Rattle.afdx_table.specs.Inner.Found.{LinksAreFound, LinksAreAtTheirPlaces}
 use Rattle.afdx_filter.specs.declared.outcome.Verdict.{Verdict}
 use Rattle.afdx_filter.specs.declared.outcome.Verdict.TheVariants.{Cut, Short, Long, Foreign, NoLink, WrongPort, TooBig, Clean}
 use Rattle.afdx_filter.specs.Place.{place_named}
@@ -29,35 +29,35 @@ pub record IsAt (t : Content) (v : Verdict) (place : ℕ) (l : Link) : Type 0 wh
   pub names : named t v ≡ Some l
   pub clean : v ≡ Clean l.id
 
-pub is_at : (t : Content) (v : Verdict) (place : ℕ) (r : Option (Bor Link)) (b : Bor Link) → LinksStandAtTheirPlaces → LinksAreFound → place_named t v ≡ Some place
+pub is_at : (t : Content) (v : Verdict) (place : ℕ) (r : Option (Bor Link)) (b : Bor Link) → LinksAreAtTheirPlaces → LinksAreFound → place_named t v ≡ Some place
     → option_copied r ≡ slice_get t.links place → r ≡ Some b → IsAt t v place b.now
-is_at t (Clean i) place r b stand found is copied some =
+is_at t (Clean i) place r b places found is copied some =
     let got : slice_get t.links place ≡ Some b.now = sym copied ∙ ap option_copied some in
-    let row : link_row t i ≡ Some b.now = sym (stand.at t i place is) ∙ got in
+    let row : link_row t i ≡ Some b.now = sym (places.at t i place is) ∙ got in
     record {
       within = (position-Some (λ (l : Link). l.id == i) t.links place b.now is).0;
       at = get_or_from_slice_get t.links place b.now b.now got;
       names = row;
       clean = ap Clean (sym (found.is_row t i b.now row).0);
     }
-is_at t Cut place r b stand found is copied some = (cc)
-is_at t Short place r b stand found is copied some = (cc)
-is_at t Long place r b stand found is copied some = (cc)
-is_at t Foreign place r b stand found is copied some = (cc)
-is_at t NoLink place r b stand found is copied some = (cc)
-is_at t WrongPort place r b stand found is copied some = (cc)
-is_at t TooBig place r b stand found is copied some = (cc)
+is_at t Cut place r b places found is copied some = (cc)
+is_at t Short place r b places found is copied some = (cc)
+is_at t Long place r b places found is copied some = (cc)
+is_at t Foreign place r b places found is copied some = (cc)
+is_at t NoLink place r b places found is copied some = (cc)
+is_at t WrongPort place r b places found is copied some = (cc)
+is_at t TooBig place r b places found is copied some = (cc)
 
 -- a verdict without a place names no link
-pub none_at : (t : Content) (v : Verdict) → LinksStandAtTheirPlaces → place_named t v ≡ None → named t v ≡ None
-none_at t (Clean i) stand is = stand.none t i is
-none_at t Cut stand is = refl
-none_at t Short stand is = refl
-none_at t Long stand is = refl
-none_at t Foreign stand is = refl
-none_at t NoLink stand is = refl
-none_at t WrongPort stand is = refl
-none_at t TooBig stand is = refl
+pub none_at : (t : Content) (v : Verdict) → LinksAreAtTheirPlaces → place_named t v ≡ None → named t v ≡ None
+none_at t (Clean i) places is = places.none t i is
+none_at t Cut places is = refl
+none_at t Short places is = refl
+none_at t Long places is = refl
+none_at t Foreign places is = refl
+none_at t NoLink places is = refl
+none_at t WrongPort places is = refl
+none_at t TooBig places is = refl
 
 -- ---- its account
 
@@ -75,7 +75,7 @@ is_credited ports r b a before latest m limits some same agrees =
 pub comes_early : (m l : Link) (a : Account) (before : List Row) (latest : ℕ) (row : Row) (early : ℕ) → AccountAgrees m a before latest → m ≡ l
     → IsEarlyBy (account_terms a) (account_since a) (account_level a (account_since a)) row.stamp row.size early
     → early ≡ early_by (terms_of l) (passed_frames (terms_of l) (account_frames l.id before)) (frame_of_row row)
-comes_early m l a before latest row early agrees same tells =
+comes_early m l a before latest row early agrees same says =
     let own = subst (λ (x : Link). AccountAgrees x a before latest) same agrees in
     let left = subst (λ (t : Terms). IsLevelAfter t (account_since a) (account_level a (account_since a)) (account_frames l.id before)) (sym own.terms) own.level in
-    tells (account_frames l.id before) left ∙ ap (λ (t : Terms). early_by t (passed_frames t (account_frames l.id before)) (frame_of_row row)) own.terms
+    says (account_frames l.id before) left ∙ ap (λ (t : Terms). early_by t (passed_frames t (account_frames l.id before)) (frame_of_row row)) own.terms

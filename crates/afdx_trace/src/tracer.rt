@@ -15,7 +15,7 @@ use afdx_core::laws::filtered_touch_no_account;
 use afdx_core::{Done, Row, accounts_of, police};
 use afdx_filter::Verdict;
 use afdx_table::Table;
-use afdx_table::laws::{links_are_found, links_stand_at_their_places};
+use afdx_table::laws::{links_are_at_their_places, links_are_found};
 use std::alloc::{AllocError, Allocator};
 
 fn verdict_word(verdict: Verdict) -> &'static str
@@ -58,7 +58,7 @@ fn offer<'t>(
     ensures policed { IfErr result (λ early. IsPoliced table.now before.now row.now early) }
     ensures agree { AccountsAgree table.now.links (before.now ++ row.now ∷ []) row.now.stamp accounts.new }
 {
-    links_stand_at_their_places();
+    links_are_at_their_places();
     links_are_found();
     let link = table.link_at(place).unwrap();
     let early = early_by(&accounts[place], row.stamp, row.size);
@@ -168,7 +168,7 @@ impl<A: Allocator + Copy> Tracer<A> {
         ensures taken { self.new.taken ≡ self.old.taken }
     {
         filtered_touch_no_account();
-        links_stand_at_their_places();
+        links_are_at_their_places();
         let table = done.table();
         let Some(place) = clean_place(table, row.verdict) else {
             return Ok((verdict_word(row.verdict), None, Vec::new(self.alloc)));

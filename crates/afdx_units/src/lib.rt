@@ -5,13 +5,15 @@
 
 mod bag;
 mod line;
+mod link;
 mod police;
 mod stamp;
 
 pub use bag::Bag;
 pub use line::{GREATEST_SIZE, LEAST_SIZE, Priority, Speed, cost, size};
+pub use link::{MAX_JITTER, MAX_LINK_ID};
 pub use police::Police;
-pub use stamp::Stamp;
+pub use stamp::{MICROSECOND, Stamp};
 
 #[cfg(test)]
 mod tests;

@@ -5,6 +5,9 @@ ghost use Rattle.afdx_units.specs.Time.{second, stamp_end, last_second, IsInstan
 
 use std::marker::Model;
 
+/// Nanoseconds of a microsecond.
+pub const MICROSECOND: u64 = 1000;
+
 const NANOS_PER_SECOND: u64 = 1_000_000_000;
 
 /// The first instant that 32 bits of seconds cannot hold, in nanoseconds.

@@ -14,7 +14,7 @@ use Rattle.afdx_load.specs.Load.{load_of}
 use Rattle.afdx_load.specs.Bounds.{bounds_of}
 use Rattle.afdx_series.specs.declared.delays.Delays.{Delays}
 use Rattle.afdx_series.specs.Delay.{hop_of, joined, least_jitter}
-use Rattle.afdx_wiring.specs.declared.exits.Exit.{Exit}
+use Rattle.afdx_wiring.specs.declared.exit.Exit.{Exit}
 use Rattle.afdx_wiring.specs.declared.layout.End.{End}
 use Rattle.afdx_wiring.specs.declared.layout.Wire.{Wire}
 use Rattle.afdx_wiring.specs.declared.ways.Way.{Way}

@@ -6,7 +6,7 @@ ghost use Rattle.afdx_wiring.specs.Net.{rows_in, rows_of};
 ghost use Rattle.afdx_wiring.specs.Order.{row_of, first_of, has_jitter, jitter_enough, way_within, shortage};
 ghost use Rattle.afdx_wiring.specs.Rules.{HasJitters};
 
-use crate::cleared::ClearedNetwork;
+use crate::cleared_network::ClearedNetwork;
 use crate::fault::{NetworkFault, Short};
 use crate::hops::Hops;
 use crate::joints::link_at;
@@ -14,10 +14,8 @@ use crate::row::Row;
 use crate::sources::MOST_ROWS;
 use afdx_series::{Delays, need};
 use afdx_table::Table;
+use afdx_units::MICROSECOND;
 use std::alloc::Global;
-
-/// Nanoseconds of a microsecond.
-const MICROSECOND: u64 = 1000;
 
 /// A row, after a way of these delays from a source of this jitter.
 fn has_jitter(row: Row<'_>, far: Option<(u64, Delays)>) -> Result<(), NetworkFault>

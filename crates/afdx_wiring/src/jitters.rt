@@ -14,13 +14,8 @@ use crate::row::Row;
 use crate::sources::MOST_ROWS;
 use afdx_series::{Delays, need};
 use afdx_table::Table;
+use afdx_units::{MAX_JITTER, MICROSECOND};
 use std::alloc::{AllocError, Global};
-
-/// Nanoseconds of a microsecond.
-const MICROSECOND: u64 = 1000;
-
-/// The greatest jitter of a table's row, in microseconds.
-const MAX_JITTER: u64 = 10_000;
 
 /// What a row needs to which no way within reason leads: a thousand seconds, in microseconds.
 const NO_WAY: u64 = 1_000_000_000;

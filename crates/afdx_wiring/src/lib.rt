@@ -7,8 +7,8 @@
 
 mod arrays;
 mod checking;
-mod cleared;
-mod exits;
+mod cleared_network;
+mod exit;
 mod fault;
 mod fields;
 mod fitting;
@@ -27,7 +27,7 @@ mod top;
 mod ways;
 mod wires;
 
-pub use cleared::ClearedNetwork;
+pub use cleared_network::ClearedNetwork;
 pub use fault::{At, Key, NetworkFault, Short};
 pub use jitters::{Needs, RowNeed};
 pub use layout::{End, Layout, Switch, Wire};

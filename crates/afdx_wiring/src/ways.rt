@@ -6,8 +6,8 @@ ghost use Rattle.afdx_wiring.specs.Net.{Row as SeenRow, Back};
 ghost use Rattle.afdx_wiring.specs.Order.{row_of};
 ghost use Rattle.afdx_wiring.specs.Ways.{IsWayOver, IsWayAlong, IsWayOut, AreWaysOf};
 
-use crate::cleared::ClearedNetwork;
-use crate::exits::Exit;
+use crate::cleared_network::ClearedNetwork;
+use crate::exit::Exit;
 use crate::fault::NetworkFault;
 use crate::hops::Hops;
 use crate::layout::{End, Wire};

@@ -1,4 +1,4 @@
--- The proofs that the accounts give to the laws of the trait; they stand here because an impl can cite nothing else of its crate.
+-- The proofs that the accounts give to the laws of the trait; they are here because an impl can cite nothing else of its crate.
 use Rattle.std.proofs.Common.{◌≡◌, ℕ, ◌+◌, ◌*◌, ◌/◌, ◌-◌, ◌≤◌, min, arith, ap, refl, ◌∙◌}
 use Rattle.std.proofs.Math.Nat.{mul-le-mul_left}
 use Rattle.afdx_units.specs.declared.bag.Bag.{Bag}

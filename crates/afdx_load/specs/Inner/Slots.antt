@@ -8,7 +8,7 @@ use Rattle.afdx_table.specs.declared.rows.PortRow.{PortRow}
 use Rattle.afdx_load.specs.Load.{Load, asked_of}
 use Rattle.afdx_load.specs.Inner.Adding.{with_link}
 
--- each is a place, and stands once
+-- each is a place, and is there once
 abbrev pub are_slots : List ℕ → Bool
 are_slots [] = true
 are_slots (n ∷ ns) = nat_lt n 25 && not (list_any (λ m. m == n) ns) && are_slots ns
@@ -16,11 +16,11 @@ are_slots (n ∷ ns) = nat_lt n 25 && not (list_any (λ m. m == n) ns) && are_sl
 abbrev pub speed_at : List Speed → ℕ → Speed
 speed_at speeds port = slice_index_or speeds port Ten
 
--- each port's speed stands in the place of its number
+-- each port's speed is in the place of its number
 abbrev pub HasSpeeds : List Speed → List PortRow → Type 0
 HasSpeeds speeds ports = All (λ row. (row.id < 25) × (speed_at speeds row.id ≡ row.speed)) ports
 
--- each port's load, as the check and `Loads` have it, stands in the place of its number
+-- each port's load, as the check and `Loads` have it, is in the place of its number
 abbrev pub AreLoads : List Link → List PortRow → List Load → Type 0
 AreLoads links ports loads = All (λ row. (row.id < 25) × ((d : Load) → slice_index_or loads row.id d ≡ asked_of row.speed row.id links)) ports
 

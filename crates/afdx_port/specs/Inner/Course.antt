@@ -40,7 +40,7 @@ abbrev pub LineGoesOn : Type 0
 LineGoesOn = (s : Settings) (t u : ℕ) (items : List Item) → t ≤ u → HaveCome s t items
     → line_at s u items ≡ reached u (rest_in_line s u (line_at s t items).free (line_at s t items).waiting)
 
--- an arrival stands behind those of its priority
+-- an arrival is behind those of its priority
 abbrev pub ArrivalJoinsTheLine : Type 0
 ArrivalJoinsTheLine = (s : Settings) (t : ℕ) (items : List Item) (x : Item) → t ≤ came s x
     → line_at s t (items ++ x ∷ []) ≡ record { free = (line_at s t items).free; waiting = line_up ((line_at s t items).waiting ++ x ∷ []) }

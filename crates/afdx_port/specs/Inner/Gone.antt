@@ -1,4 +1,4 @@
--- What has gone from a port's buffer, reported by what was sent and discarded in the end (profile).
+-- What has gone from a port's buffer, from what was sent and discarded in the end (profile).
 use Rattle.std.specs.Prelude.{ℕ, ◌+◌, ◌≤◌, ◌≡◌, nat_lt, nat_le, List, ◌∷◌, ◌++◌, filter, sum_by, AllPairs}
 use Rattle.afdx_port.specs.declared.Settings.{Settings}
 use Rattle.afdx_port.specs.declared.Item.{Item}

@@ -14,7 +14,7 @@ use Rattle.afdx_session.specs.Texts.{Text, AreOfPorts}
 use Rattle.afdx_session.specs.Output.{rows_of, written, output_text}
 use Rattle.afdx_session.specs.Reading.{AreCaptures}
 use Rattle.afdx_session.specs.Inner.Files.{HavePrefixes}
-use Rattle.afdx_session.specs.Replay.{HasBytesOf, left_at}
+use Rattle.afdx_session.specs.Inner.Replay.{HasBytesOf, left_at}
 
 -- a finished switch, the counts of the run, and by rising port how many bytes of its output went before, and those that there are
 pub record Rest : Type 0 where

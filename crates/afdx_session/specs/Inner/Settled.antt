@@ -8,7 +8,7 @@ use Rattle.afdx_table.specs.declared.rows.PortRow.{PortRow}
 use Rattle.afdx_table.specs.Content.{Content}
 use Rattle.afdx_core.specs.State.{State, sent_in}
 use Rattle.afdx_session.specs.Output.{rows_of, written}
-use Rattle.afdx_session.specs.Replay.{HasBytesOf, left_at, IsDrained}
+use Rattle.afdx_session.specs.Inner.Replay.{HasBytesOf, left_at, IsDrained}
 use Rattle.afdx_session.specs.Streams.{Stream, captures_of, last_of, merged_so_far, frontier, output_so_far, GoesOn}
 
 -- numbers rise

@@ -1,4 +1,4 @@
--- A table holds what its text says: each number, word and list is reported by the value under its key.
+-- A table holds what its text says: each number, word and list is what the value under its key says.
 use Rattle.std.specs.Prelude.{◌≡◌, ◌⊎◌, ℕ, pos, true, Bool, ◌*◌, ◌≤◌, List, [], ◌∷◌, Some, None, Ok}
 use Rattle.std.specs.List.{AllZip, count_by}
 use Rattle.hex.specs.Hex.{decode_sized}
@@ -20,7 +20,7 @@ use Rattle.afdx_table.specs.Ports.{port_keys}
 use Rattle.afdx_table.specs.Links.{link_keys}
 use Rattle.afdx_table.specs.Text.{tree_of, table_of}
 
--- ---- what stands under a key
+-- ---- what is under a key
 
 abbrev pub Has : Members → Key → Data → Type 0
 Has ms k d = get_member (key_text k) ms ≡ Some d

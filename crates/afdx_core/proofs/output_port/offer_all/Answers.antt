@@ -1,5 +1,5 @@
-use Rattle.std.proofs.Common.{◌<◌, ◌≤◌, ℕ, ◌+◌, ◌∷◌, [], ◌++◌, length, map, take, get_or, ap, sym, ◌∙◌, append_assoc, append-nil, arith, refl, subst}
-use Rattle.std.proofs.lemmas.List.{map_more}
+use Rattle.std.proofs.Common.{◌<◌, ◌≤◌, ℕ, ◌+◌, ◌∷◌, [], ◌++◌, length, take, get_or, ap, sym, ◌∙◌, arith, refl, subst}
+use Rattle.std.proofs.lemmas.List.{map_more, length-map, length-take-le}
 use Rattle.afdx_port.specs.declared.Offer.{Offer}
 use Rattle.afdx_port.specs.declared.Offer.TheVariants.{Full, Queued}
 use Rattle.afdx_core.specs.Inner.OutputPorts.{answer_at, queued_by}
@@ -11,8 +11,7 @@ pub loop-port-init : goal.loop-port-init
 loop-port-init g c = record {
   became = touched_none c.args.item.now c.args.output_ports.now;
   later = λ k d off. refl;
-  room = omega (arith, c.requires.room);
-  listed = sym (append-nil c.args.answers.now.items);
+  listed = c.requires.none;
   copies = adds_none c.args.item.now.number c.args.output_ports.now;
   few = omega arith;
   dues = c.requires.dues;
@@ -38,6 +37,14 @@ offer_to-answer-requires-clause-places g c = places_touched c.args.item.now (tak
 pub returns-clause-dues : goal.returns-clause-dues
 returns-clause-dues g c = c.loop-port.invariant.dues
 
+pub push-requires : goal.push-requires
+push-requires g c =
+    let to = c.args.to.now in
+    let k = c.loop-port.port-index in
+    let answer : ℕ → ℕ × Offer = λ p. (p, answer_at c.args.item.now c.args.output_ports.now p) in
+    let listed = ap length c.loop-port.invariant.listed in
+    omega (arith, listed, length-map (take k to) answer, length-take-le k to (omega (arith, c.loop-port-test.true)), c.loop-port-test.true, c.requires.few)
+
 at_most_one : (a : Offer) → queued_by a ≤ 1
 at_most_one Queued = omega arith
 at_most_one Full = omega arith
@@ -59,12 +66,10 @@ loop-port-preserved g c =
     record {
       became = became_next item to k old mid new lt c.requires.distinct c.loop-port.invariant.became c.offer_to-answer.ensures.output_ports;
       later = later_next to k old mid new lt c.loop-port.invariant.later c.offer_to-answer.ensures.others;
-      room = omega (arith, c.loop-port.invariant.room, c.push_reserved.ensures.len, c.push_reserved.ensures.capacity, lt);
-      listed = c.push_reserved.ensures.items
+      listed = c.push.ensures.items
           ∙ ap (λ (o : Offer). answers ++ (port, o) ∷ []) same
           ∙ ap (λ xs. xs ++ answer port ∷ []) c.loop-port.invariant.listed
-          ∙ append_assoc c.args.answers.now.items (map answer (take k to)) (answer port ∷ [])
-          ∙ ap (λ ys. c.args.answers.now.items ++ ys) (sym (map_more answer to k 0 lt));
+          ∙ sym (map_more answer to k 0 lt);
       copies = subst (λ n. AddsCopies item.number (c.loop-port.queued + n) old new) (sym c.copies_by-queued.ensures)
           (adds_next item.number c.loop-port.queued c.offer_to-answer.result old mid new c.loop-port.invariant.copies c.offer_to-answer.ensures.copies);
       few = omega (arith, c.loop-port.invariant.few, one, c.copies_by-queued.ensures);

@@ -1,5 +1,4 @@
-use Rattle.std.proofs.Common.{◌≡◌, ℕ, ◌+◌, ◌-◌, ◌≤◌, ◌++◌, length, map, vec_len, take}
-use Rattle.std.specs.Vec.{vec_capacity}
+use Rattle.std.proofs.Common.{◌≡◌, ℕ, ◌≤◌, map, take}
 use Rattle.afdx_core.specs.Inner.OutputPorts.{dues_of, Became, touched, answer_at}
 use Rattle.afdx_core.specs.Inner.Copies.{AddsCopies}
 use Rattle.afdx_core.proofs.Offers.{Later}
@@ -9,8 +8,7 @@ abbrev pub invariant-loop-port : goal.invariant-loop-port
 invariant-loop-port g l = record {
   became : Became (touched l.item (take l.port-index l.to)) l.initial.output_ports l.output_ports;
   later : Later (take l.port-index l.to) l.initial.output_ports l.output_ports;
-  room : vec_len l.answers + (length l.to - l.port-index) ≤ vec_capacity l.answers;
-  listed : l.answers.items ≡ l.initial.answers.items ++ map (λ (port : ℕ). (port, answer_at l.item l.initial.output_ports port)) (take l.port-index l.to);
+  listed : l.answers.items ≡ map (λ (port : ℕ). (port, answer_at l.item l.initial.output_ports port)) (take l.port-index l.to);
   copies : AddsCopies l.item.number l.queued l.initial.output_ports l.output_ports;
   few : l.queued ≤ l.port-index;
   dues : l.dues ≡ dues_of l.output_ports;

@@ -15,9 +15,9 @@ returns-in_err-check_texts-clause-err c =
     let why = c.in_err-check_texts.field-0.0 in
     let there = texts_there given c.loop-switch.switch own c.loop-switch-test.true c.index-given-switch.is in
     let broken = subst (λ texts. IsTextFault c.loop-switch.switch (texts_of texts) why) c.deref.ensures.value c.in_err-check_texts.ensures.err in
-    let stands : IsGivenFault (given_of given) why = given_fault (given_of given) c.loop-switch.switch (texts_of own.items) why there c.loop-switch.invariant broken in
+    let is_given : IsGivenFault (given_of given) why = given_fault (given_of given) c.loop-switch.switch (texts_of own.items) why there c.loop-switch.invariant broken in
     let p = err_from_is_err_and c.from_residual.result c.from_residual.ensures.1 in
-    rw (p.1, p.2) stands
+    rw (p.1, p.2) is_given
 
 pub loop-switch-preserved : goal.loop-switch-preserved
 loop-switch-preserved c =

@@ -3,8 +3,8 @@ use Rattle.afdx_serve.proofs.Errors.{of_error}
 use Rattle.afdx_serve.proofs.RunLemmas.{traced}
 use Rattle.afdx_serve.proofs.trace.traced.Goals as goal
 
-pub tell-requires : goal.tell-requires
-tell-requires g c = rw c.deref.ensures.value c.in_ok-plan.ensures.got.0.has_captures.0
+pub of_captures-requires : goal.of_captures-requires
+of_captures-requires g c = rw c.deref.ensures.value c.in_ok-plan.ensures.got.0.has_captures.0
 
 pub returns-in_err-plan-clause-led : goal.returns-in_err-plan-clause-led
 returns-in_err-plan-clause-led g c =
@@ -14,5 +14,5 @@ returns-in_err-plan-clause-led g c =
 pub returns-clause-led : goal.returns-clause-led
 returns-clause-led g c =
     let of = rw c.inputs_of.ensures at c.in_ok-plan.ensures.got in
-    let reported = rw c.deref.ensures.value at c.tell.ensures in
-    traced c.args.paths.now (g.F.Folder.files c.args.folder.now) c.in_ok-plan.plan (texts_of c.in_ok-plan.captures.items) _ _ of.0 of.1 c.tell.result reported
+    let reported = rw c.deref.ensures.value at c.of_captures.ensures in
+    traced c.args.paths.now (g.F.Folder.files c.args.folder.now) c.in_ok-plan.plan (texts_of c.in_ok-plan.captures.items) _ _ of.0 of.1 c.of_captures.result reported

@@ -1,7 +1,7 @@
 use Rattle.std.proofs.Common.{◌≡◌, ℕ, List, Some, length}
 use Rattle.afdx_core.specs.Merge.{Arrival}
 use Rattle.afdx_core.specs.State.{place_of}
-use Rattle.afdx_session.specs.Replay.{HasBytesOf, IsDrained, left_at}
+use Rattle.afdx_session.specs.Inner.Replay.{HasBytesOf, IsDrained, left_at}
 use Rattle.afdx_session.specs.Inner.Settled.{Draws}
 use Rattle.afdx_session.proofs.rest.drain_rest.Given as goal
 

@@ -9,7 +9,7 @@ use Rattle.afdx_trace.proofs.tracer.offer.Goals.{After-unwrap-link, After-police
 -- the link at the place
 at : (c : After-unwrap-link) → IsAt c.args.table.now c.args.row.now.verdict c.args.place c.unwrap-link.result.now
 at c =
-    is_at c.args.table.now c.args.row.now.verdict c.args.place c.link_at.result c.unwrap-link.result c.links_stand_at_their_places.ensures c.links_are_found.ensures
+    is_at c.args.table.now c.args.row.now.verdict c.args.place c.link_at.result c.unwrap-link.result c.links_are_at_their_places.ensures c.links_are_found.ensures
     c.requires.place c.link_at.ensures.link c.unwrap-link.ensures
 
 -- what the link's account answers, and that the accounts agree with the frame

@@ -14,7 +14,7 @@ returns-in_default-clause-agree g c =
     let row = c.args.row.now in
     let none : place_named t row.verdict ≡ None = ap (λ (table : Content). place_named table row.verdict) (sym c.table-table.ensures) ∙ sym c.in_default.ensures in
     c.filtered_touch_no_account.ensures t c.args.before.now row.stamp row c.args.self.now.accounts.items
-    (none_at t row.verdict c.links_stand_at_their_places.ensures none) (omega arith) c.requires.agree
+    (none_at t row.verdict c.links_are_at_their_places.ensures none) (omega arith) c.requires.agree
 
 pub returns-in_ok-full-in-Ok-clause-fields : goal.returns-in_ok-full-in-Ok-clause-fields
 returns-in_ok-full-in-Ok-clause-fields g c =

@@ -1,0 +1,190 @@
+//! The counters of links.
+
+ghost use Rattle.std.specs.Prelude.{◌≡◌, ◌==◌, ◌<◌, nat_eq, [], ◌∷◌, ◌++◌, false, length, map, IsTrue, IfSome, IfOk, IfNone, OnOk, find, slice_get, option_map};
+ghost use Rattle.std.specs.List.{list_any, IsDistinct};
+ghost use Rattle.afdx_count.specs.Tally.{new_link, one_passed, one_policed, link_in, noted_link, class_of};
+ghost use Rattle.afdx_count.specs.Inner.Places.{IsPlaceOf, changed_at};
+
+use crate::counters::{LinkCount, up};
+use afdx_core::Fate;
+use afdx_numbers::Numbers;
+use afdx_table::{LinkRow, Table};
+use afdx_units::Priority;
+use std::alloc::{AllocError, Allocator};
+use std::marker::Model;
+
+/// The counters of a link.
+#[derive(Clone, Copy, Debug, PartialEq, Eq)]
+pub(crate) struct LinkTally {
+    pub(crate) id: u16,
+    pub(crate) priority: Priority,
+    pub(crate) count: LinkCount,
+}
+
+impl LinkTally {
+    fn new(row: &LinkRow) -> LinkTally
+        ensures { result ≡ new_link row.now }
+    {
+        LinkTally {
+            id: row.id,
+            priority: row.priority,
+            count: LinkCount::default(),
+        }
+    }
+
+    fn with_passed(self) -> LinkTally
+        ensures { result ≡ one_passed self }
+    {
+        let mut tally = self;
+        tally.count.passed = up(tally.count.passed);
+        tally
+    }
+
+    fn with_policed(self) -> LinkTally
+        ensures { result ≡ one_policed self }
+    {
+        let mut tally = self;
+        tally.count.policed = up(tally.count.policed);
+        tally
+    }
+}
+
+/// The counters of links of different numbers. Contracts see their list in order.
+#[derive(Drop)]
+pub(crate) struct Links<A: Allocator> {
+    numbers: Numbers<A>,
+    tallies: Vec<LinkTally, A>,
+}
+
+impl<A: Allocator> Model for Links<A> {
+    ghost use Rattle.std.specs.Prelude.{◌≡◌, nat_eq, List, map};
+    ghost use Rattle.std.specs.List.{IsDistinct};
+    ghost use Rattle.afdx_count.specs.declared.links.LinkTally.{LinkTally as Seen};
+
+    ghost Value = { List Seen };
+
+    ghost view = { λ l. l.tallies.items };
+
+    ghost invariant = { λ l. (l.numbers ≡ map (λ t. t.id) l.tallies.items) × IsDistinct nat_eq (map (λ t. t.id) l.tallies.items) };
+}
+
+impl<A: Allocator + Copy> Links<A> {
+    fn empty(alloc: A) -> Self
+        ensures { result ≡ [] }
+    {
+        Links {
+            numbers: Numbers::new(alloc),
+            tallies: Vec::new(alloc),
+        }
+    }
+
+    /// Adds the counters of a link of a new number at the end.
+    fn push(&mut self, tally: LinkTally) -> Result<(), AllocError>
+        requires { list_any (λ l. tally.id == l.id) self.old ≡ false }
+        ensures { OnOk result (self.new ≡ self.old ++ tally ∷ []) }
+    {
+        self.tallies.reserve(1)?;
+        self.numbers.push(tally.id)?;
+        self.tallies.push_reserved(tally);
+        Ok(())
+    }
+
+    /// The counters of a table's links, in the file's order.
+    pub(crate) fn new(alloc: A, table: &Table) -> Result<Self, AllocError>
+        ensures { IfOk result (λ links. links ≡ map new_link table.now.links) }
+    {
+        let mut links = Links::empty(alloc);
+        for index in 0..table.link_count() {
+            links.push(LinkTally::new(table.link_at(index).unwrap()))?;
+        }
+        Ok(links)
+    }
+
+    pub(crate) fn as_slice(&self) -> &[LinkTally]
+        ensures { result.now ≡ self.now }
+    {
+        self.tallies.as_slice()
+    }
+
+    /// The place of the link of a number, from 0.
+    fn place(&self, id: u16) -> Option<usize>
+        ensures at { IfSome result (IsPlaceOf (λ l. l.id) id self.now) }
+        ensures absent { IfNone result (list_any (λ l. id == l.id) self.now ≡ false) }
+        ensures within { IfSome result (λ place. place < length self.now) }
+        ensures distinct { IsDistinct nat_eq (map (λ l. l.id) self.now) }
+    {
+        self.numbers.place(id)
+    }
+
+    /// Whether the link at a place has the number.
+    fn has_number_at(&self, place: usize, id: u16) -> bool
+        ensures at { IsTrue result → IsPlaceOf (λ l. l.id) id self.now place }
+        ensures distinct { IsDistinct nat_eq (map (λ l. l.id) self.now) }
+    {
+        place < self.tallies.len() && self.tallies[place].id == id
+    }
+
+    /// The place of the link of a number: the one that is given, where that link has the number, and else the one that
+    /// is found.
+    fn place_reported(&self, id: u16, reported: Option<usize>) -> Option<usize>
+        ensures at { IfSome result (IsPlaceOf (λ l. l.id) id self.now) }
+        ensures absent { IfNone result (list_any (λ l. id == l.id) self.now ≡ false) }
+        ensures within { IfSome result (λ place. place < length self.now) }
+        ensures distinct { IsDistinct nat_eq (map (λ l. l.id) self.now) }
+    {
+        match reported {
+            Some(place) if self.has_number_at(place, id) => reported,
+            _ => self.place(id),
+        }
+    }
+
+    /// The counters of the link of a number.
+    pub(crate) fn get(&self, id: u16) -> Option<LinkTally>
+        ensures { result ≡ link_in id self.now }
+    {
+        match self.place(id) {
+            Some(place) => Some(self.tallies[place]),
+            None => None,
+        }
+    }
+
+    /// Counts a passed frame at the link of a number, which may be at the place that is given, and gives the priority
+    /// of its copies.
+    fn note_passed(&mut self, id: u16, reported: Option<usize>) -> Option<Priority>
+        ensures links { self.new ≡ changed_at (λ l. l.id) id one_passed self.old }
+        ensures class { result ≡ option_map (λ l. l.priority) (link_in id self.old) }
+    {
+        match self.place_reported(id, reported) {
+            Some(place) => {
+                let tally = self.tallies[place];
+                self.tallies[place] = tally.with_passed();
+                Some(tally.priority)
+            }
+            None => None,
+        }
+    }
+
+    fn note_policed(&mut self, id: u16, reported: Option<usize>)
+        ensures { self.new ≡ changed_at (λ l. l.id) id one_policed self.old }
+    {
+        if let Some(place) = self.place_reported(id, reported) {
+            self.tallies[place] = self.tallies[place].with_policed();
+        }
+    }
+
+    /// Counts an arrival at its link, which may be at the place that is given, and gives the priority of the copies of a
+    /// passed frame.
+    pub(crate) fn note(&mut self, fate: Fate, reported: Option<usize>) -> Option<Priority>
+        ensures links { self.new ≡ map (noted_link fate) self.old }
+        ensures class { result ≡ class_of fate self.old }
+    {
+        match fate {
+            Fate::Passed(id) => self.note_passed(id, reported),
+            Fate::Policed(id) => {
+                self.note_policed(id, reported);
+                None
+            }
+            Fate::Filtered(_) => None,
+        }
+    }
+}
