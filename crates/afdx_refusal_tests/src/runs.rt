@@ -274,7 +274,7 @@ fn hundred_frames_at_three_ports(rt: HostRuntime) -> Result<(), Fail> {
         left: &whole.left,
         report: &whole.report,
     };
-    refuse(&rt, alloc, "run of a hundred frames", &calls, 100)?;
+    refuse(&rt, alloc, "run of a hundred frames", &calls, 60)?;
     let into_files = IntoFiles { running: calls };
-    refuse(&rt, alloc, "the same into files", &into_files, 100)
+    refuse(&rt, alloc, "the same into files", &into_files, 60)
 }
