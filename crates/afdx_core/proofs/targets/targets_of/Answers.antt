@@ -21,7 +21,7 @@ loop-place-preserved g c =
     let link = c.unwrap-link.result.now in
     let at = link_is links place c.link_at.result c.unwrap-link.result link c.link_at.ensures.link c.unwrap-link.ensures lt in
     let to : c.ports_of.result.items ≡ (get_or links place link).to =
-        c.ports_of.ensures ∙ c.deref.ensures.value ∙ ap (λ (m : Link). m.to) c.link.view_is ∙ ap (λ (m : Link). m.to) at in
+    c.ports_of.ensures ∙ c.deref.ensures.value ∙ ap (λ (m : Link). m.to) c.link.view_is ∙ ap (λ (m : Link). m.to) at in
     record {
       listed = ap (map items) c.in_ok-push.ensures.items
           ∙ map-append items targets (c.ports_of.result ∷ [])
