@@ -93,6 +93,7 @@ impl OutCount {
     pub(crate) fn note(&mut self, offer: Offer)
         ensures { self.new ≡ with_answers (offer ∷ []) self.old }
     {
+        // Read at either answer: that a number behind a reference is in its range is known once it is read.
         let full = self.full;
         self.offered = up(self.offered);
         match offer {

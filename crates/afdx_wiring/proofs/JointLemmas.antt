@@ -1,5 +1,5 @@
 -- Wires whose ends agree, and the rows behind them.
-use Rattle.std.proofs.Common.{◌≡◌, ◌==◌, ◌&&◌, Bool, true, false, List, [], ◌∷◌, filter, cond, slice_get, Option, Some, None, option_map, option_and_then, Ok, Err, not, refl, ap, sym, ◌∙◌}
+use Rattle.std.proofs.Common.{◌≡◌, ◌==◌, Bool, true, false, List, [], ◌∷◌, filter, cond, slice_get, Option, Some, None, option_map, option_and_then, Ok, Err, not, refl, ap, sym, ◌∙◌}
 use Rattle.std.proofs.Common.{arith, subst}
 use Rattle.std.specs.Prelude.{Contains}
 use Rattle.std.specs.List.{AllByRecursion}
