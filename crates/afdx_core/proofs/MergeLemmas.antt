@@ -112,10 +112,6 @@ by_stamp_part port (a ∷ arrivals) rises = by_head (a.port == port) refl (by_st
 
 -- ---- all records
 
-part-append : (port : ℕ) (xs ys : List Arrival) → part_at port (xs ++ ys) ≡ part_at port xs ++ part_at port ys
-part-append port xs ys = ap (map (λ (a : Arrival). a.frame)) (filter-append (λ (a : Arrival). a.port == port) xs ys)
-    ∙ map-append (λ (a : Arrival). a.frame) (filter (λ (a : Arrival). a.port == port) xs) (filter (λ (a : Arrival). a.port == port) ys)
-
 part_of_capture : (port number : ℕ) (b : Bool) (records : List Record) → (number == port) ≡ b → part_at port (map {B = Arrival} (λ (r : Record). record { port = number; frame = r }) records)
     ≡ cond b records []
 part_of_capture port number true [] is = refl
@@ -126,9 +122,12 @@ part_of_capture port number false (r ∷ records) is = rw is (part_of_capture po
 part_of_all : (port : ℕ) (captures : List Capture) → part_at port (arrivals_of captures) ≡ records_of captures port
 part_of_all port [] = refl
 part_of_all port (c ∷ captures) =
-    part-append port (map {B = Arrival} (λ (r : Record). record { port = c.port; frame = r }) c.records) (arrivals_of captures)
+    ap (map (λ (a : Arrival). a.frame)) (filter-append (λ (a : Arrival). a.port == port) own (arrivals_of captures))
+    ∙ map-append (λ (a : Arrival). a.frame) (filter (λ (a : Arrival). a.port == port) own) (filter (λ (a : Arrival). a.port == port) (arrivals_of captures))
     ∙ ap (λ rs. rs ++ part_at port (arrivals_of captures)) (part_of_capture port c.port (c.port == port) c.records refl)
-    ∙ ap (λ rs. cond (c.port == port) c.records [] ++ rs) (part_of_all port captures)
+    ∙ ap (λ rs. cond (c.port == port) c.records [] ++ rs) (part_of_all port captures) where
+      own : List Arrival
+      own = map (λ (r : Record). record { port = c.port; frame = r }) c.records
 
 pub merged_is_a_merge : (captures : List Capture) → ((port : ℕ) → Rises (records_of captures port)) → IsMerge captures (merged captures)
 merged_is_a_merge captures rises = record {

@@ -20,6 +20,7 @@ use Rattle.afdx_port.specs.declared.Item.{Item}
 use Rattle.afdx_port.specs.declared.Offer.{Offer}
 use Rattle.afdx_port.specs.declared.Offer.TheVariants.{Queued, Full}
 use Rattle.afdx_port.specs.Admission.{admit, admitted, fits}
+use Rattle.afdx_port.specs.Inner.Admission.{AdmittedInParts}
 use Rattle.afdx_isolation.specs.Table.{settings_of}
 use Rattle.afdx_core.specs.declared.step.Row.{Row}
 use Rattle.afdx_core.specs.declared.step.CoreFault.{CoreFault}
@@ -30,7 +31,7 @@ use Rattle.afdx_core.specs.Held.{IsTaken, IsRefused, IsNext, IsAppended}
 use Rattle.afdx_core.specs.State.{Run, State, fresh_run, aged_in, answer_of, offers_by, refusal_of, after_row, after_advance, after_finish}
 use Rattle.afdx_core.specs.Isolation.{IsOfAnArrival, IsRun, AcceptedTablesIsolate, RunsTakeArrivals, NoStepIsFull}
 use Rattle.afdx_core.proofs.Lists.{length_more}
-use Rattle.afdx_core.proofs.Feeds.{feed-push, admit_all-push, passed_copies}
+use Rattle.afdx_core.proofs.Feeds.{feed-push, passed_copies}
 use Rattle.afdx_core.proofs.Isolating.{named_by}
 
 -- ---- stamps that do not fall
@@ -109,8 +110,8 @@ fits_where s a x is = by (fits s a x) is where
   by true is = refl
   by false is = absurd (longer (length (a ++ x ∷ [])) (length a) (length_more a x) (ap length is))
 
-module _ (links : LinksAreFound) (isolate : AcceptedTablesIsolate) (r : Run) (port : ℕ) (frame : Record) (run : IsRun r) (taken : refusal_of r port frame.stamp ≡ None) (well : IsWellFormed r.table)
-    (accepted : IsAccepted r.table) where
+module _ (in_parts : AdmittedInParts) (links : LinksAreFound) (isolate : AcceptedTablesIsolate) (r : Run) (port : ℕ) (frame : Record) (run : IsRun r) (taken : refusal_of r port frame.stamp ≡ None)
+    (well : IsWellFormed r.table) (accepted : IsAccepted r.table) where
   abbrev row : Row
   row = row_of r.table port frame
 
@@ -125,7 +126,7 @@ module _ (links : LinksAreFound) (isolate : AcceptedTablesIsolate) (r : Run) (po
       let after = (isolate (after_row row r) (takes r port frame taken run) well accepted).none_full p at.1 in
       let more = feed-push r.table p.id r.rows row ∙ ap (λ ys. feed_of r.table p.id r.rows ++ ys) (passed_copies r.table p.id r.rows row l true is pass (ap (λ n. leads_to n l) same ∙ leads)) in
       fits_where s (admitted s (feed_of r.table p.id r.rows)) x
-      (sym (admit_all-push s [] (feed_of r.table p.id r.rows) x) ∙ ap (admitted s) (sym more) ∙ after ∙ more ∙ ap (λ ys. ys ++ x ∷ []) (sym before))
+      (sym (in_parts s [] (feed_of r.table p.id r.rows) (x ∷ [])) ∙ ap (admitted s) (sym more) ∙ after ∙ more ∙ ap (λ ys. ys ++ x ∷ []) (sym before))
 
   all_queued : (o : Option Link) → named r.table row.verdict ≡ o → All (λ (offer : ℕ × Offer). offer.1 ≡ Queued) (offers_by r o row)
   all_queued None is = All-nil (λ (offer : ℕ × Offer). offer.1 ≡ Queued)
@@ -141,8 +142,8 @@ module _ (links : LinksAreFound) (isolate : AcceptedTablesIsolate) (r : Run) (po
         All-map (λ (offer : ℕ × Offer). offer.1 ≡ Queued) (λ port. (port, answer_of r (copy_of l r.rows row) (port_row r.table port))) l.to
         (λ k d lt. one pass (get_or l.to k d) (leads_itself l.to k d lt) (row_found r.table.ports (get_or l.to k d) (ports k d lt)))
 
-pub none_full : LinksAreFound → AcceptedTablesIsolate → NoStepIsFull
-none_full links isolate r port frame run taken well accepted = all_queued links isolate r port frame run taken well accepted (named r.table (row_of r.table port frame).verdict) refl
+pub none_full : AdmittedInParts → LinksAreFound → AcceptedTablesIsolate → NoStepIsFull
+none_full in_parts links isolate r port frame run taken well accepted = all_queued in_parts links isolate r port frame run taken well accepted (named r.table (row_of r.table port frame).verdict) refl
 
 -- ---- what the engine's calls make of a run
 

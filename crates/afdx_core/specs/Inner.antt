@@ -1,5 +1,6 @@
 pub mod Accounts
 pub mod Agreement
+pub mod Appended
 pub mod Backlog
 pub mod Copies
 pub mod Dues

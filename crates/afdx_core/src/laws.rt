@@ -2,6 +2,7 @@
 
 ghost use Rattle.afdx_core.specs.Inner.Accounts.{FilteredTouchNoAccount};
 ghost use Rattle.afdx_core.specs.Inner.Agreement.{FeedIsPassed, VerdictsNameLinks, CopiesHaveTheirLinksPriority};
+ghost use Rattle.afdx_core.specs.Inner.Appended.{OneMoreFateIsAppended, NewCopiesAreAppended};
 ghost use Rattle.afdx_core.specs.Inner.Backlog.{BuffersHoldTheBacklog};
 ghost use Rattle.afdx_core.specs.Isolation.{PassedCopiesArePassedFrames, AcceptedTablesIsolate, NoStepIsFull, OthersChangeNothing, RunsBegin, RunsTakeArrivals, RunsAdvance};
 ghost use Rattle.afdx_core.specs.Isolation.{RunsHandOut, RunsFinish};
@@ -14,7 +15,7 @@ use afdx_filter::laws::clean_frames_have_a_link;
 use afdx_isolation::laws as isolation;
 use afdx_isolation::laws::offers_what_the_policing_passes;
 use afdx_port::Item;
-use afdx_port::laws::service_is_of_items;
+use afdx_port::laws::{feeds_are_admitted_in_parts, service_is_of_items};
 use afdx_table::laws::links_are_found;
 
 /// A port that a link leads to is offered exactly what the link's policing passes of its own frames.
@@ -23,6 +24,12 @@ pub fn feed_is_passed()
 {
     next_frame_joins_where_it_conforms();
 }
+
+/// One more arrival adds its fate, and the copies that a port may be offered of it, behind those of the arrivals before it.
+pub fn one_more_arrival_is_appended()
+    ensures fate { OneMoreFateIsAppended }
+    ensures copies { NewCopiesAreAppended }
+{}
 
 /// The verdict on a clean frame names a link of the table, and no other verdict names one.
 pub fn verdicts_name_links()
@@ -99,6 +106,7 @@ pub fn calls_make_runs()
 pub fn no_step_is_full()
     ensures { NoStepIsFull }
 {
+    feeds_are_admitted_in_parts();
     links_are_found();
     accepted_tables_isolate();
 }

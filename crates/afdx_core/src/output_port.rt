@@ -18,7 +18,9 @@ ghost use Rattle.afdx_core.specs.declared.output_port.OutputPort.{OutputPort as 
 
 use crate::dues::Dues;
 use crate::step::Offers;
-use afdx_port::laws::{each_has_one_event, events_follow_the_line, lagging_ports_follow};
+use afdx_port::laws::{
+    each_has_one_event, events_come_in_parts, events_follow_the_line, lagging_ports_follow,
+};
 use afdx_port::{Aged, Item, Offer, Port, Sent};
 use afdx_store::Store;
 use afdx_table::PortRow;
@@ -78,6 +80,7 @@ impl<A: Allocator + Copy> OutputPort<A> {
         lagging_ports_follow();
         each_has_one_event();
         events_follow_the_line();
+        events_come_in_parts();
         let before = self.port.aged().len();
         self.port.advance(at);
         discard_all(behind(self.port.aged(), before), store);
@@ -94,6 +97,7 @@ impl<A: Allocator + Copy> OutputPort<A> {
         lagging_ports_follow();
         each_has_one_event();
         events_follow_the_line();
+        events_come_in_parts();
         let before = self.port.aged().len();
         self.port.finish();
         discard_all(behind(self.port.aged(), before), store);
@@ -210,6 +214,7 @@ pub(crate) fn carry_all<A: Allocator + Copy>(
     lagging_ports_follow();
     each_has_one_event();
     events_follow_the_line();
+    events_come_in_parts();
     let reached = at.ns() + latency;
     while let Some(place) = dues.first_before(reached) {
         let output_port = &mut output_ports[place];
@@ -232,6 +237,7 @@ pub(crate) fn end_all<A: Allocator + Copy>(
     lagging_ports_follow();
     each_has_one_event();
     events_follow_the_line();
+    events_come_in_parts();
     for output_port in output_ports.iter_mut() {
         output_port.end(store);
     }

@@ -24,6 +24,7 @@ use Rattle.afdx_core.specs.declared.step.Row.{Row}
 use Rattle.afdx_core.specs.declared.step.Fate.TheVariants.{Passed, Policed}
 use Rattle.afdx_core.specs.Rows.{each_after, fates_of, feed_of, fate_of, fate_by, named, passes, copy_of, copies_by, copies}
 use Rattle.afdx_core.specs.State.{Run, answer_of, offers_by, offers_of, step_of, sent_in, aged_in, after_finish}
+use Rattle.afdx_core.specs.Inner.Appended.{OneMoreFateIsAppended, NewCopiesAreAppended}
 use Rattle.afdx_isolation.specs.Table.{settings_of}
 use Rattle.afdx_count.specs.declared.counters.InCount.{InCount}
 use Rattle.afdx_count.specs.declared.ports.PortTally.{PortTally}
@@ -34,7 +35,7 @@ use Rattle.afdx_count.specs.Run.{of_priority, turned_away, arrivals_at, input_co
 use Rattle.afdx_count.specs.Inner.Laws.{StartsWithNone, NoteCountsOneMore, EndCountsTheRun, NotesCountTheRun}
 use Rattle.afdx_count.proofs.Placed.{itself, turned, lower_differs}
 use Rattle.afdx_count.proofs.Notes.{map_same, map_twice}
-use Rattle.afdx_count.proofs.Runs.{each-push, input-push, link-push, answer_after, one_offered, other_offered}
+use Rattle.afdx_count.proofs.Runs.{input-push, link-push, answer_after, one_offered, other_offered}
 
 -- ---- the rows of a table
 
@@ -176,26 +177,22 @@ module _ (r : Run) (row : Row) (p : PortRow) where
             ∙ ap (λ b. cond b (with_fate (fate_of r.table r.rows row) (input_counts (arrivals_at p.id r.rows))) (input_counts (arrivals_at p.id r.rows))) miss)))
       ]
 
-  feed-push : feed_of r.table p.id (r.rows ++ row ∷ []) ≡ feed ++ copies r.table p.id r.rows row
-  unfolding feed_of
-  feed-push = each-push (copies r.table p.id) [] r.rows row
-
-  pub port-push : IsWellFormed r.table → port_row r.table p.id ≡ Some p
+  pub port-push : NewCopiesAreAppended → IsWellFormed r.table → port_row r.table p.id ≡ Some p
       → noted_port (class_of (fate_of r.table r.rows row) (map (link_tally r.table r.rows) r.table.links)) (step_of r row) (port_counts r.table r.rows (λ q. []) p)
       ≡ port_counts r.table (r.rows ++ row ∷ []) (λ q. []) p
-  port-push formed found =
+  port-push appended formed found =
       ap (with_class (class_of (fate_of r.table r.rows row) (map (link_tally r.table r.rows) r.table.links)) (offers_of r row)) arrived
       ∙ copied (input_counts (arrivals_at p.id (r.rows ++ row ∷ []))) formed found
-      ∙ ap (with_feed (input_counts (arrivals_at p.id (r.rows ++ row ∷ [])))) (sym feed-push)
+      ∙ ap (with_feed (input_counts (arrivals_at p.id (r.rows ++ row ∷ [])))) (sym (appended r.table p.id r.rows row))
 
 -- ---- the laws
 
-pub note_counts_one_more : NoteCountsOneMore
-note_counts_one_more r row formed =
+pub note_counts_one_more : OneMoreFateIsAppended → NewCopiesAreAppended → NoteCountsOneMore
+note_counts_one_more one_fate new_copies r row formed =
     let ports = map_twice (port_counts r.table r.rows (λ q. [])) (noted_port (class_of (fate_of r.table r.rows row) (map (link_tally r.table r.rows) r.table.links)) (step_of r row)) r.table.ports
-    ∙ map_all _ _ (port_counts r.table (r.rows ++ row ∷ []) (λ q. [])) r.table.ports (ports_found r.table.ports formed.ports_rise) (λ p found. port-push r row p formed found) in
+    ∙ map_all _ _ (port_counts r.table (r.rows ++ row ∷ []) (λ q. [])) r.table.ports (ports_found r.table.ports formed.ports_rise) (λ p found. port-push r row p new_copies formed found) in
     let links = map_twice (link_tally r.table r.rows) (noted_link (fate_of r.table r.rows row)) r.table.links
-    ∙ map_same _ (link_tally r.table (r.rows ++ row ∷ [])) r.table.links (link-push r.table r.rows row) in
+    ∙ map_same _ (link_tally r.table (r.rows ++ row ∷ [])) r.table.links (link-push one_fate r.table r.rows row) in
     (λ j. record { ports = ports j; links = links j })
 
 zero_start : (n : ℕ) → capped (capped 0 + n) ≡ capped n
@@ -235,16 +232,16 @@ starts_with_none t =
     let links = map_same new_link (link_tally t []) t.links (λ l. refl) in
     (λ j. record { ports = ports j; links = links j })
 
-notes_from : (t : Content) (before rows : List Row) → IsWellFormed t
+notes_from : NoteCountsOneMore → (t : Content) (before rows : List Row) → IsWellFormed t
     → noted_all (each_after (λ b row. step_of (run_after t b) row ∷ []) before rows) (counts_so_far t before) ≡ counts_so_far t (before ++ rows)
-notes_from t before [] formed = ap (counts_so_far t) (sym (append-nil before))
-notes_from t before (row ∷ rows) formed =
-    ap (noted_all (each_after (λ b row. step_of (run_after t b) row ∷ []) (before ++ row ∷ []) rows)) (note_counts_one_more (run_after t before) row formed)
-    ∙ notes_from t (before ++ row ∷ []) rows formed
+notes_from one_more t before [] formed = ap (counts_so_far t) (sym (append-nil before))
+notes_from one_more t before (row ∷ rows) formed =
+    ap (noted_all (each_after (λ b row. step_of (run_after t b) row ∷ []) (before ++ row ∷ []) rows)) (one_more (run_after t before) row formed)
+    ∙ notes_from one_more t (before ++ row ∷ []) rows formed
     ∙ ap (counts_so_far t) (append_assoc before (row ∷ []) rows)
 
-pub notes_count_the_run : NotesCountTheRun
-notes_count_the_run t rows formed =
+pub notes_count_the_run : NoteCountsOneMore → NotesCountTheRun
+notes_count_the_run one_more t rows formed =
     ap (λ tally. ended_tally (after_finish (run_after t rows)) (noted_all (steps_of t rows) tally)) (starts_with_none t)
-    ∙ ap (ended_tally (after_finish (run_after t rows))) (notes_from t [] rows formed)
+    ∙ ap (ended_tally (after_finish (run_after t rows))) (notes_from one_more t [] rows formed)
     ∙ end_counts_the_run (run_after t rows) formed

@@ -21,6 +21,7 @@ use Rattle.afdx_core.specs.declared.step.Row.{Row}
 use Rattle.afdx_core.specs.declared.step.Fate.{Fate}
 use Rattle.afdx_core.specs.declared.step.Fate.TheVariants.{Filtered, Policed, Passed}
 use Rattle.afdx_core.specs.Rows.{each_after, fates_of, fate_of, fate_by, named, passes}
+use Rattle.afdx_core.specs.Inner.Appended.{OneMoreFateIsAppended}
 use Rattle.afdx_count.specs.declared.counters.InCount.{InCount}
 use Rattle.afdx_count.specs.declared.counters.LinkCount.{LinkCount}
 use Rattle.afdx_count.specs.declared.links.LinkTally.{LinkTally}
@@ -119,14 +120,10 @@ input-push t port rows row =
 
 -- ---- the frames of a link
 
-fates-push : (t : Content) (rows : List Row) (row : Row) → fates_of t (rows ++ row ∷ []) ≡ fates_of t rows ++ fate_of t rows row ∷ []
-unfolding fates_of
-fates-push t rows row = each-push (λ before r. fate_of t before r ∷ []) [] rows row
-
-pub link-push : (t : Content) (rows : List Row) (row : Row) (l : Link) → noted_link (fate_of t rows row) (link_tally t rows l) ≡ link_tally t (rows ++ row ∷ []) l
-link-push t rows row l =
+pub link-push : OneMoreFateIsAppended → (t : Content) (rows : List Row) (row : Row) (l : Link) → noted_link (fate_of t rows row) (link_tally t rows l) ≡ link_tally t (rows ++ row ∷ []) l
+link-push appended t rows row l =
     by_fate (fate_of t rows row)
-    ∙ ap (λ fates. record { id = l.id; priority = l.priority; count = link_counts l.id fates }) (sym (fates-push t rows row)) where
+    ∙ ap (λ fates. record { id = l.id; priority = l.priority; count = link_counts l.id fates }) (sym (appended t rows row)) where
       tally : LinkCount → LinkTally
       tally c = record { id = l.id; priority = l.priority; count = c }
 

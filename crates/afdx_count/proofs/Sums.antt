@@ -11,7 +11,8 @@ use Rattle.afdx_filter.specs.declared.outcome.Verdict.TheVariants.{Cut, Short, L
 use Rattle.afdx_port.specs.declared.Settings.{Settings}
 use Rattle.afdx_port.specs.declared.Item.{Item}
 use Rattle.afdx_port.specs.Service.{Event, sending, aging, item_of, service, sent_of, aged_of}
-use Rattle.afdx_port.specs.Admission.{fits, admit, admit_all, admitted}
+use Rattle.afdx_port.specs.Admission.{fits, admit_all, admitted}
+use Rattle.afdx_port.specs.Inner.Admission.{AdmittedInParts}
 use Rattle.afdx_port.specs.Inner.Events.{EachHasOneEvent}
 use Rattle.afdx_core.specs.declared.step.Row.{Row}
 use Rattle.afdx_core.specs.declared.step.Fate.{Fate}
@@ -145,20 +146,16 @@ passed_and_policed_are_clean t l rows found passed policed =
 
 -- ---- copies
 
-admit_all-push : (s : Settings) (a xs : List Item) (x : Item) → admit_all s a (xs ++ x ∷ []) ≡ admit s (admit_all s a xs) x
-admit_all-push s a [] x = refl
-admit_all-push s a (y ∷ xs) x = admit_all-push s (admit s a y) xs x
-
 count-push : (kind : Item → Bool) (xs : List Item) (x : Item) → count_by kind (xs ++ x ∷ []) ≡ count_by kind xs + cond (kind x) 1 0
 count-push kind xs x = sum_by_push (λ y. cond (kind y) 1 0) xs x
 
 -- each item of a feed is admitted or refused
-one_or_other : (s : Settings) (kind : Item → Bool) (before feed : List Item)
+one_or_other : AdmittedInParts → (s : Settings) (kind : Item → Bool) (before feed : List Item)
     → count_by kind (each_after (λ b x. cond (fits s (admitted s b) x) [] (x ∷ [])) before feed) + count_by kind (admit_all s (admitted s before) feed) ≡ count_by kind feed
     + count_by kind (admitted s before)
-one_or_other s kind before [] = refl
-one_or_other s kind before (x ∷ feed) =
-    by (fits s (admitted s before) x) (one_or_other s kind (before ++ x ∷ []) feed) (admit_all-push s [] before x) where
+one_or_other in_parts s kind before [] = refl
+one_or_other in_parts s kind before (x ∷ feed) =
+    by (fits s (admitted s before) x) (one_or_other in_parts s kind (before ++ x ∷ []) feed) (in_parts s [] before (x ∷ [])) where
       by : (b : Bool) → count_by kind (each_after (λ b x. cond (fits s (admitted s b) x) [] (x ∷ [])) (before ++ x ∷ []) feed) + count_by kind (admit_all s (admitted s (before ++ x ∷ [])) feed)
           ≡ count_by kind feed + count_by kind (admitted s (before ++ x ∷ []))
           → admitted s (before ++ x ∷ []) ≡ cond b (admitted s before ++ x ∷ []) (admitted s before)
@@ -173,9 +170,9 @@ one_or_other s kind before (x ∷ feed) =
           let same_count = ap (count_by kind) is in
           omega (arith, ih, same, same_count, count_one kind x feed, count_one kind x (each_after (λ b x. cond (fits s (admitted s b) x) [] (x ∷ [])) (before ++ x ∷ []) feed))
 
-refused_or_admitted : (s : Settings) (kind : Item → Bool) (feed : List Item) → count_by kind feed ≡ count_by kind (turned_away s feed) + count_by kind (admitted s feed)
+refused_or_admitted : AdmittedInParts → (s : Settings) (kind : Item → Bool) (feed : List Item) → count_by kind feed ≡ count_by kind (turned_away s feed) + count_by kind (admitted s feed)
 unfolding turned_away
-refused_or_admitted s kind feed = let all = one_or_other s kind [] feed in omega (arith, all)
+refused_or_admitted in_parts s kind feed = let all = one_or_other in_parts s kind [] feed in omega (arith, all)
 
 -- each event is a sending or a giving up
 sent_or_aged : (kind : Item → Bool) (events : List Event) → count_by (λ e. kind (item_of e)) events ≡ count_by (λ a. kind a.item) (aged_of events) + count_by (λ s. kind s.item) (sent_of events)
@@ -189,11 +186,11 @@ three_below : (n a b c : ℕ) → n ≡ a + b + c → capped n < greatest_count 
 three_below n a b c is lt =
     below_itself n lt ∙ is ∙ (λ j. sym (below n a lt (omega (arith, is))) j + sym (below n b lt (omega (arith, is))) j + sym (below n c lt (omega (arith, is))) j)
 
-pub offered_is_the_sum : EachHasOneEvent → OfferedIsTheSum
-offered_is_the_sum one_event priority s feed lt =
+pub offered_is_the_sum : EachHasOneEvent → AdmittedInParts → OfferedIsTheSum
+offered_is_the_sum one_event in_parts priority s feed lt =
     let kind = λ (item : Item). is_of priority item.priority in
     let events = service s 0 (admitted s feed) in
-    let parts = refused_or_admitted s kind feed in
+    let parts = refused_or_admitted in_parts s kind feed in
     let once = one_event s 0 (admitted s feed) kind in
     let either = sent_or_aged kind events in
     three_below (count_by kind feed) (count_by kind (turned_away s feed)) (count_by (λ a. kind a.item) (aged_of events)) (count_by (λ e. kind e.item) (sent_of events))

@@ -11,6 +11,7 @@ use crate::counters::{InCount, OutCount};
 use afdx_core::{Done, Fate};
 use afdx_numbers::Numbers;
 use afdx_port::Offer;
+use afdx_table::laws::ports_are_distinct;
 use afdx_table::{PortRow, Table};
 use afdx_units::Priority;
 use std::alloc::{AllocError, Allocator};
@@ -109,6 +110,7 @@ impl<A: Allocator + Copy> Ports<A> {
     pub(crate) fn new(alloc: A, table: &Table) -> Result<Self, AllocError>
         ensures { IfOk result (λ ports. ports ≡ map new_port table.now.ports) }
     {
+        ports_are_distinct();
         let mut ports = Ports::empty(alloc);
         for row in table.ports() {
             ports.push(PortTally::new(row))?;

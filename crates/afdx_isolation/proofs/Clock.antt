@@ -1,5 +1,5 @@
--- The port's clock: all that the proofs know of the instant by which what came by a stamp is queued.
-use Rattle.std.proofs.Common.{◌≡◌, ℕ, ◌+◌, ◌-◌, ◌≤◌, refl, arith}
+-- The port's clock: beside its order, all that the proofs know of the instant by which what came by a stamp is queued.
+use Rattle.std.proofs.Common.{◌≡◌, ℕ, ◌+◌, ◌-◌, refl, arith}
 use Rattle.afdx_port.specs.declared.Settings.{Settings}
 use Rattle.afdx_port.specs.declared.Item.{Item}
 use Rattle.afdx_port.specs.Service.{reach, came}
@@ -8,10 +8,6 @@ use Rattle.afdx_port.specs.Service.{reach, came}
 pub came-is : (s : Settings) (item : Item) → came s item ≡ item.stamp + s.latency
 unfolding reach
 came-is s item = refl
-
-pub reach-le : (s : Settings) (t u : ℕ) → t ≤ u → reach s t ≤ reach s u
-unfolding reach
-reach-le s t u le = omega (arith, le)
 
 pub reach-gap : (s : Settings) (t u : ℕ) → reach s u - reach s t ≡ u - t
 unfolding reach

@@ -3,7 +3,6 @@ use Rattle.std.proofs.Common.{◌≡◌, ℕ, ◌+◌, ◌-◌, ◌*◌, ◌/◌
 use Rattle.std.specs.Prelude.{not, All, nat_lt}
 use Rattle.std.specs.List.{AllByRecursion}
 use Rattle.std.proofs.lemmas.Bool.{both_ways}
-use Rattle.std.proofs.lemmas.Bool.Decides.{nat_tests}
 use Rattle.std.proofs.lemmas.Nat.{le-div}
 use Rattle.std.proofs.lemmas.List.Elements.{All-nil, All-cons, filter_passes, recursion_from_All}
 use Rattle.std.proofs.Math.Nat.{mul-le-mul_left}
@@ -13,6 +12,7 @@ use Rattle.afdx_units.specs.Line.{cost_of, is_high}
 use Rattle.afdx_port.specs.declared.Settings.{Settings}
 use Rattle.afdx_port.specs.declared.Item.{Item}
 use Rattle.afdx_port.specs.Service.{came, Event, sending, aging, item_of, free_after, fate}
+use Rattle.afdx_port.specs.Inner.Events.{SentInTime}
 use Rattle.afdx_port.specs.Inner.Order.{in_line, highs, lows, line_up}
 use Rattle.afdx_port.specs.Inner.Work.{item_cost}
 use Rattle.afdx_account.specs.Policing.{parts}
@@ -83,15 +83,6 @@ low_within n r c e burst some le h = add (e - c) (n - r) (omega arith) (omega ar
       let q = le-div m burst k (omega arith) (times r k c m burst h') in
       rw same (omega (arith, is, q))
 
-item_fate : (s : Settings) (b : ℕ) (x : Item) → item_of (fate s b x) ≡ x
-item_fate s b x = elim (nat_lt s.max_delay (b - x.stamp)) as (λ v. item_of (cond v (aging (record { item = x; at = b })) (sending (record { item = x; begin = b; end = b + cost_of s.speed x.size })))
-    ≡ x) [ true ↦ refl | false ↦ refl ]
-
-fate_sent : (s : Settings) (b : ℕ) (x : Item) → b - x.stamp ≤ s.max_delay → fate s b x ≡ sending (record { item = x; begin = b; end = b + cost_of s.speed x.size })
-fate_sent s b x short = choose _ _ short where
-  choose : {m n : ℕ} (x y : Event) → n ≤ m → cond (nat_lt m n) x y ≡ y
-  choose x y h = grind (arith, nat_tests)
-
 in_bound : (s : Settings) (demand : Demand) (e : ℕ) (y : Item) (priority : Priority) → (priority ≡ Low → demand.high_rate < parts) → y.priority ≡ priority → came s y ≤ e → EndsBy parts s demand e y
     → e ≤ came s y + queue_bound demand priority
 in_bound s demand e y High some is le h =
@@ -102,13 +93,16 @@ in_bound s demand e y Low some is le h =
     omega (arith, within)
 
 -- where the bound is within the greatest delay, the item is sent in time; here alone is the stamp what time is counted from
-pub timely : (s : Settings) (demand : Demand) (priority : Priority) (event : Event) → demand.latency ≡ s.latency → (priority ≡ Low → demand.high_rate < parts) → bound demand priority ≤ s.max_delay
-    → (item_of event).priority ≡ priority → BeginsAs s (EndsBy parts s demand) event → IsTimely s demand event
-timely s demand priority event late some quick class h =
-    let same : h.item.priority ≡ priority = sym (ap (λ (e : Event). (item_of e).priority) h.is ∙ ap (λ (y : Item). y.priority) (item_fate s h.at h.item)) ∙ class in
+pub timely : SentInTime → (s : Settings) (demand : Demand) (priority : Priority) (event : Event) → demand.latency ≡ s.latency → (priority ≡ Low → demand.high_rate < parts)
+    → bound demand priority ≤ s.max_delay → (item_of event).priority ≡ priority → BeginsAs s (EndsBy parts s demand) event → IsTimely s demand event
+timely sent_in_time s demand priority event late some quick class h =
+    let x = h.item in
+    let item : item_of (fate s h.at x) ≡ x = elim (nat_lt s.max_delay (h.at - x.stamp))
+    as (λ v. item_of (cond v (aging (record { item = x; at = h.at })) (sending (record { item = x; begin = h.at; end = h.at + cost_of s.speed x.size }))) ≡ x) [ true ↦ refl | false ↦ refl ] in
+    let same : x.priority ≡ priority = sym (ap (λ (e : Event). (item_of e).priority) h.is ∙ ap (λ (y : Item). y.priority) item) ∙ class in
     let since = h.since in
     let stamp = came-is s h.item in
     let le = in_bound s demand (h.at + item_cost s h.item) h.item priority some same (omega (arith, since)) h.ends in
     let short : h.at - h.item.stamp ≤ s.max_delay = omega (arith, le, quick, stamp, late) in
-    subst (λ e. IsTimely s demand e) (sym (h.is ∙ fate_sent s h.at h.item short))
+    subst (λ e. IsTimely s demand e) (sym (h.is ∙ sent_in_time s h.at h.item short))
     (record { least = omega (arith, since, stamp); most = subst (λ p. h.at + item_cost s h.item ≤ h.item.stamp + bound demand p) (sym same) (omega (arith, le, stamp, late)) })

@@ -223,7 +223,7 @@ module _ (g : Ground) (s : Settings) (flows : List Flow) (paid : All (IsPaidFor 
       let r = All-contains (IsOfAFlow flows) items (item_of event) h.of_flows (g.events s 0 items k d lt) in
       let is : r.flow.priority ≡ priority = r.priority ∙ class in
       let bound' = All-contains (λ (flow : Flow). flow.priority ≡ priority → bound demand priority ≤ s.max_delay) flows r.flow quick r.among is in
-      timely s demand priority event refl (leaves r.flow r.among priority is) bound' class (h.ends k d lt)
+      timely g.sent_in_time s demand priority event refl (leaves r.flow r.among priority is) bound' class (h.ends k d lt)
 
   delay_of : CarriesFlows s flows → (priority : Priority) → IsWithinDelay s flows priority
   delay_of a High = a.high

@@ -4,7 +4,7 @@ use Rattle.std.specs.Prelude.{nat_eq, nat_le, ◌&&◌, ◌||◌, filter, map, A
 use Rattle.std.proofs.lemmas.Bool.{cases_Bool, eqb-true}
 use Rattle.std.proofs.lemmas.Bool.Decides.{nat_tests}
 use Rattle.std.proofs.lemmas.List.{map-append}
-use Rattle.std.proofs.lemmas.List.Elements.{All-nil, All-cons, Contains-get_or, Contains-append_right, filter-append}
+use Rattle.std.proofs.lemmas.List.Elements.{All-nil, All-cons, All-push, All-weaker, All-from_recursion, recursion_from_All, Contains-get_or, Contains-append_right, filter-append}
 use Rattle.afdx_account.specs.declared.frame.Frame.{Frame}
 use Rattle.afdx_account.specs.Policing.{conforms, passed_frames}
 use Rattle.afdx_account.specs.Level.{headroom, NoneLater}
@@ -23,16 +23,6 @@ frames id arrivals = map frame_of_item (own id arrivals)
 abbrev pub Early : List Item → ℕ → Type 0
 Early before now = (id : ℕ) → NoneLater (frames id before) now
 
-none_push : (fs : List Frame) (f : Frame) → NoneLater fs f.stamp → NoneLater (fs ++ f ∷ []) f.stamp
-none_push fs f h = onto f.stamp fs (omega arith) h where
-  onto : (now : ℕ) (fs : List Frame) → f.stamp ≤ now → NoneLater fs now → NoneLater (fs ++ f ∷ []) now
-  onto now [] le h = (le, tt)
-  onto now (e ∷ fs) le h = (h.0, onto now fs le h.1)
-
-none_longer : (fs : List Frame) (now later : ℕ) → now ≤ later → NoneLater fs now → NoneLater fs later
-none_longer [] now later le h = tt
-none_longer (f ∷ fs) now later le h = (let here = h.0 in omega (arith, here), none_longer fs now later le h.1)
-
 own-push : (id : ℕ) (before : List Item) (x : Item) → frames id (before ++ x ∷ []) ≡ cond (nat_eq x.link id) (frames id before ++ frame_of_item x ∷ []) (frames id before)
 own-push id before x =
     let p = λ (x : Item). nat_eq x.link id in
@@ -43,12 +33,18 @@ own-push id before x =
     ])
 
 pub early_later : (before : List Item) (now later : ℕ) → now ≤ later → Early before now → Early before later
-early_later before now later le early id = none_longer (frames id before) now later le (early id)
+early_later before now later le early id =
+    recursion_from_All (λ (f : Frame). f.stamp ≤ later) (frames id before)
+    (All-weaker (λ (f : Frame). f.stamp ≤ now) (λ (f : Frame). f.stamp ≤ later) (λ f soon. omega (arith, soon, le)) (frames id before)
+    (All-from_recursion (λ (f : Frame). f.stamp ≤ now) (frames id before) (early id)))
 
 pub early_push : (before : List Item) (x : Item) → Early before x.stamp → Early (before ++ x ∷ []) x.stamp
-early_push before x early id = subst (λ fs. NoneLater fs x.stamp) (sym (own-push id before x))
+early_push before x early id =
+    let fs = frames id before in
+    let soon = λ (g : Frame). g.stamp ≤ x.stamp in
+    subst (λ fs. NoneLater fs x.stamp) (sym (own-push id before x))
     (elim (nat_eq x.link id) as (λ v. NoneLater (cond v (frames id before ++ frame_of_item x ∷ []) (frames id before)) x.stamp) [
-      | true ↦ none_push (frames id before) (frame_of_item x) (early id)
+      | true ↦ recursion_from_All soon (fs ++ frame_of_item x ∷ []) (All-push soon fs (frame_of_item x) (All-from_recursion soon fs (early id)) (omega arith))
       | false ↦ early id
     ])
 

@@ -19,7 +19,7 @@ use Rattle.afdx_isolation.specs.Arrivals.{own, frame_of_item}
 use Rattle.afdx_isolation.specs.Inner.Arrivals.{IsClean, passed, is_passed, joins, feed_after, feed_of, level_after}
 use Rattle.afdx_isolation.specs.Inner.Claims.{Arrive}
 use Rattle.afdx_isolation.specs.Inner.Ground.{Ground}
-use Rattle.afdx_isolation.proofs.Clock.{reach-le, reach-gap}
+use Rattle.afdx_isolation.proofs.Clock.{reach-gap}
 use Rattle.afdx_isolation.proofs.Keeping.{kept_none, kept_wait, kept_pass, has_room}
 use Rattle.afdx_isolation.proofs.Levels.{Early, early_later, early_push, frames, passed_step, grow_by, joined, none_joined, passed_link, own_passes, debits_joined, grow_kept}
 
@@ -36,7 +36,7 @@ module _ (g : Ground) (s : Settings) (flows : List Flow) (paid : All (IsPaidFor 
   -- time passes until a stamp
   until : (before items : List Item) (now later : ℕ) → now ≤ later → Early before now → Keeps items (reach s now) (level_after before now) → Keeps items (reach s later) (level_after before later)
   until before items now later le early h =
-      kept_wait g s flows paid slow items (reach s now) (reach s later) (level_after before now) (level_after before later) (reach-le s now later le)
+      kept_wait g s flows paid slow items (reach s now) (reach s later) (level_after before now) (level_after before later) (g.reaches s now later le)
       (subst (λ d. Grow flows d (level_after before now) (level_after before later)) (sym (reach-gap s now later)) (grow_by g flows before now later le early)) h
 
   -- an arrival joins, or does not

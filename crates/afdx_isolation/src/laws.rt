@@ -13,7 +13,7 @@ use afdx_port::Item;
 use afdx_port::laws::{
     admitted_fit_in_order, arrivals_change_nothing_earlier, arrivals_join_the_line,
     buffers_serve_alike, events_follow_the_line, keeps_order, line_goes_on, service_is_of_items,
-    work_bounds_bytes, work_is_of_the_line,
+    stamps_keep_their_order, starts_in_time_are_sent, work_bounds_bytes, work_is_of_the_line,
 };
 
 /// The laws of the crates below that these rest on.
@@ -30,6 +30,8 @@ fn ground()
     work_is_of_the_line();
     service_is_of_items();
     keeps_order();
+    stamps_keep_their_order();
+    starts_in_time_are_sent();
     work_bounds_bytes();
 }
 

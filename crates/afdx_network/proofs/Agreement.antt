@@ -18,10 +18,12 @@ use Rattle.afdx_load.specs.Bounds.{bounds_of}
 use Rattle.afdx_load.specs.Accepted.{IsAccepted}
 use Rattle.afdx_isolation.specs.Table.{bound_of}
 use Rattle.afdx_core.specs.Merge.{records_of}
+use Rattle.afdx_core.specs.Inner.Agreement.{VerdictsNameLinks}
 use Rattle.afdx_series.specs.declared.delays.Delays.{Delays}
 use Rattle.afdx_series.specs.Delay.{hop_of, joined, at_once, IsEnough}
 use Rattle.afdx_session.specs.Texts.{Text}
 use Rattle.afdx_session.specs.Outcome.{Results}
+use Rattle.afdx_session.specs.Inner.Early.{RecordsAreEarly}
 use Rattle.afdx_wiring.specs.declared.layout.End.{End}
 use Rattle.afdx_wiring.specs.declared.layout.Wire.{Wire}
 use Rattle.afdx_wiring.specs.Net.{Network, Row, Back, port_at, row_at, rows_of, rows_on, ingress, wire_to, bound_in, IsWayBack, AreDelays, source_of}
@@ -38,7 +40,9 @@ use Rattle.afdx_network.proofs.Wired.{wired}
 -- the laws that this rests on
 pub record Ground : Type 0 where
   pub exact : CleanExactly
+  pub verdicts : VerdictsNameLinks
   pub links : LinksAreFound
+  pub early : RecordsAreEarly
   pub back : WrittenTextsReadBack
 
 abbrev pub end_by : ℕ → ℕ → End
@@ -82,7 +86,7 @@ module _ (g : Ground) (net : Network) (given : Given) (runs : List SwitchRun) (a
         port = h.0;
         has = h.1;
         number = number;
-        comes = wired g.exact g.links g.back here run w.delay w.to.port h.0 bytes records (formed_at w.from.switch here here_is) (accepted_at w.from.switch here here_is)
+        comes = wired g.exact g.verdicts g.links g.early g.back here run w.delay w.to.port h.0 bytes records (formed_at w.from.switch here here_is) (accepted_at w.from.switch here here_is)
             (formed_at w.to.switch run is) small h.1 (subst (λ (n : ℕ). Contains here.results.captures (n, bytes)) (sym number) written) read comes;
       }
 

@@ -3,7 +3,7 @@ use Rattle.std.proofs.Common.{◌≡◌, ℕ, ◌==◌, ◌≤◌, Bool, true, f
 use Rattle.std.specs.Prelude.{Contains}
 use Rattle.std.specs.List.{AllByRecursion}
 use Rattle.std.proofs.lemmas.Option.{same_Some}
-use Rattle.std.proofs.lemmas.Bool.{eq-eqb, eqb-true}
+use Rattle.std.proofs.lemmas.Bool.{eq-eqb}
 use Rattle.afdx_units.specs.Line.{size_of}
 use Rattle.afdx_pcap.specs.Record.{Record}
 use Rattle.afdx_frame.specs.Address.{constant_of, link_of}
@@ -11,27 +11,17 @@ use Rattle.afdx_table.specs.Link.{Link}
 use Rattle.afdx_table.specs.Content.{Content, link_row}
 use Rattle.afdx_table.specs.WellFormed.{IsWellFormed}
 use Rattle.afdx_table.specs.Inner.Found.{LinksAreFound}
-use Rattle.afdx_filter.specs.declared.outcome.Verdict.{Verdict}
-use Rattle.afdx_filter.specs.declared.outcome.Verdict.TheVariants.{Cut, Short, Long, Foreign, NoLink, WrongPort, TooBig, Clean}
+use Rattle.afdx_filter.specs.declared.outcome.Verdict.TheVariants.{Clean}
 use Rattle.afdx_filter.specs.Frame.{frame_of}
 use Rattle.afdx_filter.specs.Verdict.{verdict_of}
 use Rattle.afdx_filter.specs.Inner.Exactly.{CleanExactly}
 use Rattle.afdx_load.specs.Load.{terms_of}
 use Rattle.afdx_core.specs.Rows.{says_clean}
 use Rattle.afdx_core.specs.Merge.{records_of}
+use Rattle.afdx_core.specs.Inner.Agreement.{VerdictsNameLinks}
 use Rattle.afdx_session.specs.Headline.{bytes_of}
 use Rattle.afdx_network.specs.Way.{Stage, IsStage, Leg, IsLegFrom, delayed, come_to, passed_at, leave}
 use Rattle.afdx_network.proofs.Lists.{apart, all_weaken, all_map, all_unmap, all_tested, filter_of_map, filter_alike, all_passed}
-
-says : (i : ℕ) (v : Verdict) → says_clean i v ≡ true → v ≡ Clean i
-says i (Clean j) is = ap Clean (sym (eqb-true i j is))
-says i Cut is = absurd cc
-says i Short is = absurd cc
-says i Long is = absurd cc
-says i Foreign is = absurd cc
-says i NoLink is = absurd cc
-says i WrongPort is = absurd cc
-says i TooBig is = absurd cc
 
 -- what a clean frame of a link is, by its bytes alone
 pub record IsOf (constant : List ℕ) (l : Link) (bytes : List ℕ) : Type 0 where
@@ -45,10 +35,10 @@ pub over_bytes : (P : List ℕ → Type 0) (came left : List Record) → bytes_o
 over_bytes P came left same all =
     all_unmap P (λ (r : Record). r.bytes) left (subst (AllByRecursion P) (sym same) (all_map P (λ (r : Record). r.bytes) came all))
 
-module _ (exact : CleanExactly) (links : LinksAreFound) where
+module _ (exact : CleanExactly) (verdicts : VerdictsNameLinks) (links : LinksAreFound) where
   pub clean_of : (t : Content) (l : Link) (r : Record) → IsWellFormed t → Contains t.links l → says_clean l.id (verdict_of t l.from r) ≡ true → IsOf t.constant l r.bytes
   clean_of t l r formed known is =
-      let h = (exact t l.from r l.id).0 (says l.id (verdict_of t l.from r) is) in
+      let h = (exact t l.from r l.id).0 (verdicts.clean l.id (verdict_of t l.from r) is) in
       let f = h.2 in
       let address : link_of r.bytes ≡ l.id = sym (links.is_row t (link_of r.bytes) h.0 f.is_link).0 ∙ h.1 in
       let same : h.0 ≡ l = same_Some h.0 l (sym f.is_link ∙ ap (link_row t) address ∙ links.found t formed l known) in

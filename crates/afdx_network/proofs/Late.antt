@@ -150,7 +150,7 @@ module _ (g : Ground) (short : WaysAreShort) (net : Network) (given : Given) (ru
       let formed = formed_at g net given runs acc r.switch run is in
       let passes : (q : Record) → says_clean r.link.id (verdict_of run.table r.link.from q) ≡ true → ((link_of q.bytes == b.row.link.id) ≡ true → q.stamp ≤ m + half + b.wire.delay)
       → q.stamp ≤ n
-      = λ q clean by. let of = clean_of g.exact g.links run.table r.link q formed known clean in
+      = λ q clean by. let of = clean_of g.exact g.verdicts g.links run.table r.link q formed known clean in
       let soon = by (eq-eqb (link_of q.bytes) b.row.link.id (of.address ∙ sym before.number)) in omega (arith, soon, small, enough) in
       all_kept_of (λ (q : Record). q.stamp ≤ n) (λ (q : Record). (link_of q.bytes == b.row.link.id) ≡ true → q.stamp ≤ m + half + b.wire.delay)
       (λ (q : Record). says_clean r.link.id (verdict_of run.table r.link.from q)) (records_of run.isolated.read r.link.from) passes

@@ -22,6 +22,7 @@ use Rattle.afdx_load.specs.Bounds.{high_bound, low_bound}
 use Rattle.afdx_load.specs.Accepted.{Carries, IsAccepted}
 use Rattle.afdx_isolation.specs.Table.{bound_of}
 use Rattle.afdx_core.specs.Merge.{Capture, records_of}
+use Rattle.afdx_core.specs.Inner.Agreement.{VerdictsNameLinks}
 use Rattle.afdx_session.specs.Headline.{own_records, passed_records, records_for, IsInBound, IsIsolatedAt}
 use Rattle.afdx_network.proofs.Lists.{all_weaken, all_passed}
 use Rattle.afdx_network.proofs.Found.{all_by, of_all, contains_filter}
@@ -97,12 +98,12 @@ leave_later t read p out l m formed accepted among isolated known leads all =
 
 -- ---- how long
 
-pub leave_short : CleanExactly → LinksAreFound → (t : Content) (read : List Capture) (p : PortRow) (out : List Record) → IsWellFormed t → IsIsolatedAt t read p out
+pub leave_short : CleanExactly → VerdictsNameLinks → LinksAreFound → (t : Content) (read : List Capture) (p : PortRow) (out : List Record) → IsWellFormed t → IsIsolatedAt t read p out
     → AllByRecursion (λ (r : Record). length r.bytes ≤ 1518) out
-leave_short exact links t read p out formed isolated = each_left (λ (r : Record). length r.bytes ≤ 1518) t read p out isolated each where
+leave_short exact verdicts links t read p out formed isolated = each_left (λ (r : Record). length r.bytes ≤ 1518) t read p out isolated each where
   each : (l : Link) → Contains t.links l → leads_to p.id l ≡ true → AllByRecursion (λ (r : Record). length r.bytes ≤ 1518) (records_for l out)
   each l known leads =
       let came = all_passed (λ (r : Record). IsOf t.constant l r.bytes) frame_of (terms_of l) [] (own_records t l read)
-      (own_clean exact links t l (records_of read l.from) formed known) in
+      (own_clean exact verdicts links t l (records_of read l.from) formed known) in
       all_weaken (λ (r : Record). IsOf t.constant l r.bytes) (λ (r : Record). length r.bytes ≤ 1518) (records_for l out) (λ r of. let most = of.most in omega (arith, most))
       (over_bytes (IsOf t.constant l) (passed_records l (own_records t l read)) (records_for l out) (isolated.passed l known leads) came)

@@ -13,32 +13,11 @@ use Rattle.afdx_table.specs.Content.{Content, link_row}
 use Rattle.afdx_table.specs.WellFormed.{IsWellFormed}
 use Rattle.afdx_table.specs.Inner.Found.{LinksAreFound}
 use Rattle.afdx_wiring.specs.declared.layout.Wire.{Wire}
-use Rattle.afdx_wiring.specs.Net.{Network, Row, Back, row_at, row_in, rows_from, rows_of, IsRowOf, IsWayBack}
-use Rattle.afdx_network.proofs.Lists.{all_weaken, all_map, all_append}
-use Rattle.afdx_network.proofs.Found.{all_at, all_by, of_all}
+use Rattle.afdx_wiring.specs.Net.{Network, Row, Back, row_at, row_in, rows_of, IsWayBack}
+use Rattle.afdx_wiring.specs.Inner.Tabled.{RowsAreOfTables}
+use Rattle.afdx_network.proofs.Lists.{all_weaken, all_map}
+use Rattle.afdx_network.proofs.Found.{all_at, of_all}
 use Rattle.afdx_network.proofs.Rows.{row_is}
-
--- ---- the table that a row is of
-
-row_later : (u : Content) (tables : List Content) (n : ℕ) (r : Row) → IsRowOf (n + 1) tables r → IsRowOf n (u ∷ tables) r
-row_later u tables n r h = let switch = h.switch in record {
-  place = suc h.place;
-  table = h.table;
-  switch = omega (arith, switch);
-  table_is = h.table_is;
-  known = h.known;
-}
-
-all_rows : (n : ℕ) (tables : List Content) → AllByRecursion (IsRowOf n tables) (rows_from n tables)
-all_rows n [] = tt
-all_rows n (u ∷ tables) =
-    all_append (IsRowOf n (u ∷ tables)) (map (row_in n) u.links) (rows_from (n + 1) tables)
-    (all_map (IsRowOf n (u ∷ tables)) (row_in n) u.links
-    (all_by (λ (l : Link). IsRowOf n (u ∷ tables) (row_in n l)) u.links (λ l among. record { place = 0; table = u; switch = omega arith; table_is = refl; known = among })))
-    (all_weaken (IsRowOf (n + 1) tables) (IsRowOf n (u ∷ tables)) (rows_from (n + 1) tables) (row_later u tables n) (all_rows (n + 1) tables))
-
-pub row_of_table : (net : Network) (r : Row) → Contains (rows_of net) r → IsRowOf 0 net.tables r
-row_of_table net r among = of_all (IsRowOf 0 net.tables) (rows_of net) r (all_rows 0 net.tables) among
 
 -- what is found under a number has it, at a switch of the network
 pub record IsFound (net : Network) (switch id : ℕ) (r : Row) : Type 0 where
@@ -135,9 +114,9 @@ module _ (links : LinksAreFound) (net : Network) where
       let within = slice_get_within net.tables b.wire.from.switch h.table h.table_is in
       (first, there_below b.row backs (subst (λ (n : ℕ). n < length net.tables) (sym h.switch_is) within) way.3)
 
-  pub ways_are_short : (r : Row) (backs : List Back) → All IsWellFormed net.tables → Contains (rows_of net) r → IsWayBack net r backs → length backs < length net.tables
-  ways_are_short r backs formed among way =
-      let h = row_of_table net r among in
+  pub ways_are_short : RowsAreOfTables → (r : Row) (backs : List Back) → All IsWellFormed net.tables → Contains (rows_of net) r → IsWayBack net r backs → length backs < length net.tables
+  ways_are_short rows r backs formed among way =
+      let h = rows net r among in
       let switch = h.switch in
       let place : h.place ≡ r.switch = omega (arith, switch) in
       let there : slice_get net.tables r.switch ≡ Some h.table = subst (λ (n : ℕ). slice_get net.tables n ≡ Some h.table) place h.table_is in

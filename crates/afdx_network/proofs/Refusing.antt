@@ -26,9 +26,6 @@ all_more {X = X} P xs k x at before here = subst (All P) (sym taken) (All-push P
 pub all_taken : {X : Type 0} (P : X → Type 0) (xs : List X) (k : ℕ) → length xs ≤ k → All P (take k xs) → All P xs
 all_taken P xs k past taken = subst (All P) (take_all k xs past) taken
 
-pub text_there : {Z : Type 0} (texts : List (ℕ × Vec ℕ Z)) (k : ℕ) (text : ℕ × Vec ℕ Z) → k < length texts → text ≡ get_or texts k text → slice_get (texts_of texts) k ≡ Some (text.0, text.1.items)
-text_there texts k text within is = get_map (λ pair. (pair.0, pair.1.items)) texts k text (slice_get_read texts (length texts) k text refl within is)
-
 pub first_fault : (texts : List Text) (k : ℕ) (text : Text) (why : PcapFault) → slice_get texts k ≡ Some text → All IsSound (take k texts) → IsFault text.1 why
     → IsFirstFault texts text.0 why
 first_fault [] k text why at sound broken = absurd cc

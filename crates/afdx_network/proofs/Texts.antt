@@ -1,23 +1,18 @@
 -- The texts of a run: what was written at a port, and what was read at one.
-use Rattle.std.proofs.Common.{◌≡◌, ℕ, zero, suc, ◌<◌, ◌≤◌, ◌==◌, List, [], ◌∷◌, ◌++◌, length, map, get_or, drop, refl, ap, sym, ◌∙◌, arith, subst, cond, Bool, true, false, append-nil}
+use Rattle.std.proofs.Common.{◌≡◌, ℕ, zero, suc, ◌<◌, ◌==◌, List, [], ◌∷◌, ◌++◌, length, map, get_or, refl, ap, sym, ◌∙◌, arith, subst, cond, false, append-nil}
 use Rattle.std.specs.Prelude.{Contains}
 use Rattle.std.specs.List.{AllByRecursion}
 use Rattle.std.proofs.lemmas.Bool.{eq-eqb}
-use Rattle.afdx_units.specs.Time.{last_second}
-use Rattle.afdx_pcap.specs.declared.format.Format.{Format}
-use Rattle.afdx_pcap.specs.declared.format.Head.{Head}
-use Rattle.afdx_pcap.specs.declared.format.Resolution.{Resolution}
-use Rattle.afdx_pcap.specs.declared.format.Resolution.TheVariants.{Micros, Nanos}
 use Rattle.afdx_pcap.specs.Record.{Record}
 use Rattle.afdx_pcap.specs.Text.{capture_text}
-use Rattle.afdx_pcap.specs.Capture.{IsCapture, Splits, after, parts_of_second, head_of, stamp_of}
+use Rattle.afdx_pcap.specs.Capture.{IsCapture}
 use Rattle.afdx_table.specs.declared.rows.PortRow.{PortRow}
 use Rattle.afdx_table.specs.Content.{Content}
 use Rattle.afdx_table.specs.WellFormed.{Rises, IsWellFormed}
 use Rattle.afdx_core.specs.Merge.{Capture, records_of}
 use Rattle.afdx_session.specs.Texts.{Text, AreOfPorts}
 use Rattle.afdx_session.specs.Reading.{AreCaptures}
-use Rattle.afdx_network.proofs.Lists.{all_map, all_unmap, all_append}
+use Rattle.afdx_network.proofs.Lists.{all_map, all_unmap}
 use Rattle.afdx_network.proofs.Found.{above, below, of_all, map_contains, one_port}
 use Rattle.afdx_network.proofs.Crossing.{heads, tails}
 
@@ -86,27 +81,3 @@ at_place (text ∷ texts) (c ∷ read) port bytes are rise (suc k) within at =
 
 pub read_at : (texts : List Text) (read : List Capture) (port : ℕ) (bytes : List ℕ) → AreCaptures texts read → NumbersRise texts → Contains texts (port, bytes) → IsReadAt read port bytes
 read_at texts read port bytes are rise among = at_place texts read port bytes are rise among.0 among.1 among.2
-
--- ---- records that were read are early
-
-stamp_early : (resolution : Resolution) (h : Head) → h.seconds ≤ 4294967294 → h.fraction < parts_of_second resolution → stamp_of resolution h < last_second
-stamp_early Micros h seconds fraction = omega (arith, seconds, fraction)
-stamp_early Nanos h seconds fraction = omega (arith, seconds, fraction)
-
-splits_early : (f : Format) (last : ℕ) (bytes : List ℕ) (rs : List Record) (rest : List ℕ) → Splits f last bytes rs rest → AllByRecursion (λ (r : Record). r.stamp < last_second) rs
-splits_early f last bytes [] rest splits = tt
-splits_early f last bytes (r ∷ rs) rest splits =
-    let b = splits.0 in (
-      subst (λ (n : ℕ). n < last_second) (sym b.stamp) (stamp_early f.resolution (head_of f.endian bytes) b.not_late b.fraction),
-      splits_early f r.stamp (after r bytes) rs rest splits.1,
-    )
-
-pub read_early : (texts : List Text) (read : List Capture) (port : ℕ) → AreCaptures texts read → AllByRecursion (λ (r : Record). r.stamp < last_second) (records_of read port)
-read_early [] [] port are = tt
-read_early [] (c ∷ read) port are = absurd are
-read_early (text ∷ texts) [] port are = absurd are
-read_early (text ∷ texts) (c ∷ read) port are =
-    all_append (λ (r : Record). r.stamp < last_second) (cond (c.port == port) c.records []) (records_of read port) (by (c.port == port)) (read_early texts read port are.2) where
-      by : (b : Bool) → AllByRecursion (λ (r : Record). r.stamp < last_second) (cond b c.records [])
-      by true = splits_early are.1.format 0 (drop 24 text.1) c.records [] are.1.records
-      by false = tt

@@ -15,6 +15,7 @@ use Rattle.afdx_series.specs.declared.delays.Delays.{Delays}
 use Rattle.afdx_series.specs.Delay.{hop_of, joined, at_once, IsEnough}
 use Rattle.afdx_series.specs.Series.{ComeLater}
 use Rattle.afdx_series.specs.Laws.{JitterEnough, CrossingIsAHop, DelaysAddUp, DelaysBeginAtOnce}
+use Rattle.afdx_core.specs.Inner.Agreement.{VerdictsNameLinks}
 use Rattle.afdx_session.specs.Headline.{passed_records, bytes_of, IsInBound}
 use Rattle.afdx_network.specs.Way.{Stage, IsStage, Leg, IsLegFrom, IsWay, last_stage, AreEnough, span_least, span_most, come_to, passed_at, leave, delayed, IsInTime, NonePoliced, IsDelivered}
 use Rattle.afdx_network.proofs.Lists.{all_weaken, zip_weaken}
@@ -24,6 +25,7 @@ use Rattle.afdx_network.proofs.Crossing.{same_bytes, hop, Within, at_first, and_
 -- the laws that a way rests on
 pub record Ground : Type 0 where
   pub exact : CleanExactly
+  pub verdicts : VerdictsNameLinks
   pub links : LinksAreFound
   pub by_frames : PassedByTheirFrames Record
   pub enough : JitterEnough Record
@@ -84,12 +86,12 @@ module _ (g : Ground) (first : Link) (own : List Record) where
       over = hop_of x.port.speed x.node.table.latency x.bound s.cable
 
       comes : come_to s.stage ≡ map (delayed s.cable) (leave x)
-      comes = comes_to_the_next g.exact g.links x s here onward follows
+      comes = comes_to_the_next g.exact g.verdicts g.links x s here onward follows
 
       sizes : AllByRecursion (λ r. 64 ≤ size_of (length r.bytes)) (passed_at x)
       sizes =
           all_weaken (λ (r : Record). IsOf x.node.table.constant x.link r.bytes) (λ (r : Record). 64 ≤ size_of (length r.bytes)) (passed_at x) (λ r of. of.least)
-          (passed_clean g.exact g.links x here)
+          (passed_clean g.exact g.verdicts g.links x here)
 
       come_later : ComeLater (joined d over) (map frame_of (passed_records first own)) (map frame_of (come_to s.stage))
       come_later =

@@ -17,11 +17,13 @@ use Rattle.afdx_filter.specs.Verdict.{verdict_of}
 use Rattle.afdx_core.specs.Rows.{says_clean}
 use Rattle.afdx_load.specs.Accepted.{IsAccepted}
 use Rattle.afdx_core.specs.Merge.{records_of}
+use Rattle.afdx_core.specs.Inner.Agreement.{VerdictsNameLinks}
 use Rattle.afdx_session.specs.Headline.{records_for, IsIsolatedAt}
+use Rattle.afdx_session.specs.Inner.Early.{RecordsAreEarly}
 use Rattle.afdx_network.specs.Way.{delayed}
 use Rattle.afdx_network.specs.Runs.{SwitchRun}
 use Rattle.afdx_network.proofs.Lists.{all_weaken, all_kept}
-use Rattle.afdx_network.proofs.Texts.{written_at, numbers_rise, read_at, read_early}
+use Rattle.afdx_network.proofs.Texts.{written_at, numbers_rise, read_at}
 use Rattle.afdx_network.proofs.Leaves.{half, each_left, leave_later, leave_short}
 
 -- a record as its text has it
@@ -50,10 +52,10 @@ all_written : (left : List Record) → AllByRecursion (λ (r : Record). length r
 all_written [] short early = tt
 all_written (r ∷ left) short early = let e = early.0 in (record { short = short.0; early = omega (arith, e) }, all_written left short.1 early.1)
 
-module _ (exact : CleanExactly) (links : LinksAreFound) where
+module _ (exact : CleanExactly) (verdicts : VerdictsNameLinks) (links : LinksAreFound) (early : RecordsAreEarly) where
   pub can_be_written : (run : SwitchRun) (p : PortRow) → IsWellFormed run.table → IsAccepted run.table → Contains run.table.ports p → AllByRecursion CanBeWritten (run.isolated.out p)
   can_be_written run p formed accepted among =
-      all_written (run.isolated.out p) (leave_short exact links run.table run.isolated.read p (run.isolated.out p) formed isolated)
+      all_written (run.isolated.out p) (leave_short exact verdicts links run.table run.isolated.read p (run.isolated.out p) formed isolated)
       (each_left (λ (r : Record). r.stamp ≤ 4294967294999999999 + half) run.table run.isolated.read p (run.isolated.out p) isolated each) where
         isolated : IsIsolatedAt run.table run.isolated.read p (run.isolated.out p)
         isolated = run.isolated.isolated p among
@@ -62,8 +64,8 @@ module _ (exact : CleanExactly) (links : LinksAreFound) where
         each l known leads =
             leave_later run.table run.isolated.read p (run.isolated.out p) l 4294967294999999999 formed accepted among isolated known leads
             (all_kept (λ (r : Record). r.stamp ≤ 4294967294999999999) (λ (r : Record). says_clean l.id (verdict_of run.table l.from r)) (records_of run.isolated.read l.from)
-            (all_weaken (λ (r : Record). r.stamp < last_second) (λ (r : Record). r.stamp ≤ 4294967294999999999) (records_of run.isolated.read l.from) (λ r early. omega (arith, early))
-            (read_early run.texts run.isolated.read l.from run.isolated.are_read)))
+            (all_weaken (λ (r : Record). r.stamp < last_second) (λ (r : Record). r.stamp ≤ 4294967294999999999) (records_of run.isolated.read l.from) (λ r soon. omega (arith, soon))
+            (early run.texts run.isolated.read l.from run.isolated.are_read)))
 
 -- ---- read again
 
@@ -102,13 +104,13 @@ goes_on back cable rs left all read =
 
 -- ---- over a wire
 
-module _ (exact : CleanExactly) (links : LinksAreFound) (back : WrittenTextsReadBack) where
+module _ (exact : CleanExactly) (verdicts : VerdictsNameLinks) (links : LinksAreFound) (early : RecordsAreEarly) (back : WrittenTextsReadBack) where
   pub wired : (here there : SwitchRun) (cable to : ℕ) (p : PortRow) (bytes : List ℕ) (left : List Record) → IsWellFormed here.table → IsAccepted here.table → IsWellFormed there.table
       → cable ≤ 1000000 → Contains here.table.ports p → Contains here.results.captures (p.id, bytes) → IsCapture bytes left
       → Contains there.texts (to, capture_text (map (delayed cable) left)) → records_of there.isolated.read to ≡ map (delayed cable) (here.isolated.out p)
   wired here there cable to p bytes left formed accepted formed_there small among written read comes =
       let out = here.isolated.out p in
-      let writable = can_be_written exact links here p formed accepted among in
+      let writable = can_be_written exact verdicts links early here p formed accepted among in
       let text : bytes ≡ capture_text out = written_at here.table here.isolated.out here.results.captures p bytes formed here.isolated.captures among written in
       let same : map (delayed cable) left ≡ map (delayed cable) out = goes_on back cable out left writable (subst (λ (b : List ℕ). IsCapture b left) text read) in
       let at_end = read_at there.texts there.isolated.read to (capture_text (map (delayed cable) out)) there.isolated.are_read (numbers_rise there.table there.texts formed_there there.outcome.ports)

@@ -5,6 +5,7 @@ ghost use Rattle.afdx_network.specs.Laws.{RestIsAgreement, WaysAreShort, NoneIsL
 ghost use Rattle.afdx_network.specs.Way.{WaysDeliver, OthersChangeNothingOnTheWay};
 
 use afdx_account::laws::passed_by_their_frames;
+use afdx_core::laws::verdicts_name_links;
 use afdx_filter::laws::clean_exactly;
 use afdx_load::laws::accepted_keeps_bounds;
 use afdx_pcap::Record;
@@ -12,8 +13,9 @@ use afdx_pcap::laws::{
     each_file_has_one_reading, what_is_written_is_a_capture, written_texts_read_back,
 };
 use afdx_series::laws::{crossing_is_a_hop, delays_add_up, jitter_enough};
-use afdx_session::laws::{outputs_are_readable, own_frames_are_the_links_alone};
+use afdx_session::laws::{outputs_are_readable, own_frames_are_the_links_alone, records_are_early};
 use afdx_table::laws::links_are_found;
+use afdx_wiring::laws::rows_are_of_tables;
 use std::alloc::Global;
 
 /// Delivery from end to end: where the jitters on a link's way are enough, what leaves at its end has, one by one and in
@@ -23,6 +25,7 @@ pub fn ways_deliver()
     ensures { WaysDeliver }
 {
     clean_exactly();
+    verdicts_name_links();
     links_are_found();
     passed_by_their_frames::<Record<'static, Global>>();
     jitter_enough::<Record<'static, Global>>();
@@ -48,7 +51,9 @@ pub fn agreement_is_wired()
     ensures { AgreementIsWired }
 {
     clean_exactly();
+    verdicts_name_links();
     links_are_found();
+    records_are_early();
     written_texts_read_back();
 }
 
@@ -76,7 +81,9 @@ pub fn ways_are_there()
     ensures { WaysAreThere }
 {
     clean_exactly();
+    verdicts_name_links();
     links_are_found();
+    records_are_early();
     written_texts_read_back();
     accepted_keeps_bounds();
 }
@@ -91,6 +98,7 @@ pub fn ways_are_short()
     ensures { WaysAreShort }
 {
     links_are_found();
+    rows_are_of_tables();
 }
 
 /// Where no frame came in the last 64 seconds that a stamp can hold, each capture that a switch puts out can be read
@@ -99,7 +107,9 @@ pub fn none_is_late()
     ensures { NoneIsLate }
 {
     clean_exactly();
+    verdicts_name_links();
     links_are_found();
+    records_are_early();
     written_texts_read_back();
     what_is_written_is_a_capture();
     each_file_has_one_reading();

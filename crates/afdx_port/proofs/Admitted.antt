@@ -24,6 +24,10 @@ fit_all : (s : Settings) (items feed : List Item) → AllFit s [] items → AllF
 fit_all s items [] h = h
 fit_all s items (x ∷ feed) h = fit_all s (admit s items x) feed (fit_one s items x (fits s items x) refl h)
 
+pub admitted_in_parts : (s : Settings) (before feed later : List Item) → admit_all s before (feed ++ later) ≡ admit_all s (admit_all s before feed) later
+admitted_in_parts s before [] later = refl
+admitted_in_parts s before (x ∷ feed) later = admitted_in_parts s (admit s before x) feed later
+
 pub admitted_fit : (s : Settings) (feed : List Item) → AllFit s [] (admitted s feed)
 admitted_fit s feed = fit_all s [] feed tt
 

@@ -41,7 +41,7 @@ sum_by-service f s = by_events s (λ free items. sum_by (λ event. f (item_of ev
     let here = ap f (item_of-next s free first rest) in
     omega (arith, one, ih, here, sum_by-others s f free first rest))
 
-cost-positive : (speed : Speed) (size : ℕ) → 0 < cost_of speed size
+pub cost-positive : (speed : Speed) (size : ℕ) → 0 < cost_of speed size
 cost-positive Ten size = omega arith
 cost-positive Hundred size = omega arith
 cost-positive Thousand size = omega arith

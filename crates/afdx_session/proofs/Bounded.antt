@@ -116,15 +116,12 @@ sent_few t given h p =
 
 -- ---- the text
 
-head_long : (r : Record) → length (head_text r) ≡ 16
-unfolding head_text
-head_long r = refl
-
 texts_long : (given : List Arrival) (sent : List Sent) → AllByRecursion SmallArrival given → length (flat_map record_text (map (written given) sent)) ≤ 262160 * length sent
+unfolding head_text
 texts_long given [] all = omega arith
 texts_long given (x ∷ sent) all =
     let r = written given x in
-    let head = head_long r in
+    let head : length (head_text r) ≡ 16 = refl in
     let bytes = small_in given x.item.number all in
     let one = length-append (head_text r) r.bytes in
     let more = texts_long given sent all in

@@ -10,7 +10,7 @@ use Rattle.afdx_table.specs.declared.rows.PortRow.{PortRow}
 use Rattle.afdx_table.specs.Content.{Content}
 use Rattle.afdx_port.specs.declared.Sent.{Sent}
 use Rattle.afdx_port.specs.Inner.Order.{ReachesInOrder}
-use Rattle.afdx_port.specs.Inner.Course.{EventsAreInParts}
+use Rattle.afdx_port.specs.Inner.Events.{SentGoesOn}
 use Rattle.afdx_core.specs.declared.step.Row.{Row}
 use Rattle.afdx_core.specs.Step.{Step}
 use Rattle.afdx_core.specs.Rows.{row_of}
@@ -131,10 +131,10 @@ drop-within (suc n) [] ys le = absurd (omega (arith, le))
 drop-within (suc n) (x ∷ xs) ys le = drop-within n xs ys (omega (arith, le))
 
 -- a port that had handed out all up to an instant hands out all up to the one that the switch has come to
-pub goes_out : {Z : Type 0} → EventsAreInParts → ReachesInOrder → (t : Content) (given : List Arrival) (h k : ℕ) (start now : State) (p : PortRow) (place : ℕ) (old new : Lane Z)
+pub goes_out : {Z : Type 0} → SentGoesOn → ReachesInOrder → (t : Content) (given : List Arrival) (h k : ℕ) (start now : State) (p : PortRow) (place : ℕ) (old new : Lane Z)
     → IsAt t given k start → h ≤ k → place_of start.run p.id ≡ Some place → slice_get t.ports place ≡ Some p → IsOut t given h start p place old
     → Draws given p.id place start now old.out.items new.out.items → next_by now.run (place_of now.run p.id) ≡ None → new.taken ≡ old.taken → IsOut t given k now p place new
-goes_out {Z} parts reaches t given h k start now p place old new at le place_start row out draws none taken = record {
+goes_out {Z} goes_on reaches t given h k start now p place old new at le place_start row out draws none taken = record {
   count = omega (arith, total, left_none, out.count, all_long, sent_long);
   taken = let here = ap length text_is in let both = length-append (text_up_to t given h p) rest_text in let was = out.taken in omega (arith, taken, here, both, was);
   left =
@@ -151,7 +151,7 @@ goes_out {Z} parts reaches t given h k start now p place old new at le place_sta
   first = sent_up_to t given (Some h) p
 
   rest : (more_sent : List Sent) × (sent_up_to t given (Some k) p ≡ first ++ more_sent)
-  rest = sent_later parts reaches t given h (Some k) p le
+  rest = sent_later goes_on reaches t given h (Some k) p le
 
   rest_text : List ℕ
   rest_text = flat_map record_text (map (written given) rest.0)

@@ -1,5 +1,5 @@
 -- What is true of the records of captures, and of every arrival of their merge.
-use Rattle.std.proofs.Common.{◌≡◌, ℕ, ◌<◌, ◌≤◌, ◌==◌, false, List, [], ◌∷◌, ◌++◌, map, drop, refl, sym, arith, inl, inr, subst}
+use Rattle.std.proofs.Common.{◌≡◌, ℕ, ◌<◌, ◌≤◌, ◌==◌, false, List, [], ◌∷◌, ◌++◌, map, drop, cond, refl, sym, arith, inl, inr, subst}
 use Rattle.std.specs.List.{AllByRecursion}
 use Rattle.std.proofs.lemmas.Bool.{cases_Bool, eq-eqb}
 use Rattle.std.specs.Prelude.{is_none, find}
@@ -11,10 +11,12 @@ use Rattle.afdx_pcap.specs.declared.format.Resolution.TheVariants.{Micros, Nanos
 use Rattle.afdx_pcap.specs.declared.format.Head.{Head}
 use Rattle.afdx_pcap.specs.Record.{Record}
 use Rattle.afdx_pcap.specs.Capture.{Splits, IsCapture, after, parts_of_second, stamp_of, head_of}
-use Rattle.afdx_core.specs.Merge.{Arrival, Capture, Rises, arrivals_of}
+use Rattle.afdx_core.specs.Merge.{Arrival, Capture, Rises, records_of, arrivals_of}
 use Rattle.afdx_core.specs.Inner.Merge.{AreInOrder}
 use Rattle.afdx_session.specs.Texts.{Text}
 use Rattle.afdx_session.specs.Reading.{AreCaptures, AreMerged}
+use Rattle.afdx_session.specs.Inner.Early.{RecordsAreEarly}
+use Rattle.afdx_session.proofs.Numbered.{all_append, all_cond}
 use Rattle.afdx_session.proofs.Joining.{by_stamp-in_order, by_stamp_every, records_weaken}
 
 -- ---- the records of a capture
@@ -41,6 +43,15 @@ splits_early f last bytes (r ∷ rs) rest splits =
 
 pub capture_early : (bytes : List ℕ) (rs : List Record) → IsCapture bytes rs → AllByRecursion (λ (r : Record). r.stamp < last_second) rs
 capture_early bytes rs capture = splits_early capture.format 0 (drop 24 bytes) rs [] capture.records
+
+pub records_are_early : RecordsAreEarly
+records_are_early [] [] port are = tt
+records_are_early [] (c ∷ read) port are = absurd are
+records_are_early (text ∷ texts) [] port are = absurd are
+records_are_early (text ∷ texts) (c ∷ read) port are =
+    all_append (λ (r : Record). r.stamp < last_second) (cond (c.port == port) c.records []) (records_of read port)
+    (all_cond (λ (r : Record). r.stamp < last_second) (c.port == port) c.records [] (capture_early text.1 c.records are.1) tt)
+    (records_are_early texts read port are.2)
 
 -- ---- several captures
 

@@ -11,7 +11,7 @@ use Rattle.afdx_table.specs.declared.rows.PortRow.{PortRow}
 use Rattle.afdx_table.specs.Content.{Content}
 use Rattle.afdx_port.specs.Inner.Admission.{EarlierEventsStayAdmitted}
 use Rattle.afdx_port.specs.Inner.Order.{ReachesInOrder}
-use Rattle.afdx_port.specs.Inner.Course.{EventsAreInParts}
+use Rattle.afdx_port.specs.Inner.Events.{SentGoesOn}
 use Rattle.afdx_core.specs.State.{State, place_of, next_by}
 use Rattle.afdx_core.specs.Merge.{Arrival, merged}
 use Rattle.afdx_count.specs.Tally.{Tally}
@@ -136,12 +136,12 @@ port_of_lane {Z = Z} (p ∷ ports) (m ∷ lanes) (suc k) l same at = port_of_lan
 differ_places : (m n : ℕ) (o : Option ℕ) → o ≡ Some n → (m ≡ n → ⊥) → o ≢ Some m
 differ_places m n o is differ same = differ (same_Some m n (sym same ∙ is))
 
-pub drained_on : {Z : Type 0} → EventsAreInParts → ReachesInOrder → (t : Content) (given : List Arrival) (h k : ℕ) (s next : State) (lanes : List (Lane Z)) (n : ℕ) (old new : Lane Z)
+pub drained_on : {Z : Type 0} → SentGoesOn → ReachesInOrder → (t : Content) (given : List Arrival) (h k : ℕ) (s next : State) (lanes : List (Lane Z)) (n : ℕ) (old new : Lane Z)
     → AreOfTable t lanes → IsAt t given k s → h ≤ k
     → slice_get lanes n ≡ Some old → new.taken ≡ old.taken → IsDrained old.port s next
     → ((place : ℕ) → place_of s.run old.port ≡ Some place → length given ≡ length s.run.rows → HasBytesOf given s → Draws given old.port place s next old.out.items new.out.items)
     → next_by next.run (place_of next.run old.port) ≡ None → AreDrained t given h k s lanes n → AreDrained t given h k next (set lanes n new) (n + 1)
-drained_on {Z} parts reaches t given h k s next lanes n old new of at le is_old taken drained draws none was = record {
+drained_on {Z} goes_on reaches t given h k s next lanes n old new of at le is_old taken drained draws none was = record {
   done = λ place p l lt is_port is_lane. elim (get-set lanes n place old new l is_old is_lane) [
     | inl same ↦ subst (λ (x : Lane Z). IsOut t given k next p place x) (sym same.1) (subst (λ m. IsOut t given k next p m new) (sym same.0) (here p (ap (slice_get t.ports) (sym same.0) ∙ is_port)))
     | inr other ↦ elim (cases_lt place n) [
@@ -172,7 +172,7 @@ drained_on {Z} parts reaches t given h k s next lanes n old new of at le is_old 
   here : (p : PortRow) → slice_get t.ports n ≡ Some p → IsOut t given k next p n new
   here p is_port =
       let id : p.id ≡ old.port = ap (λ (q : PortRow). q.id) (same_Some p row.0 (sym is_port ∙ row.1)) ∙ row.2 in
-      goes_out parts reaches t given h k s next p n old new at le (ap (λ m. place_of s.run m) id ∙ place_is) is_port (was.rest n p old (omega arith) is_port is_old)
+      goes_out goes_on reaches t given h k s next p n old new at le (ap (λ m. place_of s.run m) id ∙ place_is) is_port (was.rest n p old (omega arith) is_port is_old)
       (subst (λ m. Draws given m n s next old.out.items new.out.items) (sym id) (draws n place_is long at.is_given.frames))
       (ap (λ m. next_by next.run (place_of next.run m)) id ∙ none) taken
 
@@ -313,16 +313,16 @@ pub record DrainsUpTo {Z : Type 0} (start : State) (lanes : List (Lane Z)) (now 
 pub drains_none : {Z : Type 0} (start : State) (lanes : List (Lane Z)) → DrainsUpTo start lanes start lanes 0
 drains_none start lanes = record { hands = hands_none start; grown = grown_none lanes; drained = λ t given h of is le outs. drained_none t given h start.run.latest start lanes outs }
 
-pub drains_one : {Z : Type 0} → EventsAreInParts → ReachesInOrder → (start now next : State) (lanes new : List (Lane Z)) (n : ℕ) (old drained : Lane Z) → slice_get new n ≡ Some old
+pub drains_one : {Z : Type 0} → SentGoesOn → ReachesInOrder → (start now next : State) (lanes new : List (Lane Z)) (n : ℕ) (old drained : Lane Z) → slice_get new n ≡ Some old
     → IsGrown old drained → IsDrained old.port now next
     → ((given : List Arrival) (place : ℕ) → place_of now.run old.port ≡ Some place → length given ≡ length now.run.rows → HasBytesOf given now
     → Draws given old.port place now next old.out.items drained.out.items)
     → next_by next.run (place_of next.run old.port) ≡ None → DrainsUpTo start lanes now new n → DrainsUpTo start lanes next (set new n drained) (n + 1)
-drains_one parts reaches start now next lanes new n old drained at grown is_drained draws none was = record {
+drains_one goes_on reaches start now next lanes new n old drained at grown is_drained draws none was = record {
   hands = hands_on start now next old.port was.hands is_drained;
   grown = grown_on lanes new n old drained was.grown at grown;
   drained = λ t given h of is le outs.
-      drained_on parts reaches t given h start.run.latest now next new n old drained (record { formed = of.formed; ports = grown_ports lanes new was.grown ∙ of.ports })
+      drained_on goes_on reaches t given h start.run.latest now next new n old drained (record { formed = of.formed; ports = grown_ports lanes new was.grown ∙ of.ports })
       (hands_at t given start.run.latest start now (record { is_given = is; latest = refl }) was.hands) le at grown.touched.taken is_drained (draws given) none (was.drained t given h of is le outs);
 }
 

@@ -13,11 +13,11 @@ use Rattle.afdx_pcap.specs.Text.{header_text, record_text, capture_text}
 use Rattle.afdx_table.specs.declared.rows.PortRow.{PortRow}
 use Rattle.afdx_table.specs.Content.{Content}
 use Rattle.afdx_port.specs.declared.Sent.{Sent}
-use Rattle.afdx_port.specs.Service.{Event, sending, aging, instant, reach, service, before, sent_of}
+use Rattle.afdx_port.specs.Service.{reach}
 use Rattle.afdx_port.specs.Admission.{admitted}
 use Rattle.afdx_port.specs.Inner.Admission.{EarlierEventsStayAdmitted}
 use Rattle.afdx_port.specs.Inner.Order.{ReachesInOrder}
-use Rattle.afdx_port.specs.Inner.Course.{EventsAreInParts}
+use Rattle.afdx_port.specs.Inner.Events.{SentGoesOn}
 use Rattle.afdx_isolation.specs.Table.{settings_of}
 use Rattle.afdx_core.specs.Rows.{feed_of}
 use Rattle.afdx_core.specs.Merge.{Arrival, Capture, Rises, arrivals_of, placed, by_stamp, merged}
@@ -279,53 +279,20 @@ no_frontier (s ∷ streams) all = frontier-closed s streams all.0 ∙ no_frontie
 
 -- ---- events
 
-sent-append : (xs ys : List Event) → sent_of (xs ++ ys) ≡ sent_of xs ++ sent_of ys
-sent-append [] ys = refl
-sent-append (sending s ∷ xs) ys = ap (λ more. s ∷ more) (sent-append xs ys)
-sent-append (aging a ∷ xs) ys = sent-append xs ys
-
-before-in : (t : ℕ) (e : Event) (es : List Event) → nat_lt (instant e) t ≡ true → before t (e ∷ es) ≡ e ∷ before t es
-before-in t e es is = filter-in (λ (x : Event). nat_lt (instant x) t) e es is
-
--- what lies before an instant lies before a later one
-before_later : (t u : ℕ) (es : List Event) → t ≤ u → before u (before t es) ≡ before t es
-before_later t u [] le = refl
-before_later t u (e ∷ es) le = by_first (nat_lt (instant e) t) refl (before_later t u es le) where
-  by_first : (b : Bool) → nat_lt (instant e) t ≡ b → before u (before t es) ≡ before t es → before u (before t (e ∷ es)) ≡ before t (e ∷ es)
-  by_first true is ih =
-      let sooner : nat_lt (instant e) u ≡ true = earlier (instant e) is in
-      ap (before u) (before-in t e es is) ∙ before-in u e (before t es) sooner ∙ ap (λ more. e ∷ more) ih ∙ sym (before-in t e es is) where
-        earlier : (n : ℕ) → nat_lt n t ≡ true → nat_lt n u ≡ true
-        earlier n is = grind (arith, nat_tests)
-  by_first false is ih =
-      let out : before t (e ∷ es) ≡ before t es = filter-out (λ (x : Event). nat_lt (instant x) t) e es is in
-      ap (before u) out ∙ ih ∙ sym out
-
 -- what is sent before an instant is a prefix of what is sent up to a later one, or in the end
 abbrev pub IsBeyond : ℕ → Option ℕ → Type 0
 IsBeyond h None = Unit {0}
 IsBeyond h (Some k) = h ≤ k
 
-pub sent_later : EventsAreInParts → ReachesInOrder → (t : Content) (arrivals : List Arrival) (h : ℕ) (k : Option ℕ) (p : PortRow) → IsBeyond h k
+pub sent_later : SentGoesOn → ReachesInOrder → (t : Content) (arrivals : List Arrival) (h : ℕ) (k : Option ℕ) (p : PortRow) → IsBeyond h k
     → (rest : List Sent) × (sent_up_to t arrivals k p ≡ sent_up_to t arrivals (Some h) p ++ rest)
 unfolding sent_up_to
-sent_later parts reaches t arrivals h None p beyond =
+sent_later goes_on reaches t arrivals h None p beyond =
     let s = settings_of t.latency p in
-    let items = admitted s (feed_of t p.id (rows_of t arrivals)) in
-    let split = parts s (reach s h) items in
-    (sent_of split.0, ap sent_of split.1 ∙ sent-append (before (reach s h) (service s 0 items)) split.0)
-sent_later parts reaches t arrivals h (Some k) p beyond =
+    goes_on.in_the_end s (reach s h) (admitted s (feed_of t p.id (rows_of t arrivals)))
+sent_later goes_on reaches t arrivals h (Some k) p beyond =
     let s = settings_of t.latency p in
-    let items = admitted s (feed_of t p.id (rows_of t arrivals)) in
-    let split = parts s (reach s h) items in
-    let u = reach s k in
-    let le : reach s h ≤ u = reaches s h k beyond in (
-      sent_of (before u split.0),
-      ap sent_of (ap (before u) split.1
-          ∙ filter-append (λ (e : Event). nat_lt (instant e) u) (before (reach s h) (service s 0 items)) split.0
-          ∙ ap (λ es. es ++ before u split.0) (before_later (reach s h) u (service s 0 items) le))
-          ∙ sent-append (before (reach s h) (service s 0 items)) (before u split.0),
-    )
+    goes_on.until s (reach s h) (reach s k) (admitted s (feed_of t p.id (rows_of t arrivals))) (reaches s h k beyond)
 
 -- ---- the laws
 
@@ -343,9 +310,9 @@ beyond : (h : ℕ) (k : Option ℕ) (streams : List Stream) → frontier streams
 beyond h None streams is all = tt
 beyond h (Some k) streams is all = frontier_above h k streams all is
 
-pub output_grows : EarlierEventsStayAdmitted → ReachesInOrder → EventsAreInParts → (t : Content) (streams later : List Stream) (p : PortRow) → GoOn streams later
+pub output_grows : EarlierEventsStayAdmitted → ReachesInOrder → SentGoesOn → (t : Content) (streams later : List Stream) (p : PortRow) → GoOn streams later
     → (rest : List Record) × (output_so_far t later p ≡ output_so_far t streams p ++ rest)
-output_grows stay reaches parts t streams later p on = by_frontier (frontier streams) refl where
+output_grows stay reaches goes_on t streams later p on = by_frontier (frontier streams) refl where
   by_frontier : (h : Option ℕ) → frontier streams ≡ h → (rest : List Record) × (output_so_far t later p ≡ output_so_far t streams p ++ rest)
   by_frontier None none =
       let same = all_same streams later (all_ended streams none) on in
@@ -359,7 +326,7 @@ output_grows stay reaches parts t streams later p on = by_frontier (frontier str
       let all = have_reached streams h some in
       let m = merged_so_far streams in
       let n = merged_so_far later in
-      let more = sent_later parts reaches t n h (frontier later) p (beyond h (frontier later) later refl (reached_on h streams later all on)) in
+      let more = sent_later goes_on reaches t n h (frontier later) p (beyond h (frontier later) later refl (reached_on h streams later all on)) in
       let out : List Arrival → List Record = λ xs. map (written xs) (sent_up_to t xs (Some h) p) in
       let same : out n ≡ out m = early_output stay reaches t h n p (by_stamp-in_order (arrivals_of (captures_of later)))
       ∙ ap out (early_merged h streams later all on)
@@ -371,10 +338,10 @@ output_grows stay reaches parts t streams later p on = by_frontier (frontier str
             ∙ ap (λ f. map (written m) (sent_up_to t m f p) ++ map (written n) more.0) (sym some),
       )
 
-pub text_grows : EarlierEventsStayAdmitted → ReachesInOrder → EventsAreInParts → (t : Content) (streams later : List Stream) (p : PortRow) → GoOn streams later
+pub text_grows : EarlierEventsStayAdmitted → ReachesInOrder → SentGoesOn → (t : Content) (streams later : List Stream) (p : PortRow) → GoOn streams later
     → (rest : List ℕ) × (text_so_far t later p ≡ text_so_far t streams p ++ rest)
-text_grows stay reaches parts t streams later p on =
-    let more = output_grows stay reaches parts t streams later p on in (
+text_grows stay reaches goes_on t streams later p on =
+    let more = output_grows stay reaches goes_on t streams later p on in (
       flat_map record_text more.0,
       ap (λ es. header_text ++ flat_map record_text es) more.1
           ∙ ap (λ text. header_text ++ text) (flat_map-append record_text (output_so_far t streams p) more.0)
@@ -395,9 +362,9 @@ output_of_all t captures p =
     ap (λ (cs : List Capture). map (written (merged cs)) (sent_up_to t (merged cs) (frontier (map whole_of captures)) p)) (captures_same captures)
     ∙ ap (λ h. map (written (merged captures)) (sent_up_to t (merged captures) h p)) (no_frontier (map whole_of captures) (ended_all captures))
 
-pub prefix_of_output : EarlierEventsStayAdmitted → ReachesInOrder → EventsAreInParts → (t : Content) (streams : List Stream) (captures : List Capture) (p : PortRow)
+pub prefix_of_output : EarlierEventsStayAdmitted → ReachesInOrder → SentGoesOn → (t : Content) (streams : List Stream) (captures : List Capture) (p : PortRow)
     → GoOn streams (map whole_of captures)
     → (rest : List ℕ) × (output_text t (merged captures) p ≡ text_so_far t streams p ++ rest)
-prefix_of_output stay reaches parts t streams captures p on =
-    let more = text_grows stay reaches parts t streams (map whole_of captures) p on in
+prefix_of_output stay reaches goes_on t streams captures p on =
+    let more = text_grows stay reaches goes_on t streams (map whole_of captures) p on in
     (more.0, ap capture_text (sym (output_of_all t captures p)) ∙ more.1)

@@ -15,6 +15,7 @@ use Rattle.afdx_port.specs.declared.Item.{Item}
 use Rattle.afdx_port.specs.declared.Aged.{Aged}
 use Rattle.afdx_port.specs.Service.{Event}
 use Rattle.afdx_port.specs.Admission.{fits, admit, admit_all, admitted}
+use Rattle.afdx_port.specs.Inner.Admission.{AdmittedInParts}
 use Rattle.afdx_isolation.specs.Table.{settings_of}
 use Rattle.afdx_core.specs.declared.step.Row.{Row}
 use Rattle.afdx_core.specs.Rows.{each_after, feed_of}
@@ -38,15 +39,11 @@ length-admit_all s earlier (x ∷ feed) = by (fits s earlier x) (length-append e
   by true long more = let le = more (earlier ++ x ∷ []) in omega (arith, le, long)
   by false long more = let le = more earlier in omega (arith, le)
 
-admit_one_more : (s : Settings) (xs feed : List Item) (x : Item) → admit_all s xs (feed ++ x ∷ []) ≡ admit s (admit_all s xs feed) x
-admit_one_more s xs [] x = refl
-admit_one_more s xs (y ∷ feed) x = admit_one_more s (admit s xs y) feed x
-
 -- where all of a feed is admitted, each fits beside those before it
-none_refused : (s : Settings) (earlier feed : List Item) → admit_all s (admitted s earlier) feed ≡ admitted s earlier ++ feed
+none_refused : AdmittedInParts → (s : Settings) (earlier feed : List Item) → admit_all s (admitted s earlier) feed ≡ admitted s earlier ++ feed
     → each_after (λ before x. cond (fits s (admitted s before) x) [] (x ∷ [])) earlier feed ≡ []
-none_refused s earlier [] all = refl
-none_refused s earlier (x ∷ feed) all = by (fits s (admitted s earlier) x) refl (none_refused s (earlier ++ x ∷ []) feed) where
+none_refused in_parts s earlier [] all = refl
+none_refused in_parts s earlier (x ∷ feed) all = by (fits s (admitted s earlier) x) refl (none_refused in_parts s (earlier ++ x ∷ []) feed) where
   too_few : (n m k : ℕ) → n ≤ m + k → n ≡ m + suc k → ⊥
   too_few n m k le is = omega (arith, le, is)
 
@@ -56,16 +53,16 @@ none_refused s earlier (x ∷ feed) all = by (fits s (admitted s earlier) x) ref
       → cond b [] (x ∷ []) ++ each_after (λ before y. cond (fits s (admitted s before) y) [] (y ∷ [])) (earlier ++ x ∷ []) feed ≡ []
   by true fit ih =
       let taken : admit s (admitted s earlier) x ≡ admitted s earlier ++ x ∷ [] = ap (λ (b : Bool). cond b (admitted s earlier ++ x ∷ []) (admitted s earlier)) fit in
-      let one : admitted s (earlier ++ x ∷ []) ≡ admitted s earlier ++ x ∷ [] = admit_one_more s [] earlier x ∙ taken in
+      let one : admitted s (earlier ++ x ∷ []) ≡ admitted s earlier ++ x ∷ [] = in_parts s [] earlier (x ∷ []) ∙ taken in
       ih (ap (λ (xs : List Item). admit_all s xs feed) (one ∙ sym taken) ∙ all ∙ sym (append_assoc (admitted s earlier) (x ∷ []) feed) ∙ ap (λ (xs : List Item). xs ++ feed) (sym one))
   by false fit ih =
       let left : admit s (admitted s earlier) x ≡ admitted s earlier = ap (λ (b : Bool). cond b (admitted s earlier ++ x ∷ []) (admitted s earlier)) fit in
       absurd (too_few (length (admit_all s (admitted s earlier) feed)) (length (admitted s earlier)) (length feed) (length-admit_all s (admitted s earlier) feed)
       (ap (λ (xs : List Item). length (admit_all s xs feed)) (sym left) ∙ ap length all ∙ length-append (admitted s earlier) (x ∷ feed)))
 
-nothing_refused : (s : Settings) (feed : List Item) → admitted s feed ≡ feed → turned_away s feed ≡ []
+nothing_refused : AdmittedInParts → (s : Settings) (feed : List Item) → admitted s feed ≡ feed → turned_away s feed ≡ []
 unfolding turned_away
-nothing_refused s feed all = none_refused s [] feed all
+nothing_refused in_parts s feed all = none_refused in_parts s [] feed all
 
 -- the counters of a port's number are that port's: no other has its number
 counters_at : (t : Content) (rows : List Row) (events : PortRow → List Event) (ports : List PortRow) → Rises ports → (k : ℕ) (d : PortRow) → k < length ports
@@ -83,9 +80,9 @@ counters_of t rows rises p at =
     subst (λ (q : PortRow). port_in q.id (counts_of t rows).ports ≡ Some (port_counts t rows (events_of t rows) q)) at.2
     (counters_at t rows (events_of t rows) t.ports rises at.0 p at.1)
 
-pub none_lost : (t : Content) (arrivals : List Arrival) → IsWellFormed t → IsIsolatedRun (run_of t arrivals) → (p : PortRow) → Contains t.ports p → (priority : Priority)
+pub none_lost : AdmittedInParts → (t : Content) (arrivals : List Arrival) → IsWellFormed t → IsIsolatedRun (run_of t arrivals) → (p : PortRow) → Contains t.ports p → (priority : Priority)
     → LosesNone (counts_of t (rows_of t arrivals)) p priority
-none_lost t arrivals formed isolated p at priority = record {
+none_lost in_parts t arrivals formed isolated p at priority = record {
   count = out_of priority (port_counts t (rows_of t arrivals) (events_of t (rows_of t arrivals)) p);
   count_is = ap (λ (o : Option PortTally). option_map (out_of priority) o) (counters_of t (rows_of t arrivals) formed.ports_rise p at);
   none_full = full priority;
@@ -95,7 +92,7 @@ none_lost t arrivals formed isolated p at priority = record {
   rows = rows_of t arrivals
 
   refused : turned_away (settings_of t.latency p) (feed_of t p.id rows) ≡ []
-  refused = nothing_refused (settings_of t.latency p) (feed_of t p.id rows) (isolated.none_full p at)
+  refused = nothing_refused in_parts (settings_of t.latency p) (feed_of t p.id rows) (isolated.none_full p at)
 
   full : (priority : Priority) → (out_of priority (port_counts t rows (events_of t rows) p)).full ≡ 0
   full High = ap (of_priority High) refused

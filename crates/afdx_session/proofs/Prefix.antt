@@ -11,7 +11,7 @@ use Rattle.afdx_table.specs.Content.{Content}
 use Rattle.afdx_port.specs.declared.Sent.{Sent}
 use Rattle.afdx_port.specs.Inner.Admission.{EarlierEventsStayAdmitted}
 use Rattle.afdx_port.specs.Inner.Order.{ReachesInOrder}
-use Rattle.afdx_port.specs.Inner.Course.{EventsAreInParts}
+use Rattle.afdx_port.specs.Inner.Events.{SentGoesOn}
 use Rattle.afdx_core.specs.State.{State}
 use Rattle.afdx_core.specs.Merge.{Arrival, Capture, merged}
 use Rattle.afdx_count.specs.Tally.{Tally}
@@ -82,9 +82,9 @@ beyond since None le = tt
 beyond since (Some k) le = le
 
 -- what went out up to an instant that has come is a prefix of what has left so far
-prefix_so_far : {Z : Type 0} → EarlierEventsStayAdmitted → ReachesInOrder → EventsAreInParts → (t : Content) (lanes : List (Lane Z)) (s : State) (counts : Tally) (going : IsGoing t lanes s counts)
+prefix_so_far : {Z : Type 0} → EarlierEventsStayAdmitted → ReachesInOrder → SentGoesOn → (t : Content) (lanes : List (Lane Z)) (s : State) (counts : Tally) (going : IsGoing t lanes s counts)
     (p : PortRow) → (rest : List ℕ) × (text_so_far t going.streams p ≡ text_up_to t going.given going.since p ++ rest)
-prefix_so_far {Z} stay reaches parts t lanes s counts going p = (
+prefix_so_far {Z} stay reaches goes_on t lanes s counts going p = (
   flat_map record_text (map (written m) more.0),
   ap (λ sent. capture_text (map (written m) sent)) more.1
       ∙ ap capture_text (map-append (written m) (out m) more.0)
@@ -107,7 +107,7 @@ prefix_so_far {Z} stay reaches parts t lanes s counts going p = (
   late = let a = going.come in let b = going.until in omega (arith, a, b)
 
   more : (rest : List Sent) × (sent_up_to t m (frontier going.streams) p ≡ out m ++ rest)
-  more = sent_later parts reaches t m going.since (frontier going.streams) p (beyond going.since (frontier going.streams) late)
+  more = sent_later goes_on reaches t m going.since (frontier going.streams) p (beyond going.since (frontier going.streams) late)
 
   later : AllFrom going.since waits
   later = weaken s.run.latest going.since waits going.come going.later
@@ -118,13 +118,13 @@ prefix_so_far {Z} stay reaches parts t lanes s counts going p = (
       ∙ ap (map (written (given ++ waits))) (same_sent stay reaches t given waits going.since p later)
       ∙ same_bytes t given waits (Some going.since) p
 
-pub out_is_a_prefix : {Z : Type 0} → EarlierEventsStayAdmitted → ReachesInOrder → EventsAreInParts → TakenAreTheCapture → TakenBeginTheCapture → OneReading
+pub out_is_a_prefix : {Z : Type 0} → EarlierEventsStayAdmitted → ReachesInOrder → SentGoesOn → TakenAreTheCapture → TakenBeginTheCapture → OneReading
     → (t : Content) (lanes : List (Lane Z)) (s : State) (counts : Tally) (going : IsGoing t lanes s counts) → AllByRecursion IsOver lanes
     → (read : List Capture) → AreCaptures (texts_over lanes) read → (p : PortRow)
     → (rest : List ℕ) × (output_text t (merged read) p ≡ text_up_to t going.given going.since p ++ rest)
-out_is_a_prefix stay reaches parts takes begin one t lanes s counts going over read are p =
-    let all = prefix_of_output stay reaches parts t going.streams read p (lanes_go_on takes begin one lanes going.streams read over going.lanes_are are) in
-    let so_far = prefix_so_far stay reaches parts t lanes s counts going p in (
+out_is_a_prefix stay reaches goes_on takes begin one t lanes s counts going over read are p =
+    let all = prefix_of_output stay reaches goes_on t going.streams read p (lanes_go_on takes begin one lanes going.streams read over going.lanes_are are) in
+    let so_far = prefix_so_far stay reaches goes_on t lanes s counts going p in (
       so_far.0 ++ all.0,
       all.1 ∙ ap (λ text. text ++ all.0) so_far.1 ∙ append_assoc (text_up_to t going.given going.since p) so_far.0 all.0,
     )

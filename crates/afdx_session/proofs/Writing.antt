@@ -15,7 +15,7 @@ use Rattle.afdx_port.specs.declared.Sent.{Sent}
 use Rattle.afdx_port.specs.Content.{done}
 use Rattle.afdx_port.specs.Service.{sent_of}
 use Rattle.afdx_port.specs.Inner.Order.{ReachesInOrder}
-use Rattle.afdx_port.specs.Inner.Course.{EventsAreInParts}
+use Rattle.afdx_port.specs.Inner.Events.{SentGoesOn}
 use Rattle.afdx_core.specs.declared.step.Row.{Row}
 use Rattle.afdx_core.specs.State.{Run, State, sent_in, port_after, place_of, next_by, after_finish}
 use Rattle.afdx_core.specs.Held.{Keeps}
@@ -178,10 +178,10 @@ unfolding sent_up_to sent_by
 all_sent t given p = refl
 
 -- what went before, what a lane has of the output, and what the finished switch did not hand out, are the whole
-rest_of_port : {Z : Type 0} → EventsAreInParts → ReachesInOrder → (given : List Arrival) (since : ℕ) (s : State) (p : PortRow) (place : ℕ) (l : Lane Z) → s.run.rows ≡ rows_of s.run.table given
+rest_of_port : {Z : Type 0} → SentGoesOn → ReachesInOrder → (given : List Arrival) (since : ℕ) (s : State) (p : PortRow) (place : ℕ) (l : Lane Z) → s.run.rows ≡ rows_of s.run.table given
     → slice_get s.run.table.ports place ≡ Some p → IsOut s.run.table given since s p place l
     → take l.taken (output_text s.run.table given p) ++ l.out.items ++ flat_map record_text (map (written given) (left_at (after_finish s.run) (Some place))) ≡ output_text s.run.table given p
-rest_of_port {Z} parts reaches given since s p place l rows is_port out =
+rest_of_port {Z} goes_on reaches given since s p place l rows is_port out =
     ap (λ more. take l.taken (output_text t given p) ++ l.out.items ++ flat_map record_text (map (written given) more)) left_is
     ∙ ap (λ xs. take l.taken xs ++ l.out.items ++ behind) whole
     ∙ ap (λ xs. xs ++ l.out.items ++ behind) (take-append-le l.taken text behind out.taken)
@@ -198,7 +198,7 @@ rest_of_port {Z} parts reaches given since s p place l rows is_port out =
       first = sent_up_to t given (Some since) p
 
       rest : (more : List Sent) × (sent_up_to t given None p ≡ first ++ more)
-      rest = sent_later parts reaches t given since None p tt
+      rest = sent_later goes_on reaches t given since None p tt
 
       behind : List ℕ
       behind = flat_map record_text (map (written given) rest.0)
@@ -248,12 +248,12 @@ passed_done takes cleared t texts m s passed run accepted is_run =
     }
 
 -- what is left of it, beside what went to the files
-pub rest_is_left : {F Z : Type 0} → EventsAreInParts → ReachesInOrder → TakenAreTheCapture → EndCountsTheRun
+pub rest_is_left : {F Z : Type 0} → SentGoesOn → ReachesInOrder → TakenAreTheCapture → EndCountsTheRun
     → (contents : F → Option (List ℕ)) (t : Content) (texts : List Text) (m : Machine Z) (r : Rest)
     (files now : List F) → AreOfPorts t texts → m.switch.run.table ≡ t → HasWritten contents texts m files now
     → r.state.run ≡ after_finish m.switch.run → Keeps m.switch r.state → r.counts ≡ ended_tally (after_finish m.switch.run) m.counts
     → r.texts ≡ map (λ (l : Lane Z). (l.port, l.out.items)) m.lanes.items → r.taken ≡ taken_by m.lanes.items → HasRest contents t texts r files now
-rest_is_left {F} {Z} parts reaches takes law contents t texts m r files now ports table has run keeps counts outs taken = record {
+rest_is_left {F} {Z} goes_on reaches takes law contents t texts m r files now ports table has run keeps counts outs taken = record {
   ports = ports;
   read = captures_of going.streams;
   are_read = all_read takes texts m has.gone;
@@ -301,7 +301,7 @@ rest_is_left {F} {Z} parts reaches takes law contents t texts m r files now port
         ap (λ j. take j (output_text u given p) ++ text.1 ++ flat_map record_text (map (written given) (left_at r.state.run (Some place)))) (sym taken_is)
         ∙ ap (λ (x : Text). take from.0.taken (output_text u given p) ++ x.1 ++ flat_map record_text (map (written given) (left_at r.state.run (Some place)))) (sym from.2)
         ∙ ap (λ (x : Run). take from.0.taken (output_text u given p) ++ from.0.out.items ++ flat_map record_text (map (written given) (left_at x (Some place)))) run
-        ∙ rest_of_port parts reaches given going.since m.switch p place from.0 rows is_port (going.outs place p from.0 tt is_port from.1);
+        ∙ rest_of_port goes_on reaches given going.since m.switch p place from.0 rows is_port (going.outs place p from.0 tt is_port from.1);
   }
 
 -- ---- the files have the whole

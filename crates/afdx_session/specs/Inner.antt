@@ -1,3 +1,4 @@
+pub mod Early
 pub mod Files
 pub mod Kept
 pub mod Lanes

@@ -10,7 +10,7 @@ ghost use Rattle.afdx_table.specs.Content.{Content};
 
 use crate::lane::Lane;
 use afdx_core::Switch;
-use afdx_port::laws::{events_follow_the_line, stamps_keep_their_order};
+use afdx_port::laws::{sent_goes_on, stamps_keep_their_order};
 use std::alloc::{AllocError, Allocator};
 
 /// The texts of all frames that a port sent and did not hand out go behind what is there. Each frame's bytes are
@@ -45,7 +45,7 @@ pub(crate) fn drain_all<A: Allocator + Copy>(
         → AreOut t given switch.old.run.latest switch.new lanes.new Every) }
 {
     stamps_keep_their_order();
-    events_follow_the_line();
+    sent_goes_on();
     for lane in lanes.iter_mut() {
         drain(switch, lane.port, &mut lane.out)?;
     }

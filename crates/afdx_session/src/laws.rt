@@ -1,6 +1,7 @@
 //! Laws over the definitions.
 
 ghost use Rattle.afdx_session.specs.Headline.{AcceptedRunsIsolate, OwnFramesAreTheLinksAlone, OthersChangeNothing};
+ghost use Rattle.afdx_session.specs.Inner.Early.{RecordsAreEarly};
 ghost use Rattle.afdx_session.specs.Inner.OneMerge.{MergedIsTheOnlyOne};
 ghost use Rattle.afdx_session.specs.Inner.Pieces.{CallsGoOn, NothingWasTaken, TakenStays, TakesJoin, TakenIsAPrefix, TakesAndRestAreTheOutput};
 ghost use Rattle.afdx_session.specs.Inner.Readable.{OutputsAreReadable};
@@ -15,7 +16,7 @@ use afdx_filter::laws::clean_frames_have_a_link;
 use afdx_pcap::laws::whole_records_stay;
 use afdx_port::laws::{
     arrivals_change_nothing_earlier, ends_do_not_fall, ends_within_a_second,
-    events_follow_the_line, stamps_keep_their_order,
+    feeds_are_admitted_in_parts, sent_goes_on, stamps_keep_their_order,
 };
 use afdx_table::laws::links_are_found;
 
@@ -27,6 +28,7 @@ pub fn accepted_runs_isolate()
     clean_frames_have_a_link();
     verdicts_name_links();
     links_are_found();
+    feeds_are_admitted_in_parts();
     merged_is_a_merge();
     accepted_tables_isolate();
 }
@@ -61,8 +63,13 @@ pub fn output_so_far_grows()
 {
     arrivals_change_nothing_earlier();
     stamps_keep_their_order();
-    events_follow_the_line();
+    sent_goes_on();
 }
+
+/// No record that is read of captures has a stamp in the last second.
+pub fn records_are_early()
+    ensures { RecordsAreEarly }
+{}
 
 /// Of the captures of a table's ports there is one merge by stamp, then by port number: the program's.
 pub fn merged_is_the_only_one()
@@ -104,7 +111,7 @@ pub fn output_grows_with_bytes()
 {
     arrivals_change_nothing_earlier();
     stamps_keep_their_order();
-    events_follow_the_line();
+    sent_goes_on();
     whole_records_stay();
 }
 
@@ -120,7 +127,7 @@ pub fn takes_join_to_the_output()
 {
     arrivals_change_nothing_earlier();
     stamps_keep_their_order();
-    events_follow_the_line();
+    sent_goes_on();
     whole_records_stay();
 }
 

@@ -34,9 +34,7 @@ use afdx_pcap::Record;
 use afdx_pcap::laws::{
     each_file_has_one_reading, taken_records_are_the_first, taken_records_begin_the_capture,
 };
-use afdx_port::laws::{
-    arrivals_change_nothing_earlier, events_follow_the_line, stamps_keep_their_order,
-};
+use afdx_port::laws::{arrivals_change_nothing_earlier, sent_goes_on, stamps_keep_their_order};
 use afdx_units::Stamp;
 use std::alloc::{AllocError, Allocator};
 
@@ -360,7 +358,7 @@ impl<'a, A: Allocator + Copy> Machine<'a, A> {
     {
         arrivals_change_nothing_earlier();
         stamps_keep_their_order();
-        events_follow_the_line();
+        sent_goes_on();
         taken_records_are_the_first();
         taken_records_begin_the_capture();
         each_file_has_one_reading();

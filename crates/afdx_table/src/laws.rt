@@ -1,6 +1,7 @@
 //! Laws over the definitions.
 
 ghost use Rattle.afdx_table.specs.WellFormed.{TablesAreWellFormed};
+ghost use Rattle.afdx_table.specs.Inner.Distinct.{PortsAreDistinct};
 ghost use Rattle.afdx_table.specs.Inner.Holds.{TablesHoldTheirTexts};
 ghost use Rattle.afdx_table.specs.Inner.Found.{LinksAreFound, LinksAreAtTheirPlaces, PortsAreFound};
 
@@ -29,4 +30,9 @@ pub fn links_are_at_their_places()
 /// Each port of a well-formed table is under its number.
 pub fn ports_are_found()
     ensures { PortsAreFound }
+{}
+
+/// Ports whose numbers rise have different numbers.
+pub fn ports_are_distinct()
+    ensures { PortsAreDistinct }
 {}

@@ -1,8 +1,6 @@
 -- A port's events are in order.
 use Rattle.std.proofs.Common.{ℕ, zero, suc, ◌+◌, ◌-◌, ◌<◌, ◌≤◌, max, nat_lt, Bool, true, false, cond, List, [], ◌∷◌, length, filter, arith}
 use Rattle.std.specs.List.{AllByRecursion}
-use Rattle.afdx_units.specs.declared.line.Speed.{Speed}
-use Rattle.afdx_units.specs.declared.line.Speed.TheVariants.{Ten, Hundred, Thousand}
 use Rattle.afdx_units.specs.Line.{cost_of}
 use Rattle.afdx_port.specs.declared.Settings.{Settings}
 use Rattle.afdx_port.specs.declared.Item.{Item}
@@ -10,6 +8,7 @@ use Rattle.afdx_port.specs.declared.Sent.{Sent}
 use Rattle.afdx_port.specs.declared.Aged.{Aged}
 use Rattle.afdx_port.specs.Service.{Event, sending, aging, instant, free_after, came, fate, next, others, in_turn, serve}
 use Rattle.afdx_port.specs.Content.{done}
+use Rattle.afdx_port.specs.Inner.Events.{SendingTakesTime}
 use Rattle.afdx_trace.specs.Departures.{AreInOrder}
 use Rattle.afdx_trace.specs.Inner.Laws.{EventsAreInOrder}
 
@@ -25,15 +24,10 @@ none_at : (t u : ℕ) (events : List Event) → t < u → NoneBefore u events �
 none_at t u [] lt late = tt
 none_at t u (event ∷ events) lt late = (let h = late.0 in omega (arith, h, lt), none_at t u events lt late.1)
 
-takes_time : (speed : Speed) (size : ℕ) → 0 < cost_of speed size
-takes_time Ten size = omega arith
-takes_time Hundred size = omega arith
-takes_time Thousand size = omega arith
-
 -- an event, and those that lie no sooner than the line is free after it
-event_first : (s : Settings) (b : ℕ) (x : Item) (events : List Event) → NoneBefore (free_after (fate s b x)) events → AreInOrder events
+event_first : SendingTakesTime → (s : Settings) (b : ℕ) (x : Item) (events : List Event) → NoneBefore (free_after (fate s b x)) events → AreInOrder events
     → AreInOrder (fate s b x ∷ events)
-event_first s b x events late order = by (nat_lt s.max_delay (b - x.stamp)) late where
+event_first takes_time s b x events late order = by (nat_lt s.max_delay (b - x.stamp)) late where
   discarded : Aged
   discarded = record { item = x; at = b }
 
@@ -64,15 +58,15 @@ served_late (suc count) s free (first ∷ rest) =
       none_before_earlier free after (serve count s after (others s free first rest)) (let h = lies.1 in omega (arith, h)) (served_late count s after (others s free first rest)),
     )
 
-served_in_order : (count : ℕ) (s : Settings) (free : ℕ) (items : List Item) → AreInOrder (serve count s free items)
+served_in_order : SendingTakesTime → (count : ℕ) (s : Settings) (free : ℕ) (items : List Item) → AreInOrder (serve count s free items)
 unfolding next
-served_in_order zero s free items = tt
-served_in_order (suc count) s free [] = tt
-served_in_order (suc count) s free (first ∷ rest) =
+served_in_order takes_time zero s free items = tt
+served_in_order takes_time (suc count) s free [] = tt
+served_in_order takes_time (suc count) s free (first ∷ rest) =
     let b = max free (came s first) in
     let after = free_after (fate s b (in_turn s free first rest)) in
-    event_first s b (in_turn s free first rest) (serve count s after (others s free first rest))
-    (served_late count s after (others s free first rest)) (served_in_order count s after (others s free first rest))
+    event_first takes_time s b (in_turn s free first rest) (serve count s after (others s free first rest))
+    (served_late count s after (others s free first rest)) (served_in_order takes_time count s after (others s free first rest))
 
 -- some of them are in order too
 all_of_some : (P : Event → Type 0) (p : Event → Bool) (events : List Event) → AllByRecursion P events → AllByRecursion P (filter p events)
@@ -97,10 +91,10 @@ some_in_order p (aging x ∷ events) order =
       by true late others = (late, others)
       by false late others = others
 
-pub events_in_order : EventsAreInOrder
-events_in_order c = by c.finished where
+pub events_in_order : SendingTakesTime → EventsAreInOrder
+events_in_order takes_time c = by c.finished where
   all : AreInOrder (serve (length c.admitted) c.settings 0 c.admitted)
-  all = served_in_order (length c.admitted) c.settings 0 c.admitted
+  all = served_in_order takes_time (length c.admitted) c.settings 0 c.admitted
 
   by : (finished : Bool) → AreInOrder (done (record { settings = c.settings; admitted = c.admitted; horizon = c.horizon; finished = finished }))
   by true = all

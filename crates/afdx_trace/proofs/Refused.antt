@@ -20,6 +20,7 @@ use Rattle.afdx_port.specs.declared.Offer.TheVariants.{Queued, Full}
 use Rattle.afdx_port.specs.Service.{Event, sending, aging, item_of as item_in, service, sent_of, aged_of}
 use Rattle.afdx_port.specs.Admission.{fits, admit, admit_all, admitted}
 use Rattle.afdx_port.specs.Content.{done, answers_full}
+use Rattle.afdx_port.specs.Inner.Admission.{AdmittedInParts}
 use Rattle.afdx_port.specs.Inner.Events.{EachHasOneEvent}
 use Rattle.afdx_isolation.specs.Table.{settings_of}
 use Rattle.afdx_core.specs.declared.step.Row.{Row}
@@ -129,15 +130,11 @@ none_of_rows t port k before (row ∷ rows) others =
 
 -- ---- a feed in parts
 
-feed_parts : {X Y : Type 0} (f : List X → X → List Y) (before xs ys : List X) → each_after f before (xs ++ ys) ≡ each_after f before xs ++ each_after f (before ++ xs) ys
-feed_parts f before [] ys = ap (λ before. each_after f before ys) (sym (append-nil before))
-feed_parts f before (x ∷ xs) ys =
-    ap (λ more. f before x ++ more) (feed_parts f (before ++ x ∷ []) xs ys ∙ ap (λ all. each_after f (before ++ x ∷ []) xs ++ each_after f all ys) (append_assoc before (x ∷ []) xs))
+each-append : {X Y : Type 0} (f : List X → X → List Y) (before xs ys : List X) → each_after f before (xs ++ ys) ≡ each_after f before xs ++ each_after f (before ++ xs) ys
+each-append f before [] ys = ap (λ before. each_after f before ys) (sym (append-nil before))
+each-append f before (x ∷ xs) ys =
+    ap (λ more. f before x ++ more) (each-append f (before ++ x ∷ []) xs ys ∙ ap (λ all. each_after f (before ++ x ∷ []) xs ++ each_after f all ys) (append_assoc before (x ∷ []) xs))
     ∙ sym (append_assoc (f before x) (each_after f (before ++ x ∷ []) xs) (each_after f (before ++ x ∷ xs) ys))
-
-admit_parts : (s : Settings) (items feed more : List Item) → admit_all s items (feed ++ more) ≡ admit_all s (admit_all s items feed) more
-admit_parts s items [] more = refl
-admit_parts s items (x ∷ feed) more = admit_parts s (admit s items x) feed more
 
 or_nothing : (a b : Bool) → b ≡ false → (a || (b || false)) ≡ a
 or_nothing true b h = refl
@@ -162,14 +159,14 @@ joins k s items x none same = by (fits s items x) where
 
 -- ---- one port
 
-module _ (one : EachHasOneEvent) (r : Run) (ends : r.finished ≡ true) (before after : List Row) (row : Row) (is : r.rows ≡ before ++ row ∷ after) (l : Link)
+module _ (one : EachHasOneEvent) (in_parts : AdmittedInParts) (r : Run) (ends : r.finished ≡ true) (before after : List Row) (row : Row) (is : r.rows ≡ before ++ row ∷ after) (l : Link)
     (names : named r.table row.verdict ≡ Some l) (passed : passes l before row ≡ true) where
   at_port : (p : PortRow) → leads_to p.id l ≡ true
       → list_any (is_copy (length before)) (admitted (settings_of r.table.latency p) (feed_of r.table p.id r.rows))
       ≡ fits (settings_of r.table.latency p) (admitted (settings_of r.table.latency p) (feed_of r.table p.id before)) (copy_of l before row)
   unfolding feed_of
   at_port p leads =
-      ap (λ (feed : List Item). list_any (is_copy k) (admitted s feed)) parts ∙ ap (list_any (is_copy k)) (admit_parts s [] first (x ∷ later))
+      ap (λ (feed : List Item). list_any (is_copy k) (admitted s feed)) parts ∙ ap (list_any (is_copy k)) (in_parts s [] first (x ∷ later))
       ∙ none_joins k s (admit s (admitted s first) x) later none_later
       ∙ joins k s (admitted s first) x (none_joins k s [] first none_first) (equal k) where
         k : ℕ
@@ -191,7 +188,7 @@ module _ (one : EachHasOneEvent) (r : Run) (ends : r.finished ≡ true) (before 
         offered = ap (λ (o : Option Link). copies_by o p.id before row) names ∙ ap (λ (b : Bool). cond b (x ∷ []) []) (ap (λ (b : Bool). b && leads_to p.id l) passed ∙ leads)
 
         parts : each_after (copies r.table p.id) [] r.rows ≡ first ++ x ∷ later
-        parts = ap (each_after (copies r.table p.id) []) is ∙ feed_parts (copies r.table p.id) [] before (row ∷ after) ∙ ap (λ (xs : List Item). first ++ (xs ++ later)) offered
+        parts = ap (each_after (copies r.table p.id) []) is ∙ each-append (copies r.table p.id) [] before (row ∷ after) ∙ ap (λ (xs : List Item). first ++ (xs ++ later)) offered
 
         none_first : list_any (is_copy k) first ≡ false
         none_first = none_of_rows r.table p.id k [] before (λ i lt. ap (λ (n : ℕ). n == k) (zero_more i) ∙ below i k lt)
@@ -251,13 +248,13 @@ module _ (one : EachHasOneEvent) (r : Run) (ends : r.finished ≡ true) (before 
         kept true = refl
         kept false = refl
 
-pub full_is_exact : EachHasOneEvent → FullIsExact
-full_is_exact one r ends before after row is = by (named r.table row.verdict) refl where
+pub full_is_exact : EachHasOneEvent → AdmittedInParts → FullIsExact
+full_is_exact one in_parts r ends before after row is = by (named r.table row.verdict) refl where
   by : (o : Option Link) → named r.table row.verdict ≡ o → full_in r o before row ≡ full_ports (offers_by (run_before r before) o row)
   by None none = refl
   by (Some l) names = passed (passes l before row) refl where
     passed : (b : Bool) → passes l before row ≡ b
         → cond b (refusing r (length before) l.to) []
         ≡ full_ports (cond b (map (λ (port : ℕ). (port, answer_of (run_before r before) (copy_of l before row) (port_row r.table port))) l.to) [])
-    passed true e = all_refuse one r ends before after row is l names e l.to (λ port among. among)
+    passed true e = all_refuse one in_parts r ends before after row is l names e l.to (λ port among. among)
     passed false e = refl

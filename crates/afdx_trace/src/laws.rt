@@ -2,13 +2,15 @@
 
 ghost use Rattle.afdx_trace.specs.Inner.Laws.{EventsAreInOrder, FullIsExact};
 
-use afdx_port::laws::each_has_one_event;
+use afdx_port::laws::{each_has_one_event, feeds_are_admitted_in_parts, starts_in_time_are_sent};
 
 /// The events of a port are in order of their instants, and a copy that is discarded at the instant at which another starts
 /// comes before it.
 pub fn events_are_in_order()
     ensures { EventsAreInOrder }
-{}
+{
+    starts_in_time_are_sent();
+}
 
 /// Once all is carried out, the ports that are reported to have refused a copy are those that answered `Full` to it: whose
 /// buffer had no room for it.
@@ -16,4 +18,5 @@ pub fn full_is_exact()
     ensures { FullIsExact }
 {
     each_has_one_event();
+    feeds_are_admitted_in_parts();
 }

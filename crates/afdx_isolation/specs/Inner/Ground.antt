@@ -3,7 +3,8 @@ use Rattle.afdx_account.specs.Inner.Laws.{NextFrameJoinsWhereItConforms, PassedB
 use Rattle.afdx_port.specs.declared.Item.{Item}
 use Rattle.afdx_port.specs.Inner.Admission.{EarlierEventsStay}
 use Rattle.afdx_port.specs.Inner.Course.{LineGoesOn, ArrivalJoinsTheLine, EventsAreInParts, EventsFollowTheLine, WorkIsOfTheLine, EventsAreOfItems, WaitingIsOfItems}
-use Rattle.afdx_port.specs.Inner.Order.{KeepsOrder}
+use Rattle.afdx_port.specs.Inner.Events.{SentInTime}
+use Rattle.afdx_port.specs.Inner.Order.{ReachesInOrder, KeepsOrder}
 use Rattle.afdx_port.specs.Inner.Work.{WorkBoundsBytes}
 
 pub record Ground : Type 0 where
@@ -21,4 +22,6 @@ pub record Ground : Type 0 where
   pub waiting : WaitingIsOfItems
   pub events : EventsAreOfItems
   pub order : KeepsOrder
+  pub reaches : ReachesInOrder
+  pub sent_in_time : SentInTime
   pub bytes : WorkBoundsBytes

@@ -4,7 +4,7 @@ use Rattle.afdx_port.specs.declared.Settings.{Settings}
 use Rattle.afdx_port.specs.declared.Item.{Item}
 use Rattle.afdx_port.specs.declared.Offer.TheVariants.{Full}
 use Rattle.afdx_port.specs.Service.{came, service, before}
-use Rattle.afdx_port.specs.Admission.{occupied, admit, admitted, AllFitIn, AllFit}
+use Rattle.afdx_port.specs.Admission.{occupied, admit, admit_all, admitted, AllFitIn, AllFit}
 use Rattle.afdx_port.specs.Content.{Content, answer}
 
 -- an arrival at t changes no event before t
@@ -32,6 +32,10 @@ AdmittedFit = (s : Settings) (feed : List Item) → AllFit s [] (admitted s feed
 -- what is admitted of a feed whose stamps do not fall is in order
 abbrev pub AdmittedInOrder : Type 0
 AdmittedInOrder = (s : Settings) (feed : List Item) → AllPairs (λ a b. a.stamp ≤ b.stamp) feed → AllPairs (λ a b. a.stamp ≤ b.stamp) (admitted s feed)
+
+-- of a feed in two parts, the second is offered to what was admitted of the first
+abbrev pub AdmittedInParts : Type 0
+AdmittedInParts = (s : Settings) (before feed later : List Item) → admit_all s before (feed ++ later) ≡ admit_all s (admit_all s before feed) later
 
 -- a port like it, with a buffer of so many bytes
 abbrev pub with_buffer : ℕ → Settings → Settings

@@ -54,7 +54,8 @@ loop-place-preserved g c =
     let is_due : _ ≡ true = is_due_first c.args.latency at k d c.loop-place.dues os c.loop-place.invariant.latency c.loop-place.invariant.dues first in
     let seen_is = c.carry.ensures.seen ∙ carried_yes at (seen o) is_due in
     let items = newly_aged o.port.content o'.port.content in
-    let same = due_copies c.events_follow_the_line.ensures.parts c.each_has_one_event.ensures c.lagging_ports_follow.ensures.advance o o' at (c.loop-place.invariant.can k d lt) seen_is in
+    let same = due_copies c.events_follow_the_line.ensures.parts c.each_has_one_event.ensures c.events_come_in_parts.ensures.sent c.events_come_in_parts.ensures.aged
+    c.lagging_ports_follow.ensures.advance o o' at (c.loop-place.invariant.can k d lt) seen_is in
     record {
       way = way_step at k d o' c.args.output_ports.now os lt c.loop-place.invariant.way is_due c.carry.ensures.seen;
       can = can_still c.lagging_ports_follow.ensures.advance at k d o' os lt c.loop-place.invariant.can c.carry.ensures.seen;

@@ -28,7 +28,8 @@ loop-output_port-preserved g c =
     let o' = c.end.new.self in
     let counted = all_at ended_out (λ (x : OutputPort _). IsCounted x) c.args.output_ports.now os k d lt c.loop-output_port.invariant.became c.requires.can in
     let items = newly_aged o.port.content o'.port.content in
-    let same = end_copies c.events_follow_the_line.ensures.parts c.each_has_one_event.ensures c.lagging_ports_follow.ensures.finish o o' counted c.end.ensures.seen in
+    let same = end_copies c.events_follow_the_line.ensures.parts c.each_has_one_event.ensures c.events_come_in_parts.ensures.sent c.events_come_in_parts.ensures.aged
+    c.lagging_ports_follow.ensures.finish o o' counted c.end.ensures.seen in
     record {
       became = became_step ended_out c.args.output_ports.now os k o' d lt c.loop-output_port.invariant.became c.end.ensures.seen;
       holds = holds_step c.loop-output_port.store.held c.end.new.store.held os k d o' items lt c.loop-output_port.invariant.holds c.end.ensures.store same;

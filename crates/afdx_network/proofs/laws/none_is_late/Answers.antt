@@ -3,7 +3,13 @@ use Rattle.afdx_network.proofs.laws.none_is_late.Goals as goal
 
 pub returns : goal.returns
 returns c =
-    none_is_late (record { exact = c.clean_exactly.ensures; links = c.links_are_found.ensures; back = c.written_texts_read_back.ensures })
+    none_is_late (record {
+      exact = c.clean_exactly.ensures;
+      verdicts = c.verdicts_name_links.ensures;
+      links = c.links_are_found.ensures;
+      early = c.records_are_early.ensures;
+      back = c.written_texts_read_back.ensures;
+    })
     (record {
       short = c.ways_are_short.ensures;
       readable = c.outputs_are_readable.ensures;

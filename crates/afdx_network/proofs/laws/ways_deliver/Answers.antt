@@ -5,6 +5,7 @@ pub returns : goal.returns
 returns c =
     ways_deliver (record {
       exact = c.clean_exactly.ensures;
+      verdicts = c.verdicts_name_links.ensures;
       links = c.links_are_found.ensures;
       by_frames = c.passed_by_their_frames.ensures;
       enough = c.jitter_enough.ensures;

@@ -19,7 +19,7 @@ returns-in_err-drain-clause-grown g c =
 pub loop-lane-preserved : goal.loop-lane-preserved
 loop-lane-preserved g c =
     let old = slice_index_or c.loop-lane.lanes c.loop-lane.lane-index c.lane-item.result in
-    drains_one c.events_follow_the_line.ensures.parts c.stamps_keep_their_order.ensures.instants c.args.switch.now c.loop-lane.switch c.drain.new.switch c.args.lanes.now c.loop-lane.lanes
+    drains_one c.sent_goes_on.ensures c.stamps_keep_their_order.ensures.instants c.args.switch.now c.loop-lane.switch c.drain.new.switch c.args.lanes.now c.loop-lane.lanes
     c.loop-lane.lane-index old _
     (at_index c.loop-lane.lanes c.loop-lane.lane-index c.lane-item.result (subst (λ n. c.loop-lane.lane-index < n) (sym (grown_length c.args.lanes.now c.loop-lane.lanes c.loop-lane.invariant.grown))
     c.loop-lane-test.true)) (grown_out old c.drain.new.out c.drain.ensures.grown.0 c.drain.ensures.grown.1) c.drain.ensures.drained c.drain.ensures.draws

@@ -30,7 +30,7 @@ returns-clause-ok g c =
     let texts = texts_of c.args.captures.now in
     let begun = c.in_ok-machine.ensures.ok in
     let on = c.in_ok-pass_into.ensures.ok in
-    rest_is_left c.events_follow_the_line.ensures.parts c.stamps_keep_their_order.ensures.instants c.taken_records_are_the_first.ensures.ends c.end_counts_the_run.ensures
+    rest_is_left c.sent_goes_on.ensures c.stamps_keep_their_order.ensures.instants c.taken_records_are_the_first.ensures.ends c.end_counts_the_run.ensures
     g.F.NewFile.contents (table_in c.args.plan) texts c.pass_into.new.self c.into_rest.result c.args.files.now c.pass_into.new.files
     (subst (λ (t : Content). AreOfPorts t texts) begun.table begun.ports) (on.0.table ∙ begun.table) on.1 c.into_rest.ensures.run c.into_rest.ensures.keeps c.into_rest.ensures.counts
     c.into_rest.ensures.texts c.into_rest.ensures.taken

@@ -13,7 +13,7 @@ pub behind-requires : goal.behind-requires
 behind-requires g c =
     let o = c.args.self.now in
     let more = c.lagging_ports_follow.ensures.advance o.port.content c.args.at c.requires.can.still_open c.requires.can.in_order in
-    let n = aged_longer o.port.content (advanced c.args.at o.port.content) more.0 more.1 in
+    let n = aged_longer c.events_come_in_parts.ensures.aged o.port.content (advanced c.args.at o.port.content) more.0 more.1 in
     let a = ap length c.aged-before.ensures in
     let b = ap length (c.aged.ensures ∙ ap (λ (v : Content). aged_of (done v)) c.advance.ensures.content) in
     omega (arith, n, a, b)
@@ -26,8 +26,8 @@ discard_all-requires g c =
     c.behind.ensures ∙ ap₂ (λ n xs. drop n xs) (ap length c.aged-before.ensures) (c.aged.ensures ∙ ap (λ (v : Content). aged_of (done v)) c.advance.ensures.content) in
     subst (λ (xs : List Item). Enough xs c.args.store.now.held) (sym (ap (map (λ (a : Aged). a.item)) aged))
     (enough_one (newly_aged k (advanced c.args.at k)) c.args.store.now.held (copies_at k o.handed) (copies_at (advanced c.args.at k) o.handed)
-    (λ i. advanced_copies c.events_follow_the_line.ensures.parts c.each_has_one_event.ensures c.lagging_ports_follow.ensures.advance k o.handed c.args.at i c.requires.can.still_open
-    c.requires.can.in_order c.requires.can.counted)
+    (λ i. advanced_copies c.events_follow_the_line.ensures.parts c.each_has_one_event.ensures c.events_come_in_parts.ensures.sent c.events_come_in_parts.ensures.aged
+    c.lagging_ports_follow.ensures.advance k o.handed c.args.at i c.requires.can.still_open c.requires.can.in_order c.requires.can.counted)
     c.requires.holds)
 
 pub returns-clause-seen : goal.returns-clause-seen

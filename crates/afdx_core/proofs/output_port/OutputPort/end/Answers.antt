@@ -12,7 +12,7 @@ pub behind-requires : goal.behind-requires
 behind-requires g c =
     let k = c.args.self.now.port.content in
     let more = c.lagging_ports_follow.ensures.finish k in
-    let n = aged_longer k (closed k) more.0 more.1 in
+    let n = aged_longer c.events_come_in_parts.ensures.aged k (closed k) more.0 more.1 in
     let a = ap length c.aged-before.ensures in
     let b = ap length (c.aged.ensures ∙ ap (λ (v : Content). aged_of (done v)) c.finish.ensures.content) in
     omega (arith, n, a, b)
@@ -25,5 +25,6 @@ discard_all-requires g c =
     c.behind.ensures ∙ ap₂ (λ n xs. drop n xs) (ap length c.aged-before.ensures) (c.aged.ensures ∙ ap (λ (v : Content). aged_of (done v)) c.finish.ensures.content) in
     subst (λ (xs : List Item). Enough xs c.args.store.now.held) (sym (ap (map (λ (a : Aged). a.item)) aged))
     (enough_one (newly_aged k (closed k)) c.args.store.now.held (copies_at k o.handed) (copies_at (closed k) o.handed)
-    (λ i. closed_copies c.events_follow_the_line.ensures.parts c.each_has_one_event.ensures c.lagging_ports_follow.ensures.finish k o.handed i c.requires.counted)
+    (λ i. closed_copies c.events_follow_the_line.ensures.parts c.each_has_one_event.ensures c.events_come_in_parts.ensures.sent c.events_come_in_parts.ensures.aged
+    c.lagging_ports_follow.ensures.finish k o.handed i c.requires.counted)
     c.requires.holds)

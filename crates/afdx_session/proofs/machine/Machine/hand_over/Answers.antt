@@ -26,7 +26,7 @@ loop-place-preserved g c =
     let file = at_index c.loop-place.files place c.index-files-place.result there in
     let handed = c.in_ok-hand_over.ensures in
     record {
-      puts = puts_one c.arrivals_change_nothing_earlier.ensures.admission c.stamps_keep_their_order.ensures.instants c.events_follow_the_line.ensures.parts
+      puts = puts_one c.arrivals_change_nothing_earlier.ensures.admission c.stamps_keep_their_order.ensures.instants c.sent_goes_on.ensures
           c.taken_records_are_the_first.ensures.ends c.taken_records_begin_the_capture.ensures c.each_file_has_one_reading.ensures.one_list g.F.NewFile.contents c.args.self.now c.args.files.now
           items c.loop-place.files place handed.0 c.index_mut.result.now c.hand_over.new.self (slice_index_or c.loop-place.files place c.index-files-place.result)
           c.hand_over.new.file at file handed.1 handed.2 was;
