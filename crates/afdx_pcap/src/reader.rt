@@ -11,6 +11,9 @@ use crate::record::Record;
 use std::alloc::Allocator;
 use std::marker::Model;
 
+/// The bytes that a processor gets from memory at once.
+const CACHE_LINE: usize = 64;
+
 /// Reads the records of a capture: of one that comes in pieces, each as soon as its last byte is there; or of
 /// a whole one, which stays where it is.
 ///
@@ -24,6 +27,10 @@ pub struct Reader<'a, A: Allocator> {
     progress: Option<Progress>,
     closed: bool,
     fault: Option<PcapFault>,
+    /// Before this place the bytes were looked at.
+    looked: usize,
+    /// What was seen there, kept so that no compiler leaves the look out.
+    glance: u8,
 }
 
 impl<'a, A: Allocator> Model for Reader<'a, A> {
@@ -58,6 +65,8 @@ impl<'a, A: Allocator + Copy> Reader<'a, A> {
             progress: None,
             closed: false,
             fault: None,
+            looked: 0,
+            glance: 0,
         }
     }
 
@@ -72,6 +81,8 @@ impl<'a, A: Allocator + Copy> Reader<'a, A> {
             progress: None,
             closed: true,
             fault: None,
+            looked: 0,
+            glance: 0,
         }
     }
 
@@ -151,6 +162,24 @@ impl<'a, A: Allocator + Copy> Reader<'a, A> {
                 Err(fault)
             }
         }
+    }
+
+    /// Looks at the next `count` bytes, as far as they are there and were not looked at before, so that the processor has
+    /// them at hand when their records are read. Contracts see no change.
+    ///
+    /// Where a record begins is known once the one before it was read, so that each waits for the memory of its own header;
+    /// these looks wait for none. O(count / 64).
+    pub fn look_ahead(&mut self, count: usize)
+        ensures { self.new ≡ self.old }
+    {
+        let place = self.progress.map_or(0, |progress| progress.place);
+        let bytes = self.bytes.as_slice();
+        let end = bytes.len().min(place.saturating_add(count));
+        let start = self.looked.max(place).min(end);
+        for byte in bytes[start..end].iter().step_by(CACHE_LINE) {
+            self.glance ^= *byte;
+        }
+        self.looked = end.max(self.looked);
     }
 
     /// Ends the input: a rest that is no whole record is then a fault of `next`. A second call changes

@@ -1,5 +1,5 @@
 -- Whole captures are carried to the switch: the first record goes, and the next one of its capture is read.
-use Rattle.std.proofs.Common.{◌≡◌, ℕ, zero, suc, ◌+◌, ◌-◌, ◌<◌, ◌≤◌, nat_le, Bool, true, false, cond, List, [], ◌∷◌, length, length-set, set, get_or, slice_get, Option, Some, None, inl, inr, refl}
+use Rattle.std.proofs.Common.{◌≡◌, ℕ, zero, suc, ◌+◌, ◌-◌, ◌<◌, ◌≤◌, nat_le, Bool, true, false, cond, List, [], ◌∷◌, length, length-set, set, get_or, slice_get, Option, Some, None, Vec, inl, inr, refl}
 use Rattle.std.proofs.Common.{ap, sym, ◌∙◌, arith, subst}
 use Rattle.std.specs.List.{AllByRecursion}
 use Rattle.std.proofs.lemmas.Bool.{cases_Bool, le-leb, lt-leb, both_ways}
@@ -375,6 +375,11 @@ same_table s = record { table = refl; accepted = refl; handed = refl }
 -- nothing goes out
 pub hands_none : {Z : Type 0} (m : Machine Z) → IsCarrying m → HandsOn m m
 hands_none m carrying = record { carrying = carrying; same = same_table m.switch; texts = refl; taken = refl; left = refl }
+
+-- what a machine carries depends on the lanes as a list
+pub over_same_lanes : {Z : Type 0} (m : Machine Z) (lanes : Vec (Lane Z) Z) → lanes.items ≡ m.lanes.items → IsCarrying m
+    → IsCarrying (record { switch = m.switch; counts = m.counts; lanes = lanes })
+over_same_lanes m lanes same carrying = record { of = rw same carrying.of; handed = carrying.handed; going = rw same carrying.going; over = rw same carrying.over }
 
 -- ---- a fault
 

@@ -29,6 +29,10 @@ use std::mem;
 /// few, and so few that the parts of 24 ports stay at hand.
 const PART: usize = 16_384;
 
+/// How many bytes of each capture are looked at before the next few hundred records go to the switch: of 24 captures about
+/// what these take.
+const AHEAD: usize = 4_096;
+
 /// A port's capture as far as it has come, and its output as far as it was not taken.
 ///
 /// `undone`, `closed`, `ready` and `taken` speak of the calls that answered Ok: what a call that failed has
@@ -225,6 +229,16 @@ pub(crate) fn lanes_of<'a, A: Allocator + Copy>(
         lanes.push(lane)?;
     }
     Ok(lanes)
+}
+
+/// The readers look at what comes next, each for itself, so that the processor waits for the memory of all of them at once.
+/// O(ports).
+pub(crate) fn look_ahead<A: Allocator + Copy>(lanes: &mut [Lane<'_, A>])
+    ensures { lanes.new ≡ lanes.old }
+{
+    for lane in lanes.iter_mut() {
+        lane.reader.look_ahead(AHEAD);
+    }
 }
 
 /// The place of a port's lane. O(ports).

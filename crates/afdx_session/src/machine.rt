@@ -22,7 +22,7 @@ ghost use Rattle.afdx_session.specs.Reading.{IsReadFault};
 use crate::check::check_texts;
 use crate::drain::drain_all;
 use crate::heads::Heads;
-use crate::lane::{Lane, head_of, lanes_of, limit_of, take_settled};
+use crate::lane::{Lane, head_of, lanes_of, limit_of, look_ahead, take_settled};
 use crate::plan::{Outcome, Plan, RunFault};
 use crate::rest::Rest;
 use afdx_core::laws::{merged_is_a_merge, merged_is_by_stamp_and_port};
@@ -325,6 +325,7 @@ impl<'a, A: Allocator + Copy> Machine<'a, A> {
         ensures ok { IfOk result (λ more. CarriesOn more self.old self.new) }
         ensures err { IfErr result (λ fault. IsOneFault (texts_over self.old.lanes.items) fault) }
     {
+        look_ahead(&mut self.lanes);
         let mut heads = Heads::of(&self.lanes);
         for _ in 0..RECORDS_BETWEEN_DRAINS {
             if !self.carry_one(&mut heads)? {
