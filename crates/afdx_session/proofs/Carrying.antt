@@ -1,6 +1,6 @@
 -- Whole captures are carried to the switch: the first record goes, and the next one of its capture is read.
 use Rattle.std.proofs.Common.{◌≡◌, ℕ, zero, suc, ◌+◌, ◌-◌, ◌<◌, ◌≤◌, nat_le, Bool, true, false, cond, List, [], ◌∷◌, length, length-set, set, get_or, slice_get, Option, Some, None, inl, inr, refl}
-use Rattle.std.proofs.Common.{Vec, ap, sym, ◌∙◌, arith, subst}
+use Rattle.std.proofs.Common.{Vec, drop, option_map, ap, sym, ◌∙◌, arith, subst}
 use Rattle.std.specs.List.{AllByRecursion}
 use Rattle.std.proofs.lemmas.Bool.{cases_Bool, le-leb, lt-leb, both_ways}
 use Rattle.afdx_pcap.specs.Record.{Record}
@@ -10,7 +10,7 @@ use Rattle.afdx_pcap.specs.Fault.{IsFault}
 use Rattle.afdx_pcap.specs.declared.fault.PcapFault.{PcapFault}
 use Rattle.afdx_table.specs.Content.{Content}
 use Rattle.std.specs.Vec.{with_items}
-use Rattle.std.proofs.lemmas.Option.{same_Some, slice_get_within}
+use Rattle.std.proofs.lemmas.Option.{same_Some, slice_get_within, slice_get-map}
 use Rattle.afdx_core.specs.State.{State}
 use Rattle.afdx_core.specs.Merge.{Arrival}
 use Rattle.afdx_core.specs.Inner.Merge.{MergedIsAMerge, MergedIsByStampAndPort}
@@ -26,7 +26,6 @@ use Rattle.afdx_session.specs.Inner.Lanes.{limit_at, with_waiting, head_of, head
 use Rattle.afdx_session.specs.Inner.Lent.{AreSound, IsOver, texts_over, taken_by, left_of, left_in, IsOneFault, IsCarrying, CarriesOn, HandsOn}
 use Rattle.afdx_session.specs.Inner.Kept.{AreOfTable, AreOut, Every, IsGoing, AreTouched, IsGrown, AreGrown, IsOfSameTable}
 use Rattle.afdx_session.specs.Inner.View.{HasGone, IsRound}
-use Rattle.afdx_session.proofs.Firsts.{get-map}
 use Rattle.afdx_session.proofs.Given.{lane_at}
 use Rattle.afdx_session.proofs.Gone.{at_index, grown_length, drained_going}
 use Rattle.afdx_session.proofs.Going.{reads_on}
@@ -37,7 +36,7 @@ use Rattle.afdx_session.proofs.Lending.{draws_over, drawn_adds, ports_stay, take
 use Rattle.afdx_count.specs.Tally.{Tally}
 use Rattle.afdx_session.proofs.Closing.{no_fault}
 use Rattle.afdx_session.proofs.Rounds.{GoesFrom}
-use Rattle.afdx_session.proofs.Numbered.{all_slice_get, set_here, rest_same}
+use Rattle.afdx_session.proofs.Numbered.{all_slice_get, set_here}
 use Rattle.afdx_session.proofs.ReadUp.{read_same, all_set}
 
 -- ---- the limit
@@ -217,7 +216,7 @@ gone_lane {Z} old new place l over gone at = subst (IsGone new place) (sym same)
   at = subst (λ (x : Lane Z). slice_get new place ≡ Some x) same at;
   closed = was.closed;
   still_open = waits.still_open;
-  none = let one = was.head waits.still_open in rest_same (sym gone.head ∙ one.1);
+  none = let one = was.head waits.still_open in ap (drop 1) (sym gone.head ∙ one.1);
 }) where
   was : IsOver gone.lane
   was = all_slice_get IsOver old place gone.lane over gone.at
@@ -310,7 +309,8 @@ carries_fault old mid place l run.Memory touched gone why = tt
 carries_fault {Z} old mid place l (run.Capture port fault) touched gone why = (
   place,
   l.reader.bytes,
-  ap (λ ts. slice_get ts place) (sym (texts_touched old mid touched)) ∙ get-map (λ (x : Lane Z). (x.port, x.reader.bytes)) mid place l gone.at ∙ ap (λ n. Some (n, l.reader.bytes)) (sym why.0),
+  ap (λ ts. slice_get ts place) (sym (texts_touched old mid touched))
+      ∙ slice_get-map (λ (x : Lane Z). (x.port, x.reader.bytes)) mid place ∙ ap (option_map (λ (x : Lane Z). (x.port, x.reader.bytes))) gone.at ∙ ap (λ n. Some (n, l.reader.bytes)) (sym why.0),
   subst (λ b. IsWrong l.reader.bytes b fault) gone.closed why.1,
 )
 carries_fault old mid place l run.WrongPorts touched gone why = why

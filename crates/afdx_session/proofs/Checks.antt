@@ -1,18 +1,19 @@
 -- Captures are checked, one after the other.
-use Rattle.std.proofs.Common.{◌≡◌, ℕ, zero, suc, ◌+◌, ◌<◌, ◌≤◌, List, [], ◌∷◌, length, take, get_or, slice_get, Some, Vec, inl, inr, refl, sym, ap, arith, subst}
-use Rattle.std.proofs.lemmas.Option.{slice_get_read, same_Some}
+use Rattle.std.proofs.Common.{◌≡◌, ℕ, zero, suc, ◌+◌, ◌<◌, ◌≤◌, List, [], ◌∷◌, length, take, get_or, slice_get, Some, Vec, inl, inr, refl, sym, ap, arith, subst, option_map, ◌∙◌}
+use Rattle.std.proofs.lemmas.Option.{slice_get_read, same_Some, slice_get-map}
 use Rattle.std.proofs.Math.Numerals.{suc-eq-add-one}
 use Rattle.afdx_pcap.specs.Fault.{IsFault}
 use Rattle.afdx_pcap.specs.declared.fault.PcapFault.{PcapFault}
 use Rattle.afdx_session.specs.Texts.{Text, texts_of}
 use Rattle.afdx_session.specs.Reading.{IsSound, IsFirstFault}
 use Rattle.afdx_session.specs.Inner.Lent.{AreSound}
-use Rattle.afdx_session.proofs.Firsts.{get-map}
 
 -- the text at a place, as the code reads it
 pub text_read : {Z : Type 0} (captures : List (ℕ × Vec ℕ Z)) (n : ℕ) (pair : ℕ × Vec ℕ Z) → n < length captures → pair ≡ get_or captures n pair → slice_get (texts_of captures) n
     ≡ Some (pair.0, pair.1.items)
-text_read {Z} captures n pair lt is = get-map (λ (p : ℕ × Vec ℕ Z). (p.0, p.1.items)) captures n pair (slice_get_read captures (length captures) n pair refl lt is)
+text_read {Z} captures n pair lt is =
+    slice_get-map (λ (p : ℕ × Vec ℕ Z). (p.0, p.1.items)) captures n
+    ∙ ap (option_map (λ (p : ℕ × Vec ℕ Z). (p.0, p.1.items))) (slice_get_read captures (length captures) n pair refl lt is)
 
 sound_suc : (n : ℕ) (texts : List Text) (text : Text) → AreSound (take n texts) → slice_get texts n ≡ Some text → IsSound text → AreSound (take (suc n) texts)
 sound_suc n [] text sound at is = absurd cc

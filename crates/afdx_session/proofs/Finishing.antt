@@ -1,9 +1,9 @@
 -- The outcome of a session is that of a run over the whole captures.
-use Rattle.std.proofs.Common.{◌≡◌, ℕ, zero, suc, ◌<◌, ◌==◌, Bool, false, cond, List, [], ◌∷◌, map, drop, slice_get, Some, refl, ap, sym, ◌∙◌, arith, subst}
+use Rattle.std.proofs.Common.{◌≡◌, ℕ, zero, suc, ◌<◌, ◌==◌, Bool, false, cond, List, [], ◌∷◌, map, drop, slice_get, Some, refl, ap, sym, ◌∙◌, arith, subst, get_or}
 use Rattle.std.specs.Prelude.{find}
 use Rattle.std.specs.List.{AllByRecursion}
 use Rattle.std.proofs.lemmas.Option.{same_Some}
-use Rattle.std.proofs.lemmas.Bool.{eq-eqb}
+use Rattle.std.proofs.lemmas.Bool.{eq-eqb, ne_eqb}
 use Rattle.std.proofs.lemmas.Simd.{map-map}
 use Rattle.afdx_table.specs.declared.rows.PortRow.{PortRow}
 use Rattle.afdx_table.specs.Content.{Content}
@@ -28,7 +28,7 @@ use Rattle.afdx_session.specs.Finish.{rest_of, texts_in, IsFinished}
 use Rattle.afdx_session.specs.Inner.Lanes.{intake_of}
 use Rattle.afdx_session.specs.Inner.Kept.{AreOfTable, IsRunning, IsMarked, IsOfSameTable}
 use Rattle.afdx_session.specs.Inner.View.{intakes_of, texts_at, seen_of, AreHalfDone, AreEndedLanes, IsKeptMachine}
-use Rattle.afdx_session.proofs.Numbered.{all_slice_get, first_same, rest_same, lower_differs}
+use Rattle.afdx_session.proofs.Numbered.{all_slice_get}
 use Rattle.afdx_session.proofs.Gone.{port_of_lane}
 use Rattle.afdx_session.proofs.Ending.{TakenAreTheCapture, are_captures, output_is, given_all}
 use Rattle.afdx_session.proofs.Shown.{half_ports}
@@ -44,12 +44,12 @@ find_intake {Z = Z} (p ∷ ports) (m ∷ lanes) zero l rises same at =
     subst (λ (x : Lane Z). find (λ (i : Intake). i.port == x.port) (intakes_of (m ∷ lanes)) ≡ Some (intake_of x)) (same_Some m l at)
     (ap (λ b. cond b (Some (intake_of m)) (find (λ (i : Intake). i.port == m.port) (intakes_of lanes))) (eq-eqb m.port m.port refl))
 find_intake {Z = Z} (p ∷ ports) (m ∷ lanes) (suc k) l rises same at =
-    let more = rest_same same in
-    let head = first_same same in
+    let more = ap (drop 1) same in
+    let head = ap (λ (ns : List ℕ). get_or ns 0 0) same in
     let q = port_of_lane ports lanes k l more at in
     let above = all_slice_get (λ (other : PortRow). p.id < other.id) ports k q.0 rises.0 q.1 in
     let own = q.2 in
-    ap (λ b. cond b (Some (intake_of m)) (find (λ (i : Intake). i.port == l.port) (intakes_of lanes))) (lower_differs m.port l.port (omega (arith, head, above, own)))
+    ap (λ b. cond b (Some (intake_of m)) (find (λ (i : Intake). i.port == l.port) (intakes_of lanes))) (ne_eqb m.port l.port (λ same. omega (arith, head, above, own, same)))
     ∙ find_intake ports lanes k l rises.1 more at
 
 -- lists with the same at each place
@@ -60,7 +60,7 @@ same_lists f g i j [] (y ∷ ys) same each = absurd cc
 same_lists f g i j (x ∷ xs) [] same each = absurd cc
 same_lists f g i j (x ∷ xs) (y ∷ ys) same each =
     ap (λ w. w ∷ map f xs) (each 0 x y refl refl)
-    ∙ ap (λ ws. g y ∷ ws) (same_lists f g i j xs ys (rest_same same) (λ k. each (suc k)))
+    ∙ ap (λ ws. g y ∷ ws) (same_lists f g i j xs ys (ap (drop 1) same) (λ k. each (suc k)))
 
 text_ports : {Z : Type 0} (lanes : List (Lane Z)) → map (λ (text : Text). text.0) (texts_at lanes) ≡ map (λ (l : Lane Z). l.port) lanes
 text_ports [] = refl

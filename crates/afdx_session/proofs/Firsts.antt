@@ -1,8 +1,9 @@
 -- What the code finds of its lanes is what the merge asks of the streams.
-use Rattle.std.proofs.Common.{◌≡◌, ℕ, zero, suc, ◌+◌, ◌<◌, ◌≤◌, Bool, cond, List, [], ◌∷◌, ◌++◌, map, length, slice_get, Option, Some, None, refl, ap, sym, ◌∙◌, arith, inl, inr, subst}
+use Rattle.std.proofs.Common.{◌≡◌, ℕ, zero, suc, ◌+◌, ◌<◌, ◌≤◌, Bool, cond, List, [], ◌∷◌, ◌++◌, map, length, Option, Some, None, refl, ap, sym, ◌∙◌, arith, inl, inr, subst, option_map}
 use Rattle.std.specs.List.{AllByRecursion}
 use Rattle.std.proofs.lemmas.Bool.{cases_lt}
 use Rattle.std.proofs.lemmas.List.{map-set}
+use Rattle.std.proofs.lemmas.Option.{slice_get-map}
 use Rattle.afdx_pcap.specs.Record.{Record}
 use Rattle.afdx_core.specs.Merge.{Arrival, Capture}
 use Rattle.afdx_session.specs.declared.lane.Lane.{Lane}
@@ -78,13 +79,6 @@ none_waits (l ∷ lanes) none = (empty l.waiting.items (none 0 (omega arith)), n
 
 -- ---- it goes
 
-pub get-map : {X Y : Type 0} (f : X → Y) (xs : List X) (k : ℕ) (x : X) → slice_get xs k ≡ Some x → slice_get (map f xs) k ≡ Some (f x)
-get-map f [] k x is = absurd cc
-get-map f (y ∷ xs) zero x is = same is where
-  same : Some y ≡ Some x → Some (f y) ≡ Some (f x)
-  same e = cc
-get-map f (y ∷ xs) (suc k) x is = get-map f xs k x is
-
 -- the record that the code takes is settled, and is the next of the merge
 pub lane_goes : {Z : Type 0} (streams : List Stream) (given : List Arrival) (old new : List (Lane Z)) (port : ℕ) (frame : Record) → Ascend (ports_of (captures_of streams))
     → AllRise (map waiting_of old) → AreLanesOf old streams
@@ -93,7 +87,7 @@ lane_goes streams given old new port frame ascend rise are goes settling =
     let w = waiting_of goes.lane in
     let within : IsWithin (limit streams) frame.stamp w.port =
     subst (λ p. IsWithin p frame.stamp w.port) (limit_is old streams are) (subst (λ n. IsWithin (limit_at old) frame.stamp n) goes.port_is goes.within) in
-    let done = settles_on streams given (map waiting_of old) goes.place w frame goes.rest.items ascend rise (get-map waiting_of old goes.place goes.lane goes.at) goes.head
+    let done = settles_on streams given (map waiting_of old) goes.place w frame goes.rest.items ascend rise (slice_get-map waiting_of old goes.place ∙ ap (option_map waiting_of) goes.at) goes.head
     (first_comes old goes.place frame.stamp goes.first) within settling in
     let queues : without (map waiting_of old) goes.place w goes.rest.items ≡ map waiting_of new =
     sym (ap (map waiting_of) goes.lanes ∙ map-set waiting_of old goes.place (with_waiting goes.rest goes.lane)) in

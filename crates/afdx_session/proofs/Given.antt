@@ -37,7 +37,8 @@ use Rattle.afdx_session.proofs.Numbered.{all_slice_get}
 use Rattle.afdx_session.proofs.Giving.{first_goes, limit_frontier, rest_from_frontier, merged_from}
 use Rattle.afdx_session.proofs.Later.{same_sent, same_bytes}
 use Rattle.std.proofs.lemmas.List.{map-set}
-use Rattle.afdx_session.proofs.Firsts.{limit_is, is_past, first_comes, get-map, none_waits, lane_goes}
+use Rattle.std.proofs.lemmas.Option.{slice_get-map}
+use Rattle.afdx_session.proofs.Firsts.{limit_is, is_past, first_comes, none_waits, lane_goes}
 use Rattle.afdx_session.proofs.Drawing.{gives, comes}
 use Rattle.afdx_session.proofs.Going.{Early, lanes_early, waiting_rise, lanes_ascend, same_lanes, outs_stay}
 
@@ -70,8 +71,8 @@ goes_next : {Z : Type 0} (old new : List (Lane Z)) (port : ℕ) (frame : Record)
 goes_next old new port frame streams given t s counts going goes =
     let w = waiting_of goes.lane in
     let rise = waiting_rise old going.streams going.lanes_are going.settling.queued in
-    let first = first_goes (map waiting_of old) goes.place w frame goes.rest.items (get-map waiting_of old goes.place goes.lane goes.at) goes.head (first_comes old goes.place frame.stamp goes.first)
-    rise in
+    let first = first_goes (map waiting_of old) goes.place w frame goes.rest.items (slice_get-map waiting_of old goes.place ∙ ap (option_map waiting_of) goes.at) goes.head
+    (first_comes old goes.place frame.stamp goes.first) rise in
     let queues : without (map waiting_of old) goes.place w goes.rest.items ≡ map waiting_of new =
     sym (ap (map waiting_of) goes.lanes ∙ map-set waiting_of old goes.place (with_waiting goes.rest goes.lane)) in
     first
@@ -124,7 +125,7 @@ arrives {Z} t old new s counts port frame goes going = record {
 known : {Z : Type 0} (t : Content) (lanes : List (Lane Z)) (k : ℕ) (l : Lane Z) → AreOfTable t lanes → slice_get lanes k ≡ Some l → is_none (port_row t l.port) ≡ false
 known {Z = Z} t lanes k l of at =
     let ports = subst (AllByRecursion (Known t.ports)) (sym of.ports) (all_known t.ports) in
-    all_slice_get (Known t.ports) (map (λ (m : Lane Z). m.port) lanes) k l.port ports (get-map (λ (m : Lane Z). m.port) lanes k l at)
+    all_slice_get (Known t.ports) (map (λ (m : Lane Z). m.port) lanes) k l.port ports (slice_get-map (λ (m : Lane Z). m.port) lanes k ∙ ap (option_map (λ (m : Lane Z). m.port)) at)
 
 -- the switch takes it
 pub gives_on : {Z : Type 0} → EarlierEventsStayAdmitted → ReachesInOrder → NoteCountsOneMore

@@ -1,8 +1,7 @@
 -- What has gone out is in the lanes.
-use Rattle.std.proofs.Common.{◌≡◌, ◌≢◌, ℕ, zero, suc, ◌+◌, ◌<◌, ◌≤◌, ◌==◌, List, [], ◌∷◌, ◌++◌, map, length, set, get_or, slice_get, Option, Some, None, refl, ap, sym, ◌∙◌, arith, append_assoc}
+use Rattle.std.proofs.Common.{◌≡◌, ◌≢◌, ℕ, zero, suc, ◌+◌, ◌<◌, ◌≤◌, ◌==◌, List, [], ◌∷◌, ◌++◌, map, length, set, get_or, slice_get, Option, Some, None, refl, ap, sym, ◌∙◌, arith, append_assoc, drop}
 use Rattle.std.proofs.Common.{inl, inr, subst, Vec}
 use Rattle.std.specs.List.{AllByRecursion, position}
-use Rattle.std.specs.Prelude.{Contains}
 use Rattle.std.proofs.lemmas.List.{append-nil, length-map}
 use Rattle.std.proofs.lemmas.Bool.{cases_lt}
 use Rattle.std.proofs.lemmas.Option.{slice_get_within, get_or_from_slice_get, same_Some}
@@ -29,7 +28,7 @@ use Rattle.afdx_session.proofs.Later.{same_sent, same_bytes}
 use Rattle.afdx_session.proofs.Handing.{its_place}
 use Rattle.afdx_session.proofs.Drawing.{goes_out}
 use Rattle.afdx_session.proofs.Going.{Early, lanes_early, get-set}
-use Rattle.afdx_session.proofs.Numbered.{first_same, rest_same, set_here}
+use Rattle.afdx_session.proofs.Numbered.{set_here}
 
 -- ---- lanes that have grown
 
@@ -130,8 +129,8 @@ pub port_of_lane : {Z : Type 0} (ports : List PortRow) (lanes : List (Lane Z)) (
 port_of_lane [] [] k l same at = absurd cc
 port_of_lane [] (m ∷ lanes) k l same at = absurd cc
 port_of_lane (p ∷ ports) [] k l same at = absurd cc
-port_of_lane {Z = Z} (p ∷ ports) (m ∷ lanes) zero l same at = (p, refl, sym (first_same same) ∙ ap (λ (x : Lane Z). x.port) (same_Some m l at))
-port_of_lane {Z = Z} (p ∷ ports) (m ∷ lanes) (suc k) l same at = port_of_lane ports lanes k l (rest_same same) at
+port_of_lane {Z = Z} (p ∷ ports) (m ∷ lanes) zero l same at = (p, refl, sym (ap (λ (ns : List ℕ). get_or ns 0 0) same) ∙ ap (λ (x : Lane Z). x.port) (same_Some m l at))
+port_of_lane {Z = Z} (p ∷ ports) (m ∷ lanes) (suc k) l same at = port_of_lane ports lanes k l (ap (drop 1) same) at
 
 differ_places : (m n : ℕ) (o : Option ℕ) → o ≡ Some n → (m ≡ n → ⊥) → o ≢ Some m
 differ_places m n o is differ same = differ (same_Some m n (sym same ∙ is))
@@ -242,9 +241,6 @@ pub none_late : (arrivals : List Arrival) → AllFrom last_instant arrivals → 
 none_late [] late early = refl
 none_late (a ∷ arrivals) late early = absurd (omega (arith, late.0, early.0))
 
-within : {X : Type 0} (xs : List X) (k : ℕ) (x : X) → slice_get xs k ≡ Some x → Contains xs x
-within xs k x is = (k, slice_get_within xs k x is, get_or_from_slice_get xs k x x is)
-
 some_lane : {X : Type 0} (xs : List X) (k : ℕ) (x : X) → slice_get xs k ≡ Some x → 0 < length xs
 some_lane xs k x is = let lt = slice_get_within xs k x is in omega (arith, lt)
 
@@ -282,7 +278,8 @@ text_is {Z} stay reaches ends t lanes s counts run place p l of is_port is_lane 
       let none : waiting ≡ [] = none_late waiting (subst (λ f. AllFrom (come_to f) waiting) at_frontier later) (all_back Early going.given waiting early) in
       ap (λ f. map (written (merged_so_far going.streams)) (sent_up_to t (merged_so_far going.streams) f p)) at_frontier
       ∙ ap (λ xs. map (written xs) (sent_up_to t xs None p)) (whole ∙ ap (λ xs. going.given ++ xs) none ∙ append-nil going.given)
-      ∙ ap (map (written going.given)) (sym (ends t going.given p of.formed (within t.ports place p is_port) (all_prefix Early going.given waiting early)))
+      ∙ ap (map (written going.given)) (sym (ends t going.given p of.formed (place, slice_get_within t.ports place p is_port, get_or_from_slice_get t.ports place p p is_port)
+      (all_prefix Early going.given waiting early)))
       ∙ ap (λ n. map (written going.given) (sent_up_to t going.given (Some n) p)) (sym (since ∙ ap come_to at_frontier))
 
 -- ---- the loop over the lanes

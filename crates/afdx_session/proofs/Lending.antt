@@ -1,8 +1,9 @@
 -- Captures that come whole, one lane after the other.
 use Rattle.std.proofs.Common.{◌≡◌, ℕ, zero, suc, ◌+◌, ◌<◌, ◌≤◌, Bool, true, false, List, [], ◌∷◌, ◌++◌, map, length, get_or, set, slice_get, Some, Vec, refl, ap, sym, ◌∙◌, arith, subst}
+use Rattle.std.proofs.Common.{drop, option_map}
 use Rattle.std.specs.List.{AllByRecursion}
 use Rattle.std.proofs.lemmas.List.{length-map}
-use Rattle.std.proofs.lemmas.Option.{same_Some}
+use Rattle.std.proofs.lemmas.Option.{same_Some, slice_get-map}
 use Rattle.std.proofs.lemmas.Bool.{both_ways}
 use Rattle.std.proofs.Math.Numerals.{suc-eq-add-one}
 use Rattle.afdx_pcap.specs.Record.{Record}
@@ -21,11 +22,9 @@ use Rattle.afdx_session.specs.Inner.Lanes.{IsStill, IsReadOn, HasReadAll, Adds, 
 use Rattle.afdx_session.specs.Inner.Lent.{IsOver, texts_over, taken_by, IsOneFault}
 use Rattle.afdx_session.specs.Inner.Kept.{AreOfTable, IsGoing, AreTouched}
 use Rattle.afdx_session.specs.Inner.View.{IsFreshLane, AreFreshLanes, AreLent, AreSettledLanes}
-use Rattle.afdx_session.proofs.Firsts.{get-map}
 use Rattle.afdx_session.proofs.Going.{reads_on}
 use Rattle.afdx_session.proofs.Gone.{at_index}
 use Rattle.afdx_session.proofs.Intakes.{still_of_table}
-use Rattle.afdx_session.proofs.Numbered.{first_same, rest_same}
 
 -- ---- one lane
 
@@ -95,7 +94,7 @@ lent_none [] (p ∷ ports) lanes same fresh = absurd cc
 lent_none (text ∷ texts) [] lanes same fresh = absurd cc
 lent_none (text ∷ texts) (p ∷ ports) [] same fresh = absurd fresh
 lent_none {Z} (text ∷ texts) (p ∷ ports) (l ∷ lanes) same fresh =
-    (fresh.0.port_is ∙ sym (first_same same), subst (λ n. IsFreshLane n l) (sym fresh.0.port_is) fresh.0, lent_none texts ports lanes (rest_same same) fresh.1)
+    (fresh.0.port_is ∙ sym (ap (λ (ns : List ℕ). get_or ns 0 0) same), subst (λ n. IsFreshLane n l) (sym fresh.0.port_is) fresh.0, lent_none texts ports lanes (ap (drop 1) same) fresh.1)
 
 -- the next lane is a fresh one
 pub record IsNextOf {Z : Type 0} (texts : List Text) (n : ℕ) (l : Lane Z) : Type 0 where
@@ -199,7 +198,7 @@ as_many f lanes ports captures of are =
 pub text_at : {Z : Type 0} (start : Machine Z) (captures : List (ℕ × Vec ℕ Z)) (n : ℕ) (d : ℕ × Vec ℕ Z) → AreOfTable start.switch.run.table start.lanes.items
     → AreOfPorts start.switch.run.table (texts_of captures) → n < length start.lanes.items
     → slice_get (texts_of captures) n ≡ Some ((get_or captures n d).0, (get_or captures n d).1.items)
-text_at {Z} start captures n d of ports lt = get-map text captures n (get_or captures n d) (at_index captures n d (omega (arith, lt, many))) where
+text_at {Z} start captures n d of ports lt = slice_get-map text captures n ∙ ap (option_map text) (at_index captures n d (omega (arith, lt, many))) where
   text : ℕ × Vec ℕ Z → Text
   text p = (p.0, p.1.items)
 
@@ -248,7 +247,7 @@ none_taken ports old [] fresh same = tt
 none_taken [] [] (n ∷ new) fresh same = absurd cc
 none_taken [] (l ∷ old) (n ∷ new) fresh same = absurd fresh
 none_taken (p ∷ ports) [] (n ∷ new) fresh same = absurd fresh
-none_taken (p ∷ ports) (l ∷ old) (n ∷ new) fresh same = (first_same same ∙ fresh.0.taken, none_taken ports old new fresh.1 (rest_same same))
+none_taken (p ∷ ports) (l ∷ old) (n ∷ new) fresh same = (ap (λ (ns : List ℕ). get_or ns 0 0) same ∙ fresh.0.taken, none_taken ports old new fresh.1 (ap (drop 1) same))
 
 -- and all was read
 pub over_read : {Z : Type 0} (lanes : List (Lane Z)) → AllByRecursion IsOver lanes → AllByRecursion (λ (l : Lane Z). l.ended ≡ true) lanes → AllByRecursion HasReadAll lanes

@@ -4,7 +4,7 @@ use Rattle.std.proofs.Common.{refl, ap, sym, ◌∙◌, arith, subst, append_ass
 use Rattle.std.specs.Prelude.{Contains}
 use Rattle.std.proofs.lemmas.List.{length-append}
 use Rattle.std.proofs.lemmas.List.Elements.{All-from_recursion}
-use Rattle.std.proofs.lemmas.Bool.{eq-eqb}
+use Rattle.std.proofs.lemmas.Bool.{eq-eqb, ne_eqb}
 use Rattle.afdx_units.specs.declared.line.Priority.{Priority}
 use Rattle.afdx_units.specs.declared.line.Priority.TheVariants.{High, Low}
 use Rattle.afdx_table.specs.declared.rows.PortRow.{PortRow}
@@ -27,7 +27,6 @@ use Rattle.afdx_count.specs.Tally.{port_in, out_of}
 use Rattle.afdx_count.specs.Run.{counted, of_priority, turned_away, port_counts, events_of, counts_of}
 use Rattle.afdx_session.specs.Output.{rows_of}
 use Rattle.afdx_session.specs.Headline.{LosesNone}
-use Rattle.afdx_session.proofs.Numbered.{lower_differs}
 use Rattle.afdx_session.proofs.Arriving.{run_of}
 
 -- no more are admitted than are offered
@@ -72,7 +71,8 @@ counters_at t rows events (q ∷ ports) rises zero d lt =
     ap (λ (b : Bool). cond b (Some (port_counts t rows events q)) (port_in q.id (map (port_counts t rows events) ports))) (eq-eqb q.id q.id refl)
 counters_at t rows events (q ∷ ports) rises (suc k) d lt =
     let above : q.id < (get_or ports k d).id = All-from_recursion (λ (p : PortRow). q.id < p.id) ports rises.0 k d (omega (arith, lt)) in
-    ap (λ (b : Bool). cond b (Some (port_counts t rows events q)) (port_in (get_or ports k d).id (map (port_counts t rows events) ports))) (lower_differs q.id (get_or ports k d).id above)
+    ap (λ (b : Bool). cond b (Some (port_counts t rows events q)) (port_in (get_or ports k d).id (map (port_counts t rows events) ports)))
+    (ne_eqb q.id (get_or ports k d).id (λ same. omega (arith, above, same)))
     ∙ counters_at t rows events ports rises.1 k d (omega (arith, lt))
 
 counters_of : (t : Content) (rows : List Row) → Rises t.ports → (p : PortRow) → Contains t.ports p → port_in p.id (counts_of t rows).ports ≡ Some (port_counts t rows (events_of t rows) p)

@@ -1,5 +1,5 @@
 -- Of the captures of a table's ports there is one merge by stamp, then by port number.
-use Rattle.std.proofs.Common.{◌≡◌, ℕ, ◌<◌, ◌≤◌, ◌==◌, Bool, true, false, cond, List, [], ◌∷◌, ◌++◌, map, filter, refl, ap, sym, ◌∙◌, arith, inl, inr, subst}
+use Rattle.std.proofs.Common.{◌≡◌, ℕ, ◌<◌, ◌≤◌, ◌==◌, Bool, true, false, cond, List, [], ◌∷◌, ◌++◌, map, filter, refl, ap, sym, ◌∙◌, arith, inl, inr, subst, get_or, drop}
 use Rattle.std.specs.List.{AllByRecursion}
 use Rattle.std.proofs.lemmas.Bool.{eq-eqb, eqb-true}
 use Rattle.afdx_pcap.specs.Record.{Record}
@@ -10,7 +10,7 @@ use Rattle.afdx_core.specs.Inner.Merge.{part_at, IsMerge, Precedes, AreByStampAn
 use Rattle.afdx_session.specs.Texts.{Text}
 use Rattle.afdx_session.specs.Reading.{AreCaptures}
 use Rattle.afdx_session.specs.Inner.OneMerge.{MergedIsTheOnlyOne}
-use Rattle.afdx_session.proofs.Numbered.{all_append, first_same, rest_same}
+use Rattle.afdx_session.proofs.Numbered.{all_append}
 use Rattle.afdx_session.proofs.PortParts.{merge_is_read}
 
 -- ---- one merge alone
@@ -30,7 +30,7 @@ first_of_part P port [] r rs is all = absurd (none is) where
 first_of_part P port (x ∷ xs) r rs is all = by_head (x.port == port) refl (λ later. first_of_part P port xs r rs later all.1) where
   by_head : (b : Bool) → (x.port == port) ≡ b → (part_at port xs ≡ r ∷ rs → P (record { port = port; frame = r })) → P (record { port = port; frame = r })
   by_head true own others =
-      let same : x.frame ≡ r = first_same (sym (part-in port x xs own) ∙ is) in
+      let same : x.frame ≡ r = ap (λ (rs : List Record). get_or rs 0 r) (sym (part-in port x xs own) ∙ is) in
       subst P (ap (λ n. record { port = n; frame = x.frame }) (eqb-true x.port port own) ∙ ap (λ f. record { port = port; frame = f }) same) all.0
   by_head false other others = others (sym (part-out port x xs other) ∙ is)
 
@@ -69,7 +69,7 @@ merge_is_unique (x ∷ xs) (y ∷ ys) sorted ordered same =
       head : x ≡ y
       head =
           let port = (precedes_both x y sooner later).0 in
-          let frame : x.frame ≡ y.frame = first_same (sym of_x ∙ same x.port ∙ ap (λ n. part_at n (y ∷ ys)) port ∙ of_y) in
+          let frame : x.frame ≡ y.frame = ap (λ (rs : List Record). get_or rs 0 x.frame) (sym of_x ∙ same x.port ∙ ap (λ n. part_at n (y ∷ ys)) port ∙ of_y) in
           ap (λ n. record { port = n; frame = x.frame }) port ∙ ap (λ f. record { port = y.port; frame = f }) frame
 
       rest : (port : ℕ) → part_at port xs ≡ part_at port ys
@@ -78,7 +78,7 @@ merge_is_unique (x ∷ xs) (y ∷ ys) sorted ordered same =
         both = ap (λ a. part_at port (a ∷ xs)) (sym head) ∙ same port
 
         by_head : (b : Bool) → (y.port == port) ≡ b → part_at port xs ≡ part_at port ys
-        by_head true own = rest_same (sym (part-in port y xs own) ∙ both ∙ part-in port y ys own)
+        by_head true own = ap (drop 1) (sym (part-in port y xs own) ∙ both ∙ part-in port y ys own)
         by_head false other = sym (part-out port y xs other) ∙ both ∙ part-out port y ys other
 
 -- ---- captures of a table's ports
@@ -93,7 +93,7 @@ read_above n ports [] (c ∷ read) same are above = absurd are
 read_above n ports (text ∷ texts) [] same are above = absurd are
 read_above n [] (text ∷ texts) (c ∷ read) same are above = absurd cc
 read_above n (p ∷ ports) (text ∷ texts) (c ∷ read) same are above =
-    (subst (λ m. n < m) (sym (are.0 ∙ first_same same)) above.0, read_above n ports texts read (rest_same same) are.2 above.1)
+    (subst (λ m. n < m) (sym (are.0 ∙ ap (λ (ns : List ℕ). get_or ns 0 0) same)) above.0, read_above n ports texts read (ap (drop 1) same) are.2 above.1)
 
 abbrev arrived : ℕ → List Record → List Arrival
 arrived port rs = map (λ (r : Record). record { port = port; frame = r }) rs
@@ -123,9 +123,9 @@ ports_rise ports [] (c ∷ read) same rises are = absurd are
 ports_rise ports (text ∷ texts) [] same rises are = absurd are
 ports_rise [] (text ∷ texts) (c ∷ read) same rises are = absurd cc
 ports_rise (p ∷ ports) (text ∷ texts) (c ∷ read) same rises are =
-    let here : c.port ≡ p.id = are.0 ∙ first_same same in
-    let above : Above c.port read = subst (λ n. Above n read) (sym here) (read_above p.id ports texts read (rest_same same) are.2 rises.0) in
-    one_port_first c.port c.records (arrivals_of read) (none_below c.port read above) (ports_rise ports texts read (rest_same same) rises.1 are.2)
+    let here : c.port ≡ p.id = are.0 ∙ ap (λ (ns : List ℕ). get_or ns 0 0) same in
+    let above : Above c.port read = subst (λ n. Above n read) (sym here) (read_above p.id ports texts read (ap (drop 1) same) are.2 rises.0) in
+    one_port_first c.port c.records (arrivals_of read) (none_below c.port read above) (ports_rise ports texts read (ap (drop 1) same) rises.1 are.2)
 
 -- ---- the law
 

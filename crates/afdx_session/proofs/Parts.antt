@@ -1,12 +1,12 @@
 -- What goes to the files of the ports in parts.
-use Rattle.std.proofs.Common.{◌≡◌, ◌≢◌, ◌⊎◌, ℕ, zero, suc, ◌+◌, ◌<◌, ◌≤◌, ◌^◌, Bool, true, List, [], ◌∷◌, ◌++◌, map, length, take, drop, set, slice_get, Option, Some}
+use Rattle.std.proofs.Common.{◌≡◌, ◌≢◌, ◌⊎◌, ℕ, zero, suc, ◌+◌, ◌<◌, ◌≤◌, ◌^◌, Bool, true, List, [], ◌∷◌, ◌++◌, map, length, take, drop, set, slice_get, Option, Some, option_map}
 use Rattle.std.proofs.Common.{refl, ap, sym, ◌∙◌, arith, subst, append_assoc, inl, inr, length-set}
 use Rattle.std.specs.List.{AllByRecursion}
 use Rattle.std.specs.Io.KnownBytes.{Appends}
 use Rattle.std.proofs.KnownBytes.{Appends-nil, Appends-trans}
 use Rattle.std.proofs.Math.Seq.{take-append_seam, drop-append_seam}
 use Rattle.std.proofs.lemmas.List.{drop-drop, length-append, length-drop, length-map, length-take-le, take-append-drop}
-use Rattle.std.proofs.lemmas.Option.{same_Some}
+use Rattle.std.proofs.lemmas.Option.{same_Some, slice_get-map}
 use Rattle.afdx_pcap.specs.Reading.{HasTaken}
 use Rattle.afdx_table.specs.declared.rows.PortRow.{PortRow}
 use Rattle.afdx_table.specs.Content.{Content}
@@ -31,7 +31,6 @@ use Rattle.afdx_session.specs.Inner.Files.{HandsOver, HavePrefixes, HaveMore, Pu
 use Rattle.afdx_session.proofs.Bounded.{text_bound}
 use Rattle.afdx_session.proofs.Carrying.{texts_set}
 use Rattle.afdx_session.proofs.Ending.{TakenAreTheCapture}
-use Rattle.afdx_session.proofs.Firsts.{get-map}
 use Rattle.afdx_session.proofs.Going.{get-set}
 use Rattle.afdx_session.proofs.Gone.{port_of_lane}
 use Rattle.afdx_session.proofs.Intakes.{still_of_table}
@@ -243,7 +242,8 @@ puts_one {F} {Z} stay reaches goes_on takes begin one contents m files lanes now
   long = length-set now k g ∙ puts.long;
   more = λ start have.
       subst (λ ns. HaveMore contents t texts ns start (set now k g)) (ap (set (taken_by lanes) k) (sym hands.taken) ∙ sym (taken_set lanes k new))
-      (λ read are. more_on contents t (merged read) (taken_by lanes) start now k old.taken bytes f g (get-map (λ (l : Lane Z). l.taken) lanes k old at) is_now appends (on read are)
+      (λ read are. more_on contents t (merged read) (taken_by lanes) start now k old.taken bytes f g
+      (slice_get-map (λ (l : Lane Z). l.taken) lanes k ∙ ap (option_map (λ (l : Lane Z). l.taken)) at) is_now appends (on read are)
       (puts.more start have read are));
 } where
   t : Content

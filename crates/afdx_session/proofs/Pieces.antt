@@ -1,14 +1,13 @@
 -- However captures come in pieces, and whenever output is taken: what was taken of a port is a prefix of its output.
-use Rattle.std.proofs.Common.{◌≡◌, ℕ, zero, suc, ◌==◌, Bool, true, false, cond, List, [], ◌∷◌, ◌++◌, map, length, drop, Some, None, Ok, refl, ap, sym, ◌∙◌, arith, append_assoc, subst}
-use Rattle.std.specs.Prelude.{find, Result}
+use Rattle.std.proofs.Common.{◌≡◌, ℕ, zero, suc, ◌==◌, Bool, true, false, cond, List, [], ◌∷◌, ◌++◌, map, length, drop, Some, None, refl, ap, sym, ◌∙◌, arith, append_assoc, subst}
+use Rattle.std.specs.Prelude.{find}
 use Rattle.std.specs.List.{AllZip}
 use Rattle.std.proofs.lemmas.List.{append-nil}
 use Rattle.std.proofs.lemmas.Option.{same_Some}
 use Rattle.std.proofs.lemmas.Bool.{eqb-true}
-use Rattle.afdx_pcap.specs.declared.fault.PcapFault.{PcapFault}
 use Rattle.afdx_pcap.specs.declared.format.Format.{Format}
 use Rattle.afdx_pcap.specs.Record.{Record}
-use Rattle.afdx_pcap.specs.Capture.{header_of, Splits, IsCapture, after}
+use Rattle.afdx_pcap.specs.Capture.{Splits, IsCapture, after}
 use Rattle.afdx_pcap.specs.Reading.{AreFirst}
 use Rattle.afdx_table.specs.declared.rows.PortRow.{PortRow}
 use Rattle.afdx_table.specs.Content.{Content, port_row}
@@ -258,16 +257,13 @@ all_gone : (f : Format) (last : ℕ) (bytes : List ℕ) (rs : List Record) (r : 
 all_gone f last bytes [] r rest none more = let le = more.0.whole in let empty = ap length none in omega (arith, le, empty)
 all_gone f last bytes (x ∷ rs) r rest none more = all_gone f x.stamp (after x bytes) rs r rest none.1 more.1
 
-format_same : (found : Result Format PcapFault) (f g : Format) → found ≡ Ok f → found ≡ Ok g → f ≡ g
-format_same found f g one two = cc
-
 whole_capture : RecordsAreUnique → (bytes : List ℕ) (rs : List Record) → IsCapture bytes rs → AreWhole bytes rs
 whole_capture unique bytes rs held = record {
   first = first rs held;
   none_left = λ r next.
       let prefix = holds_prefix bytes next.0 (r ∷ []) next.1 next.2 in
       let same : next.0 ≡ rs = unique bytes prefix.0 [] next.0 rs prefix.1 held next.3 in
-      let format = format_same (header_of bytes) next.2.format held.format next.2.header held.header in
+      let format : next.2.format ≡ held.format = cc (next.2.header, held.header) in
       all_gone held.format 0 (drop 24 bytes) rs r next.1 held.records
       (subst (λ xs. Splits held.format 0 (drop 24 bytes) (xs ++ r ∷ []) next.1) same (subst (λ f. Splits f 0 (drop 24 bytes) (next.0 ++ r ∷ []) next.1) format next.2.records));
 } where

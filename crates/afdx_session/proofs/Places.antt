@@ -1,17 +1,16 @@
 -- A port's place: that of its lane, of its intake and of its row.
 use Rattle.std.proofs.Common.{◌≡◌, ℕ, zero, suc, ◌+◌, ◌<◌, ◌≤◌, ◌==◌, nat_lt, Bool, true, false, cond, not, List, [], ◌∷◌, map, length, set, slice_get, Option, Some, None, refl, ap, sym, ◌∙◌}
-use Rattle.std.proofs.Common.{arith, subst}
+use Rattle.std.proofs.Common.{get_or, drop, arith, subst}
 use Rattle.std.specs.Prelude.{find, if◌then◌else◌}
 use Rattle.std.specs.List.{position, position_or_len}
 use Rattle.std.specs.Option.{option_map}
-use Rattle.std.proofs.lemmas.Bool.Decides.{nat_tests}
+use Rattle.std.proofs.lemmas.Bool.{ltb-true, ltb-false}
 use Rattle.std.proofs.lemmas.Option.{same_Some}
 use Rattle.afdx_table.specs.declared.rows.PortRow.{PortRow}
 use Rattle.afdx_session.specs.declared.lane.Lane.{Lane}
 use Rattle.afdx_session.specs.Session.{Intake, changed}
 use Rattle.afdx_session.specs.Inner.Lanes.{intake_of}
 use Rattle.afdx_session.specs.Inner.View.{intakes_of}
-use Rattle.afdx_session.proofs.Numbered.{first_same, rest_same}
 
 -- ---- positions
 
@@ -26,20 +25,14 @@ no_place : (b : Bool) (n : ℕ) → found_by b n ≡ None → b ≡ false
 no_place true n is = absurd cc
 no_place false n is = refl
 
-lt_true : (a b : ℕ) → nat_lt a b ≡ true → a < b
-lt_true a b is = grind (arith, nat_tests)
-
-lt_false : (a b : ℕ) → nat_lt a b ≡ false → b ≤ a
-lt_false a b is = grind (arith, nat_tests)
-
 pub position_at : {X : Type 0} (test : X → Bool) (xs : List X) (k : ℕ) → position test xs ≡ Some k → (position_or_len test xs ≡ k) × (k < length xs)
 position_at test xs k is =
     let both = place_is (nat_lt (position_or_len test xs) (length xs)) (position_or_len test xs) k is in
-    let lt = lt_true (position_or_len test xs) (length xs) both.0 in
+    let lt = ltb-true (position_or_len test xs) (length xs) both.0 in
     (both.1, subst (λ n. n < length xs) both.1 lt)
 
 pub position_none : {X : Type 0} (test : X → Bool) (xs : List X) → position test xs ≡ None → length xs ≤ position_or_len test xs
-position_none test xs is = lt_false (position_or_len test xs) (length xs) (no_place (nat_lt (position_or_len test xs) (length xs)) (position_or_len test xs) is)
+position_none test xs is = ltb-false (position_or_len test xs) (length xs) (no_place (nat_lt (position_or_len test xs) (length xs)) (position_or_len test xs) is)
 
 -- ---- what is there
 
@@ -62,7 +55,7 @@ pub place_of_port : {Z : Type 0} (ports : List PortRow) (lanes : List (Lane Z)) 
     → IsPlaceOf ports lanes port place
 place_of_port ports [] port place same is lt = absurd (omega (arith, lt))
 place_of_port [] (l ∷ lanes) port place same is lt = absurd cc
-place_of_port {Z} (p ∷ ports) (l ∷ lanes) port place same is lt = by (l.port == port) refl (place_of_port ports lanes port (position_or_len (is_lane_of port) lanes) (rest_same same) refl) where
+place_of_port {Z} (p ∷ ports) (l ∷ lanes) port place same is lt = by (l.port == port) refl (place_of_port ports lanes port (position_or_len (is_lane_of port) lanes) (ap (drop 1) same) refl) where
   by : (b : Bool) → (l.port == port) ≡ b → (position_or_len (is_lane_of port) lanes < length lanes → IsPlaceOf ports lanes port (position_or_len (is_lane_of port) lanes))
       → IsPlaceOf (p ∷ ports) (l ∷ lanes) port place
   by true here further =
@@ -73,7 +66,7 @@ place_of_port {Z} (p ∷ ports) (l ∷ lanes) port place same is lt = by (l.port
         port_is = here;
         row = p;
         row_at = refl;
-        row_is = ap (λ b. cond b (Some p) (find (λ (q : PortRow). q.id == port) ports)) (ap (λ n. n == port) (sym (first_same same)) ∙ here);
+        row_is = ap (λ b. cond b (Some p) (find (λ (q : PortRow). q.id == port) ports)) (ap (λ n. n == port) (sym (ap (λ (ns : List ℕ). get_or ns 0 0) same)) ∙ here);
         intake_is = ap (λ b. cond b (Some (intake_of l)) (find (λ (i : Intake). i.port == port) (intakes_of lanes))) here;
         changed_is = λ f. ap (λ b. cond b (f (intake_of l) ∷ intakes_of lanes) (intake_of l ∷ changed port f (intakes_of lanes))) here;
       })
@@ -87,7 +80,7 @@ place_of_port {Z} (p ∷ ports) (l ∷ lanes) port place same is lt = by (l.port
         port_is = rest.port_is;
         row = rest.row;
         row_at = rest.row_at;
-        row_is = ap (λ b. cond b (Some p) (find (λ (q : PortRow). q.id == port) ports)) (ap (λ n. n == port) (sym (first_same same)) ∙ other) ∙ rest.row_is;
+        row_is = ap (λ b. cond b (Some p) (find (λ (q : PortRow). q.id == port) ports)) (ap (λ n. n == port) (sym (ap (λ (ns : List ℕ). get_or ns 0 0) same)) ∙ other) ∙ rest.row_is;
         intake_is = ap (λ b. cond b (Some (intake_of l)) (find (λ (i : Intake). i.port == port) (intakes_of lanes))) other ∙ rest.intake_is;
         changed_is = λ f. ap (λ b. cond b (f (intake_of l) ∷ intakes_of lanes) (intake_of l ∷ changed port f (intakes_of lanes))) other ∙ ap (λ is. intake_of l ∷ is) (rest.changed_is f);
       })
@@ -130,7 +123,7 @@ pub no_such_row : {Z : Type 0} (ports : List PortRow) (lanes : List (Lane Z)) (p
 no_such_row [] [] port same le = refl
 no_such_row [] (l ∷ lanes) port same le = absurd cc
 no_such_row (p ∷ ports) [] port same le = absurd cc
-no_such_row {Z} (p ∷ ports) (l ∷ lanes) port same le = by (l.port == port) refl (no_such_row ports lanes port (rest_same same)) where
+no_such_row {Z} (p ∷ ports) (l ∷ lanes) port same le = by (l.port == port) refl (no_such_row ports lanes port (ap (drop 1) same)) where
   by : (b : Bool) → (l.port == port) ≡ b → (length lanes ≤ position_or_len (is_lane_of port) lanes → find (λ (q : PortRow). q.id == port) ports ≡ None)
       → find (λ (q : PortRow). q.id == port) (p ∷ ports) ≡ None
   by true here further =
@@ -138,4 +131,4 @@ no_such_row {Z} (p ∷ ports) (l ∷ lanes) port same le = by (l.port == port) r
       absurd (omega (arith, le, none))
   by false other further =
       let more = ap (λ b. cond (not b) (1 + position_or_len (is_lane_of port) lanes) zero) other in
-      ap (λ b. cond b (Some p) (find (λ (q : PortRow). q.id == port) ports)) (ap (λ n. n == port) (sym (first_same same)) ∙ other) ∙ further (omega (arith, le, more))
+      ap (λ b. cond b (Some p) (find (λ (q : PortRow). q.id == port) ports)) (ap (λ n. n == port) (sym (ap (λ (ns : List ℕ). get_or ns 0 0) same)) ∙ other) ∙ further (omega (arith, le, more))

@@ -1,5 +1,5 @@
 -- What the merge of captures has of a port is that port's capture.
-use Rattle.std.proofs.Common.{◌≡◌, ℕ, ◌<◌, ◌==◌, Bool, true, false, cond, List, [], ◌∷◌, ◌++◌, map}
+use Rattle.std.proofs.Common.{◌≡◌, ℕ, ◌<◌, ◌==◌, Bool, true, false, cond, List, [], ◌∷◌, ◌++◌, map, get_or, drop}
 use Rattle.std.proofs.Common.{refl, ap, sym, ◌∙◌, subst}
 use Rattle.std.specs.List.{AllByRecursion}
 use Rattle.std.proofs.lemmas.List.{append-nil}
@@ -13,7 +13,7 @@ use Rattle.afdx_core.specs.Inner.Merge.{part_at, IsMerge, MergedIsAMerge}
 use Rattle.afdx_session.specs.Texts.{Text, AreOfPorts}
 use Rattle.afdx_session.specs.Reading.{AreCaptures}
 use Rattle.afdx_session.proofs.Gathering.{capture_rises}
-use Rattle.afdx_session.proofs.Numbered.{first_same, rest_same, higher_differs}
+use Rattle.afdx_session.proofs.Numbered.{higher_differs}
 
 abbrev Above : ℕ → List PortRow → Type 0
 Above n ports = AllByRecursion (λ (q : PortRow). n < q.id) ports
@@ -25,9 +25,9 @@ no_records n ports [] (c ∷ read) same are above = absurd are
 no_records n ports (text ∷ texts) [] same are above = absurd are
 no_records n [] (text ∷ texts) (c ∷ read) same are above = absurd cc
 no_records n (p ∷ ports) (text ∷ texts) (c ∷ read) same are above =
-    let port : c.port ≡ p.id = are.0 ∙ first_same same in
+    let port : c.port ≡ p.id = are.0 ∙ ap (λ (ns : List ℕ). get_or ns 0 0) same in
     ap (λ (b : Bool). cond b c.records [] ++ records_of read n) (ap (λ (m : ℕ). m == n) port ∙ higher_differs n p.id above.0)
-    ∙ no_records n ports texts read (rest_same same) are.2 above.1
+    ∙ no_records n ports texts read (ap (drop 1) same) are.2 above.1
 
 records_rise : (ports : List PortRow) (texts : List Text) (read : List Capture) → map (λ (text : Text). text.0) texts ≡ map (λ (p : PortRow). p.id) ports → Rises ports → AreCaptures texts read
     → (n : ℕ) → StampsRise (records_of read n)
@@ -39,10 +39,10 @@ records_rise (p ∷ ports) (text ∷ texts) (c ∷ read) same rises are n = by (
   by : (b : Bool) → (c.port == n) ≡ b → (map (λ (other : Text). other.0) texts ≡ map (λ (q : PortRow). q.id) ports → StampsRise (records_of read n))
       → StampsRise (cond b c.records [] ++ records_of read n)
   by true is ih =
-      let at : p.id ≡ n = sym (are.0 ∙ first_same same) ∙ eqb-true c.port n is in
-      let none : records_of read n ≡ [] = no_records n ports texts read (rest_same same) are.2 (subst (λ (m : ℕ). Above m ports) at rises.0) in
+      let at : p.id ≡ n = sym (are.0 ∙ ap (λ (ns : List ℕ). get_or ns 0 0) same) ∙ eqb-true c.port n is in
+      let none : records_of read n ≡ [] = no_records n ports texts read (ap (drop 1) same) are.2 (subst (λ (m : ℕ). Above m ports) at rises.0) in
       subst StampsRise (sym (ap (λ (rs : List Record). c.records ++ rs) none ∙ append-nil c.records)) (capture_rises text.1 c.records are.1)
-  by false is ih = ih (rest_same same)
+  by false is ih = ih (ap (drop 1) same)
 
 pub merge_is_read : MergedIsAMerge → (t : Content) (texts : List Text) (read : List Capture) → IsWellFormed t → AreOfPorts t texts → AreCaptures texts read → IsMerge read (merged read)
 merge_is_read law t texts read formed ports are = law read (records_rise t.ports texts read ports formed.ports_rise are)

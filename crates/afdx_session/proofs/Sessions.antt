@@ -1,9 +1,9 @@
 -- What contracts see of a session after a call, from what its lanes are then.
 use Rattle.std.proofs.Common.{◌≡◌, ℕ, zero, suc, ◌+◌, ◌<◌, ◌≤◌, ◌^◌, ◌==◌, Bool, true, false, cond, List, [], ◌∷◌, ◌++◌, map, length, take, drop, set, slice_get, slice_index_or, Some, None, Ok}
-use Rattle.std.proofs.Common.{Err, refl, ap, sym, ◌∙◌, inl, inr, subst}
+use Rattle.std.proofs.Common.{option_map, Err, refl, ap, sym, ◌∙◌, inl, inr, subst}
 use Rattle.std.specs.Prelude.{find, Result, IsErr, IsErrAnd, IfErr, IfSome, IfNone}
 use Rattle.std.specs.List.{position}
-use Rattle.std.proofs.lemmas.Option.{same_Some}
+use Rattle.std.proofs.lemmas.Option.{same_Some, slice_get-map}
 use Rattle.std.proofs.lemmas.Bool.{eqb-true}
 use Rattle.afdx_pcap.specs.Record.{Record}
 use Rattle.afdx_pcap.specs.Capture.{IsCapture}
@@ -33,7 +33,6 @@ use Rattle.afdx_session.specs.Inner.View.{intakes_of, seen_of, gone_out, IsShown
 use Rattle.afdx_session.specs.Inner.View.{IsNotEnded}
 use Rattle.afdx_session.proofs.Gone.{at_index}
 use Rattle.std.proofs.lemmas.List.{map-set}
-use Rattle.afdx_session.proofs.Firsts.{get-map}
 use Rattle.afdx_session.proofs.Places.{IsPlaceOf, position_at, position_none, place_of_port, no_such_row, is_lane_of}
 use Rattle.afdx_session.proofs.Shown.{kept_ready, kept_failed}
 use Rattle.afdx_session.proofs.Ending.{TakenAreTheCapture}
@@ -164,7 +163,7 @@ ports_after : {Z : Type 0} (old new : List (Lane Z)) (k : ℕ) (l : Lane Z) (i :
 ports_after old new k l i at same is =
     ports_of_intakes new
     ∙ ap (λ is. map (λ (j : Intake). j.port) is) is
-    ∙ set_ports (intakes_of old) k (intake_of l) i (get-map intake_of old k l at) same
+    ∙ set_ports (intakes_of old) k (intake_of l) i (slice_get-map intake_of old k ∙ ap (option_map intake_of) at) same
     ∙ sym (ports_of_intakes old)
 
 -- a piece came, or a capture ended: what is true of each session stays

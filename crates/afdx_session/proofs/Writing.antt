@@ -1,12 +1,12 @@
 -- What is left of the outputs when a run is over.
 use Rattle.std.proofs.Common.{◌≡◌, ◌≢◌, ◌⊎◌, ℕ, zero, suc, ◌+◌, ◌<◌, ◌≤◌, ◌==◌, Bool, true, List, [], ◌∷◌, ◌++◌, map, length, take, drop, set, slice_get, slice_index, Option, Some, None}
-use Rattle.std.proofs.Common.{refl, ap, sym, ◌∙◌, arith, subst, inl, inr, append_assoc, length-set, Vec}
+use Rattle.std.proofs.Common.{get_or, option_map, refl, ap, sym, ◌∙◌, arith, subst, inl, inr, append_assoc, length-set, Vec}
 use Rattle.std.specs.List.{AllByRecursion, flat_map, position}
 use Rattle.std.specs.Io.KnownBytes.{Appends}
 use Rattle.std.proofs.KnownBytes.{Appends-trans}
 use Rattle.std.proofs.lemmas.Bool.{cases_lt}
 use Rattle.std.proofs.lemmas.List.{append-nil, length-map, map-append, take-append-drop, take-append-le}
-use Rattle.std.proofs.lemmas.Option.{same_Some, slice_get_within}
+use Rattle.std.proofs.lemmas.Option.{same_Some, slice_get_within, slice_get-map}
 use Rattle.afdx_pcap.specs.Record.{Record}
 use Rattle.afdx_pcap.specs.Text.{record_text, capture_text}
 use Rattle.afdx_table.specs.declared.rows.PortRow.{PortRow}
@@ -41,12 +41,10 @@ use Rattle.afdx_session.specs.Inner.Rest.{Rest, IsLeft, HaveRests, HasRest}
 use Rattle.afdx_session.specs.Written.{AreAppended}
 use Rattle.afdx_session.proofs.Draining.{none_left}
 use Rattle.afdx_session.proofs.Drawing.{sent-prefix, capture-append, same_handed}
-use Rattle.afdx_session.proofs.Firsts.{get-map}
 use Rattle.afdx_session.proofs.Parts.{at_set}
 use Rattle.afdx_session.proofs.Ending.{TakenAreTheCapture, lane_capture}
 use Rattle.afdx_session.proofs.Growing.{sent_later}
 use Rattle.afdx_session.proofs.Handing.{its_place}
-use Rattle.afdx_session.proofs.Numbered.{first_same, rest_same}
 use Rattle.afdx_session.proofs.Replaying.{bytes_stay}
 
 -- ---- lists
@@ -55,8 +53,8 @@ use Rattle.afdx_session.proofs.Replaying.{bytes_stay}
 number_at : {X Y : Type 0} (f : X → ℕ) (g : Y → ℕ) (xs : List X) (ys : List Y) (k : ℕ) (x : X) (y : Y) → map f xs ≡ map g ys → slice_get xs k ≡ Some x → slice_get ys k ≡ Some y → f x ≡ g y
 number_at f g [] ys k x y same at there = absurd cc
 number_at f g (z ∷ xs) [] k x y same at there = absurd cc
-number_at f g (z ∷ xs) (w ∷ ys) zero x y same at there = ap f (sym (same_Some z x at)) ∙ first_same same ∙ ap g (same_Some w y there)
-number_at f g (z ∷ xs) (w ∷ ys) (suc k) x y same at there = number_at f g xs ys k x y (rest_same same) at there
+number_at f g (z ∷ xs) (w ∷ ys) zero x y same at there = ap f (sym (same_Some z x at)) ∙ ap (λ (ns : List ℕ). get_or ns 0 0) same ∙ ap g (same_Some w y there)
+number_at f g (z ∷ xs) (w ∷ ys) (suc k) x y same at there = number_at f g xs ys k x y (ap (drop 1) same) at there
 
 -- the element that a mapped one comes from
 mapped_from : {X Y : Type 0} (f : X → Y) (xs : List X) (k : ℕ) (y : Y) → slice_get (map f xs) k ≡ Some y → (x : X) × (slice_get xs k ≡ Some x) × (f x ≡ y)
@@ -297,7 +295,8 @@ rest_is_left {F} {Z} goes_on reaches takes law contents t texts m r files now po
     counts = counts ∙ ap (ended_tally (after_finish m.switch.run)) (going.counts_are ∙ ap (counts_so_far u) (sym rows)) ∙ law m.switch.run of.formed ∙ ap (counts_of u) rows;
     rest = λ place k p text le is_port is_k is_text.
         let from = mapped_from (λ (l : Lane Z). (l.port, l.out.items)) lanes place text (ap (λ ts. slice_get ts place) (sym outs) ∙ is_text) in
-        let taken_is = same_Some from.0.taken k (sym (get-map (λ (l : Lane Z). l.taken) lanes place from.0 from.1) ∙ ap (λ ns. slice_get ns place) (sym taken) ∙ is_k) in
+        let taken_at = slice_get-map (λ (l : Lane Z). l.taken) lanes place ∙ ap (option_map (λ (l : Lane Z). l.taken)) from.1 in
+        let taken_is = same_Some from.0.taken k (sym taken_at ∙ ap (λ ns. slice_get ns place) (sym taken) ∙ is_k) in
         ap (λ j. take j (output_text u given p) ++ text.1 ++ flat_map record_text (map (written given) (left_at r.state.run (Some place)))) (sym taken_is)
         ∙ ap (λ (x : Text). take from.0.taken (output_text u given p) ++ x.1 ++ flat_map record_text (map (written given) (left_at r.state.run (Some place)))) (sym from.2)
         ∙ ap (λ (x : Run). take from.0.taken (output_text u given p) ++ from.0.out.items ++ flat_map record_text (map (written given) (left_at x (Some place)))) run
