@@ -4,7 +4,7 @@ use Rattle.std.specs.List.{AllByRecursion, flat_map}
 use Rattle.std.proofs.lemmas.List.{append-nil, map-append}
 use Rattle.std.proofs.lemmas.List.Elements.{filter-append}
 use Rattle.std.proofs.lemmas.Grind.{flat_map-append}
-use Rattle.std.proofs.lemmas.Bool.{cases_Bool, leb-true, leb-false, both_ways}
+use Rattle.std.proofs.lemmas.Bool.{cases_Bool, leb-true, leb-false, both_ways, cond-true, cond-false}
 use Rattle.std.proofs.lemmas.Bool.Decides.{nat_tests}
 use Rattle.std.proofs.lemmas.Option.{same_Some}
 use Rattle.afdx_pcap.specs.Record.{Record}
@@ -30,12 +30,6 @@ use Rattle.afdx_session.proofs.Later.{same_sent, same_bytes}
 
 -- ---- a filter of what is by stamp
 
-pub filter-in : {X : Type 0} (p : X → Bool) (x : X) (xs : List X) → p x ≡ true → filter p (x ∷ xs) ≡ x ∷ filter p xs
-filter-in p x xs is = ap (λ b. cond b (x ∷ filter p xs) (filter p xs)) is
-
-pub filter-out : {X : Type 0} (p : X → Bool) (x : X) (xs : List X) → p x ≡ false → filter p (x ∷ xs) ≡ filter p xs
-filter-out p x xs is = ap (λ b. cond b (x ∷ filter p xs) (filter p xs)) is
-
 -- what passes of arrivals and one more in its place
 filter-placed : (p : Arrival → Bool) (a : Arrival) (xs : List Arrival) → AreInOrder xs → filter p (placed a xs) ≡ cond (p a) (placed a (filter p xs)) (filter p xs)
 filter-placed p a [] rises = refl
@@ -52,13 +46,15 @@ filter-placed p a (b ∷ xs) rises =
       by_own : (t : Bool) → p b ≡ t → b.frame.stamp < a.frame.stamp → filter p (placed a xs) ≡ cond (p a) (placed a (filter p xs)) (filter p xs)
           → filter p (b ∷ placed a xs) ≡ cond (p a) (placed a (filter p (b ∷ xs))) (filter p (b ∷ xs))
       by_own true is lt ih =
-          filter-in p b (placed a xs) is ∙ ap (λ more. b ∷ more) ih
+          cond-true (p b) (b ∷ filter p (placed a xs)) (filter p (placed a xs)) is ∙ ap (λ more. b ∷ more) ih
           ∙ inside (p a)
-          ∙ ap (λ more. cond (p a) (placed a more) more) (sym (filter-in p b xs is)) where
+          ∙ ap (λ more. cond (p a) (placed a more) more) (sym (cond-true (p b) (b ∷ filter p xs) (filter p xs) is)) where
             inside : (u : Bool) → b ∷ cond u (placed a (filter p xs)) (filter p xs) ≡ cond u (placed a (b ∷ filter p xs)) (b ∷ filter p xs)
             inside true = sym (later-placed a b (filter p xs) lt)
             inside false = refl
-      by_own false is lt ih = filter-out p b (placed a xs) is ∙ ih ∙ ap (λ more. cond (p a) (placed a more) more) (sym (filter-out p b xs is))
+      by_own false is lt ih =
+          cond-false (p b) (b ∷ filter p (placed a xs)) (filter p (placed a xs)) is ∙ ih
+          ∙ ap (λ more. cond (p a) (placed a more) more) (sym (cond-false (p b) (b ∷ filter p xs) (filter p xs) is))
 
 pub filter-by_stamp : (p : Arrival → Bool) (xs : List Arrival) → filter p (by_stamp xs) ≡ by_stamp (filter p xs)
 filter-by_stamp p [] = refl
@@ -83,7 +79,7 @@ not_early h a is = grind (arith, nat_tests)
 
 none_early : (h : ℕ) (xs : List Arrival) → AllFrom h xs → filter (is_early h) xs ≡ []
 none_early h [] all = refl
-none_early h (a ∷ xs) all = filter-out (is_early h) a xs (early_not h a all.0) ∙ none_early h xs all.1
+none_early h (a ∷ xs) all = cond-false (is_early h a) (a ∷ filter (is_early h) xs) (filter (is_early h) xs) (early_not h a all.0) ∙ none_early h xs all.1
 
 -- arrivals by stamp are those before an instant, and then others
 pub record IsCut (h : ℕ) (arrivals : List Arrival) : Type 0 where
@@ -97,7 +93,7 @@ cut h (a ∷ arrivals) rises = by_first (is_early h a) refl (cut h arrivals rise
   by_first : (b : Bool) → is_early h a ≡ b → IsCut h arrivals → IsCut h (a ∷ arrivals)
   by_first true is c = record {
     rest = c.rest;
-    whole = ap (λ more. a ∷ more) c.whole ∙ ap (λ more. more ++ c.rest) (sym (filter-in (is_early h) a arrivals is));
+    whole = ap (λ more. a ∷ more) c.whole ∙ ap (λ more. more ++ c.rest) (sym (cond-true (is_early h a) (a ∷ filter (is_early h) arrivals) (filter (is_early h) arrivals) is));
     later = c.later;
   }
   by_first false is c =

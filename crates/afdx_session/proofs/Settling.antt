@@ -3,7 +3,7 @@ use Rattle.std.proofs.Common.{◌≡◌, ℕ, ◌<◌, ◌≤◌, ◌==◌, nat_
 use Rattle.std.specs.Prelude.{◌⊎◌}
 use Rattle.std.specs.List.{AllByRecursion}
 use Rattle.std.proofs.lemmas.List.{append-nil, map-append}
-use Rattle.std.proofs.lemmas.List.Elements.{filter-append}
+use Rattle.std.proofs.lemmas.List.Elements.{filter-append, All-from_recursion, recursion_from_All, All-weaker}
 use Rattle.std.proofs.lemmas.Bool.{cases_Bool, cases_lt, eqb-true, both_ways}
 use Rattle.afdx_pcap.specs.Record.{Record}
 use Rattle.afdx_core.specs.Merge.{Arrival, Capture, Rises, records_of, arrivals_of, placed, by_stamp, merged}
@@ -11,7 +11,7 @@ use Rattle.afdx_core.specs.Inner.Merge.{part_at, MergedIsAMerge, Precedes, AreBy
 use Rattle.afdx_session.specs.Streams.{Stream, capture_of, captures_of, last_of, merged_so_far, GoesOn, GoOn}
 use Rattle.afdx_session.specs.Inner.Settled.{Ascend, ports_of, ComesBefore, IsSettled, AreQueued, IsSettling, AllWait, AllRise}
 use Rattle.afdx_session.proofs.Joining.{by_stamp_every}
-use Rattle.afdx_session.proofs.Numbered.{all_append, all_weaken, higher_differs}
+use Rattle.afdx_session.proofs.Numbered.{all_append, higher_differs}
 use Rattle.afdx_session.proofs.OneMerge.{merge_is_unique}
 use Rattle.afdx_session.proofs.Growing.{further_of, last_grows, rises_back}
 
@@ -275,7 +275,8 @@ settled_stays merge sorted streams later given waiting more ascend wait old = re
       (sorted (captures_of later) (numbers_rise (captures_of later) later_ascend))
       (sorted_join given (merged more) (sorted_prefix given (merged waiting) whole_sorted) (sorted more (numbers_rise more more_ascend)) cross)
       parts;
-  settled = all_weaken (IsSettled streams) (IsSettled later) given (λ a. still_settled a streams later s.go_on) old.settled;
+  settled = recursion_from_All (IsSettled later) given
+      (All-weaker (IsSettled streams) (IsSettled later) (λ a. still_settled a streams later s.go_on) given (All-from_recursion (IsSettled streams) given old.settled));
 } where
   s : Shape streams later waiting more
   s = shape streams later waiting more wait old.queued

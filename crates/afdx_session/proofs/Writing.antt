@@ -6,7 +6,7 @@ use Rattle.std.specs.Io.KnownBytes.{Appends}
 use Rattle.std.proofs.KnownBytes.{Appends-trans}
 use Rattle.std.proofs.lemmas.Bool.{cases_lt}
 use Rattle.std.proofs.lemmas.List.{append-nil, length-map, map-append, take-append-drop, take-append-le}
-use Rattle.std.proofs.lemmas.Option.{same_Some, slice_get_within, slice_get-map}
+use Rattle.std.proofs.lemmas.Option.{same_Some, slice_get_within, slice_get-map, slice_get-get_or}
 use Rattle.afdx_pcap.specs.Record.{Record}
 use Rattle.afdx_pcap.specs.Text.{record_text, capture_text}
 use Rattle.afdx_table.specs.declared.rows.PortRow.{PortRow}
@@ -321,11 +321,6 @@ rests_none contents t arrivals taken files = record {
   others = λ place le. refl;
 }
 
-pub get_at : {X : Type 0} (xs : List X) (n : ℕ) → n < length xs → (x : X) × (slice_get xs n ≡ Some x)
-get_at [] n lt = absurd (omega (arith, lt))
-get_at (x ∷ xs) zero lt = (x, refl)
-get_at (x ∷ xs) (suc n) lt = get_at xs n (omega (arith, lt))
-
 -- one more has its rest
 pub rests_on : {F : Type 0} (contents : F → Option (List ℕ)) (t : Content) (arrivals : List Arrival) (taken : List ℕ) (n : ℕ) (files now : List F) (old new : F) (bytes : List ℕ)
     → slice_get now n ≡ Some old → Appends (contents old) (contents new) bytes
@@ -370,10 +365,10 @@ all_appended {F} contents t arrivals taken files mid now many prefixes rests = (
       let lt = slice_get_within t.ports place from.0 from.1 in
       let there = slice_get_within files place f is_f in
       let long = prefixes.long in
-      let h = get_at mid place (omega (arith, there, long)) in
-      let k = get_at taken place (omega (arith, lt, many)) in
-      let rest = rests.rests place k.0 from.0 h.0 g lt from.1 k.1 h.1 is_g in
-      let first = prefixes.each place k.0 from.0 f h.0 from.1 k.1 is_f h.1 in
+      let h = slice_get-get_or mid place f (omega (arith, there, long)) in
+      let k = slice_get-get_or taken place 0 (omega (arith, lt, many)) in
+      let rest = rests.rests place (get_or taken place 0) from.0 (get_or mid place f) g lt from.1 k h is_g in
+      let first = prefixes.each place (get_or taken place 0) from.0 f (get_or mid place f) from.1 k is_f h in
       subst (λ xs. Appends (contents f) (contents g) xs) (rest.2 ∙ ap (λ (x : Text). x.1) from.2)
-      (Appends-trans (contents f) (contents h.0) (contents g) (take k.0 (output_text t arrivals from.0)) rest.0 first rest.1),
+      (Appends-trans (contents f) (contents (get_or mid place f)) (contents g) (take (get_or taken place 0) (output_text t arrivals from.0)) rest.0 first rest.1),
 )

@@ -1,7 +1,8 @@
-use Rattle.std.proofs.Common.{refl, ap, subst, arith, ◌≡◌, ◌∙◌, ◌<◌, ℕ, List, length, length-set, slice_get, slice_index_or}
+use Rattle.std.proofs.Common.{refl, ap, subst, arith, ◌≡◌, ◌∙◌, ◌<◌, ℕ, List, length, length-set, slice_get, slice_index_or, get_or, inl, inr}
 use Rattle.std.specs.Io.KnownBytes.{Appends}
+use Rattle.std.proofs.lemmas.Option.{slice_get-get_or, slice_get_cases}
 use Rattle.afdx_session.proofs.Gone.{at_index}
-use Rattle.afdx_session.proofs.Writing.{get_at, rests_none, rests_on}
+use Rattle.afdx_session.proofs.Writing.{rests_none, rests_on}
 use Rattle.afdx_session.proofs.rest.Rest.write_all.Goals as goal
 
 pub loop-place-init : goal.loop-place-init
@@ -24,14 +25,17 @@ loop-place-preserved g c =
       on = λ t arrivals left many.
           let was = c.loop-place.invariant.on t arrivals left many in
           let within : place < length t.ports = let long = c.loop-place.invariant.long in omega (arith, there, long, many) in
-          let port = get_at t.ports place within in
-          let count = get_at c.loop-place.self.taken place (let as_many = was.0.many in omega (arith, within, as_many)) in
-          let next = c.in_ok-write.ensures.rest t arrivals port.0 count.0 was.0 port.1 count.1 in (
-            next.0,
-            c.write.ensures.taken ∙ was.1,
-            rests_on contents t arrivals taken place c.args.files.now files file c.append.new.self c.write.new.text.items (at_index files place c.index-files-place.result there) appends
-                (λ p k is_port is_k. (c.in_ok-write.ensures.rest t arrivals p k was.0 is_port (ap (λ (ns : List ℕ). slice_get ns place) was.1 ∙ is_k)).1) was.2,
-          );
+          let counts = c.loop-place.self.taken in
+          let count = slice_get-get_or counts place 0 (let as_many = was.0.many in omega (arith, within, as_many)) in
+          elim ((slice_get_cases t.ports place).1) [
+            | inl port ↦ (
+                (c.in_ok-write.ensures.rest t arrivals port.0 (get_or counts place 0) was.0 port.2 count).0,
+                c.write.ensures.taken ∙ was.1,
+                rests_on contents t arrivals taken place c.args.files.now files file c.append.new.self c.write.new.text.items (at_index files place c.index-files-place.result there) appends
+                    (λ p k is_port is_k. (c.in_ok-write.ensures.rest t arrivals p k was.0 is_port (ap (λ (ns : List ℕ). slice_get ns place) was.1 ∙ is_k)).1) was.2,
+              )
+            | inr past ↦ absurd (let le = past.0 in omega (arith, within, le))
+          ];
     }
 
 pub returns : goal.returns
