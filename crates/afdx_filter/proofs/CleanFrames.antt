@@ -1,8 +1,11 @@
 -- A clean frame has a link, and which frames are clean.
-use Rattle.std.proofs.Common.{◌≡◌, ℕ, ◌≤◌, nat_eq, nat_lt, not, cond, Bool, true, false, List, [], ◌∷◌, length, find, Option, Some, None, refl, sym, ap, ◌∙◌, subst, inl, inr, arith}
+use Rattle.std.proofs.Common.{◌≡◌, ℕ, ◌≤◌, nat_eq, nat_lt, not, cond, Bool, true, false, length, Option, Some, None, refl, ap, ◌∙◌, subst, arith}
 use Rattle.std.specs.Str.{bytes_eq}
-use Rattle.std.proofs.lemmas.Bool.{cases_Bool, eqb-true, le-ltb}
+use Rattle.std.proofs.lemmas.Bool.{le-ltb}
 use Rattle.std.proofs.lemmas.Bool.Decides.{nat_tests}
+use Rattle.std.proofs.lemmas.List.Folds.{find_at}
+use Rattle.std.proofs.lemmas.List.Sums.{passes_at_first}
+use Rattle.std.proofs.lemmas.Option.{gets}
 use Rattle.std.proofs.lemmas.Slice.Eq.{bytes_eq-Decides}
 use Rattle.afdx_units.specs.Line.{size_of}
 use Rattle.afdx_pcap.specs.Record.{Record}
@@ -15,16 +18,8 @@ use Rattle.afdx_filter.specs.Verdict.{link_verdict, verdict_of}
 use Rattle.afdx_filter.specs.Inner.Clean.{CleanFramesHaveALink}
 use Rattle.afdx_filter.specs.Inner.Exactly.{IsFrameOf, CleanExactly}
 
-found-passes : {A : Type 0} (test : A → Bool) (xs : List A) (x : A) → find test xs ≡ Some x → test x ≡ true
-found-passes test [] x h = absurd cc
-found-passes test (y ∷ xs) x h =
-    elim (cases_Bool (test y)) [
-      | inl here ↦ let g = rw here at h in let same : y ≡ x = cc in subst (λ z. test z ≡ true) same here
-      | inr later ↦ found-passes test xs x (rw later at h)
-    ]
-
 found-number : (table : Content) (number : ℕ) (link : Link) → link_row table number ≡ Some link → number ≡ link.id
-found-number table number link h = sym (eqb-true link.id number (found-passes (λ (l : Link). nat_eq l.id number) table.links link h))
+found-number table number link h = grind (arith, gets, nat_tests, find_at (λ (l : Link). nat_eq l.id number) table.links, passes_at_first (λ (l : Link). nat_eq l.id number) table.links)
 
 -- a case that does not hold, and what the cases after it say
 record IsPast (test : Bool) (rest : Verdict) (id : ℕ) : Type 0 where

@@ -4,16 +4,11 @@ use Rattle.std.proofs.Common.{inl, inr, arith, get_or-set_same, get_or-set_other
 use Rattle.std.specs.List.{AllByRecursion, IsDistinct, list_any, prefix_len}
 use Rattle.std.proofs.lemmas.Bool.{cases_Bool, cases_lt, ne_eqb, false≢true}
 use Rattle.std.proofs.lemmas.Bool.Decides.{nat_tests}
+use Rattle.std.proofs.lemmas.Cmp.{nat_eq_equiv}
 use Rattle.std.proofs.lemmas.List.{length-append, get_or_append_left, get_or_at}
 use Rattle.std.proofs.lemmas.List.Elements.{All-from_recursion}
 use Rattle.std.proofs.lemmas.Map.Steps.{length-le_from_distinct_below}
 use Rattle.afdx_numbers.specs.Inner.Places.{ArePlaces}
-
-itself : (n : ℕ) → nat_eq n n ≡ true
-itself n = grind (arith, nat_tests)
-
-turned : (a b : ℕ) → nat_eq a b ≡ false → nat_eq b a ≡ false
-turned a b e = grind (arith, nat_tests)
 
 -- ---- a search by number
 
@@ -21,7 +16,7 @@ first_at : (n : ℕ) (xs : List ℕ) (i : ℕ) → IsDistinct nat_eq xs → i < 
 unfolding IsDistinct
 first_at n [] i d lt is = absurd (omega arith)
 first_at n (x ∷ xs) zero d lt is =
-    ap (λ b. cond (not b) (1 + prefix_len (λ k. not (nat_eq k n)) xs) 0) (ap (λ k. nat_eq k n) is ∙ itself n)
+    ap (λ b. cond (not b) (1 + prefix_len (λ k. not (nat_eq k n)) xs) 0) (ap (λ k. nat_eq k n) is ∙ nat_eq_equiv.refl n)
 first_at n (x ∷ xs) (suc i) d lt is =
     let other : nat_eq x n ≡ false = ap (nat_eq x) (sym is) ∙ All-from_recursion (λ (k : ℕ). nat_eq x k ≡ false) xs d.0 i 0 (omega arith) in
     let rest : prefix_len (λ k. not (nat_eq k n)) xs ≡ i = first_at n xs i d.1 (omega arith) is in
@@ -61,7 +56,7 @@ differs : (n : ℕ) (xs : List ℕ) → list_any (λ k. nat_eq k n) xs ≡ false
 differs n [] h = tt
 differs n (x ∷ xs) h = elim (cases_Bool (nat_eq x n)) [
   | inl hit ↦ absurd (false≢true (sym (rw hit at h)))
-  | inr miss ↦ (turned x n miss, differs n xs (rw miss at h))
+  | inr miss ↦ (nat_eq_equiv.symm n x ∙ miss, differs n xs (rw miss at h))
 ]
 
 pub distinct-push : (n : ℕ) (xs : List ℕ) → IsDistinct nat_eq xs → list_any (λ k. nat_eq k n) xs ≡ false → IsDistinct nat_eq (xs ++ n ∷ [])
@@ -113,6 +108,6 @@ places-push n xs old places ok same within fits new = record {
   last k lt past = get_or_at xs n [] 0 k (omega (arith, length-append xs (n ∷ [])))
 
   apart : (k : ℕ) → k < length xs → get_or xs k 0 ≢ n
-  apart k lt is = false≢true (sym (turned_at k lt) ∙ ap (nat_eq n) is ∙ itself n) where
+  apart k lt is = false≢true (sym (turned_at k lt) ∙ ap (nat_eq n) is ∙ nat_eq_equiv.refl n) where
     turned_at : (j : ℕ) → j < length xs → nat_eq n (get_or xs j 0) ≡ false
     turned_at j jt = All-from_recursion (λ (m : ℕ). nat_eq n m ≡ false) xs (differs n xs new) j 0 jt

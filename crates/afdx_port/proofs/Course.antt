@@ -1,6 +1,7 @@
 -- A line where all that wait have come by the next start.
 use Rattle.std.proofs.Common.{◌≡◌, ℕ, ◌+◌, ◌<◌, ◌≤◌, Bool, true, false, cond, Option, Some, None, List, [], ◌∷◌, ◌++◌, length, refl, ap, sym, ◌∙◌, arith, append_assoc}
 use Rattle.std.specs.Prelude.{sum_by, All, SomeIff, IsSome}
+use Rattle.std.proofs.lemmas.Bool.{ltb-true, ltb-false}
 use Rattle.std.proofs.lemmas.List.Sums.{sum_by-cons, sum_by_push}
 use Rattle.std.proofs.lemmas.List.Elements.{All-head, All-tail, All-cons, All-push}
 use Rattle.afdx_units.specs.declared.line.Speed.{Speed}
@@ -13,7 +14,6 @@ use Rattle.afdx_port.specs.Inner.Progress.{LineState}
 use Rattle.afdx_port.specs.Inner.Order.{in_line}
 use Rattle.afdx_port.specs.Course.{starts_before}
 use Rattle.afdx_port.specs.Inner.Course.{next_in_line, after_next, rest_in_line, first_start}
-use Rattle.afdx_port.proofs.Choices.{below, above}
 use Rattle.afdx_port.proofs.Turns.{instant-fate, free_after-fate}
 use Rattle.afdx_port.proofs.Earlier.{before-cons_out, before-cons_in}
 
@@ -28,7 +28,7 @@ in_line_late s t b (x ∷ items) le =
 pub before_split : (s s' : Settings) (t b : ℕ) (items : List Item) (q : LineState) → starts_before t (first_start b items) ≡ true → q ≡ after_next s b items → s' ≡ s → before t (in_line s b items)
     ≡ next_in_line s b items ++ before t (in_line s' q.free q.waiting)
 before_split s s' t b [] q due is same = rw (same, is) refl
-before_split s s' t b (x ∷ items) q due is same = rw (same, is) (before-cons_in t (fate s b x) (in_line s (free_after (fate s b x)) items) (omega (arith, instant-fate s b x, below b t due)))
+before_split s s' t b (x ∷ items) q due is same = rw (same, is) (before-cons_in t (fate s b x) (in_line s (free_after (fate s b x)) items) (omega (arith, instant-fate s b x, ltb-true b t due)))
 
 pub all_split : (s s' : Settings) (b : ℕ) (items : List Item) (q : LineState) → q ≡ after_next s b items → s' ≡ s → in_line s b items ≡ next_in_line s b items ++ in_line s' q.free q.waiting
 all_split s s' b [] q is same = rw (same, is) refl
@@ -42,7 +42,7 @@ rest_split s s' t b (x ∷ items) q goal due is same so_far = rw (same, is) (sym
 
 pub before_stop : (s : Settings) (t b : ℕ) (items : List Item) → starts_before t (first_start b items) ≡ false → before t (in_line s b items) ≡ []
 before_stop s t b [] due = refl
-before_stop s t b (x ∷ items) due = in_line_late s t b (x ∷ items) (above b t due)
+before_stop s t b (x ∷ items) due = in_line_late s t b (x ∷ items) (ltb-false b t due)
 
 pub rest_stop : (s : Settings) (t b : ℕ) (items : List Item) → starts_before t (first_start b items) ≡ false → rest_in_line s t b items ≡ record { free = b; waiting = items }
 rest_stop s t b [] due = refl
@@ -61,8 +61,8 @@ some_waits b (x ∷ hs) ls some = refl
 -- where items wait and none is due before t, the next start is at t or later
 pub waits_from : (t b : ℕ) (hs ls : List Item) → 0 < length hs + length ls → starts_before t (first_start b (hs ++ ls)) ≡ false → t ≤ b
 waits_from t b [] [] some late = absurd (omega (arith, some))
-waits_from t b [] (x ∷ ls) some late = above b t late
-waits_from t b (x ∷ hs) ls some late = above b t late
+waits_from t b [] (x ∷ ls) some late = ltb-false b t late
+waits_from t b (x ∷ hs) ls some late = ltb-false b t late
 
 -- an item behind the first of two lists
 pub all_insert : (P : Item → Type 0) (x : Item) (hs ls : List Item) → P x → All P (hs ++ ls) → All P ((hs ++ x ∷ []) ++ ls)

@@ -2,6 +2,7 @@
 use Rattle.std.proofs.Common.{◌≡◌, ℕ, ◌≤◌, Bool, true, false, cond, List, [], ◌∷◌, ◌++◌, length, append-nil, refl, ap, sym, ◌∙◌, arith}
 use Rattle.std.specs.Prelude.{slice_get}
 use Rattle.std.specs.Option.{option_map}
+use Rattle.std.proofs.lemmas.Bool.{ltb-false}
 use Rattle.afdx_port.specs.declared.Settings.{Settings}
 use Rattle.afdx_port.specs.declared.Item.{Item}
 use Rattle.afdx_port.specs.Service.{Event, instant, reach, service, before}
@@ -10,7 +11,7 @@ use Rattle.afdx_port.specs.Inner.Progress.{left, is_due}
 use Rattle.afdx_port.specs.Course.{starts_before}
 use Rattle.afdx_port.specs.Content.{Content, done, due, offered, advanced, closed}
 use Rattle.afdx_port.specs.Lagging.{has_due}
-use Rattle.afdx_port.proofs.Choices.{above, not_below}
+use Rattle.afdx_port.proofs.Choices.{not_below}
 use Rattle.afdx_port.proofs.Turns.{instant-next}
 use Rattle.afdx_port.proofs.Earlier.{late_start, admission}
 use Rattle.afdx_port.proofs.Parts.{split, parts}
@@ -20,7 +21,7 @@ use Rattle.afdx_port.proofs.AtLine.{due_at}
 
 none_before : (s : Settings) (u free : ℕ) (ws : List Item) → starts_before u (option_map instant (slice_get (service s free ws) 0)) ≡ false → before u (service s free ws) ≡ []
 none_before s u free [] late = refl
-none_before s u free (first ∷ rest) late = late_start s u free first rest (omega (arith, above _ u late, instant-next s free first rest))
+none_before s u free (first ∷ rest) late = late_start s u free first rest (omega (arith, ltb-false _ u late, instant-next s free first rest))
 
 open_is : (c : Content) → c.finished ≡ false → done c ≡ before (reach c.settings c.horizon) (service c.settings 0 c.admitted)
 open_is c open' = done_open c.settings c.admitted c.horizon c.finished open'

@@ -1,7 +1,7 @@
 -- The bytes that are occupied at t: those on the line, and those that wait.
 use Rattle.std.proofs.Common.{◌≡◌, ℕ, zero, suc, ◌+◌, ◌-◌, ◌<◌, ◌≤◌, Bool, true, false, cond, List, [], ◌∷◌, length, get_or, refl, ap, sym, ◌∙◌, arith, ⊎_elim}
 use Rattle.std.specs.Prelude.{max, filter, nat_lt, nat_le, not, sum_by}
-use Rattle.std.proofs.lemmas.Bool.{cases_lt}
+use Rattle.std.proofs.lemmas.Bool.{cases_lt, cond-true, cond-false}
 use Rattle.std.proofs.lemmas.Bool.Decides.{nat_tests}
 use Rattle.std.proofs.lemmas.List.Sums.{sum_by-cons, sum_by-append, sum_by-remove}
 use Rattle.std.proofs.lemmas.List.Elements.{filter-append}
@@ -59,24 +59,18 @@ stays-next : (s : Settings) (t free : ℕ) (first : Item) (rest : List Item) →
 unfolding next
 stays-next s t free first rest le = stays_fate s t (max free (came s first)) _ le
 
-filter-yes : {X : Type 0} (p : X → Bool) (x : X) (xs : List X) → p x ≡ true → filter p (x ∷ xs) ≡ x ∷ filter p xs
-filter-yes p x xs h = ap (λ b. cond b (x ∷ filter p xs) (filter p xs)) h
-
-filter-no : {X : Type 0} (p : X → Bool) (x : X) (xs : List X) → p x ≡ false → filter p (x ∷ xs) ≡ filter p xs
-filter-no p x xs h = ap (λ b. cond b (x ∷ filter p xs) (filter p xs)) h
-
 all_stay : (n : ℕ) (s : Settings) (t free : ℕ) (items : List Item) → t ≤ free → filter (stays t) (serve n s free items) ≡ serve n s free items
 all_stay zero s t free items le = refl
 all_stay (suc n) s t free [] le = refl
 all_stay (suc n) s t free (first ∷ rest) le =
     let e = next s free first rest in
-    filter-yes (stays t) e (serve n s (free_after e) (others s free first rest)) (stays-next s t free first rest (omega arith))
+    cond-true (stays t e) _ _ (stays-next s t free first rest (omega arith))
     ∙ ap (λ es. e ∷ es) (all_stay n s t (free_after e) (others s free first rest) (omega (arith, free_after-next s free first rest)))
 
 all_stay_start : (s : Settings) (t free : ℕ) (first : Item) (rest : List Item) → t ≤ max free (came s first) → filter (stays t) (service s free (first ∷ rest)) ≡ service s free (first ∷ rest)
 all_stay_start s t free first rest le =
     let e = next s free first rest in
-    filter-yes (stays t) e (serve (length rest) s (free_after e) (others s free first rest)) (stays-next s t free first rest le)
+    cond-true (stays t e) _ _ (stays-next s t free first rest le)
     ∙ ap (λ es. e ∷ es) (all_stay (length rest) s t (free_after e) (others s free first rest) (omega (arith, free_after-next s free first rest)))
 
 -- nothing of what is left at t has gone at t
@@ -97,14 +91,14 @@ line_bytes_step : (t : ℕ) (e : Event) (es : List Event) → instant e < t → 
 line_bytes_step t (sending x) es lt stop ih =
     ⊎_elim
     (λ (on : t < x.end). rw (stop on) (last_on t x on))
-    (λ (over : x.end ≤ t). ap bytes (filter-no (stays t) (sending x) es (gone_end x over)) ∙ ih ∙ sym (on_line-done t x (sent_of es) over))
+    (λ (over : x.end ≤ t). ap bytes (cond-false (stays t (sending x)) _ _ (gone_end x over)) ∙ ih ∙ sym (on_line-done t x (sent_of es) over))
     (cases_lt t x.end) where
       last_on : (t : ℕ) (x : Sent) → t < x.end → bytes (filter (stays t) (sending x ∷ [])) ≡ on_line t (x ∷ [])
       last_on t x on = grind (arith, nat_tests)
 
       gone_end : (x : Sent) → x.end ≤ t → stays t (sending x) ≡ false
       gone_end x over = grind (arith, nat_tests)
-line_bytes_step t (aging x) es lt stop ih = ap bytes (filter-no (stays t) (aging x) es (gone_at x lt)) ∙ ih where
+line_bytes_step t (aging x) es lt stop ih = ap bytes (cond-false (stays t (aging x)) _ _ (gone_at x lt)) ∙ ih where
   gone_at : (x : Aged) → x.at < t → stays t (aging x) ≡ false
   gone_at x lt = grind (arith, nat_tests)
 

@@ -1,7 +1,7 @@
 -- The work of a port balances, and falls as long as there is some.
 use Rattle.std.proofs.Common.{◌≡◌, ℕ, zero, suc, ◌+◌, ◌-◌, ◌<◌, ◌≤◌, true, false, cond, List, [], ◌∷◌, ◌++◌, length, refl, ap, sym, ◌∙◌, arith, ⊎_elim}
 use Rattle.std.specs.Prelude.{min, max, nat_lt, sum_by, All}
-use Rattle.std.proofs.lemmas.Bool.{cases_lt}
+use Rattle.std.proofs.lemmas.Bool.{cases_lt, ltb-false}
 use Rattle.std.proofs.lemmas.Bool.Decides.{nat_tests}
 use Rattle.std.proofs.lemmas.List.Sums.{sum_by-cons, sum_by-append}
 use Rattle.std.proofs.lemmas.List.Elements.{All-head}
@@ -11,7 +11,7 @@ use Rattle.afdx_port.specs.declared.Item.{Item}
 use Rattle.afdx_port.specs.Service.{came, Event, sending, aging, instant, item_of, free_after, fate, next, others, turn, service, before, aged_of}
 use Rattle.afdx_port.specs.Inner.Progress.{LineState, left, is_due}
 use Rattle.afdx_port.specs.Inner.Work.{item_cost, rest_at, work, taken_by, line_time, NoneAged, HaveCome}
-use Rattle.afdx_port.proofs.Choices.{above, not_below}
+use Rattle.afdx_port.proofs.Choices.{not_below}
 use Rattle.afdx_port.proofs.Turns.{instant-next, free_after-next, item_of-next, length-others, service-step, by_steps}
 use Rattle.afdx_port.proofs.Earlier.{late, late_start, before-step}
 use Rattle.afdx_port.proofs.Parts.{left-step, left-stop, left_again, split, parts}
@@ -92,7 +92,7 @@ not_due s t free [] le = refl
 not_due s t free (first ∷ rest) le = not_below _ _ (omega arith)
 
 pub due_no : (s : Settings) (t free : ℕ) (first : Item) (rest : List Item) → is_due s t free (first ∷ rest) ≡ false → t ≤ max free (came s first)
-due_no s t free first rest h = above _ _ h
+due_no s t free first rest h = ltb-false _ _ h
 
 left_free : (s : Settings) (t free : ℕ) (items : List Item) → t ≤ free → left s t free items ≡ record { free = free; waiting = items }
 left_free s t free [] le = refl

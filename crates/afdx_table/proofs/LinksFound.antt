@@ -4,7 +4,7 @@ use Rattle.std.specs.Prelude.{Contains}
 use Rattle.std.specs.List.{IsDistinct}
 use Rattle.std.proofs.lemmas.List.{length-map, get_or-map}
 use Rattle.std.proofs.lemmas.List.Elements.{All-from_recursion, All-contains, Contains-append_right}
-use Rattle.std.proofs.lemmas.Bool.{both_ways}
+use Rattle.std.proofs.lemmas.Bool.{both_ways, eq-eqb}
 use Rattle.std.proofs.lemmas.Bool.Decides.{nat_tests}
 use Rattle.afdx_table.specs.Link.{Link}
 use Rattle.afdx_table.specs.Inner.Found.{LinksAreFound}
@@ -12,19 +12,13 @@ use Rattle.afdx_table.specs.Inner.Found.{LinksAreFound}
 equal : (a b : ℕ) → (a == b) ≡ true → a ≡ b
 equal a b e = grind (arith, nat_tests)
 
-same_number : (a b : ℕ) → a ≡ b → (a == b) ≡ true
-same_number a b e = grind (arith, nat_tests)
-
-of_map : {X Y : Type 0} (f : X → Y) (xs : List X) (x : X) → Contains xs x → Contains (map f xs) (f x)
-of_map f xs x among = (among.0, let lt = among.1 in omega (arith, length-map xs f, lt), get_or-map f xs among.0 x (f x) among.1 ∙ ap f among.2)
-
 found_by : (links : List Link) → IsDistinct nat_eq (map (λ (m : Link). m.id) links) → (l : Link) → Contains links l → find (λ m. m.id == l.id) links ≡ Some l
 unfolding IsDistinct
 found_by [] apart l among = absurd (let lt = among.1 in omega (arith, lt))
 found_by (k ∷ links) apart l among = at (found_by links apart.1 l) among.0 among.1 among.2 where
   here : (b : Bool) → (k.id == l.id) ≡ b → k ≡ l → cond b (Some k) (find (λ (m : Link). m.id == l.id) links) ≡ Some l
   here true is same = ap Some same
-  here false is same = absurd (both_ways (k.id == l.id) is (same_number k.id l.id (ap (λ (m : Link). m.id) same)))
+  here false is same = absurd (both_ways (k.id == l.id) is (eq-eqb k.id l.id (ap (λ (m : Link). m.id) same)))
 
   differs : (a b : ℕ) → nat_eq a b ≡ false → (a == b) ≡ false
   differs a b h = grind (arith, nat_tests)
@@ -33,7 +27,8 @@ found_by (k ∷ links) apart l among = at (found_by links apart.1 l) among.0 amo
       → cond (k.id == l.id) (Some k) (find (λ (m : Link). m.id == l.id) links) ≡ Some l
   there ih i lt is =
       let numbers = All-from_recursion (λ n. nat_eq k.id n ≡ false) (map (λ (m : Link). m.id) links) apart.0 in
-      let other = differs k.id l.id (All-contains (λ n. nat_eq k.id n ≡ false) (map (λ (m : Link). m.id) links) l.id numbers (of_map (λ (m : Link). m.id) links l (i, lt, is))) in
+      let among : Contains (map (λ (m : Link). m.id) links) l.id = (i, omega (arith, length-map links (λ (m : Link). m.id), lt), get_or-map (λ (m : Link). m.id) links i l l.id lt ∙ ap (λ (m : Link). m.id) is) in
+      let other = differs k.id l.id (All-contains (λ n. nat_eq k.id n ≡ false) (map (λ (m : Link). m.id) links) l.id numbers among) in
       ap (λ b. cond b (Some k) (find (λ (m : Link). m.id == l.id) links)) other ∙ ih (i, lt, is)
 
   at : (Contains links l → find (λ (m : Link). m.id == l.id) links ≡ Some l) → (i : ℕ) → i < length (k ∷ links) → get_or (k ∷ links) i l ≡ l → find (λ (m : Link). m.id == l.id) (k ∷ links) ≡ Some l

@@ -5,12 +5,9 @@ use Rattle.std.proofs.lemmas.Bool.Decides.{nat_tests}
 use Rattle.afdx_table.specs.declared.rows.PortRow.{PortRow}
 use Rattle.afdx_table.specs.Inner.Distinct.{PortsAreDistinct}
 
-less : (a b : ℕ) → a < b → nat_eq a b ≡ false
-less a b lt = grind (arith, nat_tests)
-
 apart : (n : ℕ) (qs : List PortRow) → AllByRecursion (λ (q : PortRow). n < q.id) qs → AllByRecursion (λ y. nat_eq n y ≡ false) (map (λ (q : PortRow). q.id) qs)
 apart n [] all = tt
-apart n (q ∷ qs) all = (less n q.id all.0, apart n qs all.1)
+apart n (q ∷ qs) all = (grind (arith, nat_tests, all.0), apart n qs all.1)
 
 pub ports_are_distinct : PortsAreDistinct
 unfolding IsDistinct

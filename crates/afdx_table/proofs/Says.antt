@@ -1,9 +1,12 @@
 -- What was read under a key is there.
-use Rattle.std.proofs.Common.{◌≡◌, ◌⊎◌, ◌==◌, ℕ, ℤ, pos, negsuc, Bool, true, List, [], ◌∷◌, find, Option, Some, None, option_map, option_and_then, Result, Ok, refl, sym, ap, ◌∙◌, subst, inl, inr}
+use Rattle.std.proofs.Common.{◌≡◌, ◌⊎◌, ◌==◌, ℕ, ℤ, pos, negsuc, true, List, [], ◌∷◌, Option, Some, None, option_map, option_and_then, Result, Ok, refl, sym, ap, ◌∙◌, inl, inr}
 use Rattle.std.proofs.Common.{arith}
 use Rattle.std.specs.Str.{bytes_eq}
 use Rattle.std.proofs.lemmas.Bool.{cases_Bool}
 use Rattle.std.proofs.lemmas.Bool.Decides.{nat_tests}
+use Rattle.std.proofs.lemmas.List.Folds.{find_at}
+use Rattle.std.proofs.lemmas.List.Sums.{passes_at_first}
+use Rattle.std.proofs.lemmas.Option.{gets}
 use Rattle.std.proofs.lemmas.Slice.Eq.{bytes_eq-Decides}
 use Rattle.toml.specs.Data.{Data, string, integer, float, boolean, datetime, array, table, Items, no_items, item, Members, get_member, as_integer, as_str, as_array, as_table}
 use Rattle.afdx_units.specs.Time.{bag_ms}
@@ -256,19 +259,12 @@ speed-says version mbit Ten h = (grind (arith, nat_tests), tt)
 speed-says version mbit Hundred h = (grind (arith, nat_tests), tt)
 speed-says version mbit Thousand h = (grind (arith, nat_tests), grind (arith, nat_tests))
 
-found-passes : {A : Type 0} (test : A → Bool) (xs : List A) (x : A) → find test xs ≡ Some x → test x ≡ true
-found-passes test [] x h = absurd cc
-found-passes test (y ∷ xs) x h = elim (cases_Bool (test y)) [
-  | inl here ↦ let g = rw here at h in let same : y ≡ x = cc in subst (λ z. test z ≡ true) same here
-  | inr later ↦ found-passes test xs x (rw later at h)
-]
-
 equal : (a b : ℕ) → (a == b) ≡ true → b ≡ a
 equal a b h = grind (arith, nat_tests)
 
 pub bag-says : (ms : ℕ) (bag : Bag) → bag_of ms ≡ Some bag → ms ≡ bag_ms bag
 unfolding bag_of
-bag-says ms bag h = equal (bag_ms bag) ms (found-passes (λ b. bag_ms b == ms) bags bag h)
+bag-says ms bag h = grind (arith, gets, nat_tests, find_at (λ b. bag_ms b == ms) bags, passes_at_first (λ b. bag_ms b == ms) bags)
 
 pub priority-says : (text : List ℕ) (priority : Priority) → priority_of text ≡ Some priority → text ≡ priority_text priority
 priority-says text priority h = elim (cases_Bool (bytes_eq text (priority_text High))) [
