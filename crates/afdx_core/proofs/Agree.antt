@@ -1,8 +1,11 @@
 -- What a port is offered of a link is what the link's policing passes of its own frames.
-use Rattle.std.proofs.Common.{◌≡◌, ℕ, ◌==◌, Bool, true, false, cond, ◌&&◌, List, [], ◌∷◌, ◌++◌, map, filter, find, Option, Some, None, refl, ap, sym, ◌∙◌, arith, append_assoc}
+use Rattle.std.proofs.Common.{◌≡◌, ℕ, ◌==◌, Bool, true, false, cond, ◌&&◌, List, [], ◌∷◌, ◌++◌, map, filter, Option, Some, None, refl, ap, sym, ◌∙◌, arith, append_assoc}
 use Rattle.std.proofs.lemmas.List.{append-nil, map-append}
 use Rattle.std.proofs.lemmas.List.Elements.{filter-append}
 use Rattle.std.proofs.lemmas.Bool.Decides.{nat_tests}
+use Rattle.std.proofs.lemmas.List.Folds.{find_at}
+use Rattle.std.proofs.lemmas.List.Sums.{passes_at_first}
+use Rattle.std.proofs.lemmas.Option.{gets}
 use Rattle.std.proofs.lemmas.Bool.{eqb-true}
 use Rattle.afdx_table.specs.Link.{Link, leads_to}
 use Rattle.afdx_table.specs.Content.{Content, link_row}
@@ -18,13 +21,6 @@ use Rattle.afdx_core.specs.Rows.{frame_of_row, account_frames, says_clean, passe
 use Rattle.afdx_isolation.specs.Arrivals.{frame_of_item}
 use Rattle.afdx_core.specs.Inner.Agreement.{part_of}
 use Rattle.afdx_core.proofs.Feeds.{account-same, account-other}
-
-find_true : {X : Type 0} (p : X → Bool) (xs : List X) (y : X) → find p xs ≡ Some y → p y ≡ true
-find_true p [] y is = (cc)
-find_true p (x ∷ xs) y is = by_head (p x) refl is (find_true p xs y) where
-  by_head : (b : Bool) → p x ≡ b → cond b (Some x) (find p xs) ≡ Some y → (find p xs ≡ Some y → p y ≡ true) → p y ≡ true
-  by_head true here e ih = let same : x ≡ y = (cc) in ap p (sym same) ∙ here
-  by_head false here e ih = ih e
 
 pub clean_true : (i : ℕ) (v : Verdict) → says_clean i v ≡ true → v ≡ Clean i
 clean_true i (Clean j) is = ap Clean (sym (eqb-true i j is))
@@ -48,7 +44,7 @@ other_by i j port (Some m) before row ne is = by_copy (passes m before row && le
   by_copy false = refl
 
 others : (t : Content) (i port : ℕ) (before : List Row) (row : Row) (v : Verdict) → says_clean i v ≡ false → part_of i (copies_by (named t v) port before row) ≡ []
-others t i port before row (Clean j) is = other_by i j port (link_row t j) before row is (λ m found. find_true (λ (l : Link). l.id == j) t.links m found)
+others t i port before row (Clean j) is = other_by i j port (link_row t j) before row is (λ m found. grind (arith, gets, find_at (λ (l : Link). l.id == j) t.links, passes_at_first (λ (l : Link). l.id == j) t.links m))
 others t i port before row Cut is = refl
 others t i port before row Short is = refl
 others t i port before row Long is = refl
@@ -63,7 +59,7 @@ one_more : NextFrameJoinsWhereItConforms → (t : Content) (i port : ℕ) (l : L
 unfolding passes
 one_more next t i port l before row found leads = by_clean (says_clean i row.verdict) refl where
   id : (l.id == i) ≡ true
-  id = find_true (λ (m : Link). m.id == i) t.links l found
+  id = grind (arith, gets, found, find_at (λ (m : Link). m.id == i) t.links, passes_at_first (λ (m : Link). m.id == i) t.links l)
 
   before_own : List Frame
   before_own = account_frames i before

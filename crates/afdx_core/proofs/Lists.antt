@@ -1,5 +1,5 @@
 -- What f gives of each element and those before it, for one more element.
-use Rattle.std.proofs.Common.{◌≡◌, ℕ, zero, suc, ◌+◌, ◌<◌, Bool, true, false, cond, List, [], ◌∷◌, ◌++◌, length, map, slice_get, Option, Some, option_map, find, All, refl, ap, sym, ◌∙◌, arith}
+use Rattle.std.proofs.Common.{◌≡◌, ◌+◌, Bool, true, false, cond, List, [], ◌∷◌, ◌++◌, length, map, Option, Some, option_map, find, All, refl, ap, sym, ◌∙◌}
 use Rattle.std.proofs.Common.{append_assoc, length-append}
 use Rattle.std.specs.List.{AllByRecursion}
 use Rattle.std.proofs.lemmas.List.{append-nil}
@@ -31,16 +31,6 @@ AllByRecursion-weaken P Q (x ∷ xs) h all = (h x all.0, AllByRecursion-weaken P
 pub All-from : {X : Type 0} (P : X → Type 0) (xs : List X) → AllByRecursion P xs → All P xs
 All-from P [] all = All-nil P
 All-from P (x ∷ xs) all = All-cons P x xs all.0 (All-from P xs all.1)
-
--- one more element leaves the earlier ones
-pub slice_get-push : {X : Type 0} (xs : List X) (x : X) (n : ℕ) → n < length xs → slice_get (xs ++ x ∷ []) n ≡ slice_get xs n
-slice_get-push [] x n lt = absurd (omega arith)
-slice_get-push (y ∷ xs) x zero lt = refl
-slice_get-push (y ∷ xs) x (suc n) lt = slice_get-push xs x n (omega arith)
-
-pub slice_get-last : {X : Type 0} (xs : List X) (x : X) → slice_get (xs ++ x ∷ []) (length xs) ≡ Some x
-slice_get-last [] x = refl
-slice_get-last (y ∷ xs) x = slice_get-last xs x
 
 pub by_cond : {A : Type 0} (P : A → Type 0) (b : Bool) (x y : A) → (b ≡ true → P x) → (b ≡ false → P y) → P (cond b x y)
 by_cond P true x y first second = first refl
