@@ -3,7 +3,7 @@ use Rattle.std.proofs.Common.{◌≡◌, ◌≢◌, ℕ, ◌+◌, ◌<◌, ◌�
 use Rattle.std.proofs.Common.{length, take, get_or, set, replicate, map, refl, sym, ap, subst, ◌∙◌, arith, append-nil, inl, inr}
 use Rattle.std.specs.Prelude.{filter}
 use Rattle.std.specs.List.{fold}
-use Rattle.std.proofs.lemmas.Bool.{cases_lt}
+use Rattle.std.proofs.lemmas.Bool.{cases_lt, eq-eqb}
 use Rattle.std.proofs.lemmas.Bool.Decides.{nat_tests}
 use Rattle.std.proofs.lemmas.List.{length-set, length-take, length-replicate, map-append, get_or-set_same, get_or-set_other, get_or-replicate, take_more}
 use Rattle.std.proofs.lemmas.List.Elements.{filter-append}
@@ -22,11 +22,8 @@ with_copy link sent x =
     ap (map delay_of) (filter-append (λ (y : Sent). y.item.link == link) sent (x ∷ [])) ∙ map-append delay_of (filter (λ (y : Sent). y.item.link == link) sent) (cond (x.item.link ==
     link) (x ∷ []) [])
 
-same : (a : ℕ) → (a == a) ≡ true
-same a = grind (arith, nat_tests)
-
 of_the_link : (sent : List Sent) (x : Sent) → delays_of x.item.link (sent ++ x ∷ []) ≡ delays_of x.item.link sent ++ delay_of x ∷ []
-of_the_link sent x = with_copy x.item.link sent x ∙ ap (λ (b : Bool). delays_of x.item.link sent ++ map delay_of (cond b (x ∷ []) [])) (same x.item.link)
+of_the_link sent x = with_copy x.item.link sent x ∙ ap (λ (b : Bool). delays_of x.item.link sent ++ map delay_of (cond b (x ∷ []) [])) (eq-eqb x.item.link x.item.link refl)
 
 other : (a b : ℕ) → b ≢ a → (a == b) ≡ false
 other a b h = grind (arith, nat_tests)

@@ -3,9 +3,6 @@ use Rattle.std.proofs.Common.{◌≡◌, ℕ, suc, ◌+◌, ◌<◌, ◌≤◌, 
 use Rattle.std.proofs.Common.{subst, arith, append_assoc, append-nil, add-one}
 use Rattle.std.proofs.Math.ListN.{drop_of_length-le}
 use Rattle.std.proofs.Math.Seq.{take-suc, drop-cons}
-use Rattle.std.specs.Vec.{with_items}
-use Rattle.std.specs.declared.vec.Vec.{Vec}
-use Rattle.std.proofs.Math.Seq.{take-append_seam}
 use Rattle.afdx_table.specs.Link.{Link}
 use Rattle.afdx_account.specs.Level.{InOrder}
 use Rattle.afdx_account.specs.Policing.{passed_frames}
@@ -44,10 +41,6 @@ pub policed_fields : (r : Run) (before : List Row) (row : Row) (early : ℕ) →
 policed_fields r before row early p =
     ap (λ (ns : ℕ). codes "policed" ∷ decimal ns ∷ [] ∷ []) p.is_early
     ∙ sym (ap (fields_by r before row) p.names ∙ ap (judged_fields r before row p.link) p.is_policed)
-
--- accounts after a walk over them
-pub same_items : {Z : Type 0} {X : Type 0} (v : Vec X Z) (ws : List X) → length ws ≡ length v.items → (with_items v ws).items ≡ ws
-same_items v ws same = ap (λ n. take n (ws ++ drop (length ws) v.items)) (v.ok.0 ∙ sym same) ∙ take-append_seam ws (drop (length ws) v.items)
 
 -- ---- all arrivals
 

@@ -7,6 +7,7 @@ use Rattle.std.specs.List.{list_any}
 use Rattle.std.proofs.lemmas.List.{length-append}
 use Rattle.std.proofs.lemmas.List.Folds.{list_any-append}
 use Rattle.std.proofs.lemmas.List.Sums.{length-filter}
+use Rattle.std.proofs.lemmas.Bool.{eq-eqb, ne_eqb}
 use Rattle.std.proofs.lemmas.Bool.Decides.{nat_tests}
 use Rattle.afdx_table.specs.declared.rows.PortRow.{PortRow}
 use Rattle.afdx_table.specs.Link.{Link, names_port, leads_to}
@@ -28,16 +29,9 @@ use Rattle.afdx_core.specs.Rows.{each_after, named, passes, copy_of, copies_by, 
 use Rattle.afdx_core.specs.State.{Run, sent_in, aged_in, answer_of, offers_by}
 use Rattle.afdx_trace.specs.Arrivals.{took, refusing, full_in}
 use Rattle.afdx_trace.specs.Inner.Laws.{full_ports, run_before, FullIsExact}
-use Rattle.afdx_trace.proofs.Taking.{below}
 
 abbrev is_copy : ℕ → Item → Bool
 is_copy k x = x.number == k
-
-equal : (n : ℕ) → (n == n) ≡ true
-equal n = grind (arith, nat_tests)
-
-above : (m n : ℕ) → n < m → (m == n) ≡ false
-above m n lt = grind (arith, nat_tests)
 
 zero_more : (n : ℕ) → 0 + n ≡ n
 zero_more n = omega arith
@@ -168,7 +162,7 @@ module _ (one : EachHasOneEvent) (in_parts : AdmittedInParts) (r : Run) (ends : 
   at_port p leads =
       ap (λ (feed : List Item). list_any (is_copy k) (admitted s feed)) parts ∙ ap (list_any (is_copy k)) (in_parts s [] first (x ∷ later))
       ∙ none_joins k s (admit s (admitted s first) x) later none_later
-      ∙ joins k s (admitted s first) x (none_joins k s [] first none_first) (equal k) where
+      ∙ joins k s (admitted s first) x (none_joins k s [] first none_first) (eq-eqb k k refl) where
         k : ℕ
         k = length before
 
@@ -191,10 +185,10 @@ module _ (one : EachHasOneEvent) (in_parts : AdmittedInParts) (r : Run) (ends : 
         parts = ap (each_after (copies r.table p.id) []) is ∙ each-append (copies r.table p.id) [] before (row ∷ after) ∙ ap (λ (xs : List Item). first ++ (xs ++ later)) offered
 
         none_first : list_any (is_copy k) first ≡ false
-        none_first = none_of_rows r.table p.id k [] before (λ i lt. ap (λ (n : ℕ). n == k) (zero_more i) ∙ below i k lt)
+        none_first = none_of_rows r.table p.id k [] before (λ i lt. ap (λ (n : ℕ). n == k) (zero_more i) ∙ ne_eqb i k (λ e. omega (arith, lt, e)))
 
         none_later : list_any (is_copy k) later ≡ false
-        none_later = none_of_rows r.table p.id k (before ++ row ∷ []) after (λ i lt. above (length (before ++ row ∷ []) + i) k (let longer = length-append before (row ∷ []) in omega (arith, longer)))
+        none_later = none_of_rows r.table p.id k (before ++ row ∷ []) after (λ i lt. ne_eqb (length (before ++ row ∷ []) + i) k (λ e. let longer = length-append before (row ∷ []) in omega (arith, longer, e)))
 
   found_id : (ports : List PortRow) (port : ℕ) (p : PortRow) → find (λ (q : PortRow). q.id == port) ports ≡ Some p → p.id ≡ port
   found_id [] port p found = absurd (cc)
@@ -230,7 +224,7 @@ module _ (one : EachHasOneEvent) (in_parts : AdmittedInParts) (r : Run) (ends : 
       → refusing r (length before) ports ≡ full_ports (map (λ port. (port, answer_at port)) ports)
   all_refuse [] among = refl
   all_refuse (port ∷ ports) among =
-      ap (λ (b : Bool). cond b (port ∷ refusing r (length before) ports) (refusing r (length before) ports)) (refuses port (among port (ap (λ (b : Bool). b || names_port port ports) (equal port))))
+      ap (λ (b : Bool). cond b (port ∷ refusing r (length before) ports) (refusing r (length before) ports)) (refuses port (among port (ap (λ (b : Bool). b || names_port port ports) (eq-eqb port port refl))))
       ∙ ap (λ (others : List ℕ). cond (answers_full (answer_at port)) (port ∷ others) others) (all_refuse ports (λ q in_them. among q (later q in_them)))
       ∙ kept (answers_full (answer_at port)) where
         or_true : (a b : Bool) → b ≡ true → (a || b) ≡ true

@@ -4,8 +4,7 @@ use Rattle.std.specs.Prelude.{find}
 use Rattle.std.specs.List.{AllByRecursion, list_any}
 use Rattle.std.proofs.Math.Seq.{get_or-append_seam}
 use Rattle.std.proofs.lemmas.List.{get_or_append_left, get_or_past, length-append}
-use Rattle.std.proofs.lemmas.Bool.{cases_lt}
-use Rattle.std.proofs.lemmas.Bool.Decides.{nat_tests}
+use Rattle.std.proofs.lemmas.Bool.{cases_lt, ne_eqb}
 use Rattle.afdx_table.specs.declared.rows.PortRow.{PortRow}
 use Rattle.afdx_table.specs.Content.{port_row}
 use Rattle.afdx_table.specs.WellFormed.{IsPort, IsWellFormed}
@@ -40,14 +39,11 @@ taken_more r all flags port long new before q number lt within =
           )
     ]
 
-pub below : (a b : ℕ) → a < b → (a == b) ≡ false
-below a b lt = grind (arith, nat_tests)
-
 -- a table has no port above 24
 no_port : (ports : List PortRow) (port : ℕ) → AllByRecursion IsPort ports → 24 < port → find (λ (p : PortRow). p.id == port) ports ≡ None
 no_port [] port all lt = refl
 no_port (p ∷ ps) port all lt =
-    ap (λ (b : Bool). cond b (Some p) (find (λ (x : PortRow). x.id == port) ps)) (below p.id port (let most = all.0.id_most in omega (arith, most, lt))) ∙ no_port ps port all.1 lt
+    ap (λ (b : Bool). cond b (Some p) (find (λ (x : PortRow). x.id == port) ps)) (ne_eqb p.id port (λ e. let most = all.0.id_most in omega (arith, most, lt, e))) ∙ no_port ps port all.1 lt
 
 none_took : (r : Run) (port number : ℕ) → port_row r.table port ≡ None → took r port number ≡ false
 none_took r port number none =
