@@ -3,9 +3,15 @@ use Rattle.std.proofs.Common.{◌≡◌, ℕ, ◌+◌, ◌<◌, ◌==◌, ◌&&�
 use Rattle.std.proofs.Common.{append_assoc, inl, inr}
 use Rattle.std.specs.Prelude.{count_by}
 use Rattle.std.specs.List.{AllByRecursion, IsDistinct}
-use Rattle.std.proofs.lemmas.Bool.{cases_Bool, eqb-true}
+use Rattle.std.proofs.lemmas.Bool.{cases_Bool, eqb-true, ne_eqb}
 use Rattle.std.proofs.lemmas.List.{append-nil}
-use Rattle.std.proofs.lemmas.Option.{none-some}
+use Rattle.std.proofs.lemmas.Option.{none-some, gets, slice_get-map}
+use Rattle.std.proofs.lemmas.Cmp.{nat_eq_equiv}
+use Rattle.std.proofs.lemmas.List.Folds.{find_at}
+use Rattle.std.proofs.lemmas.List.Recursion.{same_from_clauses}
+use Rattle.std.proofs.lemmas.List.Sums.{passes_at_first}
+use Rattle.std.specs.List.{position_or_len}
+use Rattle.std.specs.Prelude.{slice_get, not}
 use Rattle.afdx_units.specs.declared.line.Priority.{Priority}
 use Rattle.afdx_units.specs.declared.line.Priority.TheVariants.{High, Low}
 use Rattle.afdx_table.specs.declared.rows.PortRow.{PortRow}
@@ -30,21 +36,13 @@ use Rattle.afdx_count.specs.declared.counters.InCount.{InCount}
 use Rattle.afdx_count.specs.declared.ports.PortTally.{PortTally}
 use Rattle.afdx_count.specs.declared.links.LinkTally.{LinkTally}
 use Rattle.afdx_count.specs.Counting.{capped, with_fate, is_of, answers_of, with_answers, with_ended}
-use Rattle.afdx_count.specs.Tally.{new_port, new_link, with_arrival, with_class, with_copies, class_of, noted_link, noted_port, ended_port, ended_tally}
+use Rattle.afdx_count.specs.Tally.{with_arrival, with_class, with_copies, class_of, noted_link, noted_port, ended_port, ended_tally}
 use Rattle.afdx_count.specs.Run.{of_priority, turned_away, arrivals_at, input_counts, output_counts, port_counts, link_tally, counts_so_far, events_of, run_after, steps_of, noted_all}
 use Rattle.afdx_count.specs.Inner.Laws.{StartsWithNone, NoteCountsOneMore, EndCountsTheRun, NotesCountTheRun}
-use Rattle.afdx_count.proofs.Placed.{itself, turned, lower_differs}
-use Rattle.afdx_count.proofs.Notes.{map_same, map_twice}
+use Rattle.afdx_count.proofs.Notes.{map_twice}
 use Rattle.afdx_count.proofs.Runs.{input-push, link-push, answer_after, one_offered, other_offered}
 
 -- ---- the rows of a table
-
-pub find_true : {X : Type 0} (p : X → Bool) (xs : List X) (y : X) → find p xs ≡ Some y → p y ≡ true
-find_true p [] y is = absurd (none-some y is)
-find_true p (x ∷ xs) y is = by_head (p x) refl is (find_true p xs y) where
-  by_head : (b : Bool) → p x ≡ b → cond b (Some x) (find p xs) ≡ Some y → (find p xs ≡ Some y → p y ≡ true) → p y ≡ true
-  by_head true here e ih = let same : x ≡ y = (cc) in ap p (sym same) ∙ here
-  by_head false here e ih = ih e
 
 found_all : {X : Type 0} (P : X → Type 0) (p : X → Bool) (xs : List X) (y : X) → AllByRecursion P xs → find p xs ≡ Some y → P y
 found_all P p [] y all is = absurd (none-some y is)
@@ -54,7 +52,7 @@ found_all P p (x ∷ xs) y all is = by_head (p x) is (found_all P p xs y all.1) 
   by_head false e ih = ih e
 
 pub named_row : (t : Content) (v : Verdict) (l : Link) → named t v ≡ Some l → link_row t l.id ≡ Some l
-named_row t (Clean i) l is = ap (link_row t) (eqb-true l.id i (find_true (λ (m : Link). m.id == i) t.links l is)) ∙ is
+named_row t (Clean i) l is = ap (link_row t) (eqb-true l.id i (grind (arith, gets, is, find_at (λ (m : Link). m.id == i) t.links, passes_at_first (λ (m : Link). m.id == i) t.links l))) ∙ is
 named_row t Cut l is = absurd (none-some l is)
 named_row t Short l is = absurd (none-some l is)
 named_row t Long l is = absurd (none-some l is)
@@ -70,12 +68,12 @@ targets_once t l formed is = let link = found_all (IsLink t.ports) (λ (m : Link
 pub ports_found : (ps : List PortRow) → Rises ps → AllByRecursion (λ (p : PortRow). find (λ (q : PortRow). q.id == p.id) ps ≡ Some p) ps
 ports_found [] rises = tt
 ports_found (p ∷ ps) rises =
-    (ap (λ b. cond b (Some p) (find (λ (q : PortRow). q.id == p.id) ps)) (itself p.id), later ps rises.0 (ports_found ps rises.1)) where
+    (ap (λ b. cond b (Some p) (find (λ (q : PortRow). q.id == p.id) ps)) (nat_eq_equiv.refl p.id), later ps rises.0 (ports_found ps rises.1)) where
       later : (qs : List PortRow) → AllByRecursion (λ (q : PortRow). p.id < q.id) qs → AllByRecursion (λ (q : PortRow). find (λ (o : PortRow). o.id == q.id) ps ≡ Some q) qs
           → AllByRecursion (λ (q : PortRow). find (λ (o : PortRow). o.id == q.id) (p ∷ ps) ≡ Some q) qs
       later [] above found = tt
       later (q ∷ qs) above found =
-          (ap (λ b. cond b (Some p) (find (λ (o : PortRow). o.id == q.id) ps)) (lower_differs p.id q.id above.0) ∙ found.0, later qs above.1 found.1)
+          (ap (λ b. cond b (Some p) (find (λ (o : PortRow). o.id == q.id) ps)) (ne_eqb p.id q.id (λ e. omega (arith, above.0, e))) ∙ found.0, later qs above.1 found.1)
 
 map_all : {X Y : Type 0} (P : X → Type 0) (f g : X → Y) (xs : List X) → AllByRecursion P xs → ((x : X) → P x → f x ≡ g x) → map f xs ≡ map g xs
 map_all P f g [] all h = refl
@@ -87,7 +85,7 @@ none_of : (A : ℕ → Offer) (port : ℕ) (to : List ℕ) → AllByRecursion (�
 none_of A port [] all = refl
 none_of A port (q ∷ to) all =
     ap (λ b. map (λ (o : ℕ × Offer). o.1) (cond b ((q, A q) ∷ filter (λ (o : ℕ × Offer). o.0 == port) (map (λ q. (q, A q)) to)) (filter (λ (o : ℕ × Offer). o.0 == port) (map (λ q. (q, A q)) to))))
-    (turned port q all.0)
+    (nat_eq_equiv.symm q port ∙ all.0)
     ∙ none_of A port to all.1
 
 pub answers_once : (A : ℕ → Offer) (port : ℕ) (to : List ℕ) → IsDistinct nat_eq to → answers_of port (map (λ q. (q, A q)) to) ≡ cond (names_port port to) (A port ∷ []) []
@@ -101,16 +99,13 @@ answers_once A port (q ∷ to) d =
 
 -- ---- a port
 
-find-map : {X Y : Type 0} (f : X → Y) (p : Y → Bool) (xs : List X) → find p (map f xs) ≡ option_map f (find (λ x. p (f x)) xs)
-find-map f p [] = refl
-find-map f p (x ∷ xs) = chosen (p (f x)) (find-map f p xs) where
-  chosen : (b : Bool) → find p (map f xs) ≡ option_map f (find (λ y. p (f y)) xs) → cond b (Some (f x)) (find p (map f xs)) ≡ option_map f (cond b (Some x) (find (λ y. p (f y)) xs))
-  chosen true ih = refl
-  chosen false ih = ih
-
 class-is : (t : Content) (rows : List Row) (l : Link) → link_row t l.id ≡ Some l → class_of (Passed l.id) (map (link_tally t rows) t.links) ≡ Some l.priority
 class-is t rows l is =
-    ap (option_map (λ (m : LinkTally). m.priority)) (find-map (link_tally t rows) (λ (m : LinkTally). m.id == l.id) t.links ∙ ap (option_map (link_tally t rows)) is)
+    let place : position_or_len (λ (m : LinkTally). m.id == l.id) (map (link_tally t rows) t.links) ≡ position_or_len (λ (k : Link). k.id == l.id) t.links
+            = same_from_clauses (λ ls. position_or_len (λ (m : LinkTally). m.id == l.id) (map (link_tally t rows) ls)) (position_or_len (λ (k : Link). k.id == l.id))
+        (λ k n. cond (not (k.id == l.id)) (1 + n) 0) refl (λ _ _. refl) (λ _ _. refl) t.links in
+    ap (option_map (λ (m : LinkTally). m.priority)) (find_at (λ (m : LinkTally). m.id == l.id) (map (link_tally t rows) t.links) ∙ ap (slice_get (map (link_tally t rows) t.links)) place
+    ∙ slice_get-map (link_tally t rows) t.links _ ∙ ap (option_map (link_tally t rows)) (sym (find_at (λ (k : Link). k.id == l.id) t.links) ∙ is))
 
 module _ (r : Run) (row : Row) (p : PortRow) where
   abbrev feed : List Item
@@ -192,7 +187,7 @@ note_counts_one_more one_fate new_copies r row formed =
     let ports = map_twice (port_counts r.table r.rows (λ q. [])) (noted_port (class_of (fate_of r.table r.rows row) (map (link_tally r.table r.rows) r.table.links)) (step_of r row)) r.table.ports
     ∙ map_all _ _ (port_counts r.table (r.rows ++ row ∷ []) (λ q. [])) r.table.ports (ports_found r.table.ports formed.ports_rise) (λ p found. port-push r row p new_copies formed found) in
     let links = map_twice (link_tally r.table r.rows) (noted_link (fate_of r.table r.rows row)) r.table.links
-    ∙ map_same _ (link_tally r.table (r.rows ++ row ∷ [])) r.table.links (link-push one_fate r.table r.rows row) in
+    ∙ (λ j. map (λ l. link-push one_fate r.table r.rows row l j) r.table.links) in
     (λ j. record { ports = ports j; links = links j })
 
 zero_start : (n : ℕ) → capped (capped 0 + n) ≡ capped n
@@ -227,10 +222,7 @@ end_counts_the_run r formed =
 
 pub starts_with_none : StartsWithNone
 unfolding feed_of fates_of turned_away
-starts_with_none t =
-    let ports = map_same new_port (port_counts t [] (λ p. [])) t.ports (λ p. refl) in
-    let links = map_same new_link (link_tally t []) t.links (λ l. refl) in
-    (λ j. record { ports = ports j; links = links j })
+starts_with_none t = refl
 
 notes_from : NoteCountsOneMore → (t : Content) (before rows : List Row) → IsWellFormed t
     → noted_all (each_after (λ b row. step_of (run_after t b) row ∷ []) before rows) (counts_so_far t before) ≡ counts_so_far t (before ++ rows)

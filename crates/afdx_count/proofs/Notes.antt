@@ -2,6 +2,7 @@
 use Rattle.std.proofs.Common.{◌≡◌, ℕ, ◌+◌, ◌≤◌, ◌<◌, zero, suc, get_or, drop, nat_eq, Bool, false, cond, List, [], ◌∷◌, length, map, Option, None, refl, sym, ap, ◌∙◌, arith, inl, inr, zero-add}
 use Rattle.std.specs.Prelude.{count_by}
 use Rattle.std.proofs.lemmas.Bool.{cases_Bool}
+use Rattle.std.proofs.lemmas.Cmp.{nat_eq_equiv}
 use Rattle.std.proofs.lemmas.List.{drop_more}
 use Rattle.std.proofs.lemmas.List.Sums.{sum_by-cons}
 use Rattle.afdx_units.specs.declared.line.Priority.{Priority}
@@ -18,11 +19,6 @@ use Rattle.afdx_count.specs.declared.links.LinkTally.{LinkTally}
 use Rattle.afdx_count.specs.Counting.{capped, answers_of, with_answers}
 use Rattle.afdx_count.specs.Tally.{Tally, with_arrival, with_copies, with_class, class_of, noted_link, noted_port, noted, ended_port}
 use Rattle.afdx_count.specs.Inner.Places.{changed_at}
-use Rattle.afdx_count.proofs.Placed.{turned}
-
-pub map_same : {X Y : Type 0} (f g : X → Y) (xs : List X) → ((x : X) → f x ≡ g x) → map f xs ≡ map g xs
-map_same f g [] h = refl
-map_same f g (x ∷ xs) h = (λ j. h x j ∷ map_same f g xs h j)
 
 pub map_stays : {X : Type 0} (f : X → X) (xs : List X) → ((x : X) → f x ≡ x) → xs ≡ map f xs
 map_stays f [] h = refl
@@ -76,7 +72,7 @@ one_copy_more Low o os p = ap (λ c. record p { low = c }) (answers_more p.id o 
 pub copies_more : (class : Priority) (o : ℕ × Offer) (os : List (ℕ × Offer)) (ps : List PortTally) → map (with_copies class (o ∷ os)) ps
     ≡ map (with_copies class os) (map (with_copies class (o ∷ [])) ps)
 copies_more class o os ps =
-    map_same (with_copies class (o ∷ os)) (λ p. with_copies class os (with_copies class (o ∷ []) p)) ps (one_copy_more class o os)
+    (λ j. map (λ p. one_copy_more class o os p j) ps)
     ∙ sym (map_twice (with_copies class (o ∷ [])) (with_copies class os) ps)
 
 pub no_copies : (class : Priority) (p : PortTally) → with_copies class [] p ≡ p
@@ -87,7 +83,7 @@ one_copy : (class : Priority) (port : ℕ) (offer : Offer) (p : PortTally) → c
 one_copy class port offer p =
     elim (cases_Bool (nat_eq p.id port)) [
       | inl hit ↦ rw hit refl
-      | inr miss ↦ rw miss (sym (elsewhere class (turned p.id port miss)))
+      | inr miss ↦ rw miss (sym (elsewhere class (nat_eq_equiv.symm port p.id ∙ miss)))
     ] where
       elsewhere : (class : Priority) → nat_eq port p.id ≡ false → with_copies class ((port, offer) ∷ []) p ≡ p
       elsewhere High none = rw none refl
@@ -96,7 +92,7 @@ one_copy class port offer p =
 -- a copy counts at one port alone
 pub one_copy_at : (class : Priority) (port : ℕ) (offer : Offer) (ps : List PortTally) → changed_at (λ (p : PortTally). p.id) port (with_copies class ((port, offer) ∷ [])) ps
     ≡ map (with_copies class ((port, offer) ∷ [])) ps
-one_copy_at class port offer ps = map_same _ (with_copies class ((port, offer) ∷ [])) ps (one_copy class port offer)
+one_copy_at class port offer ps = λ j. map (λ p. one_copy class port offer p j) ps
 
 pub numbers_copies : (class : Priority) (os : List (ℕ × Offer)) (p : PortTally) → (with_copies class os p).id ≡ p.id
 numbers_copies High os p = refl

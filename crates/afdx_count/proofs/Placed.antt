@@ -3,22 +3,15 @@ use Rattle.std.proofs.Common.{◌≡◌, ℕ, zero, suc, ◌<◌, nat_eq, true, 
 use Rattle.std.proofs.Common.{sym, ap, ◌∙◌, arith, inl, inr, ◌||◌}
 use Rattle.std.specs.Prelude.{IfSome, IfNone}
 use Rattle.std.specs.List.{AllByRecursion, IsDistinct, list_any}
-use Rattle.std.proofs.lemmas.Option.{slice_get_within, none-some, same_Some}
+use Rattle.std.proofs.lemmas.Option.{gets, slice_get_within, none-some, same_Some}
 use Rattle.std.proofs.lemmas.List.{length-map, map-append}
 use Rattle.std.proofs.lemmas.List.Sorted.{IsPermutation-append_comm}
 use Rattle.std.proofs.lemmas.Map.Keys.{IsDistinct-IsPermutation}
 use Rattle.std.proofs.lemmas.Bool.{cases_Bool, true≢false}
 use Rattle.std.proofs.lemmas.Bool.Decides.{nat_tests}
+use Rattle.std.proofs.lemmas.Cmp.{nat_eq_equiv}
+use Rattle.std.proofs.lemmas.List.Elements.{All-from_recursion}
 use Rattle.afdx_count.specs.Inner.Places.{IsPlaceOf, changed_at}
-
-pub itself : (a : ℕ) → nat_eq a a ≡ true
-itself a = grind (arith, nat_tests)
-
-pub turned : (a b : ℕ) → nat_eq a b ≡ false → nat_eq b a ≡ false
-turned a b e = grind (arith, nat_tests)
-
-pub lower_differs : (a b : ℕ) → a < b → nat_eq a b ≡ false
-lower_differs a b lt = grind (arith, nat_tests)
 
 -- the same search, asked the other way round
 turned_any : (n : ℕ) (ks : List ℕ) → list_any (λ k. nat_eq k n) ks ≡ list_any (nat_eq n) ks
@@ -30,11 +23,6 @@ turned_any n (k ∷ ks) = (λ j. either_way k j || turned_any n ks j) where
 pub unlisted : (n : ℕ) (ks : List ℕ) (o : Option ℕ) → IfNone o (list_any (λ k. nat_eq k n) ks ≡ false) → IfNone o (list_any (nat_eq n) ks ≡ false)
 unlisted n ks None h = sym (turned_any n ks) ∙ h
 unlisted n ks (Some place) h = tt
-
-all_at : {X : Type 0} (P : X → Type 0) (xs : List X) (i : ℕ) (x : X) → AllByRecursion P xs → slice_get xs i ≡ Some x → P x
-all_at P [] i x all at = absurd (none-some x at)
-all_at P (y ∷ ys) zero x all at = rw (sym (same_Some y x at)) all.0
-all_at P (y ∷ ys) (suc i) x all at = all_at P ys i x all.1 at
 
 module _ {X : Type 0} (number : X → ℕ) where
   pub any_number : (n : ℕ) (xs : List X) → list_any (nat_eq n) (map number xs) ≡ list_any (λ x. nat_eq n (number x)) xs
@@ -50,10 +38,10 @@ module _ {X : Type 0} (number : X → ℕ) where
   unfolding IsDistinct
   found n [] i x d at is = absurd (none-some n at)
   found n (y ∷ ys) zero x d at is =
-      let e : nat_eq (number y) n ≡ true = ap (nat_eq (number y)) (sym (same_Some (number y) n at)) ∙ itself (number y) in
+      let e : nat_eq (number y) n ≡ true = ap (nat_eq (number y)) (sym (same_Some (number y) n at)) ∙ nat_eq_equiv.refl (number y) in
       ap Some is ∙ ap (λ b. cond b (Some y) (find (λ y. nat_eq (number y) n) ys)) (sym e)
   found n (y ∷ ys) (suc i) x d at is =
-      let e : nat_eq (number y) n ≡ false = all_at (λ k. nat_eq (number y) k ≡ false) (map number ys) i n d.0 at in
+      let e : nat_eq (number y) n ≡ false = grind (arith, gets, at, All-from_recursion (λ k. nat_eq (number y) k ≡ false) (map number ys) d.0 i n) in
       found n ys i x d.1 at is ∙ ap (λ b. cond b (Some y) (find (λ y. nat_eq (number y) n) ys)) (sym e)
 
   pub not_found : (n : ℕ) (xs : List X) → list_any (λ x. nat_eq n (number x)) xs ≡ false → None ≡ find (λ y. nat_eq (number y) n) xs
@@ -62,25 +50,25 @@ module _ {X : Type 0} (number : X → ℕ) where
       elim (cases_Bool (nat_eq n (number x))) [
         | inl hit ↦ absurd (true≢false (ap (λ b. b || list_any (λ x. nat_eq n (number x)) xs) (sym hit) ∙ h))
         | inr miss ↦ not_found n xs (ap (λ b. b || list_any (λ x. nat_eq n (number x)) xs) (sym miss) ∙ h)
-            ∙ ap (λ b. cond b (Some x) (find (λ y. nat_eq (number y) n) xs)) (sym (turned n (number x) miss))
+            ∙ ap (λ b. cond b (Some x) (find (λ y. nat_eq (number y) n) xs)) (sym (nat_eq_equiv.symm (number x) n ∙ miss))
       ]
 
   -- elements of other numbers stay
   stay : (n : ℕ) (f : X → X) (xs : List X) → AllByRecursion (λ k. nat_eq n k ≡ false) (map number xs) → xs ≡ changed_at number n f xs
   stay n f [] all = refl
-  stay n f (x ∷ xs) all = ap (λ ys. x ∷ ys) (stay n f xs all.1) ∙ ap (λ b. cond b (f x) x ∷ changed_at number n f xs) (sym (turned n (number x) all.0))
+  stay n f (x ∷ xs) all = ap (λ ys. x ∷ ys) (stay n f xs all.1) ∙ ap (λ b. cond b (f x) x ∷ changed_at number n f xs) (sym (nat_eq_equiv.symm (number x) n ∙ all.0))
 
   pub changed : (n : ℕ) (f : X → X) (xs : List X) (i : ℕ) (x : X) → IsDistinct nat_eq (map number xs) → IsPlaceOf number n xs i → x ≡ get_or xs i x → set xs i (f x) ≡ changed_at number n f xs
   unfolding IsDistinct
   changed n f [] i x d at is = absurd (none-some n at)
   changed n f (y ∷ ys) zero x d at is =
       let e : number y ≡ n = same_Some (number y) n at in
-      let hit : nat_eq (number y) n ≡ true = ap (nat_eq (number y)) (sym e) ∙ itself (number y) in
+      let hit : nat_eq (number y) n ≡ true = ap (nat_eq (number y)) (sym e) ∙ nat_eq_equiv.refl (number y) in
       ap (λ z. f z ∷ ys) is
       ∙ ap (λ zs. f y ∷ zs) (stay n f ys (rw e at d.0))
       ∙ ap (λ b. cond b (f y) y ∷ changed_at number n f ys) (sym hit)
   changed n f (y ∷ ys) (suc i) x d at is =
-      let miss : nat_eq (number y) n ≡ false = all_at (λ k. nat_eq (number y) k ≡ false) (map number ys) i n d.0 at in
+      let miss : nat_eq (number y) n ≡ false = grind (arith, gets, at, All-from_recursion (λ k. nat_eq (number y) k ≡ false) (map number ys) d.0 i n) in
       ap (λ zs. y ∷ zs) (changed n f ys i x d.1 at is) ∙ ap (λ b. cond b (f y) y ∷ changed_at number n f ys) (sym miss)
 
   any_false : (n : ℕ) (xs : List X) → list_any (λ x. nat_eq n (number x)) xs ≡ false → AllByRecursion (λ k. nat_eq n k ≡ false) (map number xs)
@@ -106,8 +94,8 @@ module _ {X : Type 0} (number : X → ℕ) where
   new_number [] i x d at = absurd (none-some x at)
   new_number (y ∷ ys) zero x d at = refl
   new_number (y ∷ ys) (suc i) x d at =
-      let miss : nat_eq (number y) (number x) ≡ false = all_at (λ k. nat_eq (number y) k ≡ false) (map number ys) i (number x) d.0 (mapped ys i at) in
-      rw (turned (number y) (number x) miss) (new_number ys i x d.1 at) where
+      let miss : nat_eq (number y) (number x) ≡ false = grind (arith, gets, mapped ys i at, All-from_recursion (λ k. nat_eq (number y) k ≡ false) (map number ys) d.0 i (number x)) in
+      rw (nat_eq_equiv.symm (number x) (number y) ∙ miss) (new_number ys i x d.1 at) where
         mapped : (zs : List X) (k : ℕ) → slice_get zs k ≡ Some x → slice_get (map number zs) k ≡ Some (number x)
         mapped [] k e = absurd (none-some x e)
         mapped (z ∷ zs) zero e = ap (λ (o : Option X). map_option o) e where

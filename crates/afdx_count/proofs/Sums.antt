@@ -2,8 +2,9 @@
 use Rattle.std.proofs.Common.{◌≡◌, ℕ, ◌+◌, ◌<◌, ◌≤◌, ◌==◌, nat_eq, Bool, true, false, cond, List, [], ◌∷◌, ◌++◌, length, Option, Some, None, refl, sym, ap, ◌∙◌, arith, inl, inr, add-zero, zero-add}
 use Rattle.std.specs.Prelude.{count_by}
 use Rattle.std.proofs.lemmas.Bool.{cases_Bool, eqb-true}
-use Rattle.std.proofs.lemmas.List.Sums.{sum_by_push}
-use Rattle.std.proofs.lemmas.Option.{none-some}
+use Rattle.std.proofs.lemmas.List.Folds.{find_at}
+use Rattle.std.proofs.lemmas.List.Sums.{passes_at_first, sum_by_push}
+use Rattle.std.proofs.lemmas.Option.{gets, none-some}
 use Rattle.afdx_table.specs.Link.{Link}
 use Rattle.afdx_table.specs.Content.{Content, link_row}
 use Rattle.afdx_filter.specs.declared.outcome.Verdict.{Verdict}
@@ -21,7 +22,6 @@ use Rattle.afdx_core.specs.Rows.{each_after, fates_of, fate_of, fate_by, named, 
 use Rattle.afdx_count.specs.Counting.{greatest_count, capped, is_of}
 use Rattle.afdx_count.specs.Run.{is_partial, is_short, is_long, is_foreign, has_no_link, is_at_wrong_port, is_too_big, is_clean, is_passed, is_policed, turned_away}
 use Rattle.afdx_count.specs.Inner.Laws.{SeenIsTheSum, PassedAndPolicedAreClean, OfferedIsTheSum}
-use Rattle.afdx_count.proofs.Copies.{find_true}
 use Rattle.afdx_count.proofs.Notes.{count_one}
 
 -- a part of a number that a counter holds
@@ -102,7 +102,7 @@ one_fate t l before row found = by_verdict row.verdict refl where
   by_link : (j : ℕ) (m : Option Link) → row.verdict ≡ Clean j → link_row t j ≡ m
       → cond (is_passed l.id (fate_by m before row)) 1 0 + cond (is_policed l.id (fate_by m before row)) 1 0 ≡ cond (nat_eq l.id j) 1 0
   by_link j None clean is = ap (λ b. cond b 1 0) (sym (absent j is))
-  by_link j (Some m) clean is = by_pass (passes m before row) m.id j (eqb-true m.id j (find_true (λ (k : Link). k.id == j) t.links m is))
+  by_link j (Some m) clean is = by_pass (passes m before row) m.id j (eqb-true m.id j (grind (arith, gets, is, find_at (λ (k : Link). k.id == j) t.links, passes_at_first (λ (k : Link). k.id == j) t.links m)))
 
   by_verdict : (v : Verdict) → row.verdict ≡ v → cond (is_passed l.id (fate_by (named t v) before row)) 1 0 + cond (is_policed l.id (fate_by (named t v) before row)) 1 0 ≡ cond (says_clean l.id v) 1 0
   by_verdict Cut is = refl
