@@ -1,8 +1,8 @@
 -- The ways in a run of an accepted network are ways of the theorem, and their jitters are enough.
-use Rattle.std.proofs.Common.{◌≡◌, ℕ, ◌≤◌, true, List, [], ◌∷◌, map, slice_get, Some, option_and_then, refl, ap, sym, ◌∙◌, subst}
+use Rattle.std.proofs.Common.{◌≡◌, ℕ, ◌≤◌, true, List, [], ◌∷◌, map, slice_get, Option, Some, None, option_map, option_and_then, refl, ap, sym, ◌∙◌, subst}
 use Rattle.std.specs.Prelude.{All, Contains}
 use Rattle.std.proofs.lemmas.List.Elements.{All-contains}
-use Rattle.std.proofs.lemmas.Option.{same_Some}
+use Rattle.std.proofs.lemmas.Option.{slice_get-map, same_Some}
 use Rattle.afdx_pcap.specs.Record.{Record}
 use Rattle.afdx_pcap.specs.Text.{capture_text}
 use Rattle.afdx_pcap.specs.Capture.{IsCapture}
@@ -29,10 +29,10 @@ use Rattle.afdx_wiring.specs.declared.layout.Wire.{Wire}
 use Rattle.afdx_wiring.specs.Net.{Network, Row, Back, port_at, row_at, rows_of, rows_on, ingress, wire_to, bound_in, IsWayBack, AreDelays, source_of}
 use Rattle.afdx_wiring.specs.Rules.{Joins, GoesOn}
 use Rattle.afdx_network.specs.Way.{Node, Stage, IsStage, Leg, IsLegFrom, IsWay, AreEnough, delayed}
-use Rattle.afdx_network.specs.Runs.{SwitchRun, Given}
+use Rattle.afdx_network.specs.Runs.{SwitchRun, Given, Brings}
 use Rattle.afdx_network.specs.Ways.{node_of, IsStageAt, GoesOver, IsWayFrom, IsWayIn}
 use Rattle.afdx_network.specs.Laws.{IsAcceptedRun}
-use Rattle.afdx_network.proofs.Found.{get_map, got_map, map_contains, all_at, ports_are_found, one_port}
+use Rattle.afdx_network.proofs.Found.{map_contains, all_at, ports_are_found, one_port}
 use Rattle.afdx_network.proofs.Rows.{wire_goes_there, rows_have, rows_on_have, row_is, same_bound}
 use Rattle.afdx_network.proofs.Lengths.{IsFound, found_row}
 use Rattle.afdx_network.proofs.Wired.{wired}
@@ -53,7 +53,7 @@ stage_by port bound node link = record { node = node; link = link; port = port; 
 
 module _ (g : Ground) (net : Network) (given : Given) (runs : List SwitchRun) (acc : IsAcceptedRun net given runs) where
   pub table_at : (n : ℕ) (run : SwitchRun) → slice_get runs n ≡ Some run → slice_get net.tables n ≡ Some run.table
-  table_at n run is = ap (λ (tables : List Content). slice_get tables n) (sym acc.run.tables) ∙ get_map (λ (r : SwitchRun). r.table) runs n run is
+  table_at n run is = rw (← acc.run.tables, slice_get-map, is)
 
   pub formed_at : (n : ℕ) (run : SwitchRun) → slice_get runs n ≡ Some run → IsWellFormed run.table
   formed_at n run is = all_at IsWellFormed net.tables n run.table acc.of_file.well_formed (table_at n run is)
@@ -93,10 +93,15 @@ module _ (g : Ground) (net : Network) (given : Given) (runs : List SwitchRun) (a
   pub behind : (w : Wire) (run : SwitchRun) → Contains net.layout.wires w → slice_get runs w.to.switch ≡ Some run → Behind w run
   behind w run among is =
       let b = acc.run.fed.wires w among in
-      let h = got_map (λ (r : SwitchRun). r.results) runs w.from.switch b.here b.here_is in
-      let there : b.there ≡ run.texts = same_Some b.there run.texts (sym b.there_is ∙ get_map (λ (r : SwitchRun). r.texts) runs w.to.switch run is) in
-      left_by w run among is h.0 h.1 b.bytes b.records (subst (λ (r : Results). Contains r.captures (w.from.port, b.bytes)) (sym h.2) b.written) b.read
-      (subst (λ (texts : List Text). Contains texts (w.to.port, capture_text (map (delayed w.delay) b.records))) there b.comes)
+      let there : b.there ≡ run.texts = same_Some b.there run.texts (sym b.there_is ∙ rw (slice_get-map, is)) in
+      let comes = subst (λ (texts : List Text). Contains texts (w.to.port, capture_text (map (delayed w.delay) b.records))) there b.comes in
+      by b comes (slice_get runs w.from.switch) refl (sym (slice_get-map _ runs w.from.switch) ∙ b.here_is) where
+        by : (b : Brings (map (λ r. r.results) runs) (map (λ r. r.texts) runs) w) → Contains run.texts (w.to.port, capture_text (map (delayed w.delay) b.records))
+            → (o : Option SwitchRun) → slice_get runs w.from.switch ≡ o → option_map (λ r. r.results) o ≡ Some b.here → Behind w run
+        by b comes None here_is same = absurd cc
+        by b comes (Some here) here_is same =
+            let written = subst (λ (r : Results). Contains r.captures (w.from.port, b.bytes)) (sym (same_Some here.results b.here same)) b.written in
+            left_by w run among is here here_is b.bytes b.records written b.read comes
 
   -- a row, and the one that sends its link on the wire to it
   pub record RowBefore (b : Back) (r : Row) (run : SwitchRun) : Type 0 where

@@ -3,7 +3,7 @@ use Rattle.std.proofs.Common.{◌≡◌, ℕ, ◌==◌, ◌≤◌, Bool, true, f
 use Rattle.std.specs.Prelude.{Contains}
 use Rattle.std.specs.List.{AllByRecursion}
 use Rattle.std.proofs.lemmas.Option.{same_Some}
-use Rattle.std.proofs.lemmas.Bool.{eq-eqb}
+use Rattle.std.proofs.lemmas.Bool.{eq-eqb, true≢false}
 use Rattle.afdx_units.specs.Line.{size_of}
 use Rattle.afdx_pcap.specs.Record.{Record}
 use Rattle.afdx_frame.specs.Address.{constant_of, link_of}
@@ -21,7 +21,7 @@ use Rattle.afdx_core.specs.Merge.{records_of}
 use Rattle.afdx_core.specs.Inner.Agreement.{VerdictsNameLinks}
 use Rattle.afdx_session.specs.Headline.{bytes_of}
 use Rattle.afdx_network.specs.Way.{Stage, IsStage, Leg, IsLegFrom, delayed, come_to, passed_at, leave}
-use Rattle.afdx_network.proofs.Lists.{apart, all_weaken, all_map, all_unmap, all_tested, filter_of_map, filter_alike, all_passed}
+use Rattle.afdx_network.proofs.Lists.{all_weaken, all_map, all_unmap, all_tested, filter_of_map, filter_alike, all_passed}
 
 -- what a clean frame of a link is, by its bytes alone
 pub record IsOf (constant : List ℕ) (l : Link) (bytes : List ℕ) : Type 0 where
@@ -99,8 +99,7 @@ module _ (exact : CleanExactly) (verdicts : VerdictsNameLinks) (links : LinksAre
       never false other is = refl
       never true other is =
           let address = (clean_of s.stage.node.table s.stage.link (delayed s.cable r) there.node.well_formed there.known is).address in
-          let again = eq-eqb (link_of r.bytes) x.link.id (address ∙ follows.number) in
-          absurd (apart (link_of r.bytes == x.link.id) again other)
+          absurd (true≢false (sym (eq-eqb (link_of r.bytes) x.link.id (address ∙ follows.number)) ∙ other))
 
       by : (b : Bool) → (link_of r.bytes == x.link.id) ≡ b → says_again r ≡ (link_of r.bytes == x.link.id)
       by true is = is_clean r (of is) ∙ sym is

@@ -18,12 +18,6 @@ use Rattle.afdx_session.specs.Headline.{bytes_of, IsInBound}
 use Rattle.afdx_network.specs.Way.{delayed}
 use Rattle.afdx_network.proofs.Lists.{all_map}
 
-pub heads : {X : Type 0} {x y : X} {xs ys : List X} → x ∷ xs ≡ y ∷ ys → x ≡ y
-heads h = cc
-
-pub tails : {X : Type 0} {x y : X} {xs ys : List X} → x ∷ xs ≡ y ∷ ys → xs ≡ ys
-tails h = cc
-
 pub same_bytes : (cable : ℕ) (left : List Record) → bytes_of (map (delayed cable) left) ≡ bytes_of left
 same_bytes cable [] = refl
 same_bytes cable (r ∷ left) = ap (λ (all : List (List ℕ)). r.bytes ∷ all) (same_bytes cable left)
@@ -43,11 +37,11 @@ module _ (t : Content) (p : PortRow) (l : Link) (bound : ℕ) (bound_is : bound_
       let least = zip.0.least in
       let most = in_time c f zip.0 in (
         record {
-          same = ap (λ (bytes : List ℕ). size_of (length bytes)) (heads same);
+          same = cc;
           least = omega (arith, least);
           most = omega (arith, most);
         },
-        crosses cable came left (tails same) zip.1,
+        crosses cable came left (cc) zip.1,
       )
 
   pub hop : CrossingIsAHop → (cable : ℕ) (came left : List Record) → AllByRecursion (λ r. 64 ≤ size_of (length r.bytes)) came → bytes_of left ≡ bytes_of came → AllZip (IsInBound t p l) came left
@@ -78,12 +72,12 @@ and_a_port t p l bound is least most (c ∷ came) (n ∷ now) [] same one two = 
 and_a_port t p l bound is least most (c ∷ came) (n ∷ now) (f ∷ left) same one two =
     let first = one.0.least_is in
     let last = one.0.most_is in
-    let size : size_of (length n.bytes) ≡ size_of (length c.bytes) = ap (λ (bytes : List ℕ). size_of (length bytes)) (heads same) in
+    let size : size_of (length n.bytes) ≡ size_of (length c.bytes) = cc in
     let port : n.stamp + t.latency + cost_of p.speed (size_of (length c.bytes)) ≤ f.stamp
     = subst (λ (s : ℕ). n.stamp + t.latency + cost_of p.speed s ≤ f.stamp) size two.0.least in
     let bounded = in_time t p l bound is n f two.0 in (
       record { least_is = omega (arith, first, port); most_is = omega (arith, last, bounded) },
-      and_a_port t p l bound is least most came now left (tails same) one.1 two.1,
+      and_a_port t p l bound is least most came now left (cc) one.1 two.1,
     )
 
 -- over a cable

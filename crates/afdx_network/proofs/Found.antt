@@ -1,39 +1,18 @@
 -- What is in a list, and what is found there.
-use Rattle.std.proofs.Common.{◌≡◌, ℕ, zero, suc, ◌<◌, ◌==◌, Bool, true, false, cond, List, [], ◌∷◌, length, map, filter, find, get_or, slice_get, Some, option_map, refl, ap, sym, ◌∙◌, arith, subst}
+use Rattle.std.proofs.Common.{◌≡◌, ℕ, zero, suc, ◌<◌, ◌==◌, Bool, true, false, cond, List, [], ◌∷◌, length, map, filter, find, get_or, slice_get, Some, refl, ap, sym, ◌∙◌, arith, subst}
 use Rattle.std.specs.Prelude.{All, Contains}
 use Rattle.std.specs.List.{AllByRecursion}
-use Rattle.std.proofs.lemmas.Bool.Decides.{nat_tests}
-use Rattle.std.proofs.lemmas.List.Elements.{All-from_recursion, recursion_from_All, All-contains}
-use Rattle.std.proofs.lemmas.Option.{slice_get-map, same_Some}
-use Rattle.std.proofs.lemmas.Bool.{eq-eqb}
+use Rattle.std.proofs.lemmas.List.Elements.{All-from_recursion, All-contains}
+use Rattle.std.proofs.lemmas.Option.{same_Some, slice_get_within, get_or_from_slice_get}
+use Rattle.std.proofs.lemmas.Bool.{eq-eqb, ne_eqb}
 use Rattle.afdx_table.specs.declared.rows.PortRow.{PortRow}
 use Rattle.afdx_table.specs.Content.{Content, port_row}
 use Rattle.afdx_table.specs.WellFormed.{Rises, IsWellFormed}
 
-pub above : (a b : ℕ) → a < b → (a == b) ≡ false
-above a b e = grind (arith, nat_tests)
-
-pub below : (a b : ℕ) → b < a → (a == b) ≡ false
-below a b e = grind (arith, nat_tests)
-
 -- ---- at a place
 
-pub get_map : {X Y : Type 0} (f : X → Y) (xs : List X) (n : ℕ) (x : X) → slice_get xs n ≡ Some x → slice_get (map f xs) n ≡ Some (f x)
-get_map f xs n x is = slice_get-map f xs n ∙ ap (option_map f) is
-
--- what is in a mapped list is made of what is there
-pub got_map : {X Y : Type 0} (f : X → Y) (xs : List X) (n : ℕ) (y : Y) → slice_get (map f xs) n ≡ Some y → (x : X) × (slice_get xs n ≡ Some x) × (f x ≡ y)
-got_map f [] n y is = absurd cc
-got_map f (x ∷ xs) zero y is = (x, refl, same_Some (f x) y is)
-got_map f (x ∷ xs) (suc n) y is = got_map f xs n y is
-
-at_place : {X : Type 0} (P : X → Type 0) (xs : List X) (n : ℕ) (x : X) → AllByRecursion P xs → slice_get xs n ≡ Some x → P x
-at_place P [] n x all is = absurd cc
-at_place P (y ∷ xs) zero x all is = subst P (same_Some y x is) all.0
-at_place P (y ∷ xs) (suc n) x all is = at_place P xs n x all.1 is
-
 pub all_at : {X : Type 0} (P : X → Type 0) (xs : List X) (n : ℕ) (x : X) → All P xs → slice_get xs n ≡ Some x → P x
-all_at P xs n x all is = at_place P xs n x (recursion_from_All P xs all) is
+all_at P xs n x all is = subst P (get_or_from_slice_get xs n x x is) (all n x (slice_get_within xs n x is))
 
 -- ---- elements
 
@@ -42,11 +21,6 @@ contains_head xs x y is = (0, omega arith, is)
 
 pub contains_tail : {X : Type 0} (xs : List X) (x y : X) → Contains xs x → Contains (y ∷ xs) x
 contains_tail xs x y among = let within = among.1 in (suc among.0, omega (arith, within), among.2)
-
-pub contains_at : {X : Type 0} (xs : List X) (n : ℕ) (x : X) → slice_get xs n ≡ Some x → Contains xs x
-contains_at [] n x is = absurd cc
-contains_at (y ∷ xs) zero x is = contains_head xs x y (same_Some y x is)
-contains_at (y ∷ xs) (suc n) x is = contains_tail xs x y (contains_at xs n x is)
 
 -- what holds of each element of a list holds of all by recursion
 pub all_by : {X : Type 0} (P : X → Type 0) (xs : List X) → ((x : X) → Contains xs x → P x) → AllByRecursion P xs
@@ -99,7 +73,7 @@ port_found (q ∷ ports) p rises zero within at =
     ap (λ b. cond b (Some q) (find (λ (other : PortRow). other.id == p.id) ports)) (eq-eqb q.id p.id (ap (λ (other : PortRow). other.id) at)) ∙ ap Some at
 port_found (q ∷ ports) p rises (suc k) within at =
     let less : q.id < p.id = of_all (λ (other : PortRow). q.id < other.id) ports p rises.0 (k, omega (arith, within), at) in
-    ap (λ b. cond b (Some q) (find (λ (other : PortRow). other.id == p.id) ports)) (above q.id p.id less) ∙ port_found ports p rises.1 k (omega (arith, within)) at
+    ap (λ b. cond b (Some q) (find (λ (other : PortRow). other.id == p.id) ports)) (ne_eqb q.id p.id (λ same. omega arith)) ∙ port_found ports p rises.1 k (omega (arith, within)) at
 
 pub ports_are_found : (t : Content) (p : PortRow) → IsWellFormed t → Contains t.ports p → port_row t p.id ≡ Some p
 ports_are_found t p formed among = port_found t.ports p formed.ports_rise among.0 among.1 among.2

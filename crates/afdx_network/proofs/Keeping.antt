@@ -5,7 +5,7 @@ use Rattle.std.specs.List.{position}
 use Rattle.std.proofs.Math.ListN.{length-set}
 use Rattle.std.proofs.lemmas.List.{map-set}
 use Rattle.std.proofs.lemmas.List.Quantifiers.{position-Some}
-use Rattle.std.proofs.lemmas.Option.{slice_get-get_or, same_Some}
+use Rattle.std.proofs.lemmas.Option.{slice_get-map, slice_get-get_or, same_Some}
 use Rattle.std.proofs.lemmas.List.Elements.{All-contains}
 use Rattle.std.proofs.lemmas.Bool.{eqb-true}
 use Rattle.afdx_pcap.specs.declared.fault.PcapFault.{PcapFault}
@@ -26,7 +26,7 @@ use Rattle.afdx_wiring.specs.Net.{Network, wire_to}
 use Rattle.afdx_network.specs.Runs.{Given}
 use Rattle.afdx_network.specs.Given.{AreSound, IsWired, IsWireFault, fault_of}
 use Rattle.afdx_network.specs.Inner.Sites.{Site, ComesIn, LeadsTo, IsSite, AreSites, IsPutIn, RunsOver, IsBrought, Agrees}
-use Rattle.afdx_network.proofs.Found.{get_map, all_at, contains_head, contains_tail}
+use Rattle.afdx_network.proofs.Found.{all_at, contains_head, contains_tail}
 use Rattle.afdx_network.proofs.Places.{members, got_set, map_stays}
 
 none_is_some : {X P : Type 0} (o : Option X) (x : X) → o ≡ None → o ≡ Some x → P
@@ -46,7 +46,7 @@ there_at : {Z : Type 0} (port : ℕ) (texts : List (ℕ × Vec ℕ Z)) (place : 
 there_at {Z = Z} port texts place text is =
     let found = position-Some (is_port port) texts place (port, text) is in
     let it = get_or texts place (port, text) in
-    let at = get_map (λ (pair : ℕ × Vec ℕ Z). (pair.0, pair.1.items)) texts place it (slice_get-get_or texts place (port, text) found.0) in
+    let at : slice_get (texts_of texts) place ≡ Some (it.0, it.1.items) = rw (slice_get-map, slice_get-get_or texts place (port, text) found.0) in
     (it.1.items, at ∙ ap (λ (n : ℕ). Some (n, it.1.items)) (eqb-true it.0 port found.1))
 
 pub is_put_in : {Z : Type 0} (port : ℕ) (texts : List (ℕ × Vec ℕ Z)) (place : ℕ) (text : Vec ℕ Z) (old new : Site) → position (is_port port) texts ≡ Some place

@@ -5,7 +5,7 @@ use Rattle.std.specs.Prelude.{All, Contains}
 use Rattle.std.specs.List.{AllByRecursion}
 use Rattle.std.proofs.lemmas.List.Elements.{All-contains, recursion_from_All}
 use Rattle.std.proofs.lemmas.Bool.{eq-eqb, eqb-true}
-use Rattle.std.proofs.lemmas.Option.{slice_get_read}
+use Rattle.std.proofs.lemmas.Option.{slice_get-map, slice_get_read, slice_get_within, get_or_from_slice_get}
 use Rattle.afdx_units.specs.Time.{second, last_second}
 use Rattle.afdx_pcap.specs.Record.{Record, IsWithinLimit}
 use Rattle.afdx_pcap.specs.Text.{capture_text, AreReadable}
@@ -28,7 +28,7 @@ use Rattle.afdx_network.specs.Way.{delayed}
 use Rattle.afdx_network.specs.Runs.{SwitchRun, Given}
 use Rattle.afdx_network.specs.Laws.{IsAcceptedRun, NoneComesLate, WaysAreShort}
 use Rattle.afdx_network.proofs.Lists.{all_weaken, all_map, all_append, all_kept, all_tested}
-use Rattle.afdx_network.proofs.Found.{get_map, contains_at, map_contains}
+use Rattle.afdx_network.proofs.Found.{map_contains}
 use Rattle.afdx_network.proofs.Rows.{wire_goes_there, rows_have}
 use Rattle.afdx_network.proofs.Clean.{clean_of}
 use Rattle.afdx_network.proofs.Leaves.{half, each_left, leave_later}
@@ -130,8 +130,8 @@ module _ (g : Ground) (short : WaysAreShort) (net : Network) (given : Given) (ru
   given_early n port run is none = records_all (λ (r : Record). r.stamp ≤ latest) port run.texts run.isolated.read run.isolated.are_read each where
     each : (text : Text) (records : List Record) → Contains run.texts text → text.0 ≡ port → IsCapture text.1 records → AllByRecursion (λ (r : Record). r.stamp ≤ latest) records
     each text records among number capture =
-        let h = acc.run.fed.others (record { switch = n; port = port }) run.texts text none (get_map (λ (r : SwitchRun). r.texts) runs n run is) number among in
-        let all = early h.texts text records (contains_at given n h.texts h.texts_is) h.has capture in
+        let h = acc.run.fed.others (record { switch = n; port = port }) run.texts text none (rw (slice_get-map, is)) number among in
+        let all = early h.texts text records (n, slice_get_within given n h.texts h.texts_is, get_or_from_slice_get given n h.texts h.texts h.texts_is) h.has capture in
         all_weaken (λ (r : Record). r.stamp + 64 * second ≤ last_second) (λ (r : Record). r.stamp ≤ latest) records (λ r soon. omega (arith, soon))
         (recursion_from_All (λ (r : Record). r.stamp + 64 * second ≤ last_second) records all)
 

@@ -5,9 +5,6 @@ use Rattle.std.proofs.lemmas.Bool.{cases_Bool}
 use Rattle.afdx_account.specs.declared.frame.Frame.{Frame}
 use Rattle.afdx_account.specs.Policing.{Terms, conforms, passed_after}
 
-pub apart : (b : Bool) → b ≡ true → b ≡ false → ⊥
-apart b is not = cc
-
 pub all_weaken : {X : Type 0} (P Q : X → Type 0) (xs : List X) → ((x : X) → P x → Q x) → AllByRecursion P xs → AllByRecursion Q xs
 all_weaken P Q [] h all = tt
 all_weaken P Q (x ∷ xs) h all = (h x all.0, all_weaken P Q xs h all.1)
@@ -27,7 +24,7 @@ all_tested P p (x ∷ xs) all = by (p x) refl (all_tested P p xs) all where
   by : (b : Bool) → p x ≡ b → (AllByRecursion P (filter p xs) → AllByRecursion (λ y. p y ≡ true → P y) xs)
       → AllByRecursion P (cond b (x ∷ filter p xs) (filter p xs)) → (p x ≡ true → P x) × AllByRecursion (λ y. p y ≡ true → P y) xs
   by true is rest all = (λ h. all.0, rest all.1)
-  by false not rest all = (λ is. absurd (apart (p x) is not), rest all)
+  by false not rest all = (λ is. absurd cc, rest all)
 
 pub filter_of_map : {X Y : Type 0} (p : Y → Bool) (f : X → Y) (xs : List X) → filter p (map f xs) ≡ map f (filter (λ x. p (f x)) xs)
 filter_of_map p f [] = refl

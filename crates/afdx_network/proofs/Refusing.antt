@@ -2,7 +2,7 @@
 use Rattle.std.proofs.Common.{◌≡◌, ℕ, zero, suc, ◌+◌, ◌<◌, ◌≤◌, List, [], ◌∷◌, ◌++◌, length, get_or, slice_get, take, Some, refl, ap, sym, ◌∙◌, inl, inr, subst, Vec}
 use Rattle.std.specs.Prelude.{All}
 use Rattle.std.proofs.lemmas.List.{take_more, take_all}
-use Rattle.std.proofs.lemmas.Option.{slice_get_within, slice_get_read, get_or_from_slice_get}
+use Rattle.std.proofs.lemmas.Option.{slice_get-map, slice_get_within, slice_get_read, get_or_from_slice_get}
 use Rattle.std.proofs.lemmas.List.Elements.{All-head, All-tail, All-push}
 use Rattle.afdx_pcap.specs.declared.fault.PcapFault.{PcapFault}
 use Rattle.afdx_pcap.specs.Fault.{IsFault}
@@ -13,7 +13,6 @@ use Rattle.afdx_network.specs.declared.fault.NetworkRunFault.{NetworkRunFault}
 use Rattle.afdx_network.specs.declared.fault.NetworkRunFault.TheVariants as fault
 use Rattle.afdx_network.specs.Runs.{Given}
 use Rattle.afdx_network.specs.Given.{given_of, AreGiven, AreSound, IsFirstUnsound, IsRefusal, IsTextFault, IsGivenFault, IsWireFault}
-use Rattle.afdx_network.proofs.Found.{get_map}
 
 -- ---- the first given text that is no capture
 
@@ -37,7 +36,7 @@ first_fault (x ∷ texts) (suc k) text why at sound broken =
 
 pub texts_there : {Y Z : Type 0} (given : List (Vec (ℕ × Vec ℕ Z) Y)) (k : ℕ) (own : Vec (ℕ × Vec ℕ Z) Y) → k < length given → own ≡ get_or given k own
     → slice_get (given_of given) k ≡ Some (texts_of own.items)
-texts_there given k own within is = get_map (λ texts. texts_of texts.items) given k own (slice_get_read given (length given) k own refl within is)
+texts_there given k own within is = rw (slice_get-map, slice_get_read given (length given) k own refl within is)
 
 pub given_fault : (given : Given) (switch : ℕ) (texts : List Text) (why : NetworkRunFault) → slice_get given switch ≡ Some texts → All (All IsSound) (take switch given)
     → IsTextFault switch texts why → IsGivenFault given why

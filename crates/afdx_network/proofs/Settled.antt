@@ -1,8 +1,8 @@
 -- Where each switch has run over what came in, and each wire brings what came in at its end, that is a run of the network.
-use Rattle.std.proofs.Common.{◌≡◌, ℕ, suc, List, [], ◌∷◌, length, map, slice_get, Some, None, refl, ap, sym, ◌∙◌, subst, arith}
+use Rattle.std.proofs.Common.{◌≡◌, ℕ, zero, suc, List, [], ◌∷◌, length, map, slice_get, Option, Some, None, option_map, refl, ap, sym, ◌∙◌, subst, arith}
 use Rattle.std.specs.Prelude.{All, Contains}
 use Rattle.std.proofs.lemmas.List.Elements.{All-contains}
-use Rattle.std.proofs.lemmas.Option.{same_Some}
+use Rattle.std.proofs.lemmas.Option.{slice_get-map, same_Some}
 use Rattle.afdx_table.specs.Content.{Content}
 use Rattle.afdx_session.specs.Texts.{Text}
 use Rattle.afdx_session.specs.Outcome.{Results, IsOutcome}
@@ -12,7 +12,6 @@ use Rattle.afdx_wiring.specs.declared.layout.End.{End}
 use Rattle.afdx_wiring.specs.Net.{Network, wire_to}
 use Rattle.afdx_network.specs.Runs.{Given, Brings, IsGiven, AreRuns, IsRunOf}
 use Rattle.afdx_network.specs.Inner.Sites.{Site, LeadsTo, AreSites, Agrees}
-use Rattle.afdx_network.proofs.Found.{get_map, got_map}
 use Rattle.afdx_network.proofs.Rest.{rest_is_agreement}
 
 abbrev pub cames : List Site → List (List Text)
@@ -53,9 +52,10 @@ runs (t ∷ tables) (s ∷ sites) (r ∷ left) all each led =
 -- ---- the wires agree
 
 result_there : (sites : List Site) (left : List Results) (n : ℕ) (s : Site) (r : Results) → HaveLed sites left → slice_get sites n ≡ Some s → s.outcome ≡ Some r → slice_get left n ≡ Some r
-result_there sites left n s r led at is =
-    let there = got_map Some left n (Some r) (ap (λ outcomes. slice_get outcomes n) led ∙ get_map (λ (u : Site). u.outcome) sites n s at ∙ ap Some is) in
-    there.1 ∙ there.2
+result_there [] left n s r led at is = absurd cc
+result_there (u ∷ sites) [] n s r led at is = absurd cc
+result_there (u ∷ sites) (one ∷ left) zero s r led at is = cc
+result_there (u ∷ sites) (one ∷ left) (suc n) s r led at is = result_there sites left n s r (cc) at is
 
 brings : (sites : List Site) (left : List Results) (w : Wire) → HaveLed sites left → Agrees sites w → Brings left (cames sites) w
 brings sites left w led agrees =
@@ -66,7 +66,7 @@ brings sites left w led agrees =
       bytes = over.bytes;
       records = over.records;
       here_is = result_there sites left w.from.switch over.here over.left.results led over.here_is over.left.ran;
-      there_is = get_map (λ (u : Site). u.came) sites w.to.switch agrees.there agrees.there_is;
+      there_is = rw (slice_get-map, agrees.there_is);
       written = over.left.written;
       read = over.read;
       comes = subst (λ (text : List ℕ). Contains agrees.there.came (w.to.port, text)) over.text_is agrees.comes;
@@ -74,15 +74,17 @@ brings sites left w led agrees =
 
 given_there : (net : Network) (given : Given) (sites : List Site) → AreSites net given sites → (e : End) (texts : List Text) (text : Text)
     → wire_to net e ≡ None → slice_get (cames sites) e.switch ≡ Some texts → text.0 ≡ e.port → Contains texts text → IsGiven given e.switch text
-given_there net given sites are e texts text unwired at number among =
-    let found = got_map (λ (u : Site). u.came) sites e.switch texts at in
-    let site = are.each e.switch found.0 found.1 in
-    let open_there : wire_to net (record { switch = e.switch; port = text.0 }) ≡ None = ap (λ (n : ℕ). wire_to net (record { switch = e.switch; port = n })) number ∙ unwired in
-    record {
-      texts = site.own;
-      texts_is = site.own_is;
-      has = site.comes.others text open_there (subst (λ (ts : List Text). Contains ts text) (sym found.2) among);
-    }
+given_there net given sites are e texts text unwired at number among = by (slice_get sites e.switch) refl (sym (slice_get-map _ sites e.switch) ∙ at) where
+  by : (o : Option Site) → slice_get sites e.switch ≡ o → option_map (λ s. s.came) o ≡ Some texts → IsGiven given e.switch text
+  by None there is = absurd cc
+  by (Some s) there is =
+      let site = are.each e.switch s there in
+      let open_there : wire_to net (record { switch = e.switch; port = text.0 }) ≡ None = ap (λ (n : ℕ). wire_to net (record { switch = e.switch; port = n })) number ∙ unwired in
+      record {
+        texts = site.own;
+        texts_is = site.own_is;
+        has = site.comes.others text open_there (subst (λ (ts : List Text). Contains ts text) (sym (same_Some s.came texts is)) among);
+      }
 
 pub settled : (net : Network) (given : Given) (sites : List Site) (left : List Results) → AreSites net given sites → All (Agrees sites) net.layout.wires → HaveLed sites left
     → IsRunOf net given (cames sites) left

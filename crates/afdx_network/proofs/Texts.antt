@@ -2,7 +2,7 @@
 use Rattle.std.proofs.Common.{◌≡◌, ℕ, zero, suc, ◌<◌, ◌==◌, List, [], ◌∷◌, ◌++◌, length, map, get_or, refl, ap, sym, ◌∙◌, arith, subst, cond, false, append-nil}
 use Rattle.std.specs.Prelude.{Contains}
 use Rattle.std.specs.List.{AllByRecursion}
-use Rattle.std.proofs.lemmas.Bool.{eq-eqb}
+use Rattle.std.proofs.lemmas.Bool.{eq-eqb, ne_eqb}
 use Rattle.afdx_pcap.specs.Record.{Record}
 use Rattle.afdx_pcap.specs.Text.{capture_text}
 use Rattle.afdx_pcap.specs.Capture.{IsCapture}
@@ -13,8 +13,7 @@ use Rattle.afdx_core.specs.Merge.{Capture, records_of}
 use Rattle.afdx_session.specs.Texts.{Text, AreOfPorts}
 use Rattle.afdx_session.specs.Reading.{AreCaptures}
 use Rattle.afdx_network.proofs.Lists.{all_map, all_unmap}
-use Rattle.afdx_network.proofs.Found.{above, below, of_all, map_contains, one_port}
-use Rattle.afdx_network.proofs.Crossing.{heads, tails}
+use Rattle.afdx_network.proofs.Found.{of_all, map_contains, one_port}
 
 -- ---- what was written
 
@@ -39,10 +38,11 @@ as_ports : (texts : List Text) (ports : List PortRow) → map (λ (text : Text).
 as_ports [] ports same rises = tt
 as_ports (text ∷ texts) [] same rises = absurd cc
 as_ports (text ∷ texts) (p ∷ ports) same rises =
-    let first : p.id ≡ text.0 = sym (heads same) in
+    let first : p.id ≡ text.0 = cc in
+    let rest : map (λ (text : Text). text.0) texts ≡ map (λ (q : PortRow). q.id) ports = cc in
     let numbers = all_map (λ (n : ℕ). p.id < n) (λ (q : PortRow). q.id) ports rises.0 in
-    let later = all_unmap (λ (n : ℕ). p.id < n) (λ (other : Text). other.0) texts (subst (AllByRecursion (λ (n : ℕ). p.id < n)) (sym (tails same)) numbers) in
-    (subst (λ (n : ℕ). AllByRecursion (λ (other : Text). n < other.0) texts) first later, as_ports texts ports (tails same) rises.1)
+    let later = all_unmap (λ (n : ℕ). p.id < n) (λ (other : Text). other.0) texts (subst (AllByRecursion (λ (n : ℕ). p.id < n)) (sym rest) numbers) in
+    (subst (λ (n : ℕ). AllByRecursion (λ (other : Text). n < other.0) texts) first later, as_ports texts ports rest rises.1)
 
 pub numbers_rise : (t : Content) (texts : List Text) → IsWellFormed t → AreOfPorts t texts → NumbersRise texts
 numbers_rise t texts formed are = as_ports texts t.ports are formed.ports_rise
@@ -52,7 +52,7 @@ none_before [] [] port are above_all = refl
 none_before [] (c ∷ read) port are above_all = absurd are
 none_before (text ∷ texts) [] port are above_all = absurd are
 none_before (text ∷ texts) (c ∷ read) port are above_all =
-    let other : (c.port == port) ≡ false = below c.port port (subst (λ (n : ℕ). port < n) (sym are.0) above_all.0) in
+    let other : (c.port == port) ≡ false = let number = are.0 in let above = above_all.0 in ne_eqb c.port port (λ same. omega (arith, number, above)) in
     ap (λ b. cond b c.records [] ++ records_of read port) other ∙ none_before texts read port are.2 above_all.1
 
 pub record IsReadAt (read : List Capture) (port : ℕ) (bytes : List ℕ) : Type 0 where
@@ -76,7 +76,7 @@ at_place (text ∷ texts) (c ∷ read) port bytes are rise zero within at =
 at_place (text ∷ texts) (c ∷ read) port bytes are rise (suc k) within at =
     let less : text.0 < port = of_all (λ (other : Text). text.0 < other.0) texts (port, bytes) rise.0 (k, omega (arith, within), at) in
     let rest = at_place texts read port bytes are.2 rise.1 k (omega (arith, within)) at in
-    let other : (c.port == port) ≡ false = above c.port port (subst (λ (n : ℕ). n < port) (sym are.0) less) in
+    let number = are.0 in let other : (c.port == port) ≡ false = ne_eqb c.port port (λ same. omega (arith, number)) in
     record { records = rest.records; capture = rest.capture; all = ap (λ b. cond b c.records [] ++ records_of read port) other ∙ rest.all }
 
 pub read_at : (texts : List Text) (read : List Capture) (port : ℕ) (bytes : List ℕ) → AreCaptures texts read → NumbersRise texts → Contains texts (port, bytes) → IsReadAt read port bytes
