@@ -1,6 +1,6 @@
 -- An answer that is written in parts.
 use Rattle.std.proofs.Common.{◌≡◌, ℕ, ◌+◌, Bool, true, false, cond, List, [], ◌∷◌, ◌++◌, map, Option, Result, Ok, Err, refl, sym, ap, subst, ◌∙◌, append-nil, append_assoc}
-use Rattle.std.specs.Prelude.{filter, IsTrue, OnOk, MatchResult, IsErr, IsErrAnd}
+use Rattle.std.specs.Prelude.{filter, IsTrue, OnOk, MatchResult}
 use Rattle.std.specs.Io.KnownBytes.{Appends}
 use Rattle.std.proofs.KnownBytes.{Appends-nil, Appends-trans}
 use Rattle.std.proofs.lemmas.List.Elements.{filter-append}
@@ -22,11 +22,6 @@ use Rattle.afdx_alone.specs.Answer.{IsAnswer, account_terms, passed_of_link}
 use Rattle.afdx_alone.specs.Inner.Ground.{Ground}
 use Rattle.afdx_devices.specs.Output.{AppendsPrefix}
 use Rattle.afdx_alone.proofs.Progress.{Polices, one_further, all_policed}
-
--- a write that failed ends the call: what holds of its error holds of the answer
-pub failed : {T E : Type 0} (r : Result T E) (P : T → Type 0) (Q : E → Type 0) (e : E) → IsErr r × IsErrAnd r (λ x. x ≡ e) → Q e → MatchResult r P Q
-failed (Ok x) P Q e h q = absurd h.1
-failed (Err x) P Q e h q = subst Q (sym h.1) q
 
 -- a capture that is lent has no fault
 pub no_fault : ((bytes : List ℕ) (rs : List Record) (e : PcapFault) → IsCapture bytes rs → IsFault bytes e → ⊥) → (bytes : List ℕ) (n : ℕ) (rs : List Record) (fault : PcapFault) → IsCapture bytes rs

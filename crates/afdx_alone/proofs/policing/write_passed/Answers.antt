@@ -1,9 +1,10 @@
 use Rattle.std.proofs.Common.{rules, List, ℕ, [], ap, sym, subst, ◌∙◌}
 use Rattle.std.proofs.KnownBytes.{Appends-nil}
+use Rattle.std.proofs.lemmas.Result.{err_from_is_err_and}
 use Rattle.afdx_pcap.specs.Capture.{IsCapture}
 use Rattle.afdx_pcap.specs.Reading.{Reading, whole_reading}
 use Rattle.afdx_alone.proofs.Progress.{may_be_offered}
-use Rattle.afdx_alone.proofs.PartLemmas.{failed, writes_on, grows_on, grows_not, stopped, all_written}
+use Rattle.afdx_alone.proofs.PartLemmas.{writes_on, grows_on, grows_not, stopped, all_written}
 use Rattle.afdx_alone.proofs.policing.write_passed.Goals.{then-passes+in_ok-append, else-passes}
 use Rattle.afdx_alone.proofs.policing.write_passed.Goals as goal
 
@@ -28,7 +29,8 @@ pub returns-in_err-append : goal.returns-in_err-append
 returns-in_err-append g c =
     let prefix = stopped c.ground.ensures _ _ _ c.next_frame.new.frames _ _ _ _ _ c.in-Some.frame c.passes.result c.loop-frame.invariant c.in-Some.ensures.answer c.in-Some.ensures.next
     c.passes.ensures.own c.passes.ensures.others c.taken_records_begin_the_capture.ensures _ c.requires.capture.0 c.if-passes.true c.requires.capture.1 c.in_err-append.ensures.prefix in
-    failed _ _ _ _ c.from_residual.ensures prefix
+    let failed = err_from_is_err_and c.from_residual.result c.from_residual.ensures.1 in
+    rw failed.1 prefix
 
 pub loop-frame-preserved-after-passes : goal.loop-frame-preserved-after-passes
 loop-frame-preserved-after-passes g c =
