@@ -1,12 +1,12 @@
 -- The captures of the ports to which no wire goes, by switch: what was got, and why the rest was not.
 use Rattle.std.proofs.Common.{◌≡◌, ℕ, zero, suc, ◌+◌, ◌<◌, ◌≤◌, Bool, true, false, cond, List, [], ◌∷◌, ◌++◌, map, filter, length, take, drop, get_or, slice_get, append_assoc}
 use Rattle.std.proofs.Common.{Option, Some, None, Vec, string_bytes, refl, sym, ap, subst, ◌∙◌, arith}
-use Rattle.std.proofs.lemmas.List.{map-append, take_more, take_all, length-map, length-take-le, take-append-le, take-append-drop, append-nil}
+use Rattle.std.proofs.lemmas.List.{map-append, length-append, get_or_append_left, take_more, take_all, length-map, length-take-le, take-append-le, take-append-drop, append-nil}
 use Rattle.std.proofs.lemmas.List.Elements.{filter-append}
 use Rattle.std.proofs.lemmas.Grind.{flat_map-append}
-use Rattle.std.proofs.lemmas.Option.{slice_get_within}
+use Rattle.std.proofs.lemmas.Option.{slice_get_within, slice_get-get_or, get_or_from_slice_get}
 use Rattle.std.proofs.lemmas.Simd.{map-map}
-use Rattle.std.proofs.Math.Seq.{drop-cons, take-append_seam, take-append-add}
+use Rattle.std.proofs.Math.Seq.{drop-cons, get_or-append_seam, take-append_seam, take-append-add}
 use Rattle.afdx_table.specs.declared.rows.PortRow.{PortRow}
 use Rattle.afdx_table.specs.Content.{Content}
 use Rattle.afdx_session.specs.Texts.{Text, texts_of}
@@ -33,15 +33,6 @@ ShowsAll-append (Some f) names more all rest first second =
     map-append f names more ∙ ap (λ (bs : List (Option (List ℕ))). bs ++ map f more) first ∙ ap (λ (bs : List (Option (List ℕ))). map (λ (x : List ℕ). Some x) all ++ bs) second
     ∙ sym (map-append (λ (x : List ℕ). Some x) all rest)
 
-slice_get_seam : {X : Type 0} (xs ys : List X) (x : X) → slice_get (xs ++ x ∷ ys) (length xs) ≡ Some x
-slice_get_seam [] ys x = refl
-slice_get_seam (y ∷ xs) ys x = slice_get_seam xs ys x
-
-slice_get_left : {X : Type 0} (xs ys : List X) (i : ℕ) → i < length xs → slice_get (xs ++ ys) i ≡ slice_get xs i
-slice_get_left [] ys i within = absurd (omega (arith, within))
-slice_get_left (x ∷ xs) ys zero within = refl
-slice_get_left (x ∷ xs) ys (suc i) within = slice_get_left xs ys i (omega (arith, within))
-
 slice_get_right : {X : Type 0} (xs ys : List X) (i : ℕ) → slice_get (xs ++ ys) (length xs + i) ≡ slice_get ys i
 slice_get_right [] ys i = ap (slice_get ys) (omega arith)
 slice_get_right (x ∷ xs) ys i = ap (slice_get (x ∷ (xs ++ ys))) next ∙ slice_get_right xs ys i where
@@ -53,7 +44,8 @@ stands_next : (files : Option Files) (name : List ℕ) (before rest all got : Li
 stands_next files name before rest all got split earlier = record {
   place = length before;
   got = got;
-  is_there = ap (λ (names : List (List ℕ)). slice_get names (length before)) split ∙ slice_get_seam before rest name;
+  is_there = ap (λ (names : List (List ℕ)). slice_get names (length before)) split ∙ slice_get-get_or (before ++ name ∷ rest) (length before) name (omega (arith, length-append before (name ∷ rest)))
+          ∙ ap (λ (n : List ℕ). Some n) (get_or-append_seam before name rest name);
   earlier = subst (λ (names : List (List ℕ)). ShowsAll files names got) (sym (ap (take (length before)) split ∙ take-append_seam before (name ∷ rest))) earlier;
 }
 
@@ -69,7 +61,8 @@ stands_further files name before names rest all got split earlier s =
       place = length before + s.place;
       got = got ++ s.got;
       is_there = ap (λ (ns : List (List ℕ)). slice_get ns (length before + s.place)) split ∙ slice_get_right before (names ++ rest) s.place
-          ∙ slice_get_left names rest s.place within ∙ s.is_there;
+          ∙ slice_get-get_or (names ++ rest) s.place name (omega (arith, within, length-append names rest))
+          ∙ ap (λ (n : List ℕ). Some n) (get_or_append_left names rest name s.place within ∙ get_or_from_slice_get names s.place name name s.is_there);
       earlier = subst (λ (ns : List (List ℕ)). ShowsAll files ns (got ++ s.got)) (sym taken) (ShowsAll-append files before (take s.place names) got s.got earlier s.earlier);
     }
 

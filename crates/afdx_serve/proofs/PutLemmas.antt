@@ -30,12 +30,6 @@ empty_push contents (Some f) (Some g) files new keeps was one = pushed (λ n. co
 
 -- ---- they are written
 
--- there is an element at a place within a list
-within : {X : Type 0} (xs : List X) (k : ℕ) → k < length xs → (x : X) × (slice_get xs k ≡ Some x)
-within [] k lt = absurd (omega (arith, lt))
-within (x ∷ xs) zero lt = (x, refl)
-within (x ∷ xs) (suc k) lt = within xs k (omega (arith, lt))
-
 -- the text whose bytes are at a place
 text_of : (texts : List Text) (place : ℕ) (bytes : List ℕ) → slice_get (bytes_of_captures texts) place ≡ Some bytes → (text : Text) × (slice_get texts place ≡ Some text) × (text.1 ≡ bytes)
 text_of [] place bytes is = absurd cc
@@ -58,9 +52,10 @@ have_bytes contents (Some f) None old new texts keeps empty appended = absurd ke
 have_bytes contents (Some f) (Some g) old new texts keeps empty appended = λ place n bytes is_new is_bytes.
     let lt = slice_get_within new place n is_new in
     let long = appended.0 in
-    let o = within old place (omega (arith, lt, long)) in
+    let was = get_or old place n in
+    let was_is : slice_get old place ≡ Some was = slice_get-get_or old place n (omega (arith, lt, long)) in
     let text = text_of texts place bytes is_bytes in
-    let grown = subst (λ (k : Option (List ℕ)). Appends k (contents n) text.0.1) (empty place o.0 o.1) (appended.1 place o.0 n text.0 o.1 is_new text.1) in
+    let grown = subst (λ (k : Option (List ℕ)). Appends k (contents n) text.0.1) (empty place was was_is) (appended.1 place was n text.0 was_is is_new text.1) in
     to_none (contents n) bytes (subst (Appends (Some []) (contents n)) text.2 grown)
 
 -- ---- they are put
