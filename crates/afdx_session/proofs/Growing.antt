@@ -2,7 +2,7 @@
 use Rattle.std.proofs.Common.{◌≡◌, ℕ, ◌<◌, ◌≤◌, nat_lt, nat_le, Bool, true, false, cond, List, [], ◌∷◌, ◌++◌, map, filter, Option, Some, None, refl, ap, sym, ◌∙◌, arith, inl, inr, subst, append_assoc}
 use Rattle.std.specs.List.{AllByRecursion, flat_map}
 use Rattle.std.proofs.lemmas.List.{append-nil, map-append}
-use Rattle.std.proofs.lemmas.List.Elements.{filter-append}
+use Rattle.std.proofs.lemmas.List.Elements.{filter-append, All-filter, All-from_recursion, recursion_from_All}
 use Rattle.std.proofs.lemmas.Grind.{flat_map-append}
 use Rattle.std.proofs.lemmas.Bool.{cases_Bool, leb-true, leb-false, both_ways, cond-true, cond-false}
 use Rattle.std.proofs.lemmas.Bool.Decides.{nat_tests}
@@ -25,7 +25,6 @@ use Rattle.afdx_core.specs.Inner.Merge.{AreInOrder}
 use Rattle.afdx_session.specs.Output.{rows_of, sent_by, written, output_of, output_text}
 use Rattle.afdx_session.specs.Streams.{Stream, captures_of, last_of, merged_so_far, least, frontier, sent_up_to, output_so_far, text_so_far, GoesOn, GoOn, whole_of}
 use Rattle.afdx_session.proofs.Joining.{AllFrom, first-placed, later-placed, frames-from, weaken, by_stamp-in_order, records_weaken}
-use Rattle.afdx_session.proofs.Numbered.{all_filter}
 use Rattle.afdx_session.proofs.Later.{same_sent, same_bytes}
 
 -- ---- a filter of what is by stamp
@@ -38,7 +37,9 @@ filter-placed p a (b ∷ xs) rises =
       | inl sooner ↦
           let le = leb-true a.frame.stamp b.frame.stamp sooner in
           let all : AllFrom a.frame.stamp (b ∷ xs) = (le, weaken b.frame.stamp a.frame.stamp xs le (frames-from b.frame.stamp xs rises.0)) in
-          rw sooner (ap (λ more. cond (p a) more (filter p (b ∷ xs))) (sym (first-placed a (filter p (b ∷ xs)) (all_filter (λ (c : Arrival). a.frame.stamp ≤ c.frame.stamp) p (b ∷ xs) all))))
+          let kept = All-filter p (λ (c : Arrival). a.frame.stamp ≤ c.frame.stamp) (b ∷ xs) (All-from_recursion (λ (c : Arrival). a.frame.stamp ≤ c.frame.stamp) (b ∷ xs) all) in
+          let from : AllFrom a.frame.stamp (filter p (b ∷ xs)) = recursion_from_All (λ (c : Arrival). a.frame.stamp ≤ c.frame.stamp) (filter p (b ∷ xs)) kept in
+          rw sooner (ap (λ more. cond (p a) more (filter p (b ∷ xs))) (sym (first-placed a (filter p (b ∷ xs)) from)))
       | inr after ↦
           let lt = leb-false a.frame.stamp b.frame.stamp after in
           rw after (by_own (p b) refl lt (filter-placed p a xs rises.1))
