@@ -5,7 +5,7 @@ use Rattle.std.specs.Option.{option_map}
 use Rattle.std.specs.Prelude.{Result, Ok, Err, is_err, OnOk, IfErr}
 use Rattle.std.specs.declared.vec.Vec.{Vec}
 use Rattle.std.specs.Vec.{with_items}
-use Rattle.std.proofs.lemmas.Option.{same_Some, slice_get_within}
+use Rattle.std.proofs.lemmas.Option.{same_Some, slice_get_within, slice_get-get_or}
 use Rattle.afdx_table.specs.Content.{Content}
 use Rattle.afdx_core.specs.State.{Run, State, after_advance}
 use Rattle.afdx_core.specs.Held.{Keeps}
@@ -30,7 +30,7 @@ use Rattle.afdx_session.proofs.Given.{comes_on, no_going_back}
 use Rattle.afdx_session.proofs.Numbered.{all_slice_get}
 use Rattle.afdx_session.proofs.Shown.{half_ports}
 use Rattle.afdx_session.proofs.ReadUp.{all_set, touched_read_up, settled_read_up}
-use Rattle.afdx_session.proofs.Gone.{at_index, grown_length, runs_on}
+use Rattle.afdx_session.proofs.Gone.{grown_length, runs_on}
 use Rattle.afdx_session.proofs.Settles.{back_items}
 use Rattle.afdx_session.proofs.Intakes.{touched_ports, still_of_table, half_at, half_touched, fed_half, ended_half, intakes_after, fed_intake, ended_intake, marked_bytes, settled_marked}
 use Rattle.afdx_session.proofs.Intakes.{running_settled}
@@ -116,7 +116,7 @@ touched_table {Z = Z} old new touched same of =
 open_at : {Z : Type 0} (lanes : List (Lane Z)) (port k : ℕ) (d : Lane Z) → IsOpenAt lanes port k → (slice_get lanes k ≡ Some (get_or lanes k d)) × ((get_or lanes k d).closed ≡ false)
 open_at {Z} lanes port k d is = (here, ap (λ (l : Lane Z). l.closed) (same_Some (get_or lanes k d) is.lane (sym here ∙ is.at)) ∙ is.still_open) where
   here : slice_get lanes k ≡ Some (get_or lanes k d)
-  here = at_index lanes k d (slice_get_within lanes k is.lane is.at)
+  here = slice_get-get_or lanes k d (slice_get_within lanes k is.lane is.at)
 
 pub reads_open : {Z : Type 0} (lanes : List (Lane Z)) (port k : ℕ) (old d : Lane Z) → IsOpenAt lanes port k → old ≡ get_or lanes k d → (slice_get lanes k ≡ Some old) × (old.closed ≡ false)
 reads_open {Z = Z} lanes port k old d is read = subst (λ (l : Lane Z). (slice_get lanes k ≡ Some l) × (l.closed ≡ false)) (sym read) (open_at lanes port k d is)

@@ -10,7 +10,7 @@ use Rattle.afdx_pcap.specs.Fault.{IsFault}
 use Rattle.afdx_pcap.specs.declared.fault.PcapFault.{PcapFault}
 use Rattle.afdx_table.specs.Content.{Content}
 use Rattle.std.specs.Vec.{with_items}
-use Rattle.std.proofs.lemmas.Option.{same_Some, slice_get_within, slice_get-map}
+use Rattle.std.proofs.lemmas.Option.{same_Some, slice_get_within, slice_get-map, slice_get-get_or}
 use Rattle.afdx_core.specs.State.{State}
 use Rattle.afdx_core.specs.Merge.{Arrival}
 use Rattle.afdx_core.specs.Inner.Merge.{MergedIsAMerge, MergedIsByStampAndPort}
@@ -27,7 +27,7 @@ use Rattle.afdx_session.specs.Inner.Lent.{AreSound, IsOver, texts_over, taken_by
 use Rattle.afdx_session.specs.Inner.Kept.{AreOfTable, AreOut, Every, IsGoing, AreTouched, IsGrown, AreGrown, IsOfSameTable}
 use Rattle.afdx_session.specs.Inner.View.{HasGone, IsRound}
 use Rattle.afdx_session.proofs.Given.{lane_at}
-use Rattle.afdx_session.proofs.Gone.{at_index, grown_length, drained_going}
+use Rattle.afdx_session.proofs.Gone.{grown_length, drained_going}
 use Rattle.afdx_session.proofs.Going.{reads_on}
 use Rattle.afdx_session.proofs.Intakes.{still_of_table, touched_of}
 use Rattle.afdx_session.proofs.Settles.{back_items}
@@ -205,7 +205,7 @@ pub record IsGone {Z : Type 0} (lanes : List (Lane Z)) (place : ℕ) (l : Lane Z
 
 -- the lane there, as the code reads it
 pub gone_at : {Z : Type 0} (old new : List (Lane Z)) (place : ℕ) (l d : Lane Z) → HasGone old new place → l ≡ get_or new place d → slice_get new place ≡ Some l
-gone_at {Z} old new place l d gone is = at_index new place d (gone_within old new place gone) ∙ ap Some (sym is)
+gone_at {Z} old new place l d gone is = slice_get-get_or new place d (gone_within old new place gone) ∙ ap Some (sym is)
 
 gone_same : {Z : Type 0} (old new : List (Lane Z)) (place : ℕ) (l : Lane Z) (gone : HasGone old new place) → slice_get new place ≡ Some l → l ≡ with_waiting gone.rest gone.lane
 gone_same {Z} old new place l gone at =

@@ -284,11 +284,6 @@ text_is {Z} stay reaches ends t lanes s counts run place p l of is_port is_lane 
 
 -- ---- the loop over the lanes
 
-pub at_index : {X : Type 0} (xs : List X) (k : ℕ) (d : X) → k < length xs → slice_get xs k ≡ Some (get_or xs k d)
-at_index [] k d lt = absurd (omega (arith, lt))
-at_index (x ∷ xs) zero d lt = refl
-at_index (x ∷ xs) (suc k) d lt = at_index xs k d (omega (arith, lt))
-
 -- a lane with another output
 abbrev pub with_out : {Z : Type 0} → Vec ℕ Z → Lane Z → Lane Z
 with_out out l = record { port = l.port; reader = l.reader; last = l.last; ended = l.ended; waiting = l.waiting; out = out; undone = l.undone; closed = l.closed; ready = l.ready; taken = l.taken }

@@ -3,7 +3,7 @@ use Rattle.std.proofs.Common.{◌≡◌, ℕ, zero, suc, ◌+◌, ◌<◌, ◌�
 use Rattle.std.proofs.Common.{drop, option_map}
 use Rattle.std.specs.List.{AllByRecursion}
 use Rattle.std.proofs.lemmas.List.{length-map}
-use Rattle.std.proofs.lemmas.Option.{same_Some, slice_get-map}
+use Rattle.std.proofs.lemmas.Option.{same_Some, slice_get-map, slice_get-get_or}
 use Rattle.std.proofs.lemmas.Bool.{both_ways}
 use Rattle.std.proofs.Math.Numerals.{suc-eq-add-one}
 use Rattle.afdx_pcap.specs.Record.{Record}
@@ -23,7 +23,6 @@ use Rattle.afdx_session.specs.Inner.Lent.{IsOver, texts_over, taken_by, IsOneFau
 use Rattle.afdx_session.specs.Inner.Kept.{AreOfTable, IsGoing, AreTouched}
 use Rattle.afdx_session.specs.Inner.View.{IsFreshLane, AreFreshLanes, AreLent, AreSettledLanes}
 use Rattle.afdx_session.proofs.Going.{reads_on}
-use Rattle.afdx_session.proofs.Gone.{at_index}
 use Rattle.afdx_session.proofs.Intakes.{still_of_table}
 
 -- ---- one lane
@@ -198,7 +197,7 @@ as_many f lanes ports captures of are =
 pub text_at : {Z : Type 0} (start : Machine Z) (captures : List (ℕ × Vec ℕ Z)) (n : ℕ) (d : ℕ × Vec ℕ Z) → AreOfTable start.switch.run.table start.lanes.items
     → AreOfPorts start.switch.run.table (texts_of captures) → n < length start.lanes.items
     → slice_get (texts_of captures) n ≡ Some ((get_or captures n d).0, (get_or captures n d).1.items)
-text_at {Z} start captures n d of ports lt = slice_get-map text captures n ∙ ap (option_map text) (at_index captures n d (omega (arith, lt, many))) where
+text_at {Z} start captures n d of ports lt = slice_get-map text captures n ∙ ap (option_map text) (slice_get-get_or captures n d (omega (arith, lt, many))) where
   text : ℕ × Vec ℕ Z → Text
   text p = (p.0, p.1.items)
 

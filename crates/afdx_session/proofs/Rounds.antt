@@ -4,7 +4,7 @@ use Rattle.std.specs.declared.vec.Vec.{Vec}
 use Rattle.std.specs.Vec.{with_items}
 use Rattle.std.specs.Prelude.{is_some}
 use Rattle.std.proofs.lemmas.List.{append-nil, length-set}
-use Rattle.std.proofs.lemmas.Option.{slice_get_within, same_Some}
+use Rattle.std.proofs.lemmas.Option.{slice_get_within, same_Some, slice_get-get_or}
 use Rattle.afdx_pcap.specs.Record.{Record}
 use Rattle.afdx_table.specs.Content.{Content}
 use Rattle.afdx_port.specs.Inner.Admission.{EarlierEventsStayAdmitted}
@@ -22,7 +22,6 @@ use Rattle.afdx_session.specs.Inner.Settled.{first_place, IsWithin}
 use Rattle.afdx_session.specs.Inner.Lanes.{waiting_of, limit_at, heads_of, with_waiting, IsFirstIn, IsLimit, Goes, GoesAt, NoneGoes}
 use Rattle.afdx_session.specs.Inner.Kept.{AreOfTable, IsGoing, AreTouched, IsOfSameTable}
 use Rattle.afdx_session.specs.Inner.View.{HasGone, IsRound}
-use Rattle.afdx_session.proofs.Gone.{at_index}
 use Rattle.afdx_session.proofs.Settles.{back_items}
 use Rattle.afdx_session.proofs.Given.{Arrives, arrives, gives_on}
 use Rattle.afdx_session.proofs.Intakes.{all_touched_none, all_touched_both, touched_at, touched_ports, still_of_table}
@@ -137,7 +136,7 @@ pub goes_from : {Z : Type 0} (limit : Option (ℕ × ℕ)) (v : Vec (Lane Z) Z) 
 goes_from {Z = Z} limit v start new place frame l d is goes read =
     let here = at_here limit v start new place frame is goes in
     let lt = within_there limit v.items (with_items v new).items place frame here in
-    let own = same_Some l (with_waiting here.goes.rest here.goes.lane) (ap Some read ∙ sym (at_index (with_items v new).items place d lt)
+    let own = same_Some l (with_waiting here.goes.rest here.goes.lane) (ap Some read ∙ sym (slice_get-get_or (with_items v new).items place d lt)
     ∙ set_there limit v.items (with_items v new).items place frame here) in
     let port : here.port ≡ l.port = here.goes.port_is ∙ ap (λ (x : Lane Z). x.port) (sym own) in
     subst (λ n. GoesFrom limit v.items (with_items v new).items place n frame) port (record { within = lt; goes = here.goes; here = here.here })

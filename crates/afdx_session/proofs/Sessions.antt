@@ -3,7 +3,7 @@ use Rattle.std.proofs.Common.{◌≡◌, ℕ, zero, suc, ◌+◌, ◌<◌, ◌�
 use Rattle.std.proofs.Common.{option_map, Err, refl, ap, sym, ◌∙◌, inl, inr, subst}
 use Rattle.std.specs.Prelude.{find, Result, IsErr, IsErrAnd, IfErr, IfSome, IfNone}
 use Rattle.std.specs.List.{position}
-use Rattle.std.proofs.lemmas.Option.{same_Some, slice_get-map}
+use Rattle.std.proofs.lemmas.Option.{same_Some, slice_get-map, slice_get-get_or}
 use Rattle.std.proofs.lemmas.Bool.{eqb-true}
 use Rattle.afdx_pcap.specs.Record.{Record}
 use Rattle.afdx_pcap.specs.Capture.{IsCapture}
@@ -31,7 +31,6 @@ use Rattle.afdx_session.specs.Inner.Lanes.{intake_of}
 use Rattle.afdx_session.specs.Inner.Kept.{AreOfTable, IsOfSameTable, IsRunning}
 use Rattle.afdx_session.specs.Inner.View.{intakes_of, seen_of, gone_out, IsShownAt, IsKeptMachine, IsReady, AreHalfDone, AreEndedLanes, texts_at, IsTaken, IsOpenAt, IsFed, IsEnded, IsNotFed}
 use Rattle.afdx_session.specs.Inner.View.{IsNotEnded}
-use Rattle.afdx_session.proofs.Gone.{at_index}
 use Rattle.std.proofs.lemmas.List.{map-set}
 use Rattle.afdx_session.proofs.Places.{IsPlaceOf, position_at, position_none, place_of_port, no_such_row, is_lane_of}
 use Rattle.afdx_session.proofs.Shown.{kept_ready, kept_failed}
@@ -313,7 +312,7 @@ pub no_port_at : {Z : Type 0} (lanes of_machine : List (Lane Z)) (port : ℕ) �
 no_port_at lanes of_machine port same at = subst (λ ls. position (is_lane_of port) ls ≡ None) same at
 
 pub lane_at : {Z : Type 0} (lanes : List (Lane Z)) (port place : ℕ) (l : Lane Z) → position (is_lane_of port) lanes ≡ Some place → l ≡ slice_index_or lanes place l → slice_get lanes place ≡ Some l
-lane_at lanes port place l at is = at_index lanes place l (position_at (is_lane_of port) lanes place at).1 ∙ ap Some (sym is)
+lane_at lanes port place l at is = slice_get-get_or lanes place l (position_at (is_lane_of port) lanes place at).1 ∙ ap Some (sym is)
 
 -- ---- the end
 

@@ -1,7 +1,7 @@
 use Rattle.std.proofs.Common.{rules, ◌<◌, ◌≤◌, ◌+◌, length, set, length-set, sym, subst, ◌∙◌, ap}
+use Rattle.std.proofs.lemmas.Option.{slice_get-get_or}
 use Rattle.afdx_session.specs.Inner.Kept.{IsGoing}
 use Rattle.afdx_session.specs.Inner.View.{AreHalfDone, AreEndedLanes}
-use Rattle.afdx_session.proofs.Gone.{at_index}
 use Rattle.afdx_session.proofs.Settles.{back_items}
 use Rattle.afdx_session.proofs.Closing.{Closes, closes_none, no_fault, closes_over, closes_one, closes_half, closes_fault, closes_all}
 use Rattle.afdx_session.proofs.Ending.{ends_half}
@@ -15,7 +15,7 @@ pub close-requires : goal.close-requires
 close-requires g c =
     let items = c.loop-lane.lane-items in
     let lt = subst (λ n. c.loop-lane.lane-index < n) (sym c.loop-lane.auto.lane-items) c.loop-lane-test.true in
-    no_fault items c.loop-lane.invariant.going.streams c.loop-lane.lane-index _ c.loop-lane.invariant.going.lanes_are (at_index items c.loop-lane.lane-index c.lane-item.result lt)
+    no_fault items c.loop-lane.invariant.going.streams c.loop-lane.lane-index _ c.loop-lane.invariant.going.lanes_are (slice_get-get_or items c.loop-lane.lane-index c.lane-item.result lt)
 
 pub returns-in_err-close-clause-half : goal.returns-in_err-close-clause-half
 returns-in_err-close-clause-half g c =
@@ -24,8 +24,8 @@ returns-in_err-close-clause-half g c =
     let lt = subst (λ n. c.loop-lane.lane-index < n) (sym c.loop-lane.auto.lane-items) c.loop-lane-test.true in
     let long = length-set items c.loop-lane.lane-index c.close.new.self ∙ c.loop-lane.auto.lane-items ∙ ap (λ ls. length ls) c.deref_mut-lane-items.ensures.value in
     subst (λ ls. AreHalfDone v.items ls) (sym (back_items v (set items c.loop-lane.lane-index c.close.new.self) long))
-    (closes_half c.args.self.now items c.loop-lane.lane-index _ _ (at_index items c.loop-lane.lane-index c.lane-item.result lt) c.close.ensures.still c.close.ensures.undone c.close.ensures.bytes
-    c.loop-lane.invariant)
+    (closes_half c.args.self.now items c.loop-lane.lane-index _ _ (slice_get-get_or items c.loop-lane.lane-index c.lane-item.result lt) c.close.ensures.still c.close.ensures.undone
+    c.close.ensures.bytes c.loop-lane.invariant)
 
 pub returns-in_err-close-clause-err : goal.returns-in_err-close-clause-err
 returns-in_err-close-clause-err g c =
@@ -33,7 +33,7 @@ returns-in_err-close-clause-err g c =
     let lt = subst (λ n. c.loop-lane.lane-index < n) (sym c.loop-lane.auto.lane-items) c.loop-lane-test.true in
     let why =
     closes_fault c.taken_records_are_the_first.ensures.ends c.requires.ready.0 c.args.self.now items c.loop-lane.lane-index _ c.in_err-close.field-0.0 c.requires.ready.1.marked
-    (at_index items c.loop-lane.lane-index c.lane-item.result lt)
+    (slice_get-get_or items c.loop-lane.lane-index c.lane-item.result lt)
     c.in_err-close.ensures.err c.loop-lane.invariant in
     search rules
 
@@ -41,7 +41,7 @@ pub loop-lane-preserved : goal.loop-lane-preserved
 loop-lane-preserved g c =
     let items = c.loop-lane.lane-items in
     let lt = subst (λ n. c.loop-lane.lane-index < n) (sym c.loop-lane.auto.lane-items) c.loop-lane-test.true in
-    let at = at_index items c.loop-lane.lane-index c.lane-item.result lt in
+    let at = slice_get-get_or items c.loop-lane.lane-index c.lane-item.result lt in
     elim c.if-not-lane.branch [
       | then-not-lane+in_ok-close w ↦
           subst (λ ls. Closes c.args.self.now ls (c.loop-lane.lane-index + 1)) (sym w.lane-items-is)

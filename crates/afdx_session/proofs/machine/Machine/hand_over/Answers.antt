@@ -1,5 +1,5 @@
 use Rattle.std.proofs.Common.{arith, refl, ◌<◌, length, slice_index_or, sym, ap, ◌∙◌, Some}
-use Rattle.afdx_session.proofs.Gone.{at_index}
+use Rattle.std.proofs.lemmas.Option.{slice_get-get_or}
 use Rattle.afdx_session.proofs.Parts.{puts_none, puts_one, bound_at}
 use Rattle.afdx_session.proofs.machine.Machine.hand_over.Goals as goal
 
@@ -12,7 +12,7 @@ hand_over-requires g c =
     let items = c.loop-place.self.lanes.items in
     let place = c.loop-place.place in
     let lt : place < length items = let test = c.loop-place-test.true in let end = c.len-place-end.ensures in let many = was.many in omega (arith, test, end, many) in
-    let at = at_index items place c.index_mut.result.now lt ∙ ap Some (sym c.index_mut.ensures.value) in
+    let at = slice_get-get_or items place c.index_mut.result.now lt ∙ ap Some (sym c.index_mut.ensures.value) in
     record { bound = bound_at g.F.NewFile.contents c.args.self.now c.args.files.now items c.loop-place.files place c.index_mut.result.now was at }
 
 pub loop-place-preserved : goal.loop-place-preserved
@@ -21,9 +21,9 @@ loop-place-preserved g c =
     let items = c.loop-place.self.lanes.items in
     let place = c.loop-place.place in
     let lt : place < length items = let test = c.loop-place-test.true in let end = c.len-place-end.ensures in let many = was.many in omega (arith, test, end, many) in
-    let at = at_index items place c.index_mut.result.now lt ∙ ap Some (sym c.index_mut.ensures.value) in
+    let at = slice_get-get_or items place c.index_mut.result.now lt ∙ ap Some (sym c.index_mut.ensures.value) in
     let there : place < length c.loop-place.files = let long = was.long in let given = c.requires.files in let many = was.many in omega (arith, lt, long, given, many) in
-    let file = at_index c.loop-place.files place c.index-files-place.result there in
+    let file = slice_get-get_or c.loop-place.files place c.index-files-place.result there in
     let handed = c.in_ok-hand_over.ensures in
     record {
       puts = puts_one c.arrivals_change_nothing_earlier.ensures.admission c.stamps_keep_their_order.ensures.instants c.sent_goes_on.ensures

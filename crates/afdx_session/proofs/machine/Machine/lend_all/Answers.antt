@@ -1,7 +1,7 @@
 use Rattle.std.proofs.Common.{rules, arith, ◌<◌, ◌≤◌, length, length-set, slice_index_or, refl, sym, subst, ◌∙◌, ap, Some}
+use Rattle.std.proofs.lemmas.Option.{slice_get-get_or}
 use Rattle.afdx_session.specs.Texts.{texts_of}
 use Rattle.afdx_session.specs.Reading.{IsFaultAt}
-use Rattle.afdx_session.proofs.Gone.{at_index}
 use Rattle.afdx_session.proofs.Lending.{lends_none, lends_next, text_at, lends_fault, lends_one, lends_all}
 use Rattle.afdx_session.proofs.machine.Machine.lend_all.Goals as goal
 
@@ -17,7 +17,7 @@ pub lend-requires : goal.lend-requires
 lend-requires g c =
     let items = c.loop-place.self.lanes.items in
     let lt : c.loop-place.place < length items = let test = c.loop-place-test.true in let end = c.len-place-end.ensures in let long = c.loop-place.invariant.long in omega (arith, test, end, long) in
-    let at = at_index items c.loop-place.place c.index_mut.result.now lt ∙ ap Some (sym c.index_mut.ensures.value) in
+    let at = slice_get-get_or items c.loop-place.place c.index_mut.result.now lt ∙ ap Some (sym c.index_mut.ensures.value) in
     record { fresh = (lends_next c.args.self.now (texts_of c.args.captures.now) items c.loop-place.place c.index_mut.result.now c.loop-place.invariant.lends at).fresh }
 
 pub returns-in_err-lend-clause-err : goal.returns-in_err-lend-clause-err
@@ -27,7 +27,7 @@ returns-in_err-lend-clause-err g c =
     let pair = slice_index_or c.args.captures.now c.loop-place.place c.index-captures-place.result in
     let fault = c.in_err-lend.field-0.0 in
     let lt : c.loop-place.place < length items = let test = c.loop-place-test.true in let end = c.len-place-end.ensures in let long = c.loop-place.invariant.long in omega (arith, test, end, long) in
-    let at = at_index items c.loop-place.place old lt ∙ ap Some (sym c.index_mut.ensures.value) in
+    let at = slice_get-get_or items c.loop-place.place old lt ∙ ap Some (sym c.index_mut.ensures.value) in
     let first : c.loop-place.place < length c.args.self.now.lanes.items = let long = c.loop-place.invariant.long in omega (arith, lt, long) in
     let here = text_at c.args.self.now c.args.captures.now c.loop-place.place c.index-captures-place.result c.requires.of c.requires.ports first in
     let why = lends_fault c.args.self.now (texts_of c.args.captures.now) items c.loop-place.place old (pair.0, pair.1.items) fault c.loop-place.invariant.lends at here
@@ -40,7 +40,7 @@ loop-place-preserved g c =
     let old = c.index_mut.result.now in
     let pair = slice_index_or c.args.captures.now c.loop-place.place c.index-captures-place.result in
     let lt : c.loop-place.place < length items = let test = c.loop-place-test.true in let end = c.len-place-end.ensures in let long = c.loop-place.invariant.long in omega (arith, test, end, long) in
-    let at = at_index items c.loop-place.place old lt ∙ ap Some (sym c.index_mut.ensures.value) in
+    let at = slice_get-get_or items c.loop-place.place old lt ∙ ap Some (sym c.index_mut.ensures.value) in
     let first : c.loop-place.place < length c.args.self.now.lanes.items = let long = c.loop-place.invariant.long in omega (arith, lt, long) in
     let here = text_at c.args.self.now c.args.captures.now c.loop-place.place c.index-captures-place.result c.requires.of c.requires.ports first in
     let read = c.in_ok-lend.ensures in

@@ -1,6 +1,6 @@
 use Rattle.std.proofs.Common.{◌<◌, ◌≤◌, length, sym, subst, ◌∙◌, ap}
+use Rattle.std.proofs.lemmas.Option.{slice_get-get_or}
 use Rattle.afdx_session.specs.Inner.View.{AreSettledLanes}
-use Rattle.afdx_session.proofs.Gone.{at_index}
 use Rattle.afdx_session.proofs.Settles.{back_items, SettledUpTo, settled_none, settled_more, settled_all}
 use Rattle.afdx_session.proofs.machine.Machine.settle.Goals as goal
 
@@ -11,7 +11,7 @@ pub loop-lane-preserved : goal.loop-lane-preserved
 loop-lane-preserved g c =
     let items = c.loop-lane.lane-items in
     let lt = subst (λ n. c.loop-lane.lane-index < n) (sym c.loop-lane.auto.lane-items) c.loop-lane-test.true in
-    settled_more c.loop-lane.lane-index c.args.self.now.lanes.items items _ _ (at_index items c.loop-lane.lane-index c.lane-item.result lt) c.settle.ensures c.loop-lane.invariant
+    settled_more c.loop-lane.lane-index c.args.self.now.lanes.items items _ _ (slice_get-get_or items c.loop-lane.lane-index c.lane-item.result lt) c.settle.ensures c.loop-lane.invariant
 
 pub returns-clause-lanes : goal.returns-clause-lanes
 returns-clause-lanes g c =

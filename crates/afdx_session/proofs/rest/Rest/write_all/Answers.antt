@@ -1,7 +1,6 @@
 use Rattle.std.proofs.Common.{refl, ap, subst, arith, ◌≡◌, ◌∙◌, ◌<◌, ℕ, List, length, length-set, slice_get, slice_index_or, get_or, inl, inr}
 use Rattle.std.specs.Io.KnownBytes.{Appends}
 use Rattle.std.proofs.lemmas.Option.{slice_get-get_or, slice_get_cases}
-use Rattle.afdx_session.proofs.Gone.{at_index}
 use Rattle.afdx_session.proofs.Writing.{rests_none, rests_on}
 use Rattle.afdx_session.proofs.rest.Rest.write_all.Goals as goal
 
@@ -31,7 +30,7 @@ loop-place-preserved g c =
             | inl port ↦ (
                 (c.in_ok-write.ensures.rest t arrivals port.0 (get_or counts place 0) was.0 port.2 count).0,
                 c.write.ensures.taken ∙ was.1,
-                rests_on contents t arrivals taken place c.args.files.now files file c.append.new.self c.write.new.text.items (at_index files place c.index-files-place.result there) appends
+                rests_on contents t arrivals taken place c.args.files.now files file c.append.new.self c.write.new.text.items (slice_get-get_or files place c.index-files-place.result there) appends
                     (λ p k is_port is_k. (c.in_ok-write.ensures.rest t arrivals p k was.0 is_port (ap (λ (ns : List ℕ). slice_get ns place) was.1 ∙ is_k)).1) was.2,
               )
             | inr past ↦ absurd (let le = past.0 in omega (arith, within, le))
