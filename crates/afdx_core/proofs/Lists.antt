@@ -20,14 +20,6 @@ pub find-map : {X Y : Type 0} (f : X → Y) (p : Y → Bool) (xs : List X) → f
 find-map f p [] = refl
 find-map f p (x ∷ xs) = chosen f (p (f x)) x (find p (map f xs)) (find (λ x. p (f x)) xs) (find-map f p xs)
 
-pub AllByRecursion-append : {X : Type 0} (P : X → Type 0) (xs ys : List X) → AllByRecursion P xs → AllByRecursion P ys → AllByRecursion P (xs ++ ys)
-AllByRecursion-append P [] ys all more = more
-AllByRecursion-append P (x ∷ xs) ys all more = (all.0, AllByRecursion-append P xs ys all.1 more)
-
-pub AllByRecursion-weaken : {X : Type 0} (P Q : X → Type 0) (xs : List X) → ((x : X) → P x → Q x) → AllByRecursion P xs → AllByRecursion Q xs
-AllByRecursion-weaken P Q [] h all = tt
-AllByRecursion-weaken P Q (x ∷ xs) h all = (h x all.0, AllByRecursion-weaken P Q xs h all.1)
-
 pub All-from : {X : Type 0} (P : X → Type 0) (xs : List X) → AllByRecursion P xs → All P xs
 All-from P [] all = All-nil P
 All-from P (x ∷ xs) all = All-cons P x xs all.0 (All-from P xs all.1)

@@ -2,13 +2,12 @@
 use Rattle.std.proofs.Common.{◌≡◌, ℕ, ◌<◌, ◌≤◌, ◌==◌, nat_le, Bool, true, false, cond, List, [], ◌∷◌, ◌++◌, map, filter, refl, ap, sym, ◌∙◌, arith, inl, inr}
 use Rattle.std.specs.List.{AllByRecursion}
 use Rattle.std.proofs.lemmas.List.{map-append}
-use Rattle.std.proofs.lemmas.List.Elements.{filter-append}
+use Rattle.std.proofs.lemmas.List.Elements.{filter-append, All-from_recursion, recursion_from_All}
 use Rattle.std.proofs.lemmas.Bool.{cases_Bool, cases_lt}
 use Rattle.std.proofs.lemmas.Bool.Decides.{nat_tests}
 use Rattle.afdx_pcap.specs.Record.{Record}
 use Rattle.afdx_core.specs.Merge.{Arrival, Capture, Rises, records_of, arrivals_of, placed, by_stamp, merged}
 use Rattle.afdx_core.specs.Inner.Merge.{part_at, IsMerge, Precedes, AreByStampAndPort, PortsRise}
-use Rattle.afdx_core.proofs.Lists.{AllByRecursion-weaken}
 
 le_true : (a b : ℕ) → nat_le a b ≡ true → a ≤ b
 le_true a b is = grind (arith, nat_tests)
@@ -43,8 +42,8 @@ placed_rising a (b ∷ arrivals) rising =
           rw before (
             (
               le,
-              AllByRecursion-weaken (λ (c : Arrival). b.frame.stamp ≤ c.frame.stamp) (λ (c : Arrival). a.frame.stamp ≤ c.frame.stamp) arrivals (λ c more. omega (arith, le, more))
-                  rising.0,
+              recursion_from_All (λ (c : Arrival). a.frame.stamp ≤ c.frame.stamp) arrivals
+                  (λ k d lt. let more = All-from_recursion (λ (c : Arrival). b.frame.stamp ≤ c.frame.stamp) arrivals rising.0 k d lt in omega (arith, le, more)),
             ),
             rising,
           )
@@ -146,7 +145,8 @@ placed_ordered a (b ∷ arrivals) ports ordered rising =
       | inr after ↦ rw after (placed_all (λ (c : Arrival). Precedes b c) a arrivals (inl (le_false a.frame.stamp b.frame.stamp after)) ordered.0, placed_ordered a arrivals ports.1 ordered.1 rising.1)
     ] where
       rest : a.frame.stamp ≤ b.frame.stamp → AllByRecursion (λ (c : Arrival). a.frame.stamp ≤ c.frame.stamp) arrivals
-      rest le = AllByRecursion-weaken (λ (c : Arrival). b.frame.stamp ≤ c.frame.stamp) (λ (c : Arrival). a.frame.stamp ≤ c.frame.stamp) arrivals (λ c more. omega (arith, le, more)) rising.0
+      rest le = recursion_from_All (λ (c : Arrival). a.frame.stamp ≤ c.frame.stamp) arrivals
+          (λ k d lt. let more = All-from_recursion (λ (c : Arrival). b.frame.stamp ≤ c.frame.stamp) arrivals rising.0 k d lt in omega (arith, le, more))
 
       one : (c : Arrival) → a.port ≤ c.port → a.frame.stamp ≤ c.frame.stamp → Precedes a c
       one c port le = elim (cases_lt a.frame.stamp c.frame.stamp) [

@@ -34,6 +34,7 @@ use Rattle.afdx_isolation.specs.Inner.Arrivals.{IsClean, is_passed, joins, feed_
 use Rattle.afdx_isolation.specs.Inner.Claims.{Arrive, IsInBound, IsIsolatedSoFar, IsolatesSoFar, NoneIsFull}
 use Rattle.afdx_isolation.specs.Table.{settings_of, bound_of}
 use Rattle.afdx_isolation.specs.Inner.Table.{flow_of, frames_for, flows_at, IsCleanIn, ArriveAt, AcceptedTablesIsolate, OthersChangeNothingInTables}
+use Rattle.std.proofs.lemmas.Grind.{common_steps}
 use Rattle.afdx_isolation.proofs.Sums.{among_filter}
 use Rattle.afdx_isolation.proofs.Levels.{joined, none_joined, passed_link}
 
@@ -42,9 +43,6 @@ use Rattle.afdx_isolation.proofs.Levels.{joined, none_joined, passed_link}
 in_map : {X Y : Type 0} (f : X → Y) (xs : List X) (y : Y) → Contains (map f xs) y → (x : X) × Contains xs x × (f x ≡ y)
 in_map f xs y among = All-contains (λ y. (x : _) × Contains xs x × (f x ≡ y)) (map f xs) y
     (All-map (λ y. (x : _) × Contains xs x × (f x ≡ y)) f xs (All-weaker (Contains xs) (λ x. (z : _) × Contains xs z × (f z ≡ f x)) (λ x h. (x, h, refl)) xs (All-contains_itself xs))) among
-
-of_map : {X Y : Type 0} (f : X → Y) (xs : List X) (x : X) → Contains xs x → Contains (map f xs) (f x)
-of_map f xs x among = (among.0, let lt = among.1 in omega (arith, length-map xs f, lt), get_or-map f xs among.0 x (f x) among.1 ∙ ap f among.2)
 
 in_filter : {X : Type 0} (p : X → Bool) (xs : List X) (x : X) → Contains (filter p xs) x → Contains xs x
 in_filter p xs x among = All-contains (Contains xs) (filter p xs) x (All-filter p (Contains xs) xs (All-contains_itself xs)) among
@@ -294,7 +292,8 @@ module _ (t : Content) (row : PortRow) (well : IsWellFormed t) where
         (λ (yes : joins (flows_at t row) before x ≡ true). yes)
         (λ (no' : joins (flows_at t row) before x ≡ false).
         let none = none_joined (flows_at t row) before x no' in
-        let mine = of_map (flow_of row.speed) links link (among_filter (leads_to row.id) t.links link in_table leads) in
+        let inside = among_filter (leads_to row.id) t.links link in_table leads in
+        let mine : Contains (map (flow_of row.speed) links) (flow_of row.speed link) = grind (arith, common_steps, inside) in
         absurd (both_ways (is_passed before x (flow_of row.speed link)) (All-contains (λ flow. is_passed before x flow ≡ false) (flows_at t row) (flow_of row.speed link) none mine)
         (own_passes true is)))
         (cases_Bool (joins (flows_at t row) before x))
@@ -332,7 +331,7 @@ isolated_at pays asks some keeps isolates t arrivals h row among c settings is =
             least = within.least;
             most = within.most;
           };
-      prefix_of_passed = λ link in_table leads. all.prefix (flow_of row.speed link) (of_map (flow_of row.speed) links link (among_filter (leads_to row.id) t.links link in_table leads));
+      prefix_of_passed = λ link in_table leads. all.prefix (flow_of row.speed link) (let inside = among_filter (leads_to row.id) t.links link in_table leads in grind (arith, common_steps, inside));
     }
 
 -- a row with a buffer of so many bytes admits all that its port is offered, where they hold the backlog
