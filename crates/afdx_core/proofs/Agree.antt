@@ -44,7 +44,8 @@ other_by i j port (Some m) before row ne is = by_copy (passes m before row && le
   by_copy false = refl
 
 others : (t : Content) (i port : ℕ) (before : List Row) (row : Row) (v : Verdict) → says_clean i v ≡ false → part_of i (copies_by (named t v) port before row) ≡ []
-others t i port before row (Clean j) is = other_by i j port (link_row t j) before row is (λ m found. grind (arith, gets, find_at (λ (l : Link). l.id == j) t.links, passes_at_first (λ (l : Link). l.id == j) t.links m))
+others t i port before row (Clean j) is =
+    other_by i j port (link_row t j) before row is (λ m found. grind (arith, gets, find_at (λ (l : Link). l.id == j) t.links, passes_at_first (λ (l : Link). l.id == j) t.links m))
 others t i port before row Cut is = refl
 others t i port before row Short is = refl
 others t i port before row Long is = refl

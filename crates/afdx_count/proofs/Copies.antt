@@ -102,8 +102,8 @@ answers_once A port (q ∷ to) d =
 class-is : (t : Content) (rows : List Row) (l : Link) → link_row t l.id ≡ Some l → class_of (Passed l.id) (map (link_tally t rows) t.links) ≡ Some l.priority
 class-is t rows l is =
     let place : position_or_len (λ (m : LinkTally). m.id == l.id) (map (link_tally t rows) t.links) ≡ position_or_len (λ (k : Link). k.id == l.id) t.links
-            = same_from_clauses (λ ls. position_or_len (λ (m : LinkTally). m.id == l.id) (map (link_tally t rows) ls)) (position_or_len (λ (k : Link). k.id == l.id))
-        (λ k n. cond (not (k.id == l.id)) (1 + n) 0) refl (λ _ _. refl) (λ _ _. refl) t.links in
+    = same_from_clauses (λ ls. position_or_len (λ (m : LinkTally). m.id == l.id) (map (link_tally t rows) ls)) (position_or_len (λ (k : Link). k.id == l.id))
+    (λ k n. cond (not (k.id == l.id)) (1 + n) 0) refl (λ _ _. refl) (λ _ _. refl) t.links in
     ap (option_map (λ (m : LinkTally). m.priority)) (find_at (λ (m : LinkTally). m.id == l.id) (map (link_tally t rows) t.links) ∙ ap (slice_get (map (link_tally t rows) t.links)) place
     ∙ slice_get-map (link_tally t rows) t.links _ ∙ ap (option_map (link_tally t rows)) (sym (find_at (λ (k : Link). k.id == l.id) t.links) ∙ is))
 

@@ -102,7 +102,8 @@ one_fate t l before row found = by_verdict row.verdict refl where
   by_link : (j : ℕ) (m : Option Link) → row.verdict ≡ Clean j → link_row t j ≡ m
       → cond (is_passed l.id (fate_by m before row)) 1 0 + cond (is_policed l.id (fate_by m before row)) 1 0 ≡ cond (nat_eq l.id j) 1 0
   by_link j None clean is = ap (λ b. cond b 1 0) (sym (absent j is))
-  by_link j (Some m) clean is = by_pass (passes m before row) m.id j (eqb-true m.id j (grind (arith, gets, is, find_at (λ (k : Link). k.id == j) t.links, passes_at_first (λ (k : Link). k.id == j) t.links m)))
+  by_link j (Some m) clean is =
+      by_pass (passes m before row) m.id j (eqb-true m.id j (grind (arith, gets, is, find_at (λ (k : Link). k.id == j) t.links, passes_at_first (λ (k : Link). k.id == j) t.links m)))
 
   by_verdict : (v : Verdict) → row.verdict ≡ v → cond (is_passed l.id (fate_by (named t v) before row)) 1 0 + cond (is_policed l.id (fate_by (named t v) before row)) 1 0 ≡ cond (says_clean l.id v) 1 0
   by_verdict Cut is = refl

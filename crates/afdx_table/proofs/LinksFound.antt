@@ -27,7 +27,8 @@ found_by (k ∷ links) apart l among = at (found_by links apart.1 l) among.0 amo
       → cond (k.id == l.id) (Some k) (find (λ (m : Link). m.id == l.id) links) ≡ Some l
   there ih i lt is =
       let numbers = All-from_recursion (λ n. nat_eq k.id n ≡ false) (map (λ (m : Link). m.id) links) apart.0 in
-      let among : Contains (map (λ (m : Link). m.id) links) l.id = (i, omega (arith, length-map links (λ (m : Link). m.id), lt), get_or-map (λ (m : Link). m.id) links i l l.id lt ∙ ap (λ (m : Link). m.id) is) in
+      let among : Contains (map (λ (m : Link). m.id) links) l.id =
+      (i, omega (arith, length-map links (λ (m : Link). m.id), lt), get_or-map (λ (m : Link). m.id) links i l l.id lt ∙ ap (λ (m : Link). m.id) is) in
       let other = differs k.id l.id (All-contains (λ n. nat_eq k.id n ≡ false) (map (λ (m : Link). m.id) links) l.id numbers among) in
       ap (λ b. cond b (Some k) (find (λ (m : Link). m.id == l.id) links)) other ∙ ih (i, lt, is)
 

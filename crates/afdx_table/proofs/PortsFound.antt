@@ -15,7 +15,8 @@ found_at : (ports : List PortRow) (i : ℕ) (d : PortRow) → Rises ports → i 
 found_at [] i d rises lt = absurd (omega (arith, lt))
 found_at (p ∷ ps) zero d rises lt = ap (λ (b : Bool). cond b (Some p) (find (λ (x : PortRow). x.id == p.id) ps)) (eq-eqb p.id p.id refl)
 found_at (p ∷ ps) (suc i) d rises lt =
-    ap (λ (b : Bool). cond b (Some p) (find (λ (x : PortRow). x.id == (get_or ps i d).id) ps)) (ne_eqb p.id (get_or ps i d).id (λ e. omega (arith, e, above_at p.id ps i d rises.0 (omega (arith, lt)))))
+    ap (λ (b : Bool). cond b (Some p) (find (λ (x : PortRow). x.id == (get_or ps i d).id) ps))
+    (ne_eqb p.id (get_or ps i d).id (λ e. omega (arith, e, above_at p.id ps i d rises.0 (omega (arith, lt)))))
     ∙ found_at ps i d rises.1 (omega (arith, lt))
 
 pub ports_are_found : PortsAreFound

@@ -188,7 +188,7 @@ module _ (one : EachHasOneEvent) (in_parts : AdmittedInParts) (r : Run) (ends : 
         none_first = none_of_rows r.table p.id k [] before (λ i lt. ap (λ (n : ℕ). n == k) (zero_more i) ∙ ne_eqb i k (λ e. omega (arith, lt, e)))
 
         none_later : list_any (is_copy k) later ≡ false
-        none_later = none_of_rows r.table p.id k (before ++ row ∷ []) after (λ i lt. ne_eqb (length (before ++ row ∷ []) + i) k (λ e. let longer = length-append before (row ∷ []) in omega (arith, longer, e)))
+        none_later = none_of_rows r.table p.id k (before ++ row ∷ []) after (λ i lt. ne_eqb (length (before ++ row ∷ []) + i) k (λ e. omega (arith, length-append before (row ∷ []), e)))
 
   found_id : (ports : List PortRow) (port : ℕ) (p : PortRow) → find (λ (q : PortRow). q.id == port) ports ≡ Some p → p.id ≡ port
   found_id [] port p found = absurd (cc)
@@ -224,7 +224,8 @@ module _ (one : EachHasOneEvent) (in_parts : AdmittedInParts) (r : Run) (ends : 
       → refusing r (length before) ports ≡ full_ports (map (λ port. (port, answer_at port)) ports)
   all_refuse [] among = refl
   all_refuse (port ∷ ports) among =
-      ap (λ (b : Bool). cond b (port ∷ refusing r (length before) ports) (refusing r (length before) ports)) (refuses port (among port (ap (λ (b : Bool). b || names_port port ports) (eq-eqb port port refl))))
+      ap (λ (b : Bool). cond b (port ∷ refusing r (length before) ports) (refusing r (length before) ports))
+      (refuses port (among port (ap (λ (b : Bool). b || names_port port ports) (eq-eqb port port refl))))
       ∙ ap (λ (others : List ℕ). cond (answers_full (answer_at port)) (port ∷ others) others) (all_refuse ports (λ q in_them. among q (later q in_them)))
       ∙ kept (answers_full (answer_at port)) where
         or_true : (a b : Bool) → b ≡ true → (a || b) ≡ true
