@@ -21,7 +21,7 @@ use Rattle.afdx_core.specs.State.{Run, port_in, sent_in}
 use Rattle.afdx_core.proofs.Isolating.{named_by}
 
 -- what holds of all that is offered holds of all that is admitted, and of all that is sent
-all_admitted : (P : Item → Type 0) (s : Settings) (items feed : List Item) → All P items → All P feed → All P (admit_all s items feed)
+pub all_admitted : (P : Item → Type 0) (s : Settings) (items feed : List Item) → All P items → All P feed → All P (admit_all s items feed)
 all_admitted P s items [] h all = h
 all_admitted P s items (x ∷ feed) h all = all_admitted P s (admit s items x) feed (by (fits s items x)) (All-tail P x feed all) where
   by : (joins : Bool) → All P (cond joins (items ++ x ∷ []) items)
