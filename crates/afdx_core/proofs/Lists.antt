@@ -24,9 +24,5 @@ pub All-from : {X : Type 0} (P : X → Type 0) (xs : List X) → AllByRecursion 
 All-from P [] all = All-nil P
 All-from P (x ∷ xs) all = All-cons P x xs all.0 (All-from P xs all.1)
 
-pub by_cond : {A : Type 0} (P : A → Type 0) (b : Bool) (x y : A) → (b ≡ true → P x) → (b ≡ false → P y) → P (cond b x y)
-by_cond P true x y first second = first refl
-by_cond P false x y first second = second refl
-
 pub length_more : {X : Type 0} (xs : List X) (x : X) → length (xs ++ x ∷ []) ≡ length xs + 1
 length_more xs x = length-append xs (x ∷ [])
