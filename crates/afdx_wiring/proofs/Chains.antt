@@ -1,8 +1,9 @@
 -- Chains of rules that nothing breaks: each is kept.
 use Rattle.std.proofs.Common.{◌≡◌, ℕ, suc, ◌+◌, ◌<◌, Bool, true, false, not, List, [], ◌∷◌, ◌++◌, length, map, drop, get_or, Ok, Err, refl, ap, sym, ◌∙◌, add-one, arith}
 use Rattle.std.proofs.Math.Seq.{drop-cons}
-use Rattle.std.specs.Prelude.{Contains, Result}
+use Rattle.std.specs.Prelude.{All, Result}
 use Rattle.std.specs.List.{AllByRecursion}
+use Rattle.std.proofs.lemmas.List.Elements.{All-nil, All-append, All-map, All-weaker, Contains-get_or}
 use Rattle.afdx_table.specs.Link.{Link}
 use Rattle.afdx_table.specs.Content.{Content}
 use Rattle.afdx_wiring.specs.declared.fault.At.{At}
@@ -52,22 +53,6 @@ all_kept rule (x ∷ xs) h =
 
 -- ---- by row
 
-pub all_weaken : {X : Type 0} (P Q : X → Type 0) (xs : List X) → ((x : X) → P x → Q x) → AllByRecursion P xs → AllByRecursion Q xs
-all_weaken P Q [] h all = tt
-all_weaken P Q (x ∷ xs) h all = (h x all.0, all_weaken P Q xs h all.1)
-
-pub all_both : {X : Type 0} (P Q : X → Type 0) (xs : List X) → AllByRecursion P xs → AllByRecursion Q xs → AllByRecursion (λ x. P x × Q x) xs
-all_both P Q [] ps qs = tt
-all_both P Q (x ∷ xs) ps qs = ((ps.0, qs.0), all_both P Q xs ps.1 qs.1)
-
-pub all_append : {X : Type 0} (P : X → Type 0) (xs ys : List X) → AllByRecursion P xs → AllByRecursion P ys → AllByRecursion P (xs ++ ys)
-all_append P [] ys left right = right
-all_append P (x ∷ xs) ys left right = (left.0, all_append P xs ys left.1 right)
-
-pub all_map : {X Y : Type 0} (P : Y → Type 0) (f : X → Y) (xs : List X) → AllByRecursion (λ x. P (f x)) xs → AllByRecursion P (map f xs)
-all_map P f [] all = tt
-all_map P f (x ∷ xs) all = (all.0, all_map P f xs all.1)
-
 -- the row of the link at a place, before those of the rest
 pub next_row : (n : ℕ) (ls : List Link) (i : ℕ) (l : Link) → i < length ls → l ≡ get_or ls i l → rows_in n (drop i ls) ≡ row_in n l ∷ rows_in n (drop (i + 1) ls)
 next_row n ls i l within is = ap (rows_in n) (drop-cons ls i l within ∙ ap (λ (m : Link). m ∷ drop (suc i) ls) (sym is) ∙ ap (λ (k : ℕ). l ∷ drop k ls) (sym (add-one i)))
@@ -115,16 +100,11 @@ later n t ts r s = record {
   known = s.known;
 }
 
-pub all_rows : (n : ℕ) (ts : List Content) → AllByRecursion (IsRowOf n ts) (rows_from n ts)
-all_rows n [] = tt
+pub all_rows : (n : ℕ) (ts : List Content) → All (IsRowOf n ts) (rows_from n ts)
+all_rows n [] = All-nil (IsRowOf n [])
 all_rows n (t ∷ ts) =
-    all_append (IsRowOf n (t ∷ ts)) (map (row_in n) t.links) (rows_from (n + 1) ts)
-    (all_map (IsRowOf n (t ∷ ts)) (row_in n) t.links (here t.links (λ l among. among)))
-    (all_weaken (IsRowOf (n + 1) ts) (IsRowOf n (t ∷ ts)) (rows_from (n + 1) ts) (later n t ts) (all_rows (n + 1) ts)) where
-      here : (ls : List Link) → ((l : Link) → Contains ls l → Contains t.links l)
-          → AllByRecursion (λ l. IsRowOf n (t ∷ ts) (row_in n l)) ls
-      here [] among = tt
-      here (l ∷ ls) among = (
-        record { place = 0; table = t; switch = omega arith; table_is = refl; known = among l (0, omega arith, refl) },
-        here ls (λ m m_in. among m (let within = m_in.1 in (suc m_in.0, omega (arith, within), m_in.2))),
-      )
+    All-append (IsRowOf n (t ∷ ts)) (map (row_in n) t.links) (rows_from (n + 1) ts)
+    (All-map (IsRowOf n (t ∷ ts)) (row_in n) t.links here)
+    (All-weaker (IsRowOf (n + 1) ts) (IsRowOf n (t ∷ ts)) (later n t ts) (rows_from (n + 1) ts) (all_rows (n + 1) ts)) where
+      here : All (λ l. IsRowOf n (t ∷ ts) (row_in n l)) t.links
+      here k d lt = record { place = 0; table = t; switch = omega arith; table_is = refl; known = Contains-get_or t.links k d lt }

@@ -1,5 +1,5 @@
 -- Tables of which no rule is broken fit together.
-use Rattle.std.proofs.Common.{◌≡◌, List, [], Ok, Err}
+use Rattle.std.proofs.Common.{◌≡◌, List, [], get_or, Ok, Err}
 use Rattle.std.specs.Prelude.{All, IfOk}
 use Rattle.std.specs.List.{AllByRecursion}
 use Rattle.std.proofs.lemmas.List.Elements.{All-from_recursion}
@@ -7,10 +7,10 @@ use Rattle.afdx_wiring.specs.declared.layout.Wire.{Wire}
 use Rattle.afdx_wiring.specs.declared.shared.Shared.{Shared}
 use Rattle.afdx_wiring.specs.declared.shared.Shared.TheVariants as shared
 use Rattle.afdx_wiring.specs.Refusal.{◌>>=◌, Gives}
-use Rattle.afdx_wiring.specs.Net.{Network, Back, rows_of, rows_on, IsWayBack}
+use Rattle.afdx_wiring.specs.Net.{Network, rows_of, rows_on}
 use Rattle.afdx_wiring.specs.Rules.{Joins, GoesOn, FitsTogether}
 use Rattle.afdx_wiring.specs.Order.{Answer, first_of, by_wires, joined_at, shares, most_rows, has_source, fed_numbers, each_once, misfit}
-use Rattle.afdx_wiring.proofs.Chains.{first_kept, rest_kept, wires_kept, all_kept, all_weaken, all_both}
+use Rattle.afdx_wiring.proofs.Chains.{first_kept, rest_kept, wires_kept, all_kept}
 use Rattle.afdx_wiring.proofs.JointLemmas.{SharesAt, joins, all_go}
 use Rattle.afdx_wiring.proofs.FeedLemmas.{way_back, source_there}
 use Rattle.afdx_wiring.proofs.OnceLemmas.{once}
@@ -43,19 +43,15 @@ fits net h =
     let h3 = rest_kept ports after_ports tt h2 in
     let h4 = rest_kept terms after_terms tt h3 in
     let h5 = rest_kept sources after_sources tt h4 in
-    let js : AllByRecursion (Joins net) ws = wires_kept (joined_at net) (Joins net) (joins net) 0 ws (first_kept joined after_joined tt h) in
-    let ns = shared_by_all net shared.Number (first_kept numbers after_numbers tt h1) in
-    let ps = shared_by_all net shared.Port (first_kept ports after_ports tt h2) in
-    let ts = shared_by_all net shared.Terms (first_kept terms after_terms tt h3) in
-    let kept = all_both (Joins net) (λ w. SharesAt net shared.Number w × (SharesAt net shared.Port w × SharesAt net shared.Terms w)) ws js
-    (all_both (SharesAt net shared.Number) (λ w. SharesAt net shared.Port w × SharesAt net shared.Terms w) ws ns
-    (all_both (SharesAt net shared.Port) (SharesAt net shared.Terms) ws ps ts)) in
-    let fed = all_kept (has_source net) (rows_of net) (first_kept sources after_sources tt h4) in
+    let js = All-from_recursion (Joins net) ws (wires_kept (joined_at net) (Joins net) (joins net) 0 ws (first_kept joined after_joined tt h)) in
+    let ns = All-from_recursion (SharesAt net shared.Number) ws (shared_by_all net shared.Number (first_kept numbers after_numbers tt h1)) in
+    let ps = All-from_recursion (SharesAt net shared.Port) ws (shared_by_all net shared.Port (first_kept ports after_ports tt h2)) in
+    let ts = All-from_recursion (SharesAt net shared.Terms) ws (shared_by_all net shared.Terms (first_kept terms after_terms tt h3)) in
+    let fed = All-from_recursion (λ r. has_source net r ≡ Ok tt) (rows_of net) (all_kept (has_source net) (rows_of net) (first_kept sources after_sources tt h4)) in
     record {
-      wires = All-from_recursion (Joins net) ws js;
-      links = All-from_recursion (λ w. All (GoesOn net w) (rows_on net w)) ws (all_weaken (AllKept net) (λ w. All (GoesOn net w) (rows_on net w)) ws (goes_on net) kept);
-      sources = All-from_recursion (λ r. (backs : List Back) × IsWayBack net r backs) (rows_of net)
-          (all_weaken (λ r. has_source net r ≡ Ok tt) (λ r. (backs : List Back) × IsWayBack net r backs) (rows_of net) (λ r is. way_back most_rows net r (source_there net r is)) fed);
+      wires = js;
+      links = λ k d lt. goes_on net (get_or ws k d) (js k d lt, (ns k d lt, (ps k d lt, ts k d lt)));
+      sources = λ k d lt. let r = get_or (rows_of net) k d in way_back most_rows net r (source_there net r (fed k d lt));
       once = once net [] (rows_of net) h5;
     }
 

@@ -4,7 +4,7 @@ use Rattle.std.proofs.Common.{arith, subst}
 use Rattle.std.specs.Prelude.{Contains}
 use Rattle.std.specs.List.{AllByRecursion}
 use Rattle.std.specs.Str.{bytes_eq}
-use Rattle.std.proofs.lemmas.List.Elements.{All-from_recursion, All-contains}
+use Rattle.std.proofs.lemmas.List.Elements.{All-from_recursion, recursion_from_All, All-weaker, All-contains}
 use Rattle.std.proofs.lemmas.Slice.Eq.{bytes_eq-Decides}
 use Rattle.std.proofs.lemmas.Bool.{eqb-true, and_parts}
 use Rattle.std.proofs.lemmas.Option.{same_Some}
@@ -29,7 +29,7 @@ use Rattle.afdx_wiring.specs.File.{is_end}
 use Rattle.afdx_wiring.specs.Net.{Network, Row, port_at, row_in, rows_of, rows_on, IsRowOf}
 use Rattle.afdx_wiring.specs.Rules.{Joins, GoesOn}
 use Rattle.afdx_wiring.specs.Order.{Answer, first_of, same_constant, same_rate, same_speed, joined_at, same_police, same_terms, agrees, goes_on, all_go_on, shares}
-use Rattle.afdx_wiring.proofs.Chains.{fine, first_kept, rest_kept, unless_not, all_kept, all_rows, all_weaken}
+use Rattle.afdx_wiring.proofs.Chains.{fine, first_kept, rest_kept, unless_not, all_kept, all_rows}
 
 -- ---- constants and speeds
 
@@ -228,7 +228,7 @@ pub all_go : (net : Network) (w : Wire) → Joins net w → SharesAt net shared.
 all_go net w j n p t =
     all_filter (GoesOn net w) (λ (r : Row). leads_to w.from.port r.link) _
     (all_filter (λ (r : Row). leads_to w.from.port r.link ≡ true → GoesOn net w r) (λ (r : Row). is_end (record { switch = r.switch; port = w.from.port }) w.from) (rows_of net)
-    (all_weaken (IsRowOf 0 net.tables) _ (rows_of net) each (all_rows 0 net.tables))) where
+    (recursion_from_All _ (rows_of net) (All-weaker (IsRowOf 0 net.tables) _ each (rows_of net) (all_rows 0 net.tables)))) where
       each : (r : Row) → IsRowOf 0 net.tables r → is_end (record { switch = r.switch; port = w.from.port }) w.from ≡ true → leads_to w.from.port r.link ≡ true → GoesOn net w r
       each r s at leads =
           let parts = and_parts (r.switch == w.from.switch) (w.from.port == w.from.port) at in

@@ -3,7 +3,7 @@ use Rattle.std.proofs.Common.{◌≡◌, ℕ, zero, suc, ◌<◌, ◌==◌, ◌|
 use Rattle.std.proofs.Common.{arith, subst, inl, inr, append_assoc}
 use Rattle.std.specs.Prelude.{Contains, ◌≢◌}
 use Rattle.std.specs.List.{list_any}
-use Rattle.std.proofs.lemmas.Bool.Decides.{nat_tests}
+use Rattle.std.proofs.lemmas.Bool.{true≢false, eq-eqb}
 use Rattle.std.proofs.lemmas.List.{append-nil, map-append}
 use Rattle.std.proofs.lemmas.List.Elements.{Contains-append_cases, filter-append}
 use Rattle.afdx_wiring.specs.declared.fault.NetworkFault.{NetworkFault}
@@ -13,9 +13,6 @@ use Rattle.afdx_wiring.specs.Refusal.{◌>>=◌, unless, Gives}
 use Rattle.afdx_wiring.specs.Net.{Network, Row, IsSource}
 use Rattle.afdx_wiring.specs.Order.{Answer, is_fed, fed_numbers, each_once}
 use Rattle.afdx_wiring.proofs.Chains.{first_kept, rest_kept, unless_so}
-
-apart : (b : Bool) → b ≡ true → b ≡ false → ⊥
-apart b is not = cc
 
 -- ---- some rows, and then more
 
@@ -70,9 +67,7 @@ abbrev has : ℕ → List ℕ → Bool
 has id ids = list_any (λ n. n == id) ids
 
 has_last : (id : ℕ) (ids : List ℕ) → has id (ids ++ id ∷ []) ≡ true
-has_last id [] = ap (λ b. b || false) (itself id) where
-  itself : (n : ℕ) → (n == n) ≡ true
-  itself n = grind (arith, nat_tests)
+has_last id [] = ap (λ b. b || false) (eq-eqb id id refl)
 has_last id (n ∷ ids) = ap (λ b. (n == id) || b) (has_last id ids) ∙ or_true (n == id) where
   or_true : (b : Bool) → (b || true) ≡ true
   or_true true = refl
@@ -90,7 +85,7 @@ not_before : (id further : ℕ) (ids : List ℕ) → has id (ids ++ further ∷ 
 not_before id further ids new = by (has id ids) refl where
   by : (b : Bool) → has id ids ≡ b → b ≡ false
   by false is = refl
-  by true is = absurd (apart (has id (ids ++ further ∷ [])) (has_more id further ids is) new)
+  by true is = absurd (true≢false (sym (has_more id further ids is) ∙ new))
 
 fed : (net : Network) (r : Row) → IsSource net r → is_fed net r ≡ true
 fed net r source = ap (λ (o : Option Wire). not (is_some o)) source
@@ -122,7 +117,7 @@ each_new net before [] s h among source = absurd (let within = among.1 in omega 
 each_new net before (x ∷ xs) s h among source = by (λ ids kept s_there. each_new net ids xs s kept s_there source) (is_fed net x) refl h where
   here : (b : Bool) → is_fed net x ≡ b → each_once before (numbers_with net x xs b) ≡ Ok tt → x ≡ s → has s.link.id before ≡ false
   here true is kept same = subst (λ (q : Row). has q.link.id before ≡ false) same (at_source net before x xs kept).new
-  here false is kept same = absurd (apart (is_fed net x) (fed net x (subst (IsSource net) (sym same) source)) is)
+  here false is kept same = absurd (true≢false (sym (fed net x (subst (IsSource net) (sym same) source)) ∙ is))
 
   there : ((ids : List ℕ) → each_once ids (fed_numbers net xs) ≡ Ok tt → Contains xs s → has s.link.id ids ≡ false)
       → (b : Bool) → each_once before (numbers_with net x xs b) ≡ Ok tt → Contains xs s → has s.link.id before ≡ false
@@ -138,10 +133,10 @@ clash : (net : Network) (before : List ℕ) (x : Row) (xs : List Row) → each_o
     → x.link.id ≡ q.link.id → ⊥
 clash net before x xs h q q_there x_source q_source number = by (is_fed net x) refl h where
   by : (b : Bool) → is_fed net x ≡ b → each_once before (numbers_with net x xs b) ≡ Ok tt → ⊥
-  by false is kept = apart (is_fed net x) (fed net x x_source) is
+  by false is kept = true≢false (sym (fed net x x_source) ∙ is)
   by true is kept =
       let met : has q.link.id (before ++ x.link.id ∷ []) ≡ true = subst (λ (id : ℕ). has id (before ++ x.link.id ∷ []) ≡ true) number (has_last x.link.id before) in
-      apart (has q.link.id (before ++ x.link.id ∷ [])) met (each_new net (before ++ x.link.id ∷ []) xs q (at_source net before x xs kept).rest q_there q_source)
+      true≢false (sym met ∙ each_new net (before ++ x.link.id ∷ []) xs q (at_source net before x xs kept).rest q_there q_source)
 
 -- what is met of the rows behind the first one
 behind : (net : Network) (before : List ℕ) (x : Row) (xs : List Row) → each_once before (fed_numbers net (x ∷ xs)) ≡ Ok tt
