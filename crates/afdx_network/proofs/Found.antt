@@ -42,14 +42,6 @@ kept_at p (y ∷ ys) x (suc k) within at is = by (kept_at p ys x k (omega (arith
 pub contains_filter : {X : Type 0} (p : X → Bool) (xs : List X) (x : X) → Contains xs x → p x ≡ true → Contains (filter p xs) x
 contains_filter p xs x among is = kept_at p xs x among.0 among.1 among.2 is
 
-mapped_at : {X Y : Type 0} (f : X → Y) (xs : List X) (x : X) (k : ℕ) → k < length xs → get_or xs k x ≡ x → Contains (map f xs) (f x)
-mapped_at f [] x k within at = absurd (omega (arith, within))
-mapped_at f (y ∷ ys) x zero within at = contains_head (map f ys) (f x) (f y) (ap f at)
-mapped_at f (y ∷ ys) x (suc k) within at = contains_tail (map f ys) (f x) (f y) (mapped_at f ys x k (omega (arith, within)) at)
-
-pub contains_map : {X Y : Type 0} (f : X → Y) (xs : List X) (x : X) → Contains xs x → Contains (map f xs) (f x)
-contains_map f xs x among = mapped_at f xs x among.0 among.1 among.2
-
 -- an element of a mapped list is made of one
 pub map_contains : {X Y : Type 0} (f : X → Y) (xs : List X) (y : Y) → Contains (map f xs) y → (x : X) × Contains xs x × (f x ≡ y)
 map_contains {X = X} f xs y among = of_all (λ z. (x : X) × Contains xs x × (f x ≡ z)) (map f xs) y (each xs (λ x has. has)) among where

@@ -1,6 +1,7 @@
 -- Rows of a network, the wires to them, and their bounds.
 use Rattle.std.proofs.Common.{◌≡◌, ℕ, zero, suc, ◌+◌, ◌==◌, ◌&&◌, true, List, [], ◌∷◌, map, slice_get, Some, option_map, option_and_then, refl, ap, sym, ◌∙◌, arith, subst}
 use Rattle.std.specs.Prelude.{Contains}
+use Rattle.std.proofs.lemmas.List.{get_or-map, length-map}
 use Rattle.std.proofs.lemmas.List.Elements.{Contains-append_left, Contains-append_right}
 use Rattle.std.proofs.lemmas.Option.{same_Some}
 use Rattle.std.proofs.lemmas.Bool.{eq-eqb, eqb-true, and_parts}
@@ -17,7 +18,7 @@ use Rattle.afdx_wiring.specs.declared.layout.End.{End}
 use Rattle.afdx_wiring.specs.declared.layout.Wire.{Wire}
 use Rattle.afdx_wiring.specs.File.{is_end}
 use Rattle.afdx_wiring.specs.Net.{Network, Row, row_at, row_in, rows_from, rows_of, rows_on, wire_to, bound_in}
-use Rattle.afdx_network.proofs.Found.{contains_filter, contains_map, found_passes}
+use Rattle.afdx_network.proofs.Found.{contains_filter, found_passes}
 
 -- ---- ends
 
@@ -42,9 +43,11 @@ has_from : (n k : ℕ) (tables : List Content) (t : Content) (l : Link) → slic
 has_from n k [] t l is among = absurd cc
 has_from n zero (u ∷ tables) t l is among =
     let place : n ≡ n + 0 = omega arith in
+    let known = subst (λ (c : Content). Contains c.links l) (sym (same_Some _ _ is)) among in
+    let within = known.1 in
     subst (λ (m : ℕ). Contains (rows_from n (u ∷ tables)) (row_in m l)) place
     (Contains-append_left (map (row_in n) u.links) (rows_from (n + 1) tables) (row_in n l)
-    (contains_map (row_in n) u.links l (subst (λ (c : Content). Contains c.links l) (sym (same_Some _ _ is)) among)))
+    (known.0, omega (arith, within, length-map u.links (row_in n)), get_or-map (row_in n) u.links known.0 l (row_in n l) within ∙ ap (row_in n) known.2))
 has_from n (suc k) (u ∷ tables) t l is among =
     let further = has_from (n + 1) k tables t l is among in
     let place : n + 1 + k ≡ n + suc k = omega arith in
