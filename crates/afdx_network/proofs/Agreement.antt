@@ -1,7 +1,7 @@
 -- The ways in a run of an accepted network are ways of the theorem, and their jitters are enough.
-use Rattle.std.proofs.Common.{◌≡◌, ℕ, ◌≤◌, true, List, [], ◌∷◌, map, slice_get, Option, Some, None, option_map, option_and_then, refl, ap, sym, ◌∙◌, subst}
+use Rattle.std.proofs.Common.{◌≡◌, ℕ, ◌≤◌, true, List, [], ◌∷◌, map, get_or, slice_get, Option, Some, None, option_map, option_and_then, refl, ap, sym, ◌∙◌, subst}
 use Rattle.std.specs.Prelude.{All, Contains}
-use Rattle.std.proofs.lemmas.List.Elements.{All-contains}
+use Rattle.std.proofs.lemmas.List.Elements.{All-contains, All-map, Contains-get_or}
 use Rattle.std.proofs.lemmas.Option.{slice_get-map, same_Some}
 use Rattle.afdx_pcap.specs.Record.{Record}
 use Rattle.afdx_pcap.specs.Text.{capture_text}
@@ -32,7 +32,7 @@ use Rattle.afdx_network.specs.Way.{Node, Stage, IsStage, Leg, IsLegFrom, IsWay, 
 use Rattle.afdx_network.specs.Runs.{SwitchRun, Given, Brings}
 use Rattle.afdx_network.specs.Ways.{node_of, IsStageAt, GoesOver, IsWayFrom, IsWayIn}
 use Rattle.afdx_network.specs.Laws.{IsAcceptedRun}
-use Rattle.afdx_network.proofs.Found.{map_contains, all_at, ports_are_found, one_port}
+use Rattle.afdx_network.proofs.Found.{all_at, ports_are_found, one_port}
 use Rattle.afdx_network.proofs.Rows.{wire_goes_there, rows_have, rows_on_have, row_is, same_bound}
 use Rattle.afdx_network.proofs.Lengths.{IsFound, found_row}
 use Rattle.afdx_network.proofs.Wired.{wired}
@@ -76,9 +76,10 @@ module _ (g : Ground) (net : Network) (given : Given) (runs : List SwitchRun) (a
       → (bytes : List ℕ) (records : List Record) → Contains here.results.captures (w.from.port, bytes) → IsCapture bytes records
       → Contains run.texts (w.to.port, capture_text (map (delayed w.delay) records)) → Behind w run
   left_by w run among is here here_is bytes records written read comes =
-      let h = map_contains (λ (p : PortRow). (p.id, capture_text (here.isolated.out p))) here.table.ports (w.from.port, bytes)
-      (subst (λ (texts : List Text). Contains texts (w.from.port, bytes)) here.isolated.captures written) in
-      let number : h.0.id ≡ w.from.port = ap (λ (text : Text). text.0) h.2 in
+      let known = subst (λ (texts : List Text). Contains texts (w.from.port, bytes)) here.isolated.captures written in
+      let h = All-map (λ (text : Text). (p : PortRow) × Contains here.table.ports p × (p.id ≡ text.0)) (λ (p : PortRow). (p.id, capture_text (here.isolated.out p))) here.table.ports
+      (λ k d lt. (get_or here.table.ports k d, Contains-get_or here.table.ports k d lt, refl)) known.0 (w.from.port, bytes) known.1 in
+      let number : h.0.id ≡ w.from.port = h.2 ∙ ap (λ (text : Text). text.0) known.2 in
       let small = All-contains (λ (v : Wire). v.delay ≤ 1000000) net.layout.wires w acc.of_file.delays among in
       record {
         here = here;

@@ -1,5 +1,5 @@
 -- What is in a list, and what is found there.
-use Rattle.std.proofs.Common.{◌≡◌, ℕ, zero, suc, ◌<◌, ◌==◌, Bool, true, false, cond, List, [], ◌∷◌, length, map, filter, find, get_or, slice_get, Some, refl, ap, sym, ◌∙◌, arith, subst}
+use Rattle.std.proofs.Common.{◌≡◌, ℕ, zero, suc, ◌<◌, ◌==◌, Bool, true, false, cond, List, [], ◌∷◌, length, filter, find, get_or, slice_get, Some, refl, ap, sym, ◌∙◌, arith, subst}
 use Rattle.std.specs.Prelude.{All, Contains}
 use Rattle.std.specs.List.{AllByRecursion}
 use Rattle.std.proofs.lemmas.List.Elements.{All-from_recursion, All-contains}
@@ -41,13 +41,6 @@ kept_at p (y ∷ ys) x (suc k) within at is = by (kept_at p ys x k (omega (arith
 
 pub contains_filter : {X : Type 0} (p : X → Bool) (xs : List X) (x : X) → Contains xs x → p x ≡ true → Contains (filter p xs) x
 contains_filter p xs x among is = kept_at p xs x among.0 among.1 among.2 is
-
--- an element of a mapped list is made of one
-pub map_contains : {X Y : Type 0} (f : X → Y) (xs : List X) (y : Y) → Contains (map f xs) y → (x : X) × Contains xs x × (f x ≡ y)
-map_contains {X = X} f xs y among = of_all (λ z. (x : X) × Contains xs x × (f x ≡ z)) (map f xs) y (each xs (λ x has. has)) among where
-  each : (ys : List X) → ((x : X) → Contains ys x → Contains xs x) → AllByRecursion (λ z. (x : X) × Contains xs x × (f x ≡ z)) (map f ys)
-  each [] within = tt
-  each (x ∷ ys) within = ((x, within x (contains_head ys x x refl), refl), each ys (λ z has. within z (contains_tail ys z x has)))
 
 -- what is found passes the test, and is there
 pub found_passes : {X : Type 0} (p : X → Bool) (xs : List X) (x : X) → find p xs ≡ Some x → (p x ≡ true) × Contains xs x

@@ -1,9 +1,9 @@
 -- How late a frame can be in a network: each switch and the cable behind it take at most 501 ms, and a way has at most 64 of them.
 use Rattle.std.proofs.Common.{◌≡◌, ℕ, suc, ◌+◌, ◌*◌, ◌≤◌, ◌==◌, nat_le, Bool, true, false, cond, List, [], ◌∷◌, ◌++◌}
-use Rattle.std.proofs.Common.{length, map, filter, slice_get, Option, Some, None, refl, ap, sym, ◌∙◌, arith, subst}
+use Rattle.std.proofs.Common.{length, map, filter, get_or, slice_get, Option, Some, None, refl, ap, sym, ◌∙◌, arith, subst}
 use Rattle.std.specs.Prelude.{All, Contains}
 use Rattle.std.specs.List.{AllByRecursion}
-use Rattle.std.proofs.lemmas.List.Elements.{All-contains, recursion_from_All}
+use Rattle.std.proofs.lemmas.List.Elements.{All-contains, All-map, Contains-get_or, recursion_from_All}
 use Rattle.std.proofs.lemmas.Bool.{eq-eqb, eqb-true}
 use Rattle.std.proofs.lemmas.Option.{slice_get-map, slice_get_read, slice_get_within, get_or_from_slice_get}
 use Rattle.afdx_units.specs.Time.{second, last_second}
@@ -28,7 +28,6 @@ use Rattle.afdx_network.specs.Way.{delayed}
 use Rattle.afdx_network.specs.Runs.{SwitchRun, Given}
 use Rattle.afdx_network.specs.Laws.{IsAcceptedRun, NoneComesLate, WaysAreShort}
 use Rattle.afdx_network.proofs.Lists.{all_weaken, all_map, all_append, all_kept, all_tested}
-use Rattle.afdx_network.proofs.Found.{map_contains}
 use Rattle.afdx_network.proofs.Rows.{wire_goes_there, rows_have}
 use Rattle.afdx_network.proofs.Clean.{clean_of}
 use Rattle.afdx_network.proofs.Leaves.{half, each_left, leave_later}
@@ -224,8 +223,9 @@ none_is_late g f net given runs acc early run text among has =
     (arrivals_all (λ (q : Record). q.stamp + second ≤ last_second) read
     (λ port. subst (λ (captures : List Capture). AllByRecursion (λ (q : Record). q.stamp + second ≤ last_second) (records_of captures port)) same
     (came_early g f.short net given runs acc early n port run is))) in
-    let h = map_contains (λ (p : PortRow). (p.id, output_text run.table (merged read) p)) run.table.ports text
-    (subst (λ (texts : List Text). Contains texts text) run.outcome.captures has) in
+    let known = subst (λ (texts : List Text). Contains texts text) run.outcome.captures has in
+    let h = All-map (λ (t : Text). (p : PortRow) × Contains run.table.ports p × (t ≡ (p.id, output_text run.table (merged read) p)))
+    (λ (p : PortRow). (p.id, output_text run.table (merged read) p)) run.table.ports (λ k d lt. (get_or run.table.ports k d, Contains-get_or run.table.ports k d lt, refl)) known.0 text known.1 in
     let out = output_of run.table (merged read) h.0 in
     let readable = f.readable run.table run.texts read (formed_at g net given runs acc n run is) run.outcome.are_read came h.0 h.1 in
-    (out, subst (λ (bytes : List ℕ). IsCapture bytes out) (ap (λ (t : Text). t.1) h.2) (f.written out readable.0 readable.1))
+    (out, subst (λ (bytes : List ℕ). IsCapture bytes out) (ap (λ (t : Text). t.1) (sym h.2 ∙ known.2)) (f.written out readable.0 readable.1))

@@ -3,6 +3,8 @@ use Rattle.std.proofs.Common.{◌≡◌, ℕ, zero, suc, ◌<◌, ◌==◌, List
 use Rattle.std.specs.Prelude.{Contains}
 use Rattle.std.specs.List.{AllByRecursion}
 use Rattle.std.proofs.lemmas.Bool.{eq-eqb, ne_eqb}
+use Rattle.std.proofs.lemmas.List.{get_or-map, length-map}
+use Rattle.std.proofs.lemmas.List.Elements.{Contains-get_or}
 use Rattle.afdx_pcap.specs.Record.{Record}
 use Rattle.afdx_pcap.specs.Text.{capture_text}
 use Rattle.afdx_pcap.specs.Capture.{IsCapture}
@@ -13,7 +15,7 @@ use Rattle.afdx_core.specs.Merge.{Capture, records_of}
 use Rattle.afdx_session.specs.Texts.{Text, AreOfPorts}
 use Rattle.afdx_session.specs.Reading.{AreCaptures}
 use Rattle.afdx_network.proofs.Lists.{all_map, all_unmap}
-use Rattle.afdx_network.proofs.Found.{of_all, map_contains, one_port}
+use Rattle.afdx_network.proofs.Found.{of_all, one_port}
 
 -- ---- what was written
 
@@ -23,9 +25,12 @@ text_by out p = (p.id, capture_text (out p))
 pub written_at : (t : Content) (out : PortRow → List Record) (captures : List Text) (p : PortRow) (bytes : List ℕ) → IsWellFormed t
     → captures ≡ map (λ q. (q.id, capture_text (out q))) t.ports → Contains t.ports p → Contains captures (p.id, bytes) → bytes ≡ capture_text (out p)
 written_at t out captures p bytes formed are here among =
-    let h = map_contains (text_by out) t.ports (p.id, bytes) (subst (λ (texts : List Text). Contains texts (p.id, bytes)) are among) in
-    let same : h.0 ≡ p = one_port t h.0 p formed h.1 here (ap (λ (text : Text). text.0) h.2) in
-    sym (ap (λ (text : Text). text.1) h.2) ∙ ap (λ (q : PortRow). capture_text (out q)) same
+    let known = subst (λ (texts : List Text). Contains texts (p.id, bytes)) are among in
+    let within : known.0 < length t.ports = let place = known.1 in omega (arith, place, length-map t.ports (text_by out)) in
+    let q = get_or t.ports known.0 p in
+    let is : text_by out q ≡ (p.id, bytes) = sym (get_or-map (text_by out) t.ports known.0 p (p.id, bytes) within) ∙ known.2 in
+    let same : q ≡ p = one_port t q p formed (Contains-get_or t.ports known.0 p within) here (ap (λ (text : Text). text.0) is) in
+    sym (ap (λ (text : Text). text.1) is) ∙ ap (λ (r : PortRow). capture_text (out r)) same
 
 -- ---- what was read
 
