@@ -1,6 +1,6 @@
 -- Each row ends a way, at each port that it leads to.
 use Rattle.std.proofs.Common.{◌≡◌, ℕ, ◌+◌, ◌-◌, ◌*◌, ◌/◌, ◌<◌, ◌≤◌, nat_lt, Bool, true, not, cond, List, [], ◌∷◌}
-use Rattle.std.proofs.Common.{count_by, slice_get, Some, None, option_and_then, refl, ap, sym, ◌∙◌, arith, subst}
+use Rattle.std.proofs.Common.{count_by, filter, slice_get, Some, None, option_and_then, refl, ap, sym, ◌∙◌, arith, subst}
 use Rattle.std.specs.Prelude.{Contains}
 use Rattle.std.proofs.lemmas.Bool.{and_from, lt-ltb}
 use Rattle.std.proofs.lemmas.List.Elements.{All-contains}
@@ -23,7 +23,8 @@ use Rattle.afdx_network.specs.Way.{Stage, Leg, last_stage}
 use Rattle.afdx_network.specs.Runs.{SwitchRun, Given}
 use Rattle.afdx_network.specs.Ways.{node_of, IsStageAt, GoesOver, IsWayFrom, IsWayIn}
 use Rattle.afdx_network.specs.Laws.{IsAcceptedRun, EndsAt}
-use Rattle.afdx_network.proofs.Found.{contains_filter}
+use Rattle.afdx_network.proofs.Lists.{all_tested}
+use Rattle.afdx_network.proofs.Found.{all_by, of_all}
 use Rattle.afdx_network.proofs.Rows.{rows_have, same_bound}
 use Rattle.afdx_network.proofs.Agreement.{Ground, stage_by, end_by, table_at, formed_at, accepted_at, RowBefore, row_before, first_stage}
 
@@ -31,7 +32,7 @@ use Rattle.afdx_network.proofs.Agreement.{Ground, stage_by, end_by, table_at, fo
 
 counted : (q : Link → Bool) (links : List Link) (l : Link) → Contains links l → q l ≡ true → 0 < count_by q links
 counted q links l among is =
-    let place = (contains_filter q links l among is).1 in
+    let place = (of_all (λ m. q m ≡ true → Contains (filter q links) m) links l (all_tested _ q links (all_by (Contains (filter q links)) (filter q links) (λ m h. h))) among is).1 in
     let same = length-filter q links in
     omega (arith, place, same)
 
@@ -67,7 +68,8 @@ has_bound : AcceptedKeepsBounds → (t : Content) (p : PortRow) (l : Link) → I
     → (bound : ℕ) × (bound_of (load_at t p) l.priority ≡ Some bound)
 has_bound keeps t p l formed accepted among known leads = by l.priority refl where
   here : Contains (routed p.id t.links) l
-  here = contains_filter (leads_to p.id) t.links l known leads
+  here = of_all (λ m. leads_to p.id m ≡ true → Contains (routed p.id t.links) m) t.links l
+      (all_tested _ (leads_to p.id) t.links (all_by (Contains (routed p.id t.links)) (routed p.id t.links) (λ m h. h))) known leads
 
   by : (priority : Priority) → l.priority ≡ priority → (bound : ℕ) × (bound_of (load_at t p) priority ≡ Some bound)
   by High is = some_high (load_at t p) (highs t.latency t p l here (ap is_high is))

@@ -1,5 +1,5 @@
 -- What is in a list, and what is found there.
-use Rattle.std.proofs.Common.{◌≡◌, ℕ, zero, suc, ◌<◌, ◌==◌, Bool, true, false, cond, List, [], ◌∷◌, length, filter, find, get_or, slice_get, Some, refl, ap, sym, ◌∙◌, arith, subst}
+use Rattle.std.proofs.Common.{◌≡◌, ℕ, zero, suc, ◌<◌, ◌==◌, Bool, true, false, cond, List, [], ◌∷◌, length, find, get_or, slice_get, Some, refl, ap, sym, ◌∙◌, arith, subst}
 use Rattle.std.specs.Prelude.{All, Contains}
 use Rattle.std.specs.List.{AllByRecursion}
 use Rattle.std.proofs.lemmas.List.Elements.{All-from_recursion, All-contains}
@@ -29,18 +29,6 @@ all_by P (x ∷ xs) each = (each x (contains_head xs x x refl), all_by P xs (λ 
 
 pub of_all : {X : Type 0} (P : X → Type 0) (xs : List X) (x : X) → AllByRecursion P xs → Contains xs x → P x
 of_all P xs x all among = All-contains P xs x (All-from_recursion P xs all) among
-
-kept_at : {X : Type 0} (p : X → Bool) (xs : List X) (x : X) (k : ℕ) → k < length xs → get_or xs k x ≡ x → p x ≡ true → Contains (filter p xs) x
-kept_at p [] x k within at is = absurd (omega (arith, within))
-kept_at p (y ∷ ys) x zero within at is =
-    subst (λ b. Contains (cond b (y ∷ filter p ys) (filter p ys)) x) (sym (ap p at ∙ is)) (contains_head (filter p ys) x y at)
-kept_at p (y ∷ ys) x (suc k) within at is = by (kept_at p ys x k (omega (arith, within)) at is) (p y) where
-  by : Contains (filter p ys) x → (b : Bool) → Contains (cond b (y ∷ filter p ys) (filter p ys)) x
-  by rest true = contains_tail (filter p ys) x y rest
-  by rest false = rest
-
-pub contains_filter : {X : Type 0} (p : X → Bool) (xs : List X) (x : X) → Contains xs x → p x ≡ true → Contains (filter p xs) x
-contains_filter p xs x among is = kept_at p xs x among.0 among.1 among.2 is
 
 -- what is found passes the test, and is there
 pub found_passes : {X : Type 0} (p : X → Bool) (xs : List X) (x : X) → find p xs ≡ Some x → (p x ≡ true) × Contains xs x

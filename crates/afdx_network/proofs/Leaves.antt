@@ -1,5 +1,5 @@
 -- What leaves a switch over an accepted table: how long its frames are, and how late they are.
-use Rattle.std.proofs.Common.{◌≡◌, ℕ, ◌+◌, ◌<◌, ◌≤◌, ◌==◌, ◌&&◌, nat_lt, Bool, true, false, cond, List, [], ◌∷◌, length, Option, Some, None, IfSome, refl, arith, subst}
+use Rattle.std.proofs.Common.{◌≡◌, ℕ, ◌+◌, ◌<◌, ◌≤◌, ◌==◌, ◌&&◌, nat_lt, Bool, true, false, cond, List, [], ◌∷◌, length, Option, Some, None, IfSome, refl, sym, arith, subst}
 use Rattle.std.specs.Prelude.{Contains}
 use Rattle.std.specs.List.{AllByRecursion, AllZip}
 use Rattle.std.proofs.lemmas.Bool.Decides.{nat_tests}
@@ -24,8 +24,8 @@ use Rattle.afdx_isolation.specs.Table.{bound_of}
 use Rattle.afdx_core.specs.Merge.{Capture, records_of}
 use Rattle.afdx_core.specs.Inner.Agreement.{VerdictsNameLinks}
 use Rattle.afdx_session.specs.Headline.{own_records, passed_records, records_for, IsInBound, IsIsolatedAt}
-use Rattle.afdx_network.proofs.Lists.{all_weaken, all_passed}
-use Rattle.afdx_network.proofs.Found.{all_by, of_all, contains_filter}
+use Rattle.afdx_network.proofs.Lists.{all_weaken, all_tested, all_passed}
+use Rattle.afdx_network.proofs.Found.{all_by, of_all}
 use Rattle.afdx_network.proofs.Clean.{IsOf, own_clean, over_bytes}
 
 -- ---- a bound is within the greatest delay of a port
@@ -69,12 +69,11 @@ each_left P t read p out isolated each = all_by P out one where
   one : (r : Record) → Contains out r → P r
   one r among =
       let l = All-contains (λ (q : Record). (l : Link) × Contains t.links l × (link_of q.bytes ≡ l.id)) out r isolated.of_links among in
-      let own : Contains (records_for l.0 out) r = contains_filter (λ (q : Record). link_of q.bytes == l.0.id) out r among (eq-eqb (link_of r.bytes) l.0.id l.2) in
-      by l.0 l.1 own (leads_to p.id l.0) refl where
-        by : (l : Link) → Contains t.links l → Contains (records_for l out) r → (b : Bool) → leads_to p.id l ≡ b → P r
-        by l known own true leads = of_all P (records_for l out) r (each l known leads) own
-        by l known own false leads = let none = subst (λ (rs : List Record). Contains rs r) (isolated.none_else l known leads) own in
-            let place = none.1 in absurd (omega (arith, place))
+      of_all (λ q. (link_of q.bytes == l.0.id) ≡ true → P q) out r
+      (all_tested P (λ (q : Record). link_of q.bytes == l.0.id) out (by l.0 l.1 (leads_to p.id l.0) refl)) among (eq-eqb (link_of r.bytes) l.0.id l.2) where
+        by : (l : Link) → Contains t.links l → (b : Bool) → leads_to p.id l ≡ b → AllByRecursion P (records_for l out)
+        by l known true leads = each l known leads
+        by l known false leads = subst (AllByRecursion P) (sym (isolated.none_else l known leads)) tt
 
 -- ---- how late they are
 

@@ -18,7 +18,8 @@ use Rattle.afdx_wiring.specs.declared.layout.End.{End}
 use Rattle.afdx_wiring.specs.declared.layout.Wire.{Wire}
 use Rattle.afdx_wiring.specs.File.{is_end}
 use Rattle.afdx_wiring.specs.Net.{Network, Row, row_at, row_in, rows_from, rows_of, rows_on, wire_to, bound_in}
-use Rattle.afdx_network.proofs.Found.{contains_filter, found_passes}
+use Rattle.afdx_network.proofs.Lists.{all_tested}
+use Rattle.afdx_network.proofs.Found.{all_by, of_all, found_passes}
 
 -- ---- ends
 
@@ -63,8 +64,9 @@ pub rows_on_have : (net : Network) (r : Row) (w : Wire) → Contains (rows_of ne
 rows_on_have net r w among at leads =
     let there : is_end (record { switch = r.switch; port = w.from.port }) w.from ≡ true
     = subst (λ (n : ℕ). is_end (record { switch = n; port = w.from.port }) w.from ≡ true) at (is_itself w.from) in
-    contains_filter (λ (q : Row). leads_to w.from.port q.link) _ r
-    (contains_filter (λ (q : Row). is_end (record { switch = q.switch; port = w.from.port }) w.from) (rows_of net) r among there) leads
+    of_all (λ q. is_end (record { switch = q.switch; port = w.from.port }) w.from ≡ true → leads_to w.from.port q.link ≡ true → Contains (rows_on net w) q) (rows_of net) r
+    (all_tested (λ q. leads_to w.from.port q.link ≡ true → Contains (rows_on net w) q) (λ (q : Row). is_end (record { switch = q.switch; port = w.from.port }) w.from) (rows_of net)
+    (all_tested (Contains (rows_on net w)) (λ (q : Row). leads_to w.from.port q.link) _ (all_by (Contains (rows_on net w)) (rows_on net w) (λ q h. h)))) among there leads
 
 pub row_is : LinksAreFound → (net : Network) (r : Row) (t : Content) → slice_get net.tables r.switch ≡ Some t → IsWellFormed t → Contains t.links r.link
     → row_at net r.switch r.link.id ≡ Some r
