@@ -45,7 +45,7 @@ stands_next files name before rest all got split earlier = record {
   place = length before;
   got = got;
   is_there = ap (λ (names : List (List ℕ)). slice_get names (length before)) split ∙ slice_get-get_or (before ++ name ∷ rest) (length before) name (omega (arith, length-append before (name ∷ rest)))
-          ∙ ap (λ (n : List ℕ). Some n) (get_or-append_seam before name rest name);
+      ∙ ap (λ (n : List ℕ). Some n) (get_or-append_seam before name rest name);
   earlier = subst (λ (names : List (List ℕ)). ShowsAll files names got) (sym (ap (take (length before)) split ∙ take-append_seam before (name ∷ rest))) earlier;
 }
 

@@ -28,11 +28,11 @@ loop-place-preserved g c =
           let count = slice_get-get_or counts place 0 (let as_many = was.0.many in omega (arith, within, as_many)) in
           elim ((slice_get_cases t.ports place).1) [
             | inl port ↦ (
-                (c.in_ok-write.ensures.rest t arrivals port.0 (get_or counts place 0) was.0 port.2 count).0,
-                c.write.ensures.taken ∙ was.1,
-                rests_on contents t arrivals taken place c.args.files.now files file c.append.new.self c.write.new.text.items (slice_get-get_or files place c.index-files-place.result there) appends
-                    (λ p k is_port is_k. (c.in_ok-write.ensures.rest t arrivals p k was.0 is_port (ap (λ (ns : List ℕ). slice_get ns place) was.1 ∙ is_k)).1) was.2,
-              )
+              (c.in_ok-write.ensures.rest t arrivals port.0 (get_or counts place 0) was.0 port.2 count).0,
+              c.write.ensures.taken ∙ was.1,
+              rests_on contents t arrivals taken place c.args.files.now files file c.append.new.self c.write.new.text.items (slice_get-get_or files place c.index-files-place.result there) appends
+                  (λ p k is_port is_k. (c.in_ok-write.ensures.rest t arrivals p k was.0 is_port (ap (λ (ns : List ℕ). slice_get ns place) was.1 ∙ is_k)).1) was.2,
+            )
             | inr past ↦ absurd (let le = past.0 in omega (arith, within, le))
           ];
     }
