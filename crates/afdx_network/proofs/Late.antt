@@ -3,7 +3,7 @@ use Rattle.std.proofs.Common.{◌≡◌, ℕ, suc, ◌+◌, ◌*◌, ◌≤◌, 
 use Rattle.std.proofs.Common.{length, map, filter, get_or, slice_get, Option, Some, None, refl, ap, sym, ◌∙◌, arith, subst}
 use Rattle.std.specs.Prelude.{All, Contains}
 use Rattle.std.specs.List.{AllByRecursion}
-use Rattle.std.proofs.lemmas.List.Elements.{All-contains, All-map, Contains-get_or, recursion_from_All}
+use Rattle.std.proofs.lemmas.List.Elements.{All-nil, All-append, All-map, All-weaker, All-filter, All-contains, Contains-get_or, All-from_recursion, recursion_from_All}
 use Rattle.std.proofs.lemmas.Bool.{eq-eqb, eqb-true}
 use Rattle.std.proofs.lemmas.Option.{slice_get-map, slice_get_read, slice_get_within, get_or_from_slice_get}
 use Rattle.afdx_units.specs.Time.{second, last_second}
@@ -27,7 +27,7 @@ use Rattle.afdx_wiring.specs.Net.{Network, Row, Back, rows_of, wire_to, IsWayBac
 use Rattle.afdx_network.specs.Way.{delayed}
 use Rattle.afdx_network.specs.Runs.{SwitchRun, Given}
 use Rattle.afdx_network.specs.Laws.{IsAcceptedRun, NoneComesLate, WaysAreShort}
-use Rattle.afdx_network.proofs.Lists.{all_weaken, all_map, all_append, all_kept, all_tested}
+use Rattle.afdx_network.proofs.Lists.{all_weaken, all_tested}
 use Rattle.afdx_network.proofs.Rows.{wire_goes_there, rows_have}
 use Rattle.afdx_network.proofs.Clean.{clean_of}
 use Rattle.afdx_network.proofs.Leaves.{half, each_left, leave_later}
@@ -49,24 +49,24 @@ all_parts P (x ∷ xs) ys all = let rest = all_parts P xs ys all.1 in ((all.0, r
 -- ---- what was read
 
 records_all : (P : Record → Type 0) (port : ℕ) (texts : List Text) (read : List Capture) → AreCaptures texts read
-    → ((text : Text) (records : List Record) → Contains texts text → text.0 ≡ port → IsCapture text.1 records → AllByRecursion P records) → AllByRecursion P (records_of read port)
-records_all P port [] [] are each = tt
+    → ((text : Text) (records : List Record) → Contains texts text → text.0 ≡ port → IsCapture text.1 records → All P records) → All P (records_of read port)
+records_all P port [] [] are each = All-nil P
 records_all P port [] (c ∷ read) are each = absurd are
 records_all P port (text ∷ texts) [] are each = absurd are
 records_all P port (text ∷ texts) (c ∷ read) are each =
-    all_append P (cond (c.port == port) c.records []) (records_of read port) (by (c.port == port) refl)
+    All-append P (cond (c.port == port) c.records []) (records_of read port) (by (c.port == port) refl)
     (records_all P port texts read are.2 (λ t records among. let within = among.1 in each t records (suc among.0, omega (arith, within), among.2))) where
-      by : (b : Bool) → (c.port == port) ≡ b → AllByRecursion P (cond b c.records [])
+      by : (b : Bool) → (c.port == port) ≡ b → All P (cond b c.records [])
       by true is = each text c.records (0, omega arith, refl) (sym are.0 ∙ eqb-true c.port port is) are.1
-      by false other = tt
+      by false other = All-nil P
 
-arrivals_all : (P : Record → Type 0) (read : List Capture) → ((port : ℕ) → AllByRecursion P (records_of read port)) → AllByRecursion (λ (a : Arrival). P a.frame) (arrivals_of read)
-arrivals_all P [] each = tt
+arrivals_all : (P : Record → Type 0) (read : List Capture) → ((port : ℕ) → AllByRecursion P (records_of read port)) → All (λ (a : Arrival). P a.frame) (arrivals_of read)
+arrivals_all P [] each = All-nil (λ (a : Arrival). P a.frame)
 arrivals_all P (c ∷ read) each =
     let first = (all_parts P (cond (c.port == c.port) c.records []) (records_of read c.port) (each c.port)).0 in
     let records = from_test c.records (c.port == c.port) (eq-eqb c.port c.port refl) first in
-    all_append (λ (a : Arrival). P a.frame) (map (arrival_at c.port) c.records) (arrivals_of read)
-    (all_map (λ (a : Arrival). P a.frame) (arrival_at c.port) c.records records)
+    All-append (λ (a : Arrival). P a.frame) (map (arrival_at c.port) c.records) (arrivals_of read)
+    (All-map (λ (a : Arrival). P a.frame) (arrival_at c.port) c.records (All-from_recursion P c.records records))
     (arrivals_all P read (λ port. (all_parts P (cond (c.port == port) c.records []) (records_of read port) (each port)).1)) where
       arrival_at : ℕ → Record → Arrival
       arrival_at port r = record { port = port; frame = r }
@@ -125,14 +125,13 @@ all_later m cable (e ∷ out) all = let by = all.0 in (omega (arith, by), all_la
 module _ (g : Ground) (short : WaysAreShort) (net : Network) (given : Given) (runs : List SwitchRun) (acc : IsAcceptedRun net given runs) (early : NoneComesLate given) where
   -- at a port without a wire
   given_early : (n port : ℕ) (run : SwitchRun) → slice_get runs n ≡ Some run → wire_to net (record { switch = n; port = port }) ≡ None
-      → AllByRecursion (λ (r : Record). r.stamp ≤ latest) (records_of run.isolated.read port)
+      → All (λ (r : Record). r.stamp ≤ latest) (records_of run.isolated.read port)
   given_early n port run is none = records_all (λ (r : Record). r.stamp ≤ latest) port run.texts run.isolated.read run.isolated.are_read each where
-    each : (text : Text) (records : List Record) → Contains run.texts text → text.0 ≡ port → IsCapture text.1 records → AllByRecursion (λ (r : Record). r.stamp ≤ latest) records
+    each : (text : Text) (records : List Record) → Contains run.texts text → text.0 ≡ port → IsCapture text.1 records → All (λ (r : Record). r.stamp ≤ latest) records
     each text records among number capture =
         let h = acc.run.fed.others (record { switch = n; port = port }) run.texts text none (rw (slice_get-map, is)) number among in
         let all = early h.texts text records (n, slice_get_within given n h.texts h.texts_is, get_or_from_slice_get given n h.texts h.texts h.texts_is) h.has capture in
-        all_weaken (λ (r : Record). r.stamp + 64 * second ≤ last_second) (λ (r : Record). r.stamp ≤ latest) records (λ r soon. omega (arith, soon))
-        (recursion_from_All (λ (r : Record). r.stamp + 64 * second ≤ last_second) records all)
+        All-weaker (λ (r : Record). r.stamp + 64 * second ≤ last_second) (λ (r : Record). r.stamp ≤ latest) (λ r soon. omega (arith, soon)) records all
 
   -- a link's own frames come over a wire at most 501 ms later
   came_over : (b : Back) (r : Row) (run : SwitchRun) → slice_get runs r.switch ≡ Some run → Contains run.table.links r.link → (m n : ℕ) → m + 501000000 ≤ n
@@ -159,9 +158,10 @@ module _ (g : Ground) (short : WaysAreShort) (net : Network) (given : Given) (ru
   own_early : (backs : List Back) (r : Row) (run : SwitchRun) → slice_get runs r.switch ≡ Some run → Contains run.table.links r.link → IsWayBack net r backs
       → AllByRecursion (λ (q : Record). q.stamp ≤ after_hops (length backs)) (own_records run.table r.link run.isolated.read)
   own_early [] r run is known source =
-      all_kept (λ (q : Record). q.stamp ≤ after_hops 0) (λ (q : Record). says_clean r.link.id (verdict_of run.table r.link.from q)) (records_of run.isolated.read r.link.from)
-      (all_weaken (λ (q : Record). q.stamp ≤ latest) (λ (q : Record). q.stamp ≤ after_hops 0) (records_of run.isolated.read r.link.from) (λ q soon. omega (arith, soon))
-      (given_early r.switch r.link.from run is source))
+      recursion_from_All (λ (q : Record). q.stamp ≤ after_hops 0) (own_records run.table r.link run.isolated.read)
+      (All-filter (λ (q : Record). says_clean r.link.id (verdict_of run.table r.link.from q)) (λ (q : Record). q.stamp ≤ after_hops 0) (records_of run.isolated.read r.link.from)
+      (All-weaker (λ (q : Record). q.stamp ≤ latest) (λ (q : Record). q.stamp ≤ after_hops 0) (λ q soon. omega (arith, soon)) (records_of run.isolated.read r.link.from)
+      (given_early r.switch r.link.from run is source)))
   own_early (b ∷ backs) r run is known way =
       let before = row_before g net given runs acc b r run is way.0 way.1 way.2 in
       came_over b r run is known (after_hops (length backs)) (after_hops (length (b ∷ backs))) (omega arith) before
@@ -189,8 +189,9 @@ module _ (g : Ground) (short : WaysAreShort) (net : Network) (given : Given) (ru
   came_early n port run is = by (wire_to net (record { switch = n; port = port })) refl where
     by : (o : Option Wire) → wire_to net (record { switch = n; port = port }) ≡ o → AllByRecursion (λ (q : Record). q.stamp + second ≤ last_second) (records_of run.isolated.read port)
     by None none =
-        all_weaken (λ (q : Record). q.stamp ≤ latest) (λ (q : Record). q.stamp + second ≤ last_second) (records_of run.isolated.read port) (λ q soon. omega (arith, soon))
-        (given_early n port run is none)
+        recursion_from_All (λ (q : Record). q.stamp + second ≤ last_second) (records_of run.isolated.read port)
+        (All-weaker (λ (q : Record). q.stamp ≤ latest) (λ (q : Record). q.stamp + second ≤ last_second) (λ q soon. omega (arith, soon)) (records_of run.isolated.read port)
+        (given_early n port run is none))
     by (Some w) some =
         let there = wire_goes_there net (record { switch = n; port = port }) w some in
         let at_end : slice_get runs w.to.switch ≡ Some run = ap (λ (e : End). slice_get runs e.switch) there.0 ∙ is in
@@ -220,9 +221,10 @@ none_is_late g f net given runs acc early run text among has =
     let same : run.isolated.read ≡ read = one_reading f.unique run.texts run.isolated.read read run.isolated.are_read run.outcome.are_read in
     let came : AllByRecursion (λ (a : Arrival). a.frame.stamp + second ≤ last_second) (merged read)
     = merged_all (λ (a : Arrival). a.frame.stamp + second ≤ last_second) (arrivals_of read)
+    (recursion_from_All (λ (a : Arrival). a.frame.stamp + second ≤ last_second) (arrivals_of read)
     (arrivals_all (λ (q : Record). q.stamp + second ≤ last_second) read
     (λ port. subst (λ (captures : List Capture). AllByRecursion (λ (q : Record). q.stamp + second ≤ last_second) (records_of captures port)) same
-    (came_early g f.short net given runs acc early n port run is))) in
+    (came_early g f.short net given runs acc early n port run is)))) in
     let known = subst (λ (texts : List Text). Contains texts text) run.outcome.captures has in
     let h = All-map (λ (t : Text). (p : PortRow) × Contains run.table.ports p × (t ≡ (p.id, output_text run.table (merged read) p)))
     (λ (p : PortRow). (p.id, output_text run.table (merged read) p)) run.table.ports (λ k d lt. (get_or run.table.ports k d, Contains-get_or run.table.ports k d lt, refl)) known.0 text known.1 in

@@ -62,7 +62,3 @@ all_kept P p (x ∷ xs) all = by (all_kept P p xs all.1) (p x) where
   by : AllByRecursion P (filter p xs) → (b : Bool) → AllByRecursion P (cond b (x ∷ filter p xs) (filter p xs))
   by rest true = (all.0, rest)
   by rest false = rest
-
-pub all_append : {X : Type 0} (P : X → Type 0) (xs ys : List X) → AllByRecursion P xs → AllByRecursion P ys → AllByRecursion P (xs ++ ys)
-all_append P [] ys one two = two
-all_append P (x ∷ xs) ys one two = (one.0, all_append P xs ys one.1 two)
