@@ -1,19 +1,12 @@
 -- The program's merge is a merge, by stamp and port number.
 use Rattle.std.proofs.Common.{◌≡◌, ℕ, ◌<◌, ◌≤◌, ◌==◌, nat_le, Bool, true, false, cond, List, [], ◌∷◌, ◌++◌, map, filter, refl, ap, sym, ◌∙◌, arith, inl, inr}
-use Rattle.std.specs.List.{AllByRecursion}
+use Rattle.std.specs.List.{AllByRecursion, Contains}
 use Rattle.std.proofs.lemmas.List.{map-append}
-use Rattle.std.proofs.lemmas.List.Elements.{filter-append, All-from_recursion, recursion_from_All}
-use Rattle.std.proofs.lemmas.Bool.{cases_Bool, cases_lt}
-use Rattle.std.proofs.lemmas.Bool.Decides.{nat_tests}
+use Rattle.std.proofs.lemmas.List.Elements.{filter-append, All-from_recursion, recursion_from_All, All-contains_itself}
+use Rattle.std.proofs.lemmas.Bool.{cases_Bool, cases_lt, leb-true, leb-false}
 use Rattle.afdx_pcap.specs.Record.{Record}
 use Rattle.afdx_core.specs.Merge.{Arrival, Capture, Rises, records_of, arrivals_of, placed, by_stamp, merged}
-use Rattle.afdx_core.specs.Inner.Merge.{part_at, IsMerge, Precedes, AreByStampAndPort, PortsRise}
-
-le_true : (a b : ℕ) → nat_le a b ≡ true → a ≤ b
-le_true a b is = grind (arith, nat_tests)
-
-le_false : (a b : ℕ) → nat_le a b ≡ false → b < a
-le_false a b is = grind (arith, nat_tests)
+use Rattle.afdx_core.specs.Inner.Merge.{part_at, IsOrdered, IsMerge, Precedes, AreByStampAndPort, PortsRise}
 
 -- what holds of an arrival and of others holds of them with it in its place
 placed_all : (P : Arrival → Type 0) (a : Arrival) (arrivals : List Arrival) → P a → AllByRecursion P arrivals → AllByRecursion P (placed a arrivals)
@@ -38,7 +31,7 @@ placed_rising : (a : Arrival) (arrivals : List Arrival) → Rising arrivals → 
 placed_rising a [] rising = (tt, tt)
 placed_rising a (b ∷ arrivals) rising =
     elim (cases_Bool (nat_le a.frame.stamp b.frame.stamp)) [
-      | inl before ↦ let le = le_true a.frame.stamp b.frame.stamp before in
+      | inl before ↦ let le = leb-true a.frame.stamp b.frame.stamp before in
           rw before (
             (
               le,
@@ -47,7 +40,7 @@ placed_rising a (b ∷ arrivals) rising =
             ),
             rising,
           )
-      | inr after ↦ let lt = le_false a.frame.stamp b.frame.stamp after in
+      | inr after ↦ let lt = leb-false a.frame.stamp b.frame.stamp after in
           rw after (placed_all (λ (c : Arrival). b.frame.stamp ≤ c.frame.stamp) a arrivals (omega (arith, lt)) rising.0, placed_rising a arrivals rising.1)
     ]
 
@@ -86,7 +79,7 @@ placed_own port a [] own least = rw own refl
 placed_own port a (b ∷ arrivals) own least =
     elim (cases_Bool (nat_le a.frame.stamp b.frame.stamp)) [
       | inl before ↦ rw before (part-cons port true a (b ∷ arrivals) own)
-      | inr after ↦ rw after (by_head (b.port == port) refl (le_false a.frame.stamp b.frame.stamp after) least (placed_own port a arrivals own))
+      | inr after ↦ rw after (by_head (b.port == port) refl (leb-false a.frame.stamp b.frame.stamp after) least (placed_own port a arrivals own))
     ] where
       by_head : (t : Bool) → (b.port == port) ≡ t → b.frame.stamp < a.frame.stamp → AllByRecursion (λ (r : Record). a.frame.stamp ≤ r.stamp) (part_at port (b ∷ arrivals))
           → (AllByRecursion (λ (r : Record). a.frame.stamp ≤ r.stamp) (part_at port arrivals) → part_at port (placed a arrivals) ≡ a.frame ∷ part_at port arrivals)
@@ -128,9 +121,15 @@ part_of_all port (c ∷ captures) =
       own : List Arrival
       own = map (λ (r : Record). record { port = c.port; frame = r }) c.records
 
+pub by_stamp_is_ordered : (arrivals : List Arrival) → IsOrdered arrivals (by_stamp arrivals)
+by_stamp_is_ordered arrivals = record {
+  among = All-from_recursion (Contains arrivals) (by_stamp arrivals) (by_stamp_all (Contains arrivals) arrivals (recursion_from_All (Contains arrivals) arrivals (All-contains_itself arrivals)));
+  in_order = frames_rise (by_stamp arrivals) (by_stamp_rising arrivals);
+}
+
 pub merged_is_a_merge : (captures : List Capture) → ((port : ℕ) → Rises (records_of captures port)) → IsMerge captures (merged captures)
 merged_is_a_merge captures rises = record {
-  in_order = frames_rise (merged captures) (by_stamp_rising (arrivals_of captures));
+  in_order = (by_stamp_is_ordered (arrivals_of captures)).in_order;
   parts = λ port. by_stamp_part port (arrivals_of captures) (rw (part_of_all port captures) (rises port)) ∙ part_of_all port captures;
 }
 
@@ -141,8 +140,8 @@ placed_ordered : (a : Arrival) (arrivals : List Arrival) → AllByRecursion (λ 
 placed_ordered a [] ports ordered rising = (tt, tt)
 placed_ordered a (b ∷ arrivals) ports ordered rising =
     elim (cases_Bool (nat_le a.frame.stamp b.frame.stamp)) [
-      | inl before ↦ rw before (least (b ∷ arrivals) ports (le_true a.frame.stamp b.frame.stamp before, rest (le_true a.frame.stamp b.frame.stamp before)), ordered)
-      | inr after ↦ rw after (placed_all (λ (c : Arrival). Precedes b c) a arrivals (inl (le_false a.frame.stamp b.frame.stamp after)) ordered.0, placed_ordered a arrivals ports.1 ordered.1 rising.1)
+      | inl before ↦ rw before (least (b ∷ arrivals) ports (leb-true a.frame.stamp b.frame.stamp before, rest (leb-true a.frame.stamp b.frame.stamp before)), ordered)
+      | inr after ↦ rw after (placed_all (λ (c : Arrival). Precedes b c) a arrivals (inl (leb-false a.frame.stamp b.frame.stamp after)) ordered.0, placed_ordered a arrivals ports.1 ordered.1 rising.1)
     ] where
       rest : a.frame.stamp ≤ b.frame.stamp → AllByRecursion (λ (c : Arrival). a.frame.stamp ≤ c.frame.stamp) arrivals
       rest le = recursion_from_All (λ (c : Arrival). a.frame.stamp ≤ c.frame.stamp) arrivals

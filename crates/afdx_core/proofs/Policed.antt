@@ -1,10 +1,10 @@
 -- Accounts agree with one more arrival.
-use Rattle.std.proofs.Common.{◌≡◌, ◌≢◌, ℕ, ◌<◌, ◌≤◌, ◌==◌, nat_eq, Bool, false, List, [], ◌∷◌, ◌++◌, length, map, set, get_or, slice_index_or, ap, sym, ◌∙◌, arith, ◌+◌, ◌-◌, subst, subst₂, ⊎_elim}
+use Rattle.std.proofs.Common.{◌≡◌, ◌≢◌, ℕ, ◌<◌, ◌≤◌, nat_eq, Bool, false, List, [], ◌∷◌, ◌++◌, length, map, set, get_or, slice_index_or, ap, sym, ◌∙◌, arith, ◌+◌, ◌-◌, subst, subst₂, ⊎_elim}
 use Rattle.std.proofs.Common.{get_or-set_same, get_or-set_other}
 use Rattle.std.specs.List.{IsDistinct}
 use Rattle.std.proofs.lemmas.Map.Keys.{apart_from_distinct}
 use Rattle.std.proofs.lemmas.List.{length-map, get_or-map, length-set, get_or_default, get_or_append_left, get_or-append_right}
-use Rattle.std.proofs.lemmas.Bool.{cases_eq, cases_lt}
+use Rattle.std.proofs.lemmas.Bool.{cases_eq, cases_lt, ne_eqb}
 use Rattle.std.proofs.lemmas.Bool.Decides.{nat_tests}
 use Rattle.afdx_table.specs.Link.{Link}
 use Rattle.afdx_filter.specs.declared.outcome.Verdict.TheVariants.{Clean}
@@ -47,10 +47,8 @@ policed_other : (l : Link) (a : Account) (rows : List Row) (latest : ℕ) (row :
 policed_other l a rows latest row i agrees clean other le = record {
   terms = agrees.terms;
   since = omega (arith, agrees.since, le);
-  level = rw (account-other l.id rows row (ap (says_clean l.id) clean ∙ differs l.id i other)) agrees.level;
-} where
-  differs : (i j : ℕ) → j ≢ i → (i == j) ≡ false
-  differs i j ne = grind (arith, nat_tests)
+  level = rw (account-other l.id rows row (ap (says_clean l.id) clean ∙ ne_eqb l.id i (λ e. other (sym e)))) agrees.level;
+}
 
 -- links at two places have two numbers
 other_link : (links : List Link) (place k : ℕ) (l m : Link) → IsDistinct nat_eq (map (λ (a : Link). a.id) links) → place < length links → k < length links → (k ≡ place → ⊥)

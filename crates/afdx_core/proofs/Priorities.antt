@@ -13,29 +13,20 @@ use Rattle.afdx_port.specs.declared.Item.{Item}
 use Rattle.afdx_port.specs.declared.Sent.{Sent}
 use Rattle.afdx_port.specs.Service.{Event, sending, aging, instant, item_of, reach, service, before, sent_of}
 use Rattle.afdx_port.specs.Admission.{fits, admit, admit_all}
-use Rattle.afdx_port.specs.Inner.Course.{EventsAreOfItems}
+use Rattle.afdx_port.specs.Inner.Course.{SentIsOfItems}
 use Rattle.afdx_isolation.specs.Table.{settings_of}
 use Rattle.afdx_core.specs.declared.step.Row.{Row}
 use Rattle.afdx_core.specs.Rows.{named, passes, copy_of, copies_by, copies, each_after, feed_of}
 use Rattle.afdx_core.specs.State.{Run, port_in, sent_in}
 use Rattle.afdx_core.proofs.Isolating.{named_by}
 
--- what holds of all that is offered holds of all that is admitted, and of all that is sent
+-- what holds of all that is offered holds of all that is admitted
 pub all_admitted : (P : Item → Type 0) (s : Settings) (items feed : List Item) → All P items → All P feed → All P (admit_all s items feed)
 all_admitted P s items [] h all = h
 all_admitted P s items (x ∷ feed) h all = all_admitted P s (admit s items x) feed (by (fits s items x)) (All-tail P x feed all) where
   by : (joins : Bool) → All P (cond joins (items ++ x ∷ []) items)
   by true = All-append P items (x ∷ []) h (All-cons P x [] (All-head P x feed all) (All-nil P))
   by false = h
-
-all_sent : (P : Item → Type 0) (es : List Event) → All (λ e. P (item_of e)) es → All (λ (x : Sent). P x.item) (sent_of es)
-all_sent P [] h = All-nil (λ (x : Sent). P x.item)
-all_sent P (sending x ∷ es) h = All-cons (λ (x : Sent). P x.item) x (sent_of es) (All-head (λ e. P (item_of e)) (sending x) es h) (all_sent P es (All-tail (λ e. P (item_of e)) (sending x) es h))
-all_sent P (aging x ∷ es) h = all_sent P es (All-tail (λ e. P (item_of e)) (aging x) es h)
-
-sent_so_far : (P : Item → Type 0) (es : List Event) (finished : Bool) (h : ℕ) → All (λ e. P (item_of e)) es → All (λ (x : Sent). P x.item) (sent_of (cond finished es (before h es)))
-sent_so_far P es true h all = all_sent P es all
-sent_so_far P es false h all = all_sent P (before h es) (All-filter (λ event. nat_lt (instant event) h) (λ e. P (item_of e)) es all)
 
 abbrev IsAs : Link → Item → Type 0
 IsAs l x = x.link ≡ l.id → x.priority ≡ l.priority
@@ -61,11 +52,9 @@ module _ (links : LinksAreFound) (t : Content) (well : IsWellFormed t) (l : Link
   unfolding feed_of
   feed_is port rows = offered_are port [] rows
 
-pub have_their_priority : LinksAreFound → EventsAreOfItems → (r : Run) (p : PortRow) (l : Link) → IsWellFormed r.table → Contains r.table.links l
+pub have_their_priority : LinksAreFound → SentIsOfItems → (r : Run) (p : PortRow) (l : Link) → IsWellFormed r.table → Contains r.table.links l
     → All (λ (x : Sent). IsAs l x.item) (sent_in r (Some p))
-have_their_priority links events r p l well among =
+have_their_priority links sent r p l well among =
     let items = (port_in r p).admitted in
     let all : All (IsAs l) items = all_admitted (IsAs l) (settings_of r.table.latency p) [] (feed_of r.table p.id r.rows) (All-nil (IsAs l)) (feed_is links r.table well l among p.id r.rows) in
-    sent_so_far (IsAs l) (service (settings_of r.table.latency p) 0 items) r.finished (reach (settings_of r.table.latency p) r.latest)
-    (All-weaker (λ e. Contains items (item_of e)) (λ e. IsAs l (item_of e)) (λ e one. All-contains (IsAs l) items (item_of e) all one) (service (settings_of r.table.latency p) 0 items)
-    (events (settings_of r.table.latency p) 0 items))
+    All-weaker (λ (x : Sent). Contains items x.item) (λ (x : Sent). IsAs l x.item) (λ x one. All-contains (IsAs l) items x.item all one) (sent_in r (Some p)) (sent (port_in r p))

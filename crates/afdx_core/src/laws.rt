@@ -2,11 +2,11 @@
 
 ghost use Rattle.afdx_core.specs.Inner.Accounts.{FilteredTouchNoAccount};
 ghost use Rattle.afdx_core.specs.Inner.Agreement.{FeedIsPassed, VerdictsNameLinks, CopiesHaveTheirLinksPriority};
-ghost use Rattle.afdx_core.specs.Inner.Appended.{OneMoreFateIsAppended, NewCopiesAreAppended};
+ghost use Rattle.afdx_core.specs.Inner.Appended.{OneMoreFateIsAppended, NewCopiesAreAppended, OneMoreItemIsAppended};
 ghost use Rattle.afdx_core.specs.Inner.Backlog.{BuffersHoldTheBacklog};
 ghost use Rattle.afdx_core.specs.Isolation.{PassedCopiesArePassedFrames, AcceptedTablesIsolate, NoStepIsFull, OthersChangeNothing, RunsBegin, RunsTakeArrivals, RunsAdvance};
 ghost use Rattle.afdx_core.specs.Isolation.{RunsHandOut, RunsFinish};
-ghost use Rattle.afdx_core.specs.Inner.Merge.{MergedIsAMerge, MergedIsByStampAndPort};
+ghost use Rattle.afdx_core.specs.Inner.Merge.{ByStampIsOrdered, MergedIsAMerge, MergedIsByStampAndPort};
 
 use afdx_account::laws::{
     next_frame_joins_where_it_conforms, next_joins_where_it_conforms, passed_by_their_frames,
@@ -25,10 +25,12 @@ pub fn feed_is_passed()
     next_frame_joins_where_it_conforms();
 }
 
-/// One more arrival adds its fate, and the copies that a port may be offered of it, behind those of the arrivals before it.
+/// One more arrival adds its fate, and the copies that a port may be offered of it, behind those of the arrivals before
+/// it; so does one more copy what each of a list of copies and those before it give.
 pub fn one_more_arrival_is_appended()
     ensures fate { OneMoreFateIsAppended }
     ensures copies { NewCopiesAreAppended }
+    ensures items { OneMoreItemIsAppended }
 {}
 
 /// The verdict on a clean frame names a link of the table, and no other verdict names one.
@@ -49,6 +51,11 @@ pub fn copies_have_their_links_priority()
 /// The accounts of the links are as they were after an arrival that is no link's.
 pub fn filtered_touch_no_account()
     ensures { FilteredTouchNoAccount }
+{}
+
+/// Arrivals by stamp are of the arrivals, and their stamps do not fall, whatever the captures hold.
+pub fn by_stamp_is_ordered()
+    ensures { ByStampIsOrdered }
 {}
 
 /// Where no port's stamps fall, the program's merge is a merge.

@@ -30,7 +30,7 @@ use Rattle.afdx_core.specs.declared.step.Row.{Row}
 use Rattle.afdx_core.specs.declared.step.Fate.TheVariants.{Passed, Policed}
 use Rattle.afdx_core.specs.Rows.{each_after, fates_of, feed_of, fate_of, fate_by, named, passes, copy_of, copies_by, copies}
 use Rattle.afdx_core.specs.State.{Run, answer_of, offers_by, offers_of, step_of, sent_in, aged_in, after_finish}
-use Rattle.afdx_core.specs.Inner.Appended.{OneMoreFateIsAppended, NewCopiesAreAppended}
+use Rattle.afdx_core.specs.Inner.Appended.{OneMoreFateIsAppended, NewCopiesAreAppended, OneMoreItemIsAppended}
 use Rattle.afdx_isolation.specs.Table.{settings_of}
 use Rattle.afdx_count.specs.declared.counters.InCount.{InCount}
 use Rattle.afdx_count.specs.declared.ports.PortTally.{PortTally}
@@ -107,7 +107,7 @@ class-is t rows l is =
     ap (option_map (λ (m : LinkTally). m.priority)) (find_at (λ (m : LinkTally). m.id == l.id) (map (link_tally t rows) t.links) ∙ ap (slice_get (map (link_tally t rows) t.links)) place
     ∙ slice_get-map (link_tally t rows) t.links _ ∙ ap (option_map (link_tally t rows)) (sym (find_at (λ (k : Link). k.id == l.id) t.links) ∙ is))
 
-module _ (r : Run) (row : Row) (p : PortRow) where
+module _ (one_item : OneMoreItemIsAppended) (r : Run) (row : Row) (p : PortRow) where
   abbrev feed : List Item
   feed = feed_of r.table p.id r.rows
 
@@ -128,12 +128,12 @@ module _ (r : Run) (row : Row) (p : PortRow) where
   one_added High false input x is = ap (with_feed input) (sym (append-nil feed))
   one_added Low false input x is = ap (with_feed input) (sym (append-nil feed))
   one_added High true input x is =
-      let e1 = one_offered High (settings_of r.table.latency p) feed x [] (ap (is_of High) is) in
-      let e2 = other_offered Low (settings_of r.table.latency p) feed x [] (ap (is_of Low) is) in
+      let e1 = one_offered one_item High (settings_of r.table.latency p) feed x [] (ap (is_of High) is) in
+      let e2 = other_offered one_item Low (settings_of r.table.latency p) feed x [] (ap (is_of Low) is) in
       (λ j. record { id = p.id; input = input; high = sym e1 j; low = sym e2 j })
   one_added Low true input x is =
-      let e1 = other_offered High (settings_of r.table.latency p) feed x [] (ap (is_of High) is) in
-      let e2 = one_offered Low (settings_of r.table.latency p) feed x [] (ap (is_of Low) is) in
+      let e1 = other_offered one_item High (settings_of r.table.latency p) feed x [] (ap (is_of High) is) in
+      let e2 = one_offered one_item Low (settings_of r.table.latency p) feed x [] (ap (is_of Low) is) in
       (λ j. record { id = p.id; input = input; high = sym e1 j; low = sym e2 j })
 
   copied : (input : InCount) → IsWellFormed r.table → port_row r.table p.id ≡ Some p
@@ -182,10 +182,10 @@ module _ (r : Run) (row : Row) (p : PortRow) where
 
 -- ---- the laws
 
-pub note_counts_one_more : OneMoreFateIsAppended → NewCopiesAreAppended → NoteCountsOneMore
-note_counts_one_more one_fate new_copies r row formed =
+pub note_counts_one_more : OneMoreFateIsAppended → NewCopiesAreAppended → OneMoreItemIsAppended → NoteCountsOneMore
+note_counts_one_more one_fate new_copies one_item r row formed =
     let ports = map_twice (port_counts r.table r.rows (λ q. [])) (noted_port (class_of (fate_of r.table r.rows row) (map (link_tally r.table r.rows) r.table.links)) (step_of r row)) r.table.ports
-    ∙ map_all _ _ (port_counts r.table (r.rows ++ row ∷ []) (λ q. [])) r.table.ports (ports_found r.table.ports formed.ports_rise) (λ p found. port-push r row p new_copies formed found) in
+    ∙ map_all _ _ (port_counts r.table (r.rows ++ row ∷ []) (λ q. [])) r.table.ports (ports_found r.table.ports formed.ports_rise) (λ p found. port-push one_item r row p new_copies formed found) in
     let links = map_twice (link_tally r.table r.rows) (noted_link (fate_of r.table r.rows row)) r.table.links
     ∙ (λ j. map (λ l. link-push one_fate r.table r.rows row l j) r.table.links) in
     (λ j. record { ports = ports j; links = links j })

@@ -1,5 +1,5 @@
 -- The counts of one arrival more.
-use Rattle.std.proofs.Common.{◌≡◌, ℕ, ◌+◌, nat_eq, Bool, true, false, cond, List, [], ◌∷◌, ◌++◌, length, Option, Some, None, refl, sym, ap, ◌∙◌, arith, append_assoc, length-append, inl, inr}
+use Rattle.std.proofs.Common.{◌≡◌, ℕ, ◌+◌, nat_eq, Bool, true, false, cond, List, [], ◌∷◌, ◌++◌, length, Option, Some, None, refl, sym, ap, ◌∙◌, arith, length-append, inl, inr}
 use Rattle.std.specs.Prelude.{count_by}
 use Rattle.std.proofs.lemmas.Bool.{cases_Bool}
 use Rattle.std.proofs.lemmas.List.{append-nil}
@@ -20,8 +20,8 @@ use Rattle.afdx_port.specs.Content.{answers_full}
 use Rattle.afdx_core.specs.declared.step.Row.{Row}
 use Rattle.afdx_core.specs.declared.step.Fate.{Fate}
 use Rattle.afdx_core.specs.declared.step.Fate.TheVariants.{Filtered, Policed, Passed}
-use Rattle.afdx_core.specs.Rows.{each_after, fates_of, fate_of, fate_by, named, passes}
-use Rattle.afdx_core.specs.Inner.Appended.{OneMoreFateIsAppended}
+use Rattle.afdx_core.specs.Rows.{fates_of, fate_of, fate_by, named, passes}
+use Rattle.afdx_core.specs.Inner.Appended.{OneMoreFateIsAppended, OneMoreItemIsAppended}
 use Rattle.afdx_count.specs.declared.counters.InCount.{InCount}
 use Rattle.afdx_count.specs.declared.counters.LinkCount.{LinkCount}
 use Rattle.afdx_count.specs.declared.links.LinkTally.{LinkTally}
@@ -29,12 +29,6 @@ use Rattle.afdx_count.specs.Counting.{capped, up, with_verdict, with_fate, verdi
 use Rattle.afdx_count.specs.Tally.{noted_link}
 use Rattle.afdx_count.specs.Run.{counted, is_partial, is_short, is_long, is_foreign, has_no_link, is_at_wrong_port, is_too_big, is_clean, arrivals_at, input_counts, is_passed, is_policed, link_counts}
 use Rattle.afdx_count.specs.Run.{turned_away, of_priority, output_counts, link_tally}
-
-pub each-push : {X Y : Type 0} (f : List X → X → List Y) (before xs : List X) (x : X) → each_after f before (xs ++ x ∷ []) ≡ each_after f before xs ++ f (before ++ xs) x
-each-push f before [] x = append-nil (f before x) ∙ ap (λ b. f b x) (sym (append-nil before))
-each-push f before (y ∷ xs) x =
-    ap (λ r. f before y ++ r) (each-push f (before ++ y ∷ []) xs x ∙ ap (λ b. each_after f (before ++ y ∷ []) xs ++ f b x) (append_assoc before (y ∷ []) xs))
-    ∙ sym (append_assoc (f before y) (each_after f (before ++ y ∷ []) xs) (f (before ++ y ∷ xs) x))
 
 capped_more : (whole n one : ℕ) → whole ≡ n + one → capped whole ≡ capped (capped n + one)
 capped_more whole n one is = omega (arith, is)
@@ -169,9 +163,9 @@ link-push appended t rows row l =
 
 -- ---- the copies at an output port
 
-turned-push : (s : Settings) (feed : List Item) (x : Item) → turned_away s (feed ++ x ∷ []) ≡ turned_away s feed ++ cond (fits s (admitted s feed) x) [] (x ∷ [])
+turned-push : OneMoreItemIsAppended → (s : Settings) (feed : List Item) (x : Item) → turned_away s (feed ++ x ∷ []) ≡ turned_away s feed ++ cond (fits s (admitted s feed) x) [] (x ∷ [])
 unfolding turned_away
-turned-push s feed x = each-push (λ before y. cond (fits s (admitted s before) y) [] (y ∷ [])) [] feed x
+turned-push one_item s feed x = one_item (λ before y. cond (fits s (admitted s before) y) [] (y ∷ [])) feed x
 
 of_priority-push : (priority : Priority) (items : List Item) (x : Item) → of_priority priority (items ++ x ∷ [])
     ≡ cond (is_of priority x.priority) (up (of_priority priority items)) (of_priority priority items)
@@ -181,11 +175,11 @@ of_priority-push priority items x = counted-push (λ (item : Item). is_of priori
 abbrev pub answer_after : Settings → List Item → Item → Offer
 answer_after s feed x = cond (fits s (admitted s feed) x) Queued Full
 
-pub one_offered : (priority : Priority) (s : Settings) (feed : List Item) (x : Item) (events : List Event) → is_of priority x.priority ≡ true
+pub one_offered : OneMoreItemIsAppended → (priority : Priority) (s : Settings) (feed : List Item) (x : Item) (events : List Event) → is_of priority x.priority ≡ true
     → output_counts priority s (feed ++ x ∷ []) events ≡ with_answers (answer_after s feed x ∷ []) (output_counts priority s feed events)
-one_offered priority s feed x events is =
+one_offered one_item priority s feed x events is =
     let e1 = of_priority-push priority feed x ∙ ap (λ b. cond b (up (of_priority priority feed)) (of_priority priority feed)) is in
-    let e2 = ap (of_priority priority) (turned-push s feed x) ∙ by_fit (fits s (admitted s feed) x) in
+    let e2 = ap (of_priority priority) (turned-push one_item s feed x) ∙ by_fit (fits s (admitted s feed) x) in
     (λ j. record { offered = e1 j; full = e2 j; aged = counted (λ a. is_of priority a.item.priority) (aged_of events); sent = counted (λ e. is_of priority e.item.priority) (sent_of events) }) where
       by_fit : (b : Bool) → of_priority priority (turned_away s feed ++ cond b [] (x ∷ [])) ≡ capped (of_priority priority (turned_away s feed) + count_by answers_full (cond b Queued Full ∷ []))
       by_fit true = ap (of_priority priority) (append-nil (turned_away s feed)) ∙ capped_zero (count_by (λ (item : Item). is_of priority item.priority) (turned_away s feed)) where
@@ -193,11 +187,11 @@ one_offered priority s feed x events is =
         capped_zero n = omega arith
       by_fit false = of_priority-push priority (turned_away s feed) x ∙ ap (λ b. cond b (up (of_priority priority (turned_away s feed))) (of_priority priority (turned_away s feed))) is
 
-pub other_offered : (priority : Priority) (s : Settings) (feed : List Item) (x : Item) (events : List Event) → is_of priority x.priority ≡ false
+pub other_offered : OneMoreItemIsAppended → (priority : Priority) (s : Settings) (feed : List Item) (x : Item) (events : List Event) → is_of priority x.priority ≡ false
     → output_counts priority s (feed ++ x ∷ []) events ≡ output_counts priority s feed events
-other_offered priority s feed x events is =
+other_offered one_item priority s feed x events is =
     let e1 = of_priority-push priority feed x ∙ ap (λ b. cond b (up (of_priority priority feed)) (of_priority priority feed)) is in
-    let e2 = ap (of_priority priority) (turned-push s feed x) ∙ by_fit (fits s (admitted s feed) x) in
+    let e2 = ap (of_priority priority) (turned-push one_item s feed x) ∙ by_fit (fits s (admitted s feed) x) in
     (λ j. record { offered = e1 j; full = e2 j; aged = counted (λ a. is_of priority a.item.priority) (aged_of events); sent = counted (λ e. is_of priority e.item.priority) (sent_of events) }) where
       by_fit : (b : Bool) → of_priority priority (turned_away s feed ++ cond b [] (x ∷ [])) ≡ of_priority priority (turned_away s feed)
       by_fit true = ap (of_priority priority) (append-nil (turned_away s feed))

@@ -49,16 +49,6 @@ module _ (s : Settings) (demand : Demand) where
   items_sent (sending x ∷ es) h = ap (λ xs. x.item ∷ xs) (items_sent es (All-tail (IsTimely s demand) (sending x) es h))
   items_sent (aging x ∷ es) h = absurd (All-head (IsTimely s demand) (aging x) es h)
 
--- what is sent is of the items of the events
-of_sent : (P : Item → Type 0) (es : List Event) → All (λ e. P (item_of e)) es → All (λ (x : Sent). P x.item) (sent_of es)
-of_sent P [] h = All-nil (λ (x : Sent). P x.item)
-of_sent P (sending x ∷ es) h = All-cons (λ (x : Sent). P x.item) x (sent_of es) (All-head (λ e. P (item_of e)) (sending x) es h) (of_sent P es (All-tail (λ e. P (item_of e)) (sending x) es h))
-of_sent P (aging x ∷ es) h = of_sent P es (All-tail (λ e. P (item_of e)) (aging x) es h)
-
-of_carried_out : (P : Item → Type 0) (es : List Event) (finished : Bool) (h : ℕ) → All (λ e. P (item_of e)) es → All (λ (x : Sent). P x.item) (sent_of (cond finished es (before h es)))
-of_carried_out P es true h all = of_sent P es all
-of_carried_out P es false h all = of_sent P (before h es) (All-filter (λ event. nat_lt (instant event) h) (λ e. P (item_of e)) es all)
-
 module _ (g : Ground) (s : Settings) (demand : Demand) (items : List Item) (timely : All (IsTimely s demand) (service s 0 items)) where
   carried_out : (finished : Bool) (h : ℕ) → All (IsTimely s demand) (cond finished (service s 0 items) (before h (service s 0 items)))
   carried_out true h = timely
@@ -90,13 +80,12 @@ isolated_so_far g c flows arrivals arrive carries is =
     let timely : All (IsTimely s demand) (service s 0 c.admitted) = subst (λ xs. All (IsTimely s demand) (service s 0 xs)) (sym is) all.timely in
     let full = is ∙ all.none_full in
     let of : All (IsOfAFlow flows) c.admitted = subst (λ xs. All (IsOfAFlow flows) xs) (sym full) (kept g s flows arrivals arrive carries.rate).of_flows in
-    let of_events = All-weaker (λ e. Contains c.admitted (item_of e)) (λ e. IsOfAFlow flows (item_of e)) (λ e among. All-contains (IsOfAFlow flows) c.admitted (item_of e) of among)
-    (service s 0 c.admitted) (g.events s 0 c.admitted) in
     let so_far = carried_out g s demand c.admitted timely c.finished (reach s c.horizon) in
     record {
       none_full = full;
       none_aged = none_aged s demand (done c) so_far;
-      of_flows = of_carried_out (IsOfAFlow flows) (service s 0 c.admitted) c.finished (reach s c.horizon) of_events;
+      of_flows = All-weaker (λ (x : Sent). Contains c.admitted x.item) (λ (x : Sent). IsOfAFlow flows x.item) (λ x among. All-contains (IsOfAFlow flows) c.admitted x.item of among) (sent_of (done c))
+          (g.sent c);
       in_bound = all_in_bound s demand (done c) so_far;
       prefix = λ flow among.
           prefix g s demand c.admitted timely flow.id (passed flow arrivals) (ap (λ xs. own flow.id (map item_of (service s 0 xs))) is ∙ all.exactly_passed flow among) c.finished (reach s c.horizon);

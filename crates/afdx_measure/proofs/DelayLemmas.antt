@@ -3,8 +3,7 @@ use Rattle.std.proofs.Common.{◌≡◌, ◌≢◌, ℕ, ◌+◌, ◌<◌, ◌�
 use Rattle.std.proofs.Common.{length, take, get_or, set, replicate, map, refl, sym, ap, subst, ◌∙◌, arith, append-nil, inl, inr}
 use Rattle.std.specs.Prelude.{filter}
 use Rattle.std.specs.List.{fold}
-use Rattle.std.proofs.lemmas.Bool.{cases_lt, eq-eqb}
-use Rattle.std.proofs.lemmas.Bool.Decides.{nat_tests}
+use Rattle.std.proofs.lemmas.Bool.{cases_lt, eq-eqb, ne_eqb}
 use Rattle.std.proofs.lemmas.List.{length-set, length-take, length-replicate, map-append, get_or-set_same, get_or-set_other, get_or-replicate, take_more}
 use Rattle.std.proofs.lemmas.List.Elements.{filter-append}
 use Rattle.afdx_port.specs.declared.Sent.{Sent}
@@ -25,12 +24,9 @@ with_copy link sent x =
 of_the_link : (sent : List Sent) (x : Sent) → delays_of x.item.link (sent ++ x ∷ []) ≡ delays_of x.item.link sent ++ delay_of x ∷ []
 of_the_link sent x = with_copy x.item.link sent x ∙ ap (λ (b : Bool). delays_of x.item.link sent ++ map delay_of (cond b (x ∷ []) [])) (eq-eqb x.item.link x.item.link refl)
 
-other : (a b : ℕ) → b ≢ a → (a == b) ≡ false
-other a b h = grind (arith, nat_tests)
-
 of_another : (link : ℕ) (sent : List Sent) (x : Sent) → link ≢ x.item.link → delays_of link (sent ++ x ∷ []) ≡ delays_of link sent
 of_another link sent x h =
-    with_copy link sent x ∙ ap (λ (b : Bool). delays_of link sent ++ map delay_of (cond b (x ∷ []) [])) (other x.item.link link h) ∙ append-nil (delays_of link sent)
+    with_copy link sent x ∙ ap (λ (b : Bool). delays_of link sent ++ map delay_of (cond b (x ∷ []) [])) (ne_eqb x.item.link link (λ e. h (sym e))) ∙ append-nil (delays_of link sent)
 
 -- there are no more than were sent
 fewer : (link : ℕ) (sent : List Sent) → length (delays_of link sent) ≤ length sent

@@ -1,5 +1,5 @@
 -- How late a frame can be in a network: each switch and the cable behind it take at most 501 ms, and a way has at most 64 of them.
-use Rattle.std.proofs.Common.{◌≡◌, ℕ, suc, ◌+◌, ◌*◌, ◌≤◌, ◌==◌, nat_le, Bool, true, false, cond, List, [], ◌∷◌, ◌++◌}
+use Rattle.std.proofs.Common.{◌≡◌, ℕ, suc, ◌+◌, ◌*◌, ◌≤◌, ◌==◌, Bool, true, false, cond, List, [], ◌∷◌, ◌++◌}
 use Rattle.std.proofs.Common.{length, map, filter, get_or, slice_get, Option, Some, None, refl, ap, sym, ◌∙◌, arith, subst}
 use Rattle.std.specs.Prelude.{All, Contains}
 use Rattle.std.specs.List.{AllByRecursion}
@@ -15,7 +15,8 @@ use Rattle.afdx_table.specs.declared.rows.PortRow.{PortRow}
 use Rattle.afdx_table.specs.Link.{Link, leads_to}
 use Rattle.afdx_filter.specs.Verdict.{verdict_of}
 use Rattle.afdx_core.specs.Rows.{says_clean}
-use Rattle.afdx_core.specs.Merge.{Arrival, Capture, records_of, arrivals_of, placed, by_stamp, merged}
+use Rattle.afdx_core.specs.Merge.{Arrival, Capture, records_of, arrivals_of, merged}
+use Rattle.afdx_core.specs.Inner.Merge.{ByStampIsOrdered}
 use Rattle.afdx_session.specs.Texts.{Text}
 use Rattle.afdx_session.specs.Reading.{AreCaptures}
 use Rattle.afdx_session.specs.Output.{output_of, output_text}
@@ -74,17 +75,6 @@ arrivals_all P (c ∷ read) each =
       from_test : (rs : List Record) (b : Bool) → b ≡ true → AllByRecursion P (cond b rs []) → AllByRecursion P rs
       from_test rs true is all = all
       from_test rs false is all = absurd cc
-
-placed_all : (P : Arrival → Type 0) (a : Arrival) (arrivals : List Arrival) → P a → AllByRecursion P arrivals → AllByRecursion P (placed a arrivals)
-placed_all P a [] here all = (here, tt)
-placed_all P a (b ∷ arrivals) here all = by (placed_all P a arrivals here all.1) (nat_le a.frame.stamp b.frame.stamp) where
-  by : AllByRecursion P (placed a arrivals) → (before : Bool) → AllByRecursion P (cond before (a ∷ b ∷ arrivals) (b ∷ placed a arrivals))
-  by rest true = (here, all)
-  by rest false = (all.0, rest)
-
-merged_all : (P : Arrival → Type 0) (arrivals : List Arrival) → AllByRecursion P arrivals → AllByRecursion P (by_stamp arrivals)
-merged_all P [] all = tt
-merged_all P (a ∷ arrivals) all = placed_all P a (by_stamp arrivals) all.0 (merged_all P arrivals all.1)
 
 -- the same texts have one reading
 one_reading : ((bytes : List ℕ) (rs qs : List Record) → IsCapture bytes rs → IsCapture bytes qs → rs ≡ qs) → (texts : List Text) (read other : List Capture)
@@ -212,19 +202,19 @@ pub record Further : Type 0 where
   pub written : (rs : List Record) → AreReadable 0 rs → All IsWithinLimit rs → IsCapture (capture_text rs) rs
   pub unique : (bytes : List ℕ) (rs qs : List Record) → IsCapture bytes rs → IsCapture bytes qs → rs ≡ qs
 
-pub none_is_late : Ground → Further → (net : Network) (given : Given) (runs : List SwitchRun) → IsAcceptedRun net given runs → NoneComesLate given
+pub none_is_late : ByStampIsOrdered → Ground → Further → (net : Network) (given : Given) (runs : List SwitchRun) → IsAcceptedRun net given runs → NoneComesLate given
     → (run : SwitchRun) (text : Text) → Contains runs run → Contains run.results.captures text → (records : List Record) × IsCapture text.1 records
-none_is_late g f net given runs acc early run text among has =
+none_is_late ordered g f net given runs acc early run text among has =
     let n = among.0 in
     let is : slice_get runs n ≡ Some run = slice_get_read runs (length runs) n run refl among.1 (sym among.2) in
     let read = run.outcome.read in
     let same : run.isolated.read ≡ read = one_reading f.unique run.texts run.isolated.read read run.isolated.are_read run.outcome.are_read in
-    let came : AllByRecursion (λ (a : Arrival). a.frame.stamp + second ≤ last_second) (merged read)
-    = merged_all (λ (a : Arrival). a.frame.stamp + second ≤ last_second) (arrivals_of read)
-    (recursion_from_All (λ (a : Arrival). a.frame.stamp + second ≤ last_second) (arrivals_of read)
-    (arrivals_all (λ (q : Record). q.stamp + second ≤ last_second) read
+    let IsSoon : Arrival → Type 0 = λ a. a.frame.stamp + second ≤ last_second in
+    let all : All IsSoon (arrivals_of read) = arrivals_all (λ (q : Record). q.stamp + second ≤ last_second) read
     (λ port. subst (λ (captures : List Capture). AllByRecursion (λ (q : Record). q.stamp + second ≤ last_second) (records_of captures port)) same
-    (came_early g f.short net given runs acc early n port run is)))) in
+    (came_early g f.short net given runs acc early n port run is)) in
+    let came : AllByRecursion IsSoon (merged read) = recursion_from_All IsSoon (merged read)
+    (All-weaker (Contains (arrivals_of read)) IsSoon (λ a among. All-contains IsSoon (arrivals_of read) a all among) (merged read) (ordered (arrivals_of read)).among) in
     let known = subst (λ (texts : List Text). Contains texts text) run.outcome.captures has in
     let h = All-map (λ (t : Text). (p : PortRow) × Contains run.table.ports p × (t ≡ (p.id, output_text run.table (merged read) p)))
     (λ (p : PortRow). (p.id, output_text run.table (merged read) p)) run.table.ports (λ k d lt. (get_or run.table.ports k d, Contains-get_or run.table.ports k d lt, refl)) known.0 text known.1 in

@@ -5,7 +5,7 @@ ghost use Rattle.afdx_network.specs.Laws.{RestIsAgreement, WaysAreShort, NoneIsL
 ghost use Rattle.afdx_network.specs.Way.{WaysDeliver, OthersChangeNothingOnTheWay};
 
 use afdx_account::laws::passed_by_their_frames;
-use afdx_core::laws::verdicts_name_links;
+use afdx_core::laws::{by_stamp_is_ordered, verdicts_name_links};
 use afdx_filter::laws::clean_exactly;
 use afdx_load::laws::accepted_keeps_bounds;
 use afdx_pcap::Record;
@@ -106,6 +106,7 @@ pub fn ways_are_short()
 pub fn none_is_late()
     ensures { NoneIsLate }
 {
+    by_stamp_is_ordered();
     clean_exactly();
     verdicts_name_links();
     links_are_found();

@@ -1,11 +1,13 @@
 -- The line at an instant: it goes on, takes arrivals, and has the events that are left.
-use Rattle.std.proofs.Common.{◌≡◌, ℕ, ◌+◌, ◌-◌, ◌≤◌, false, List, [], ◌∷◌, ◌++◌, length, Some, refl, ap, sym, ◌∙◌, arith}
-use Rattle.std.specs.Prelude.{max, not, sum_by, slice_get, All, Contains}
+use Rattle.std.proofs.Common.{◌≡◌, ℕ, ◌+◌, ◌-◌, ◌≤◌, Bool, true, false, cond, List, [], ◌∷◌, ◌++◌, length, Some, refl, ap, sym, ◌∙◌, arith}
+use Rattle.std.specs.Prelude.{max, not, nat_lt, sum_by, slice_get, All, Contains}
 use Rattle.std.specs.Option.{option_map}
-use Rattle.std.proofs.lemmas.List.Elements.{All-head, All-weaker, All-append, All-filter, Contains-get_or, filter-append}
+use Rattle.std.proofs.lemmas.List.Elements.{All-nil, All-cons, All-head, All-tail, All-weaker, All-append, All-filter, Contains-get_or, filter-append}
 use Rattle.afdx_port.specs.declared.Settings.{Settings}
 use Rattle.afdx_port.specs.declared.Item.{Item}
-use Rattle.afdx_port.specs.Service.{Event, instant, came, item_of, free_after, fate, next, others, in_turn, service, before}
+use Rattle.afdx_port.specs.declared.Sent.{Sent}
+use Rattle.afdx_port.specs.Service.{Event, sending, aging, instant, came, item_of, reach, free_after, fate, next, others, in_turn, service, before, sent_of}
+use Rattle.afdx_port.specs.Content.{Content, done}
 use Rattle.afdx_units.specs.Line.{is_high}
 use Rattle.afdx_port.specs.Inner.Progress.{LineState, left, is_due}
 use Rattle.afdx_port.specs.Inner.Order.{in_line, highs, lows, line_up}
@@ -143,6 +145,22 @@ module _ (s : Settings) (t : ℕ) (items : List Item) where
 
 pub events_of_items : (s : Settings) (free : ℕ) (items : List Item) → All (λ event. Contains items (item_of event)) (service s free items)
 events_of_items s free items = service_all_by (length items) (Contains items) s free items refl (λ k d lt. Contains-get_or items k d lt)
+
+sent_all : (P : Item → Type 0) (events : List Event) → All (λ event. P (item_of event)) events → All (λ (sent : Sent). P sent.item) (sent_of events)
+sent_all P [] all = All-nil (λ (sent : Sent). P sent.item)
+sent_all P (sending x ∷ events) all =
+    All-cons (λ (sent : Sent). P sent.item) x (sent_of events) (All-head (λ event. P (item_of event)) (sending x) events all)
+    (sent_all P events (All-tail (λ event. P (item_of event)) (sending x) events all))
+sent_all P (aging x ∷ events) all = sent_all P events (All-tail (λ event. P (item_of event)) (aging x) events all)
+
+pub sent_of_items : (c : Content) → All (λ (sent : Sent). Contains c.admitted sent.item) (sent_of (done c))
+sent_of_items c = sent_all (Contains c.admitted) (done c) (by c.finished) where
+  all : List Event
+  all = service c.settings 0 c.admitted
+
+  by : (finished : Bool) → All (λ event. Contains c.admitted (item_of event)) (cond finished all (before (reach c.settings c.horizon) all))
+  by true = events_of_items c.settings 0 c.admitted
+  by false = All-filter (λ event. nat_lt (instant event) (reach c.settings c.horizon)) (λ event. Contains c.admitted (item_of event)) all (events_of_items c.settings 0 c.admitted)
 
 -- the first event behind those that were carried out
 pub due_at : (xs ys : List Event) → option_map instant (slice_get (xs ++ ys) (length xs)) ≡ option_map instant (slice_get ys 0)

@@ -11,7 +11,7 @@ use Rattle.afdx_core.specs.Rows.{frame_of_row}
 use Rattle.afdx_core.specs.State.{Run}
 use Rattle.afdx_core.specs.Isolation.{IsOfAnArrival, IsRun}
 use Rattle.afdx_core.specs.Merge.{Arrival}
-use Rattle.afdx_core.specs.Inner.Merge.{AreInOrder}
+use Rattle.afdx_core.specs.Inner.Merge.{AreInOrder, ByStampIsOrdered}
 use Rattle.afdx_session.specs.Texts.{Text}
 use Rattle.afdx_session.specs.Reading.{AreMerged}
 use Rattle.afdx_session.specs.Output.{rows_of}
@@ -38,9 +38,9 @@ rows_by t (a ∷ arrivals) all = (let lt = all.0 in omega (arith, lt), rows_by t
 abbrev pub run_of : Content → List Arrival → Run
 run_of t arrivals = record { table = t; rows = rows_of t arrivals; latest = last_second; handed = []; finished = true }
 
-pub arrivals_are_a_run : (t : Content) (texts : List Text) (arrivals : List Arrival) → AreMerged texts arrivals → IsRun (run_of t arrivals)
-arrivals_are_a_run t texts arrivals are = record {
+pub arrivals_are_a_run : ByStampIsOrdered → (t : Content) (texts : List Text) (arrivals : List Arrival) → AreMerged texts arrivals → IsRun (run_of t arrivals)
+arrivals_are_a_run ordered t texts arrivals are = record {
   arrivals = All-from_recursion (IsOfAnArrival t) (rows_of t arrivals) (rows_are t arrivals);
-  stamps = rows_in_order t 0 arrivals (from_zero arrivals) (merged_in_order texts arrivals are);
-  latest = All-from_recursion (λ (row : Row). row.stamp ≤ last_second) (rows_of t arrivals) (rows_by t arrivals (merged_early texts arrivals are));
+  stamps = rows_in_order t 0 arrivals (from_zero arrivals) (merged_in_order ordered texts arrivals are);
+  latest = All-from_recursion (λ (row : Row). row.stamp ≤ last_second) (rows_of t arrivals) (rows_by t arrivals (merged_early ordered texts arrivals are));
 }

@@ -20,6 +20,7 @@ use Rattle.afdx_core.specs.declared.step.Row.{Row}
 use Rattle.afdx_core.specs.Rows.{row_of, named, passes, copy_of, copies_by, copies, each_after, feed_of}
 use Rattle.afdx_core.specs.State.{State}
 use Rattle.afdx_core.specs.Merge.{Arrival, arrivals_of, merged}
+use Rattle.afdx_core.specs.Inner.Merge.{ByStampIsOrdered}
 use Rattle.afdx_count.specs.Tally.{Tally}
 use Rattle.afdx_session.specs.declared.lane.Lane.{Lane}
 use Rattle.afdx_session.specs.Output.{rows_of, bytes_at, written}
@@ -128,10 +129,11 @@ texts_long given (x ∷ sent) all =
     let both = length-append (record_text r) (flat_map record_text (map (written given) sent)) in
     omega (arith, head, bytes, one, more, both)
 
-pub text_bound : {Z : Type 0} (t : Content) (lanes : List (Lane Z)) (s : State) (counts : Tally) (going : IsGoing t lanes s counts) (p : PortRow)
+pub text_bound : {Z : Type 0} → ByStampIsOrdered → (t : Content) (lanes : List (Lane Z)) (s : State) (counts : Tally) (going : IsGoing t lanes s counts) (p : PortRow)
     → length (text_up_to t going.given going.since p) < 2 ^ 128
-text_bound t lanes s counts going p =
-    let all : AllByRecursion SmallArrival (merged_so_far going.streams) = by_stamp_every SmallArrival (arrivals_of (captures_of going.streams)) (arrivals_small lanes going.streams going.lanes_are) in
+text_bound ordered t lanes s counts going p =
+    let all : AllByRecursion SmallArrival (merged_so_far going.streams) =
+    by_stamp_every ordered SmallArrival (arrivals_of (captures_of going.streams)) (arrivals_small lanes going.streams going.lanes_are) in
     let given : AllByRecursion SmallArrival going.given = all_prefix SmallArrival going.given (merged (map waiting_of lanes)) (subst (AllByRecursion SmallArrival) going.settling.whole all) in
     let sent = sent_up_to t going.given (Some going.since) p in
     let few = sent_few t going.given going.since p in

@@ -10,7 +10,7 @@ use Rattle.afdx_table.specs.Content.{Content}
 use Rattle.afdx_core.specs.State.{Run, State, after_advance}
 use Rattle.afdx_core.specs.Held.{Keeps}
 use Rattle.afdx_core.specs.Merge.{Arrival}
-use Rattle.afdx_core.specs.Inner.Merge.{MergedIsAMerge, MergedIsByStampAndPort}
+use Rattle.afdx_core.specs.Inner.Merge.{ByStampIsOrdered, MergedIsAMerge, MergedIsByStampAndPort}
 use Rattle.afdx_count.specs.Tally.{Tally}
 use Rattle.afdx_pcap.specs.Record.{Record}
 use Rattle.afdx_pcap.specs.Capture.{IsCapture}
@@ -48,12 +48,12 @@ pub handed_same : (adv next : State) → HandsOut adv next → IsOfSameTable adv
 handed_same adv next hands = record { table = hands.table; accepted = hands.accepted; handed = hands.handed }
 
 -- it came to the frontier
-pub machine_comes : {Z : Type 0} (mid : Machine Z) (adv : State) (limit : Option (ℕ × ℕ)) (to : ℕ) (first : Option (ℕ × ℕ)) → IsGoing mid.switch.run.table mid.lanes.items mid.switch mid.counts → limit
-    ≡ limit_at mid.lanes.items
+pub machine_comes : {Z : Type 0} → ByStampIsOrdered → (mid : Machine Z) (adv : State) (limit : Option (ℕ × ℕ)) (to : ℕ) (first : Option (ℕ × ℕ))
+    → IsGoing mid.switch.run.table mid.lanes.items mid.switch mid.counts → limit ≡ limit_at mid.lanes.items
     → NoneGoes (limit_at mid.lanes.items) mid.lanes.items first → to ≡ come_to (option_map (λ (p : ℕ × ℕ). p.0) limit) → adv.run ≡ after_advance to mid.switch.run → Keeps mid.switch adv
     → HasCome mid.switch.run.table mid.lanes.items adv mid.counts
-machine_comes mid adv limit to first going is none to_is run keeps =
-    comes_on mid.switch.run.table mid.lanes.items mid.switch adv mid.counts first to going none (to_is ∙ ap (λ o. come_to (option_map (λ (p : ℕ × ℕ). p.0) o)) is) run keeps
+machine_comes ordered mid adv limit to first going is none to_is run keeps =
+    comes_on ordered mid.switch.run.table mid.lanes.items mid.switch adv mid.counts first to going none (to_is ∙ ap (λ o. come_to (option_map (λ (p : ℕ × ℕ). p.0) o)) is) run keeps
 
 -- that is no going back
 pub machine_no_back : {Z : Type 0} (mid : Machine Z) (limit : Option (ℕ × ℕ)) (to : ℕ) → IsGoing mid.switch.run.table mid.lanes.items mid.switch mid.counts → limit ≡ limit_at mid.lanes.items → to
@@ -137,12 +137,12 @@ half_ended lanes k old new at still undone bytes = half_at lanes k old new at (e
 pub half_of_table : {Z : Type 0} (t : Content) (old new : List (Lane Z)) → AreHalfDone old new → AreOfTable t old → AreOfTable t new
 half_of_table t old new half of = still_of_table t old new (half_ports old new half) of
 
-pub lane_reads_on : {Z : Type 0} → MergedIsAMerge → MergedIsByStampAndPort → (begun : Bool) (m : Machine Z) (k : ℕ) (old new : Lane Z) (more : List Record)
+pub lane_reads_on : {Z : Type 0} → ByStampIsOrdered → MergedIsAMerge → MergedIsByStampAndPort → (begun : Bool) (m : Machine Z) (k : ℕ) (old new : Lane Z) (more : List Record)
     → AreOfTable m.switch.run.table m.lanes.items
     → IsReady m begun
     → slice_get m.lanes.items k ≡ Some old → old.closed ≡ false → IsStill old new → Adds old new more → IsGoing m.switch.run.table (set m.lanes.items k new) m.switch m.counts
-lane_reads_on merge sorted begun m k old new more of ready at still_open still adds =
-    reads_on merge sorted m.switch.run.table m.lanes.items m.switch m.counts k old new more of at
+lane_reads_on ordered merge sorted begun m k old new more of ready at still_open still adds =
+    reads_on ordered merge sorted m.switch.run.table m.lanes.items m.switch m.counts k old new more of at
     ((all_slice_get HasReadAll m.lanes.items k old ready.read at).ended ∙ sym (marked_at begun m.lanes.items k old ready.marked at).closed ∙ still_open)
     still.port (ap (λ o. o.items) still.out) still.taken adds ready.running.going
 

@@ -13,7 +13,7 @@ use Rattle.std.specs.Vec.{with_items}
 use Rattle.std.proofs.lemmas.Option.{same_Some, slice_get_within, slice_get-map, slice_get-get_or}
 use Rattle.afdx_core.specs.State.{State}
 use Rattle.afdx_core.specs.Merge.{Arrival}
-use Rattle.afdx_core.specs.Inner.Merge.{MergedIsAMerge, MergedIsByStampAndPort}
+use Rattle.afdx_core.specs.Inner.Merge.{ByStampIsOrdered, MergedIsAMerge, MergedIsByStampAndPort}
 use Rattle.afdx_session.specs.declared.lane.Lane.{Lane}
 use Rattle.afdx_session.specs.declared.machine.Machine.{Machine}
 use Rattle.afdx_session.specs.declared.plan.RunFault.{RunFault}
@@ -240,15 +240,16 @@ went_on {Z} t old new s counts place l going gone at =
     ap (λ (x : Lane Z). x.reader.fault) (gone_same old new place l gone at) ∙ no_fault old going.streams place gone.lane going.lanes_are gone.at
 
 -- it went, and the next one was read
-pub carries_one : {Z : Type 0} → MergedIsAMerge → MergedIsByStampAndPort → (found : Bool) (old mid next : Machine Z) (place : ℕ) (l new : Lane Z) → IsCarrying old
+pub carries_one : {Z : Type 0} → ByStampIsOrdered → MergedIsAMerge → MergedIsByStampAndPort → (found : Bool) (old mid next : Machine Z) (place : ℕ) (l new : Lane Z) → IsCarrying old
     → AreTouched old.lanes.items mid.lanes.items → IsOfSameTable old.switch mid.switch → IsRound (Some place) old mid
     → slice_get mid.lanes.items place ≡ Some l → IsReadOn l new → HasDrawn found l new → next.lanes.items ≡ set mid.lanes.items place new → next.switch ≡ mid.switch → next.counts ≡ mid.counts
     → CarriesOn true old next
-carries_one {Z} merge sorted found old mid next place l new carrying touched same round at on drawn lanes switch counts =
+carries_one {Z} ordered merge sorted found old mid next place l new carrying touched same round at on drawn lanes switch counts =
     let added = drawn_adds found l new drawn in
     let of_mid : AreOfTable mid.switch.run.table mid.lanes.items = touched_table old mid touched same carrying.of in
     let going : IsGoing mid.switch.run.table (set mid.lanes.items place new) mid.switch mid.counts =
-    reads_on merge sorted mid.switch.run.table mid.lanes.items mid.switch mid.counts place l new added.0 of_mid at gone.still_open on.port (ap (λ o. o.items) on.out) on.taken added.1 round.going in
+    reads_on ordered merge sorted mid.switch.run.table mid.lanes.items mid.switch mid.counts place l new added.0 of_mid at gone.still_open on.port (ap (λ o. o.items) on.out)
+    on.taken added.1 round.going in
     let fewer = left_set mid.lanes.items place l new at (left_drawn found l new gone.closed gone.still_open on drawn) in
     let was = left_touched old.lanes.items mid.lanes.items touched in
     let now = ap (λ ls. left_in ls) lanes in

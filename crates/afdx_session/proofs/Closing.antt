@@ -3,7 +3,7 @@ use Rattle.std.proofs.Common.{◌≡◌, ℕ, zero, suc, ◌+◌, ◌≤◌, Boo
 use Rattle.std.specs.List.{AllByRecursion}
 use Rattle.std.proofs.lemmas.Option.{same_Some}
 use Rattle.afdx_pcap.specs.Record.{Record}
-use Rattle.afdx_core.specs.Inner.Merge.{MergedIsAMerge, MergedIsByStampAndPort}
+use Rattle.afdx_core.specs.Inner.Merge.{ByStampIsOrdered, MergedIsAMerge, MergedIsByStampAndPort}
 use Rattle.afdx_session.specs.declared.lane.Lane.{Lane}
 use Rattle.afdx_session.specs.declared.machine.Machine.{Machine}
 use Rattle.afdx_session.specs.declared.plan.RunFault.{RunFault}
@@ -64,14 +64,14 @@ of_now start now n of was =
     still_of_table start.switch.run.table start.lanes.items now (half_ports start.lanes.items now (ends_half n start.lanes.items now was.ends)) of
 
 -- one that ends now
-pub closes_one : {Z : Type 0} → MergedIsAMerge → MergedIsByStampAndPort → (begun : Bool) (start : Machine Z) (now : List (Lane Z)) (n : ℕ) (old new : Lane Z) (more : List Record)
+pub closes_one : {Z : Type 0} → ByStampIsOrdered → MergedIsAMerge → MergedIsByStampAndPort → (begun : Bool) (start : Machine Z) (now : List (Lane Z)) (n : ℕ) (old new : Lane Z) (more : List Record)
     → AreOfTable start.switch.run.table start.lanes.items
     → IsReady start begun → slice_get now n ≡ Some old → old.closed ≡ false → IsStill old new → new.undone ≡ old.undone → new.reader.bytes ≡ old.reader.bytes → new.reader.closed ≡ true
     → Adds old new more → HasReadAll new
     → Closes start now n → Closes start (set now n new) (n + 1)
-closes_one merge sorted begun start now n old new more of ready at still_open still undone bytes closed adds all was = record {
+closes_one ordered merge sorted begun start now n old new more of ready at still_open still undone bytes closed adds all was = record {
   ends = ends_more n start.lanes.items now old new at (record { half = ended_half old new still undone bytes; bytes = bytes; closed = closed; read = all }) was.ends;
-  going = reads_on merge sorted start.switch.run.table now start.switch start.counts n old new more (of_now start now n of was) at
+  going = reads_on ordered merge sorted start.switch.run.table now start.switch start.counts n old new more (of_now start now n of was) at
       ((read_before begun start now n old ready was at).ended ∙ sym (ended_as_marked begun start now n old ready.marked was at) ∙ still_open) still.port (ap (λ o. o.items) still.out) still.taken adds
       was.going;
 }

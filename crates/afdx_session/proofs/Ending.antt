@@ -16,6 +16,7 @@ use Rattle.afdx_port.specs.Inner.Admission.{EarlierEventsStayAdmitted}
 use Rattle.afdx_port.specs.Inner.Order.{ReachesInOrder}
 use Rattle.afdx_core.specs.State.{State}
 use Rattle.afdx_core.specs.Merge.{Arrival, merged}
+use Rattle.afdx_core.specs.Inner.Merge.{ByStampIsOrdered}
 use Rattle.afdx_count.specs.Tally.{Tally}
 use Rattle.afdx_session.specs.declared.lane.Lane.{Lane}
 use Rattle.afdx_session.specs.declared.plan.RunFault.{RunFault}
@@ -186,21 +187,21 @@ whole_same (s ∷ streams) all = ap (λ b. record { port = s.port; records = s.r
     ∙ ap (λ ss. record { port = s.port; records = s.records; closed = true } ∷ ss) (whole_same streams all.1)
 
 -- what was put out is the output of a run over the whole captures
-pub output_is : {Z : Type 0} → EarlierEventsStayAdmitted → ReachesInOrder → AllStartBeforeTheLastInstant
+pub output_is : {Z : Type 0} → ByStampIsOrdered → EarlierEventsStayAdmitted → ReachesInOrder → AllStartBeforeTheLastInstant
     → (t : Content) (old new : List (Lane Z)) (s : State) (counts : Tally) (run : IsRunning t new s counts) (place : ℕ) (p : PortRow) (l : Lane Z) → AreOfTable t new
     → AreEndedLanes old new → slice_get t.ports place ≡ Some p → slice_get new place ≡ Some l → l.out.items ≡ drop l.taken (output_text t (merged (captures_of run.going.streams)) p)
-output_is stay reaches ends t old new s counts run place p l of ended is_port is_lane =
+output_is ordered stay reaches ends t old new s counts run place p l of ended is_port is_lane =
     let streams = run.going.streams in
     let whole = whole_same streams (streams_ended old new streams ended run.going.lanes_are) in
     (run.going.outs place p l tt is_port is_lane).left
-    ∙ ap (drop l.taken) (sym (text_is stay reaches ends t new s counts run place p l of is_port is_lane)
+    ∙ ap (drop l.taken) (sym (text_is ordered stay reaches ends t new s counts run place p l of is_port is_lane)
     ∙ ap (λ ss. text_so_far t ss p) whole
     ∙ ap capture_text (output_of_all t (captures_of streams) p))
 
 -- nothing waits
-given_some : {Z : Type 0} (t : Content) (old new : List (Lane Z)) (s : State) (counts : Tally) (run : IsRunning t new s counts) → AreEndedLanes old new → 0 < length new
+given_some : {Z : Type 0} → ByStampIsOrdered → (t : Content) (old new : List (Lane Z)) (s : State) (counts : Tally) (run : IsRunning t new s counts) → AreEndedLanes old new → 0 < length new
     → merged (captures_of run.going.streams) ≡ run.going.given
-given_some {Z} t old new s counts run ended some =
+given_some {Z} ordered t old new s counts run ended some =
     whole ∙ ap (λ xs. going.given ++ xs) none ∙ append-nil going.given where
       going : IsGoing t new s counts
       going = run.going
@@ -217,9 +218,9 @@ given_some {Z} t old new s counts run ended some =
       none : waiting ≡ []
       none = none_late waiting (subst (λ n. AllByRecursion (λ (a : Arrival). n ≤ a.frame.stamp) waiting)
           (let come = going.come in let until = going.until in let since = run.out some in omega (arith, come, until, since, at_frontier)) going.later)
-          (all_back Early going.given waiting (subst (AllByRecursion Early) whole (lanes_early new going.streams going.lanes_are)))
+          (all_back Early going.given waiting (subst (AllByRecursion Early) whole (lanes_early ordered new going.streams going.lanes_are)))
 
-pub given_all : {Z : Type 0} (t : Content) (old new : List (Lane Z)) (s : State) (counts : Tally) (run : IsRunning t new s counts) → AreEndedLanes old new → merged (captures_of run.going.streams)
-    ≡ run.going.given
-given_all t old [] s counts run ended = run.going.settling.whole ∙ append-nil run.going.given
-given_all t old (l ∷ new) s counts run ended = given_some t old (l ∷ new) s counts run ended (omega arith)
+pub given_all : {Z : Type 0} → ByStampIsOrdered → (t : Content) (old new : List (Lane Z)) (s : State) (counts : Tally) (run : IsRunning t new s counts) → AreEndedLanes old new
+    → merged (captures_of run.going.streams) ≡ run.going.given
+given_all ordered t old [] s counts run ended = run.going.settling.whole ∙ append-nil run.going.given
+given_all ordered t old (l ∷ new) s counts run ended = given_some ordered t old (l ∷ new) s counts run ended (omega arith)

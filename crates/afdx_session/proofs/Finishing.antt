@@ -13,6 +13,7 @@ use Rattle.afdx_port.specs.Inner.Admission.{EarlierEventsStayAdmitted}
 use Rattle.afdx_port.specs.Inner.Order.{ReachesInOrder}
 use Rattle.afdx_core.specs.State.{after_finish}
 use Rattle.afdx_core.specs.Merge.{Arrival, Capture, merged}
+use Rattle.afdx_core.specs.Inner.Merge.{ByStampIsOrdered}
 use Rattle.afdx_count.specs.Tally.{ended_tally}
 use Rattle.afdx_count.specs.Run.{counts_so_far, counts_of}
 use Rattle.afdx_count.specs.Inner.Laws.{EndCountsTheRun}
@@ -74,13 +75,13 @@ half_intakes (l ∷ old) (n ∷ new) half = ap (λ i. i ∷ intakes_of new) half
 
 -- ---- the outcome
 
-pub finished : {Z : Type 0} → EarlierEventsStayAdmitted → ReachesInOrder → AllStartBeforeTheLastInstant → TakenAreTheCapture → EndCountsTheRun → AcceptedRunsIsolate
+pub finished : {Z : Type 0} → ByStampIsOrdered → EarlierEventsStayAdmitted → ReachesInOrder → AllStartBeforeTheLastInstant → TakenAreTheCapture → EndCountsTheRun → AcceptedRunsIsolate
     → (old new : Machine Z) (begun : Bool) (results : Results) → IsKeptMachine old begun false
     → IsOfSameTable old.switch new.switch → AreHalfDone old.lanes.items new.lanes.items → AreEndedLanes old.lanes.items new.lanes.items
     → IsRunning new.switch.run.table new.lanes.items new.switch new.counts
     → results.captures ≡ map (λ (l : Lane Z). (l.port, l.out.items)) new.lanes.items → results.counts ≡ ended_tally (after_finish new.switch.run) new.counts
     → IsFinished (seen_of old begun false) results
-finished {Z} stay reaches ends takes law isolate old new begun results kept same half closed running captures counts = record {
+finished {Z} ordered stay reaches ends takes law isolate old new begun results kept same half closed running captures counts = record {
   none_failed = refl;
   whole = whole;
   outcome = outcome;
@@ -129,11 +130,11 @@ finished {Z} stay reaches ends takes law isolate old new begun results kept same
       ap (λ n. find (λ (i : Intake). i.port == n) (intakes_of old.lanes.items)) id ∙ ap (λ is. find (λ (i : Intake). i.port == l.port) is) (sym (half_intakes old.lanes.items new.lanes.items half))
       ∙ find_intake t.ports new.lanes.items k l of.formed.ports_rise of.ports is_lane in
       ap (λ n. (n, l.out.items)) (sym id)
-      ∙ ap (λ text. (p.id, text)) (output_is stay reaches ends t old.lanes.items new.lanes.items new.switch new.counts run k p l of closed is_port is_lane)
+      ∙ ap (λ text. (p.id, text)) (output_is ordered stay reaches ends t old.lanes.items new.lanes.items new.switch new.counts run k p l of closed is_port is_lane)
       ∙ ap (λ o. (p.id, drop (taken_in o) (output_text t (merged read) p))) (sym found)
 
   given : merged read ≡ run.going.given
-  given = given_all t old.lanes.items new.lanes.items new.switch new.counts run closed
+  given = given_all ordered t old.lanes.items new.lanes.items new.switch new.counts run closed
 
   formed : IsWellFormed new.switch.run.table
   formed = subst IsWellFormed (sym same.table) kept.of.formed

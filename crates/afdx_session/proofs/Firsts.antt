@@ -6,6 +6,7 @@ use Rattle.std.proofs.lemmas.List.{map-set}
 use Rattle.std.proofs.lemmas.Option.{slice_get-map}
 use Rattle.afdx_pcap.specs.Record.{Record}
 use Rattle.afdx_core.specs.Merge.{Arrival, Capture}
+use Rattle.afdx_core.specs.Inner.Merge.{ByStampIsOrdered}
 use Rattle.afdx_session.specs.declared.lane.Lane.{Lane}
 use Rattle.afdx_session.specs.Streams.{Stream, captures_of, last_of}
 use Rattle.afdx_session.specs.Inner.Settled.{Ascend, ports_of, first_place, limit, IsWithin, HeadFrom, ComesFirst, AllRise, without, IsSettling, IsPast}
@@ -80,15 +81,15 @@ none_waits (l ∷ lanes) none = (empty l.waiting.items (none 0 (omega arith)), n
 -- ---- it goes
 
 -- the record that the code takes is settled, and is the next of the merge
-pub lane_goes : {Z : Type 0} (streams : List Stream) (given : List Arrival) (old new : List (Lane Z)) (port : ℕ) (frame : Record) → Ascend (ports_of (captures_of streams))
+pub lane_goes : {Z : Type 0} → ByStampIsOrdered → (streams : List Stream) (given : List Arrival) (old new : List (Lane Z)) (port : ℕ) (frame : Record) → Ascend (ports_of (captures_of streams))
     → AllRise (map waiting_of old) → AreLanesOf old streams
     → Goes (limit_at old) old new port frame → IsSettling streams given (map waiting_of old) → IsSettling streams (given ++ record { port = port; frame = frame } ∷ []) (map waiting_of new)
-lane_goes streams given old new port frame ascend rise are goes settling =
+lane_goes ordered streams given old new port frame ascend rise are goes settling =
     let w = waiting_of goes.lane in
     let within : IsWithin (limit streams) frame.stamp w.port =
     subst (λ p. IsWithin p frame.stamp w.port) (limit_is old streams are) (subst (λ n. IsWithin (limit_at old) frame.stamp n) goes.port_is goes.within) in
-    let done = settles_on streams given (map waiting_of old) goes.place w frame goes.rest.items ascend rise (slice_get-map waiting_of old goes.place ∙ ap (option_map waiting_of) goes.at) goes.head
-    (first_comes old goes.place frame.stamp goes.first) within settling in
+    let done = settles_on ordered streams given (map waiting_of old) goes.place w frame goes.rest.items ascend rise (slice_get-map waiting_of old goes.place ∙ ap (option_map waiting_of) goes.at)
+    goes.head (first_comes old goes.place frame.stamp goes.first) within settling in
     let queues : without (map waiting_of old) goes.place w goes.rest.items ≡ map waiting_of new =
     sym (ap (map waiting_of) goes.lanes ∙ map-set waiting_of old goes.place (with_waiting goes.rest goes.lane)) in
     subst (λ ws. IsSettling streams (given ++ record { port = port; frame = frame } ∷ []) ws) queues

@@ -12,12 +12,12 @@ use Rattle.afdx_pcap.specs.declared.format.Head.{Head}
 use Rattle.afdx_pcap.specs.Record.{Record}
 use Rattle.afdx_pcap.specs.Capture.{Splits, IsCapture, after, parts_of_second, stamp_of, head_of}
 use Rattle.afdx_core.specs.Merge.{Arrival, Capture, Rises, records_of, arrivals_of}
-use Rattle.afdx_core.specs.Inner.Merge.{AreInOrder}
+use Rattle.afdx_core.specs.Inner.Merge.{AreInOrder, ByStampIsOrdered}
 use Rattle.afdx_session.specs.Texts.{Text}
 use Rattle.afdx_session.specs.Reading.{AreCaptures, AreMerged}
 use Rattle.afdx_session.specs.Inner.Early.{RecordsAreEarly}
 use Rattle.afdx_session.proofs.Numbered.{all_append, all_cond}
-use Rattle.afdx_session.proofs.Joining.{by_stamp-in_order, by_stamp_every, records_weaken}
+use Rattle.afdx_session.proofs.Joining.{by_stamp_every, records_weaken}
 
 -- ---- the records of a capture
 
@@ -55,8 +55,8 @@ records_are_early (text ∷ texts) (c ∷ read) port are =
 
 -- ---- several captures
 
-pub merged_in_order : (texts : List Text) (arrivals : List Arrival) → AreMerged texts arrivals → AreInOrder arrivals
-merged_in_order texts arrivals are = subst AreInOrder (sym are.all) (by_stamp-in_order (arrivals_of are.read))
+pub merged_in_order : ByStampIsOrdered → (texts : List Text) (arrivals : List Arrival) → AreMerged texts arrivals → AreInOrder arrivals
+merged_in_order ordered texts arrivals are = subst AreInOrder (sym are.all) (ordered (arrivals_of are.read)).in_order
 
 -- ---- what holds of every arrival of a merge
 
@@ -76,8 +76,8 @@ captures_early [] (c ∷ read) are = absurd are
 captures_early (text ∷ texts) [] are = absurd are
 captures_early (text ∷ texts) (c ∷ read) are = port_every Early c.port c.records (arrivals_of read) (capture_early text.1 c.records are.1) (captures_early texts read are.2)
 
-pub merged_early : (texts : List Text) (arrivals : List Arrival) → AreMerged texts arrivals → AllByRecursion Early arrivals
-merged_early texts arrivals are = subst (AllByRecursion Early) (sym are.all) (by_stamp_every Early (arrivals_of are.read) (captures_early texts are.read are.are_read))
+pub merged_early : ByStampIsOrdered → (texts : List Text) (arrivals : List Arrival) → AreMerged texts arrivals → AllByRecursion Early arrivals
+merged_early ordered texts arrivals are = subst (AllByRecursion Early) (sym are.all) (by_stamp_every ordered Early (arrivals_of are.read) (captures_early texts are.read are.are_read))
 
 -- ---- ports that are the table's
 

@@ -20,7 +20,7 @@ use Rattle.afdx_core.specs.Rows.{row_of}
 use Rattle.afdx_core.specs.State.{Run, State, refusal_of, step_of, after_advance}
 use Rattle.afdx_core.specs.Held.{Keeps, IsTaken}
 use Rattle.afdx_core.specs.Merge.{Arrival, Capture, merged, arrivals_of}
-use Rattle.afdx_core.specs.Inner.Merge.{AreInOrder}
+use Rattle.afdx_core.specs.Inner.Merge.{AreInOrder, ByStampIsOrdered}
 use Rattle.afdx_count.specs.Tally.{Tally, noted}
 use Rattle.afdx_count.specs.Run.{counts_so_far}
 use Rattle.afdx_count.specs.Inner.Laws.{NoteCountsOneMore}
@@ -30,7 +30,7 @@ use Rattle.afdx_session.specs.Streams.{Stream, frontier}
 use Rattle.afdx_session.specs.Inner.Settled.{without, IsGiven, HeadFrom, AllRise, IsPast, IsWithin}
 use Rattle.afdx_session.specs.Inner.Lanes.{waiting_of, limit_at, heads_of, with_waiting, IsFirstOf, IsFirstUpTo, Goes, NoneGoes}
 use Rattle.afdx_session.specs.Inner.Kept.{AreLanesOf, AreOfTable, come_to, text_up_to, IsOut, IsGoing, HasCome}
-use Rattle.afdx_session.proofs.Joining.{AllFrom, frames-from, by_stamp-in_order}
+use Rattle.afdx_session.proofs.Joining.{AllFrom, frames-from}
 use Rattle.afdx_session.proofs.Settling.{all_back}
 use Rattle.afdx_session.proofs.Gathering.{Known, all_known}
 use Rattle.afdx_session.proofs.Numbered.{all_slice_get}
@@ -64,14 +64,14 @@ out_stays stay reaches t given more h s next p place l later handed out =
 -- ---- a record goes
 
 -- it is the next of what waits
-goes_next : {Z : Type 0} (old new : List (Lane Z)) (port : ℕ) (frame : Record) (streams : List Stream) (given : List Arrival) (t : Content) (s : State) (counts : Tally)
+goes_next : {Z : Type 0} → ByStampIsOrdered → (old new : List (Lane Z)) (port : ℕ) (frame : Record) (streams : List Stream) (given : List Arrival) (t : Content) (s : State) (counts : Tally)
     (going : IsGoing t old s counts)
     → Goes (limit_at old) old new port frame
     → merged (map waiting_of old) ≡ record { port = port; frame = frame } ∷ merged (map waiting_of new)
-goes_next old new port frame streams given t s counts going goes =
+goes_next ordered old new port frame streams given t s counts going goes =
     let w = waiting_of goes.lane in
     let rise = waiting_rise old going.streams going.lanes_are going.settling.queued in
-    let first = first_goes (map waiting_of old) goes.place w frame goes.rest.items (slice_get-map waiting_of old goes.place ∙ ap (option_map waiting_of) goes.at) goes.head
+    let first = first_goes ordered (map waiting_of old) goes.place w frame goes.rest.items (slice_get-map waiting_of old goes.place ∙ ap (option_map waiting_of) goes.at) goes.head
     (first_comes old goes.place frame.stamp goes.first) rise in
     let queues : without (map waiting_of old) goes.place w goes.rest.items ≡ map waiting_of new =
     sym (ap (map waiting_of) goes.lanes ∙ map-set waiting_of old goes.place (with_waiting goes.rest goes.lane)) in
@@ -89,23 +89,23 @@ pub record Arrives {Z : Type 0} (t : Content) (old new : List (Lane Z)) (s : Sta
   pub until : frame.stamp ≤ come_to (frontier going.streams)
   pub after : AllFrom frame.stamp (merged (map waiting_of new))
 
-pub arrives : {Z : Type 0} (t : Content) (old new : List (Lane Z)) (s : State) (counts : Tally) (port : ℕ) (frame : Record) → Goes (limit_at old) old new port frame → IsGoing t old s counts
-    → Arrives t old new s counts port frame
-arrives {Z} t old new s counts port frame goes going = record {
+pub arrives : {Z : Type 0} → ByStampIsOrdered → (t : Content) (old new : List (Lane Z)) (s : State) (counts : Tally) (port : ℕ) (frame : Record) → Goes (limit_at old) old new port frame
+    → IsGoing t old s counts → Arrives t old new s counts port frame
+arrives {Z} ordered t old new s counts port frame goes going = record {
   going = going;
   goes = goes;
   next = next;
   early = early;
   latest = (subst (AllFrom s.run.latest) next going.later).0;
   until = by_limit (limit_at old) refl goes.within;
-  after = frames-from frame.stamp (merged (map waiting_of new)) (subst AreInOrder next (by_stamp-in_order (arrivals_of (map waiting_of old)))).0;
+  after = frames-from frame.stamp (merged (map waiting_of new)) (subst AreInOrder next (ordered (arrivals_of (map waiting_of old))).in_order).0;
 } where
   next : merged (map waiting_of old) ≡ record { port = port; frame = frame } ∷ merged (map waiting_of new)
-  next = goes_next old new port frame going.streams going.given t s counts going goes
+  next = goes_next ordered old new port frame going.streams going.given t s counts going goes
 
   early : frame.stamp < last_second
   early =
-      let all : AllByRecursion Early (going.given ++ merged (map waiting_of old)) = subst (AllByRecursion Early) going.settling.whole (lanes_early old going.streams going.lanes_are) in
+      let all : AllByRecursion Early (going.given ++ merged (map waiting_of old)) = subst (AllByRecursion Early) going.settling.whole (lanes_early ordered old going.streams going.lanes_are) in
       (subst (AllByRecursion Early) next (all_back Early going.given (merged (map waiting_of old)) all)).0
 
   at_frontier : option_map (λ (p : ℕ × ℕ). p.0) (limit_at old) ≡ frontier going.streams
@@ -128,15 +128,15 @@ known {Z = Z} t lanes k l of at =
     all_slice_get (Known t.ports) (map (λ (m : Lane Z). m.port) lanes) k l.port ports (slice_get-map (λ (m : Lane Z). m.port) lanes k ∙ ap (option_map (λ (m : Lane Z). m.port)) at)
 
 -- the switch takes it
-pub gives_on : {Z : Type 0} → EarlierEventsStayAdmitted → ReachesInOrder → NoteCountsOneMore
+pub gives_on : {Z : Type 0} → ByStampIsOrdered → EarlierEventsStayAdmitted → ReachesInOrder → NoteCountsOneMore
     → (t : Content) (old new : List (Lane Z)) (s next : State) (counts after : Tally) (port : ℕ) (frame : Record) (step : Step) → AreOfTable t old → step.number < 2 ^ 64
     → Arrives t old new s counts port frame → IsTaken s next (row_of s.run.table port frame) frame step → after ≡ noted step counts → IsGoing t new next after
-gives_on stay reaches law t old new s next counts after port frame step of small arrives taken counted = record {
+gives_on ordered stay reaches law t old new s next counts after port frame step of small arrives taken counted = record {
   streams = going.streams;
   given = going.given ++ a ∷ [];
   since = going.since;
   lanes_are = subst (λ ls. AreLanesOf ls going.streams) (sym goes.lanes) (same_lanes old going.streams goes.place goes.lane goes.rest going.lanes_are goes.at);
-  settling = lane_goes going.streams going.given old new port frame (lanes_ascend t old going.streams of going.lanes_are) (waiting_rise old going.streams going.lanes_are going.settling.queued)
+  settling = lane_goes ordered going.streams going.given old new port frame (lanes_ascend t old going.streams of going.lanes_are) (waiting_rise old going.streams going.lanes_are going.settling.queued)
       going.lanes_are goes going.settling;
   is_given = gives t going.given a s next step going.is_given taken;
   come = omega (arith, since, arrives.latest, latest);
@@ -203,9 +203,9 @@ empty_heads n [] all = tt
 empty_heads n (w ∷ ws) all = (subst (HeadFrom n) (sym all.0) tt, empty_heads n ws all.1)
 
 -- nothing goes any more: what waits comes at the frontier or later
-pub rest_waits : {Z : Type 0} (t : Content) (lanes : List (Lane Z)) (s : State) (counts : Tally) (first : Option (ℕ × ℕ)) (going : IsGoing t lanes s counts) → NoneGoes (limit_at lanes) lanes first
-    → AllFrom (come_to (frontier going.streams)) (merged (map waiting_of lanes))
-rest_waits {Z = Z} t lanes s counts first going none = by_first first none.is none.past where
+pub rest_waits : {Z : Type 0} → ByStampIsOrdered → (t : Content) (lanes : List (Lane Z)) (s : State) (counts : Tally) (first : Option (ℕ × ℕ)) (going : IsGoing t lanes s counts)
+    → NoneGoes (limit_at lanes) lanes first → AllFrom (come_to (frontier going.streams)) (merged (map waiting_of lanes))
+rest_waits {Z = Z} ordered t lanes s counts first going none = by_first first none.is none.past where
   waiting : List Capture
   waiting = map waiting_of lanes
 
@@ -222,21 +222,21 @@ rest_waits {Z = Z} t lanes s counts first going none = by_first first none.is no
       let at_frontier : frontier going.streams ≡ Some p.0 = sym (frontier_is lanes going.streams going.lanes_are) ∙ ap (option_map (λ (q : ℕ × ℕ). q.0)) same in
       let past = subst (λ o. IsPast o x.1) (limit_is lanes going.streams going.lanes_are) (is_past (limit_at lanes) x.1 l.port out) in
       subst (λ m. AllFrom m (merged waiting)) (sym (ap come_to at_frontier))
-      (rest_from_frontier going.streams waiting x.0 x.1 p.0 rise (first_comes lanes x.0 x.1 is) past at_frontier)
+      (rest_from_frontier ordered going.streams waiting x.0 x.1 p.0 rise (first_comes lanes x.0 x.1 is) past at_frontier)
 
   by_first : (found : Option (ℕ × ℕ)) → IsFirstOf lanes found → ((place stamp : ℕ) (lane : Lane Z) → found ≡ Some (place, stamp) → slice_get lanes place ≡ Some lane
       → IsWithin (limit_at lanes) stamp lane.port → ⊥)
       → AllFrom n (merged waiting)
-  by_first None is past = merged_from n waiting (empty_heads n waiting (none_waits lanes is)) rise
+  by_first None is past = merged_from ordered n waiting (empty_heads n waiting (none_waits lanes is)) rise
   by_first (Some x) is past =
       let at = lane_at lanes x.0 is.within in
       by_limit x at.0 (limit_at lanes) refl is (past x.0 x.1 at.0 refl at.1)
 
 -- the switch comes to the frontier
-pub comes_on : {Z : Type 0} (t : Content) (lanes : List (Lane Z)) (s next : State) (counts : Tally) (first : Option (ℕ × ℕ)) (to : ℕ) (going : IsGoing t lanes s counts)
+pub comes_on : {Z : Type 0} → ByStampIsOrdered → (t : Content) (lanes : List (Lane Z)) (s next : State) (counts : Tally) (first : Option (ℕ × ℕ)) (to : ℕ) (going : IsGoing t lanes s counts)
     → NoneGoes (limit_at lanes) lanes first
     → to ≡ come_to (option_map (λ (p : ℕ × ℕ). p.0) (limit_at lanes)) → next.run ≡ after_advance to s.run → Keeps s next → HasCome t lanes next counts
-comes_on {Z} t lanes s next counts first to going none to_is run keeps = record {
+comes_on {Z} ordered t lanes s next counts first to going none to_is run keeps = record {
   going = record {
     streams = going.streams;
     given = going.given;
@@ -245,7 +245,7 @@ comes_on {Z} t lanes s next counts first to going none to_is run keeps = record 
     settling = going.settling;
     is_given = (comes t going.given to s next going.is_given run keeps).is_given;
     come = let since = going.come in let until = going.until in omega (arith, since, until, at);
-    later = subst (λ n. AllFrom n (merged (map waiting_of lanes))) (sym at) (rest_waits t lanes s counts first going none);
+    later = subst (λ n. AllFrom n (merged (map waiting_of lanes))) (sym at) (rest_waits ordered t lanes s counts first going none);
     until = omega (arith, at);
     counts_are = going.counts_are;
     few = going.few;

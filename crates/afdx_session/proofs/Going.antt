@@ -14,7 +14,7 @@ use Rattle.afdx_table.specs.Content.{Content}
 use Rattle.afdx_table.specs.WellFormed as table
 use Rattle.afdx_core.specs.State.{State}
 use Rattle.afdx_core.specs.Merge.{Arrival, Capture, Rises, arrivals_of}
-use Rattle.afdx_core.specs.Inner.Merge.{MergedIsAMerge, MergedIsByStampAndPort}
+use Rattle.afdx_core.specs.Inner.Merge.{ByStampIsOrdered, MergedIsAMerge, MergedIsByStampAndPort}
 use Rattle.afdx_count.specs.Tally.{Tally}
 use Rattle.afdx_session.specs.declared.lane.Lane.{Lane}
 use Rattle.afdx_session.specs.Streams.{Stream, captures_of, last_of, frontier, merged_so_far, GoOn}
@@ -47,8 +47,8 @@ arrivals_early (l ∷ lanes) (s ∷ streams) are =
     (arrivals_early lanes streams are.1)
 
 -- no stamp lies in the last second
-pub lanes_early : {Z : Type 0} (lanes : List (Lane Z)) (streams : List Stream) → AreLanesOf lanes streams → AllByRecursion Early (merged_so_far streams)
-lanes_early lanes streams are = by_stamp_every Early (arrivals_of (captures_of streams)) (arrivals_early lanes streams are)
+pub lanes_early : {Z : Type 0} → ByStampIsOrdered → (lanes : List (Lane Z)) (streams : List Stream) → AreLanesOf lanes streams → AllByRecursion Early (merged_so_far streams)
+lanes_early ordered lanes streams are = by_stamp_every ordered Early (arrivals_of (captures_of streams)) (arrivals_early lanes streams are)
 
 pub waiting_rise : {Z : Type 0} (lanes : List (Lane Z)) (streams : List Stream) → AreLanesOf lanes streams → AreQueued streams (map waiting_of lanes) → AllRise (map waiting_of lanes)
 waiting_rise [] [] are queued = tt
@@ -219,18 +219,19 @@ outs_stay {Z = Z} t given h s lanes k old new at out taken outs place p l in_all
       })
 ]
 
-pub reads_on : {Z : Type 0} → MergedIsAMerge → MergedIsByStampAndPort → (t : Content) (lanes : List (Lane Z)) (s : State) (counts : Tally) (k : ℕ) (old new : Lane Z) (more : List Record)
-    → AreOfTable t lanes → slice_get lanes k ≡ Some old → old.ended ≡ false
+pub reads_on : {Z : Type 0} → ByStampIsOrdered → MergedIsAMerge → MergedIsByStampAndPort
+    → (t : Content) (lanes : List (Lane Z)) (s : State) (counts : Tally) (k : ℕ) (old new : Lane Z) (more : List Record) → AreOfTable t lanes → slice_get lanes k ≡ Some old → old.ended ≡ false
     → new.port ≡ old.port → new.out.items ≡ old.out.items → new.taken ≡ old.taken → Adds old new more → IsGoing t lanes s counts → IsGoing t (set lanes k new) s counts
-reads_on merge sorted t lanes s counts k old new more of at still_open port out taken adds going = record {
+reads_on ordered merge sorted t lanes s counts k old new more of at still_open port out taken adds going = record {
   streams = next;
   given = going.given;
   since = going.since;
   lanes_are = reads_lanes lanes going.streams k old new more going.lanes_are at port adds;
-  settling = reads_settle merge sorted lanes going.streams going.given k old new more (lanes_ascend t lanes going.streams of going.lanes_are) going.lanes_are at still_open port adds going.settling;
+  settling = reads_settle ordered merge sorted lanes going.streams going.given k old new more (lanes_ascend t lanes going.streams of going.lanes_are)
+      going.lanes_are at still_open port adds going.settling;
   is_given = going.is_given;
   come = going.come;
-  later = by_stamp_every At (arrivals_of (map waiting_of (set lanes k new)))
+  later = by_stamp_every ordered At (arrivals_of (map waiting_of (set lanes k new)))
       (wait_from s.run.latest going.streams next (map waiting_of lanes) (map waiting_of (set lanes k new)) wait (λ e. refl) (not_past s.run.latest going.streams going.until)
       (by_stamp_out At (arrivals_of (map waiting_of lanes)) going.later));
   until = let le = going.until in let grows = come_grows going.streams next (early_ends lanes going.streams going.lanes_are)

@@ -13,6 +13,7 @@ use Rattle.afdx_port.specs.Inner.Order.{ReachesInOrder}
 use Rattle.afdx_port.specs.Inner.Events.{SentGoesOn}
 use Rattle.afdx_core.specs.State.{State, place_of, next_by}
 use Rattle.afdx_core.specs.Merge.{Arrival, merged}
+use Rattle.afdx_core.specs.Inner.Merge.{ByStampIsOrdered}
 use Rattle.afdx_count.specs.Tally.{Tally}
 use Rattle.afdx_session.specs.declared.lane.Lane.{Lane}
 use Rattle.afdx_session.specs.Output.{written}
@@ -245,10 +246,10 @@ some_lane : {X : Type 0} (xs : List X) (k : ℕ) (x : X) → slice_get xs k ≡ 
 some_lane xs k x is = let lt = slice_get_within xs k x is in omega (arith, lt)
 
 -- what has left so far of the streams is what was handed out
-pub text_is : {Z : Type 0} → EarlierEventsStayAdmitted → ReachesInOrder → AllStartBeforeTheLastInstant
+pub text_is : {Z : Type 0} → ByStampIsOrdered → EarlierEventsStayAdmitted → ReachesInOrder → AllStartBeforeTheLastInstant
     → (t : Content) (lanes : List (Lane Z)) (s : State) (counts : Tally) (run : IsRunning t lanes s counts) (place : ℕ) (p : PortRow) (l : Lane Z)
     → AreOfTable t lanes → slice_get t.ports place ≡ Some p → slice_get lanes place ≡ Some l → text_so_far t run.going.streams p ≡ text_up_to t run.going.given run.going.since p
-text_is {Z} stay reaches ends t lanes s counts run place p l of is_port is_lane = ap capture_text (shown (frontier going.streams) refl) where
+text_is {Z} ordered stay reaches ends t lanes s counts run place p l of is_port is_lane = ap capture_text (shown (frontier going.streams) refl) where
   going : IsGoing t lanes s counts
   going = run.going
 
@@ -265,7 +266,7 @@ text_is {Z} stay reaches ends t lanes s counts run place p l of is_port is_lane 
   whole = going.settling.whole
 
   early : AllByRecursion Early (going.given ++ waiting)
-  early = subst (AllByRecursion Early) whole (lanes_early lanes going.streams going.lanes_are)
+  early = subst (AllByRecursion Early) whole (lanes_early ordered lanes going.streams going.lanes_are)
 
   shown : (h : Option ℕ) → frontier going.streams ≡ h → output_so_far t going.streams p ≡ map (written going.given) (sent_up_to t going.given (Some going.since) p)
   shown (Some h) at_frontier =

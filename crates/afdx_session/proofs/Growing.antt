@@ -21,10 +21,10 @@ use Rattle.afdx_port.specs.Inner.Events.{SentGoesOn}
 use Rattle.afdx_isolation.specs.Table.{settings_of}
 use Rattle.afdx_core.specs.Rows.{feed_of}
 use Rattle.afdx_core.specs.Merge.{Arrival, Capture, Rises, arrivals_of, placed, by_stamp, merged}
-use Rattle.afdx_core.specs.Inner.Merge.{AreInOrder}
+use Rattle.afdx_core.specs.Inner.Merge.{AreInOrder, ByStampIsOrdered}
 use Rattle.afdx_session.specs.Output.{rows_of, sent_by, written, output_of, output_text}
 use Rattle.afdx_session.specs.Streams.{Stream, captures_of, last_of, merged_so_far, least, frontier, sent_up_to, output_so_far, text_so_far, GoesOn, GoOn, whole_of}
-use Rattle.afdx_session.proofs.Joining.{AllFrom, first-placed, later-placed, frames-from, weaken, by_stamp-in_order, records_weaken}
+use Rattle.afdx_session.proofs.Joining.{AllFrom, first-placed, later-placed, frames-from, weaken, records_weaken}
 use Rattle.afdx_session.proofs.Later.{same_sent, same_bytes}
 
 -- ---- a filter of what is by stamp
@@ -57,11 +57,11 @@ filter-placed p a (b ∷ xs) rises =
           cond-false (p b) (b ∷ filter p (placed a xs)) (filter p (placed a xs)) is ∙ ih
           ∙ ap (λ more. cond (p a) (placed a more) more) (sym (cond-false (p b) (b ∷ filter p xs) (filter p xs) is))
 
-pub filter-by_stamp : (p : Arrival → Bool) (xs : List Arrival) → filter p (by_stamp xs) ≡ by_stamp (filter p xs)
-filter-by_stamp p [] = refl
-filter-by_stamp p (a ∷ xs) =
-    filter-placed p a (by_stamp xs) (by_stamp-in_order xs)
-    ∙ ap (λ more. cond (p a) (placed a more) more) (filter-by_stamp p xs)
+pub filter-by_stamp : ByStampIsOrdered → (p : Arrival → Bool) (xs : List Arrival) → filter p (by_stamp xs) ≡ by_stamp (filter p xs)
+filter-by_stamp ordered p [] = refl
+filter-by_stamp ordered p (a ∷ xs) =
+    filter-placed p a (by_stamp xs) (ordered xs).in_order
+    ∙ ap (λ more. cond (p a) (placed a more) more) (filter-by_stamp ordered p xs)
     ∙ inside (p a) where
       inside : (u : Bool) → cond u (placed a (by_stamp (filter p xs))) (by_stamp (filter p xs)) ≡ by_stamp (cond u (a ∷ filter p xs) (filter p xs))
       inside true = refl
@@ -249,11 +249,12 @@ early_same h (s ∷ streams) (next ∷ later) all on =
     ∙ ap (λ xs. filter (is_early h) (f s.port s.records) ++ xs) (early_same h streams later all.1 on.1)
     ∙ sym (filter-append (is_early h) (f s.port s.records) (arrivals_of (captures_of streams)))
 
-pub early_merged : (h : ℕ) (streams later : List Stream) → HaveReached h streams → GoOn streams later → filter (is_early h) (merged_so_far later) ≡ filter (is_early h) (merged_so_far streams)
-early_merged h streams later all on =
-    filter-by_stamp (is_early h) (arrivals_of (captures_of later))
+pub early_merged : ByStampIsOrdered → (h : ℕ) (streams later : List Stream) → HaveReached h streams → GoOn streams later
+    → filter (is_early h) (merged_so_far later) ≡ filter (is_early h) (merged_so_far streams)
+early_merged ordered h streams later all on =
+    filter-by_stamp ordered (is_early h) (arrivals_of (captures_of later))
     ∙ ap by_stamp (early_same h streams later all on)
-    ∙ sym (filter-by_stamp (is_early h) (arrivals_of (captures_of streams)))
+    ∙ sym (filter-by_stamp ordered (is_early h) (arrivals_of (captures_of streams)))
 
 -- where all have ended, nothing is added
 all_same : (streams later : List Stream) → AllEnded streams → GoOn streams later → (captures_of later ≡ captures_of streams) × AllEnded later
@@ -307,9 +308,9 @@ beyond : (h : ℕ) (k : Option ℕ) (streams : List Stream) → frontier streams
 beyond h None streams is all = tt
 beyond h (Some k) streams is all = frontier_above h k streams all is
 
-pub output_grows : EarlierEventsStayAdmitted → ReachesInOrder → SentGoesOn → (t : Content) (streams later : List Stream) (p : PortRow) → GoOn streams later
+pub output_grows : ByStampIsOrdered → EarlierEventsStayAdmitted → ReachesInOrder → SentGoesOn → (t : Content) (streams later : List Stream) (p : PortRow) → GoOn streams later
     → (rest : List Record) × (output_so_far t later p ≡ output_so_far t streams p ++ rest)
-output_grows stay reaches goes_on t streams later p on = by_frontier (frontier streams) refl where
+output_grows ordered stay reaches goes_on t streams later p on = by_frontier (frontier streams) refl where
   by_frontier : (h : Option ℕ) → frontier streams ≡ h → (rest : List Record) × (output_so_far t later p ≡ output_so_far t streams p ++ rest)
   by_frontier None none =
       let same = all_same streams later (all_ended streams none) on in
@@ -325,9 +326,9 @@ output_grows stay reaches goes_on t streams later p on = by_frontier (frontier s
       let n = merged_so_far later in
       let more = sent_later goes_on reaches t n h (frontier later) p (beyond h (frontier later) later refl (reached_on h streams later all on)) in
       let out : List Arrival → List Record = λ xs. map (written xs) (sent_up_to t xs (Some h) p) in
-      let same : out n ≡ out m = early_output stay reaches t h n p (by_stamp-in_order (arrivals_of (captures_of later)))
-      ∙ ap out (early_merged h streams later all on)
-      ∙ sym (early_output stay reaches t h m p (by_stamp-in_order (arrivals_of (captures_of streams)))) in (
+      let same : out n ≡ out m = early_output stay reaches t h n p (ordered (arrivals_of (captures_of later))).in_order
+      ∙ ap out (early_merged ordered h streams later all on)
+      ∙ sym (early_output stay reaches t h m p (ordered (arrivals_of (captures_of streams))).in_order) in (
         map (written n) more.0,
         ap (map (written n)) more.1
             ∙ map-append (written n) (sent_up_to t n (Some h) p) more.0
@@ -335,10 +336,10 @@ output_grows stay reaches goes_on t streams later p on = by_frontier (frontier s
             ∙ ap (λ f. map (written m) (sent_up_to t m f p) ++ map (written n) more.0) (sym some),
       )
 
-pub text_grows : EarlierEventsStayAdmitted → ReachesInOrder → SentGoesOn → (t : Content) (streams later : List Stream) (p : PortRow) → GoOn streams later
+pub text_grows : ByStampIsOrdered → EarlierEventsStayAdmitted → ReachesInOrder → SentGoesOn → (t : Content) (streams later : List Stream) (p : PortRow) → GoOn streams later
     → (rest : List ℕ) × (text_so_far t later p ≡ text_so_far t streams p ++ rest)
-text_grows stay reaches goes_on t streams later p on =
-    let more = output_grows stay reaches goes_on t streams later p on in (
+text_grows ordered stay reaches goes_on t streams later p on =
+    let more = output_grows ordered stay reaches goes_on t streams later p on in (
       flat_map record_text more.0,
       ap (λ es. header_text ++ flat_map record_text es) more.1
           ∙ ap (λ text. header_text ++ text) (flat_map-append record_text (output_so_far t streams p) more.0)
@@ -359,9 +360,9 @@ output_of_all t captures p =
     ap (λ (cs : List Capture). map (written (merged cs)) (sent_up_to t (merged cs) (frontier (map whole_of captures)) p)) (captures_same captures)
     ∙ ap (λ h. map (written (merged captures)) (sent_up_to t (merged captures) h p)) (no_frontier (map whole_of captures) (ended_all captures))
 
-pub prefix_of_output : EarlierEventsStayAdmitted → ReachesInOrder → SentGoesOn → (t : Content) (streams : List Stream) (captures : List Capture) (p : PortRow)
+pub prefix_of_output : ByStampIsOrdered → EarlierEventsStayAdmitted → ReachesInOrder → SentGoesOn → (t : Content) (streams : List Stream) (captures : List Capture) (p : PortRow)
     → GoOn streams (map whole_of captures)
     → (rest : List ℕ) × (output_text t (merged captures) p ≡ text_so_far t streams p ++ rest)
-prefix_of_output stay reaches goes_on t streams captures p on =
-    let more = text_grows stay reaches goes_on t streams (map whole_of captures) p on in
+prefix_of_output ordered stay reaches goes_on t streams captures p on =
+    let more = text_grows ordered stay reaches goes_on t streams (map whole_of captures) p on in
     (more.0, ap capture_text (sym (output_of_all t captures p)) ∙ more.1)

@@ -11,7 +11,7 @@ use Rattle.afdx_pcap.specs.Capture.{IsCapture}
 use Rattle.afdx_pcap.specs.Reading.{HasTaken, whole_reading}
 use Rattle.afdx_pcap.specs.Reading as pcap
 use Rattle.afdx_table.specs.declared.rows.PortRow.{PortRow}
-use Rattle.afdx_core.specs.Inner.Merge.{MergedIsAMerge, MergedIsByStampAndPort}
+use Rattle.afdx_core.specs.Inner.Merge.{ByStampIsOrdered, MergedIsAMerge, MergedIsByStampAndPort}
 use Rattle.afdx_session.specs.declared.lane.Lane.{Lane}
 use Rattle.afdx_session.specs.declared.machine.Machine.{Machine}
 use Rattle.afdx_session.specs.declared.plan.RunFault.{RunFault}
@@ -155,17 +155,18 @@ lends_none start texts ports fresh of going = record { lent = lent_none texts st
 pub lends_next : {Z : Type 0} (start : Machine Z) (texts : List Text) (now : List (Lane Z)) (n : ℕ) (l : Lane Z) → Lends start texts now n → slice_get now n ≡ Some l → IsNextOf texts n l
 lends_next start texts now n l lends at = next_lane n texts now l lends.lent at
 
-pub lends_one : {Z : Type 0} → MergedIsAMerge → MergedIsByStampAndPort → (start : Machine Z) (texts : List Text) (now : List (Lane Z)) (n : ℕ) (old new : Lane Z) (text : Text) (more : List Record)
+pub lends_one : {Z : Type 0} → ByStampIsOrdered → MergedIsAMerge → MergedIsByStampAndPort
+    → (start : Machine Z) (texts : List Text) (now : List (Lane Z)) (n : ℕ) (old new : Lane Z) (text : Text) (more : List Record)
     → Lends start texts now n → slice_get now n ≡ Some old → slice_get texts n ≡ Some text
     → IsStill old new → new.reader.bytes ≡ text.1 → Adds old new more → IsOver new → Lends start texts (set now n new) (n + 1)
-lends_one {Z = Z} merge sorted start texts now n old new text more lends at text_at still bytes adds over =
+lends_one {Z = Z} ordered merge sorted start texts now n old new text more lends at text_at still bytes adds over =
     let next = next_lane n texts now old lends.lent at in
     let same = same_Some next.text text (sym next.at ∙ text_at) in
     let is : IsOn text new = (still.port ∙ next.port ∙ ap (λ (t : Text). t.0) same, bytes, over) in
     record {
       lent = subst (λ k. LentUpTo k texts (set now n new)) (suc-eq-add-one n) (lent_suc n texts now text new lends.lent text_at is);
       of = still_of_table start.switch.run.table now (set now n new) (ports_stay now n old new at still.port) lends.of;
-      going = reads_on merge sorted start.switch.run.table now start.switch start.counts n old new more lends.of at next.fresh.ended still.port (ap (λ o. o.items) still.out) still.taken adds
+      going = reads_on ordered merge sorted start.switch.run.table now start.switch start.counts n old new more lends.of at next.fresh.ended still.port (ap (λ o. o.items) still.out) still.taken adds
           lends.going;
       taken = taken_stays now n old new at still.taken ∙ lends.taken;
     }

@@ -15,6 +15,7 @@ use Rattle.afdx_port.specs.Inner.Order.{ReachesInOrder}
 use Rattle.afdx_port.specs.Inner.Events.{SentGoesOn}
 use Rattle.afdx_core.specs.State.{State}
 use Rattle.afdx_core.specs.Merge.{Arrival, Capture, merged}
+use Rattle.afdx_core.specs.Inner.Merge.{ByStampIsOrdered}
 use Rattle.afdx_count.specs.Tally.{Tally}
 use Rattle.afdx_session.specs.declared.lane.Lane.{Lane}
 use Rattle.afdx_session.specs.declared.machine.Machine.{Machine}
@@ -217,22 +218,22 @@ puts_none contents m files carrying = record {
 }
 
 -- what a lane has taken and has is no longer than what is counted can be
-pub bound_at : {F Z : Type 0} (contents : F → Option (List ℕ)) (m : Machine Z) (files : List F) (lanes : List (Lane Z)) (now : List F) (k : ℕ) (l : Lane Z) → PutsOut contents m files lanes now
-    → slice_get lanes k ≡ Some l → l.taken + length l.out.items < 2 ^ 128
-bound_at contents m files lanes now k l puts at =
+pub bound_at : {F Z : Type 0} → ByStampIsOrdered → (contents : F → Option (List ℕ)) (m : Machine Z) (files : List F) (lanes : List (Lane Z)) (now : List F) (k : ℕ) (l : Lane Z)
+    → PutsOut contents m files lanes now → slice_get lanes k ≡ Some l → l.taken + length l.out.items < 2 ^ 128
+bound_at ordered contents m files lanes now k l puts at =
     let port = port_of_lane m.switch.run.table.ports lanes k l puts.of.ports at in
     let out = puts.going.outs k port.0 l tt port.1 at in
     let text = text_up_to m.switch.run.table puts.going.given puts.going.since port.0 in
     let long = ap length out.left ∙ length-drop l.taken text in
-    let most = text_bound m.switch.run.table lanes m.switch m.counts puts.going port.0 in
+    let most = text_bound ordered m.switch.run.table lanes m.switch m.counts puts.going port.0 in
     let within = out.taken in
     omega (arith, long, most, within)
 
-pub puts_one : {F Z : Type 0} → EarlierEventsStayAdmitted → ReachesInOrder → SentGoesOn → TakenAreTheCapture → TakenBeginTheCapture → OneReading
+pub puts_one : {F Z : Type 0} → ByStampIsOrdered → EarlierEventsStayAdmitted → ReachesInOrder → SentGoesOn → TakenAreTheCapture → TakenBeginTheCapture → OneReading
     → (contents : F → Option (List ℕ)) (m : Machine Z) (files : List F) (lanes : List (Lane Z)) (now : List F) (k : ℕ) (bytes : List ℕ) (old new : Lane Z) (f g : F)
     → slice_get lanes k ≡ Some old → slice_get now k ≡ Some f → HandsOver bytes old new → Appends (contents f) (contents g) bytes → PutsOut contents m files lanes now
     → PutsOut contents m files (set lanes k new) (set now k g)
-puts_one {F} {Z} stay reaches goes_on takes begin one contents m files lanes now k bytes old new f g at is_now hands appends puts = record {
+puts_one {F} {Z} ordered stay reaches goes_on takes begin one contents m files lanes now k bytes old new f g at is_now hands appends puts = record {
   of = still_of_table t lanes (set lanes k new) (ports_stay lanes k old new at hands.port) puts.of;
   going = going_on t lanes m.switch m.counts k bytes old new at hands puts.going;
   over = all_set IsOver lanes k new puts.over (over_still bytes old new hands (all_slice_get IsOver lanes k old puts.over at));
@@ -256,7 +257,7 @@ puts_one {F} {Z} stay reaches goes_on takes begin one contents m files lanes now
       → take old.taken (output_text t (merged read) p) ++ bytes ≡ take (old.taken + length bytes) (output_text t (merged read) p)
   on read are p is_port =
       let out = puts.going.outs k p old tt is_port at in
-      let prefix = out_is_a_prefix stay reaches goes_on takes begin one t lanes m.switch m.counts puts.going puts.over read (subst (λ ts. AreCaptures ts read) (sym puts.texts) are) p in
+      let prefix = out_is_a_prefix ordered stay reaches goes_on takes begin one t lanes m.switch m.counts puts.going puts.over read (subst (λ ts. AreCaptures ts read) (sym puts.texts) are) p in
       ap (λ text. take old.taken text ++ bytes) prefix.1
       ∙ taken_on old.taken (text_up_to t puts.going.given puts.going.since p) prefix.0 bytes new.out.items out.taken (sym out.left ∙ hands.out)
       ∙ ap (take (old.taken + length bytes)) (sym prefix.1)

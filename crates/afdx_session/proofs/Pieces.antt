@@ -15,6 +15,7 @@ use Rattle.afdx_port.specs.Inner.Admission.{EarlierEventsStayAdmitted}
 use Rattle.afdx_port.specs.Inner.Order.{ReachesInOrder}
 use Rattle.afdx_port.specs.Inner.Events.{SentGoesOn}
 use Rattle.afdx_core.specs.Merge.{Capture, merged}
+use Rattle.afdx_core.specs.Inner.Merge.{ByStampIsOrdered}
 use Rattle.afdx_session.specs.declared.plan.RunFault.TheVariants as run
 use Rattle.afdx_session.specs.Texts.{Text}
 use Rattle.afdx_session.specs.Reading.{AreCaptures}
@@ -144,14 +145,14 @@ nothing_was_taken accepted t port p row = record {
 abbrev gone : Content → List Stream → PortRow → Bool → List ℕ
 gone t streams p begun = cond begun (text_so_far t streams p) []
 
-grown : EarlierEventsStayAdmitted → ReachesInOrder → SentGoesOn → RecordsStay → RecordsAreUnique → (v later : Seen) (p : PortRow) (text next : List ℕ) → GoesOnTo v later → HasGoneOut v p text
-    → HasGoneOut later p next
+grown : ByStampIsOrdered → EarlierEventsStayAdmitted → ReachesInOrder → SentGoesOn → RecordsStay → RecordsAreUnique → (v later : Seen) (p : PortRow) (text next : List ℕ) → GoesOnTo v later
+    → HasGoneOut v p text → HasGoneOut later p next
     → (rest : List ℕ) × (next ≡ text ++ rest)
-grown stay reaches goes_on records unique v later p text next on was is = by v.begun refl where
+grown ordered stay reaches goes_on records unique v later p text next on was is = by v.begun refl where
   by : (b : Bool) → v.begun ≡ b → (rest : List ℕ) × (next ≡ text ++ rest)
   by false none = (next, ap (λ xs. xs ++ next) (sym (was.text_is ∙ ap (gone v.table was.streams p) none)))
   by true some =
-      let more = grows_with_bytes stay reaches goes_on records unique v.table v.intakes later.intakes was.streams is.streams p on.fed was.are is.are in (
+      let more = grows_with_bytes ordered stay reaches goes_on records unique v.table v.intakes later.intakes was.streams is.streams p on.fed was.are is.are in (
         more.0,
         is.text_is ∙ ap (gone later.table is.streams p) (on.begun some) ∙ ap (λ t. text_so_far t is.streams p) on.table
             ∙ more.1 ∙ ap (λ xs. xs ++ more.0) (sym (was.text_is ∙ ap (gone v.table was.streams p) some)),
@@ -171,12 +172,12 @@ found_later port (j ∷ intakes) (n ∷ later) i on found = by (j.port == port) 
 prefix_on : (whole text taken rest more : List ℕ) → whole ≡ text ++ more → text ≡ taken ++ rest → whole ≡ taken ++ (rest ++ more)
 prefix_on whole text taken rest more is prefix = is ∙ ap (λ xs. xs ++ more) prefix ∙ append_assoc taken rest more
 
-pub taken_stays : EarlierEventsStayAdmitted → ReachesInOrder → SentGoesOn → RecordsStay → RecordsAreUnique → TakenStays
-taken_stays stay reaches goes_on records unique v later port p taken text on same row gone_out was =
+pub taken_stays : ByStampIsOrdered → EarlierEventsStayAdmitted → ReachesInOrder → SentGoesOn → RecordsStay → RecordsAreUnique → TakenStays
+taken_stays ordered stay reaches goes_on records unique v later port p taken text on same row gone_out was =
     let next = found_later port v.intakes later.intakes was.intake on.fed was.intake_is in
     let own : was.row ≡ p = same_Some was.row p (sym was.row_is ∙ row) in
     let was_gone : HasGoneOut v p was.text = subst (λ q. HasGoneOut v q was.text) own was.gone in
-    let more = grown stay reaches goes_on records unique v later p was.text text on was_gone gone_out in
+    let more = grown ordered stay reaches goes_on records unique v later p was.text text on was_gone gone_out in
     record {
       row = p;
       row_is = ap (λ t. port_row t port) on.table ∙ row;
@@ -310,8 +311,8 @@ found_output f (q ∷ ports) port p found = by (q.id == port) refl (found_output
       ap (λ b. cond b (Some (q.id, f q)) (find (is_text_of port) texts)) other
       ∙ more (sym (ap (λ b. cond b (Some q) (find (is_row_of port) ports)) other) ∙ found)
 
-pub taken_is_a_prefix : EarlierEventsStayAdmitted → ReachesInOrder → SentGoesOn → RecordsStay → RecordsAreUnique → TakenIsAPrefix
-taken_is_a_prefix stay reaches goes_on records unique v port taken texts results was continued outcome =
+pub taken_is_a_prefix : ByStampIsOrdered → EarlierEventsStayAdmitted → ReachesInOrder → SentGoesOn → RecordsStay → RecordsAreUnique → TakenIsAPrefix
+taken_is_a_prefix ordered stay reaches goes_on records unique v port taken texts results was continued outcome =
     (was.rest ++ whole.0, at ∙ prefix_on out was.text taken was.rest whole.0 whole.1 was.prefix) where
       out : List ℕ
       out = output_text v.table (merged outcome.read) was.row
@@ -329,7 +330,7 @@ taken_is_a_prefix stay reaches goes_on records unique v port taken texts results
       by : (b : Bool) → v.begun ≡ b → (rest : List ℕ) × (out ≡ was.text ++ rest)
       by false none = (out, ap (λ xs. xs ++ out) (sym (was.gone.text_is ∙ ap (gone v.table was.gone.streams was.row) none)))
       by true some =
-          let more = prefix_of_output stay reaches goes_on v.table was.gone.streams outcome.read was.row on in
+          let more = prefix_of_output ordered stay reaches goes_on v.table was.gone.streams outcome.read was.row on in
           (more.0, more.1 ∙ ap (λ xs. xs ++ more.0) (sym (was.gone.text_is ∙ ap (gone v.table was.gone.streams was.row) some)))
 
       whole : (rest : List ℕ) × (out ≡ was.text ++ rest)
@@ -360,9 +361,9 @@ rest_at v port (text ∷ texts) = by (text.0 == port) refl (rest_at v port texts
       ∙ more
       ∙ ap (λ b. drop (taken_of v port) (bytes_in (cond b (Some text) (find (is_text_of port) texts)))) (sym other)
 
-pub takes_and_rest : EarlierEventsStayAdmitted → ReachesInOrder → SentGoesOn → RecordsStay → RecordsAreUnique → TakesAndRestAreTheOutput
-takes_and_rest stay reaches goes_on records unique v port taken results end was =
-    let prefix = taken_is_a_prefix stay reaches goes_on records unique v port taken (texts_in v) end.whole was (all_continued v.intakes) end.outcome in
+pub takes_and_rest : ByStampIsOrdered → EarlierEventsStayAdmitted → ReachesInOrder → SentGoesOn → RecordsStay → RecordsAreUnique → TakesAndRestAreTheOutput
+takes_and_rest ordered stay reaches goes_on records unique v port taken results end was =
+    let prefix = taken_is_a_prefix ordered stay reaches goes_on records unique v port taken (texts_in v) end.whole was (all_continued v.intakes) end.outcome in
     let whole = capture_at port end.whole.captures in
     ap (λ xs. taken ++ capture_at port xs) end.captures
     ∙ ap (λ xs. taken ++ xs) (rest_at v port end.whole.captures)

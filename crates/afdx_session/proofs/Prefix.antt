@@ -14,6 +14,7 @@ use Rattle.afdx_port.specs.Inner.Order.{ReachesInOrder}
 use Rattle.afdx_port.specs.Inner.Events.{SentGoesOn}
 use Rattle.afdx_core.specs.State.{State}
 use Rattle.afdx_core.specs.Merge.{Arrival, Capture, merged}
+use Rattle.afdx_core.specs.Inner.Merge.{ByStampIsOrdered}
 use Rattle.afdx_count.specs.Tally.{Tally}
 use Rattle.afdx_session.specs.declared.lane.Lane.{Lane}
 use Rattle.afdx_session.specs.Reading.{AreCaptures}
@@ -118,12 +119,12 @@ prefix_so_far {Z} stay reaches goes_on t lanes s counts going p = (
       ∙ ap (map (written (given ++ waits))) (same_sent stay reaches t given waits going.since p later)
       ∙ same_bytes t given waits (Some going.since) p
 
-pub out_is_a_prefix : {Z : Type 0} → EarlierEventsStayAdmitted → ReachesInOrder → SentGoesOn → TakenAreTheCapture → TakenBeginTheCapture → OneReading
+pub out_is_a_prefix : {Z : Type 0} → ByStampIsOrdered → EarlierEventsStayAdmitted → ReachesInOrder → SentGoesOn → TakenAreTheCapture → TakenBeginTheCapture → OneReading
     → (t : Content) (lanes : List (Lane Z)) (s : State) (counts : Tally) (going : IsGoing t lanes s counts) → AllByRecursion IsOver lanes
     → (read : List Capture) → AreCaptures (texts_over lanes) read → (p : PortRow)
     → (rest : List ℕ) × (output_text t (merged read) p ≡ text_up_to t going.given going.since p ++ rest)
-out_is_a_prefix stay reaches goes_on takes begin one t lanes s counts going over read are p =
-    let all = prefix_of_output stay reaches goes_on t going.streams read p (lanes_go_on takes begin one lanes going.streams read over going.lanes_are are) in
+out_is_a_prefix ordered stay reaches goes_on takes begin one t lanes s counts going over read are p =
+    let all = prefix_of_output ordered stay reaches goes_on t going.streams read p (lanes_go_on takes begin one lanes going.streams read over going.lanes_are are) in
     let so_far = prefix_so_far stay reaches goes_on t lanes s counts going p in (
       so_far.0 ++ all.0,
       all.1 ∙ ap (λ text. text ++ all.0) so_far.1 ∙ append_assoc (text_up_to t going.given going.since p) so_far.0 all.0,

@@ -21,6 +21,7 @@ use Rattle.afdx_isolation.specs.Table.{settings_of}
 use Rattle.afdx_core.specs.Inner.Agreement.{VerdictsNameLinks}
 use Rattle.afdx_core.specs.Merge.{Arrival, Capture, arrivals_of, merged}
 use Rattle.afdx_core.specs.Rows.{feed_of}
+use Rattle.afdx_core.specs.Inner.Merge.{ByStampIsOrdered}
 use Rattle.afdx_session.specs.Texts.{Text}
 use Rattle.afdx_session.specs.Output.{rows_of, bytes_in, bytes_at, written, sent_by, output_of}
 use Rattle.afdx_session.specs.Reading.{AreCaptures}
@@ -70,7 +71,7 @@ written_readable arrivals last (x ∷ sent) from pairs early =
     let tails : AllPairs (λ (a : Sent) (b : Sent). a.end ≤ b.end) sent = λ i j d lt within. pairs (suc i) (suc j) d (omega (arith, lt)) (omega (arith, within)) in
     (from.0, early.0, refl, written_readable arrivals x.end sent (recursion_from_All (λ (y : Sent). x.end ≤ y.end) sent heads) tails early.1)
 
-module _ (order : EndsDoNotFall) (soon : EndsWithinASecond) (have_link : CleanFramesHaveALink) (verdicts : VerdictsNameLinks) where
+module _ (ordered : ByStampIsOrdered) (order : EndsDoNotFall) (soon : EndsWithinASecond) (have_link : CleanFramesHaveALink) (verdicts : VerdictsNameLinks) where
   output_readable : (t : Content) (arrivals : List Arrival) (p : PortRow) → IsWellFormed t → Contains t.ports p → AllByRecursion (λ (a : Arrival). a.frame.stamp + second ≤ last_second) arrivals
       → AreReadable 0 (output_of t arrivals p)
   unfolding sent_by
@@ -88,5 +89,5 @@ module _ (order : EndsDoNotFall) (soon : EndsWithinASecond) (have_link : CleanFr
   outputs_are_readable t texts read formed are early p among = (
     output_readable t (merged read) p formed among early,
     All-from_recursion IsWithinLimit (output_of t (merged read) p)
-        (written_within (merged read) (sent_by t (merged read) p) (by_stamp_every (λ a. IsWithinLimit a.frame) (arrivals_of read) (captures_within texts read are))),
+        (written_within (merged read) (sent_by t (merged read) p) (by_stamp_every ordered (λ a. IsWithinLimit a.frame) (arrivals_of read) (captures_within texts read are))),
   )

@@ -6,7 +6,7 @@ use Rattle.std.proofs.lemmas.Bool.{both_ways}
 use Rattle.afdx_pcap.specs.Record.{Record}
 use Rattle.afdx_pcap.specs.Reading.{AreFirst}
 use Rattle.afdx_core.specs.Merge.{Rises, Arrival}
-use Rattle.afdx_core.specs.Inner.Merge.{MergedIsAMerge, MergedIsByStampAndPort}
+use Rattle.afdx_core.specs.Inner.Merge.{ByStampIsOrdered, MergedIsAMerge, MergedIsByStampAndPort}
 use Rattle.afdx_session.specs.declared.lane.Lane.{Lane}
 use Rattle.afdx_session.specs.Streams.{Stream, captures_of}
 use Rattle.afdx_session.specs.Inner.Settled.{Ascend, ports_of, IsSettling, Waits, AllWait}
@@ -71,10 +71,10 @@ one_reads {Z = Z} (l ∷ lanes) (s ∷ streams) zero old new more are at still_o
 one_reads (l ∷ lanes) (s ∷ streams) (suc k) old new more are at still_open port adds = (stays l s are.0, one_reads lanes streams k old new more are.1 at still_open port adds)
 
 -- so what is settled stays, whatever a lane read
-pub reads_settle : {Z : Type 0} → MergedIsAMerge → MergedIsByStampAndPort → (lanes : List (Lane Z)) (streams : List Stream) (given : List Arrival) (k : ℕ) (old new : Lane Z) (more : List Record)
-    → Ascend (ports_of (captures_of streams))
+pub reads_settle : {Z : Type 0} → ByStampIsOrdered → MergedIsAMerge → MergedIsByStampAndPort
+    → (lanes : List (Lane Z)) (streams : List Stream) (given : List Arrival) (k : ℕ) (old new : Lane Z) (more : List Record) → Ascend (ports_of (captures_of streams))
     → AreLanesOf lanes streams → slice_get lanes k ≡ Some old → old.ended ≡ false → new.port ≡ old.port → Adds old new more → IsSettling streams given (map waiting_of lanes)
     → IsSettling (streams_with streams k new more) given (map waiting_of (set lanes k new))
-reads_settle merge sorted lanes streams given k old new more ascend are at still_open port adds settling =
-    settled_stays merge sorted streams (streams_with streams k new more) given (map waiting_of lanes) (map waiting_of (set lanes k new)) ascend
+reads_settle ordered merge sorted lanes streams given k old new more ascend are at still_open port adds settling =
+    settled_stays ordered merge sorted streams (streams_with streams k new more) given (map waiting_of lanes) (map waiting_of (set lanes k new)) ascend
     (one_reads lanes streams k old new more are at still_open port adds) settling

@@ -14,6 +14,7 @@ use Rattle.afdx_core.specs.Rows.{row_of}
 use Rattle.afdx_core.specs.State.{State}
 use Rattle.afdx_core.specs.Held.{IsTaken}
 use Rattle.afdx_core.specs.Merge.{merged}
+use Rattle.afdx_core.specs.Inner.Merge.{ByStampIsOrdered}
 use Rattle.afdx_count.specs.Tally.{Tally, noted}
 use Rattle.afdx_count.specs.Inner.Laws.{NoteCountsOneMore}
 use Rattle.afdx_session.specs.declared.lane.Lane.{Lane}
@@ -86,10 +87,10 @@ limit_stays {Z = Z} lanes new place gone = ap (λ (ls : List (Lane Z)). limit_at
   same (m ∷ ls) (suc k) l at = ap (λ o. cond m.ended o (Some (first_place (m.last, m.port) o))) (same ls k l at)
 
 -- the record that goes is the next of the merge
-pub round_arrives : {Z : Type 0} (limit : Option (ℕ × ℕ)) (now : Machine Z) (lanes : List (Lane Z)) (port : ℕ) (frame : Record) → IsLimit limit now.lanes.items
+pub round_arrives : {Z : Type 0} → ByStampIsOrdered → (limit : Option (ℕ × ℕ)) (now : Machine Z) (lanes : List (Lane Z)) (port : ℕ) (frame : Record) → IsLimit limit now.lanes.items
     → IsGoing now.switch.run.table now.lanes.items now.switch now.counts → Goes limit now.lanes.items lanes port frame
     → Arrives now.switch.run.table now.lanes.items lanes now.switch now.counts port frame
-round_arrives {Z = Z} limit now lanes port frame is going goes = arrives now.switch.run.table now.lanes.items lanes now.switch now.counts port frame
+round_arrives {Z = Z} ordered limit now lanes port frame is going goes = arrives ordered now.switch.run.table now.lanes.items lanes now.switch now.counts port frame
     (goes_as_limit limit now.lanes.items lanes port frame is goes) going
 
 pub round_touched : {Z : Type 0} (limit : Option (ℕ × ℕ)) (old lanes new : List (Lane Z)) (port : ℕ) (frame : Record) → Goes limit old lanes port frame → new ≡ lanes → AreTouched old new
@@ -147,19 +148,19 @@ none_here {Z = Z} v start new is same = back_items v new (ap (λ (ls : List (Lan
 with_table : {Z : Type 0} (t u : Content) (lanes : List (Lane Z)) (s : State) (counts : Tally) → u ≡ t → IsGoing t lanes s counts → IsGoing u lanes s counts
 with_table t u lanes s counts same going = subst (λ c. IsGoing c lanes s counts) (sym same) going
 
-pub round_goes : {Z : Type 0} → EarlierEventsStayAdmitted → ReachesInOrder → NoteCountsOneMore
+pub round_goes : {Z : Type 0} → ByStampIsOrdered → EarlierEventsStayAdmitted → ReachesInOrder → NoteCountsOneMore
     → (limit : Option (ℕ × ℕ)) (now next : Machine Z) (lanes : List (Lane Z)) (port : ℕ) (frame : Record) (step : Step) (place : ℕ) → AreOfTable now.switch.run.table now.lanes.items
     → IsLimit limit now.lanes.items → IsGoing now.switch.run.table now.lanes.items now.switch now.counts → (goes : Goes limit now.lanes.items lanes port frame) → goes.place ≡ place → next.lanes.items
     ≡ lanes → IsOfSameTable now.switch next.switch → step.number < 2 ^ 64
     → IsTaken now.switch next.switch (row_of now.switch.run.table port frame) frame step → next.counts ≡ noted step now.counts → IsRound (Some place) now next
-round_goes {Z = Z} stay reaches law limit now next lanes port frame step place of is going goes here lanes_are same small taken counted =
-    let arrives = round_arrives limit now lanes port frame is going goes in
+round_goes {Z = Z} ordered stay reaches law limit now next lanes port frame step place of is going goes here lanes_are same small taken counted =
+    let arrives = round_arrives ordered limit now lanes port frame is going goes in
     let first = ap length arrives.next in
     let fewer = ap (λ ls. length (merged (map waiting_of ls))) lanes_are in
     record {
       going = with_table now.switch.run.table next.switch.run.table next.lanes.items next.switch next.counts same.table
           (subst (λ (ls : List (Lane Z)). IsGoing now.switch.run.table ls next.switch next.counts) (sym lanes_are)
-          (gives_on stay reaches law now.switch.run.table now.lanes.items lanes now.switch next.switch now.counts next.counts port frame step of small arrives taken counted));
+          (gives_on ordered stay reaches law now.switch.run.table now.lanes.items lanes now.switch next.switch now.counts next.counts port frame step of small arrives taken counted));
       gone = λ k went. subst (HasGone now.lanes.items next.lanes.items) (here ∙ same_Some place k went)
           (record { lane = goes.lane; frame = frame; rest = goes.rest; at = goes.at; head = goes.head; lanes = lanes_are ∙ goes.lanes });
       fewer = λ k went. omega (arith, first, fewer);

@@ -12,6 +12,7 @@ use Rattle.afdx_table.specs.Content.{Content, port_row}
 use Rattle.afdx_port.specs.Inner.Admission.{EarlierEventsStayAdmitted}
 use Rattle.afdx_port.specs.Inner.Order.{ReachesInOrder}
 use Rattle.afdx_core.specs.State.{after_finish}
+use Rattle.afdx_core.specs.Inner.Merge.{ByStampIsOrdered}
 use Rattle.afdx_count.specs.Tally.{ended_tally}
 use Rattle.afdx_count.specs.Inner.Laws.{EndCountsTheRun}
 use Rattle.afdx_session.specs.declared.lane.Lane.{Lane}
@@ -166,19 +167,19 @@ ports_after old new k l i at same is =
     ∙ sym (ports_of_intakes old)
 
 -- a piece came, or a capture ended: what is true of each session stays
-pub kept_fed : {Z : Type 0} → EarlierEventsStayAdmitted → ReachesInOrder → AllStartBeforeTheLastInstant → (old new : Machine Z) (begun failed : Bool) (place : ℕ) (piece : List ℕ) → failed ≡ false
-    → IsOfSameTable old.switch new.switch
+pub kept_fed : {Z : Type 0} → ByStampIsOrdered → EarlierEventsStayAdmitted → ReachesInOrder → AllStartBeforeTheLastInstant → (old new : Machine Z) (begun failed : Bool) (place : ℕ) (piece : List ℕ)
+    → failed ≡ false → IsOfSameTable old.switch new.switch
     → IsFed old.lanes.items new.lanes.items place piece → IsReady new true → IsKeptMachine old begun failed → IsKeptMachine new true failed
-kept_fed stay reaches ends old new begun failed place piece not_failed same is ready kept =
+kept_fed ordered stay reaches ends old new begun failed place piece not_failed same is ready kept =
     subst (λ b. IsKeptMachine new true b) (sym not_failed)
-    (kept_ready stay reaches ends old new begun failed same (ports_after old.lanes.items new.lanes.items place is.lane (fed piece (intake_of is.lane)) is.at refl is.intakes) kept ready)
+    (kept_ready ordered stay reaches ends old new begun failed same (ports_after old.lanes.items new.lanes.items place is.lane (fed piece (intake_of is.lane)) is.at refl is.intakes) kept ready)
 
-pub kept_ended : {Z : Type 0} → EarlierEventsStayAdmitted → ReachesInOrder → AllStartBeforeTheLastInstant → (old new : Machine Z) (begun failed : Bool) (place : ℕ) → failed ≡ false
+pub kept_ended : {Z : Type 0} → ByStampIsOrdered → EarlierEventsStayAdmitted → ReachesInOrder → AllStartBeforeTheLastInstant → (old new : Machine Z) (begun failed : Bool) (place : ℕ) → failed ≡ false
     → IsOfSameTable old.switch new.switch
     → IsEnded old.lanes.items new.lanes.items place → IsReady new true → IsKeptMachine old begun failed → IsKeptMachine new true failed
-kept_ended stay reaches ends old new begun failed place not_failed same is ready kept =
+kept_ended ordered stay reaches ends old new begun failed place not_failed same is ready kept =
     subst (λ b. IsKeptMachine new true b) (sym not_failed)
-    (kept_ready stay reaches ends old new begun failed same (ports_after old.lanes.items new.lanes.items place is.lane (closed_intake (intake_of is.lane)) is.at refl is.intakes) kept ready)
+    (kept_ready ordered stay reaches ends old new begun failed same (ports_after old.lanes.items new.lanes.items place is.lane (closed_intake (intake_of is.lane)) is.at refl is.intakes) kept ready)
 
 -- the call failed
 pub kept_half : {Z : Type 0} (old new : Machine Z) (begun failed : Bool) → failed ≡ false → IsOfSameTable old.switch new.switch → AreHalfDone old.lanes.items new.lanes.items
@@ -316,15 +317,15 @@ lane_at lanes port place l at is = slice_get-get_or lanes place l (position_at (
 
 -- ---- the end
 
-pub answers_finished : {Z : Type 0} → EarlierEventsStayAdmitted → ReachesInOrder → AllStartBeforeTheLastInstant → TakenAreTheCapture → EndCountsTheRun → AcceptedRunsIsolate
+pub answers_finished : {Z : Type 0} → ByStampIsOrdered → EarlierEventsStayAdmitted → ReachesInOrder → AllStartBeforeTheLastInstant → TakenAreTheCapture → EndCountsTheRun → AcceptedRunsIsolate
     → (old new : Machine Z) (begun failed : Bool) (v : Seen) (results : Results)
     → seen_of old begun failed ≡ v → failed ≡ false → IsKeptMachine old begun failed → IsOfSameTable old.switch new.switch → AreHalfDone old.lanes.items new.lanes.items
     → AreEndedLanes old.lanes.items new.lanes.items
     → IsRunning new.switch.run.table new.lanes.items new.switch new.counts → results.captures ≡ map (λ (l : Lane Z). (l.port, l.out.items)) new.lanes.items → results.counts
     ≡ ended_tally (after_finish new.switch.run) new.counts → IsFinished v results
-answers_finished stay reaches ends takes law isolate old new begun failed v results view not_failed kept same half closed running captures counts =
+answers_finished ordered stay reaches ends takes law isolate old new begun failed v results view not_failed kept same half closed running captures counts =
     subst (λ w. IsFinished w results) (seen_so_far old begun failed v view not_failed)
-    (finished stay reaches ends takes law isolate old new begun results (subst (λ b. IsKeptMachine old begun b) not_failed kept) same half closed running captures counts)
+    (finished ordered stay reaches ends takes law isolate old new begun results (subst (λ b. IsKeptMachine old begun b) not_failed kept) same half closed running captures counts)
 
 pub answers_not_finished : {Z : Type 0} (old new : Machine Z) (begun failed : Bool) (v : Seen) (fault : RunFault) → seen_of old begun failed ≡ v → failed ≡ false → IsOfSameTable old.switch new.switch
     → AreHalfDone old.lanes.items new.lanes.items

@@ -7,7 +7,7 @@ use Rattle.std.proofs.lemmas.List.Elements.{filter-append, All-from_recursion, r
 use Rattle.std.proofs.lemmas.Bool.{cases_Bool, cases_lt, eqb-true, both_ways}
 use Rattle.afdx_pcap.specs.Record.{Record}
 use Rattle.afdx_core.specs.Merge.{Arrival, Capture, Rises, records_of, arrivals_of, placed, by_stamp, merged}
-use Rattle.afdx_core.specs.Inner.Merge.{part_at, MergedIsAMerge, Precedes, AreByStampAndPort, PortsRise as NumbersRise, MergedIsByStampAndPort}
+use Rattle.afdx_core.specs.Inner.Merge.{part_at, ByStampIsOrdered, MergedIsAMerge, Precedes, AreByStampAndPort, PortsRise as NumbersRise, MergedIsByStampAndPort}
 use Rattle.afdx_session.specs.Streams.{Stream, capture_of, captures_of, last_of, merged_so_far, GoesOn, GoOn}
 use Rattle.afdx_session.specs.Inner.Settled.{Ascend, ports_of, ComesBefore, IsSettled, AreQueued, IsSettling, AllWait, AllRise}
 use Rattle.afdx_session.proofs.Joining.{by_stamp_every}
@@ -266,10 +266,10 @@ part-append : (port : ℕ) (xs ys : List Arrival) → part_at port (xs ++ ys) �
 part-append port xs ys = ap (map (λ (a : Arrival). a.frame)) (filter-append (λ (a : Arrival). a.port == port) xs ys)
     ∙ map-append (λ (a : Arrival). a.frame) (filter (λ (a : Arrival). a.port == port) xs) (filter (λ (a : Arrival). a.port == port) ys)
 
-pub settled_stays : MergedIsAMerge → MergedIsByStampAndPort → (streams later : List Stream) (given : List Arrival) (waiting more : List Capture) → Ascend (ports_of (captures_of streams))
-    → AllWait streams later waiting more
+pub settled_stays : ByStampIsOrdered → MergedIsAMerge → MergedIsByStampAndPort → (streams later : List Stream) (given : List Arrival) (waiting more : List Capture)
+    → Ascend (ports_of (captures_of streams)) → AllWait streams later waiting more
     → IsSettling streams given waiting → IsSettling later given more
-settled_stays merge sorted streams later given waiting more ascend wait old = record {
+settled_stays ordered merge sorted streams later given waiting more ascend wait old = record {
   queued = s.more_queued;
   whole = merge_is_unique (merged_so_far later) (given ++ merged more)
       (sorted (captures_of later) (numbers_rise (captures_of later) later_ascend))
@@ -295,7 +295,7 @@ settled_stays merge sorted streams later given waiting more ascend wait old = re
 
   cross : AllByRecursion (λ a. AllByRecursion (λ b. Precedes a b) (merged more)) given
   cross = both_all (λ a. AllByRecursion (λ b. Precedes a b) (merged waiting)) (IsSettled streams) (λ a. AllByRecursion (λ b. Precedes a b) (merged more)) given
-      (λ a all settled. by_stamp_every (λ b. Precedes a b) (arrivals_of more) (cross_more a streams later waiting more wait old.queued settled
+      (λ a all settled. by_stamp_every ordered (λ b. Precedes a b) (arrivals_of more) (cross_more a streams later waiting more wait old.queued settled
       (by_stamp_out (λ b. Precedes a b) (arrivals_of waiting) all)))
       (sorted_cross given (merged waiting) whole_sorted) old.settled
 

@@ -4,6 +4,7 @@ use Rattle.std.specs.List.{AllByRecursion}
 use Rattle.std.proofs.lemmas.List.{length-append}
 use Rattle.std.proofs.lemmas.Option.{same_Some}
 use Rattle.std.proofs.Math.Seq.{take-length}
+use Rattle.afdx_core.specs.Inner.Merge.{ByStampIsOrdered}
 use Rattle.afdx_pcap.specs.Reading.{NoNext}
 use Rattle.afdx_table.specs.Content.{Content}
 use Rattle.afdx_port.specs.Inner.Admission.{EarlierEventsStayAdmitted}
@@ -46,16 +47,16 @@ length-drop-within zero xs le = omega arith
 length-drop-within (suc n) [] le = absurd (omega (arith, le))
 length-drop-within (suc n) (x ∷ xs) le = let more = length-drop-within n xs (omega (arith, le)) in omega (arith, more)
 
-pub shown_ready : {Z : Type 0} → EarlierEventsStayAdmitted → ReachesInOrder → AllStartBeforeTheLastInstant → (m : Machine Z) → AreOfTable m.switch.run.table m.lanes.items → IsReady m true
-    → IsShown m.switch.run.table true m.lanes.items
-shown_ready stay reaches ends m of ready = record {
+pub shown_ready : {Z : Type 0} → ByStampIsOrdered → EarlierEventsStayAdmitted → ReachesInOrder → AllStartBeforeTheLastInstant → (m : Machine Z) → AreOfTable m.switch.run.table m.lanes.items
+    → IsReady m true → IsShown m.switch.run.table true m.lanes.items
+shown_ready ordered stay reaches ends m of ready = record {
   streams = ready.running.going.streams;
   are = lanes_are_streams true m.lanes.items ready.running.going.streams ready.marked ready.read ready.running.going.lanes_are;
   each = λ place p l is_port is_lane.
       let out = ready.running.going.outs place p l tt is_port is_lane in
       let marked = all_slice_get (IsMarked true) m.lanes.items place l ready.marked is_lane in
-      let same = text_is stay reaches ends m.switch.run.table m.lanes.items m.switch m.counts ready.running place p l of is_port is_lane in
-      let bound = text_bound m.switch.run.table m.lanes.items m.switch m.counts ready.running.going p in
+      let same = text_is ordered stay reaches ends m.switch.run.table m.lanes.items m.switch m.counts ready.running place p l of is_port is_lane in
+      let bound = text_bound ordered m.switch.run.table m.lanes.items m.switch m.counts ready.running.going p in
       let long = ap length out.left in
       let cut = length-drop-within l.taken (text_up_to m.switch.run.table ready.running.going.given ready.running.going.since p) out.taken in
       let is_ready : l.ready ≡ length l.out.items = marked.ready in
@@ -129,14 +130,14 @@ kept_failed old new begun same half kept = record {
   cc_false : true ≡ false → ⊥
   cc_false e = absurd cc
 
-pub kept_ready : {Z : Type 0} → EarlierEventsStayAdmitted → ReachesInOrder → AllStartBeforeTheLastInstant → (old new : Machine Z) (begun failed : Bool) → IsOfSameTable old.switch new.switch
-    → map (λ (l : Lane Z). l.port) new.lanes.items ≡ map (λ (l : Lane Z). l.port) old.lanes.items
+pub kept_ready : {Z : Type 0} → ByStampIsOrdered → EarlierEventsStayAdmitted → ReachesInOrder → AllStartBeforeTheLastInstant → (old new : Machine Z) (begun failed : Bool)
+    → IsOfSameTable old.switch new.switch → map (λ (l : Lane Z). l.port) new.lanes.items ≡ map (λ (l : Lane Z). l.port) old.lanes.items
     → IsKeptMachine old begun failed → IsReady new true → IsKeptMachine new true false
-kept_ready stay reaches ends old new begun failed same ports kept ready = record {
+kept_ready ordered stay reaches ends old new begun failed same ports kept ready = record {
   of = of;
   handed = same.handed ∙ kept.handed ∙ ap (λ (t : Content). length t.ports) (sym same.table);
   accepted = λ accepted. subst IsAccepted (sym same.table) (kept.accepted (sym same.accepted ∙ accepted));
-  shown = shown_ready stay reaches ends new of ready;
+  shown = shown_ready ordered stay reaches ends new of ready;
   ready = λ not_failed. ready;
 } where
   of : AreOfTable new.switch.run.table new.lanes.items

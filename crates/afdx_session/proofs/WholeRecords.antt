@@ -12,6 +12,7 @@ use Rattle.afdx_port.specs.Inner.Admission.{EarlierEventsStayAdmitted}
 use Rattle.afdx_port.specs.Inner.Order.{ReachesInOrder}
 use Rattle.afdx_port.specs.Inner.Events.{SentGoesOn}
 use Rattle.afdx_core.specs.Merge.{Rises}
+use Rattle.afdx_core.specs.Inner.Merge.{ByStampIsOrdered}
 use Rattle.afdx_session.specs.Streams.{Stream, AreWhole, text_so_far, GoesOn, GoOn}
 use Rattle.afdx_session.specs.Session.{Intake, IsStream, AreStreams, IsFedOn, AreFedOn}
 use Rattle.afdx_session.proofs.Gathering.{splits_rise}
@@ -131,10 +132,10 @@ go_on stay unique (i ∷ intakes) (n ∷ later) [] others on are is = absurd are
 go_on stay unique (i ∷ intakes) (n ∷ later) (s ∷ streams) [] on are is = absurd is
 go_on stay unique (i ∷ intakes) (n ∷ later) (s ∷ streams) (o ∷ others) on are is = (goes_on stay unique i n s o on.0 are.0 is.0, go_on stay unique intakes later streams others on.1 are.1 is.1)
 
-pub grows_with_bytes : EarlierEventsStayAdmitted → ReachesInOrder → SentGoesOn → RecordsStay → RecordsAreUnique
+pub grows_with_bytes : ByStampIsOrdered → EarlierEventsStayAdmitted → ReachesInOrder → SentGoesOn → RecordsStay → RecordsAreUnique
     → (t : Content) (intakes later : List Intake) (streams others : List Stream) (p : PortRow) → AreFedOn intakes later → AreStreams intakes streams → AreStreams later others
     → (rest : List ℕ) × (text_so_far t others p ≡ text_so_far t streams p ++ rest)
-grows_with_bytes stay reaches goes_on records unique t intakes later streams others p on are is = text_grows stay reaches goes_on t streams others p
+grows_with_bytes ordered stay reaches goes_on records unique t intakes later streams others p on are is = text_grows ordered stay reaches goes_on t streams others p
     (go_on records unique intakes later streams others on are is)
 
 pub streams_unique : RecordsStay → RecordsAreUnique → (intakes : List Intake) (streams others : List Stream) → AreStreams intakes streams → AreStreams intakes others → streams ≡ others

@@ -7,6 +7,7 @@ use Rattle.afdx_table.specs.Content.{Content}
 use Rattle.afdx_port.specs.Inner.Admission.{EarlierEventsStayAdmitted}
 use Rattle.afdx_port.specs.Inner.Order.{ReachesInOrder}
 use Rattle.afdx_core.specs.State.{after_finish}
+use Rattle.afdx_core.specs.Inner.Merge.{ByStampIsOrdered}
 use Rattle.afdx_count.specs.Tally.{ended_tally}
 use Rattle.afdx_count.specs.Inner.Laws.{EndCountsTheRun}
 use Rattle.afdx_session.specs.declared.lane.Lane.{Lane}
@@ -69,12 +70,12 @@ same_results a b captures counts = ap (λ texts. record { captures = texts; coun
 -- ---- the run
 
 -- what is true of each session is true of a machine that all captures were lent to
-pub kept_lent : {Z : Type 0} → EarlierEventsStayAdmitted → ReachesInOrder → AllStartBeforeTheLastInstant → (old new : Machine Z) (t : Content) (texts : List Text) → IsKeptMachine old false false
-    → old.switch.run.table ≡ t → AreOfPorts t texts → IsOfSameTable old.switch new.switch → IsReady new true
+pub kept_lent : {Z : Type 0} → ByStampIsOrdered → EarlierEventsStayAdmitted → ReachesInOrder → AllStartBeforeTheLastInstant → (old new : Machine Z) (t : Content) (texts : List Text)
+    → IsKeptMachine old false false → old.switch.run.table ≡ t → AreOfPorts t texts → IsOfSameTable old.switch new.switch → IsReady new true
     → AreLent texts new.lanes.items → IsKeptMachine new true false
-kept_lent stay reaches ends old new t texts kept table ports same ready lent =
-    kept_ready stay reaches ends old new false false same (lent_ports texts new.lanes.items lent ∙ ports ∙ ap (λ (c : Content). map (λ (p : PortRow). p.id) c.ports) (sym table) ∙ sym kept.of.ports)
-    kept ready
+kept_lent ordered stay reaches ends old new t texts kept table ports same ready lent =
+    kept_ready ordered stay reaches ends old new false false same
+    (lent_ports texts new.lanes.items lent ∙ ports ∙ ap (λ (c : Content). map (λ (p : PortRow). p.id) c.ports) (sym table) ∙ sym kept.of.ports) kept ready
 
 -- its fault is that of the captures
 pub lent_fault : {Z : Type 0} (m : Machine Z) (texts : List Text) (fault : RunFault) → AreLent texts m.lanes.items → IsReady m true → IsReadFault (texts_at m.lanes.items) fault
@@ -89,11 +90,11 @@ is_refusal t texts run.Closed ports is = is
 is_refusal t texts run.Failed ports is = is
 
 -- the end of such a machine gives the whole output
-pub lent_outcome : {Z : Type 0} → EarlierEventsStayAdmitted → ReachesInOrder → AllStartBeforeTheLastInstant → TakenAreTheCapture → EndCountsTheRun → AcceptedRunsIsolate
+pub lent_outcome : {Z : Type 0} → ByStampIsOrdered → EarlierEventsStayAdmitted → ReachesInOrder → AllStartBeforeTheLastInstant → TakenAreTheCapture → EndCountsTheRun → AcceptedRunsIsolate
     → (accepted : Bool) (t : Content) (texts : List Text) (new : Machine Z) (results : Results) → HasCarried accepted t texts new
     → results.captures ≡ map (λ (l : Lane Z). (l.port, l.out.items)) new.lanes.items → results.counts ≡ ended_tally (after_finish new.switch.run) new.counts → IsOutcome t texts results
     × (accepted ≡ true → IsIsolated t texts results)
-lent_outcome {Z} stay reaches ends takes law isolate accepted t texts new results carried captures counts =
+lent_outcome {Z} ordered stay reaches ends takes law isolate accepted t texts new results carried captures counts =
     (seen_as (λ c ts r. IsOutcome c ts r) end.outcome, λ cleared. seen_as (λ c ts r. IsIsolated c ts r) (end.isolated (carried.accepted ∙ cleared))) where
       old : Machine Z
       old = carried.lent
@@ -102,7 +103,7 @@ lent_outcome {Z} stay reaches ends takes law isolate accepted t texts new result
       v = seen_of old true false
 
       end : IsFinished v results
-      end = finished stay reaches ends takes law isolate old new true results carried.kept carried.same carried.half carried.ended carried.running captures counts
+      end = finished ordered stay reaches ends takes law isolate old new true results carried.kept carried.same carried.half carried.ended carried.running captures counts
 
       all : results ≡ end.whole
       all = same_results results end.whole (end.captures ∙ rest_is_all v end.whole.captures (λ port. nothing_taken texts old.lanes.items port carried.captures)) end.counts

@@ -10,7 +10,8 @@ ghost use Rattle.afdx_session.specs.Inner.Settled.{SettledStays, SettledRecordsG
 ghost use Rattle.afdx_session.specs.Streams.{LaterArrivalsChangeNothing, OutputGrows, TextGrows, OutputOfAll, IsPrefixOfTheOutput, AllStartBeforeTheLastInstant};
 
 use afdx_core::laws::{
-    accepted_tables_isolate, merged_is_a_merge, merged_is_by_stamp_and_port, verdicts_name_links,
+    accepted_tables_isolate, by_stamp_is_ordered, merged_is_a_merge, merged_is_by_stamp_and_port,
+    verdicts_name_links,
 };
 use afdx_filter::laws::clean_frames_have_a_link;
 use afdx_pcap::laws::whole_records_stay;
@@ -29,6 +30,7 @@ pub fn accepted_runs_isolate()
     verdicts_name_links();
     links_are_found();
     feeds_are_admitted_in_parts();
+    by_stamp_is_ordered();
     merged_is_a_merge();
     accepted_tables_isolate();
 }
@@ -61,6 +63,7 @@ pub fn output_so_far_grows()
     ensures all { OutputOfAll }
     ensures prefix { IsPrefixOfTheOutput }
 {
+    by_stamp_is_ordered();
     arrivals_change_nothing_earlier();
     stamps_keep_their_order();
     sent_goes_on();
@@ -83,6 +86,7 @@ pub fn merged_is_the_only_one()
 pub fn settled_stays()
     ensures { SettledStays }
 {
+    by_stamp_is_ordered();
     merged_is_a_merge();
     merged_is_by_stamp_and_port();
 }
@@ -101,7 +105,9 @@ pub fn switch_shows_what_left()
 pub fn settled_records_go()
     ensures goes { SettledRecordsGo }
     ensures rest { RestComesAtTheFrontier }
-{}
+{
+    by_stamp_is_ordered();
+}
 
 /// However the bytes come in pieces, what has gone out so far is a prefix of what has gone out later; the bytes so
 /// far have one list of whole records.
@@ -109,6 +115,7 @@ pub fn output_grows_with_bytes()
     ensures grows { OutputGrowsWithBytes }
     ensures unique { WholeRecordsAreUnique }
 {
+    by_stamp_is_ordered();
     arrivals_change_nothing_earlier();
     stamps_keep_their_order();
     sent_goes_on();
@@ -125,6 +132,7 @@ pub fn takes_join_to_the_output()
     ensures prefix { TakenIsAPrefix }
     ensures whole { TakesAndRestAreTheOutput }
 {
+    by_stamp_is_ordered();
     arrivals_change_nothing_earlier();
     stamps_keep_their_order();
     sent_goes_on();
@@ -144,6 +152,7 @@ pub fn all_start_before_the_last_instant()
 pub fn outputs_are_readable()
     ensures { OutputsAreReadable }
 {
+    by_stamp_is_ordered();
     ends_do_not_fall();
     ends_within_a_second();
     clean_frames_have_a_link();

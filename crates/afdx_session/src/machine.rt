@@ -25,7 +25,7 @@ use crate::heads::Heads;
 use crate::lane::{Lane, head_of, lanes_of, limit_of, look_ahead, take_settled};
 use crate::plan::{Outcome, Plan, RunFault};
 use crate::rest::Rest;
-use afdx_core::laws::{merged_is_a_merge, merged_is_by_stamp_and_port};
+use afdx_core::laws::{by_stamp_is_ordered, merged_is_a_merge, merged_is_by_stamp_and_port};
 use afdx_core::{CoreFault, Switch};
 use afdx_count::Counts;
 use afdx_count::laws::note_counts_one_more;
@@ -155,6 +155,7 @@ impl<'a, A: Allocator + Copy> Machine<'a, A> {
         ensures same { IsOfSameTable self.old.switch self.new.switch }
         ensures ok { IfOk result (λ went. IsRound went self.old self.new) }
     {
+        by_stamp_is_ordered();
         arrivals_change_nothing_earlier();
         stamps_keep_their_order();
         note_counts_one_more();
@@ -196,6 +197,7 @@ impl<'a, A: Allocator + Copy> Machine<'a, A> {
         ensures same { IsOfSameTable self.old.switch self.new.switch }
         ensures ok { OnOk result (IsRunning self.new.switch.run.table self.new.lanes.items self.new.switch self.new.counts) }
     {
+        by_stamp_is_ordered();
         self.give_settled()?;
         let frontier = instant_of(limit_of(&self.lanes));
         if self.switch.advance(frontier).is_err() {
@@ -225,6 +227,7 @@ impl<'a, A: Allocator + Copy> Machine<'a, A> {
         ensures ok { OnOk result (IsReady self.new true × IsFed self.old.lanes.items self.new.lanes.items place piece.now) }
         ensures err { IfErr result (λ fault. IsNotFed self.old.lanes.items self.new.lanes.items place piece.now fault) }
     {
+        by_stamp_is_ordered();
         merged_is_a_merge();
         merged_is_by_stamp_and_port();
         self.lanes[place].feed(piece)?;
@@ -243,6 +246,7 @@ impl<'a, A: Allocator + Copy> Machine<'a, A> {
         ensures ok { OnOk result (IsReady self.new true × IsEnded self.old.lanes.items self.new.lanes.items place) }
         ensures err { IfErr result (λ fault. IsNotEnded self.old.lanes.items self.new.lanes.items place fault) }
     {
+        by_stamp_is_ordered();
         merged_is_a_merge();
         merged_is_by_stamp_and_port();
         self.lanes[place].close()?;
@@ -264,6 +268,7 @@ impl<'a, A: Allocator + Copy> Machine<'a, A> {
         ensures taken { OnOk result (taken_by self.new.lanes.items ≡ taken_by self.old.lanes.items) }
         ensures err { IfErr result (λ fault. IsOneFault (texts_of captures.now) fault) }
     {
+        by_stamp_is_ordered();
         merged_is_a_merge();
         merged_is_by_stamp_and_port();
         for place in 0..self.lanes.len() {
@@ -285,6 +290,7 @@ impl<'a, A: Allocator + Copy> Machine<'a, A> {
         ensures ok { IfOk result (λ more. CarriesOn more self.old self.new) }
         ensures err { IfErr result (λ fault. IsOneFault (texts_over self.old.lanes.items) fault) }
     {
+        by_stamp_is_ordered();
         arrivals_change_nothing_earlier();
         stamps_keep_their_order();
         note_counts_one_more();
@@ -357,6 +363,7 @@ impl<'a, A: Allocator + Copy> Machine<'a, A> {
         ensures switch { self.new.switch ≡ self.old.switch }
         ensures counts { self.new.counts ≡ self.old.counts }
     {
+        by_stamp_is_ordered();
         arrivals_change_nothing_earlier();
         stamps_keep_their_order();
         sent_goes_on();
@@ -516,6 +523,7 @@ impl<'a, A: Allocator + Copy> Machine<'a, A> {
             × AreEndedLanes self.old.lanes.items self.new.lanes.items) }
         ensures err { IfErr result (λ fault. IsReadFault (texts_at self.old.lanes.items) fault) }
     {
+        by_stamp_is_ordered();
         merged_is_a_merge();
         merged_is_by_stamp_and_port();
         taken_records_are_the_first();

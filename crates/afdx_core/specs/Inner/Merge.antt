@@ -1,8 +1,8 @@
 -- What a merge of the records of several ports is, and that the program's is one, by stamp and then by port number.
-use Rattle.std.specs.Prelude.{◌≡◌, ℕ, ◌<◌, ◌≤◌, ◌⊎◌, ◌==◌, List, [], ◌∷◌, map, filter}
+use Rattle.std.specs.Prelude.{◌≡◌, ℕ, ◌<◌, ◌≤◌, ◌⊎◌, ◌==◌, All, Contains, List, [], ◌∷◌, map, filter}
 use Rattle.std.specs.List.{AllByRecursion}
 use Rattle.afdx_pcap.specs.Record.{Record}
-use Rattle.afdx_core.specs.Merge.{Arrival, Capture, Rises, records_of, arrivals_of, merged}
+use Rattle.afdx_core.specs.Merge.{Arrival, Capture, Rises, records_of, arrivals_of, by_stamp, merged}
 
 -- the records that came in at a port, in order
 abbrev pub part_at : ℕ → List Arrival → List Record
@@ -16,6 +16,15 @@ AreInOrder arrivals = Rises (map (λ a. a.frame) arrivals)
 pub record IsMerge (captures : List Capture) (arrivals : List Arrival) : Type 0 where
   pub in_order : AreInOrder arrivals
   pub parts : (port : ℕ) → part_at port arrivals ≡ records_of captures port
+
+-- arrivals in their order are of those that came, and their stamps do not fall
+pub record IsOrdered (arrivals ordered : List Arrival) : Type 0 where
+  pub among : All (Contains arrivals) ordered
+  pub in_order : AreInOrder ordered
+
+-- whatever their stamps, arrivals by stamp are such
+abbrev pub ByStampIsOrdered : Type 0
+ByStampIsOrdered = (arrivals : List Arrival) → IsOrdered arrivals (by_stamp arrivals)
 
 -- where no port's stamps fall, the program's merge is one
 abbrev pub MergedIsAMerge : Type 0

@@ -2,7 +2,7 @@
 use Rattle.afdx_account.specs.Inner.Laws.{NextFrameJoinsWhereItConforms, PassedByTheirFrames, HeadroomIsCredited, HeadroomDecides, HeadroomIsDebited}
 use Rattle.afdx_port.specs.declared.Item.{Item}
 use Rattle.afdx_port.specs.Inner.Admission.{EarlierEventsStay}
-use Rattle.afdx_port.specs.Inner.Course.{LineGoesOn, ArrivalJoinsTheLine, EventsAreInParts, EventsFollowTheLine, WorkIsOfTheLine, EventsAreOfItems, WaitingIsOfItems}
+use Rattle.afdx_port.specs.Inner.Course.{LineGoesOn, ArrivalJoinsTheLine, EventsAreInParts, EventsFollowTheLine, WorkIsOfTheLine, EventsAreOfItems, SentIsOfItems, WaitingIsOfItems}
 use Rattle.afdx_port.specs.Inner.Events.{SentInTime}
 use Rattle.afdx_port.specs.Inner.Order.{ReachesInOrder, KeepsOrder}
 use Rattle.afdx_port.specs.Inner.Work.{WorkBoundsBytes}
@@ -21,6 +21,7 @@ pub record Ground : Type 0 where
   pub work : WorkIsOfTheLine
   pub waiting : WaitingIsOfItems
   pub events : EventsAreOfItems
+  pub sent : SentIsOfItems
   pub order : KeepsOrder
   pub reaches : ReachesInOrder
   pub sent_in_time : SentInTime

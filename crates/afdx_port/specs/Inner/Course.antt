@@ -2,7 +2,9 @@
 use Rattle.std.specs.Prelude.{ℕ, ◌+◌, ◌-◌, ◌≤◌, ◌≡◌, max, All, Contains, sum_by, Option, Some, None, nat_lt, if◌then◌else◌, List, [], ◌∷◌, ◌++◌}
 use Rattle.afdx_port.specs.declared.Settings.{Settings}
 use Rattle.afdx_port.specs.declared.Item.{Item}
-use Rattle.afdx_port.specs.Service.{Event, came, item_of, free_after, fate, service, before}
+use Rattle.afdx_port.specs.declared.Sent.{Sent}
+use Rattle.afdx_port.specs.Service.{Event, came, item_of, free_after, fate, service, before, sent_of}
+use Rattle.afdx_port.specs.Content.{Content, done}
 use Rattle.afdx_port.specs.Inner.Order.{line_up, in_line}
 use Rattle.afdx_port.specs.Inner.Progress.{LineState, left}
 use Rattle.afdx_port.specs.Inner.Work.{item_cost, work, HaveCome}
@@ -59,9 +61,12 @@ abbrev pub WorkIsOfTheLine : Type 0
 WorkIsOfTheLine = (s : Settings) (t : ℕ) (items : List Item)
     → work s t items ≡ ((line_at s t items).free - t) + sum_by (item_cost s) (line_at s t items).waiting
 
--- an item that waits, or that an event is about, is one of those that came
+-- an item that waits, that an event is about, or that was sent, is one of those that came
 abbrev pub WaitingIsOfItems : Type 0
 WaitingIsOfItems = (s : Settings) (t : ℕ) (items : List Item) → All (Contains items) (line_at s t items).waiting
 
 abbrev pub EventsAreOfItems : Type 0
 EventsAreOfItems = (s : Settings) (free : ℕ) (items : List Item) → All (λ event. Contains items (item_of event)) (service s free items)
+
+abbrev pub SentIsOfItems : Type 0
+SentIsOfItems = (c : Content) → All (λ (sent : Sent). Contains c.admitted sent.item) (sent_of (done c))

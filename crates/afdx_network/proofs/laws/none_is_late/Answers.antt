@@ -3,7 +3,7 @@ use Rattle.afdx_network.proofs.laws.none_is_late.Goals as goal
 
 pub returns : goal.returns
 returns c =
-    none_is_late (record {
+    none_is_late c.by_stamp_is_ordered.ensures (record {
       exact = c.clean_exactly.ensures;
       verdicts = c.verdicts_name_links.ensures;
       links = c.links_are_found.ensures;

@@ -9,7 +9,7 @@ returns-clause-none c = nothing_was_taken
 
 pub returns-clause-stays : goal.returns-clause-stays
 returns-clause-stays c =
-    taken_stays c.arrivals_change_nothing_earlier.ensures.admission c.stamps_keep_their_order.ensures.instants c.sent_goes_on.ensures c.whole_records_stay.ensures.stay
+    taken_stays c.by_stamp_is_ordered.ensures c.arrivals_change_nothing_earlier.ensures.admission c.stamps_keep_their_order.ensures.instants c.sent_goes_on.ensures c.whole_records_stay.ensures.stay
     c.whole_records_stay.ensures.unique
 
 pub returns-clause-joins : goal.returns-clause-joins
@@ -17,10 +17,10 @@ returns-clause-joins c = takes_join c.whole_records_stay.ensures.stay c.whole_re
 
 pub returns-clause-prefix : goal.returns-clause-prefix
 returns-clause-prefix c =
-    taken_is_a_prefix c.arrivals_change_nothing_earlier.ensures.admission c.stamps_keep_their_order.ensures.instants c.sent_goes_on.ensures c.whole_records_stay.ensures.stay
-    c.whole_records_stay.ensures.unique
+    taken_is_a_prefix c.by_stamp_is_ordered.ensures c.arrivals_change_nothing_earlier.ensures.admission c.stamps_keep_their_order.ensures.instants c.sent_goes_on.ensures
+    c.whole_records_stay.ensures.stay c.whole_records_stay.ensures.unique
 
 pub returns-clause-whole : goal.returns-clause-whole
 returns-clause-whole c =
-    takes_and_rest c.arrivals_change_nothing_earlier.ensures.admission c.stamps_keep_their_order.ensures.instants c.sent_goes_on.ensures c.whole_records_stay.ensures.stay
+    takes_and_rest c.by_stamp_is_ordered.ensures c.arrivals_change_nothing_earlier.ensures.admission c.stamps_keep_their_order.ensures.instants c.sent_goes_on.ensures c.whole_records_stay.ensures.stay
     c.whole_records_stay.ensures.unique

@@ -29,16 +29,16 @@ end-requires-clause-of g c =
     let texts = texts_of c.args.captures.now in
     let begun = c.in_ok-machine.ensures.ok in
     let ports = subst (λ (u : Content). AreOfPorts u texts) begun.table begun.ports in
-    (kept_lent c.arrivals_change_nothing_earlier.ensures.admission c.stamps_keep_their_order.ensures.instants c.all_start_before_the_last_instant.ensures c.in_ok-machine.machine c.lend.new.self
-    (table_in c.args.plan) texts begun.kept begun.table ports c.lend.ensures.same c.in_ok-lend.ensures.ok.0 c.in_ok-lend.ensures.ok.1).of
+    (kept_lent c.by_stamp_is_ordered.ensures c.arrivals_change_nothing_earlier.ensures.admission c.stamps_keep_their_order.ensures.instants c.all_start_before_the_last_instant.ensures
+    c.in_ok-machine.machine c.lend.new.self (table_in c.args.plan) texts begun.kept begun.table ports c.lend.ensures.same c.in_ok-lend.ensures.ok.0 c.in_ok-lend.ensures.ok.1).of
 
 pub end-requires-clause-handed : goal.end-requires-clause-handed
 end-requires-clause-handed g c =
     let texts = texts_of c.args.captures.now in
     let begun = c.in_ok-machine.ensures.ok in
     let ports = subst (λ (u : Content). AreOfPorts u texts) begun.table begun.ports in
-    (kept_lent c.arrivals_change_nothing_earlier.ensures.admission c.stamps_keep_their_order.ensures.instants c.all_start_before_the_last_instant.ensures c.in_ok-machine.machine c.lend.new.self
-    (table_in c.args.plan) texts begun.kept begun.table ports c.lend.ensures.same c.in_ok-lend.ensures.ok.0 c.in_ok-lend.ensures.ok.1).handed
+    (kept_lent c.by_stamp_is_ordered.ensures c.arrivals_change_nothing_earlier.ensures.admission c.stamps_keep_their_order.ensures.instants c.all_start_before_the_last_instant.ensures
+    c.in_ok-machine.machine c.lend.new.self (table_in c.args.plan) texts begun.kept begun.table ports c.lend.ensures.same c.in_ok-lend.ensures.ok.0 c.in_ok-lend.ensures.ok.1).handed
 
 pub end-requires-clause-ready : goal.end-requires-clause-ready
 end-requires-clause-ready g c = (true, c.in_ok-lend.ensures.ok.0)
@@ -63,8 +63,8 @@ returns-clause-ok g c =
       table = c.lend.ensures.same.table ∙ begun.table;
       accepted = c.lend.ensures.same.accepted ∙ begun.accepted;
       ports = ports;
-      kept = kept_lent c.arrivals_change_nothing_earlier.ensures.admission c.stamps_keep_their_order.ensures.instants c.all_start_before_the_last_instant.ensures c.in_ok-machine.machine
-          c.lend.new.self (table_in c.args.plan) texts begun.kept begun.table ports c.lend.ensures.same c.in_ok-lend.ensures.ok.0 c.in_ok-lend.ensures.ok.1;
+      kept = kept_lent c.by_stamp_is_ordered.ensures c.arrivals_change_nothing_earlier.ensures.admission c.stamps_keep_their_order.ensures.instants c.all_start_before_the_last_instant.ensures
+          c.in_ok-machine.machine c.lend.new.self (table_in c.args.plan) texts begun.kept begun.table ports c.lend.ensures.same c.in_ok-lend.ensures.ok.0 c.in_ok-lend.ensures.ok.1;
       captures = c.in_ok-lend.ensures.ok.1;
       same = c.end.ensures.same;
       half = c.end.ensures.half;

@@ -41,7 +41,8 @@ pub give-requires-clause-early : goal.give-requires-clause-early
 give-requires-clause-early g c =
     let m = c.args.self.now in
     let from = goes_from _ m.lanes _ _ _ _ c.index_mut-lane.result.now _ c.deref_mut.ensures.value c.in-Some-take_settled.ensures.some c.index_mut-lane.ensures.value in
-    (round_arrives _ m (with_items m.lanes c.take_settled.new.lanes).items _ _ (no_limit m.lanes.items c.requires.carrying.over) c.requires.carrying.going from.goes).early
+    (round_arrives c.by_stamp_is_ordered.ensures _ m (with_items m.lanes c.take_settled.new.lanes).items _ _ (no_limit m.lanes.items c.requires.carrying.over)
+    c.requires.carrying.going from.goes).early
 
 pub give-requires-clause-none_else : goal.give-requires-clause-none_else
 give-requires-clause-none_else g c =
@@ -49,7 +50,7 @@ give-requires-clause-none_else g c =
     let new = (with_items m.lanes c.take_settled.new.lanes).items in
     let from = goes_from _ m.lanes _ _ _ _ c.index_mut-lane.result.now _ c.deref_mut.ensures.value c.in-Some-take_settled.ensures.some c.index_mut-lane.ensures.value in
     none_else m.switch.run.table m.lanes.items new m.switch m.counts _ _ c.requires.carrying.of
-    (round_arrives _ m new _ _ (no_limit m.lanes.items c.requires.carrying.over) c.requires.carrying.going from.goes)
+    (round_arrives c.by_stamp_is_ordered.ensures _ m new _ _ (no_limit m.lanes.items c.requires.carrying.over) c.requires.carrying.going from.goes)
 
 pub returns-in_ok-give-in-Some-take_settled-clause-heads : goal.returns-in_ok-give-in-Some-take_settled-clause-heads
 returns-in_ok-give-in-Some-take_settled-clause-heads g c =
@@ -68,9 +69,11 @@ returns-in_ok-give-in-Some-take_settled-clause-ok g c =
     let mid : Machine _ = record { switch = c.give.new.self.switch; counts = c.give.new.self.counts; lanes = lanes } in
     let from = goes_from _ m.lanes _ _ _ _ c.index_mut-lane.result.now _ c.deref_mut.ensures.value c.in-Some-take_settled.ensures.some c.index_mut-lane.ensures.value in
     let gone = went_gone _ m.lanes.items lanes.items _ c.in-Some.place _ from in
-    let round = round_goes c.arrivals_change_nothing_earlier.ensures.admission c.stamps_keep_their_order.ensures.instants c.note_counts_one_more.ensures _ m mid lanes.items _ _ given.0 c.in-Some.place
+    let round = round_goes c.by_stamp_is_ordered.ensures c.arrivals_change_nothing_earlier.ensures.admission c.stamps_keep_their_order.ensures.instants c.note_counts_one_more.ensures
+    _ m mid lanes.items _ _ given.0 c.in-Some.place
     c.requires.carrying.of (no_limit m.lanes.items c.requires.carrying.over) c.requires.carrying.going from.goes from.here refl c.give.ensures.same given.1 given.2 given.3 in
-    carries_one c.merged_is_a_merge.ensures c.merged_is_by_stamp_and_port.ensures c.in_ok-draw-in-Some-take_settled.field-0 m mid c.give.new.self c.in-Some.place c.index_mut-lane.result.now
+    carries_one c.by_stamp_is_ordered.ensures c.merged_is_a_merge.ensures c.merged_is_by_stamp_and_port.ensures c.in_ok-draw-in-Some-take_settled.field-0
+    m mid c.give.new.self c.in-Some.place c.index_mut-lane.result.now
     c.draw.new.self c.requires.carrying (round_touched _ m.lanes.items lanes.items lanes.items _ _ from.goes refl) c.give.ensures.same round
     (gone_at m.lanes.items lanes.items c.in-Some.place c.index_mut-lane.result.now _ gone c.index_mut-lane.ensures.value)
     c.draw.ensures.read_on c.in_ok-draw-in-Some-take_settled.ensures.ok (ap (λ w. w.items) c.give.ensures.lanes) refl refl

@@ -32,8 +32,8 @@ pub go_on-requires-clause-going : goal.go_on-requires-clause-going
 go_on-requires-clause-going g c =
     let m = c.args.self.now in
     let at = reads_open m.lanes.items c.requires.still_open.0 c.args.place c.index_mut.result.now _ c.requires.still_open.1 c.index_mut.ensures.value in
-    lane_reads_on c.merged_is_a_merge.ensures c.merged_is_by_stamp_and_port.ensures c.requires.ready.0 m c.args.place c.index_mut.result.now c.close.new.self c.in_ok-close.ensures.ok.0 c.requires.of
-    c.requires.ready.1 at.0 at.1 c.close.ensures.still
+    lane_reads_on c.by_stamp_is_ordered.ensures c.merged_is_a_merge.ensures c.merged_is_by_stamp_and_port.ensures c.requires.ready.0 m c.args.place c.index_mut.result.now c.close.new.self
+    c.in_ok-close.ensures.ok.0 c.requires.of c.requires.ready.1 at.0 at.1 c.close.ensures.still
     c.in_ok-close.ensures.ok.1
 
 pub returns-in_err-go_on-clause-err : goal.returns-in_err-go_on-clause-err

@@ -45,8 +45,8 @@ loop-lane-preserved g c =
     elim c.if-not-lane.branch [
       | then-not-lane+in_ok-close w ↦
           subst (λ ls. Closes c.args.self.now ls (c.loop-lane.lane-index + 1)) (sym w.lane-items-is)
-          (closes_one c.merged_is_a_merge.ensures c.merged_is_by_stamp_and_port.ensures c.requires.ready.0 c.args.self.now items c.loop-lane.lane-index _ _ w.in_ok-close.ensures.ok.0 c.requires.of
-          c.requires.ready.1 at w.if-not-lane.true
+          (closes_one c.by_stamp_is_ordered.ensures c.merged_is_a_merge.ensures c.merged_is_by_stamp_and_port.ensures c.requires.ready.0 c.args.self.now items c.loop-lane.lane-index _ _
+          w.in_ok-close.ensures.ok.0 c.requires.of c.requires.ready.1 at w.if-not-lane.true
           w.close.ensures.still w.close.ensures.undone w.close.ensures.bytes w.close.ensures.ended w.in_ok-close.ensures.ok.1 w.in_ok-close.ensures.ok.2 c.loop-lane.invariant)
       | else-not-lane w ↦
           subst (λ ls. Closes c.args.self.now ls (c.loop-lane.lane-index + 1)) (sym w.lane-items-is)

@@ -17,14 +17,14 @@ pub give-requires-clause-early : goal.give-requires-clause-early
 give-requires-clause-early g c =
     let m = c.args.self.now in
     let from = goes_from _ m.lanes _ _ _ _ c.index.result.now _ c.deref_mut.ensures.value c.in-Some-take_settled.ensures.some c.index.ensures in
-    (round_arrives _ m (with_items m.lanes c.take_settled.new.lanes).items _ _ c.requires.limit c.requires.going from.goes).early
+    (round_arrives c.by_stamp_is_ordered.ensures _ m (with_items m.lanes c.take_settled.new.lanes).items _ _ c.requires.limit c.requires.going from.goes).early
 
 pub give-requires-clause-none_else : goal.give-requires-clause-none_else
 give-requires-clause-none_else g c =
     let m = c.args.self.now in
     let new = (with_items m.lanes c.take_settled.new.lanes).items in
     let from = goes_from _ m.lanes _ _ _ _ c.index.result.now _ c.deref_mut.ensures.value c.in-Some-take_settled.ensures.some c.index.ensures in
-    none_else m.switch.run.table m.lanes.items new m.switch m.counts _ _ c.requires.of (round_arrives _ m new _ _ c.requires.limit c.requires.going from.goes)
+    none_else m.switch.run.table m.lanes.items new m.switch m.counts _ _ c.requires.of (round_arrives c.by_stamp_is_ordered.ensures _ m new _ _ c.requires.limit c.requires.going from.goes)
 
 pub returns-in_err-give-in-Some-take_settled-clause-touched : goal.returns-in_err-give-in-Some-take_settled-clause-touched
 returns-in_err-give-in-Some-take_settled-clause-touched g c =
@@ -43,7 +43,7 @@ returns-in_ok-give-in-Some-take_settled-clause-ok g c =
     let m = c.args.self.now in
     let given = c.in_ok-give-in-Some-take_settled.ensures.ok in
     let from = goes_from _ m.lanes _ _ _ _ c.index.result.now _ c.deref_mut.ensures.value c.in-Some-take_settled.ensures.some c.index.ensures in
-    round_goes c.arrivals_change_nothing_earlier.ensures.admission c.stamps_keep_their_order.ensures.instants c.note_counts_one_more.ensures _ m c.give.new.self
+    round_goes c.by_stamp_is_ordered.ensures c.arrivals_change_nothing_earlier.ensures.admission c.stamps_keep_their_order.ensures.instants c.note_counts_one_more.ensures _ m c.give.new.self
     (with_items m.lanes c.take_settled.new.lanes).items _ _ given.0 c.in-Some.place c.requires.of c.requires.limit
     c.requires.going from.goes from.here (ap (λ w. w.items) c.give.ensures.lanes) c.give.ensures.same given.1 given.2 given.3
 

@@ -40,7 +40,8 @@ returns-clause-ok g c =
     let settled = c.in_ok-give_settled.ensures.ok in
     let limit = c.limit_of.ensures ∙ ap (λ ls. limit_at ls) c.deref.ensures.value in
     let came = ok_reported c.advance.result _ (sym c.if-is_err.ensures.value) c.advance.ensures.ok in
-    let come = machine_comes mid c.advance.new.self c.limit_of.result c.instant_of-frontier.result settled.1.0 settled.0 limit settled.1.1 c.instant_of-frontier.ensures came.1 came.2 in
+    let come = machine_comes c.by_stamp_is_ordered.ensures mid c.advance.new.self c.limit_of.result c.instant_of-frontier.result settled.1.0 settled.0 limit settled.1.1
+    c.instant_of-frontier.ensures came.1 came.2 in
     let same = advanced_same mid.switch c.advance.new.self c.instant_of-frontier.result came.1 came.2 in
     on_ok_weaker c.drain_all.result
     (λ out. machine_runs mid c.advance.new.self c.drain_all.new.switch c.deref_mut.result.now c.drain_all.new.lanes come

@@ -13,7 +13,7 @@ hand_over-requires g c =
     let place = c.loop-place.place in
     let lt : place < length items = let test = c.loop-place-test.true in let end = c.len-place-end.ensures in let many = was.many in omega (arith, test, end, many) in
     let at = slice_get-get_or items place c.index_mut.result.now lt ∙ ap Some (sym c.index_mut.ensures.value) in
-    record { bound = bound_at g.F.NewFile.contents c.args.self.now c.args.files.now items c.loop-place.files place c.index_mut.result.now was at }
+    record { bound = bound_at c.by_stamp_is_ordered.ensures g.F.NewFile.contents c.args.self.now c.args.files.now items c.loop-place.files place c.index_mut.result.now was at }
 
 pub loop-place-preserved : goal.loop-place-preserved
 loop-place-preserved g c =
@@ -26,7 +26,7 @@ loop-place-preserved g c =
     let file = slice_get-get_or c.loop-place.files place c.index-files-place.result there in
     let handed = c.in_ok-hand_over.ensures in
     record {
-      puts = puts_one c.arrivals_change_nothing_earlier.ensures.admission c.stamps_keep_their_order.ensures.instants c.sent_goes_on.ensures
+      puts = puts_one c.by_stamp_is_ordered.ensures c.arrivals_change_nothing_earlier.ensures.admission c.stamps_keep_their_order.ensures.instants c.sent_goes_on.ensures
           c.taken_records_are_the_first.ensures.ends c.taken_records_begin_the_capture.ensures c.each_file_has_one_reading.ensures.one_list g.F.NewFile.contents c.args.self.now c.args.files.now
           items c.loop-place.files place handed.0 c.index_mut.result.now c.hand_over.new.self (slice_index_or c.loop-place.files place c.index-files-place.result)
           c.hand_over.new.file at file handed.1 handed.2 was;

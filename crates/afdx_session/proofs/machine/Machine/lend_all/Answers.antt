@@ -45,8 +45,8 @@ loop-place-preserved g c =
     let here = text_at c.args.self.now c.args.captures.now c.loop-place.place c.index-captures-place.result c.requires.of c.requires.ports first in
     let read = c.in_ok-lend.ensures in
     record {
-      lends = lends_one c.merged_is_a_merge.ensures c.merged_is_by_stamp_and_port.ensures c.args.self.now (texts_of c.args.captures.now) items c.loop-place.place old c.lend.new.self
-          (pair.0, pair.1.items) read.ok.0.0 c.loop-place.invariant.lends at here
+      lends = lends_one c.by_stamp_is_ordered.ensures c.merged_is_a_merge.ensures c.merged_is_by_stamp_and_port.ensures c.args.self.now (texts_of c.args.captures.now) items c.loop-place.place
+          old c.lend.new.self (pair.0, pair.1.items) read.ok.0.0 c.loop-place.invariant.lends at here
           c.lend.ensures.still (c.lend.ensures.bytes ∙ c.deref.ensures.value) read.ok.0.1 read.ok.1;
       switch = c.loop-place.invariant.switch;
       counts = c.loop-place.invariant.counts;

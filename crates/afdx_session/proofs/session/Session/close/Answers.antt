@@ -18,8 +18,8 @@ close-requires-clause-ready g c = (c.self.inside.begun, c.self.invariant.ready c
 pub invariant_of-self : goal.invariant_of-self
 invariant_of-self g c =
     let s = c.self.inside in
-    kept_ended c.arrivals_change_nothing_earlier.ensures.admission c.stamps_keep_their_order.ensures.instants c.all_start_before_the_last_instant.ensures s.machine c.close.new.self s.begun s.failed
-    c.in_ok-place.place
+    kept_ended c.by_stamp_is_ordered.ensures c.arrivals_change_nothing_earlier.ensures.admission c.stamps_keep_their_order.ensures.instants c.all_start_before_the_last_instant.ensures
+    s.machine c.close.new.self s.begun s.failed c.in_ok-place.place
     c.if-self.false c.close.ensures.same c.in-Ok.ensures.ok.1 c.in-Ok.ensures.ok.0 c.self.invariant
 
 pub invariant_of-self-in-Err : goal.invariant_of-self-in-Err

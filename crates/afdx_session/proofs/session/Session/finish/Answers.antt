@@ -12,7 +12,7 @@ invariant_of-failed g c =
 pub returns-in-Ok-clause-ok : goal.returns-in-Ok-clause-ok
 returns-in-Ok-clause-ok g c =
     let s = c.self.inside in
-    answers_finished c.arrivals_change_nothing_earlier.ensures.admission c.stamps_keep_their_order.ensures.instants c.all_start_before_the_last_instant.ensures
+    answers_finished c.by_stamp_is_ordered.ensures c.arrivals_change_nothing_earlier.ensures.admission c.stamps_keep_their_order.ensures.instants c.all_start_before_the_last_instant.ensures
     c.taken_records_are_the_first.ensures.ends c.end_counts_the_run.ensures
     c.accepted_runs_isolate.ensures s.machine c.end.new.self s.begun s.failed c.args.self c.into_outcome.result c.self.view_is c.if-self.false c.self.invariant c.end.ensures.same c.end.ensures.half
     c.in-Ok.ensures.ok.1 c.in-Ok.ensures.ok.0
