@@ -1,3 +1,5 @@
-mod PartLemmas
 pub mod OwnLemmas
 pub mod Progress
+pub mod Reading
+pub mod Stopping
+pub mod WindowLemmas

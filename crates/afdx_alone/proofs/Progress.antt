@@ -1,36 +1,27 @@
 -- What holds while the frames of a capture are offered to a link's account, one after the other.
-use Rattle.std.proofs.Common.{◌≡◌, ◌≢◌, ℕ, ◌≤◌, Bool, true, false, cond, List, [], ◌∷◌, ◌++◌, map, refl, sym, ap, subst, ◌∙◌, arith, append-nil}
+use Rattle.std.proofs.Common.{◌≡◌, ℕ, ◌-◌, ◌≤◌, Bool, true, false, cond, List, [], ◌∷◌, ◌++◌, length, take, drop, map, Option, Some, None, Ok, refl, sym, ap, subst, ◌∙◌, arith, append-nil, append_assoc, length-append, take-append-drop}
 use Rattle.std.specs.Prelude.{filter, IsTrue}
-use Rattle.std.proofs.lemmas.List.{map-append}
+use Rattle.std.proofs.lemmas.List.{map-append, take_rest}
 use Rattle.std.proofs.lemmas.List.Elements.{filter-append}
 use Rattle.afdx_account.specs.declared.byte_account.ByteAccount.{ByteAccount}
 use Rattle.afdx_account.specs.declared.frame.Frame.{Frame}
-use Rattle.afdx_account.specs.Account.{byte_account_terms, byte_account_since, byte_account_level}
+use Rattle.afdx_account.specs.Account.{byte_account_since, byte_account_level}
 use Rattle.afdx_account.specs.Policing.{Terms, conforms, passed_of}
 use Rattle.afdx_account.specs.Level.{PassesWhatConforms, IsLevelAfter}
 use Rattle.afdx_pcap.specs.Record.{Record}
-use Rattle.afdx_pcap.specs.declared.fault.PcapFault.{PcapFault}
-use Rattle.afdx_pcap.specs.declared.fault.PcapFault.TheVariants as pcap
-use Rattle.afdx_pcap.specs.Fault.{IsFault, last_stamp}
-use Rattle.afdx_pcap.specs.Capture.{IsCapture}
-use Rattle.afdx_pcap.specs.Reading.{HasTaken, IsNext, IsSound, Taking, taking_on}
+use Rattle.afdx_pcap.specs.declared.format.Format.{Format}
+use Rattle.afdx_pcap.specs.Capture.{header_of, Begins, after, Splits}
+use Rattle.afdx_pcap.specs.Fault.{last_stamp}
+use Rattle.afdx_pcap.specs.Reading.{AreReadUpTo}
 use Rattle.afdx_pcap.specs.Text.{capture_text, record_text}
 use Rattle.afdx_filter.specs.Frame.{frame_of}
 use Rattle.afdx_arguments.specs.declared.alone.Alone.{Alone}
 use Rattle.afdx_alone.specs.Own.{is_own}
-use Rattle.afdx_alone.specs.Faults.{IsFaultOf, fault_of}
+use Rattle.afdx_alone.specs.declared.policing.Policing.{Policing}
 use Rattle.afdx_alone.specs.Inner.Offer.{IsOffered}
-use Rattle.afdx_alone.specs.Answer.{IsAnswer, account_terms, passed_of_link}
+use Rattle.afdx_alone.specs.Answer.{account_terms, passed_of_link}
 use Rattle.afdx_alone.specs.Inner.Ground.{Ground}
-
-abbrev pub own_frames : Alone → List Record → List Frame
-own_frames link seen = map frame_of (filter (is_own link) seen)
-
--- the account, after these frames of a capture
-pub record Progress (link : Alone) (seen : List Record) (account : ByteAccount) : Type 0 where
-  pub terms : byte_account_terms account ≡ account_terms link
-  pub since : byte_account_since account ≤ last_stamp 0 seen
-  pub level : IsLevelAfter (account_terms link) (byte_account_since account) (byte_account_level account (byte_account_since account)) (own_frames link seen)
+use Rattle.afdx_alone.specs.Inner.Polices.{own_frames, Progress, IsReadUpTo, Polices, HasOffered}
 
 -- the account with one more frame, which this one is passed or not
 pub record Taken (link : Alone) (seen : List Record) (r : Record) (account : ByteAccount) (passes : Bool) : Type 0 where
@@ -96,56 +87,62 @@ longer_text : Ground → (passes : Bool) (rs : List Record) (r : Record) (answer
 longer_text g false rs r answer is = is
 longer_text g true rs r answer is = ap (λ (text : List ℕ). text ++ record_text r) is ∙ sym (g.appended rs r)
 
--- ---- the loop over a capture's frames
+-- ---- one more record of the capture
 
--- of the frames taken so far, the account has come so far and the answer is the text of those that it passed
-pub record Polices (link : Alone) (bytes : List ℕ) (frames : Taking) (account : ByteAccount) (answer : List ℕ) : Type 0 where
-  pub same : frames.bytes ≡ bytes
-  pub seen : List Record
-  pub taken : HasTaken frames seen
-  pub progress : Progress link seen account
-  pub answer_is : answer ≡ capture_text (passed_of_link link seen)
+-- what comes after the start of a rest is at the end of all, too
+pub further : {bytes : List ℕ} (rest later : List ℕ) (k : ℕ) → (before : List ℕ) × (before ++ rest ≡ bytes) → later ≡ drop k rest → (before : List ℕ) × (before ++ later ≡ bytes)
+further {bytes} rest later k (before, is) after-is =
+    (before ++ take k rest, append_assoc before (take k rest) later ∙ ap (λ (t : List ℕ). before ++ (take k rest ++ t)) after-is ∙ ap (λ (t : List ℕ). before ++ t) (take-append-drop k rest) ∙ is)
 
--- the next frame may be offered
-pub may_be_offered : Ground → (link : Alone) (bytes : List ℕ) (frames : Taking) (account : ByteAccount) (answer : List ℕ) (r : Record)
-    → Polices link bytes frames account answer → IsNext frames.bytes frames.given r → byte_account_since account ≤ r.stamp
-may_be_offered g link bytes frames account answer r p next =
-    let order = g.in_order frames p.seen r p.taken next in
-    let since = p.progress.since in
-    omega (arith, order, since)
+module _ {Z : Type 0} (link : Alone) (bytes rest : List ℕ) (p : Policing Z) (f : Format) (opened : p.format ≡ Some f) (polices : Polices link bytes rest p) where
+  pub read : AreReadUpTo f bytes polices.seen rest
+  read = subst (λ (o : Option Format). IsReadUpTo o bytes polices.seen rest) opened polices.read
 
--- and then the loop has come one frame further
-pub one_further : Ground → (link : Alone) (bytes : List ℕ) (frames later : Taking) (old new : ByteAccount) (answer longer : List ℕ) (r : Record) (passes : Bool)
-    → Polices link bytes frames old answer → IsNext frames.bytes frames.given r → later ≡ taking_on frames
-    → (IsTrue (is_own link r) → IsOffered old new (frame_of r) passes) → (is_own link r ≡ false → (passes ≡ false) × (new ≡ old))
-    → longer ≡ cond passes (answer ++ record_text r) answer
-    → Polices link bytes later new longer
-one_further g link bytes frames later old new answer longer r passes p next came own others grown =
-    let t = taken g link p.seen r old new passes (g.in_order frames p.seen r p.taken next) own others p.progress in
-    subst (λ (a : Taking). Polices link bytes a new longer) (sym came) (record {
-      same = p.same;
-      seen = p.seen ++ r ∷ [];
-      taken = g.joins frames p.seen r p.taken next;
-      progress = t.progress;
-      answer_is = grown ∙ longer_text g passes (passed_of_link link p.seen) r answer p.answer_is ∙ ap capture_text (sym t.passed);
-    })
+  begins : (r : Record) → Begins f p.last rest r → Begins f (last_stamp 0 polices.seen) rest r
+  begins r b = subst (λ (l : ℕ). Begins f l rest r) polices.last b
 
--- at the end the answer is that of the capture
-pub all_policed : Ground → (link : Alone) (bytes : List ℕ) (frames : Taking) (account : ByteAccount) (answer : List ℕ)
-    → Polices link bytes frames account answer → IsSound frames.bytes frames.given true → IsAnswer link bytes answer
-all_policed g link bytes frames account answer p sound =
-    (p.seen, subst (λ (bs : List ℕ). IsCapture bs p.seen) p.same (g.ends frames p.seen p.taken sound), p.answer_is)
+  -- it may be offered
+  pub in_order : (r : Record) → Begins f p.last rest r → byte_account_since p.account ≤ r.stamp
+  in_order r b =
+      let order = (begins r b).in_order in
+      let since = polices.progress.since in
+      omega (arith, order, since)
 
--- what is wrong with the capture is why there is no answer
-pub wrong_answer : (bytes : List ℕ) (fault : PcapFault) → (fault ≢ pcap.Memory → IsFault bytes fault) → IsFaultOf bytes (fault_of fault)
-wrong_answer bytes pcap.Memory wrong = tt
-wrong_answer bytes pcap.NoHeader wrong = wrong (λ same. cc)
-wrong_answer bytes pcap.Magic wrong = wrong (λ same. cc)
-wrong_answer bytes pcap.Version wrong = wrong (λ same. cc)
-wrong_answer bytes (pcap.LinkType word) wrong = wrong (λ same. cc)
-wrong_answer bytes (pcap.CutHeader n) wrong = wrong (λ same. cc)
-wrong_answer bytes (pcap.Huge n) wrong = wrong (λ same. cc)
-wrong_answer bytes (pcap.Fraction n) wrong = wrong (λ same. cc)
-wrong_answer bytes (pcap.Late n) wrong = wrong (λ same. cc)
-wrong_answer bytes (pcap.Backwards n) wrong = wrong (λ same. cc)
-wrong_answer bytes (pcap.CutData n) wrong = wrong (λ same. cc)
+  -- and then the capture is read one record further
+  pub one_further : Ground → (new : Policing Z) (r : Record) → Begins f p.last rest r → HasOffered link r p new → Polices link bytes (after r rest) new
+  one_further g new r b h =
+      let seen = polices.seen in
+      let t = taken g link seen r p.account new.account h.passes (begins r b).in_order h.own h.others polices.progress in
+      let long = length-append seen (r ∷ []) in
+      let before = polices.count in
+      let one = h.count in
+      record {
+        seen = seen ++ r ∷ [];
+        read = subst (λ (o : Option Format). IsReadUpTo o bytes (seen ++ r ∷ []) (after r rest)) (sym (h.format ∙ opened)) (g.read_on f bytes rest seen r read (begins r b));
+        last = h.last ∙ sym (g.latest seen r);
+        count = omega (arith, long, before, one);
+        progress = t.progress;
+        answer_is = h.answer ∙ longer_text g h.passes (passed_of_link link seen) r p.answer.items polices.answer_is ∙ ap capture_text (sym t.passed);
+      }
+
+-- ---- the header
+
+module _ {Z : Type 0} (link : Alone) (all bytes : List ℕ) (p : Policing Z) (f : Format) (unread : p.format ≡ None) (polices : Polices link all bytes p) where
+  pub unopened : (polices.seen ≡ []) × (bytes ≡ all)
+  unopened = subst (λ (o : Option Format). IsReadUpTo o all polices.seen bytes) unread polices.read
+
+  -- once it was read, nothing else was
+  pub opens : header_of bytes ≡ Ok f → Polices link all (take (length bytes - 24) (drop 24 bytes)) (record p { format = Some f })
+  opens is =
+      let whole = unopened.1 in
+      record {
+        seen = polices.seen;
+        read = (
+          ap header_of (sym whole) ∙ is,
+          subst (λ (seen : List Record). Splits f 0 (drop 24 all) seen (take (length bytes - 24) (drop 24 bytes))) (sym unopened.0) (ap (drop 24) (sym whole) ∙ sym (take_rest bytes 24)),
+        );
+        last = polices.last;
+        count = polices.count;
+        progress = polices.progress;
+        answer_is = polices.answer_is;
+      }

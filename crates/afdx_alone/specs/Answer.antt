@@ -1,5 +1,6 @@
 -- What is answered to a capture: the frames of one link that its account passes.
-use Rattle.std.specs.Prelude.{◌≡◌, ℕ, List, filter}
+use Rattle.std.specs.Prelude.{◌≡◌, ℕ, List, Option, filter}
+use Rattle.afdx_devices.specs.Input.{AreGiven}
 use Rattle.afdx_account.specs.Policing.{Terms, byte_terms, passed_of}
 use Rattle.afdx_pcap.specs.Record.{Record}
 use Rattle.afdx_pcap.specs.Capture.{IsCapture}
@@ -18,3 +19,7 @@ passed_of_link link rs = passed_of frame_of (account_terms link) (filter (is_own
 -- the input is a capture, and the answer is the capture of the frames that the link's account passes
 abbrev pub IsAnswer : Alone → List ℕ → List ℕ → Type 0
 IsAnswer link input answer = (rs : List Record) × IsCapture input rs × (answer ≡ capture_text (passed_of_link link rs))
+
+-- the same of all that a reader gives
+abbrev pub IsAnswerTo : Option (List ℕ) → Alone → List ℕ → Type 0
+IsAnswerTo input link answer = (bytes : List ℕ) × AreGiven input bytes × IsAnswer link bytes answer

@@ -1,10 +1,11 @@
 -- Why there is no answer to an input.
-use Rattle.std.specs.Prelude.{ℕ, List, ⊤}
+use Rattle.std.specs.Prelude.{ℕ, List, Option, ⊤}
+use Rattle.afdx_devices.specs.Input.{AreGiven}
 use Rattle.afdx_pcap.specs.declared.fault.PcapFault.{PcapFault}
 use Rattle.afdx_pcap.specs.declared.fault.PcapFault.TheVariants as pcap
 use Rattle.afdx_pcap.specs.Fault.{IsFault}
-use Rattle.afdx_alone.specs.declared.policing.AloneFault.{AloneFault}
-use Rattle.afdx_alone.specs.declared.policing.AloneFault.TheVariants.{Memory, Capture}
+use Rattle.afdx_alone.specs.declared.fault.AloneFault.{AloneFault}
+use Rattle.afdx_alone.specs.declared.fault.AloneFault.TheVariants.{Memory, Read, Capture}
 
 abbrev pub fault_of : PcapFault → AloneFault
 fault_of pcap.Memory = Memory
@@ -13,4 +14,11 @@ fault_of fault = Capture fault
 -- the first thing that is wrong with the input; or memory ran out
 abbrev pub IsFaultOf : List ℕ → AloneFault → Type 0
 IsFaultOf input Memory = ⊤
+IsFaultOf input Read = ⊥
 IsFaultOf input (Capture fault) = IsFault input fault
+
+-- the same of all that a reader gives, which may fail besides
+abbrev pub IsReadFault : Option (List ℕ) → AloneFault → Type 0
+IsReadFault input Memory = ⊤
+IsReadFault input Read = ⊤
+IsReadFault input (Capture fault) = (bytes : List ℕ) × AreGiven input bytes × IsFault bytes fault

@@ -1,3 +1,5 @@
 pub mod Ground
 pub mod Offer
 pub mod OwnClean
+pub mod Polices
+pub mod Window

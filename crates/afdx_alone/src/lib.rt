@@ -1,14 +1,16 @@
 //! The policing of one link by itself, from a capture to a capture.
 //!
-//! [`alone`] answers with bytes; [`write_passed`] writes the same answer in parts. The module `laws` ties what they take for a
-//! link's own frames to the filter of the whole switch.
+//! [`alone`] answers to a capture that is there; [`read_alone`] to one that a reader gives, of which it keeps no more than
+//! one record. The module `laws` ties what they take for a link's own frames to the filter of the whole switch.
 #![tactic(auto)]
 
+mod answer;
+mod fault;
 pub mod laws;
 mod own;
-mod part;
 mod policing;
+mod window;
 
 pub use afdx_arguments::Alone;
-pub use part::Part;
-pub use policing::{AloneFault, alone, check_records, write_passed};
+pub use answer::{alone, read_alone};
+pub use fault::AloneFault;

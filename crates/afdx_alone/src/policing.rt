@@ -1,67 +1,40 @@
-//! The policing of one link, from bytes to bytes.
+//! The policing of one link, one piece of its capture after the other.
 
-ghost use Rattle.std.specs.Prelude.{◌≡◌, ◌+◌, ◌<◌, ◌≤◌, List, length, ℕ, true, false, Ok, IsTrue, IfOk, IfErr, OnOk, OnSome, MatchResult, is_some, if◌then◌else◌};
-ghost use Rattle.std.specs.Io.KnownBytes.{Appends};
+ghost use Rattle.std.specs.Prelude.{◌≡◌, ◌+◌, ◌^◌, ◌<◌, ◌≤◌, ◌||◌, ◌++◌, ℕ, List, length, true, false, not, Some, IsTrue, IfOk, OnOk, MatchResult};
 ghost use Rattle.afdx_account.specs.Account.{byte_account_since};
 ghost use Rattle.afdx_filter.specs.Frame.{frame_of};
+ghost use Rattle.afdx_pcap.specs.Fault.{is_cut};
 ghost use Rattle.afdx_alone.specs.Own.{is_own};
-ghost use Rattle.afdx_alone.specs.Answer.{IsAnswer};
-ghost use Rattle.afdx_alone.specs.Inner.Offer.{IsOffered};
-ghost use Rattle.afdx_alone.specs.Faults.{IsFaultOf};
+ghost use Rattle.afdx_alone.specs.Faults.{fault_of};
 ghost use Rattle.afdx_alone.specs.Inner.Ground.{Ground};
-ghost use Rattle.afdx_devices.specs.Output.{AppendsPrefix};
-ghost use Rattle.afdx_pcap.specs.Record as pcap;
-ghost use Rattle.afdx_pcap.specs.Capture.{IsCapture};
-ghost use Rattle.afdx_pcap.specs.Reading.{Answers, whole_reading};
-ghost use Rattle.afdx_pcap.specs.Text.{header_text};
+ghost use Rattle.afdx_alone.specs.Inner.Offer.{IsOffered};
+ghost use Rattle.afdx_alone.specs.Inner.Polices.{Polices, HasOffered, Leaves, IsPieceFault};
 
+use crate::fault::AloneFault;
 use crate::own::{frame_size, is_own};
-use crate::part::Part;
 use afdx_account::laws::{next_joins_where_it_conforms, passed_by_their_frames};
 use afdx_account::{ByteAccount, Meter};
 use afdx_arguments::Alone;
-use afdx_devices::WriteFault;
 use afdx_pcap::laws::{
-    each_file_has_one_reading, one_more_record_is_appended, taken_records_are_the_first,
-    taken_records_begin_the_capture,
+    one_more_record_is_appended, rests_are_read_on, taken_records_are_the_first,
 };
-use afdx_pcap::{PcapFault, Reader, Record, write_header, write_record};
+use afdx_pcap::{
+    Format, HEADER_LENGTH, PcapFault, Record, read_header, read_record, write_header, write_record,
+};
+use afdx_units::Stamp;
 use std::alloc::{AllocError, Allocator};
-use std::io::Write;
-use thiserror::Error;
 
-/// Why there is no answer. Each message is its variant's name.
-#[derive(Clone, Copy, Debug, PartialEq, Eq, Error)]
-pub enum AloneFault {
-    /// Out of memory.
-    #[error("Memory")]
-    Memory,
-    /// The input is no capture, and this is its first fault.
-    #[error("Capture")]
-    Capture(PcapFault),
-}
-
-impl From<AllocError> for AloneFault {
-    ghost use Rattle.afdx_alone.specs.declared.policing.AloneFault.TheVariants.{Memory};
-
-    ghost from_gives = { λ _ e. e ≡ Memory };
-
-    fn from(_error: AllocError) -> AloneFault {
-        AloneFault::Memory
-    }
-}
-
-impl From<PcapFault> for AloneFault {
-    ghost use Rattle.afdx_alone.specs.Faults.{fault_of};
-
-    ghost from_gives = { λ fault e. e ≡ fault_of fault };
-
-    fn from(fault: PcapFault) -> AloneFault {
-        match fault {
-            PcapFault::Memory => AloneFault::Memory,
-            _ => AloneFault::Capture(fault),
-        }
-    }
+/// The policing of one link as far as its capture was read: the link's account, and the answer so far.
+#[derive(Drop)]
+pub(crate) struct Policing<A: Allocator> {
+    /// The capture's format, once its header was read.
+    pub(crate) format: Option<Format>,
+    /// The stamp of the last record that was read, 0 where there is none.
+    pub(crate) last: Stamp,
+    /// How many records were read.
+    pub(crate) count: usize,
+    pub(crate) account: ByteAccount,
+    pub(crate) answer: Vec<u8, A>,
 }
 
 /// Offers a frame that is the link's own to its account, and says whether it passes it.
@@ -75,7 +48,7 @@ fn passes<A: Allocator>(link: &Alone, account: &mut ByteAccount, frame: &Record<
     is_own(link, frame) && account.offer(frame.stamp(), frame_size(frame))
 }
 
-/// The laws of the crates below that the loop of `alone` rests on.
+/// The laws of the crates below that the policing of a capture rests on.
 fn ground<A: Allocator>()
     ensures { Ground }
 {
@@ -83,99 +56,115 @@ fn ground<A: Allocator>()
     passed_by_their_frames::<Record<'_, A>>();
     one_more_record_is_appended();
     taken_records_are_the_first();
+    rests_are_read_on();
 }
 
-/// Polices one link by itself: the capture of those of its own frames that its account passes, in order,
-/// their stamps and bytes unchanged.
-///
-/// A frame is the link's own where its verdict would be Clean in a table of the constant `03 00 00 00`
-/// with this one link, coming from this capture's port (profile): the law `own_frames_are_clean`.
-///
-/// # Errors
-///
-/// `Capture` with the first fault of an input that is no capture; `Memory` where memory ran out.
-///
-/// One pass; a frame's bytes are copied once, into the answer, where it passes. O(frames + bytes of the answer).
-pub fn alone<A: Allocator + Copy>(
-    alloc: A,
-    link: &Alone,
-    input: &[u8],
-) -> Result<Vec<u8, A>, AloneFault>
-    ensures answer { IfOk result (λ v. IsAnswer link.now input.now v.items) }
-    ensures fault { IfErr result (IsFaultOf input.now) }
+/// A fault, unless these bytes wait for more that can mend it.
+fn unless_they_wait(bytes: &[u8], fault: PcapFault, ended: bool) -> Result<&[u8], AloneFault>
+    ensures { MatchResult result (λ rest. (rest.now ≡ bytes.now) × ((ended || not (is_cut fault)) ≡ false))
+        (λ e. (e ≡ fault_of fault) × ((ended || not (is_cut fault)) ≡ true)) }
 {
-    ground::<A>();
-    let mut answer = Vec::new(alloc);
-    write_header(&mut answer)?;
-    let mut account = ByteAccount::new(link.max_size, link.bag, link.jitter);
-    let mut frames = Reader::over(alloc, input);
-    while let Some(frame) = frames.next()? {
-        if passes(link, &mut account, &frame) {
-            write_record(&mut answer, &frame)?;
+    if ended || !fault.is_cut() {
+        Err(AloneFault::from(fault))
+    } else {
+        Ok(bytes)
+    }
+}
+
+impl<A: Allocator> Policing<A> {
+    /// Before anything of a capture was read.
+    pub(crate) fn new(alloc: A, link: &Alone) -> Result<Policing<A>, AllocError>
+        ensures polices { IfOk result (λ p. (bytes : List ℕ) → Polices link.now bytes bytes p) }
+        ensures none { IfOk result (λ p. p.count ≡ 0) }
+    {
+        let mut answer = Vec::new(alloc);
+        write_header(&mut answer)?;
+        Ok(Policing {
+            format: None,
+            last: Stamp::ZERO,
+            count: 0,
+            account: ByteAccount::new(link.max_size, link.bag, link.jitter),
+            answer,
+        })
+    }
+
+    /// Takes the next record. O(its bytes) where it passes, else O(1).
+    fn offer<B: Allocator>(&mut self, link: &Alone, frame: &Record<'_, B>) -> Result<(), AllocError>
+        requires few { self.old.count + 1 < 2 ^ 64 }
+        requires order { byte_account_since self.old.account ≤ frame.now.stamp }
+        ensures { OnOk result (HasOffered link.now frame.now self.old self.new) }
+    {
+        if passes(link, &mut self.account, frame) {
+            write_record(&mut self.answer, frame)?;
+        }
+        self.last = frame.stamp();
+        self.count += 1;
+        Ok(())
+    }
+
+    /// Takes the whole records at the start of the bytes, and gives what comes after them.
+    fn take_records<'b>(
+        &mut self,
+        link: &Alone,
+        format: Format,
+        bytes: &'b [u8],
+        ended: bool,
+    ) -> Result<&'b [u8], AloneFault>
+        requires format { self.old.format ≡ Some format }
+        requires few { self.old.count + length bytes.now < 2 ^ 64 }
+        requires polices { (all : List ℕ) × Polices link.now all bytes.now self.old }
+        ensures taken { (all : List ℕ) → Polices link.now all bytes.now self.old → MatchResult result
+            (λ rest. Polices link.now all rest.now self.new) (IsPieceFault all ended) }
+        ensures left { IfOk result (λ rest. Leaves ended self.new.format rest.now) }
+        ensures last { IfOk result (λ rest. (before : List ℕ) × (before ++ rest.now ≡ bytes.now)) }
+        ensures few { IfOk result (λ rest. self.new.count + length rest.now ≤ self.old.count + length bytes.now) }
+    {
+        ground::<A>();
+        let mut rest = bytes;
+        while !rest.is_empty() {
+            match read_record::<A>(format, self.last, self.count + 1, rest) {
+                Ok((frame, after)) => {
+                    self.offer(link, &frame)?;
+                    rest = after;
+                }
+                Err(fault) => return unless_they_wait(rest, fault, ended),
+            }
+        }
+        Ok(rest)
+    }
+
+    /// Takes what comes next of the capture, as far as it is whole: the header, where it was not read, and records. What comes
+    /// after them is given back, to be taken again with more bytes behind it; none where the input has ended. O(bytes).
+    pub(crate) fn take<'b>(
+        &mut self,
+        link: &Alone,
+        bytes: &'b [u8],
+        ended: bool,
+    ) -> Result<&'b [u8], AloneFault>
+        requires few { self.old.count + length bytes.now < 2 ^ 64 }
+        requires polices { (all : List ℕ) × Polices link.now all bytes.now self.old }
+        ensures taken { (all : List ℕ) → Polices link.now all bytes.now self.old → MatchResult result
+            (λ rest. Polices link.now all rest.now self.new) (IsPieceFault all ended) }
+        ensures left { IfOk result (λ rest. Leaves ended self.new.format rest.now) }
+        ensures last { IfOk result (λ rest. (before : List ℕ) × (before ++ rest.now ≡ bytes.now)) }
+        ensures few { IfOk result (λ rest. self.new.count + length rest.now ≤ self.old.count + length bytes.now) }
+    {
+        if let Some(format) = self.format {
+            return self.take_records(link, format, bytes, ended);
+        }
+        match read_header(bytes) {
+            Ok(format) => {
+                self.format = Some(format);
+                self.take_records(link, format, &bytes[HEADER_LENGTH..], ended)
+            }
+            Err(fault) => unless_they_wait(bytes, fault, ended),
         }
     }
-    Ok(answer)
-}
-
-/// Reads all records of an input, so that its fault is met where it has one.
-///
-/// # Errors
-///
-/// `Capture` with the first fault of an input that is no capture.
-///
-/// O(records), no memory.
-pub fn check_records<A: Allocator + Copy>(alloc: A, input: &[u8]) -> Result<(), AloneFault>
-    ensures capture { OnOk result ((rs : List pcap.Record) × IsCapture input.now rs) }
-    ensures fault { IfErr result (IsFaultOf input.now) }
-{
-    let mut frames = Reader::over(alloc, input);
-    while let Some(_frame) = frames.next()? {}
-    Ok(())
-}
-
-/// The next frame of a capture; none after the last.
-fn next_frame<'a, A: Allocator + Copy>(frames: &mut Reader<'a, A>) -> Option<Record<'a, A>>
-    requires whole { frames.old ≡ whole_reading frames.old.bytes frames.old.given }
-    requires capture { (rs : List pcap.Record) × IsCapture frames.old.bytes rs }
-    ensures next { frames.new ≡ whole_reading frames.old.bytes (if is_some result then frames.old.given + 1 else frames.old.given) }
-    ensures answer { Answers frames.old.bytes frames.old.given true (Ok result) }
-    ensures fewer { OnSome result (frames.old.given < length frames.old.bytes) }
-{
-    each_file_has_one_reading();
-    match frames.next() {
-        Ok(found) => found,
-        Err(_) => unreachable!(),
+    /// The answer to what was read.
+    pub(crate) fn into_answer(self) -> Vec<u8, A>
+        ensures { result ≡ self.answer }
+    {
+        let Policing { answer, .. } = self;
+        answer
     }
-}
-
-/// Writes what [`alone`] answers to a capture, a part at a time; the part in hand is its header.
-///
-/// # Errors
-///
-/// A write that fails, is interrupted or takes nothing; some prefix of the answer was written then.
-///
-/// One pass; a frame's bytes are copied once, into the part, where it passes. O(frames + bytes of the answer), no memory.
-pub fn write_passed<A: Allocator + Copy, W: Write>(
-    alloc: A,
-    link: &Alone,
-    input: &[u8],
-    mut part: Part<A>,
-    out: &mut W,
-) -> Result<(), WriteFault>
-    requires capture { (rs : List pcap.Record) × IsCapture input.now rs }
-    requires header { part ≡ header_text }
-    ensures { MatchResult result
-        (λ _. (text : List ℕ) × IsAnswer link.now input.now text × Appends (W.contents out.old) (W.contents out.new) text)
-        (λ _. (text : List ℕ) × IsAnswer link.now input.now text × AppendsPrefix (W.contents out.old) (W.contents out.new) text) }
-{
-    ground::<A>();
-    taken_records_begin_the_capture();
-    let mut account = ByteAccount::new(link.max_size, link.bag, link.jitter);
-    let mut frames = Reader::over(alloc, input);
-    while let Some(frame) = next_frame(&mut frames) {
-        if passes(link, &mut account, &frame) {
-            part.append(&frame, out)?;
-        }
-    }
-    part.write(out)
 }

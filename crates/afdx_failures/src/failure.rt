@@ -102,6 +102,7 @@ impl From<AloneFault> for Failure {
     fn from(e: AloneFault) -> Failure {
         match e {
             AloneFault::Memory => Failure::Memory,
+            AloneFault::Read => Failure::Read,
             AloneFault::Capture(fault) => Failure::Capture(fault),
         }
     }

@@ -12,6 +12,7 @@ use Rattle.afdx_pcap.specs.declared.fault.PcapFault.TheVariants.{NoHeader, CutHe
 use Rattle.afdx_pcap.specs.Record.{Record}
 use Rattle.afdx_pcap.specs.Number.{number, field}
 use Rattle.afdx_pcap.specs.Capture.{format_of, checked_header, header_of, head_of, Begins, after, Splits, Holds}
+use Rattle.afdx_pcap.specs.Reading.{AreReadUpTo}
 use Rattle.afdx_pcap.specs.Fault.{head_fault, record_fault, IsFault, IsEarlyFault, is_cut, last_stamp}
 
 number-more : (e : Endian) (n : ℕ) (xs ys : List ℕ) → n ≤ length xs → number e n (xs ++ ys) ≡ number e n xs
@@ -100,6 +101,11 @@ long_header bytes q h other = ltb-false _ _ (long_unless (nat_lt (length bytes) 
 -- a header that has a format is long
 pub format_long : (bytes : List ℕ) (f : Format) → header_of bytes ≡ Ok f → 24 ≤ length bytes
 format_long bytes f h = long_header bytes (Ok f) h (λ same. absurd cc)
+
+pub read_up_to-more : (f : Format) (bytes more rest : List ℕ) (rs : List Record) → AreReadUpTo f bytes rs rest → AreReadUpTo f (bytes ++ more) rs (rest ++ more)
+read_up_to-more f bytes more rest rs read =
+    let long = format_long bytes f read.0 in
+    (header-more bytes more long ∙ read.0, rw (drop-append-le 24 bytes more long) (Splits-more f 0 (drop 24 bytes) more rs rest read.1))
 
 kept_header : (e : PcapFault) → is_cut e ≡ false → header_error e ≡ header_error NoHeader → ⊥
 kept_header e kept h = let k : NoHeader ≡ e = cc in not_cut NoHeader e refl kept k

@@ -2,10 +2,15 @@
 use Rattle.std.specs.Prelude.{◌≡◌, ◌≢◌, ℕ, ◌+◌, ◌<◌, ◌≤◌, List, [], ◌∷◌, ◌++◌, length, drop, Option, Some, None, Result, Ok, Err, Bool, true, false}
 use Rattle.afdx_pcap.specs.declared.fault.PcapFault.{PcapFault}
 use Rattle.afdx_pcap.specs.declared.fault.PcapFault.TheVariants.{Memory}
+use Rattle.afdx_pcap.specs.declared.format.Format.{Format}
 use Rattle.afdx_pcap.specs.declared.progress.Progress.{Progress}
 use Rattle.afdx_pcap.specs.Record.{Record}
 use Rattle.afdx_pcap.specs.Capture.{header_of, Splits, Holds, IsCapture}
 use Rattle.afdx_pcap.specs.Fault.{record_fault, last_stamp, IsFault, IsEarlyFault}
+
+-- the bytes are a header of this format, these whole records, and a rest that was not read yet
+abbrev pub AreReadUpTo : Format → List ℕ → List Record → List ℕ → Type 0
+AreReadUpTo f bytes rs rest = (header_of bytes ≡ Ok f) × Splits f 0 (drop 24 bytes) rs rest
 
 -- a reader, as contracts see it: the bytes that it was fed or lent, how many records it gave, whether it is
 -- closed, the fault that it answered, and whether the bytes are lent, so that no record is copied

@@ -50,8 +50,8 @@ pub enum PcapFault {
 }
 
 impl PcapFault {
-    /// Whether more bytes may mend it.
-    pub(crate) fn is_cut(self) -> bool
+    /// Whether more bytes may mend it: it is found only where the input ends. O(1).
+    pub fn is_cut(self) -> bool
         ensures { result ≡ is_cut self }
     {
         matches!(

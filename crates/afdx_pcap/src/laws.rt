@@ -4,9 +4,10 @@ ghost use Rattle.std.specs.Prelude.{◌≡◌, ◌≢◌, ◌⊎◌, ◌≤◌, 
 ghost use Rattle.afdx_pcap.specs.declared.fault.PcapFault.{PcapFault};
 ghost use Rattle.afdx_pcap.specs.declared.fault.PcapFault.TheVariants.{Memory};
 ghost use Rattle.afdx_pcap.specs.Record.{Record, IsWithinLimit};
-ghost use Rattle.afdx_pcap.specs.Capture.{Holds, IsCapture};
+ghost use Rattle.afdx_pcap.specs.declared.format.Format.{Format};
+ghost use Rattle.afdx_pcap.specs.Capture.{Begins, after, Holds, IsCapture};
 ghost use Rattle.afdx_pcap.specs.Fault.{IsFault, IsEarlyFault, last_stamp};
-ghost use Rattle.afdx_pcap.specs.Reading.{Answers, HasTaken, IsNext, IsSound, Taking, taking_on};
+ghost use Rattle.afdx_pcap.specs.Reading.{AreReadUpTo, Answers, HasTaken, IsNext, IsSound, Taking, taking_on};
 ghost use Rattle.afdx_pcap.specs.Inner.ReadBack.{WrittenTextsReadBack};
 ghost use Rattle.afdx_pcap.specs.Text.{record_text, capture_text, AreReadable};
 
@@ -50,6 +51,15 @@ pub fn whole_records_stay()
         → Holds (bytes ++ more) rs (rest ++ more) }
     ensures unique { (bytes rest others : List ℕ) (rs qs : List Record) → Holds bytes rs rest
         → Holds bytes qs others → length rs ≡ length qs → rs ≡ qs }
+{}
+
+/// Of bytes that were read up to a rest, the record that the rest begins with is one more; where more bytes come, they
+/// are read as far, and these are at the end of the rest.
+pub fn rests_are_read_on()
+    ensures next { (f : Format) (bytes rest : List ℕ) (rs : List Record) (r : Record) → AreReadUpTo f bytes rs rest
+        → Begins f (last_stamp 0 rs) rest r → AreReadUpTo f bytes (rs ++ r ∷ []) (after r rest) }
+    ensures stays { (f : Format) (bytes more rest : List ℕ) (rs : List Record) → AreReadUpTo f bytes rs rest
+        → AreReadUpTo f (bytes ++ more) rs (rest ++ more) }
 {}
 
 /// Records that are taken one by one are the first ones of the bytes, in order, each once, also where more bytes

@@ -14,7 +14,13 @@ use std::alloc::Allocator;
 /// The greatest seconds of a stamp that is read (profile).
 const GREATEST_SECONDS: u32 = 4_294_967_294;
 
-/// The format that a file's header names.
+/// The format that the header at the start of a file names.
+///
+/// # Errors
+///
+/// The first that applies: `NoHeader` where there are fewer than 24 bytes, `Magic`, `Version`, `LinkType`.
+///
+/// O(1), no memory.
 #[tactic(auto, unfolding(crate::specs::Capture::header_of))]
 pub fn read_header(bytes: &[u8]) -> Result<Format, PcapFault>
     ensures header { result ≡ header_of bytes.now }
@@ -69,9 +75,17 @@ fn stamp_of_head(
     Ok(stamp)
 }
 
-/// The record at the start, which is the `number`th, and what comes after it.
+/// The record at the start of the bytes that are left of a file of this format, which is its `number`th, from 1, and
+/// follows one of the stamp `last`, 0 for the first; and the bytes after it.
 ///
 /// Its bytes are lent, so no memory is taken.
+///
+/// # Errors
+///
+/// The first that applies: `CutHeader` where there are fewer than 16 bytes, `Huge`, `Fraction`, `Late`, `Backwards`,
+/// `CutData`. Where more bytes may come, `is_cut` says which of these they may mend.
+///
+/// O(1).
 #[tactic(auto, unfolding(crate::specs::Fault::record_fault))]
 pub fn read_record<'b, A: Allocator>(
     format: Format,

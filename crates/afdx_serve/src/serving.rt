@@ -13,16 +13,16 @@ use crate::network_serving::perform_network;
 use crate::run::run;
 use crate::size::size;
 use crate::trace::trace;
-use afdx_alone::{Part, check_records, write_passed};
+use afdx_alone::read_alone;
 use afdx_arguments::{Alone, NoRequest, Request, parse};
-use afdx_devices::{Folder, read_to_end, write_bytes};
+use afdx_devices::{Folder, write_bytes};
 use afdx_failures::{Failure, report};
 use std::alloc::Global;
 use std::io::{Read, Write};
 
 /// Reads the input to its end and writes what is answered to it.
 ///
-/// Its faults are found and all memory is taken before the first write; the records are then read again.
+/// Its faults are found and all memory is taken before the first write.
 fn answer<R: Read, O: Write>(
     alloc: Global,
     link: &Alone,
@@ -33,10 +33,8 @@ fn answer<R: Read, O: Write>(
         (λ _. Answers link.now (R.remaining input.old) (O.contents out.old) (O.contents out.new))
         (λ f. FailsToAnswer f link.now (R.remaining input.old) (O.contents out.old) (O.contents out.new)) }
 {
-    let bytes = read_to_end(alloc, input, 0)?;
-    check_records(alloc, &bytes)?;
-    let part = Part::new(alloc)?;
-    write_passed(alloc, link, &bytes, part, out)?;
+    let text = read_alone(alloc, link, input)?;
+    write_bytes(out, &text)?;
     Ok(())
 }
 

@@ -25,7 +25,7 @@ impl Calls for Policing<'_> {
         match alone(memory, self.link, self.input) {
             Ok(answer) => Some(answer.as_slice() == self.expected),
             Err(AloneFault::Memory) => None,
-            Err(AloneFault::Capture(_)) => Some(false),
+            Err(AloneFault::Read | AloneFault::Capture(_)) => Some(false),
         }
     }
 }

@@ -6,8 +6,8 @@ use Rattle.afdx_wiring.specs.declared.fault.NetworkFault.{NetworkFault}
 use Rattle.afdx_wiring.specs.declared.fault.NetworkFault.TheVariants as wiring
 use Rattle.afdx_session.specs.declared.plan.RunFault.{RunFault}
 use Rattle.afdx_session.specs.declared.plan.RunFault.TheVariants as run
-use Rattle.afdx_alone.specs.declared.policing.AloneFault.{AloneFault}
-use Rattle.afdx_alone.specs.declared.policing.AloneFault.TheVariants as alone
+use Rattle.afdx_alone.specs.declared.fault.AloneFault.{AloneFault}
+use Rattle.afdx_alone.specs.declared.fault.AloneFault.TheVariants as alone
 use Rattle.afdx_devices.specs.declared.input.InputFault.{InputFault}
 use Rattle.afdx_devices.specs.declared.input.InputFault.TheVariants as input
 use Rattle.afdx_lines.specs.declared.network_failure.NetworkFailure.TheVariants as network
@@ -20,6 +20,7 @@ input_failure input.Device = failure.Read
 
 abbrev pub alone_failure : AloneFault → Failure
 alone_failure alone.Memory = failure.Memory
+alone_failure alone.Read = failure.Read
 alone_failure (alone.Capture fault) = failure.Capture fault
 
 abbrev pub table_failure : TableFault → Failure

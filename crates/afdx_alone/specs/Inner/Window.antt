@@ -1,0 +1,6 @@
+-- What contracts see of a window.
+use Rattle.std.specs.Prelude.{ℕ, List, slice_range}
+use Rattle.afdx_alone.specs.declared.window.Window.{Window}
+
+abbrev pub items : Window → List ℕ
+items w = slice_range w.bytes w.start w.end

@@ -1,0 +1,90 @@
+//! What was read of an input and not taken yet.
+
+ghost use Rattle.std.specs.Prelude.{◌≡◌, ◌≤◌, ◌-◌, ◌++◌, [], ℕ, List, length, drop, true, IfOk, IfErr};
+ghost use Rattle.std.specs.Io.KnownBytes.{Consumes, IsAtEnd};
+ghost use Rattle.afdx_alone.specs.declared.fault.AloneFault.TheVariants.{Read as ReadFailed};
+
+use crate::fault::AloneFault;
+use std::io::{ErrorKind, Read};
+
+/// The bytes of the longest record, 262,160, and 65,536 for a read: so many that the calls of the system are few, and so few
+/// that they stay at hand until their records are taken (profile).
+const SIZE: usize = 327_696;
+
+/// The bytes from `start` to `end`, and room after them.
+#[derive(Drop)]
+pub(crate) struct Window {
+    bytes: [u8; SIZE],
+    start: usize,
+    end: usize,
+    ghost ordered: { start ≤ end },
+    ghost within: { end ≤ 327696 },
+}
+
+impl Window {
+    ghost use Rattle.afdx_alone.specs.Inner.Window.{items};
+
+    /// A window of nothing so far.
+    pub(crate) fn new() -> Window
+        ensures { items result ≡ [] }
+    {
+        Window {
+            bytes: [0; SIZE],
+            start: 0,
+            end: 0,
+        }
+    }
+
+    /// The bytes that were not taken.
+    pub(crate) fn as_slice(&self) -> &[u8]
+        ensures same { result.now ≡ items self.now }
+        ensures few { length result.now ≤ 327696 }
+    {
+        &self.bytes[self.start..self.end]
+    }
+
+    /// What is left is at the front, so that all room is behind it.
+    fn move_to_front(&mut self)
+        ensures items { items self.new ≡ items self.old }
+        ensures end { self.new.end ≡ length (items self.old) }
+    {
+        let (start, end) = (self.start, self.end);
+        self.bytes.copy_within(start..end, 0);
+        self.start = 0;
+        self.end = end - start;
+    }
+
+    /// Takes all but this many of the bytes, the last ones.
+    pub(crate) fn keep_last(&mut self, left: usize)
+        requires { left ≤ length (items self.old) }
+        ensures { items self.new ≡ drop (length (items self.old) - left) (items self.old) }
+    {
+        self.start = self.end - left;
+    }
+
+    /// Reads more behind the bytes that were not taken, of which there are no more than the longest record has. Whether the
+    /// input was at its end; an interrupted read gives nothing.
+    pub(crate) fn fill<R: Read>(&mut self, input: &mut R) -> Result<bool, AloneFault>
+        requires { length (items self.old) ≤ 262160 }
+        ensures ok { IfOk result (λ ended. (piece : List ℕ) × (items self.new ≡ items self.old ++ piece)
+            × Consumes (R.remaining input.old) (R.remaining input.new) piece
+            × (ended ≡ true → IsAtEnd (R.remaining input.new))) }
+        ensures err { IfErr result (λ fault. fault ≡ ReadFailed) }
+    {
+        self.move_to_front();
+        let end = self.end;
+        match input.read(&mut self.bytes[end..]) {
+            Ok(count) => {
+                self.end = end + count;
+                Ok(count == 0)
+            }
+            Err(e) => {
+                if e.kind() == ErrorKind::Interrupted {
+                    Ok(false)
+                } else {
+                    Err(AloneFault::Read)
+                }
+            }
+        }
+    }
+}
