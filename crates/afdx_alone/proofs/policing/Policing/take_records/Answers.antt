@@ -63,4 +63,5 @@ returns-in-Err-clause-left g c =
     (λ cut. short_rest c.args.format _ _ _ c.in-Err.fault cut c.in-Err.ensures.fault)
 
 pub returns-in-Err-clause-last : goal.returns-in-Err-clause-last
-returns-in-Err-clause-last g c = last_rest c.args.bytes.now c.loop-format.rest.now c.args.ended c.in-Err.fault c.unless_they_wait.result c.unless_they_wait.ensures c.args.bytes.now c.loop-format.invariant.3
+returns-in-Err-clause-last g c =
+    last_rest c.args.bytes.now c.loop-format.rest.now c.args.ended c.in-Err.fault c.unless_they_wait.result c.unless_they_wait.ensures c.args.bytes.now c.loop-format.invariant.3
