@@ -75,7 +75,7 @@ fn each_cut(rt: HostRuntime) -> Result<(), Fail> {
                 assert!(rt; answer.as_slice() == cut);
                 None
             }
-            Err(AloneFault::Memory) => Some(PcapFault::Memory),
+            Err(AloneFault::Memory | AloneFault::Read) => Some(PcapFault::Memory),
             Err(AloneFault::Capture(fault)) => Some(fault),
         };
         assert_eq!(rt; fault, fault_in(length), "{length} bytes");

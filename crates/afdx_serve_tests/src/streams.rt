@@ -248,14 +248,14 @@ fn sixty_frames(alloc: Global) -> Result<Vec<u8>, AllocError> {
 
 /// The status of the policing of a capture, how many writes there are, and whether exactly the first so many of its bytes are
 /// written, where the write of this number fails.
-fn in_parts(
+fn in_turns(
     alloc: Global,
     input: &[u8],
     failing: u64,
     written: usize,
 ) -> Result<(u8, u64, bool), AllocError> {
     let mut reader = input;
-    let mut out = Sink::new(alloc, 100_000, failing, Some(ErrorKind::BrokenPipe));
+    let mut out = Sink::new(alloc, 65_536, failing, Some(ErrorKind::BrokenPipe));
     let mut folder = MemoryFolder::new(alloc);
     let got = served(
         alloc,
@@ -269,15 +269,15 @@ fn in_parts(
     Ok((got.0, out.calls, is_written))
 }
 
-/// The header and 43 of sixty records are the first part, of 65,814 bytes.
+/// The writer takes 65,536 bytes at a time, and the answer has more.
 #[test]
-fn writes_a_long_answer_in_parts(rt: HostRuntime) -> Result<(), Fail> {
+fn writes_a_long_answer_in_turns(rt: HostRuntime) -> Result<(), Fail> {
     let alloc = rt.alloc();
     let input = sixty_frames(alloc)?;
     // The write that fails, the status, how many writes there are and how many bytes are written.
-    for (failing, status, calls, written) in [(0, 0, 2, 91_824), (1, 5, 1, 0), (2, 5, 2, 65_814)] {
+    for (failing, status, calls, written) in [(0, 0, 2, 91_824), (1, 5, 1, 0), (2, 5, 2, 65_536)] {
         assert_eq!(rt;
-            in_parts(alloc, &input, failing, written)?,
+            in_turns(alloc, &input, failing, written)?,
             (status, calls, true),
             "write {failing}"
         );
