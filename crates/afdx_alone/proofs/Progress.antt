@@ -1,8 +1,8 @@
 -- What holds while the frames of a capture are offered to a link's account, one after the other.
-use Rattle.std.proofs.Common.{◌≡◌, ℕ, ◌-◌, ◌≤◌, Bool, true, false, cond, List, [], ◌∷◌, ◌++◌, length, take, drop}
+use Rattle.std.proofs.Common.{◌≡◌, ℕ, ◌+◌, ◌-◌, ◌≤◌, Bool, true, false, cond, List, [], ◌∷◌, ◌++◌, length, take, drop}
 use Rattle.std.proofs.Common.{map, Option, Some, None, Ok, refl, sym, ap, subst, ◌∙◌, arith, append-nil, append_assoc, length-append, take-append-drop}
 use Rattle.std.specs.Prelude.{filter, IsTrue}
-use Rattle.std.proofs.lemmas.List.{map-append, take_rest}
+use Rattle.std.proofs.lemmas.List.{map-append, take_rest, length-drop}
 use Rattle.std.proofs.lemmas.List.Elements.{filter-append}
 use Rattle.afdx_account.specs.declared.byte_account.ByteAccount.{ByteAccount}
 use Rattle.afdx_account.specs.declared.frame.Frame.{Frame}
@@ -125,6 +125,30 @@ module _ {Z : Type 0} (link : Alone) (bytes rest : List ℕ) (p : Policing Z) (f
         progress = t.progress;
         answer_is = h.answer ∙ longer_text g h.passes (passed_of_link link seen) r p.answer.items polices.answer_is ∙ ap capture_text (sym t.passed);
       }
+
+-- ---- one record after the other
+
+-- while the records of some bytes are taken: what was known of what was read before is known up to the rest
+pub record GoesOn {Z : Type 0} (link : Alone) (f : Format) (bytes rest : List ℕ) (start p : Policing Z) : Type 0 where
+  pub polices : (all : List ℕ) → Polices link all bytes start → Polices link all rest p
+  pub opened : p.format ≡ Some f
+  pub few : p.count + length rest ≤ start.count + length bytes
+  pub last : (before : List ℕ) × (before ++ rest ≡ bytes)
+
+pub goes_on : {Z : Type 0} → Ground → (link : Alone) (f : Format) (bytes rest later : List ℕ) (start p new : Policing Z) (r : Record) → GoesOn link f bytes rest start p
+    → Begins f p.last rest r → later ≡ after r rest → HasOffered link r p new → GoesOn link f bytes later start new
+goes_on g link f bytes rest later start p new r i begins is taken =
+    let whole = begins.whole in
+    let before = i.few in
+    let one = taken.count in
+    let same = ap length is in
+    let long = length-drop (16 + length r.bytes) rest in
+    record {
+      polices = λ all polices. subst (λ (left : List ℕ). Polices link all left new) (sym is) (one_further link all rest p f i.opened (i.polices all polices) g new r begins taken);
+      opened = taken.format ∙ i.opened;
+      few = omega (arith, whole, before, one, same, long);
+      last = further rest later (16 + length r.bytes) i.last is;
+    }
 
 -- ---- the header
 
