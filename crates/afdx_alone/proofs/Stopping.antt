@@ -19,6 +19,7 @@ use Rattle.afdx_alone.specs.declared.policing.Policing.{Policing}
 use Rattle.afdx_alone.specs.declared.fault.AloneFault.TheVariants as alone
 use Rattle.afdx_alone.specs.Answer.{IsAnswer}
 use Rattle.afdx_alone.specs.Faults.{fault_of, IsFaultOf}
+use Rattle.afdx_alone.specs.Inner.Sizes.{longest_record}
 use Rattle.afdx_alone.specs.Inner.Polices.{Polices, Leaves, IsPieceFault}
 use Rattle.afdx_alone.proofs.Progress.{read}
 
@@ -58,11 +59,11 @@ module _ (all rest : List ℕ) (ended : Bool) (fault : PcapFault) where
   stopped P (Ok left) h real wrong holds = subst P (sym h.0) holds
   stopped P (Err e) h real wrong holds = subst (IsPieceFault all ended) (sym h.0) (piece_fault all ended fault real wrong (stays ended (is_cut fault) h.1))
 
-  pub left_short : (o : Option Format) (result : Result (Bor (List ℕ)) AloneFault) → WaitsOrFails result → (is_cut fault ≡ true → length rest ≤ 262160)
+  pub left_short : (o : Option Format) (result : Result (Bor (List ℕ)) AloneFault) → WaitsOrFails result → (is_cut fault ≡ true → length rest ≤ longest_record)
       → IfOk result (λ left. Leaves ended o left.now)
   left_short o (Ok left) h short =
       let w = waits ended (is_cut fault) h.1 in
-      subst (λ (e : Bool). Leaves e o left.now) (sym w.0) (subst (λ (bytes : List ℕ). length bytes ≤ 262160) (sym h.0) (short w.1))
+      subst (λ (e : Bool). Leaves e o left.now) (sym w.0) (subst (λ (bytes : List ℕ). length bytes ≤ longest_record) (sym h.0) (short w.1))
   left_short o (Err e) h short = tt
 
   pub last_rest : (result : Result (Bor (List ℕ)) AloneFault) → WaitsOrFails result → (bytes : List ℕ) → (before : List ℕ) × (before ++ rest ≡ bytes)
@@ -80,7 +81,7 @@ behind_header bytes (Err e) last = tt
 -- ---- a record that is cut
 
 cut_data : (n left captured : ℕ) (fault : PcapFault) (less : Bool) → nat_lt left (16 + captured) ≡ less → captured ≤ captured_limit → cond less (Some (pcap.CutData n)) None ≡ Some fault
-    → left ≤ 262160
+    → left ≤ longest_record
 cut_data n left captured fault true less small is = let lt = ltb-true left (16 + captured) less in omega (arith, lt, small)
 cut_data n left captured fault false less small is = absurd cc
 
@@ -88,7 +89,7 @@ cut_data n left captured fault false less small is = absurd cc
 after_tests : (n left captured : ℕ) (fault : PcapFault) (fraction late backwards : Bool) → captured ≤ captured_limit → is_cut fault ≡ true
     → option_or (cond fraction (Some (pcap.Fraction n)) (cond late (Some (pcap.Late n)) (cond backwards (Some (pcap.Backwards n)) None)))
     (cond (nat_lt left (16 + captured)) (Some (pcap.CutData n)) None) ≡ Some fault
-    → left ≤ 262160
+    → left ≤ longest_record
 after_tests n left captured fault true late backwards small cut is = let same : pcap.Fraction n ≡ fault = cc in let no : is_cut (pcap.Fraction n) ≡ true = ap is_cut same ∙ cut in absurd cc
 after_tests n left captured fault false true backwards small cut is = let same : pcap.Late n ≡ fault = cc in let no : is_cut (pcap.Late n) ≡ true = ap is_cut same ∙ cut in absurd cc
 after_tests n left captured fault false false true small cut is = let same : pcap.Backwards n ≡ fault = cc in let no : is_cut (pcap.Backwards n) ≡ true = ap is_cut same ∙ cut in absurd cc
@@ -97,37 +98,37 @@ after_tests n left captured fault false false false small cut is = cut_data n le
 cut_rest : (n left captured : ℕ) (fault : PcapFault) (huge fraction late backwards : Bool) → nat_lt captured_limit captured ≡ huge → is_cut fault ≡ true
     → option_or (cond huge (Some (pcap.Huge n)) (cond fraction (Some (pcap.Fraction n)) (cond late (Some (pcap.Late n)) (cond backwards (Some (pcap.Backwards n)) None))))
     (cond (nat_lt left (16 + captured)) (Some (pcap.CutData n)) None) ≡ Some fault
-    → left ≤ 262160
+    → left ≤ longest_record
 cut_rest n left captured fault true fraction late backwards huge cut is = let same : pcap.Huge n ≡ fault = cc in let no : is_cut (pcap.Huge n) ≡ true = ap is_cut same ∙ cut in absurd cc
 cut_rest n left captured fault false fraction late backwards huge cut is =
     after_tests n left captured fault fraction late backwards (ltb-false captured_limit captured huge) cut is
 
 cut_whole : (f : Format) (last n : ℕ) (rest : List ℕ) (fault : PcapFault) (short : Bool) → nat_lt (length rest) 16 ≡ short → is_cut fault ≡ true
     → cond short (Some (pcap.CutHeader n)) (option_or (head_fault f.resolution last n (head_of f.endian rest)) (data_fault n (head_of f.endian rest) (length rest))) ≡ Some fault
-    → length rest ≤ 262160
+    → length rest ≤ longest_record
 cut_whole f last n rest fault true short cut is = let lt = ltb-true (length rest) 16 short in omega (arith, lt)
 cut_whole f last n rest fault false short cut is = cut_rest n (length rest) (head_of f.endian rest).captured fault _ _ _ _ refl cut is
 
-pub short_rest : (f : Format) (last n : ℕ) (rest : List ℕ) (fault : PcapFault) → is_cut fault ≡ true → record_fault f last n rest ≡ Some fault → length rest ≤ 262160
+pub short_rest : (f : Format) (last n : ℕ) (rest : List ℕ) (fault : PcapFault) → is_cut fault ≡ true → record_fault f last n rest ≡ Some fault → length rest ≤ longest_record
 unfolding record_fault
 short_rest f last n rest fault cut is = cut_whole f last n rest fault (nat_lt (length rest) 16) refl cut is
 
 -- ---- a header that is cut
 
-no_header : (o : Option Format) (bytes : List ℕ) (fault : PcapFault) → is_cut fault ≡ true → checked_header o bytes ≡ Err fault → length bytes ≤ 262160
+no_header : (o : Option Format) (bytes : List ℕ) (fault : PcapFault) → is_cut fault ≡ true → checked_header o bytes ≡ Err fault → length bytes ≤ longest_record
 no_header None bytes fault cut is = let same : pcap.Magic ≡ fault = cc in let no : is_cut pcap.Magic ≡ true = ap is_cut same ∙ cut in absurd cc
 no_header (Some f) bytes fault cut is = by ((field f.endian 4 2 bytes == 2) && (field f.endian 6 2 bytes == 4)) (field f.endian 20 4 bytes == 1) is where
-  by : (version ethernet : Bool) → cond version (cond ethernet (Ok f) (Err (pcap.LinkType (field f.endian 20 4 bytes)))) (Err pcap.Version) ≡ Err fault → length bytes ≤ 262160
+  by : (version ethernet : Bool) → cond version (cond ethernet (Ok f) (Err (pcap.LinkType (field f.endian 20 4 bytes)))) (Err pcap.Version) ≡ Err fault → length bytes ≤ longest_record
   by true true is = absurd cc
   by true false is = let same : pcap.LinkType (field f.endian 20 4 bytes) ≡ fault = cc in let no : is_cut (pcap.LinkType (field f.endian 20 4 bytes)) ≡ true = ap is_cut same ∙ cut in absurd cc
   by false ethernet is = let same : pcap.Version ≡ fault = cc in let no : is_cut pcap.Version ≡ true = ap is_cut same ∙ cut in absurd cc
 
 cut_header : (bytes : List ℕ) (fault : PcapFault) (short : Bool) → nat_lt (length bytes) 24 ≡ short → is_cut fault ≡ true
-    → cond short (Err pcap.NoHeader) (checked_header (format_of (number Big 4 bytes)) bytes) ≡ Err fault → length bytes ≤ 262160
+    → cond short (Err pcap.NoHeader) (checked_header (format_of (number Big 4 bytes)) bytes) ≡ Err fault → length bytes ≤ longest_record
 cut_header bytes fault true short cut is = let lt = ltb-true (length bytes) 24 short in omega (arith, lt)
 cut_header bytes fault false short cut is = no_header (format_of (number Big 4 bytes)) bytes fault cut is
 
-pub short_header : (bytes : List ℕ) (fault : PcapFault) → is_cut fault ≡ true → header_of bytes ≡ Err fault → length bytes ≤ 262160
+pub short_header : (bytes : List ℕ) (fault : PcapFault) → is_cut fault ≡ true → header_of bytes ≡ Err fault → length bytes ≤ longest_record
 unfolding header_of
 short_header bytes fault cut is = cut_header bytes fault (nat_lt (length bytes) 24) refl cut is
 

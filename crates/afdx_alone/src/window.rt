@@ -3,13 +3,18 @@
 ghost use Rattle.std.specs.Prelude.{◌≡◌, ◌≤◌, ◌-◌, ◌++◌, [], ℕ, List, length, drop, true, IfOk, IfErr};
 ghost use Rattle.std.specs.Io.KnownBytes.{Consumes, IsAtEnd};
 ghost use Rattle.afdx_alone.specs.declared.fault.AloneFault.TheVariants.{Read as ReadFailed};
+ghost use Rattle.afdx_alone.specs.Inner.Sizes.{longest_record, window_size};
 
 use crate::fault::AloneFault;
+use afdx_pcap::{HEAD_LENGTH, MAX_CAPTURED};
 use std::io::{ErrorKind, Read};
 
-/// The bytes of the longest record, 262,160, and 65,536 for a read: so many that the calls of the system are few, and so few
-/// that they stay at hand until their records are taken (profile).
-const SIZE: usize = 327_696;
+/// How many bytes there is room for beside the longest record: so many that the calls of the system are few, and so few that
+/// they stay at hand until their records are taken (profile).
+const CHUNK: usize = 65_536;
+
+/// The longest record, its header and what it holds at most, and a chunk.
+const SIZE: usize = HEAD_LENGTH + MAX_CAPTURED as usize + CHUNK;
 
 /// The bytes from `start` to `end`, and room after them.
 #[derive(Drop)]
@@ -18,7 +23,7 @@ pub(crate) struct Window {
     start: usize,
     end: usize,
     ghost ordered: { start ≤ end },
-    ghost within: { end ≤ 327696 },
+    ghost within: { end ≤ window_size },
 }
 
 impl Window {
@@ -38,7 +43,7 @@ impl Window {
     /// The bytes that were not taken.
     pub(crate) fn as_slice(&self) -> &[u8]
         ensures same { result.now ≡ items self.now }
-        ensures few { length result.now ≤ 327696 }
+        ensures few { length result.now ≤ window_size }
     {
         &self.bytes[self.start..self.end]
     }
@@ -65,7 +70,7 @@ impl Window {
     /// Reads more behind the bytes that were not taken, of which there are no more than the longest record has. Whether the
     /// input was at its end; an interrupted read gives nothing.
     pub(crate) fn fill<R: Read>(&mut self, input: &mut R) -> Result<bool, AloneFault>
-        requires { length (items self.old) ≤ 262160 }
+        requires { length (items self.old) ≤ longest_record }
         ensures ok { IfOk result (λ ended. (piece : List ℕ) × (items self.new ≡ items self.old ++ piece)
             × Consumes (R.remaining input.old) (R.remaining input.new) piece
             × (ended ≡ true → IsAtEnd (R.remaining input.new))) }

@@ -17,6 +17,7 @@ use Rattle.afdx_alone.specs.declared.policing.Policing.{Policing}
 use Rattle.afdx_alone.specs.Own.{is_own}
 use Rattle.afdx_alone.specs.Answer.{account_terms, passed_of_link}
 use Rattle.afdx_alone.specs.Inner.Offer.{IsOffered}
+use Rattle.afdx_alone.specs.Inner.Sizes.{longest_record}
 
 abbrev pub own_frames : Alone → List Record → List Frame
 own_frames link seen = map frame_of (filter (is_own link) seen)
@@ -55,7 +56,7 @@ pub record HasOffered {Z : Type 0} (link : Alone) (r : Record) (old new : Polici
 abbrev pub Leaves : Bool → Option Format → List ℕ → Type 0
 Leaves true None rest = ⊥
 Leaves true (Some format) rest = rest ≡ []
-Leaves false format rest = length rest ≤ 262160
+Leaves false format rest = length rest ≤ longest_record
 
 -- what is wrong with these bytes; where more may come, none of them mends it
 abbrev pub IsPieceFault : List ℕ → Bool → AloneFault → Type 0
