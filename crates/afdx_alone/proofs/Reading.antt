@@ -10,7 +10,8 @@ use Rattle.afdx_pcap.specs.Fault.{IsFault, IsEarlyFault}
 use Rattle.afdx_pcap.specs.Reading.{AreReadUpTo}
 use Rattle.afdx_arguments.specs.declared.alone.Alone.{Alone}
 use Rattle.afdx_alone.specs.declared.fault.AloneFault.{AloneFault}
-use Rattle.afdx_alone.specs.declared.fault.AloneFault.TheVariants.{Memory, Read, Capture}
+use Rattle.afdx_alone.specs.declared.fault.AloneFault.TheVariants.{Memory, Capture}
+use Rattle.afdx_alone.specs.declared.fault.ReadFault.TheVariants.{Alone as NoAnswer}
 use Rattle.afdx_alone.specs.declared.policing.Policing.{Policing}
 use Rattle.afdx_alone.specs.Answer.{IsAnswerTo}
 use Rattle.afdx_alone.specs.Faults.{IsReadFault}
@@ -53,9 +54,8 @@ last_bytes bytes rest (before, is) =
 
 -- why there is no answer to what a reader gave
 pub read_fault : EarlyFaultsStay → (a b : Option (List ℕ)) (all : List ℕ) (ended : Bool) (fault : AloneFault) → Consumes a b all → (ended ≡ true → IsAtEnd b) → IsPieceFault all ended fault
-    → IsReadFault a fault
+    → IsReadFault a (NoAnswer fault)
 read_fault early a b all ended Memory given end wrong = tt
-read_fault early a b all ended Read given end wrong = tt
 read_fault early None b all ended (Capture fault) given end wrong = (all, tt, wrong.0)
 read_fault early (Some x) None all ended (Capture fault) given end wrong = absurd given
 read_fault early (Some x) (Some y) all true (Capture fault) given end wrong =

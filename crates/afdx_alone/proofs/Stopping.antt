@@ -164,5 +164,4 @@ answered link bytes rest p left polices = (polices.seen, by p.format refl left, 
 -- what is wrong once all has come
 pub whole_fault : (bytes : List ℕ) (fault : AloneFault) → IsPieceFault bytes true fault → IsFaultOf bytes fault
 whole_fault bytes alone.Memory wrong = tt
-whole_fault bytes alone.Read wrong = wrong
 whole_fault bytes (alone.Capture fault) wrong = wrong.0

@@ -5,7 +5,9 @@ use Rattle.afdx_pcap.specs.declared.fault.PcapFault.{PcapFault}
 use Rattle.afdx_pcap.specs.declared.fault.PcapFault.TheVariants as pcap
 use Rattle.afdx_pcap.specs.Fault.{IsFault}
 use Rattle.afdx_alone.specs.declared.fault.AloneFault.{AloneFault}
-use Rattle.afdx_alone.specs.declared.fault.AloneFault.TheVariants.{Memory, Read, Capture}
+use Rattle.afdx_alone.specs.declared.fault.AloneFault.TheVariants.{Memory, Capture}
+use Rattle.afdx_alone.specs.declared.fault.ReadFault.{ReadFault}
+use Rattle.afdx_alone.specs.declared.fault.ReadFault.TheVariants.{Device, Alone}
 
 abbrev pub fault_of : PcapFault → AloneFault
 fault_of pcap.Memory = Memory
@@ -14,11 +16,10 @@ fault_of fault = Capture fault
 -- the first thing that is wrong with the input; or memory ran out
 abbrev pub IsFaultOf : List ℕ → AloneFault → Type 0
 IsFaultOf input Memory = ⊤
-IsFaultOf input Read = ⊥
 IsFaultOf input (Capture fault) = IsFault input fault
 
 -- the same of all that a reader gives, which may fail besides
-abbrev pub IsReadFault : Option (List ℕ) → AloneFault → Type 0
-IsReadFault input Memory = ⊤
-IsReadFault input Read = ⊤
-IsReadFault input (Capture fault) = (bytes : List ℕ) × AreGiven input bytes × IsFault bytes fault
+abbrev pub IsReadFault : Option (List ℕ) → ReadFault → Type 0
+IsReadFault input Device = ⊤
+IsReadFault input (Alone Memory) = ⊤
+IsReadFault input (Alone (Capture fault)) = (bytes : List ℕ) × AreGiven input bytes × IsFault bytes fault

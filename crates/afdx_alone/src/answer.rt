@@ -5,7 +5,7 @@ ghost use Rattle.afdx_devices.specs.Input.{AreGiven};
 ghost use Rattle.afdx_alone.specs.Answer.{IsAnswer, IsAnswerTo};
 ghost use Rattle.afdx_alone.specs.Faults.{IsFaultOf, IsReadFault};
 
-use crate::fault::AloneFault;
+use crate::fault::{AloneFault, ReadFault};
 use crate::policing::Policing;
 use crate::window::Window;
 use afdx_arguments::Alone;
@@ -36,12 +36,12 @@ pub fn alone<A: Allocator>(alloc: A, link: &Alone, input: &[u8]) -> Result<Vec<u
     Ok(policing.into_answer())
 }
 
-/// The same of a capture that a reader gives, by at most 16,777,216 reads. It keeps the answer, and of the input no more
-/// than 327,696 bytes.
+/// The same of a capture that a reader gives, by at most 16,777,216 reads of at most 65,536 bytes (profile). It keeps the
+/// answer, and of the input no more than 327,696 bytes.
 ///
 /// # Errors
 ///
-/// `Read` where a read fails or all reads are used up; `Capture` with the first fault of an input that is no capture, as
+/// `Device` where a read fails or all reads are used up; `Capture` with the first fault of an input that is no capture, as
 /// soon as no further bytes can mend it; `Memory` where memory ran out. Some of the input may then not have been read.
 ///
 /// One pass; a frame's bytes are copied once, into the answer, where it passes. O(input).
@@ -49,7 +49,7 @@ pub fn read_alone<R: Read, A: Allocator + Copy>(
     alloc: A,
     link: &Alone,
     input: &mut R,
-) -> Result<Vec<u8, A>, AloneFault>
+) -> Result<Vec<u8, A>, ReadFault>
     ensures answer { IfOk result (λ v. IsAnswerTo (R.remaining input.old) link.now v.items) }
     ensures fault { IfErr result (IsReadFault (R.remaining input.old)) }
 {
@@ -65,5 +65,5 @@ pub fn read_alone<R: Read, A: Allocator + Copy>(
         }
         window.keep_last(left);
     }
-    Err(AloneFault::Read)
+    Err(ReadFault::Device)
 }

@@ -12,9 +12,6 @@ pub enum AloneFault {
     /// Out of memory.
     #[error("Memory")]
     Memory,
-    /// A read failed, or all turns were used up.
-    #[error("Read")]
-    Read,
     /// The input is no capture, and this is its first fault.
     #[error("Capture")]
     Capture(PcapFault),
@@ -40,5 +37,35 @@ impl From<PcapFault> for AloneFault {
             PcapFault::Memory => AloneFault::Memory,
             _ => AloneFault::Capture(fault),
         }
+    }
+}
+
+/// Why there is no answer to what a reader gives.
+#[derive(Clone, Copy, Debug, PartialEq, Eq)]
+pub enum ReadFault {
+    /// A read failed, or all turns were used up.
+    Device,
+    /// There is none to what it gave.
+    Alone(AloneFault),
+}
+
+impl From<AllocError> for ReadFault {
+    ghost use Rattle.afdx_alone.specs.declared.fault.AloneFault.TheVariants.{Memory};
+    ghost use Rattle.afdx_alone.specs.declared.fault.ReadFault.TheVariants.{Alone};
+
+    ghost from_gives = { λ _ e. e ≡ Alone Memory };
+
+    fn from(_error: AllocError) -> ReadFault {
+        ReadFault::Alone(AloneFault::Memory)
+    }
+}
+
+impl From<AloneFault> for ReadFault {
+    ghost use Rattle.afdx_alone.specs.declared.fault.ReadFault.TheVariants.{Alone};
+
+    ghost from_gives = { λ fault e. e ≡ Alone fault };
+
+    fn from(fault: AloneFault) -> ReadFault {
+        ReadFault::Alone(fault)
     }
 }

@@ -13,4 +13,4 @@ mod window;
 
 pub use afdx_arguments::Alone;
 pub use answer::{alone, read_alone};
-pub use fault::AloneFault;
+pub use fault::{AloneFault, ReadFault};

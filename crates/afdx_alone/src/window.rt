@@ -2,15 +2,14 @@
 
 ghost use Rattle.std.specs.Prelude.{◌≡◌, ◌≤◌, ◌-◌, ◌++◌, [], ℕ, List, length, drop, true, IfOk, IfErr};
 ghost use Rattle.std.specs.Io.KnownBytes.{Consumes, IsAtEnd};
-ghost use Rattle.afdx_alone.specs.declared.fault.AloneFault.TheVariants.{Read as ReadFailed};
+ghost use Rattle.afdx_alone.specs.declared.fault.ReadFault.TheVariants.{Device};
 ghost use Rattle.afdx_alone.specs.Inner.Sizes.{longest_record, window_size};
 
-use crate::fault::AloneFault;
+use crate::fault::ReadFault;
 use afdx_pcap::{HEAD_LENGTH, MAX_CAPTURED};
 use std::io::{ErrorKind, Read};
 
-/// How many bytes there is room for beside the longest record: so many that the calls of the system are few, and so few that
-/// they stay at hand until their records are taken (profile).
+/// How many bytes one read gives at most (profile).
 const CHUNK: usize = 65_536;
 
 /// The longest record, its header and what it holds at most, and a chunk.
@@ -69,16 +68,16 @@ impl Window {
 
     /// Reads more behind the bytes that were not taken, of which there are no more than the longest record has. Whether the
     /// input was at its end; an interrupted read gives nothing.
-    pub(crate) fn fill<R: Read>(&mut self, input: &mut R) -> Result<bool, AloneFault>
+    pub(crate) fn fill<R: Read>(&mut self, input: &mut R) -> Result<bool, ReadFault>
         requires { length (items self.old) ≤ longest_record }
         ensures ok { IfOk result (λ ended. (piece : List ℕ) × (items self.new ≡ items self.old ++ piece)
             × Consumes (R.remaining input.old) (R.remaining input.new) piece
             × (ended ≡ true → IsAtEnd (R.remaining input.new))) }
-        ensures err { IfErr result (λ fault. fault ≡ ReadFailed) }
+        ensures err { IfErr result (λ fault. fault ≡ Device) }
     {
         self.move_to_front();
         let end = self.end;
-        match input.read(&mut self.bytes[end..]) {
+        match input.read(&mut self.bytes[end..end + CHUNK]) {
             Ok(count) => {
                 self.end = end + count;
                 Ok(count == 0)
@@ -87,7 +86,7 @@ impl Window {
                 if e.kind() == ErrorKind::Interrupted {
                     Ok(false)
                 } else {
-                    Err(AloneFault::Read)
+                    Err(ReadFault::Device)
                 }
             }
         }

@@ -2,8 +2,8 @@
 
 ghost use Rattle.std.specs.Prelude.{◌≡◌};
 
-use afdx_alone::AloneFault;
-use afdx_devices::{InputFault, WriteFault};
+use afdx_alone::{AloneFault, ReadFault};
+use afdx_devices::WriteFault;
 use afdx_lines::NetworkFailure;
 use afdx_load::LoadFault;
 use afdx_pcap::PcapFault;
@@ -71,19 +71,6 @@ impl<T: Drop> From<AllocFailed<T>> for Failure {
     }
 }
 
-impl From<InputFault> for Failure {
-    ghost use Rattle.afdx_failures.specs.Inner.Failures.{input_failure};
-
-    ghost from_gives = { λ fault failure. failure ≡ input_failure fault };
-
-    fn from(e: InputFault) -> Failure {
-        match e {
-            InputFault::Memory => Failure::Memory,
-            InputFault::Device => Failure::Read,
-        }
-    }
-}
-
 impl From<WriteFault> for Failure {
     ghost use Rattle.afdx_failures.specs.declared.failure.Failure.TheVariants.{Write as WriteFailed};
 
@@ -102,8 +89,20 @@ impl From<AloneFault> for Failure {
     fn from(e: AloneFault) -> Failure {
         match e {
             AloneFault::Memory => Failure::Memory,
-            AloneFault::Read => Failure::Read,
             AloneFault::Capture(fault) => Failure::Capture(fault),
+        }
+    }
+}
+
+impl From<ReadFault> for Failure {
+    ghost use Rattle.afdx_failures.specs.Inner.Failures.{read_failure};
+
+    ghost from_gives = { λ fault failure. failure ≡ read_failure fault };
+
+    fn from(e: ReadFault) -> Failure {
+        match e {
+            ReadFault::Device => Failure::Read,
+            ReadFault::Alone(fault) => Failure::from(fault),
         }
     }
 }

@@ -19,7 +19,6 @@ fn folder_and_alone_faults_are_named(rt: HostRuntime) -> Result<(), Fail> {
     }
     for (fault, name) in [
         (AloneFault::Memory, "Memory"),
-        (AloneFault::Read, "Read"),
         (AloneFault::Capture(PcapFault::Magic), "Capture"),
     ] {
         assert_eq!(rt; format!(in alloc; "{fault}")?.as_str(), name);

@@ -25,7 +25,7 @@ impl Calls for Policing<'_> {
         match alone(memory, self.link, self.input) {
             Ok(answer) => Some(answer.as_slice() == self.expected),
             Err(AloneFault::Memory) => None,
-            Err(AloneFault::Read | AloneFault::Capture(_)) => Some(false),
+            Err(AloneFault::Capture(_)) => Some(false),
         }
     }
 }
@@ -75,7 +75,7 @@ fn each_cut(rt: HostRuntime) -> Result<(), Fail> {
                 assert!(rt; answer.as_slice() == cut);
                 None
             }
-            Err(AloneFault::Memory | AloneFault::Read) => Some(PcapFault::Memory),
+            Err(AloneFault::Memory) => Some(PcapFault::Memory),
             Err(AloneFault::Capture(fault)) => Some(fault),
         };
         assert_eq!(rt; fault, fault_in(length), "{length} bytes");

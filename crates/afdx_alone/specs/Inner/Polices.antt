@@ -12,7 +12,7 @@ use Rattle.afdx_pcap.specs.Text.{capture_text, record_text}
 use Rattle.afdx_filter.specs.Frame.{frame_of}
 use Rattle.afdx_arguments.specs.declared.alone.Alone.{Alone}
 use Rattle.afdx_alone.specs.declared.fault.AloneFault.{AloneFault}
-use Rattle.afdx_alone.specs.declared.fault.AloneFault.TheVariants.{Memory, Read, Capture}
+use Rattle.afdx_alone.specs.declared.fault.AloneFault.TheVariants.{Memory, Capture}
 use Rattle.afdx_alone.specs.declared.policing.Policing.{Policing}
 use Rattle.afdx_alone.specs.Own.{is_own}
 use Rattle.afdx_alone.specs.Answer.{account_terms, passed_of_link}
@@ -61,5 +61,4 @@ Leaves false format rest = length rest ≤ longest_record
 -- what is wrong with these bytes; where more may come, none of them mends it
 abbrev pub IsPieceFault : List ℕ → Bool → AloneFault → Type 0
 IsPieceFault bytes ended Memory = ⊤
-IsPieceFault bytes ended Read = ⊥
 IsPieceFault bytes ended (Capture fault) = IsFault bytes fault × (ended ≡ false → is_cut fault ≡ false)

@@ -8,20 +8,19 @@ use Rattle.afdx_session.specs.declared.plan.RunFault.{RunFault}
 use Rattle.afdx_session.specs.declared.plan.RunFault.TheVariants as run
 use Rattle.afdx_alone.specs.declared.fault.AloneFault.{AloneFault}
 use Rattle.afdx_alone.specs.declared.fault.AloneFault.TheVariants as alone
-use Rattle.afdx_devices.specs.declared.input.InputFault.{InputFault}
-use Rattle.afdx_devices.specs.declared.input.InputFault.TheVariants as input
+use Rattle.afdx_alone.specs.declared.fault.ReadFault.{ReadFault}
+use Rattle.afdx_alone.specs.declared.fault.ReadFault.TheVariants as read
 use Rattle.afdx_lines.specs.declared.network_failure.NetworkFailure.TheVariants as network
 use Rattle.afdx_failures.specs.declared.failure.Failure.{Failure}
 use Rattle.afdx_failures.specs.declared.failure.Failure.TheVariants as failure
 
-abbrev pub input_failure : InputFault → Failure
-input_failure input.Memory = failure.Memory
-input_failure input.Device = failure.Read
-
 abbrev pub alone_failure : AloneFault → Failure
 alone_failure alone.Memory = failure.Memory
-alone_failure alone.Read = failure.Read
 alone_failure (alone.Capture fault) = failure.Capture fault
+
+abbrev pub read_failure : ReadFault → Failure
+read_failure read.Device = failure.Read
+read_failure (read.Alone fault) = alone_failure fault
 
 abbrev pub table_failure : TableFault → Failure
 table_failure table.Memory = failure.Memory
