@@ -9,12 +9,10 @@ use crate::fault::{AloneFault, ReadFault};
 use crate::policing::Policing;
 use crate::window::Window;
 use afdx_arguments::Alone;
+use afdx_devices::TURNS;
 use afdx_pcap::laws::{early_faults_stay, rests_are_read_on};
 use std::alloc::Allocator;
 use std::io::Read;
-
-/// How often input is read at most (profile).
-const TURNS: u32 = 16_777_216;
 
 /// Polices one link by itself: the capture of those of its own frames that its account passes, in order,
 /// their stamps and bytes unchanged.

@@ -6,11 +6,9 @@ ghost use Rattle.afdx_alone.specs.declared.fault.ReadFault.TheVariants.{Device};
 ghost use Rattle.afdx_alone.specs.Inner.Sizes.{longest_record, window_size};
 
 use crate::fault::ReadFault;
+use afdx_devices::CHUNK;
 use afdx_pcap::{HEAD_LENGTH, MAX_CAPTURED};
 use std::io::{ErrorKind, Read};
-
-/// How many bytes one read gives at most (profile).
-const CHUNK: usize = 65_536;
 
 /// The longest record, its header and what it holds at most, and a chunk.
 const SIZE: usize = HEAD_LENGTH + MAX_CAPTURED as usize + CHUNK;

@@ -8,10 +8,10 @@ use std::alloc::{AllocError, Allocator};
 use std::io::{ErrorKind, Read};
 
 /// How often input is read at most (profile).
-const TURNS: u32 = 16_777_216;
+pub const TURNS: u32 = 16_777_216;
 
 /// How many bytes one read gives at most (profile).
-const CHUNK: usize = 65_536;
+pub const CHUNK: usize = 65_536;
 
 /// Why input was not read to its end.
 #[derive(Clone, Copy, Debug, PartialEq, Eq)]

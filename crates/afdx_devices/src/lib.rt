@@ -15,7 +15,7 @@ mod whole_file;
 pub use device_log::DeviceLog;
 pub use disk::Disk;
 pub use folder::{Folder, FolderFault};
-pub use input::{InputFault, read_to_end};
+pub use input::{CHUNK, InputFault, TURNS, read_to_end};
 pub use new_file::NewFile;
 pub use output::{WriteFault, write_bytes};
 pub use whole_file::WholeFile;
