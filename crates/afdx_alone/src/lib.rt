@@ -1,7 +1,7 @@
 //! The policing of one link by itself, from a capture to a capture.
 //!
 //! [`alone`] answers to a capture that is there; [`read_alone`] to one that a reader gives, of which it keeps no more than
-//! one record. The module `laws` ties what they take for a link's own frames to the filter of the whole switch.
+//! 327,696 bytes. The module `laws` ties what they take for a link's own frames to the filter of the whole switch.
 #![tactic(auto)]
 
 mod answer;

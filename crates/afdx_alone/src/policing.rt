@@ -160,6 +160,7 @@ impl<A: Allocator> Policing<A> {
             Err(fault) => unless_they_wait(bytes, fault, ended),
         }
     }
+
     /// The answer to what was read.
     pub(crate) fn into_answer(self) -> Vec<u8, A>
         ensures { result ≡ self.answer }
