@@ -1,6 +1,6 @@
 //! The answer to the capture of one link's port.
 
-ghost use Rattle.std.specs.Prelude.{◌≡◌, IfOk, IfErr};
+ghost use Rattle.std.specs.Prelude.{IfOk, IfErr};
 ghost use Rattle.afdx_alone.specs.Answer.{IsAnswer, IsAnswerTo};
 ghost use Rattle.afdx_alone.specs.Faults.{IsFaultOf, IsReadFault};
 

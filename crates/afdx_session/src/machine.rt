@@ -1,6 +1,6 @@
 //! Records that go from the lanes through the switch, and out again.
 
-ghost use Rattle.std.specs.Prelude.{◌≡◌, ◌<◌, ◌≤◌, ◌^◌, ◌==◌, ℕ, Bool, true, false, None, Some, List, [], length, map, vec_capacity, IfOk, IfErr, OnOk, IfSome, option_map, Option};
+ghost use Rattle.std.specs.Prelude.{◌≡◌, ◌<◌, ◌≤◌, ◌^◌, ℕ, Bool, true, false, None, Some, List, [], length, map, vec_capacity, IfOk, IfErr, OnOk, option_map, Option};
 ghost use Rattle.afdx_units.specs.Time.{last_second};
 ghost use Rattle.afdx_table.specs.WellFormed.{IsWellFormed};
 ghost use Rattle.afdx_load.specs.Accepted.{IsAccepted};
