@@ -13,7 +13,7 @@ ghost use Rattle.afdx_port.specs.Service.{sent_of};
 ghost use Rattle.afdx_store.specs.Seen.{copies_of};
 ghost use Rattle.afdx_core.specs.Inner.OutputPorts.{seen, PlacesAre, dues_of, IsCounted, queued_by, counted};
 ghost use Rattle.afdx_core.specs.Inner.OutputPorts.{offered_to, offered_at, BecameAt, touched, carried, carried_due, ended_out, CanTake, CanCarry, Became, answer_at};
-ghost use Rattle.afdx_core.specs.Inner.Copies.{copies_at, copies_in, newly_aged, Discards, HoldsCopies, Thinned, Enough, AddsCopies};
+ghost use Rattle.afdx_core.specs.Inner.Copies.{copies_at, newly_aged, Discards, HoldsCopies, Thinned, Enough, AddsCopies};
 ghost use Rattle.afdx_core.specs.declared.output_port.OutputPort.{OutputPort as OneOutputPort};
 
 use crate::dues::Dues;

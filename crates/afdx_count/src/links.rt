@@ -1,6 +1,6 @@
 //! The counters of links.
 
-ghost use Rattle.std.specs.Prelude.{◌≡◌, ◌==◌, ◌<◌, nat_eq, [], ◌∷◌, ◌++◌, false, length, map, IsTrue, IfSome, IfOk, IfNone, OnOk, find, slice_get, option_map};
+ghost use Rattle.std.specs.Prelude.{◌≡◌, ◌==◌, ◌<◌, nat_eq, [], ◌∷◌, ◌++◌, false, length, map, IsTrue, IfSome, IfOk, IfNone, OnOk, option_map};
 ghost use Rattle.std.specs.List.{list_any, IsDistinct};
 ghost use Rattle.afdx_count.specs.Tally.{new_link, one_passed, one_policed, link_in, noted_link, class_of};
 ghost use Rattle.afdx_count.specs.Inner.Places.{IsPlaceOf, changed_at};

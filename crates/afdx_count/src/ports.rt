@@ -1,9 +1,8 @@
 //! The counters of ports.
 
-ghost use Rattle.std.specs.Prelude.{◌≡◌, ◌==◌, ◌<◌, nat_eq, [], ◌∷◌, ◌++◌, false, length, map, IfSome, IfOk, IfNone, OnOk, find};
+ghost use Rattle.std.specs.Prelude.{◌≡◌, ◌==◌, ◌<◌, nat_eq, [], ◌∷◌, ◌++◌, false, length, map, IfSome, IfOk, IfNone, OnOk};
 ghost use Rattle.std.specs.List.{list_any, IsDistinct};
 ghost use Rattle.afdx_count.specs.Counting.{with_fate};
-ghost use Rattle.afdx_core.specs.State.{State};
 ghost use Rattle.afdx_count.specs.Tally.{new_port, with_arrival, with_copies, with_class, ended_port, port_in};
 ghost use Rattle.afdx_count.specs.Inner.Places.{IsPlaceOf};
 

@@ -1,6 +1,6 @@
 //! A reader, as standard input or a file, read to its end within a bounded number of turns.
 
-ghost use Rattle.std.specs.Prelude.{◌≡◌, ◌<◌, length, IfOk, OnOk, IfSome};
+ghost use Rattle.std.specs.Prelude.{◌≡◌, ◌<◌, length, IfOk, OnOk};
 ghost use Rattle.std.specs.Io.KnownBytes.{IsAtEnd};
 ghost use Rattle.afdx_devices.specs.Input.{AreGiven};
 

@@ -1,6 +1,6 @@
 //! The check of a table.
 
-ghost use Rattle.std.specs.Prelude.{◌≡◌, ◌*◌, ◌≤◌, MatchResult, Some};
+ghost use Rattle.std.specs.Prelude.{◌≡◌, ◌*◌, MatchResult, Some};
 ghost use Rattle.afdx_load.specs.Inner.Slots.{AreLoads};
 ghost use Rattle.afdx_load.specs.Accepted.{past, past_bound, fault_at, first_fault, IsAccepted};
 

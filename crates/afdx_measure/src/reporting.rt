@@ -1,6 +1,6 @@
 //! All that is reported of a finished run, as text.
 
-ghost use Rattle.std.specs.Prelude.{◌≡◌, ◌++◌, true, Some, flat_map, string_bytes, IfOk, OnOk};
+ghost use Rattle.std.specs.Prelude.{◌≡◌, ◌++◌, true, flat_map, string_bytes, IfOk, OnOk};
 ghost use Rattle.afdx_table.specs.Content.{port_row};
 ghost use Rattle.afdx_core.specs.State.{sent_in};
 ghost use Rattle.afdx_measure.specs.Delays.{delays_of, summary_of};

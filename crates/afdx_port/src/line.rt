@@ -1,14 +1,13 @@
 //! The line of a port and what waits for it.
 
-ghost use Rattle.std.specs.Prelude.{◌≡◌, ℕ, ◌+◌, ◌<◌, ◌≤◌, ◌++◌, [], ◌∷◌, Some, None, if◌then◌else◌, sum_by, vec_len, nat_le, max, false, OnOk};
+ghost use Rattle.std.specs.Prelude.{◌≡◌, ℕ, ◌+◌, ◌<◌, ◌≤◌, ◌++◌, [], Some, None, if◌then◌else◌, sum_by, nat_le, max, false, OnOk};
 ghost use Rattle.afdx_units.specs.Time.{stamp_end};
-ghost use Rattle.std.specs.Vec.{vec_capacity};
 ghost use Rattle.afdx_port.specs.Service.{reach, came, before, sent_of, aged_of};
 ghost use Rattle.afdx_port.specs.Inner.Order.{in_line};
 ghost use Rattle.afdx_port.specs.Inner.Progress.{on_line};
 ghost use Rattle.afdx_port.specs.Course.{starts_before};
 ghost use Rattle.afdx_port.specs.Inner.Course.{next_in_line, after_next, rest_in_line, reached, first_start};
-ghost use Rattle.afdx_port.specs.Inner.Queued.{line_of, count_of, queued};
+ghost use Rattle.afdx_port.specs.Inner.Queued.{count_of, queued};
 ghost use Rattle.afdx_port.specs.Inner.Sound.{IsSound, IsSmall, HasRoom, queue_of, state_of};
 
 use crate::queues::Queues;

@@ -1,6 +1,6 @@
 //! One output port.
 
-ghost use Rattle.std.specs.Prelude.{◌≡◌, ℕ, ◌+◌, ◌<◌, ◌≤◌, ◌++◌, [], ◌∷◌, true, false, All, OnOk};
+ghost use Rattle.std.specs.Prelude.{◌≡◌, ◌+◌, ◌<◌, ◌≤◌, ◌++◌, [], ◌∷◌, true, false, All, OnOk};
 ghost use Rattle.afdx_units.specs.Time.{last_second};
 ghost use Rattle.afdx_units.specs.Line.{least_size, greatest_size};
 ghost use Rattle.afdx_port.specs.Service.{sent_of, aged_of};

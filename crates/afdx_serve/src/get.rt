@@ -1,7 +1,6 @@
 //! What is got from a folder.
 
 ghost use Rattle.std.specs.Prelude.{◌≡◌, MatchResult};
-ghost use Rattle.afdx_table.specs.WellFormed.{IsWellFormed};
 ghost use Rattle.afdx_session.specs.Texts.{texts_of};
 ghost use Rattle.afdx_devices.specs.Files.{Shows, KeepsFiles};
 ghost use Rattle.afdx_serve.specs.Runs.{HasTable, HasCaptures, FailsToGet, FailsToGetAll, FailsToRead};

@@ -1,6 +1,6 @@
 //! The command `network check`.
 
-ghost use Rattle.std.specs.Prelude.{◌≡◌, List, map, string_bytes, IfOk, MatchResult};
+ghost use Rattle.std.specs.Prelude.{◌≡◌, map, string_bytes, IfOk, MatchResult};
 ghost use Rattle.afdx_wiring.specs.Refusal.{Gives};
 ghost use Rattle.afdx_wiring.specs.Rules.{FitsTogether, HasJitters, IsAcceptedNetwork};
 ghost use Rattle.afdx_serve.specs.Networks.{names_of, judged, FailsToAcceptNetwork};

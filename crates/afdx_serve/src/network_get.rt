@@ -2,7 +2,6 @@
 
 ghost use Rattle.std.specs.Prelude.{◌≡◌, ℕ, List, Ok, length, map, slice_get, option_map, option_and_then, string_bytes, IfOk, MatchResult};
 ghost use Rattle.std.specs.Path.{path_with_file_name};
-ghost use Rattle.afdx_table.specs.Content.{Content};
 ghost use Rattle.afdx_wiring.specs.Order.{lost_port};
 ghost use Rattle.afdx_devices.specs.Files.{KeepsFiles};
 ghost use Rattle.afdx_serve.specs.Networks.{bytes_in, names_of, HasLayout, HasTexts, AreTables, HasNetwork, switch_of, IsRefused, IsRefusedTable};

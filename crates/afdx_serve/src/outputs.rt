@@ -1,7 +1,6 @@
 //! The outputs of a run: new files, which are put under their names at the end.
 
 ghost use Rattle.std.specs.Prelude.{◌≡◌, ℕ, List, length, map, string_bytes, Option, IfOk, IfSome, MatchResult};
-ghost use Rattle.std.specs.Vec.Iter.{into_iter_items};
 ghost use Rattle.afdx_devices.specs.Files.{Files, KeepsFiles, KeepsOthers, PutsFile, PutsFiles};
 ghost use Rattle.afdx_serve.specs.Runs.{FailsToPut, FailsToPutOne};
 ghost use Rattle.afdx_serve.specs.Inner.Outputs.{AreEmpty, HaveBytes};

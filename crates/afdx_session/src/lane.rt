@@ -1,6 +1,6 @@
 //! What the machine has of one port.
 
-ghost use Rattle.std.specs.Prelude.{◌≡◌, ◌<◌, ◌≤◌, ◌-◌, ◌^◌, ◌==◌, ◌++◌, [], ℕ, true, false, take, None, Some, Ok, List, length, IfOk, IfErr, OnOk, OnErr, IfSome, IfNone, Option, is_some};
+ghost use Rattle.std.specs.Prelude.{◌≡◌, ◌<◌, ◌-◌, ◌^◌, ◌==◌, ◌++◌, ℕ, true, false, take, None, Some, Ok, List, length, IfOk, IfErr, OnOk, IfSome, IfNone, Option, is_some};
 ghost use Rattle.std.specs.Prelude.{if◌then◌else◌, ◌+◌, IsTrue, ◌↔◌, position, find};
 ghost use Rattle.afdx_pcap.specs.Record as pcap;
 ghost use Rattle.afdx_pcap.specs.Reading.{Answers};

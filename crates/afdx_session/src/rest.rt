@@ -6,7 +6,7 @@ ghost use Rattle.afdx_table.specs.Content.{Content};
 ghost use Rattle.afdx_core.specs.Merge.{Arrival};
 ghost use Rattle.afdx_core.specs.State.{place_of, next_by};
 ghost use Rattle.afdx_session.specs.Output.{output_text};
-ghost use Rattle.afdx_session.specs.Inner.Replay.{HasBytesOf, IsDrained};
+ghost use Rattle.afdx_session.specs.Inner.Replay.{HasBytesOf};
 ghost use Rattle.afdx_session.specs.Inner.Settled.{Draws};
 ghost use Rattle.afdx_session.specs.Inner.Rest.{IsLeft, HaveRests};
 

@@ -1,8 +1,8 @@
 //! A store of frames, by the numbers of their arrivals.
 
-ghost use Rattle.std.specs.Prelude.{◌≡◌, ℕ, ◌+◌, ◌<◌, ◌≤◌, ◌∷◌, [], ◌++◌, true, None, Some, OnOk, length, set, slice_get, slice_index_or, count_by, is_some};
+ghost use Rattle.std.specs.Prelude.{◌≡◌, ◌+◌, ◌<◌, ◌∷◌, [], ◌++◌, true, None, Some, OnOk, set, slice_index_or, count_by, is_some};
 ghost use Rattle.slab.specs.Slab.{ContainsKey, Updates, slab_len};
-ghost use Rattle.afdx_store.specs.Seen.{Held, is_held, one_less, newcomer, frame_at};
+ghost use Rattle.afdx_store.specs.Seen.{is_held, one_less, newcomer, frame_at};
 
 use afdx_pcap::Record;
 use slab::Slab;
