@@ -13,7 +13,6 @@
 #![tactic(auto)]
 
 mod accounts;
-mod dues;
 mod engine;
 pub mod laws;
 mod log;

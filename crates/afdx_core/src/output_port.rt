@@ -1,7 +1,7 @@
 //! An output port beside its row of the table.
 
 ghost use Rattle.std.specs.Prelude.{◌≡◌, ℕ, ◌+◌, ◌<◌, ◌≤◌, ◌==◌, true, false, List, [], length, map, drop, All, OnOk, find, option_copied, position, slice_get, slice_index_or, set};
-ghost use Rattle.std.specs.Prelude.{IfSome, None, nat_eq};
+ghost use Rattle.std.specs.Prelude.{IfSome, MatchOption, None, nat_eq};
 ghost use Rattle.std.specs.List.{IsDistinct};
 ghost use Rattle.afdx_units.specs.Time.{last_second};
 ghost use Rattle.afdx_units.specs.Line.{least_size, greatest_size};
@@ -9,15 +9,17 @@ ghost use Rattle.afdx_table.specs.WellFormed.{IsPort};
 ghost use Rattle.afdx_table.specs.Link.{names_port};
 ghost use Rattle.afdx_isolation.specs.Table.{settings_of};
 ghost use Rattle.afdx_port.specs.Content.{fresh, done, answer};
+ghost use Rattle.afdx_port.specs.Course.{starts_before};
 ghost use Rattle.afdx_port.specs.Service.{sent_of};
 ghost use Rattle.afdx_store.specs.Seen.{copies_of};
+ghost use Rattle.afdx_core.specs.Inner.Dues.{IsFirstBefore};
 ghost use Rattle.afdx_core.specs.Inner.OutputPorts.{seen, PlacesAre, dues_of, IsCounted, queued_by, counted};
 ghost use Rattle.afdx_core.specs.Inner.OutputPorts.{offered_to, offered_at, BecameAt, touched, carried, carried_due, ended_out, CanTake, CanCarry, Became, answer_at};
 ghost use Rattle.afdx_core.specs.Inner.Copies.{copies_at, newly_aged, Discards, HoldsCopies, Thinned, Enough, AddsCopies};
 ghost use Rattle.afdx_core.specs.declared.output_port.OutputPort.{OutputPort as OneOutputPort};
 
-use crate::dues::Dues;
 use crate::step::Offers;
+use afdx_instants::Instants;
 use afdx_port::laws::{
     each_has_one_event, events_come_in_parts, events_follow_the_line, lagging_ports_follow,
 };
@@ -189,12 +191,20 @@ pub(crate) fn make_room<A: Allocator + Copy>(
     Ok(())
 }
 
+/// The place that is due first, where that is before the instant. O(1).
+fn first_due(dues: &Instants, instant: u64) -> Option<usize>
+    ensures { MatchOption result (All (λ due. starts_before instant due ≡ false) dues.now) (IsFirstBefore instant dues.now) }
+{
+    let (place, at) = dues.first()?;
+    if at.ns() < instant { Some(place) } else { None }
+}
+
 /// Carries out the starts before the instant that the stamp reaches, one latency later, at the ports that are due before
 /// it, and at no other.
-/// O(1) for each start, and O(log ports) for each port that is due.
+/// O(1) for each start, and for each port that is due.
 pub(crate) fn carry_all<A: Allocator + Copy>(
     output_ports: &mut [OutputPort<A>],
-    dues: &mut Dues,
+    dues: &mut Instants,
     latency: u64,
     at: Stamp,
     store: &mut Store<'_, A>,
@@ -216,7 +226,7 @@ pub(crate) fn carry_all<A: Allocator + Copy>(
     events_follow_the_line();
     events_come_in_parts();
     let reached = at.ns() + latency;
-    while let Some(place) = dues.first_before(reached) {
+    while let Some(place) = first_due(dues, reached) {
         let output_port = &mut output_ports[place];
         output_port.carry(at, store);
         dues.set(place, output_port.port.due());
@@ -258,7 +268,7 @@ pub(crate) fn output_port_of<A: Allocator + Copy>(
 /// Offers an item to the port at a place.
 fn offer_place<A: Allocator + Copy>(
     output_ports: &mut [OutputPort<A>],
-    dues: &mut Dues,
+    dues: &mut Instants,
     place: usize,
     item: &Item,
 ) -> Offer
@@ -281,7 +291,7 @@ fn offer_place<A: Allocator + Copy>(
 /// Offers an item to a port, where there is such a port; without one, it is `Full`.
 fn offer_to<A: Allocator + Copy>(
     output_ports: &mut [OutputPort<A>],
-    dues: &mut Dues,
+    dues: &mut Instants,
     places: &[Option<usize>; 25],
     item: &Item,
     port: u8,
@@ -321,7 +331,7 @@ fn copies_by(answer: Offer) -> usize
 /// Offers an item to these ports, in their order, and lists their answers. It answers how many queued it.
 pub(crate) fn offer_all<A: Allocator + Copy>(
     output_ports: &mut [OutputPort<A>],
-    dues: &mut Dues,
+    dues: &mut Instants,
     places: &[Option<usize>; 25],
     item: &Item,
     to: &[u8],

@@ -22,7 +22,8 @@ use Rattle.afdx_session.specs.Texts.{Text}
 use Rattle.afdx_session.specs.Reading.{IsSound}
 use Rattle.afdx_session.specs.Inner.Settled.{first_place, IsGiven, HandsOut, IsWithin}
 use Rattle.afdx_session.proofs.FirstHeads.{set_twice, heads_set}
-use Rattle.afdx_session.specs.Inner.Lanes.{limit_at, with_waiting, head_of, heads_of, head_at, IsFirstUpTo, IsFirstOf, IsLimit, NoneGoes, IsReadOn, HasDrawn, IsLaneFault}
+use Rattle.afdx_instants.specs.Instants.{instant_at, IsFirstUpTo}
+use Rattle.afdx_session.specs.Inner.Lanes.{limit_at, with_waiting, head_of, heads_of, IsFirstOf, IsLimit, NoneGoes, IsReadOn, HasDrawn, IsLaneFault}
 use Rattle.afdx_session.specs.Inner.Lent.{AreSound, IsOver, texts_over, taken_by, left_of, left_in, IsOneFault, IsCarrying, CarriesOn, HandsOn}
 use Rattle.afdx_session.specs.Inner.Kept.{AreOfTable, AreOut, Every, IsGoing, AreTouched, IsGrown, AreGrown, IsOfSameTable}
 use Rattle.afdx_session.specs.Inner.View.{HasGone, IsRound}
@@ -67,7 +68,7 @@ first_of_two p q (Some m) le same = by (nat_le q.0 m.0) where
   by true = ap (λ b. cond b p q) (le-leb p.0 q.0 le)
   by false = same
 
-first_stays : {Z : Type 0} (p : ℕ × ℕ) (lanes : List (Lane Z)) → AllByRecursion IsOver lanes → ((j u : ℕ) → j < length lanes → head_at (heads_of lanes) j ≡ Some u → p.0 ≤ u)
+first_stays : {Z : Type 0} (p : ℕ × ℕ) (lanes : List (Lane Z)) → AllByRecursion IsOver lanes → ((j u : ℕ) → j < length lanes → instant_at (heads_of lanes) j ≡ Some u → p.0 ≤ u)
     → first_place p (limit_at lanes) ≡ p
 first_stays p [] over sooner = refl
 first_stays {Z} p (l ∷ lanes) over sooner =
@@ -79,9 +80,9 @@ first_stays {Z} p (l ∷ lanes) over sooner =
           ∙ first_of_two p (l.last, l.port) (limit_at lanes) (sooner 0 l.last (omega arith) (head_is l over.0 still_open)) rest
     ]
 
-limit_from : {Z : Type 0} (l : Lane Z) (t : ℕ) (ls : List (Lane Z)) (j : ℕ) → AllByRecursion IsOver ls → slice_get ls j ≡ Some l → head_at (heads_of ls) j ≡ Some t
-    → ((i u : ℕ) → i < length ls → head_at (heads_of ls) i ≡ Some u → t ≤ u)
-    → ((i u : ℕ) → i < j → head_at (heads_of ls) i ≡ Some u → t < u) → limit_at ls ≡ Some (t, l.port)
+limit_from : {Z : Type 0} (l : Lane Z) (t : ℕ) (ls : List (Lane Z)) (j : ℕ) → AllByRecursion IsOver ls → slice_get ls j ≡ Some l → instant_at (heads_of ls) j ≡ Some t
+    → ((i u : ℕ) → i < length ls → instant_at (heads_of ls) i ≡ Some u → t ≤ u)
+    → ((i u : ℕ) → i < j → instant_at (heads_of ls) i ≡ Some u → t < u) → limit_at ls ≡ Some (t, l.port)
 limit_from l t [] j all is here sooner former = absurd cc
 limit_from {Z} l t (m ∷ ls) zero all is here sooner former =
     let w = waits_for m t all.0 here in
@@ -112,7 +113,7 @@ no_limit lanes over place stamp lane first at = (
 )
 
 -- where none goes, all have ended
-all_ended : {Z : Type 0} (lanes : List (Lane Z)) → AllByRecursion IsOver lanes → ((j : ℕ) → j < length lanes → head_at (heads_of lanes) j ≡ None)
+all_ended : {Z : Type 0} (lanes : List (Lane Z)) → AllByRecursion IsOver lanes → ((j : ℕ) → j < length lanes → instant_at (heads_of lanes) j ≡ None)
     → AllByRecursion (λ (l : Lane Z). l.ended ≡ true) lanes
 all_ended [] over none = tt
 all_ended {Z} (l ∷ lanes) over none = (

@@ -10,7 +10,8 @@ use Rattle.afdx_core.specs.Inner.Merge.{ByStampIsOrdered}
 use Rattle.afdx_session.specs.declared.lane.Lane.{Lane}
 use Rattle.afdx_session.specs.Streams.{Stream, captures_of, last_of}
 use Rattle.afdx_session.specs.Inner.Settled.{Ascend, ports_of, first_place, limit, IsWithin, HeadFrom, ComesFirst, AllRise, without, IsSettling, IsPast}
-use Rattle.afdx_session.specs.Inner.Lanes.{waiting_of, limit_at, head_of, heads_of, head_at, IsFirstUpTo, with_waiting, Goes}
+use Rattle.afdx_instants.specs.Instants.{instant_at, IsFirstUpTo}
+use Rattle.afdx_session.specs.Inner.Lanes.{waiting_of, limit_at, head_of, heads_of, with_waiting, Goes}
 use Rattle.afdx_session.specs.Inner.Kept.{AreLanesOf}
 use Rattle.afdx_session.proofs.Giving.{settles_on}
 
@@ -41,16 +42,16 @@ head_from : (n : ℕ) (rs : List Record) → ((u : ℕ) → head_of rs ≡ Some 
 head_from n [] all = tt
 head_from n (r ∷ rs) all = all r.stamp refl
 
-no_head : {Z : Type 0} (lanes : List (Lane Z)) (j : ℕ) → length lanes ≤ j → head_at (heads_of lanes) j ≡ None
+no_head : {Z : Type 0} (lanes : List (Lane Z)) (j : ℕ) → length lanes ≤ j → instant_at (heads_of lanes) j ≡ None
 no_head [] j ge = refl
 no_head (l ∷ lanes) zero ge = absurd (omega (arith, ge))
 no_head (l ∷ lanes) (suc j) ge = no_head lanes j (omega (arith, ge))
 
-all_heads : {Z : Type 0} (n : ℕ) (lanes : List (Lane Z)) → ((j u : ℕ) → head_at (heads_of lanes) j ≡ Some u → n ≤ u) → AllByRecursion (λ (w : Capture). HeadFrom n w.records) (map waiting_of lanes)
+all_heads : {Z : Type 0} (n : ℕ) (lanes : List (Lane Z)) → ((j u : ℕ) → instant_at (heads_of lanes) j ≡ Some u → n ≤ u) → AllByRecursion (λ (w : Capture). HeadFrom n w.records) (map waiting_of lanes)
 all_heads n [] all = tt
 all_heads n (l ∷ lanes) all = (head_from n l.waiting.items (λ u. all 0 u), all_heads n lanes (λ j u. all (suc j) u))
 
-comes_first : {Z : Type 0} (t k : ℕ) (lanes : List (Lane Z)) → ((j u : ℕ) → head_at (heads_of lanes) j ≡ Some u → t ≤ u) → ((j u : ℕ) → j < k → head_at (heads_of lanes) j ≡ Some u → t < u)
+comes_first : {Z : Type 0} (t k : ℕ) (lanes : List (Lane Z)) → ((j u : ℕ) → instant_at (heads_of lanes) j ≡ Some u → t ≤ u) → ((j u : ℕ) → j < k → instant_at (heads_of lanes) j ≡ Some u → t < u)
     → ComesFirst t k (map waiting_of lanes)
 comes_first t k [] sooner former = tt
 comes_first t zero (l ∷ lanes) sooner former = (head_from t l.waiting.items (λ u. sooner 0 u), all_heads t lanes (λ j u. sooner (suc j) u))
@@ -64,14 +65,14 @@ first_comes {Z} lanes k t first = comes_first t k lanes all first.former where
   none : (u : ℕ) → None ≡ Some u → ⊥
   none u e = absurd cc
 
-  all : (j u : ℕ) → head_at (heads_of lanes) j ≡ Some u → t ≤ u
+  all : (j u : ℕ) → instant_at (heads_of lanes) j ≡ Some u → t ≤ u
   all j u is = elim (cases_lt j (length lanes)) [
     | inl lt ↦ first.sooner j u lt is
     | inr ge ↦ absurd (none u (sym (no_head lanes j ge) ∙ is))
   ]
 
 -- where none was found, nothing waits
-pub none_waits : {Z : Type 0} (lanes : List (Lane Z)) → ((j : ℕ) → j < length lanes → head_at (heads_of lanes) j ≡ None) → AllByRecursion (λ (w : Capture). w.records ≡ []) (map waiting_of lanes)
+pub none_waits : {Z : Type 0} (lanes : List (Lane Z)) → ((j : ℕ) → j < length lanes → instant_at (heads_of lanes) j ≡ None) → AllByRecursion (λ (w : Capture). w.records ≡ []) (map waiting_of lanes)
 none_waits [] none = tt
 none_waits (l ∷ lanes) none = (empty l.waiting.items (none 0 (omega arith)), none_waits lanes (λ j lt. none (suc j) (omega (arith, lt)))) where
   empty : (rs : List Record) → head_of rs ≡ None → rs ≡ []

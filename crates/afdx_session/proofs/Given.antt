@@ -28,7 +28,8 @@ use Rattle.afdx_session.specs.declared.lane.Lane.{Lane}
 use Rattle.afdx_session.specs.Output.{rows_of, written}
 use Rattle.afdx_session.specs.Streams.{Stream, frontier}
 use Rattle.afdx_session.specs.Inner.Settled.{without, IsGiven, HeadFrom, AllRise, IsPast, IsWithin}
-use Rattle.afdx_session.specs.Inner.Lanes.{waiting_of, limit_at, heads_of, with_waiting, IsFirstOf, IsFirstUpTo, Goes, NoneGoes}
+use Rattle.afdx_instants.specs.Instants.{IsFirstUpTo}
+use Rattle.afdx_session.specs.Inner.Lanes.{waiting_of, limit_at, heads_of, with_waiting, IsFirstOf, Goes, NoneGoes}
 use Rattle.afdx_session.specs.Inner.Kept.{AreLanesOf, AreOfTable, come_to, text_up_to, IsOut, IsGoing, HasCome}
 use Rattle.afdx_session.proofs.Joining.{AllFrom, frames-from}
 use Rattle.afdx_session.proofs.Settling.{all_back}

@@ -1,12 +1,13 @@
 //! What the machine has of one port.
 
-ghost use Rattle.std.specs.Prelude.{◌≡◌, ◌<◌, ◌-◌, ◌^◌, ◌==◌, ◌++◌, ℕ, true, false, take, None, Some, Ok, List, length, IfOk, IfErr, OnOk, IfSome, IfNone, Option, is_some};
+ghost use Rattle.std.specs.Prelude.{◌≡◌, ◌<◌, ◌≤◌, ◌-◌, ◌^◌, ◌==◌, ◌++◌, ℕ, true, false, take, None, Some, Ok, List, length, IfOk, IfErr, OnOk, IfSome, IfNone, Option, is_some};
 ghost use Rattle.std.specs.Prelude.{if◌then◌else◌, ◌+◌, IsTrue, ◌↔◌, position, find};
 ghost use Rattle.afdx_pcap.specs.Record as pcap;
 ghost use Rattle.afdx_pcap.specs.Reading.{Answers};
 ghost use Rattle.afdx_session.specs.Lanes.{IsPieceFault};
 ghost use Rattle.afdx_session.specs.Inner.Settled.{IsWithin};
-ghost use Rattle.afdx_session.specs.Inner.Lanes.{HasReadAll, HasDrawn, IsReadOn, Adds, IsLaneFault, limit_at, best_place, IsFirstUpTo, head_of, heads_of, IsStill, GoesAt};
+ghost use Rattle.afdx_session.specs.Inner.Lanes.{HasReadAll, HasDrawn, IsReadOn, Adds, IsLaneFault, limit_at, best_place, head_of, heads_of, IsStill, GoesAt};
+ghost use Rattle.afdx_instants.specs.Instants.{IsFirstUpTo};
 ghost use Rattle.afdx_session.specs.Inner.Lanes.{NoneGoes};
 ghost use Rattle.afdx_session.specs.Inner.Lent.{IsOver};
 ghost use Rattle.afdx_session.specs.Inner.Files.{HandsOver};
@@ -17,6 +18,7 @@ ghost use Rattle.afdx_session.specs.Session.{refusal_at};
 
 use crate::plan::RunFault;
 use afdx_devices::NewFile;
+use afdx_instants::Instants;
 use afdx_pcap::laws::taken_records_are_the_first;
 use afdx_pcap::{PcapFault, Reader, Record, write_header};
 use afdx_table::PortRow;
@@ -302,6 +304,18 @@ pub(crate) fn head_of<A: Allocator>(lane: &Lane<'_, A>) -> Option<Stamp>
         Some(record) => Some(record.stamp()),
         None => None,
     }
+}
+
+/// The stamps of the first records that wait, by the lanes' places. O(lanes).
+pub(crate) fn heads_of<A: Allocator>(lanes: &[Lane<'_, A>]) -> Instants
+    requires { length lanes.now ≤ 24 }
+    ensures { result ≡ heads_of lanes.now }
+{
+    let mut heads = Instants::new(lanes.len());
+    for place in 0..lanes.len() {
+        heads.set(place, head_of(&lanes[place]));
+    }
+    heads
 }
 
 /// Whether an arrival at this stamp and port lies at the limit or before it.

@@ -9,7 +9,6 @@
 
 mod check;
 mod drain;
-mod heads;
 mod lane;
 pub mod laws;
 mod machine;

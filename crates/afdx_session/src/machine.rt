@@ -21,8 +21,7 @@ ghost use Rattle.afdx_session.specs.Reading.{IsReadFault};
 
 use crate::check::check_texts;
 use crate::drain::drain_all;
-use crate::heads::Heads;
-use crate::lane::{Lane, head_of, lanes_of, limit_of, look_ahead, take_settled};
+use crate::lane::{Lane, head_of, heads_of, lanes_of, limit_of, look_ahead, take_settled};
 use crate::plan::{Outcome, Plan, RunFault};
 use crate::rest::Rest;
 use afdx_core::laws::{by_stamp_is_ordered, merged_is_a_merge, merged_is_by_stamp_and_port};
@@ -30,6 +29,7 @@ use afdx_core::{CoreFault, Switch};
 use afdx_count::Counts;
 use afdx_count::laws::note_counts_one_more;
 use afdx_devices::NewFile;
+use afdx_instants::Instants;
 use afdx_pcap::Record;
 use afdx_pcap::laws::{
     each_file_has_one_reading, taken_records_are_the_first, taken_records_begin_the_capture,
@@ -159,7 +159,7 @@ impl<'a, A: Allocator + Copy> Machine<'a, A> {
         arrivals_change_nothing_earlier();
         stamps_keep_their_order();
         note_counts_one_more();
-        let Some((place, stamp)) = Heads::of(&self.lanes).first() else {
+        let Some((place, stamp)) = heads_of(&self.lanes).first() else {
             return Ok(None);
         };
         match take_settled(&mut self.lanes, place, stamp, limit) {
@@ -282,7 +282,7 @@ impl<'a, A: Allocator + Copy> Machine<'a, A> {
     ///
     /// One of each capture that has not ended waits, so the first of them comes before whatever is still to be read. The
     /// next one is read before it goes, so that the processor gets its bytes while the switch works.
-    fn carry_one(&mut self, heads: &mut Heads) -> Result<bool, RunFault>
+    fn carry_one(&mut self, heads: &mut Instants) -> Result<bool, RunFault>
         requires carrying { IsCarrying self.old }
         requires heads { heads.old ≡ heads_of self.old.lanes.items }
         ensures heads { OnOk result (heads.new ≡ heads_of self.new.lanes.items) }
@@ -332,7 +332,7 @@ impl<'a, A: Allocator + Copy> Machine<'a, A> {
         ensures err { IfErr result (λ fault. IsOneFault (texts_over self.old.lanes.items) fault) }
     {
         look_ahead(&mut self.lanes);
-        let mut heads = Heads::of(&self.lanes);
+        let mut heads = heads_of(&self.lanes);
         for _ in 0..RECORDS_BETWEEN_DRAINS {
             if !self.carry_one(&mut heads)? {
                 return Ok(false);

@@ -1,7 +1,7 @@
 -- What the machine has of its ports.
 use Rattle.std.specs.Prelude.{ℕ, ◌-◌, ◌≡◌, ◌<◌, ◌≤◌, ◌↔◌, nat_le, Bool, true, false, if◌then◌else◌, List, [], ◌∷◌, ◌++◌, length, map, take, set, slice_get, slice_index_or, Option, Some, None}
 use Rattle.std.specs.declared.collections.VecDeque.{VecDeque}
-use Rattle.afdx_units.specs.Time.{stamp_end}
+use Rattle.afdx_instants.specs.Instants.{IsFirstUpTo, IsFirstIn}
 use Rattle.afdx_pcap.specs.Record.{Record}
 use Rattle.afdx_pcap.specs.Fault.{last_stamp}
 use Rattle.afdx_pcap.specs.Reading.{HasTaken, NoNext, IsSound, IsWrong}
@@ -94,25 +94,7 @@ head_of (r ∷ rs) = Some r.stamp
 abbrev pub heads_of : {Z : Type 0} → List (Lane Z) → List (Option ℕ)
 heads_of lanes = map (λ l. head_of l.waiting.items) lanes
 
--- the stamp that a number is kept for; one that is no instant is kept for none
-abbrev pub stamp_in : ℕ → Option ℕ
-stamp_in n = if nat_le stamp_end n then None else Some n
-
--- the one at a place
-abbrev pub head_at : List (Option ℕ) → ℕ → Option ℕ
-head_at heads j = slice_index_or heads j None
-
--- of those up to some place the first by stamp, and then by place
-pub record IsFirstUpTo (heads : List (Option ℕ)) (n k t : ℕ) : Type 0 where
-  pub within : k < n
-  pub here : head_at heads k ≡ Some t
-  pub sooner : (j u : ℕ) → j < n → head_at heads j ≡ Some u → t ≤ u
-  pub former : (j u : ℕ) → j < k → head_at heads j ≡ Some u → t < u
-
-abbrev pub IsFirstIn : List (Option ℕ) → ℕ → Option (ℕ × ℕ) → Type 0
-IsFirstIn heads n None = (j : ℕ) → j < n → head_at heads j ≡ None
-IsFirstIn heads n (Some x) = IsFirstUpTo heads n x.0 x.1
-
+-- of all that wait the first by stamp, and then by place
 abbrev pub IsFirstOf : {Z : Type 0} → List (Lane Z) → Option (ℕ × ℕ) → Type 0
 IsFirstOf lanes first = IsFirstIn (heads_of lanes) (length lanes) first
 

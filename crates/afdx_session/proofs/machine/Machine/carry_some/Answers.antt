@@ -18,7 +18,7 @@ loop-init g c =
       same = same_table m.switch;
       texts = ap (λ ls. texts_over ls) same;
       taken = ap (λ ls. taken_by ls) same;
-      heads = c.of-heads.ensures ∙ ap (λ (ls : List (Lane _)). heads_of ls) c.deref.ensures.value;
+      heads = c.heads_of-heads.ensures ∙ ap (λ (ls : List (Lane _)). heads_of ls) c.deref.ensures.value;
       fewer = omega (arith, left);
     }
 
@@ -44,8 +44,8 @@ returns-clause-ok g c =
     let left = was.fewer in
     record { carrying = was.carrying; texts = was.texts; taken = was.taken; fewer = λ more. omega (arith, test, left); all = λ none. absurd (both_ways true none refl) }
 
-pub of-heads-requires : goal.of-heads-requires
-of-heads-requires g c =
+pub heads_of-heads-requires : goal.heads_of-heads-requires
+heads_of-heads-requires g c =
     let few = lanes_few c.args.self.now.switch.run.table c.args.self.now.lanes.items c.requires.of in
     let same = ap (λ (ls : List (Lane _)). length ls) c.deref.ensures.value in
     omega (arith, few, same)

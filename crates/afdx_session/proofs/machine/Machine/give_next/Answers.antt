@@ -66,10 +66,10 @@ pub returns-in_default-clause-ok : goal.returns-in_default-clause-ok
 returns-in_default-clause-ok g c =
     let m = c.args.self.now in
     round_ends c.args.limit m m None c.requires.limit c.requires.going refl refl refl
-    (none_there c.args.limit m.lanes.items c.of.result c.first.result (c.of.ensures ∙ ap (λ (ls : List (Lane _)). heads_of ls) c.deref.ensures.value) c.first.ensures c.in_default.is)
+    (none_there c.args.limit m.lanes.items c.heads_of.result c.first.result (c.heads_of.ensures ∙ ap (λ (ls : List (Lane _)). heads_of ls) c.deref.ensures.value) c.first.ensures c.in_default.is)
 
-pub of-requires : goal.of-requires
-of-requires g c =
+pub heads_of-requires : goal.heads_of-requires
+heads_of-requires g c =
     let few = lanes_few c.args.self.now.switch.run.table c.args.self.now.lanes.items c.requires.of in
     let same = ap (λ (ls : List (Lane _)). length ls) c.deref.ensures.value in
     omega (arith, few, same)
