@@ -31,8 +31,8 @@ map_twice f g (x ∷ xs) = ap (λ ys. g (f x) ∷ ys) (map_twice f g xs)
 pub filtered : (v : Verdict) (ls : List LinkTally) → ls ≡ map (noted_link (Filtered v)) ls
 filtered v ls = map_stays (noted_link (Filtered v)) ls (λ l. refl)
 
-pub numbers_ended : (r : Run) (ns : List ℕ) (old now : List PortTally) → ns ≡ map (λ (p : PortTally). p.id) old → now ≡ map (ended_port r) old → ns ≡ map (λ (p : PortTally). p.id) now
-numbers_ended r ns old now ns-is now-is = ns-is ∙ sym (map_twice (ended_port r) (λ (p : PortTally). p.id) old) ∙ ap (map (λ (p : PortTally). p.id)) (sym now-is)
+pub numbers_ended : (r : Run) (old now : List PortTally) → now ≡ map (ended_port r) old → map (λ (p : PortTally). p.id) old ≡ map (λ (p : PortTally). p.id) now
+numbers_ended r old now is = sym (map_twice (ended_port r) (λ (p : PortTally). p.id) old) ∙ ap (map (λ (p : PortTally). p.id)) (sym is)
 
 -- ---- copies
 

@@ -1,7 +1,7 @@
 -- The numbers of a table's ports and links are different.
-use Rattle.std.proofs.Common.{◌≡◌, ℕ, ◌+◌, ◌<◌, ◌||◌, nat_eq, Bool, false, List, [], ◌∷◌, ◌++◌, get_or, length, map, take, slice_get, Some, refl, subst, sym, ap, ◌∙◌}
+use Rattle.std.proofs.Common.{◌≡◌, ℕ, ◌+◌, ◌||◌, nat_eq, Bool, false, List, [], ◌∷◌, ◌++◌, get_or, map, take, slice_get, Some, refl, subst, sym, ap, ◌∙◌}
 use Rattle.std.specs.List.{IsDistinct, list_any}
-use Rattle.std.proofs.lemmas.Option.{slice_get_within, slice_get-get_or, get_or_from_slice_get}
+use Rattle.std.proofs.lemmas.Option.{slice_get_within, get_or_from_slice_get}
 use Rattle.std.proofs.lemmas.List.{take_more, map-append}
 use Rattle.afdx_table.specs.declared.rows.PortRow.{PortRow}
 use Rattle.afdx_table.specs.Link.{Link}
@@ -11,6 +11,7 @@ use Rattle.afdx_count.specs.declared.ports.PortTally.{PortTally}
 use Rattle.afdx_count.specs.declared.links.LinkTally.{LinkTally}
 use Rattle.afdx_count.specs.Tally.{new_port, new_link}
 use Rattle.afdx_count.proofs.Placed.{new_number}
+use Rattle.afdx_count.proofs.Notes.{map_twice}
 
 any_map : {X Y : Type 0} (f : X → Y) (p : Y → Bool) (xs : List X) → list_any p (map f xs) ≡ list_any (λ x. p (f x)) xs
 any_map f p [] = refl
@@ -24,13 +25,10 @@ fresh_link links i row tally old distinct at tally-is old-is =
     ∙ any_map new_link (λ (l : LinkTally). nat_eq row.id l.id) (take i links)
     ∙ new_number (λ (l : Link). l.id) links i row distinct at
 
-pub fresh_port : PortsAreDistinct → (ports : List PortRow) (i : ℕ) (row : PortRow) (tally : PortTally) (old : List PortTally) → Rises ports → slice_get ports i ≡ Some row
-    → tally ≡ new_port row → old ≡ map new_port (take i ports) → list_any (λ (p : PortTally). nat_eq tally.id p.id) old ≡ false
-fresh_port distinct ports i row tally old rises at tally-is old-is =
-    ap (λ (t : PortTally). list_any (λ (p : PortTally). nat_eq t.id p.id) old) tally-is
-    ∙ ap (list_any (λ (p : PortTally). nat_eq row.id p.id)) old-is
-    ∙ any_map new_port (λ (p : PortTally). nat_eq row.id p.id) (take i ports)
-    ∙ new_number (λ (p : PortRow). p.id) ports i row (distinct ports rises) at
+pub ports_once : PortsAreDistinct → (table ports : List PortRow) (tallies : List PortTally) → Rises table → ports ≡ table → tallies ≡ map new_port ports
+    → IsDistinct nat_eq (map (λ (p : PortTally). p.id) tallies)
+ports_once distinct table ports tallies rises is tallies-is =
+    subst (IsDistinct nat_eq) (sym (ap (map (λ (p : PortTally). p.id)) (tallies-is ∙ ap (map new_port) is) ∙ map_twice new_port (λ (p : PortTally). p.id) table)) (distinct table rises)
 
 -- what is made of each row, for one more row
 pub new_more : {X Y : Type 0} (f : X → Y) (rows : List X) (i : ℕ) (row : X) (tally : Y) (old now : List Y) → slice_get rows i ≡ Some row → tally ≡ f row
@@ -41,9 +39,3 @@ new_more {X} {Y} f rows i row tally old now got tally-is old-is now-is =
     now-is ∙ ap (λ (ls : List Y). ls ++ tally ∷ []) old-is ∙ ap (λ (t : Y). map f (take i rows) ++ t ∷ []) (tally-is ∙ ap f (sym here))
     ∙ sym (map-append f (take i rows) (get_or rows i row ∷ []))
     ∙ ap (map f) (sym (take_more rows i row inside))
-
--- the same of a place
-pub fresh_port_at : PortsAreDistinct → (table ports : List PortRow) (i : ℕ) (d : PortRow) (tally : PortTally) (old : List PortTally) → Rises table → ports ≡ table → i < length ports
-    → tally ≡ new_port (get_or ports i d) → old ≡ map new_port (take i ports) → list_any (λ (p : PortTally). nat_eq tally.id p.id) old ≡ false
-fresh_port_at distinct table ports i d tally old rises is lt tally-is old-is =
-    fresh_port distinct ports i (get_or ports i d) tally old (subst Rises (sym is) rises) (slice_get-get_or ports i d lt) tally-is old-is

@@ -1,17 +1,18 @@
 -- Elements under their numbers, where the numbers are different.
 use Rattle.std.proofs.Common.{◌≡◌, ℕ, zero, suc, ◌<◌, nat_eq, true, false, cond, List, [], ◌∷◌, ◌++◌, set, get_or, length, map, take, find, slice_get, Option, Some, None, refl, subst}
-use Rattle.std.proofs.Common.{sym, ap, ◌∙◌, arith, inl, inr, ◌||◌}
-use Rattle.std.specs.Prelude.{IfSome, IfNone}
-use Rattle.std.specs.List.{AllByRecursion, IsDistinct, list_any}
-use Rattle.std.proofs.lemmas.Option.{gets, slice_get_within, none-some, same_Some}
-use Rattle.std.proofs.lemmas.List.{length-map, map-append}
+use Rattle.std.proofs.Common.{sym, ap, ◌∙◌, arith, inl, inr, ◌||◌, ◌+◌, ◌≤◌, ◌⊎◌, ⊎_elim, ltb, position, unwrap_or}
+use Rattle.std.specs.Prelude.{IfSome, IfNone, not}
+use Rattle.std.specs.List.{AllByRecursion, IsDistinct, list_any, position_or_len}
+use Rattle.std.proofs.lemmas.Option.{gets, slice_get_within, slice_get-get_or, none-some, same_Some}
+use Rattle.std.proofs.lemmas.List.{length-map, map-append, get_or-set_same, get_or-set_other}
+use Rattle.std.proofs.lemmas.List.Sums.{passes_at_first, prefix_len-le-length}
 use Rattle.std.proofs.lemmas.List.Sorted.{IsPermutation-append_comm}
 use Rattle.std.proofs.lemmas.Map.Keys.{IsDistinct-IsPermutation}
-use Rattle.std.proofs.lemmas.Bool.{cases_Bool, true≢false}
+use Rattle.std.proofs.lemmas.Bool.{cases_Bool, cases_eq, cases_lt, eqb-true, lt-ltb, le-ltb, true≢false}
 use Rattle.std.proofs.lemmas.Bool.Decides.{nat_tests}
 use Rattle.std.proofs.lemmas.Cmp.{nat_eq_equiv}
 use Rattle.std.proofs.lemmas.List.Elements.{All-from_recursion}
-use Rattle.afdx_count.specs.Inner.Places.{IsPlaceOf, changed_at}
+use Rattle.afdx_count.specs.Inner.Places.{IsPlaceOf, LeadTo, changed_at}
 
 -- the same search, asked the other way round
 turned_any : (n : ℕ) (ks : List ℕ) → list_any (λ k. nat_eq k n) ks ≡ list_any (nat_eq n) ks
@@ -28,6 +29,53 @@ module _ {X : Type 0} (number : X → ℕ) where
   pub any_number : (n : ℕ) (xs : List X) → list_any (nat_eq n) (map number xs) ≡ list_any (λ x. nat_eq n (number x)) xs
   any_number n [] = refl
   any_number n (x ∷ xs) = ap (λ b. nat_eq n (number x) || b) (any_number n xs)
+
+  -- where a search finds an element by its number, and else the length, is the first place of the number in the list of numbers
+  pub first_place : (n : ℕ) (xs : List X) (o : Option ℕ) → o ≡ position (λ x. nat_eq (number x) n) xs → unwrap_or o (length xs) ≡ position_or_len (λ k. nat_eq k n) (map number xs)
+  first_place n xs o is = ap (λ p. unwrap_or p (length xs)) is ∙ by_test (cases_lt place (length xs)) ∙ sym (of_numbers xs) where
+    place : ℕ
+    place = position_or_len (λ x. nat_eq (number x) n) xs
+
+    by_test : (place < length xs) ⊎ (length xs ≤ place) → unwrap_or (cond (ltb place (length xs)) (Some place) None) (length xs) ≡ place
+    by_test (inl lt) = rw (lt-ltb place (length xs) lt) refl
+    by_test (inr le) = rw (le-ltb place (length xs) le) (omega (arith, le, prefix_len-le-length (λ x. not (nat_eq (number x) n)) xs))
+
+    of_numbers : (ys : List X) → position_or_len (λ k. nat_eq k n) (map number ys) ≡ position_or_len (λ y. nat_eq (number y) n) ys
+    of_numbers [] = refl
+    of_numbers (y ∷ ys) = ap (λ m. cond (not (nat_eq (number y) n)) (1 + m) 0) (of_numbers ys)
+
+  pub place_step : (places : List ℕ) (xs : List X) (n r : ℕ) → n < length places → ((k d : ℕ) → k < n → get_or places k d ≡ position_or_len (λ j. nat_eq j k) (map number xs))
+      → r ≡ position_or_len (λ j. nat_eq j n) (map number xs) → (k d : ℕ) → k < n + 1 → get_or (set places n r) k d ≡ position_or_len (λ j. nat_eq j k) (map number xs)
+  place_step places xs n r lt before is k d klt = ⊎_elim
+      (λ (here : k ≡ n). subst (λ i. get_or (set places n r) i d ≡ position_or_len (λ j. nat_eq j i) (map number xs)) (sym here) (get_or-set_same places n r d lt ∙ is))
+      (λ ne. get_or-set_other places n k r d ne ∙ before k d (omega (arith, klt, ne)))
+      (cases_eq k n)
+
+  pub led_to : (places : List ℕ) (n m : ℕ) (xs seen : List X) → LeadTo places (map number xs) → m ≡ n → n < 256 → xs ≡ seen → get_or places m 0 ≡ position_or_len (λ k. nat_eq k n) (map number seen)
+  led_to places n m xs seen lead same small view =
+      lead m 0 (omega (arith, same, small)) ∙ ap (λ j. position_or_len (λ k. nat_eq k j) (map number xs)) same ∙ ap (λ ys. position_or_len (λ k. nat_eq k n) (map number ys)) view
+
+  -- the same numbers are at the same places
+  pub still_led_to : (places : List ℕ) (old new : List X) → map number old ≡ map number new → LeadTo places (map number old) × IsDistinct nat_eq (map number old)
+      → LeadTo places (map number new) × IsDistinct nat_eq (map number new)
+  still_led_to places old new same led = subst (λ ns. LeadTo places ns × IsDistinct nat_eq ns) same led
+
+  -- the element at such a place has the number, and none has it where the place is past the last one
+  pub is_there : (n : ℕ) (xs : List X) (i : ℕ) → i ≡ position_or_len (λ k. nat_eq k n) (map number xs) → i < length xs → IsPlaceOf number n xs i
+  is_there n xs i is lt =
+      let inside : i < length (map number xs) = omega (arith, lt, length-map xs number) in
+      slice_get-get_or (map number xs) i n inside
+      ∙ ap Some (eqb-true (get_or (map number xs) i n) n (ap (λ j. nat_eq (get_or (map number xs) j n) n) is ∙ passes_at_first (λ k. nat_eq k n) (map number xs) n (omega (arith, is, inside))))
+
+  pub is_nowhere : (n : ℕ) (xs : List X) (i : ℕ) → i ≡ position_or_len (λ k. nat_eq k n) (map number xs) → length xs ≤ i → list_any (λ x. nat_eq n (number x)) xs ≡ false
+  is_nowhere n [] i is le = refl
+  is_nowhere n (x ∷ xs) i is le =
+      elim (cases_Bool (nat_eq (number x) n)) [
+        | inl hit ↦ let first = is ∙ ap (λ b. cond (not b) (1 + position_or_len (λ k. nat_eq k n) (map number xs)) 0) hit in absurd (omega (arith, first, le))
+        | inr miss ↦ let later = is ∙ ap (λ b. cond (not b) (1 + position_or_len (λ k. nat_eq k n) (map number xs)) 0) miss in
+            ap (λ b. b || list_any (λ x. nat_eq n (number x)) xs) (nat_eq_equiv.symm n (number x) ∙ miss)
+            ∙ is_nowhere n xs (position_or_len (λ k. nat_eq k n) (map number xs)) refl (omega (arith, later, le))
+      ]
 
   pub within : (n : ℕ) (xs : List X) (o : Option ℕ) → IfSome o (IsPlaceOf number n xs) → IfSome o (λ place. place < length xs)
   within n xs None at = tt

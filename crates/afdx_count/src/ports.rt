@@ -1,14 +1,13 @@
 //! The counters of ports.
 
-ghost use Rattle.std.specs.Prelude.{◌≡◌, ◌==◌, ◌<◌, nat_eq, [], ◌∷◌, ◌++◌, false, length, map, IfSome, IfOk, IfNone, OnOk};
-ghost use Rattle.std.specs.List.{list_any, IsDistinct};
+ghost use Rattle.std.specs.Prelude.{◌≡◌, ◌==◌, ◌<◌, ◌≤◌, nat_eq, [], ◌∷◌, false, length, map, position, IfOk};
+ghost use Rattle.std.specs.List.{list_any, position_or_len, IsDistinct};
 ghost use Rattle.afdx_count.specs.Counting.{with_fate};
 ghost use Rattle.afdx_count.specs.Tally.{new_port, with_arrival, with_copies, with_class, ended_port, port_in};
-ghost use Rattle.afdx_count.specs.Inner.Places.{IsPlaceOf};
+ghost use Rattle.afdx_count.specs.Inner.Places.{IsPlaceOf, LeadTo};
 
 use crate::counters::{InCount, OutCount};
 use afdx_core::{Done, Fate};
-use afdx_numbers::Numbers;
 use afdx_port::Offer;
 use afdx_table::laws::ports_are_distinct;
 use afdx_table::{PortRow, Table};
@@ -66,55 +65,70 @@ impl PortTally {
     }
 }
 
+/// The counters of these ports, at 0.
+fn tallies_of<A: Allocator + Copy>(
+    alloc: A,
+    rows: &[PortRow],
+) -> Result<Vec<PortTally, A>, AllocError>
+    ensures { IfOk result (λ tallies. tallies.items ≡ map new_port rows.now) }
+{
+    let mut tallies = Vec::new(alloc);
+    for row in rows {
+        tallies.push(PortTally::new(row))?;
+    }
+    Ok(tallies)
+}
+
+/// The place of the port of a number among these, from 0.
+fn search(tallies: &[PortTally], number: u8) -> Option<usize>
+    ensures { result ≡ position (λ p. p.id == number) tallies.now }
+{
+    tallies.iter().position(|tally| tally.id == number)
+}
+
+/// The places of these ports, by all numbers of one byte; where there is no such port, their count. O(ports) for each of these numbers.
+fn places_of(tallies: &[PortTally]) -> [usize; 256]
+    ensures { LeadTo result (map (λ p. p.id) tallies.now) }
+{
+    let mut places = [0; 256];
+    for number in 0..256usize {
+        places[number] = search(tallies, number as u8).unwrap_or(tallies.len());
+    }
+    places
+}
+
 /// The counters of ports of different numbers. Contracts see their list in order.
+///
+/// Beside it is a table of places by all numbers of one byte, so that a look-up, which each copy takes, reads one entry and needs
+/// no test whether the number is in the table.
 #[derive(Drop)]
 pub(crate) struct Ports<A: Allocator> {
-    numbers: Numbers<A>,
+    places: [usize; 256],
     tallies: Vec<PortTally, A>,
 }
 
 impl<A: Allocator> Model for Ports<A> {
-    ghost use Rattle.std.specs.Prelude.{◌≡◌, List, map};
+    ghost use Rattle.std.specs.Prelude.{List, map, nat_eq};
+    ghost use Rattle.std.specs.List.{IsDistinct};
+    ghost use Rattle.afdx_count.specs.Inner.Places.{LeadTo};
     ghost use Rattle.afdx_count.specs.declared.ports.PortTally.{PortTally as Seen};
 
     ghost Value = { List Seen };
 
     ghost view = { λ p. p.tallies.items };
 
-    ghost invariant = { λ p. p.numbers ≡ map (λ t. t.id) p.tallies.items };
+    ghost invariant = { λ p. LeadTo p.places (map (λ t. t.id) p.tallies.items) × IsDistinct nat_eq (map (λ t. t.id) p.tallies.items) };
 }
 
 impl<A: Allocator + Copy> Ports<A> {
-    fn empty(alloc: A) -> Self
-        ensures { result ≡ [] }
-    {
-        Ports {
-            numbers: Numbers::new(alloc),
-            tallies: Vec::new(alloc),
-        }
-    }
-
-    /// Adds the counters of a port of a new number at the end.
-    fn push(&mut self, tally: PortTally) -> Result<(), AllocError>
-        requires { list_any (λ p. tally.id == p.id) self.old ≡ false }
-        ensures { OnOk result (self.new ≡ self.old ++ tally ∷ []) }
-    {
-        self.tallies.reserve(1)?;
-        self.numbers.push(u16::from(tally.id))?;
-        self.tallies.push_reserved(tally);
-        Ok(())
-    }
-
     /// The counters of a table's ports, by rising number.
     pub(crate) fn new(alloc: A, table: &Table) -> Result<Self, AllocError>
         ensures { IfOk result (λ ports. ports ≡ map new_port table.now.ports) }
     {
         ports_are_distinct();
-        let mut ports = Ports::empty(alloc);
-        for row in table.ports() {
-            ports.push(PortTally::new(row))?;
-        }
-        Ok(ports)
+        let tallies = tallies_of(alloc, table.ports())?;
+        let places = places_of(&tallies);
+        Ok(Ports { places, tallies })
     }
 
     pub(crate) fn as_slice(&self) -> &[PortTally]
@@ -123,23 +137,25 @@ impl<A: Allocator + Copy> Ports<A> {
         self.tallies.as_slice()
     }
 
-    /// The place of the port of a number, from 0.
-    fn place(&self, id: u8) -> Option<usize>
-        ensures at { IfSome result (IsPlaceOf (λ p. p.id) id self.now) }
-        ensures absent { IfNone result (list_any (λ p. id == p.id) self.now ≡ false) }
-        ensures within { IfSome result (λ place. place < length self.now) }
+    /// The place of the port of a number, from 0; past the last one where there is no such port.
+    fn place(&self, id: u8) -> usize
+        ensures place { result ≡ position_or_len (λ n. n == id) (map (λ p. p.id) self.now) }
+        ensures at { result < length self.now → IsPlaceOf (λ p. p.id) id self.now result }
+        ensures absent { length self.now ≤ result → list_any (λ p. id == p.id) self.now ≡ false }
         ensures distinct { IsDistinct nat_eq (map (λ p. p.id) self.now) }
     {
-        self.numbers.place(u16::from(id))
+        self.places[usize::from(id)]
     }
 
     /// The counters of the port of a number.
     pub(crate) fn get(&self, id: u8) -> Option<PortTally>
         ensures { result ≡ port_in id self.now }
     {
-        match self.place(id) {
-            Some(place) => Some(self.tallies[place]),
-            None => None,
+        let place = self.place(id);
+        if place < self.tallies.len() {
+            Some(self.tallies[place])
+        } else {
+            None
         }
     }
 
@@ -147,7 +163,8 @@ impl<A: Allocator + Copy> Ports<A> {
     pub(crate) fn note_arrival(&mut self, in_port: u8, fate: Fate)
         ensures { self.new ≡ map (with_arrival in_port fate) self.old }
     {
-        if let Some(place) = self.place(in_port) {
+        let place = self.place(in_port);
+        if place < self.tallies.len() {
             self.tallies[place].note_fate(fate);
         }
     }
@@ -156,7 +173,8 @@ impl<A: Allocator + Copy> Ports<A> {
     fn note_offer(&mut self, class: Priority, port: u8, offer: Offer)
         ensures { self.new ≡ map (with_copies class ((port, offer) ∷ [])) self.old }
     {
-        if let Some(place) = self.place(port) {
+        let place = self.place(port);
+        if place < self.tallies.len() {
             self.tallies[place].note_offer(class, offer);
         }
     }

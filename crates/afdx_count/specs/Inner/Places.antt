@@ -1,5 +1,6 @@
 -- Elements of a list under their numbers.
-use Rattle.std.specs.Prelude.{◌≡◌, ℕ, ◌==◌, List, map, slice_get, Some, if◌then◌else◌}
+use Rattle.std.specs.Prelude.{◌≡◌, ℕ, ◌<◌, ◌==◌, List, map, slice_get, slice_index_or, Some, if◌then◌else◌}
+use Rattle.std.specs.List.{position_or_len}
 
 -- the element at the place has the number
 abbrev pub IsPlaceOf : {X : Type 0} → (X → ℕ) → ℕ → List X → ℕ → Type 0
@@ -8,3 +9,7 @@ IsPlaceOf number id xs place = slice_get (map number xs) place ≡ Some id
 -- the element of the number changed
 abbrev pub changed_at : {X : Type 0} → (X → ℕ) → ℕ → (X → X) → List X → List X
 changed_at number id f xs = map (λ x. if number x == id then f x else x) xs
+
+-- under each number of one byte lies its first place among these, and their count where it is none of them
+abbrev pub LeadTo : List ℕ → List ℕ → Type 0
+LeadTo places numbers = (n d : ℕ) → n < 256 → slice_index_or places n d ≡ position_or_len (λ k. k == n) numbers

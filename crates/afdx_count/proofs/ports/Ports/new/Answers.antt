@@ -1,7 +1,11 @@
-use Rattle.afdx_count.proofs.Numbered.{fresh_port_at}
+use Rattle.std.proofs.Common.{subst, map, List}
+use Rattle.afdx_count.specs.declared.ports.PortTally.{PortTally}
+use Rattle.afdx_count.specs.Inner.Places.{LeadTo}
+use Rattle.afdx_count.proofs.Numbered.{ports_once}
 use Rattle.afdx_count.proofs.ports.Ports.new.Goals as goal
 
-pub push-requires : goal.push-requires
-push-requires g c =
-    fresh_port_at c.ports_are_distinct.ensures c.args.table.now.ports c.ports-row-items.result.now c.loop-row.row-index _ c.new.result c.loop-row.ports c.ports-row-items.ensures.well_formed.ports_rise
-    c.ports-row-items.ensures.ports c.loop-row-test.true c.new.ensures c.loop-row.invariant
+pub invariant_of-result : goal.invariant_of-result
+invariant_of-result g c = (
+  subst (λ (ts : List PortTally). LeadTo c.places_of-places.result (map (λ (p : PortTally). p.id) ts)) c.deref.ensures.value c.places_of-places.ensures,
+  ports_once c.ports_are_distinct.ensures c.args.table.now.ports c.ports.result.now c.in_ok-tallies.tallies.items c.ports.ensures.well_formed.ports_rise c.ports.ensures.ports c.in_ok-tallies.ensures,
+)
