@@ -59,13 +59,12 @@ both_passed None b h = (refl, h)
 abbrev pub prefix : Format → List ℕ → Record
 prefix f bytes = let h = head_of f.endian bytes in record { stamp = stamp_of f.resolution h; original = h.original; bytes = take h.captured (drop 16 bytes) }
 
--- where there is no fault, there is a whole record
-pub fine_begins : (f : Format) (last n : ℕ) (bytes : List ℕ) → record_fault f last n bytes ≡ None → Begins f last bytes (prefix f bytes)
-unfolding record_fault
-fine_begins f last n bytes none =
+-- where the head and what is left have no fault, there is a whole record
+pub behind_begins : (f : Format) (last n : ℕ) (bytes : List ℕ)
+    → option_or (head_fault f.resolution last n (head_of f.endian bytes)) (data_fault n (head_of f.endian bytes) (length bytes)) ≡ None → Begins f last bytes (prefix f bytes)
+behind_begins f last n bytes none =
     let h = head_of f.endian bytes in
-    let p0 = passed (nat_lt (length bytes) 16) _ _ none in
-    let p = both_passed (head_fault f.resolution last n h) (data_fault n h (length bytes)) p0.1 in
+    let p = both_passed (head_fault f.resolution last n h) (data_fault n h (length bytes)) none in
     let p1 = passed (nat_lt 262144 h.captured) _ _ p.0 in
     let p2 = passed (nat_le (parts_of_second f.resolution) h.fraction) _ _ p1.1 in
     let p3 = passed (nat_lt 4294967294 h.seconds) _ _ p2.1 in
@@ -85,6 +84,11 @@ fine_begins f last n bytes none =
       original = refl;
       data_is = rw len refl;
     }
+
+-- where there is no fault, there is a whole record
+pub fine_begins : (f : Format) (last n : ℕ) (bytes : List ℕ) → record_fault f last n bytes ≡ None → Begins f last bytes (prefix f bytes)
+unfolding record_fault
+fine_begins f last n bytes none = behind_begins f last n bytes (passed (nat_lt (length bytes) 16) _ _ none).1
 
 -- ---- records
 

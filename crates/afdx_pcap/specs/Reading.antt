@@ -1,10 +1,12 @@
 -- A capture that comes in pieces.
-use Rattle.std.specs.Prelude.{◌≡◌, ◌≢◌, ℕ, ◌+◌, ◌<◌, ◌≤◌, List, [], ◌∷◌, ◌++◌, length, drop, Option, Some, None, Result, Ok, Err, Bool, true, false}
+use Rattle.std.specs.Prelude.{◌≡◌, ◌≢◌, ℕ, ◌+◌, ◌-◌, ◌<◌, ◌≤◌, List, [], ◌∷◌, ◌++◌, length, take, drop, Option, Some, None, Result, Ok, Err, Bool, true, false}
 use Rattle.afdx_pcap.specs.declared.fault.PcapFault.{PcapFault}
 use Rattle.afdx_pcap.specs.declared.fault.PcapFault.TheVariants.{Memory}
 use Rattle.afdx_pcap.specs.declared.format.Format.{Format}
+use Rattle.afdx_pcap.specs.declared.progress.Next.{Next}
 use Rattle.afdx_pcap.specs.declared.progress.Progress.{Progress}
-use Rattle.afdx_pcap.specs.Record.{Record}
+use Rattle.afdx_pcap.specs.declared.reading.Found.{Found}
+use Rattle.afdx_pcap.specs.Record.{Record, captured_limit}
 use Rattle.afdx_pcap.specs.Capture.{header_of, Splits, Holds, IsCapture}
 use Rattle.afdx_pcap.specs.Fault.{record_fault, last_stamp, IsFault, IsEarlyFault}
 
@@ -98,8 +100,21 @@ IsAtPlace bytes n (Some p) = At bytes n p
 abbrev pub RestFault : List ℕ → Progress → ℕ → PcapFault → Type 0
 RestFault bytes p n fault = record_fault p.format p.last (n + 1) (drop p.place bytes) ≡ Some fault
 
--- the answer without how far it leads
-abbrev pub answer_of : Result (Option (Record × Progress)) PcapFault → Result (Option Record) PcapFault
-answer_of (Ok (Some x)) = Ok (Some x.0)
-answer_of (Ok None) = Ok None
-answer_of (Err fault) = Err fault
+-- the record at the start of these bytes, by its numbers
+abbrev pub found_in : List ℕ → Found → Record
+found_in bytes x = record { stamp = x.stamp; original = x.original; bytes = take x.length (drop 16 bytes) }
+
+-- the next record of these bytes, by its numbers
+abbrev pub next_in : List ℕ → Next → Record
+next_in bytes x = record { stamp = x.progress.last; original = x.original; bytes = take (x.progress.place - x.start) (drop x.start bytes) }
+
+-- its bytes are there, and not too many for a record
+pub record IsPart (bytes : List ℕ) (x : Next) : Type 0 where
+  pub order : x.start ≤ x.progress.place
+  pub within : x.progress.place ≤ length bytes
+  pub limit : x.progress.place - x.start ≤ captured_limit
+
+-- the answer where there is no next record: the fault, or none
+abbrev pub answer_without : Option PcapFault → Result (Option Record) PcapFault
+answer_without None = Ok None
+answer_without (Some fault) = Err fault

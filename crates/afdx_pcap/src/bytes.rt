@@ -1,6 +1,6 @@
 //! Bytes that are owned or lent.
 
-ghost use Rattle.std.specs.Prelude.{◌≡◌, ◌++◌, false, is_ok, if◌then◌else◌};
+ghost use Rattle.std.specs.Prelude.{◌≡◌, ◌-◌, ◌≤◌, ◌++◌, length, take, drop, false, is_ok, IfOk, IfErr, if◌then◌else◌};
 ghost use Rattle.afdx_pcap.specs.Bytes.{plain_bytes, is_lent};
 
 use std::alloc::{AllocError, Allocator};
@@ -19,6 +19,20 @@ impl<'a, A: Allocator> Bytes<'a, A> {
         match self {
             Bytes::Owned(bytes) => bytes,
             Bytes::Lent(bytes) => bytes,
+        }
+    }
+
+    /// The bytes from `start` to `end`: lent where these are, else a copy.
+    pub fn part(&self, alloc: A, start: usize, end: usize) -> Result<Bytes<'a, A>, AllocError>
+        requires order { start ≤ end }
+        requires within { end ≤ length (plain_bytes self.now) }
+        ensures ok { IfOk result (λ part. plain_bytes part ≡ take (end - start) (drop start (plain_bytes self.now))) }
+        ensures lent { IfOk result (λ part. is_lent part ≡ is_lent self.now) }
+        ensures err { IfErr result (λ _. is_lent self.now ≡ false) }
+    {
+        match self {
+            Bytes::Owned(bytes) => Ok(Bytes::Owned(Vec::from_slice(alloc, &bytes[start..end])?)),
+            Bytes::Lent(bytes) => Ok(Bytes::Lent(&bytes[start..end])),
         }
     }
 

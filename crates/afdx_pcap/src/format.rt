@@ -82,8 +82,21 @@ impl Endian {
     }
 
     /// The numbers of the record's header at the start.
-    #[tactic(auto, unfolding(crate::specs::Capture::head_of))]
+    ///
+    /// The order is tested once for all four, which each of them would test again.
     pub fn head_at_start(self, bytes: &[u8]) -> Head
+        requires { 16 ≤ length bytes.now }
+        ensures { result ≡ head_of self bytes.now }
+    {
+        match self {
+            Endian::Big => Endian::Big.words_at_start(bytes),
+            Endian::Little => Endian::Little.words_at_start(bytes),
+        }
+    }
+
+    #[tactic(auto, unfolding(crate::specs::Capture::head_of))]
+    #[inline(always)]
+    fn words_at_start(self, bytes: &[u8]) -> Head
         requires { 16 ≤ length bytes.now }
         ensures { result ≡ head_of self bytes.now }
     {

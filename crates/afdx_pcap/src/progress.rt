@@ -1,19 +1,19 @@
 //! How far a capture was read, and the step to its next record.
 
-ghost use Rattle.std.specs.Prelude.{◌≡◌, ◌≢◌, ◌+◌, false, Ok, Err, None, IfOk, IfErr, IfSome, not, ◌||◌, if◌then◌else◌};
+ghost use Rattle.std.specs.Prelude.{◌≡◌, ◌≢◌, ◌+◌, false, Err, Some, None, IfOk, IfErr, IfSome, IfNone, not, ◌||◌, if◌then◌else◌};
 ghost use Rattle.afdx_pcap.specs.declared.fault.PcapFault.TheVariants.{Memory};
 ghost use Rattle.afdx_pcap.specs.Bytes.{plain_bytes, is_lent};
 ghost use Rattle.afdx_pcap.specs.Capture.{header_of};
 ghost use Rattle.afdx_pcap.specs.Fault.{is_cut};
-ghost use Rattle.afdx_pcap.specs.Reading.{Answers, At, HasNext, IsNext, RestFault, IsAtPlace, answer_of};
+ghost use Rattle.afdx_pcap.specs.Reading.{Answers, At, IsNext, NoNext, IsPart, IsAtPlace, answer_without, next_in};
 
 use crate::bytes::Bytes;
 use crate::fault::PcapFault;
-use crate::format::{Format, HEADER_LENGTH};
-use crate::reading::{read_header, read_record};
+use crate::format::{Format, HEAD_LENGTH, HEADER_LENGTH};
+use crate::reading::{fault_of_record, find_record, read_header};
 use crate::record::Record;
 use afdx_units::Stamp;
-use std::alloc::Allocator;
+use std::alloc::{AllocError, Allocator};
 
 /// After the header and some records: where the rest begins, and the last stamp so far.
 #[derive(Clone, Copy, Debug)]
@@ -39,28 +39,51 @@ impl Progress {
     }
 
     /// The record at the start of the rest, and how far it leads.
-    fn read_on<'b, A: Allocator>(
-        self,
-        bytes: &'b [u8],
-        given: usize,
-    ) -> Result<(Record<'b, A>, Progress), PcapFault>
+    fn read_on(self, bytes: &[u8], given: usize) -> Option<Next>
         requires { At bytes.now given self }
-        ensures found { IfOk result (λ x. IsNext bytes.now given x.0 × At bytes.now (given + 1) x.1) }
-        ensures fault { IfErr result (λ fault. RestFault bytes.now self given fault) }
-        ensures no_memory { IfErr result (λ fault. fault ≢ Memory) }
+        ensures next { IfSome result (λ x. IsNext bytes.now given (next_in bytes.now x)) }
+        ensures at { IfSome result (λ x. At bytes.now (given + 1) x.progress) }
+        ensures part { IfSome result (IsPart bytes.now) }
+        ensures none { IfNone result (NoNext bytes.now given) }
     {
         let rest = &bytes[self.place..];
-        let (record, after) = read_record(self.format, self.last, given + 1, rest)?;
-        let last = record.stamp();
-        let place = bytes.len() - after.len();
-        Ok((
-            record,
-            Progress {
+        let found = find_record(self.format, self.last, given + 1, rest)?;
+        let start = self.place + HEAD_LENGTH;
+        Some(Next {
+            original: found.original,
+            start,
+            progress: Progress {
                 format: self.format,
-                place,
-                last,
+                place: start + found.length,
+                last: found.stamp,
             },
-        ))
+        })
+    }
+}
+
+/// A record by its numbers: its bytes go from `start` to the place to which it leads, and its stamp is the last there.
+///
+/// Of the steps to the next record this alone is handed on, in registers; the record is made once, where they end.
+#[derive(Clone, Copy, Debug)]
+pub struct Next {
+    pub original: u32,
+    pub start: usize,
+    pub progress: Progress,
+}
+
+impl Next {
+    /// The record: its bytes are lent where these are, else it has its own copy of them.
+    pub fn record<'a, A: Allocator>(
+        self,
+        alloc: A,
+        bytes: &Bytes<'a, A>,
+    ) -> Result<Record<'a, A>, AllocError>
+        requires { IsPart (plain_bytes bytes.now) self }
+        ensures ok { IfOk result (λ r. r ≡ next_in (plain_bytes bytes.now) self) }
+        ensures err { IfErr result (λ _. is_lent bytes.now ≡ false) }
+    {
+        let data = bytes.part(alloc, self.start, self.progress.place)?;
+        Ok(Record::of(self.progress.last, self.original, data))
     }
 }
 
@@ -77,66 +100,55 @@ fn place_in(bytes: &[u8], given: usize, progress: Option<Progress>) -> Result<Pr
     }
 }
 
-/// A fault, unless bytes that may still come can mend it.
-fn unless_it_waits<'b, A: Allocator>(
-    closed: bool,
-    fault: PcapFault,
-) -> Result<Option<(Record<'b, A>, Progress)>, PcapFault>
-    ensures { result ≡ (if closed || not (is_cut fault) then Err fault else Ok None) }
+/// The next record after the `given` ones, where there is a whole one.
+///
+/// Only the 24 bytes of the header and the 16 of a record's header are looked at again by a later call.
+pub fn next_record(bytes: &[u8], given: usize, progress: Option<Progress>) -> Option<Next>
+    requires { IsAtPlace bytes.now given progress }
+    ensures next { IfSome result (λ x. IsNext bytes.now given (next_in bytes.now x)) }
+    ensures at { IfSome result (λ x. At bytes.now (given + 1) x.progress) }
+    ensures part { IfSome result (IsPart bytes.now) }
+    ensures none { IfNone result (NoNext bytes.now given) }
 {
-    if closed || !fault.is_cut() {
-        Err(fault)
-    } else {
-        Ok(None)
+    match place_in(bytes, given, progress) {
+        Ok(progress) => progress.read_on(bytes, given),
+        Err(_) => None,
     }
 }
 
-/// The next record after the `given` ones, its bytes lent, and how far it leads; none where the bytes hold no more.
-///
-/// Only the 24 bytes of the header and the 16 of a record's header are looked at again by a later call.
-fn next_lent<'b, A: Allocator>(
-    bytes: &'b [u8],
+/// A fault, unless bytes that may still come can mend it.
+fn unless_it_waits(closed: bool, fault: PcapFault) -> Option<PcapFault>
+    ensures { result ≡ (if closed || not (is_cut fault) then Some fault else None) }
+{
+    if closed || !fault.is_cut() {
+        Some(fault)
+    } else {
+        None
+    }
+}
+
+/// What is wrong after the `given` records, where no whole one comes; nothing, where the bytes end there or more may mend it.
+pub fn fault_after(
+    bytes: &[u8],
     given: usize,
     closed: bool,
     progress: Option<Progress>,
-) -> Result<Option<(Record<'b, A>, Progress)>, PcapFault>
-    requires { IsAtPlace bytes.now given progress }
-    ensures answer { Answers bytes.now given closed (answer_of result) }
-    ensures no_memory { IfErr result (λ fault. fault ≢ Memory) }
-    ensures progress { IfOk result (λ o. IfSome o (λ x. At bytes.now (given + 1) x.1)) }
+) -> Option<PcapFault>
+    requires at { IsAtPlace bytes.now given progress }
+    requires none { NoNext bytes.now given }
+    ensures answer { Answers bytes.now given closed (answer_without result) }
+    ensures no_memory { IfSome result (λ fault. fault ≢ Memory) }
 {
     let progress = match place_in(bytes, given, progress) {
         Ok(progress) => progress,
         Err(fault) => return unless_it_waits(closed, fault),
     };
     if progress.place == bytes.len() {
-        return Ok(None);
+        return None;
     }
-    match progress.read_on(bytes, given) {
-        Ok(found) => Ok(Some(found)),
-        Err(fault) => unless_it_waits(closed, fault),
-    }
-}
-
-/// The same, of bytes that are owned or lent: a record of those that are owned has its own copy.
-pub fn next_record<'a, A: Allocator>(
-    alloc: A,
-    bytes: &Bytes<'a, A>,
-    given: usize,
-    closed: bool,
-    progress: Option<Progress>,
-) -> Result<Option<(Record<'a, A>, Progress)>, PcapFault>
-    requires { IsAtPlace (plain_bytes bytes.now) given progress }
-    ensures answer { Answers (plain_bytes bytes.now) given closed (answer_of result) }
-    ensures memory { IfErr result (λ fault. fault ≡ Memory
-        → HasNext (plain_bytes bytes.now) given × (is_lent bytes.now ≡ false)) }
-    ensures progress { IfOk result (λ o. IfSome o (λ x. At (plain_bytes bytes.now) (given + 1) x.1)) }
-{
-    match bytes {
-        Bytes::Lent(bytes) => next_lent(bytes, given, closed, progress),
-        Bytes::Owned(bytes) => match next_lent::<A>(bytes, given, closed, progress)? {
-            Some((record, progress)) => Ok(Some((record.owned(alloc)?, progress))),
-            None => Ok(None),
-        },
+    let rest = &bytes[progress.place..];
+    match fault_of_record(progress.format, progress.last, given + 1, rest) {
+        Some(fault) => unless_it_waits(closed, fault),
+        None => unreachable!(),
     }
 }

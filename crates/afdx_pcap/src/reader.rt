@@ -1,12 +1,12 @@
 //! A capture that comes in pieces.
 
-ghost use Rattle.std.specs.Prelude.{◌≡◌, ◌+◌, ◌<◌, ◌++◌, [], length, true, false, Err, Some, None, IfOk, IfErr, OnOk, OnSome, IfSome, IfNone, is_some, if◌then◌else◌};
+ghost use Rattle.std.specs.Prelude.{◌≡◌, ◌≢◌, ◌+◌, ◌<◌, ◌++◌, [], length, true, false, Err, Some, None, IfOk, IfErr, OnOk, OnSome, IfSome, IfNone, is_some, if◌then◌else◌};
 ghost use Rattle.afdx_pcap.specs.declared.fault.PcapFault.TheVariants.{Memory};
-ghost use Rattle.afdx_pcap.specs.Reading.{Answers, HasNext, whole_reading};
+ghost use Rattle.afdx_pcap.specs.Reading.{Answers, HasNext, NoNext, answer_without, whole_reading};
 
 use crate::bytes::Bytes;
 use crate::fault::PcapFault;
-use crate::progress::{Progress, next_record};
+use crate::progress::{Progress, fault_after, next_record};
 use crate::record::Record;
 use std::alloc::Allocator;
 use std::marker::Model;
@@ -144,24 +144,40 @@ impl<'a, A: Allocator + Copy> Reader<'a, A> {
         if let Some(fault) = self.fault {
             return Err(fault);
         }
-        match next_record(
-            self.alloc,
-            &self.bytes,
-            self.given,
-            self.closed,
-            self.progress,
-        ) {
-            Ok(Some((record, progress))) => {
+        let (alloc, given, progress) = (self.alloc, self.given, self.progress);
+        match next_record(self.bytes.as_slice(), given, progress) {
+            Some(next) => {
+                let onward = next.progress;
+                let Ok(record) = next.record(alloc, &self.bytes) else {
+                    self.fault = Some(PcapFault::Memory);
+                    return Err(PcapFault::Memory);
+                };
                 self.given += 1;
-                self.progress = Some(progress);
+                self.progress = Some(onward);
                 Ok(Some(record))
             }
-            Ok(None) => Ok(None),
-            Err(fault) => {
-                self.fault = Some(fault);
-                Err(fault)
+            None => {
+                self.find_fault();
+                match self.fault {
+                    Some(fault) => Err(fault),
+                    None => Ok(None),
+                }
             }
         }
+    }
+
+    /// Finds what is wrong where no whole record comes. It is apart, and hands nothing back through memory, so that the way
+    /// to a record that comes is short.
+    #[cold]
+    #[inline(never)]
+    fn find_fault(&mut self)
+        requires { NoNext self.old.bytes self.old.given }
+        ensures same { self.new ≡ record self.old { fault = self.new.fault } }
+        ensures answer { Answers self.old.bytes self.old.given self.old.closed (answer_without self.new.fault) }
+        ensures no_memory { IfSome self.new.fault (λ fault. fault ≢ Memory) }
+    {
+        let (given, closed, progress) = (self.given, self.closed, self.progress);
+        self.fault = fault_after(self.bytes.as_slice(), given, closed, progress);
     }
 
     /// Looks at the next `count` bytes, as far as they are there and were not looked at before, so that the processor has

@@ -1,9 +1,11 @@
 //! The header of a file, and a record at the start of some bytes.
 
-ghost use Rattle.std.specs.Prelude.{◌≡◌, ◌≢◌, ◌≤◌, length, Some, None, IfOk, IfErr};
+ghost use Rattle.std.specs.Prelude.{◌≡◌, ◌≢◌, ◌+◌, ◌<◌, ◌≤◌, length, Some, None, IfOk, IfErr, IfSome, IfNone};
+ghost use Rattle.std.specs.Option.{option_or};
 ghost use Rattle.afdx_pcap.specs.declared.fault.PcapFault.TheVariants.{Memory};
-ghost use Rattle.afdx_pcap.specs.Capture.{header_of, stamp_of, Begins, after};
-ghost use Rattle.afdx_pcap.specs.Fault.{head_fault, record_fault};
+ghost use Rattle.afdx_pcap.specs.Capture.{header_of, parts_of_second, stamp_of, Begins, after};
+ghost use Rattle.afdx_pcap.specs.Fault.{head_fault, data_fault, record_fault};
+ghost use Rattle.afdx_pcap.specs.Reading.{found_in};
 
 use crate::fault::PcapFault;
 use crate::format::{Endian, Format, HEAD_LENGTH, HEADER_LENGTH, Head, Resolution};
@@ -45,34 +47,112 @@ pub fn read_header(bytes: &[u8]) -> Result<Format, PcapFault>
     Ok(format)
 }
 
-/// The stamp of a record, which is the `number`th and follows one of the stamp `last`.
-fn stamp_of_head(
+/// The stamp that a record's header gives.
+fn stamp_in(resolution: Resolution, head: Head) -> Stamp
+    requires { head.fraction < parts_of_second resolution }
+    ensures { result ≡ stamp_of resolution head }
+{
+    let Some(stamp) = Stamp::new(head.seconds, head.fraction * resolution.nanos()) else {
+        unreachable!()
+    };
+    stamp
+}
+
+/// The first rule that this header of a record breaks, which is the `number`th and follows one of the stamp `last`.
+fn fault_of_head(
     resolution: Resolution,
     last: Stamp,
     number: usize,
     head: Head,
-) -> Result<Stamp, PcapFault>
-    ensures ok { IfOk result (λ stamp. (head_fault resolution last number head ≡ None)
-        × (stamp ≡ stamp_of resolution head)) }
-    ensures err { IfErr result (λ fault. head_fault resolution last number head ≡ Some fault) }
-    ensures no_memory { IfErr result (λ fault. fault ≢ Memory) }
+) -> Option<PcapFault>
+    ensures fault { result ≡ head_fault resolution last number head }
+    ensures no_memory { IfSome result (λ fault. fault ≢ Memory) }
 {
     if head.captured > MAX_CAPTURED {
-        return Err(PcapFault::Huge(number));
+        return Some(PcapFault::Huge(number));
     }
     if head.fraction >= resolution.parts_of_second() {
-        return Err(PcapFault::Fraction(number));
+        return Some(PcapFault::Fraction(number));
     }
     if head.seconds > GREATEST_SECONDS {
-        return Err(PcapFault::Late(number));
+        return Some(PcapFault::Late(number));
     }
-    let Some(stamp) = Stamp::new(head.seconds, head.fraction * resolution.nanos()) else {
-        unreachable!()
-    };
+    let stamp = stamp_in(resolution, head);
     if stamp < last {
-        return Err(PcapFault::Backwards(number));
+        return Some(PcapFault::Backwards(number));
     }
-    Ok(stamp)
+    None
+}
+
+/// What is wrong with a record of this header, where `left` bytes are left from its first on.
+#[inline(always)]
+fn fault_behind(
+    format: Format,
+    last: Stamp,
+    number: usize,
+    head: Head,
+    left: usize,
+) -> Option<PcapFault>
+    ensures fault { result ≡ option_or (head_fault format.resolution last number head) (data_fault number head left) }
+    ensures no_memory { IfSome result (λ fault. fault ≢ Memory) }
+{
+    if let Some(fault) = fault_of_head(format.resolution, last, number, head) {
+        return Some(fault);
+    }
+    if left < HEAD_LENGTH + head.captured as usize {
+        return Some(PcapFault::CutData(number));
+    }
+    None
+}
+
+/// What is wrong with the record at the start of these bytes, where it is no whole one.
+#[tactic(auto, unfolding(crate::specs::Fault::record_fault))]
+pub(crate) fn fault_of_record(
+    format: Format,
+    last: Stamp,
+    number: usize,
+    bytes: &[u8],
+) -> Option<PcapFault>
+    ensures fault { result ≡ record_fault format last number bytes.now }
+    ensures no_memory { IfSome result (λ fault. fault ≢ Memory) }
+{
+    if bytes.len() < HEAD_LENGTH {
+        return Some(PcapFault::CutHeader(number));
+    }
+    let head = format.endian.head_at_start(bytes);
+    fault_behind(format, last, number, head, bytes.len())
+}
+
+/// The numbers of a record at the start of some bytes: `length` bytes of data follow its header.
+#[derive(Clone, Copy, Debug)]
+pub struct Found {
+    pub stamp: Stamp,
+    pub original: u32,
+    pub length: usize,
+}
+
+/// The record at the start of these bytes, by its numbers; none where `fault_of_record` says what is wrong.
+///
+/// It is asked for each record, so no fault is made here: as a result that may be one, the numbers would go through memory.
+#[tactic(auto, unfolding(crate::specs::Fault::record_fault))]
+#[inline(always)]
+pub(crate) fn find_record(format: Format, last: Stamp, number: usize, bytes: &[u8]) -> Option<Found>
+    ensures begins { IfSome result (λ x. Begins format last bytes.now (found_in bytes.now x)) }
+    ensures whole { IfSome result (λ x. 16 + x.length ≤ length bytes.now) }
+    ensures none { IfNone result (record_fault format last number bytes.now ≢ None) }
+{
+    if bytes.len() < HEAD_LENGTH {
+        return None;
+    }
+    let head = format.endian.head_at_start(bytes);
+    match fault_behind(format, last, number, head, bytes.len()) {
+        Some(_) => None,
+        None => Some(Found {
+            stamp: stamp_in(format.resolution, head),
+            original: head.original,
+            length: head.captured as usize,
+        }),
+    }
 }
 
 /// The record at the start of the bytes that are left of a file of this format, which is its `number`th, from 1, and
@@ -86,7 +166,6 @@ fn stamp_of_head(
 /// `CutData`. Where more bytes may come, `is_cut` says which of these they may mend.
 ///
 /// O(1).
-#[tactic(auto, unfolding(crate::specs::Fault::record_fault))]
 pub fn read_record<'b, A: Allocator>(
     format: Format,
     last: Stamp,
@@ -97,16 +176,14 @@ pub fn read_record<'b, A: Allocator>(
     ensures fault { IfErr result (λ fault. record_fault format last number bytes.now ≡ Some fault) }
     ensures no_memory { IfErr result (λ fault. fault ≢ Memory) }
 {
-    if bytes.len() < HEAD_LENGTH {
-        return Err(PcapFault::CutHeader(number));
-    }
-    let head = format.endian.head_at_start(bytes);
-    let stamp = stamp_of_head(format.resolution, last, number, head)?;
-    let end = HEAD_LENGTH + head.captured as usize;
-    if bytes.len() < end {
-        return Err(PcapFault::CutData(number));
-    }
-    let Some(record) = Record::lent(stamp, head.original, &bytes[HEAD_LENGTH..end]) else {
+    let Some(found) = find_record(format, last, number, bytes) else {
+        return match fault_of_record(format, last, number, bytes) {
+            Some(fault) => Err(fault),
+            None => unreachable!(),
+        };
+    };
+    let end = HEAD_LENGTH + found.length;
+    let Some(record) = Record::lent(found.stamp, found.original, &bytes[HEAD_LENGTH..end]) else {
         unreachable!()
     };
     Ok((record, &bytes[end..]))

@@ -1,11 +1,12 @@
 //! Records.
 
 ghost use Rattle.std.specs.Prelude.{◌≡◌, ◌<◌, ◌≤◌, length, IfOk, IfErr, IfSome, IfNone};
+ghost use Rattle.afdx_pcap.specs.Bytes.{plain_bytes};
 ghost use Rattle.afdx_pcap.specs.Record.{captured_limit, IsWithinLimit};
 
 use crate::bytes::Bytes;
 use afdx_units::Stamp;
-use std::alloc::{AllocError, Allocator};
+use std::alloc::Allocator;
 use std::marker::Model;
 
 /// The most bytes that a record holds.
@@ -70,16 +71,16 @@ impl<'a, A: Allocator> Record<'a, A> {
         }
     }
 
-    /// The same record with its own copy of the bytes.
-    pub(crate) fn owned<'b>(&self, alloc: A) -> Result<Record<'b, A>, AllocError>
-        ensures { IfOk result (λ r. r ≡ self.now) }
+    /// A record of these bytes, whoever owns them.
+    pub(crate) fn of(stamp: Stamp, original: u32, bytes: Bytes<'a, A>) -> Record<'a, A>
+        requires { length (plain_bytes bytes) ≤ captured_limit }
+        ensures { result ≡ record { stamp = stamp; original = original; bytes = plain_bytes bytes.entry } }
     {
-        let bytes = Vec::from_slice(alloc, self.bytes.as_slice())?;
-        Ok(Record {
-            stamp: self.stamp,
-            original: self.original,
-            bytes: Bytes::Owned(bytes),
-        })
+        Record {
+            stamp,
+            original,
+            bytes,
+        }
     }
 
     /// The instant at which the frame was captured. O(1).
