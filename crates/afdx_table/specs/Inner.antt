@@ -2,3 +2,4 @@ pub mod Distinct
 pub mod Found
 pub mod Holds
 pub mod Room
+pub mod Slots

@@ -1,43 +1,22 @@
 //! The fields of one TOML table.
 
-ghost use Rattle.std.specs.Prelude.{◌≡◌, ◌≢◌, ◌≤◌, Result, Err, IfOk, IfErr, map, option_map, string_bytes};
-ghost use Rattle.std.specs.List.{list_all};
-ghost use Rattle.std.specs.Map.{keys_of};
+ghost use Rattle.std.specs.Prelude.{◌≡◌, ◌≢◌, ◌≤◌, Result, Err, IfOk, IfErr, map, option_map};
 ghost use Rattle.toml.specs.Data.{get_member};
 ghost use Rattle.toml.specs.View.{view, table_view};
 ghost use Rattle.afdx_table.specs.Refusal.{Gives};
 ghost use Rattle.afdx_table.specs.Names.{key_text};
 ghost use Rattle.afdx_table.specs.Inner.Room.{HasItems};
+ghost use Rattle.afdx_table.specs.Inner.Slots.{AreValues};
 ghost use Rattle.afdx_table.specs.declared.fault.TableFault.TheVariants.{Memory};
-ghost use Rattle.afdx_table.specs.Fields.{bounded_natural, is_one_of, are_known, known_at, value_at, number_in, text_in, number_at, bounded, bounded_at, text_at, optional_number_at};
+ghost use Rattle.afdx_table.specs.Fields.{bounded_natural, known_at, value_at, number_in, text_in, number_at, bounded, bounded_at, text_at, optional_number_at};
 ghost use Rattle.afdx_table.specs.Fields.{optional_text_at, tables_at, all_bounded, numbers_at};
 
 use crate::arrays::{natural, naturals_of, tables_of};
 use crate::fault::{At, Key, TableFault};
 use crate::limits::MAX_PORT_ID;
+use crate::values::Values;
 use std::alloc::Global;
 use toml::{Table, Value};
-
-/// Whether a text is one of these keys.
-fn is_one_of(keys: &[Key], text: &str) -> bool
-    ensures { result ≡ is_one_of keys.now text.now }
-{
-    keys.iter().any(|key| text == key.as_str())
-}
-
-/// Whether each key of a table is one of these, over the keys of the map.
-fn are_keys_known(keys: &[Key], table: &Table) -> bool
-    ensures { result ≡ list_all (λ k. is_one_of keys.now (string_bytes k)) (keys_of table.now.entries) }
-{
-    table.keys().all(|key| is_one_of(keys, key.as_str()))
-}
-
-/// Whether each key of a table is one of these.
-fn are_known(keys: &[Key], table: &Table) -> bool
-    ensures { result ≡ are_known keys.now (table_view table.now) }
-{
-    are_keys_known(keys, table)
-}
 
 /// The number that a value is.
 #[tactic(auto, unfolding(crate::specs::Fields::number_in))]
@@ -119,32 +98,35 @@ fn all_bounded(
 pub(crate) struct Fields<'a> {
     pub(crate) at: At,
     pub(crate) table: &'a Table,
+    pub(crate) values: Values<'a>,
 }
 
 impl<'a> Fields<'a> {
-    /// Refuses a key that is none of these.
+    /// The fields of a table, which refuses a key that is none of these.
     #[tactic(auto, unfolding(crate::specs::Fields::known_at))]
-    pub(crate) fn known(&self, keys: &[Key]) -> Result<(), TableFault>
-        ensures known { result ≡ known_at self.now.at keys.now (table_view self.now.table.now) }
+    pub(crate) fn read(at: At, keys: &[Key], table: &'a Table) -> Result<Fields<'a>, TableFault>
+        ensures known { Gives (λ _. tt) result (known_at at keys.now (table_view table.now)) }
+        ensures fields { IfOk result (λ f. (f.at ≡ at) × (f.table.now ≡ table.now) × AreValues f.values.slots (table_view table.now)) }
         ensures no_memory { IfErr result (λ e. e ≢ Memory) }
     {
-        if are_known(keys, self.table) {
-            Ok(())
-        } else {
-            Err(TableFault::UnknownKey(self.at))
+        match Values::read(keys, table) {
+            Some(values) => Ok(Fields { at, table, values }),
+            None => Err(TableFault::UnknownKey(at)),
         }
     }
 
     /// The value of a key, where it is there.
     fn find(&self, key: Key) -> Option<&'a Value>
+        requires { AreValues self.now.values.slots (table_view self.now.table.now) }
         ensures { option_map (λ v. view v.now) result ≡ get_member (key_text key) (table_view self.now.table.now) }
     {
-        self.table.get(key.as_str())
+        self.values.get(key)
     }
 
     /// The value of a required key.
     #[tactic(auto, unfolding(crate::specs::Fields::value_at))]
     fn value(&self, key: Key) -> Result<&'a Value, TableFault>
+        requires { AreValues self.now.values.slots (table_view self.now.table.now) }
         ensures { Gives (λ v. view v.now) result (value_at self.now.at key (table_view self.now.table.now)) }
     {
         self.find(key).ok_or(TableFault::MissingKey(self.at, key))
@@ -153,6 +135,7 @@ impl<'a> Fields<'a> {
     /// A required number.
     #[tactic(auto, unfolding(crate::specs::Fields::number_at))]
     pub(crate) fn number(&self, key: Key) -> Result<u64, TableFault>
+        requires { AreValues self.now.values.slots (table_view self.now.table.now) }
         ensures { Gives (λ n. n) result (number_at self.now.at key (table_view self.now.table.now)) }
     {
         number_in(self.at, key, self.value(key)?)
@@ -161,6 +144,7 @@ impl<'a> Fields<'a> {
     /// An optional number.
     #[tactic(auto, unfolding(crate::specs::Fields::optional_number_at))]
     pub(crate) fn optional_number(&self, key: Key) -> Result<Option<u64>, TableFault>
+        requires { AreValues self.now.values.slots (table_view self.now.table.now) }
         ensures number { Gives (λ n. n) result (optional_number_at self.now.at key (table_view self.now.table.now)) }
         ensures no_memory { IfErr result (λ e. e ≢ Memory) }
     {
@@ -173,6 +157,7 @@ impl<'a> Fields<'a> {
     /// A required number from `low` to `high`.
     #[tactic(auto, unfolding(crate::specs::Fields::bounded_at))]
     pub(crate) fn bounded(&self, key: Key, low: u64, high: u64) -> Result<u64, TableFault>
+        requires { AreValues self.now.values.slots (table_view self.now.table.now) }
         ensures value { Gives (λ n. n) result (bounded_at self.now.at key low high (table_view self.now.table.now)) }
         ensures within { IfOk result (λ n. n ≤ high) }
     {
@@ -182,6 +167,7 @@ impl<'a> Fields<'a> {
 
     /// A required number of a port.
     pub(crate) fn port_id(&self, key: Key) -> Result<u8, TableFault>
+        requires { AreValues self.now.values.slots (table_view self.now.table.now) }
         ensures { Gives (λ n. n) result (bounded_at self.now.at key 1 24 (table_view self.now.table.now)) }
     {
         let number = self.bounded(key, 1, u64::from(MAX_PORT_ID))?;
@@ -191,6 +177,7 @@ impl<'a> Fields<'a> {
     /// A required text.
     #[tactic(auto, unfolding(crate::specs::Fields::text_at))]
     pub(crate) fn text(&self, key: Key) -> Result<&'a str, TableFault>
+        requires { AreValues self.now.values.slots (table_view self.now.table.now) }
         ensures { Gives (λ s. s.now) result (text_at self.now.at key (table_view self.now.table.now)) }
     {
         text_in(self.at, key, self.value(key)?)
@@ -199,6 +186,7 @@ impl<'a> Fields<'a> {
     /// An optional text.
     #[tactic(auto, unfolding(crate::specs::Fields::optional_text_at))]
     pub(crate) fn optional_text(&self, key: Key) -> Result<Option<&'a str>, TableFault>
+        requires { AreValues self.now.values.slots (table_view self.now.table.now) }
         ensures text { Gives (λ o. option_map (λ s. s.now) o) result (optional_text_at self.now.at key (table_view self.now.table.now)) }
         ensures no_memory { IfErr result (λ e. e ≢ Memory) }
     {
@@ -211,6 +199,7 @@ impl<'a> Fields<'a> {
     /// An optional array of tables.
     #[tactic(auto, unfolding(crate::specs::Fields::tables_at))]
     pub(crate) fn tables(&self, alloc: Global, key: Key) -> Result<Vec<&'a Table>, TableFault>
+        requires { AreValues self.now.values.slots (table_view self.now.table.now) }
         ensures tables { Gives (λ v. map (λ t. table_view t.now) v.items) result (tables_at self.now.at key (table_view self.now.table.now)) }
         ensures memory { result ≡ Err Memory → HasItems key (table_view self.now.table.now) }
     {
@@ -232,6 +221,7 @@ impl<'a> Fields<'a> {
         low: u8,
         high: u8,
     ) -> Result<Vec<u8>, TableFault>
+        requires { AreValues self.now.values.slots (table_view self.now.table.now) }
         ensures { Gives (λ v. v.items) result (numbers_at self.now.at key low high (table_view self.now.table.now)) }
     {
         let value = self.value(key)?;

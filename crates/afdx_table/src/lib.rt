@@ -15,6 +15,7 @@ mod ports;
 mod rows;
 mod table;
 mod top;
+mod values;
 
 pub use fault::{At, Key, TableFault};
 pub use rows::{LinkRow, PortRow};

@@ -5,6 +5,7 @@ ghost use Rattle.toml.specs.View.{table_view};
 ghost use Rattle.afdx_table.specs.Refusal.{Gives};
 ghost use Rattle.afdx_table.specs.declared.fault.TableFault.TheVariants.{Memory};
 ghost use Rattle.afdx_table.specs.Fields.{known_at};
+ghost use Rattle.afdx_table.specs.Inner.Slots.{AreValues};
 ghost use Rattle.afdx_table.specs.Links.{has_link, targets, link_keys, police_from, row_at, fitting, link_at, links_from};
 
 use crate::fault::{At, Key, TableFault};
@@ -36,31 +37,40 @@ fn check_targets(at: At, ports: &[PortRow], from: u8, to: &[u8]) -> Result<(), T
     Ok(())
 }
 
-/// Refuses a key that no link has in this version.
-fn known_keys(version: u64, fields: &Fields<'_>) -> Result<(), TableFault>
-    ensures { result ≡ known_at fields.now.at (link_keys version) (table_view fields.now.table.now) }
+/// The fields of a link, which refuses a key that no link has in this version.
+fn link_fields<'a>(version: u64, at: At, table: &'a Table) -> Result<Fields<'a>, TableFault>
+    ensures known { Gives (λ _. tt) result (known_at at (link_keys version) (table_view table.now)) }
+    ensures fields { IfOk result (λ f. (f.at ≡ at) × (f.table.now ≡ table.now) × AreValues f.values.slots (table_view table.now)) }
 {
     if version == 1 {
-        fields.known(&[
-            Key::Id,
-            Key::From,
-            Key::To,
-            Key::Bag,
-            Key::Jitter,
-            Key::MaxSize,
-            Key::Priority,
-        ])
+        Fields::read(
+            at,
+            &[
+                Key::Id,
+                Key::From,
+                Key::To,
+                Key::Bag,
+                Key::Jitter,
+                Key::MaxSize,
+                Key::Priority,
+            ],
+            table,
+        )
     } else {
-        fields.known(&[
-            Key::Id,
-            Key::From,
-            Key::To,
-            Key::Bag,
-            Key::Jitter,
-            Key::MaxSize,
-            Key::Priority,
-            Key::Police,
-        ])
+        Fields::read(
+            at,
+            &[
+                Key::Id,
+                Key::From,
+                Key::To,
+                Key::Bag,
+                Key::Jitter,
+                Key::MaxSize,
+                Key::Priority,
+                Key::Police,
+            ],
+            table,
+        )
     }
 }
 
@@ -76,15 +86,15 @@ fn police_from(at: At, stated: Option<&str>) -> Result<Police, TableFault>
 
 /// The row of a link's fields.
 #[tactic(auto, unfolding(crate::specs::Links::row_at))]
-fn read_row(alloc: Global, version: u64, fields: &Fields<'_>) -> Result<LinkRow, TableFault>
-    ensures { Gives (λ r. r) result (row_at version fields.now.at (table_view fields.now.table.now)) }
+fn read_row(alloc: Global, version: u64, at: At, table: &Table) -> Result<LinkRow, TableFault>
+    ensures { Gives (λ r. r) result (row_at version at (table_view table.now)) }
 {
-    known_keys(version, fields)?;
+    let fields = link_fields(version, at, table)?;
     let id = fields.bounded(Key::Id, 0, MAX_LINK_ID)? as u16;
     let from = fields.port_id(Key::From)?;
     let to = fields.numbers(alloc, Key::To, 1, MAX_PORT_ID)?;
     let bag_ms = fields.number(Key::Bag)?;
-    let bag = bag_from_ms(bag_ms).ok_or(TableFault::Range(fields.at, Key::Bag))?;
+    let bag = bag_from_ms(bag_ms).ok_or(TableFault::Range(at, Key::Bag))?;
     let jitter_us = fields.bounded(Key::Jitter, 0, MAX_JITTER)?;
     let max_size = fields.bounded(
         Key::MaxSize,
@@ -92,8 +102,8 @@ fn read_row(alloc: Global, version: u64, fields: &Fields<'_>) -> Result<LinkRow,
         u64::from(GREATEST_SIZE),
     )? as u32;
     let text = fields.text(Key::Priority)?;
-    let priority = priority_from_text(text).ok_or(TableFault::Range(fields.at, Key::Priority))?;
-    let police = police_from(fields.at, fields.optional_text(Key::Police)?)?;
+    let priority = priority_from_text(text).ok_or(TableFault::Range(at, Key::Priority))?;
+    let police = police_from(at, fields.optional_text(Key::Police)?)?;
     Ok(LinkRow {
         id,
         from,
@@ -130,15 +140,16 @@ fn fit(at: At, ports: &[PortRow], before: &LinkMap, row: LinkRow) -> Result<Link
 fn read_link(
     alloc: Global,
     version: u64,
-    fields: &Fields<'_>,
+    at: At,
+    table: &Table,
     ports: &[PortRow],
     before: &LinkMap,
 ) -> Result<LinkRow, TableFault>
     ensures fresh { IfOk result (λ r. has_link before.now r.id ≡ false) }
-    ensures row { Gives (λ r. r) result (link_at version fields.now.at ports.now before.now (table_view fields.now.table.now)) }
+    ensures row { Gives (λ r. r) result (link_at version at ports.now before.now (table_view table.now)) }
 {
-    let row = read_row(alloc, version, fields)?;
-    fit(fields.at, ports, before, row)
+    let row = read_row(alloc, version, at, table)?;
+    fit(at, ports, before, row)
 }
 
 /// The links, in file order.
@@ -154,11 +165,7 @@ pub(crate) fn read_links(
 {
     let mut links = LinkMap::new(alloc);
     for (index, table) in tables.iter().enumerate() {
-        let fields = Fields {
-            at: At::Link(index + 1),
-            table: *table,
-        };
-        let row = read_link(alloc, version, &fields, ports, &links)?;
+        let row = read_link(alloc, version, At::Link(index + 1), *table, ports, &links)?;
         links.push(row)?;
     }
     Ok(links)

@@ -53,17 +53,22 @@ fn insert_port(ports: &mut Vec<PortRow>, row: PortRow) -> Result<(), AllocError>
 
 /// A port, after the ports before it.
 #[tactic(auto, unfolding(crate::specs::Ports::port_at))]
-fn read_port(version: u64, fields: &Fields<'_>, before: &[PortRow]) -> Result<PortRow, TableFault>
-    ensures { Gives (λ r. r) result (port_at version fields.now.at before.now (table_view fields.now.table.now)) }
+fn read_port(
+    version: u64,
+    at: At,
+    table: &Table,
+    before: &[PortRow],
+) -> Result<PortRow, TableFault>
+    ensures { Gives (λ r. r) result (port_at version at before.now (table_view table.now)) }
 {
-    fields.known(&[Key::Id, Key::Mbit, Key::Buffer, Key::MaxDelay])?;
+    let fields = Fields::read(at, &[Key::Id, Key::Mbit, Key::Buffer, Key::MaxDelay], table)?;
     let id = fields.port_id(Key::Id)?;
     let mbit = fields.number(Key::Mbit)?;
-    let speed = speed_from_mbit(version, mbit).ok_or(TableFault::Range(fields.at, Key::Mbit))?;
+    let speed = speed_from_mbit(version, mbit).ok_or(TableFault::Range(at, Key::Mbit))?;
     let buffer = fields.bounded(Key::Buffer, 0, MAX_BUFFER)? as u32;
     let max_delay_us = fields.bounded(Key::MaxDelay, 1, MAX_DELAY)?;
     if has_port(before, id) {
-        return Err(TableFault::TwicePort(fields.at));
+        return Err(TableFault::TwicePort(at));
     }
     Ok(PortRow {
         id,
@@ -85,11 +90,7 @@ pub(crate) fn read_ports(
 {
     let mut ports = Vec::new(alloc);
     for (index, table) in tables.iter().enumerate() {
-        let fields = Fields {
-            at: At::Port(index + 1),
-            table: *table,
-        };
-        let row = read_port(version, &fields, &ports)?;
+        let row = read_port(version, At::Port(index + 1), *table, &ports)?;
         insert_port(&mut ports, row)?;
     }
     Ok(ports)

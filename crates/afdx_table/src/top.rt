@@ -5,9 +5,11 @@ ghost use Rattle.hex.specs.Hex.{decode_sized};
 ghost use Rattle.toml.specs.View.{table_view};
 ghost use Rattle.afdx_table.specs.Refusal.{Gives};
 ghost use Rattle.afdx_table.specs.Inner.Room.{WantsRoom};
+ghost use Rattle.afdx_table.specs.declared.fault.At.TheVariants as place;
 ghost use Rattle.afdx_table.specs.declared.fault.TableFault.TheVariants.{Memory};
 ghost use Rattle.afdx_table.specs.Top.{top_keys, at_most, version_from, group_address, constant_from, latency_from, top_at};
 ghost use Rattle.afdx_table.specs.Fields.{known_at};
+ghost use Rattle.afdx_table.specs.Inner.Slots.{AreValues};
 
 use crate::fault::{At, Key, TableFault};
 use crate::fields::{Fields, bounded};
@@ -60,21 +62,30 @@ fn constant_from(stated: Option<&str>) -> Result<[u8; 4], TableFault>
     }
 }
 
-/// Refuses a key that the top has not in this version.
-fn known_keys(version: u64, fields: &Fields<'_>) -> Result<(), TableFault>
-    ensures known { result ≡ known_at fields.now.at (top_keys version) (table_view fields.now.table.now) }
+/// The fields of the top, which refuses a key that the top has not in this version.
+fn top_fields<'a>(version: u64, tree: &'a Tree) -> Result<Fields<'a>, TableFault>
+    ensures known { Gives (λ _. tt) result (known_at place.Top (top_keys version) (table_view tree.now)) }
+    ensures fields { IfOk result (λ f. (f.at ≡ place.Top) × (f.table.now ≡ tree.now) × AreValues f.values.slots (table_view tree.now)) }
     ensures no_memory { IfErr result (λ e. e ≢ Memory) }
 {
     if version < LATENCY_VERSION {
-        fields.known(&[Key::Version, Key::Constant, Key::Port, Key::Link])
+        Fields::read(
+            At::Top,
+            &[Key::Version, Key::Constant, Key::Port, Key::Link],
+            tree,
+        )
     } else {
-        fields.known(&[
-            Key::Version,
-            Key::Constant,
-            Key::Latency,
-            Key::Port,
-            Key::Link,
-        ])
+        Fields::read(
+            At::Top,
+            &[
+                Key::Version,
+                Key::Constant,
+                Key::Latency,
+                Key::Port,
+                Key::Link,
+            ],
+            tree,
+        )
     }
 }
 
@@ -114,19 +125,9 @@ pub(crate) fn read_top<'a>(alloc: Global, tree: &'a Tree) -> Result<Top<'a>, Tab
     }) result (top_at (table_view tree.now)) }
     ensures memory { result ≡ Err Memory → WantsRoom (table_view tree.now) }
 {
-    let fields = Fields {
-        at: At::Top,
-        table: tree,
-    };
-    fields.known(&[
-        Key::Version,
-        Key::Constant,
-        Key::Latency,
-        Key::Port,
-        Key::Link,
-    ])?;
-    let version = version_from(fields.optional_number(Key::Version)?)?;
-    known_keys(version, &fields)?;
+    let stated = top_fields(MAX_VERSION, tree)?;
+    let version = version_from(stated.optional_number(Key::Version)?)?;
+    let fields = top_fields(version, tree)?;
     let constant = constant_from(fields.optional_text(Key::Constant)?)?;
     let latency_us = latency_from(fields.optional_number(Key::Latency)?)?;
     let ports = fields.tables(alloc, Key::Port)?;
