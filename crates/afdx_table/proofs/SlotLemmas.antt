@@ -191,14 +191,14 @@ put slots text v rest all j h within free yet k =
           let none : value_in slots k ≡ None = ap (value_in slots) is ∙ free in
           let taken : Some (view v.now) ≡ get_member (key_text k) all = rw (none, get_member-here k text (view v.now) rest here) at before in
           let now : value_in (set slots (key_place j) (Some v)) k ≡ Some (view v.now) =
-              rw is (ap (option_map (λ (x : Bor Value). view x.now)) (get_or-set_same slots (key_place j) (Some v) None within)) in
+          rw is (ap (option_map (λ (x : Bor Value). view x.now)) (get_or-set_same slots (key_place j) (Some v) None within)) in
           rw now taken
       | inr other ↦
           let apart : key_place k ≢ key_place j = λ e. let is = (Decides-eqb (key_place k) (key_place j)).1 e in cc in
           let there : bytes_eq text (key_text k) ≡ false = same_text text j k h ∙ other in
           let before = yet k in
           let kept : value_in (set slots (key_place j) (Some v)) k ≡ value_in slots k =
-              ap (option_map (λ (x : Bor Value). view x.now)) (get_or-set_other slots (key_place j) (key_place k) (Some v) None apart) in
+          ap (option_map (λ (x : Bor Value). view x.now)) (get_or-set_other slots (key_place j) (key_place k) (Some v) None apart) in
           rw kept (ap (found_or (value_in slots k)) (sym (get_member-other k text (view v.now) rest there)) ∙ before)
     ]
 

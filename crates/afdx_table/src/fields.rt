@@ -85,7 +85,7 @@ fn all_bounded(
 ) -> Result<Vec<u8>, TableFault>
     ensures { Gives (λ v. v.items) result (all_bounded at key low high numbers.now) }
 {
-    let mut found = Vec::new(alloc);
+    let mut found = Vec::with_capacity(alloc, numbers.len())?;
     for number in numbers {
         let number = bounded_natural(at, key, low, high, *number)?;
         found.push(number).map_err(|_| TableFault::Memory)?;

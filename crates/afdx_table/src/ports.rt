@@ -53,12 +53,7 @@ fn insert_port(ports: &mut Vec<PortRow>, row: PortRow) -> Result<(), AllocError>
 
 /// A port, after the ports before it.
 #[tactic(auto, unfolding(crate::specs::Ports::port_at))]
-fn read_port(
-    version: u64,
-    at: At,
-    table: &Table,
-    before: &[PortRow],
-) -> Result<PortRow, TableFault>
+fn read_port(version: u64, at: At, table: &Table, before: &[PortRow]) -> Result<PortRow, TableFault>
     ensures { Gives (λ r. r) result (port_at version at before.now (table_view table.now)) }
 {
     let fields = Fields::read(at, &[Key::Id, Key::Mbit, Key::Buffer, Key::MaxDelay], table)?;

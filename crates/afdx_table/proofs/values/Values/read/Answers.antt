@@ -24,7 +24,7 @@ returns-then-not-has_place c =
     let j = c.in_ok-key_named.field-0 in
     let named : key_named (string_bytes e.0) ≡ Some j = ap key_named (sym c.as_str.ensures.value) ∙ sym c.key_named.ensures ∙ c.in_ok-key_named.was in
     let other : is_one_of c.args.keys.now (string_bytes e.0) ≡ false =
-        is_one_of-named c.args.keys.now (string_bytes e.0) j named ∙ rw (← c.place_of-place.ensures.place) (sym c.has_place.ensures ∙ c.if-not-has_place.true) in
+    is_one_of-named c.args.keys.now (string_bytes e.0) j named ∙ rw (← c.place_of-place.ensures.place) (sym c.has_place.ensures ∙ c.if-not-has_place.true) in
     refused c.args.keys.now e c.next.new.self _ other (rw c.in-Some.ensures.steps at c.loop-name.invariant.known)
 
 pub loop-name-preserved-then-is_none : goal.loop-name-preserved-then-is_none
@@ -33,7 +33,7 @@ loop-name-preserved-then-is_none c =
     let j = c.in_ok-key_named.field-0 in
     let named : key_named (string_bytes e.0) ≡ Some j = ap key_named (sym c.as_str.ensures.value) ∙ sym c.key_named.ensures ∙ c.in_ok-key_named.was in
     let one : is_one_of c.args.keys.now (string_bytes e.0) ≡ true =
-        is_one_of-named c.args.keys.now (string_bytes e.0) j named ∙ rw (← c.place_of-place.ensures.place) (sym c.has_place.ensures ∙ c.if-not-has_place.false) in
+    is_one_of-named c.args.keys.now (string_bytes e.0) j named ∙ rw (← c.place_of-place.ensures.place) (sym c.has_place.ensures ∙ c.if-not-has_place.false) in
     let here : c.place_of-place.result < length c.loop-name.slots = omega (arith, c.place_of-place.ensures.within, c.loop-name.invariant.long) in
     let within : key_place j < length c.loop-name.slots = omega (arith, c.place_of-place.ensures.place, here) in
     let is_free : value_in c.loop-name.slots j ≡ None = free c.loop-name.slots c.place_of-place.result j c.index-slots-place.result c.place_of-place.ensures.place here c.if-is_none.ensures in
@@ -50,7 +50,7 @@ loop-name-preserved c =
     let j = c.in_ok-key_named.field-0 in
     let named : key_named (string_bytes e.0) ≡ Some j = ap key_named (sym c.as_str.ensures.value) ∙ sym c.key_named.ensures ∙ c.in_ok-key_named.was in
     let one : is_one_of c.args.keys.now (string_bytes e.0) ≡ true =
-        is_one_of-named c.args.keys.now (string_bytes e.0) j named ∙ rw (← c.place_of-place.ensures.place) (sym c.has_place.ensures ∙ c.if-not-has_place.false) in
+    is_one_of-named c.args.keys.now (string_bytes e.0) j named ∙ rw (← c.place_of-place.ensures.place) (sym c.has_place.ensures ∙ c.if-not-has_place.false) in
     let here : c.place_of-place.result < length c.loop-name.slots = omega (arith, c.place_of-place.ensures.within, c.loop-name.invariant.long) in
     let is_taken = taken c.loop-name.slots c.place_of-place.result j c.index-slots-place.result c.place_of-place.ensures.place here c.if-is_none.ensures in
     record {
