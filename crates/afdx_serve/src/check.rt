@@ -1,6 +1,6 @@
 //! The command `check`.
 
-ghost use Rattle.std.specs.Prelude.{◌≡◌, ℕ, ◌++◌, Some, IfOk, OnOk, MatchResult, string_bytes};
+ghost use Rattle.std.specs.Prelude.{◌≡◌, ℕ, ◌++◌, [], Some, IfOk, OnOk, MatchResult, string_bytes};
 ghost use Rattle.afdx_table.specs.Content.{port_row};
 ghost use Rattle.afdx_load.specs.Load.{load_of};
 ghost use Rattle.afdx_load.specs.Accepted.{IsAccepted};
@@ -17,6 +17,9 @@ use afdx_table::laws::ports_are_found;
 use afdx_table::{PortRow, Table};
 use std::alloc::{AllocError, Global};
 use std::io::Write;
+
+/// More bytes than the lines of a table's ports have.
+const ROOM: usize = 4096;
 
 /// Appends a bound.
 fn push_bound(line: &mut String, bound: Option<u128>) -> Result<(), AllocError>
@@ -57,29 +60,31 @@ fn port_line(alloc: Global, loads: &Loads<'_>, row: &PortRow) -> Result<String, 
     }
 }
 
-/// The lines of the table's ports with links.
+/// The lines of the table's ports with links, in an empty text that may have room for them.
 ///
 /// One pass over the links serves all ports: O(p + m) for p ports, of which there are at most 24, and links that
 /// together name m output ports.
-fn port_lines(alloc: Global, table: &Table) -> Result<String, AllocError>
+fn port_lines(alloc: Global, table: &Table, empty: String) -> Result<String, AllocError>
+    requires { string_bytes empty ≡ [] }
     ensures { IfOk result (λ text. AreLinesOf table.now.latency table.now.links table.now.ports (string_bytes text)) }
 {
     ports_are_found();
     let loads = loads(table);
-    let mut text = String::new(alloc);
+    let mut text = empty;
     for row in table.ports() {
         text.push_str(&port_line(alloc, &loads, row)?)?;
     }
     Ok(text)
 }
 
-/// What is written of a table that is accepted.
-fn check_text(alloc: Global, table: Table) -> Result<String, Failure>
+/// What is written of a table that is accepted, in an empty text that may have room for it.
+fn check_text(alloc: Global, table: Table, empty: String) -> Result<String, Failure>
+    requires { string_bytes empty ≡ [] }
     ensures { MatchResult result (λ text. IsAccepted table × IsCheckOf table (string_bytes text)) (λ f. FailsToAccept f table) }
 {
     match afdx_load::check(table) {
         Ok(cleared) => {
-            let mut text = port_lines(alloc, cleared.table())?;
+            let mut text = port_lines(alloc, cleared.table(), empty)?;
             text.push_str("accepted\n")?;
             Ok(text)
         }
@@ -104,8 +109,11 @@ pub(crate) fn check<O: Write, F: Folder>(
         (λ f. FailsToCheck f path.now
         (world (O.contents out.old) (F.files folder.old) (F.failed folder.old)) (world (O.contents out.new) (F.files folder.new) (F.failed folder.new))) }
 {
+    // Room for the lines is made before the table is read: asked for after its tree was given back in many small pieces, it
+    // has the C library join these, which takes longer than all that is done here.
+    let empty = String::with_capacity(alloc, ROOM)?;
     let table = get_table(alloc, folder, path)?;
-    let text = check_text(alloc, table)?;
+    let text = check_text(alloc, table, empty)?;
     write_bytes(out, text.as_bytes())?;
     Ok(())
 }

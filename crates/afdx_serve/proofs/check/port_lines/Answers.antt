@@ -26,3 +26,6 @@ returns c =
     let past : length c.ports-row-items.result.now ≤ c.loop-row.row-index = search rules in
     subst (λ (ports : List PortRow). AreLinesOf c.args.table.now.latency c.args.table.now.links ports (string_bytes c.loop-row.text)) c.loop-row.invariant.all
     (last_line _ c.ports-row-items.result.now c.loop-row.row-index _ past c.loop-row.invariant.lines)
+
+pub loop-row-init : goal.loop-row-init
+loop-row-init c = record { lines = λ rest lines. rw c.requires lines; all = c.ports-row-items.ensures.ports }
