@@ -1,5 +1,6 @@
 -- A reader's place in its bytes, and what it says of them.
-use Rattle.std.proofs.Common.{◌≡◌, ℕ, ◌+◌, ◌-◌, ◌<◌, ◌≤◌, Bool, true, false, List, [], ◌∷◌, ◌++◌, length, take, drop, Option, Some, None, Result, Ok, Err, sym, ap, subst, ◌∙◌, arith, inl, inr, refl, cond}
+use Rattle.std.proofs.Common.{◌≡◌, ℕ, ◌+◌, ◌-◌, ◌<◌, ◌≤◌, Bool, true, false, List, [], ◌∷◌, ◌++◌, length, take, drop, Option, Some, None, Result, Ok, Err}
+use Rattle.std.proofs.Common.{sym, ap, subst, ◌∙◌, arith, inl, inr, refl, cond}
 use Rattle.std.proofs.Common.{not, ◌||◌}
 use Rattle.std.proofs.lemmas.List.{length-drop, length-take, length-append, drop-append-le, drop-drop, nil_from_length}
 use Rattle.std.specs.Prelude.{IfNone}

@@ -1,5 +1,6 @@
 -- The values of a table in the places of their keys, as a pass over its entries fills them.
-use Rattle.std.proofs.Common.{◌≡◌, ◌≢◌, ◌<◌, ◌==◌, ◌∷◌, ℕ, zero, suc, Bool, true, false, List, [], length, Option, Some, None, option_map, get_or, get_or-set_same, get_or-set_other, set, Bor, String, Global, string_bytes, nat_cmp, Ordering, Less, Equal, Greater, is_eq, refl, sym, ap, ◌∙◌, inl, inr, arith}
+use Rattle.std.proofs.Common.{◌≡◌, ◌≢◌, ◌<◌, ◌==◌, ◌∷◌, ℕ, zero, suc, Bool, true, false, List, [], length, Option, Some, None, option_map, get_or, get_or-set_same, get_or-set_other, set}
+use Rattle.std.proofs.Common.{Bor, String, Global, string_bytes, nat_cmp, Ordering, Less, Equal, Greater, is_eq, refl, sym, ap, ◌∙◌, inl, inr, arith}
 use Rattle.std.specs.Prelude.{find}
 use Rattle.std.specs.Option.{is_some}
 use Rattle.std.specs.List.{list_any}
@@ -112,10 +113,12 @@ pub is_one_of-unnamed : (ks : List Key) (text : List ℕ) → key_named text ≡
 is_one_of-unnamed [] text h = refl
 is_one_of-unnamed (k ∷ ks) text h = rw (other_text text k h, is_one_of-unnamed ks text h) refl
 
-pub refused : (ks : List Key) (e : String Global × Value) (es : List (String Global × Value)) (all : Bool) → is_one_of ks (string_bytes e.0) ≡ false → are_known ks (members_view (e ∷ es)) ≡ all → all ≡ false
+pub refused : (ks : List Key) (e : String Global × Value) (es : List (String Global × Value)) (all : Bool) → is_one_of ks (string_bytes e.0) ≡ false
+    → are_known ks (members_view (e ∷ es)) ≡ all → all ≡ false
 refused ks e es all h yet = sym yet ∙ rw h refl
 
-pub accepted : (ks : List Key) (e : String Global × Value) (es : List (String Global × Value)) (all : Bool) → is_one_of ks (string_bytes e.0) ≡ true → are_known ks (members_view (e ∷ es)) ≡ all → are_known ks (members_view es) ≡ all
+pub accepted : (ks : List Key) (e : String Global × Value) (es : List (String Global × Value)) (all : Bool) → is_one_of ks (string_bytes e.0) ≡ true
+    → are_known ks (members_view (e ∷ es)) ≡ all → are_known ks (members_view es) ≡ all
 accepted ks e es all h yet = rw h at yet
 
 pass_over : (o : Ordering) (a b : Option Data) → is_eq o ≡ false → match_ordering o a b a ≡ a
