@@ -1,6 +1,6 @@
 //! The line of a port and what waits for it.
 
-ghost use Rattle.std.specs.Prelude.{◌≡◌, ℕ, ◌+◌, ◌<◌, ◌≤◌, ◌++◌, [], Some, None, if◌then◌else◌, sum_by, nat_le, max, false, OnOk};
+ghost use Rattle.std.specs.Prelude.{◌≡◌, ℕ, ◌+◌, ◌<◌, ◌≤◌, ◌++◌, ◌∷◌, [], Some, None, if◌then◌else◌, sum_by, nat_le, max, false, OnOk};
 ghost use Rattle.afdx_units.specs.Time.{stamp_end};
 ghost use Rattle.afdx_port.specs.Service.{reach, came, before, sent_of, aged_of};
 ghost use Rattle.afdx_port.specs.Inner.Order.{in_line};
@@ -8,14 +8,14 @@ ghost use Rattle.afdx_port.specs.Inner.Progress.{on_line};
 ghost use Rattle.afdx_port.specs.Course.{starts_before};
 ghost use Rattle.afdx_port.specs.Inner.Course.{next_in_line, after_next, rest_in_line, reached, first_start};
 ghost use Rattle.afdx_port.specs.Inner.Queued.{count_of, queued};
-ghost use Rattle.afdx_port.specs.Inner.Sound.{IsSound, IsSmall, HasRoom, queue_of, state_of};
+ghost use Rattle.afdx_port.specs.Inner.Sound.{IsSound, IsSmall, HasRoom, queue_of, admitted_by, state_of};
 
 use crate::queues::Queues;
 use crate::{Aged, Item, Sent, Settings};
 use afdx_units::Stamp;
 use std::alloc::{AllocError, Allocator};
 
-/// A line, the items that wait for it, and what became of the others. The last one sent is the one
+/// A line, all items that it admitted, which of them wait, and what became of the others. The last one sent is the one
 /// that is being sent, until its end.
 #[derive(Drop)]
 pub(crate) struct Line<A: Allocator> {
@@ -37,6 +37,7 @@ impl<A: Allocator + Copy> Line<A> {
         ensures settings { result.settings ≡ settings }
         ensures sound { IsSound result }
         ensures state { state_of result ≡ record { free = reach settings 0; waiting = [] } }
+        ensures admitted { admitted_by result ≡ [] }
         ensures sent { result.sent.items ≡ [] }
         ensures aged { result.aged.items ≡ [] }
         ensures room { HasRoom 0 result }
@@ -58,6 +59,7 @@ impl<A: Allocator + Copy> Line<A> {
         ensures room { (room : ℕ) → HasRoom room self.old → HasRoom room self.new }
         ensures settings { self.new.settings ≡ self.old.settings }
         ensures state { state_of self.new ≡ state_of self.old }
+        ensures admitted { admitted_by self.new ≡ admitted_by self.old }
         ensures sent { self.new.sent.items ≡ self.old.sent.items }
         ensures aged { self.new.aged.items ≡ self.old.aged.items }
     {
@@ -67,7 +69,7 @@ impl<A: Allocator + Copy> Line<A> {
         self.aged.reserve(all)
     }
 
-    /// Puts an item behind those of its priority that wait.
+    /// Admits an item, which waits behind those of its priority.
     pub(crate) fn queue(&mut self, item: Item)
         requires room { HasRoom 1 self.old }
         requires sound { IsSound self.old }
@@ -78,6 +80,7 @@ impl<A: Allocator + Copy> Line<A> {
         ensures room { (room : ℕ) → HasRoom (room + 1) self.old → HasRoom room self.new }
         ensures settings { self.new.settings ≡ self.old.settings }
         ensures state { state_of self.new ≡ record { free = self.old.ready; waiting = queued item self.old.waiting } }
+        ensures admitted { admitted_by self.new ≡ admitted_by self.old ++ item ∷ [] }
         ensures sent { self.new.sent.items ≡ self.old.sent.items }
         ensures aged { self.new.aged.items ≡ self.old.aged.items }
     {
@@ -116,6 +119,7 @@ impl<A: Allocator + Copy> Line<A> {
         ensures room { (room : ℕ) → HasRoom room self.old → HasRoom room self.new }
         ensures fewer { count_of self.new.waiting + 1 ≡ count_of self.old.waiting }
         ensures settings { self.new.settings ≡ self.old.settings }
+        ensures admitted { admitted_by self.new ≡ admitted_by self.old }
         ensures sent { self.new.sent.items ≡ self.old.sent.items ++ sent_of (next_in_line self.old.settings self.old.ready (queue_of self.old)) }
         ensures aged { self.new.aged.items ≡ self.old.aged.items ++ aged_of (next_in_line self.old.settings self.old.ready (queue_of self.old)) }
         ensures state { state_of self.new ≡ after_next self.old.settings self.old.ready (queue_of self.old) }
@@ -140,6 +144,7 @@ impl<A: Allocator + Copy> Line<A> {
         ensures sound { IsSound self.new }
         ensures room { (room : ℕ) → HasRoom room self.old → HasRoom room self.new }
         ensures settings { self.new.settings ≡ self.old.settings }
+        ensures admitted { admitted_by self.new ≡ admitted_by self.old }
         ensures sent { self.new.sent.items ≡ self.old.sent.items ++ sent_of (before to (in_line self.old.settings self.old.ready (queue_of self.old))) }
         ensures aged { self.new.aged.items ≡ self.old.aged.items ++ aged_of (before to (in_line self.old.settings self.old.ready (queue_of self.old))) }
         ensures state { state_of self.new ≡ rest_in_line self.old.settings to self.old.ready (queue_of self.old) }
@@ -158,6 +163,7 @@ impl<A: Allocator + Copy> Line<A> {
         ensures sound { IsSound self.new }
         ensures room { (room : ℕ) → HasRoom room self.old → HasRoom room self.new }
         ensures settings { self.new.settings ≡ self.old.settings }
+        ensures admitted { admitted_by self.new ≡ admitted_by self.old }
         ensures sent { self.new.sent.items ≡ self.old.sent.items ++ sent_of (before (reach self.old.settings at) (in_line self.old.settings self.old.ready (queue_of self.old))) }
         ensures aged { self.new.aged.items ≡ self.old.aged.items ++ aged_of (before (reach self.old.settings at) (in_line self.old.settings self.old.ready (queue_of self.old))) }
         ensures state { state_of self.new ≡ reached (reach self.old.settings at) (rest_in_line self.old.settings (reach self.old.settings at) self.old.ready (queue_of self.old)) }
@@ -175,6 +181,7 @@ impl<A: Allocator + Copy> Line<A> {
         ensures sound { IsSound self.new }
         ensures room { (room : ℕ) → HasRoom room self.old → HasRoom room self.new }
         ensures settings { self.new.settings ≡ self.old.settings }
+        ensures admitted { admitted_by self.new ≡ admitted_by self.old }
         ensures sent { self.new.sent.items ≡ self.old.sent.items ++ sent_of (in_line self.old.settings self.old.ready (queue_of self.old)) }
         ensures aged { self.new.aged.items ≡ self.old.aged.items ++ aged_of (in_line self.old.settings self.old.ready (queue_of self.old)) }
     {

@@ -27,12 +27,11 @@ const LEAST_OFFERS: usize = 16;
 ///
 /// What was carried out so far is, of the service of all items that were admitted, the events that
 /// lie before the instant that the horizon reaches, one latency later; once finished, all of them. Each
-/// call is O(1), and O(1) for each event that it carries out; an item has one event. Only `reserve`
-/// takes memory.
+/// call is O(1), and O(1) for each event that it carries out, where those of one priority pass over the items of the other:
+/// over each at most once. An item has one event. Only `reserve` takes memory.
 #[derive(Drop)]
 pub struct Port<A: Allocator> {
     line: Line<A>,
-    admitted: Vec<Item, A>,
     horizon: Stamp,
     finished: bool,
     room: usize,
@@ -70,7 +69,6 @@ impl<A: Allocator + Copy> Port<A> {
                     latency,
                 },
             ),
-            admitted: Vec::new(alloc),
             horizon: Stamp::ZERO,
             finished: false,
             room: 0,
@@ -92,7 +90,6 @@ impl<A: Allocator + Copy> Port<A> {
         }
         let offers = n.max(LEAST_OFFERS);
         self.line.reserve(offers)?;
-        self.admitted.reserve(offers)?;
         self.room = offers;
         Ok(())
     }
@@ -156,7 +153,6 @@ impl<A: Allocator + Copy> Port<A> {
         ensures room { self.new.room + 1 ≡ self.old.room }
     {
         self.line.queue(*item);
-        self.admitted.push_reserved(*item);
         self.room -= 1;
     }
 
@@ -203,7 +199,7 @@ impl<A: Allocator + Copy> Port<A> {
     pub fn admitted(&self) -> &[Item]
         ensures { result.now ≡ self.now.content.admitted }
     {
-        &self.admitted
+        &self.line.waiting.admitted
     }
 
     /// What was sent so far, in order of its start. O(1).

@@ -16,6 +16,10 @@ IsSmall item = (item.stamp < last_second) × (item.size ≤ greatest_size)
 abbrev pub queue_of : {Z : Type 0} → Line Z → List Item
 queue_of line = line_of line.waiting
 
+-- all items that it admitted
+abbrev pub admitted_by : {Z : Type 0} → Line Z → List Item
+admitted_by line = line.waiting.admitted.items
+
 -- the settings are in their limits, what waits is small and within the buffer, and its next start is an instant that pcap can hold
 pub record IsSound {Z : Type 0} (line : Line Z) : Type 0 where
   pub delay : line.settings.max_delay ≤ 500000000

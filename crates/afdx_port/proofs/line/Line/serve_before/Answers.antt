@@ -1,4 +1,5 @@
 use Rattle.std.proofs.Common.{arith}
+use Rattle.afdx_port.specs.Inner.Queued.{high_of, low_of}
 use Rattle.afdx_port.proofs.Course.{waits_from}
 use Rattle.afdx_port.proofs.line.Line.serve_before.Goals as goal
 
@@ -13,7 +14,7 @@ returns-clause-sound g c =
       queued = e.sound.queued;
       small = e.sound.small;
       bytes = e.sound.bytes;
-      start = λ some. omega (arith, e.sound.start some, waits_from c.reach-to.result c.serve_due.new.self.ready q.high.items q.low.items (omega (arith, some)) e.none_due);
+      start = λ some. omega (arith, e.sound.start some, waits_from c.reach-to.result c.serve_due.new.self.ready (high_of q) (low_of q) (omega (arith, some)) e.none_due);
     }
 
 pub returns-clause-room : goal.returns-clause-room

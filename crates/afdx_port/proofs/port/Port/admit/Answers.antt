@@ -8,7 +8,7 @@ pub queue-requires-clause-room : goal.queue-requires-clause-room
 queue-requires-clause-room g c =
     let some : 0 < c.self.inside.room = omega (arith, ap (λ (v : PortValue). v.room) c.self.view_is, c.requires.room) in
     let has = c.self.invariant.room in
-    record { place = record { high = omega (arith, has.place.high); low = omega (arith, has.place.low) }; sent = omega (arith, has.sent); aged = omega (arith, has.aged) }
+    record { place = record { admitted = omega (arith, has.place.admitted) }; sent = omega (arith, has.sent); aged = omega (arith, has.aged) }
 
 pub queue-requires-clause-start : goal.queue-requires-clause-start
 queue-requires-clause-start g c =
@@ -28,6 +28,4 @@ invariant_of-self g c =
     let at : p.horizon ≡ c.args.item.now.stamp = ap (λ (v : PortValue). v.content.horizon) c.self.view_is ∙ c.requires.at_once in
     let some : 0 < p.room = omega (arith, ap (λ (v : PortValue). v.room) c.self.view_is, c.requires.room) in
     let q = c.queue.ensures in
-    let a = c.push_reserved.ensures in
-    kept_queued p c.queue.new.self c.push_reserved.new.self c.args.item.now (p.room - 1) c.self.invariant open' at (omega (arith, some)) q.sound q.room q.settings q.state q.sent q.aged a.items a.len
-    a.capacity
+    kept_queued p c.queue.new.self c.args.item.now (p.room - 1) c.self.invariant open' at (omega (arith, some)) q.sound q.room q.settings q.state q.sent q.aged q.admitted
