@@ -2,7 +2,9 @@
 use Rattle.std.proofs.Common.{◌≡◌, ℕ, zero, suc, ◌+◌, ◌-◌, ◌<◌, ◌≤◌, nat_le, Bool, true, false, cond, List, [], ◌∷◌, length, length-set, set, get_or, slice_get, Option, Some, None, inl, inr, refl}
 use Rattle.std.proofs.Common.{Vec, drop, option_map, ap, sym, ◌∙◌, arith, subst}
 use Rattle.std.specs.List.{AllByRecursion}
+use Rattle.std.specs.Prelude.{Result, Ok, Err, OnOk, IfErr}
 use Rattle.std.proofs.lemmas.Bool.{cases_Bool, le-leb, lt-leb, both_ways}
+use Rattle.afdx_units.specs.Time.{stamp_end}
 use Rattle.afdx_pcap.specs.Record.{Record}
 use Rattle.afdx_pcap.specs.Reading.{IsWrong}
 use Rattle.afdx_pcap.specs.Capture.{IsCapture}
@@ -11,7 +13,10 @@ use Rattle.afdx_pcap.specs.declared.fault.PcapFault.{PcapFault}
 use Rattle.afdx_table.specs.Content.{Content}
 use Rattle.std.specs.Vec.{with_items}
 use Rattle.std.proofs.lemmas.Option.{same_Some, slice_get_within, slice_get-map, slice_get-get_or}
-use Rattle.afdx_core.specs.State.{State}
+use Rattle.afdx_core.specs.State.{State, after_advance}
+use Rattle.afdx_core.specs.Held.{Keeps}
+use Rattle.afdx_core.specs.declared.step.CoreFault.{CoreFault}
+use Rattle.afdx_core.specs.declared.step.CoreFault.TheVariants as core
 use Rattle.afdx_core.specs.Merge.{Arrival}
 use Rattle.afdx_core.specs.Inner.Merge.{ByStampIsOrdered, MergedIsAMerge, MergedIsByStampAndPort}
 use Rattle.afdx_session.specs.declared.lane.Lane.{Lane}
@@ -27,12 +32,12 @@ use Rattle.afdx_session.specs.Inner.Lanes.{limit_at, with_waiting, head_of, head
 use Rattle.afdx_session.specs.Inner.Lent.{AreSound, IsOver, texts_over, taken_by, left_of, left_in, IsOneFault, IsCarrying, CarriesOn, HandsOn}
 use Rattle.afdx_session.specs.Inner.Kept.{AreOfTable, AreOut, Every, IsGoing, AreTouched, IsGrown, AreGrown, IsOfSameTable}
 use Rattle.afdx_session.specs.Inner.View.{HasGone, IsRound}
-use Rattle.afdx_session.proofs.Given.{lane_at}
+use Rattle.afdx_session.proofs.Given.{lane_at, comes_anywhere}
 use Rattle.afdx_session.proofs.Gone.{grown_length, drained_going}
 use Rattle.afdx_session.proofs.Going.{reads_on}
 use Rattle.afdx_session.proofs.Intakes.{still_of_table, touched_of}
 use Rattle.afdx_session.proofs.Settles.{back_items}
-use Rattle.afdx_session.proofs.Calls.{handed_stays, handed_same, drained_back, touched_table}
+use Rattle.afdx_session.proofs.Calls.{advanced_same, handed_stays, handed_same, drained_back, touched_table}
 use Rattle.afdx_session.proofs.Lending.{draws_over, drawn_adds, ports_stay, taken_stays}
 use Rattle.afdx_count.specs.Tally.{Tally}
 use Rattle.afdx_session.proofs.Closing.{no_fault}
@@ -377,6 +382,60 @@ same_table s = record { table = refl; accepted = refl; handed = refl }
 -- nothing goes out
 pub hands_none : {Z : Type 0} (m : Machine Z) → IsCarrying m → HandsOn m m
 hands_none m carrying = record { carrying = carrying; same = same_table m.switch; texts = refl; taken = refl; left = refl }
+
+-- where nothing is left to be read, all have ended
+pub none_left_to_read : {Z : Type 0} (lanes : List (Lane Z)) → left_in lanes ≡ 0 → AllByRecursion (λ (l : Lane Z). l.ended ≡ true) lanes
+none_left_to_read [] none = tt
+none_left_to_read {Z} (l ∷ lanes) none = (
+  elim (cases_Bool l.ended) [
+    | inl ended ↦ ended
+    | inr still_open ↦
+        let some : left_of l ≡ length l.reader.bytes - l.reader.given + 1 = ap (λ b. cond b 0 (length l.reader.bytes - l.reader.given + 1)) still_open in
+        absurd (omega (arith, none, some))
+  ],
+  none_left_to_read lanes (omega (arith, none)),
+)
+
+pub all_ended_are_read : {Z : Type 0} (lanes : List (Lane Z)) → AllByRecursion (λ (l : Lane Z). l.ended ≡ true) lanes → left_in lanes ≡ 0
+all_ended_are_read [] ended = refl
+all_ended_are_read {Z} (l ∷ lanes) ended =
+    let none : left_of l ≡ 0 = ap (λ b. cond b 0 (length l.reader.bytes - l.reader.given + 1)) ended.0 in
+    let rest = all_ended_are_read lanes ended.1 in
+    omega (arith, none, rest)
+
+-- then the switch may come to any instant
+pub steps_on : {Z : Type 0} → ByStampIsOrdered → (m : Machine Z) (next : State) (to : ℕ) → IsCarrying m → left_in m.lanes.items ≡ 0 → m.switch.run.latest ≤ to → to < stamp_end
+    → next.run ≡ after_advance to m.switch.run → Keeps m.switch next → HandsOn m (record { switch = next; counts = m.counts; lanes = m.lanes })
+steps_on {Z} ordered m next to carrying none onward early run keeps = record {
+  carrying = record {
+    of = subst (λ (c : Content). AreOfTable c m.lanes.items) (sym same.table) carrying.of;
+    handed = handed_stays m.switch next same carrying.handed;
+    going = subst (λ (c : Content). IsGoing c m.lanes.items next m.counts) (sym same.table)
+        (comes_anywhere ordered m.switch.run.table m.lanes.items m.switch next m.counts to carrying.going ended (none_waits m.lanes.items carrying.over ended) onward early run keeps);
+    over = carrying.over;
+  };
+  same = same;
+  texts = refl;
+  taken = refl;
+  left = refl;
+} where
+  same : IsOfSameTable m.switch next
+  same = advanced_same m.switch next to run keeps
+
+  ended : AllByRecursion (λ (l : Lane Z). l.ended ≡ true) m.lanes.items
+  ended = none_left_to_read m.lanes.items none
+
+  none_waits : (ls : List (Lane Z)) → AllByRecursion IsOver ls → AllByRecursion (λ (l : Lane Z). l.ended ≡ true) ls → AllByRecursion (λ (l : Lane Z). l.waiting.items ≡ []) ls
+  none_waits [] over all = tt
+  none_waits (l ∷ ls) over all = ((over.0.read all.0).0, none_waits ls over.1 all.1)
+
+-- or is past it
+pub came_to : {Z : Type 0} → ByStampIsOrdered → (m : Machine Z) (next : State) (to : ℕ) (r : Result (Unit {0}) CoreFault) → IsCarrying m → left_in m.lanes.items ≡ 0 → to < stamp_end
+    → OnOk r ((m.switch.run.latest ≤ to) × (next.run ≡ after_advance to m.switch.run) × Keeps m.switch next) → IfErr r (λ e. (to < m.switch.run.latest) × (e ≡ core.Earlier) × (next ≡ m.switch))
+    → HandsOn m (record { switch = next; counts = m.counts; lanes = m.lanes })
+came_to ordered m next to (Ok x) carrying none early came back = steps_on ordered m next to carrying none came.0 early came.1 came.2
+came_to ordered m next to (Err e) carrying none early came back =
+    subst (λ (s : State). HandsOn m (record { switch = s; counts = m.counts; lanes = m.lanes })) (sym back.2) (hands_none m carrying)
 
 -- what a machine carries depends on the lanes as a list
 pub over_same_lanes : {Z : Type 0} (m : Machine Z) (lanes : Vec (Lane Z) Z) → lanes.items ≡ m.lanes.items → IsCarrying m

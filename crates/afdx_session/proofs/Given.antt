@@ -1,12 +1,12 @@
 -- A record is given to the switch, and the switch comes to the frontier.
 use Rattle.std.proofs.Common.{◌≡◌, ℕ, zero, suc, ◌<◌, ◌≤◌, ◌^◌, List, [], ◌∷◌, ◌++◌, map, length, slice_get, slice_index, drop, Option, Some, None, refl, ap, sym, ◌∙◌, arith, inl, inr, subst}
-use Rattle.std.proofs.Common.{nat_lt, false}
+use Rattle.std.proofs.Common.{nat_lt, true, false, cond}
 use Rattle.std.specs.Prelude.{is_none, ◌⊎◌}
 use Rattle.std.specs.List.{AllByRecursion}
 use Rattle.std.specs.Option.{option_map}
 use Rattle.std.proofs.lemmas.List.{length-append, length-map}
 use Rattle.std.proofs.lemmas.Bool.{le-ltb}
-use Rattle.afdx_units.specs.Time.{last_second}
+use Rattle.afdx_units.specs.Time.{last_second, stamp_end}
 use Rattle.afdx_pcap.specs.Record.{Record}
 use Rattle.afdx_pcap.specs.Text.{capture_text}
 use Rattle.afdx_table.specs.declared.rows.PortRow.{PortRow}
@@ -26,8 +26,8 @@ use Rattle.afdx_count.specs.Run.{counts_so_far}
 use Rattle.afdx_count.specs.Inner.Laws.{NoteCountsOneMore}
 use Rattle.afdx_session.specs.declared.lane.Lane.{Lane}
 use Rattle.afdx_session.specs.Output.{rows_of, written}
-use Rattle.afdx_session.specs.Streams.{Stream, frontier}
-use Rattle.afdx_session.specs.Inner.Settled.{without, IsGiven, HeadFrom, AllRise, IsPast, IsWithin}
+use Rattle.afdx_session.specs.Streams.{Stream, frontier, last_instant}
+use Rattle.afdx_session.specs.Inner.Settled.{first_place, without, IsGiven, HeadFrom, AllRise, IsPast, IsWithin}
 use Rattle.afdx_instants.specs.Instants.{IsFirstUpTo}
 use Rattle.afdx_session.specs.Inner.Lanes.{waiting_of, limit_at, heads_of, with_waiting, IsFirstOf, Goes, NoneGoes}
 use Rattle.afdx_session.specs.Inner.Kept.{AreLanesOf, AreOfTable, come_to, text_up_to, IsOut, IsGoing, HasCome}
@@ -233,31 +233,62 @@ rest_waits {Z = Z} ordered t lanes s counts first going none = by_first first no
       let at = lane_at lanes x.0 is.within in
       by_limit x at.0 (limit_at lanes) refl is (past x.0 x.1 at.0 refl at.1)
 
+-- the switch comes to an instant that is not past the frontier, and no later than all that waits
+pub advances : {Z : Type 0} (t : Content) (lanes : List (Lane Z)) (s next : State) (counts : Tally) (to : ℕ) (going : IsGoing t lanes s counts) → s.run.latest ≤ to
+    → AllFrom to (merged (map waiting_of lanes)) → to ≤ come_to (frontier going.streams) → next.run ≡ after_advance to s.run → Keeps s next
+    → (on : IsGoing t lanes next counts) × (on.streams ≡ going.streams) × (next.run.latest ≡ to)
+advances {Z} t lanes s next counts to going onward later until run keeps = (record {
+  streams = going.streams;
+  given = going.given;
+  since = going.since;
+  lanes_are = going.lanes_are;
+  settling = going.settling;
+  is_given = (comes t going.given to s next going.is_given run keeps).is_given;
+  come = let since = going.come in omega (arith, since, onward, at);
+  later = subst (λ n. AllFrom n (merged (map waiting_of lanes))) (sym at) later;
+  until = omega (arith, at, until);
+  counts_are = going.counts_are;
+  few = going.few;
+  outs = λ place p l in_all is_port is_lane.
+      let out = going.outs place p l tt is_port is_lane in
+      record { count = ap (λ (r : Run). slice_index r.handed place) run ∙ out.count; taken = out.taken; left = out.left };
+}, refl, at) where
+  at : next.run.latest ≡ to
+  at = ap (λ (r : Run). r.latest) run
+
 -- the switch comes to the frontier
 pub comes_on : {Z : Type 0} → ByStampIsOrdered → (t : Content) (lanes : List (Lane Z)) (s next : State) (counts : Tally) (first : Option (ℕ × ℕ)) (to : ℕ) (going : IsGoing t lanes s counts)
     → NoneGoes (limit_at lanes) lanes first
     → to ≡ come_to (option_map (λ (p : ℕ × ℕ). p.0) (limit_at lanes)) → next.run ≡ after_advance to s.run → Keeps s next → HasCome t lanes next counts
-comes_on {Z} ordered t lanes s next counts first to going none to_is run keeps = record {
-  going = record {
-    streams = going.streams;
-    given = going.given;
-    since = going.since;
-    lanes_are = going.lanes_are;
-    settling = going.settling;
-    is_given = (comes t going.given to s next going.is_given run keeps).is_given;
-    come = let since = going.come in let until = going.until in omega (arith, since, until, at);
-    later = subst (λ n. AllFrom n (merged (map waiting_of lanes))) (sym at) (rest_waits ordered t lanes s counts first going none);
-    until = omega (arith, at);
-    counts_are = going.counts_are;
-    few = going.few;
-    outs = λ place p l in_all is_port is_lane.
-        let out = going.outs place p l tt is_port is_lane in
-        record { count = ap (λ (r : Run). slice_index r.handed place) run ∙ out.count; taken = out.taken; left = out.left };
-  };
-  at = at;
-} where
-  at : next.run.latest ≡ come_to (frontier going.streams)
-  at = ap (λ (r : Run). r.latest) run ∙ to_is ∙ ap come_to (frontier_is lanes going.streams going.lanes_are)
+comes_on {Z} ordered t lanes s next counts first to going none to_is run keeps = record { going = on.0; at = on.2 ∙ at ∙ ap (λ streams. come_to (frontier streams)) (sym on.1) } where
+  at : to ≡ come_to (frontier going.streams)
+  at = to_is ∙ ap come_to (frontier_is lanes going.streams going.lanes_are)
+
+  on : (on : IsGoing t lanes next counts) × (on.streams ≡ going.streams) × (next.run.latest ≡ to)
+  on = advances t lanes s next counts to going (let until = going.until in omega (arith, until, at))
+      (subst (λ n. AllFrom n (merged (map waiting_of lanes))) (sym at) (rest_waits ordered t lanes s counts first going none)) (omega (arith, at)) run keeps
+
+-- where all captures have ended and nothing waits, it may come to any instant
+pub comes_anywhere : {Z : Type 0} → ByStampIsOrdered → (t : Content) (lanes : List (Lane Z)) (s next : State) (counts : Tally) (to : ℕ) → IsGoing t lanes s counts
+    → AllByRecursion (λ (l : Lane Z). l.ended ≡ true) lanes → AllByRecursion (λ (l : Lane Z). l.waiting.items ≡ []) lanes
+    → s.run.latest ≤ to → to < stamp_end → next.run ≡ after_advance to s.run → Keeps s next → IsGoing t lanes next counts
+comes_anywhere {Z} ordered t lanes s next counts to going ended none onward early run keeps = (advances t lanes s next counts to going onward later until run keeps).0 where
+  heads : (ls : List (Lane Z)) → AllByRecursion (λ (l : Lane Z). l.waiting.items ≡ []) ls → AllByRecursion (λ (w : Capture). w.records ≡ []) (map waiting_of ls)
+  heads [] all = tt
+  heads (l ∷ ls) all = (all.0, heads ls all.1)
+
+  no_limit : (ls : List (Lane Z)) → AllByRecursion (λ (l : Lane Z). l.ended ≡ true) ls → limit_at ls ≡ None
+  no_limit [] all = refl
+  no_limit (l ∷ ls) all = ap (λ b. cond b (limit_at ls) (Some (first_place (l.last, l.port) (limit_at ls)))) all.0 ∙ no_limit ls all.1
+
+  later : AllFrom to (merged (map waiting_of lanes))
+  later = merged_from ordered to (map waiting_of lanes) (empty_heads to (map waiting_of lanes) (heads lanes none)) (waiting_rise lanes going.streams going.lanes_are going.settling.queued)
+
+  until : to ≤ come_to (frontier going.streams)
+  until =
+      let at : come_to (frontier going.streams) ≡ last_instant = ap come_to (sym (frontier_is lanes going.streams going.lanes_are))
+          ∙ ap (λ o. come_to (option_map (λ (p : ℕ × ℕ). p.0) o)) (no_limit lanes ended) in
+      omega (arith, early, at)
 
 -- that is no going back
 pub no_going_back : {Z : Type 0} (t : Content) (lanes : List (Lane Z)) (s : State) (counts : Tally) (to : ℕ) (going : IsGoing t lanes s counts) → to

@@ -340,6 +340,12 @@ zeros : {Z : Type 0} (lanes : List (Lane Z)) → AllByRecursion (λ (l : Lane Z)
 zeros [] none = tt
 zeros (l ∷ lanes) none = (none.0, zeros lanes none.1)
 
+-- the switch went on, and nothing was put
+pub proceeds_hands : {F Z : Type 0} (contents : F → Option (List ℕ)) (start m next : Machine Z) (files now : List F) → Proceeds contents start files m now → HandsOn m next
+    → Proceeds contents start files next now
+proceeds_hands contents start m next files now was on =
+    proceeds_then contents start m next files now now was (proceeds_out contents m next next now now on (puts_none contents next now on.carrying) refl refl)
+
 -- of lanes that were fresh
 pub all_written : {F Z : Type 0} (contents : F → Option (List ℕ)) (ports : List PortRow) (texts : List Text) (old : List (Lane Z)) (mid new : Machine Z) (files now : List F) → AreFreshLanes ports old
     → taken_by mid.lanes.items ≡ taken_by old → texts_over mid.lanes.items ≡ texts → Proceeds contents mid files new now

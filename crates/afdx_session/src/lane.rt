@@ -296,6 +296,15 @@ pub(crate) fn limit_of<A: Allocator + Copy>(lanes: &[Lane<'_, A>]) -> Option<(St
     limit
 }
 
+/// The greatest stamp that was read. Where a run goes on from there is for speed alone, so no contract speaks of it. O(ports).
+pub(crate) fn latest_of<A: Allocator>(lanes: &[Lane<'_, A>]) -> Stamp {
+    let mut latest = Stamp::ZERO;
+    for lane in lanes {
+        latest = latest.max(lane.last);
+    }
+    latest
+}
+
 /// The stamp of the first record that waits at a lane. O(1).
 pub(crate) fn head_of<A: Allocator>(lane: &Lane<'_, A>) -> Option<Stamp>
     ensures { result ≡ head_of lane.now.waiting.items }

@@ -1,7 +1,7 @@
 //! Records that go from the lanes through the switch, and out again.
 
 ghost use Rattle.std.specs.Prelude.{◌≡◌, ◌<◌, ◌≤◌, ◌^◌, ℕ, Bool, true, false, None, Some, List, [], length, map, vec_capacity, IfOk, IfErr, OnOk, option_map, Option};
-ghost use Rattle.afdx_units.specs.Time.{last_second};
+ghost use Rattle.afdx_units.specs.Time.{last_second, stamp_end};
 ghost use Rattle.afdx_table.specs.WellFormed.{IsWellFormed};
 ghost use Rattle.afdx_load.specs.Accepted.{IsAccepted};
 ghost use Rattle.afdx_session.specs.Outcome.{table_in, is_cleared};
@@ -21,7 +21,9 @@ ghost use Rattle.afdx_session.specs.Reading.{IsReadFault};
 
 use crate::check::check_texts;
 use crate::drain::drain_all;
-use crate::lane::{Lane, head_of, heads_of, lanes_of, limit_of, look_ahead, take_settled};
+use crate::lane::{
+    Lane, head_of, heads_of, lanes_of, latest_of, limit_of, look_ahead, take_settled,
+};
 use crate::plan::{Outcome, Plan, RunFault};
 use crate::rest::Rest;
 use afdx_core::laws::{by_stamp_is_ordered, merged_is_a_merge, merged_is_by_stamp_and_port};
@@ -40,6 +42,13 @@ use std::alloc::{AllocError, Allocator};
 
 /// How many records of captures that come whole go to the switch before what has left goes out.
 const RECORDS_BETWEEN_DRAINS: usize = 256;
+
+/// So many frames are few enough to be at hand for all ports that send them, in a processor's second cache.
+const FRAMES_AT_HAND: usize = 1024;
+
+/// How many nanoseconds the switch goes on at once when no record comes any more: in so many a port of 100 Mbit/s sends less
+/// than a part of an output.
+const STEP: u64 = 1_000_000;
 
 /// What becomes of frames that have left while captures that come whole are carried to the switch.
 #[derive(Clone, Copy)]
@@ -386,6 +395,39 @@ impl<'a, A: Allocator + Copy> Machine<'a, A> {
         self.hand_over(files)
     }
 
+    /// The switch comes to an instant, unless it is past it. Whether it did.
+    fn come_to(&mut self, instant: Stamp) -> bool
+        requires instant { instant < stamp_end }
+        requires carrying { IsCarrying self.old }
+        requires all { left_in self.old.lanes.items ≡ 0 }
+        ensures { HandsOn self.old self.new }
+    {
+        by_stamp_is_ordered();
+        self.switch.advance(instant).is_ok()
+    }
+
+    /// Where all records have gone to the switch and many frames are still held, they go out step by step, so that a frame that
+    /// several ports send is at hand for all of them. Port by port, each would fetch it from memory once more.
+    fn run_out<F: NewFile>(&mut self, files: &mut [F]) -> Result<(), AllocError>
+        requires carrying { IsCarrying self.old }
+        requires all { left_in self.old.lanes.items ≡ 0 }
+        requires files { length files.old ≡ length self.old.lanes.items }
+        ensures ok { OnOk result (Proceeds F.contents self.old files.old self.new files.new × (left_in self.new.lanes.items ≡ 0)) }
+    {
+        let mut instant = latest_of(&self.lanes);
+        while self.switch.held() > FRAMES_AT_HAND {
+            let Some(next) = instant.plus(STEP) else {
+                return Ok(());
+            };
+            if !self.come_to(next) {
+                return Ok(());
+            }
+            instant = next;
+            self.put_out(files)?;
+        }
+        Ok(())
+    }
+
     /// All records go to the switch, by stamp and then by port, and what leaves goes to the files in parts.
     fn carry_into<F: NewFile>(&mut self, files: &mut [F]) -> Result<(), RunFault>
         requires carrying { IsCarrying self.old }
@@ -397,6 +439,7 @@ impl<'a, A: Allocator + Copy> Machine<'a, A> {
         while self.carry_some()? {
             self.put_out(files)?;
         }
+        self.run_out(files)?;
         Ok(())
     }
 
