@@ -28,7 +28,7 @@ pub(crate) fn get<F: Folder>(alloc: Global, folder: &mut F, name: &str) -> Resul
     }
 }
 
-/// The table of a file.
+/// The table of a file. A command reads one and ends, so the tree of its text is leaked.
 pub(crate) fn get_table<F: Folder>(
     alloc: Global,
     folder: &mut F,
@@ -40,7 +40,7 @@ pub(crate) fn get_table<F: Folder>(
     ensures same { KeepsFiles (F.files folder.old) (F.files folder.new) }
 {
     let text = get(alloc, folder, path)?;
-    let table = afdx_table::read(alloc, &text)?;
+    let table = afdx_table::read_leaking(alloc, &text)?;
     Ok(table)
 }
 

@@ -19,4 +19,4 @@ mod values;
 
 pub use fault::{At, Key, TableFault};
 pub use rows::{LinkRow, PortRow};
-pub use table::{Table, read};
+pub use table::{Table, read, read_leaking};

@@ -19,6 +19,7 @@ use crate::rows::{LinkRow, PortRow};
 use crate::top::read_top;
 use std::alloc::{AllocError, Global};
 use std::marker::Model;
+use std::mem;
 use toml::Table as Tree;
 
 /// A configuration table that was read: it is well formed.
@@ -201,4 +202,21 @@ pub fn read(alloc: Global, bytes: &[u8]) -> Result<Table, TableFault>
 {
     let tree = read_text(alloc, bytes)?;
     read_tree(alloc, &tree)
+}
+
+/// [`read`], of which the tree of the text is leaked: for a program that reads a table or two and ends. To give back its many
+/// small pieces, one by one, takes a tenth of the time of reading.
+///
+/// What it answers and what it costs are those of [`read`], but for some ten bytes of memory that stay taken for each byte of
+/// the text.
+#[tactic(auto, unfolding(crate::specs::Text::table_of))]
+pub fn read_leaking(alloc: Global, bytes: &[u8]) -> Result<Table, TableFault>
+    ensures table { Gives (λ t. t) result (table_of bytes.now) }
+    ensures memory { result ≡ Err Memory → SaysSomething bytes.now }
+    ensures well_formed { IfOk result (λ t. IsWellFormed t) }
+{
+    let tree = read_text(alloc, bytes)?;
+    let table = read_tree(alloc, &tree);
+    mem::forget(tree);
+    table
 }
