@@ -7,7 +7,7 @@ ghost use Rattle.afdx_session.specs.Outcome.{table_in, is_cleared};
 ghost use Rattle.afdx_devices.specs.Files.{KeepsFiles};
 ghost use Rattle.afdx_serve.specs.Runs.{inputs_of, IsRunOf, FailsToPlan, FailsToGather};
 
-use crate::get::{get_captures, get_table};
+use crate::get::{Tree, get_captures, get_table};
 use afdx_arguments::{Inputs, Paths};
 use afdx_devices::Folder;
 use afdx_failures::Failure;
@@ -52,7 +52,7 @@ pub(crate) fn gather<F: Folder>(
         (λ f. FailsToGather f inputs.now (F.files folder.old) (F.failed folder.old) (F.failed folder.new)) }
     ensures same { KeepsFiles (F.files folder.old) (F.files folder.new) }
 {
-    let table = get_table(alloc, folder, inputs.table)?;
+    let table = get_table(alloc, folder, inputs.table, Tree::GivenBack)?;
     let plan = plan(table, inputs.unchecked)?;
     let captures = get_captures(alloc, folder, inputs.input, plan.table())?;
     Ok((plan, captures))

@@ -10,6 +10,7 @@ use afdx_devices::{Folder, FolderFault};
 use afdx_failures::Failure;
 use afdx_table::Table;
 use std::alloc::Global;
+use std::mem;
 
 /// The bytes of a file.
 pub(crate) fn get<F: Folder>(alloc: Global, folder: &mut F, name: &str) -> Result<Vec<u8>, Failure>
@@ -28,11 +29,24 @@ pub(crate) fn get<F: Folder>(alloc: Global, folder: &mut F, name: &str) -> Resul
     }
 }
 
-/// The table of a file. A command reads one and ends, so the tree of its text is leaked.
+/// What becomes of the tree of a table's text once the table is read.
+#[derive(Clone, Copy)]
+pub(crate) enum Tree {
+    /// It is given back, so that its memory serves the run that follows.
+    GivenBack,
+    /// It is leaked, where the command takes little memory after it.
+    Leaked,
+}
+
+/// The table of a file.
+///
+/// Its text is leaked. Given back, a block of its size would have the C library take such blocks from its heap from then on,
+/// where a list that grows is copied, and not from the system, which moves its pages.
 pub(crate) fn get_table<F: Folder>(
     alloc: Global,
     folder: &mut F,
     path: &str,
+    tree: Tree,
 ) -> Result<Table, Failure>
     ensures got { MatchResult result
         (λ table. HasTable (F.files folder.old) path.now table × (F.failed folder.new ≡ F.failed folder.old))
@@ -40,8 +54,12 @@ pub(crate) fn get_table<F: Folder>(
     ensures same { KeepsFiles (F.files folder.old) (F.files folder.new) }
 {
     let text = get(alloc, folder, path)?;
-    let table = afdx_table::read_leaking(alloc, &text)?;
-    Ok(table)
+    let read = match tree {
+        Tree::GivenBack => afdx_table::read(alloc, &text),
+        Tree::Leaked => afdx_table::read_leaking(alloc, &text),
+    };
+    mem::forget(text);
+    Ok(read?)
 }
 
 /// The captures of the table's ports in a folder, by rising number.
