@@ -1,14 +1,11 @@
 -- A capture that comes in pieces.
-use Rattle.std.specs.Prelude.{◌≡◌, ◌≢◌, ℕ, ◌+◌, ◌-◌, ◌<◌, ◌≤◌, List, [], ◌∷◌, ◌++◌, length, take, drop, Option, Some, None, Result, Ok, Err, Bool, true, false}
+use Rattle.std.specs.Prelude.{◌≡◌, ◌≢◌, ℕ, ◌+◌, List, [], ◌∷◌, ◌++◌, length, drop, Option, Some, None, Result, Ok, Err, Bool, true, false}
 use Rattle.afdx_pcap.specs.declared.fault.PcapFault.{PcapFault}
 use Rattle.afdx_pcap.specs.declared.fault.PcapFault.TheVariants.{Memory}
 use Rattle.afdx_pcap.specs.declared.format.Format.{Format}
-use Rattle.afdx_pcap.specs.declared.progress.Next.{Next}
-use Rattle.afdx_pcap.specs.declared.progress.Progress.{Progress}
-use Rattle.afdx_pcap.specs.declared.reading.Found.{Found}
-use Rattle.afdx_pcap.specs.Record.{Record, captured_limit}
+use Rattle.afdx_pcap.specs.Record.{Record}
 use Rattle.afdx_pcap.specs.Capture.{header_of, Splits, Holds, IsCapture}
-use Rattle.afdx_pcap.specs.Fault.{record_fault, last_stamp, IsFault, IsEarlyFault}
+use Rattle.afdx_pcap.specs.Fault.{IsFault, IsEarlyFault}
 
 -- the bytes are a header of this format, these whole records, and a rest that was not read yet
 abbrev pub AreReadUpTo : Format → List ℕ → List Record → List ℕ → Type 0
@@ -78,41 +75,6 @@ abbrev pub Answers : List ℕ → ℕ → Bool → Result (Option Record) PcapFa
 Answers bytes n closed (Ok (Some r)) = IsNext bytes n r
 Answers bytes n closed (Ok None) = NoNext bytes n × IsSound bytes n closed
 Answers bytes n closed (Err fault) = fault ≢ Memory → NoNext bytes n × IsWrong bytes closed fault
-
--- ---- how far a reader has come in its bytes
-
-pub record At (bytes : List ℕ) (n : ℕ) (p : Progress) : Type 0 where
-  pub given : List Record
-  pub header : header_of bytes ≡ Ok p.format
-  pub records : Splits p.format 0 (drop 24 bytes) given (drop p.place bytes)
-  pub count : length given ≡ n
-  pub latest : p.last ≡ last_stamp 0 given
-  pub within : p.place ≤ length bytes
-  -- each record takes some of the bytes
-  pub fewer : n < p.place
-
--- it has read nothing yet, or the header and n records
-abbrev pub IsAtPlace : List ℕ → ℕ → Option Progress → Type 0
-IsAtPlace bytes n None = n ≡ 0
-IsAtPlace bytes n (Some p) = At bytes n p
-
--- what is wrong with the rest, as the next record
-abbrev pub RestFault : List ℕ → Progress → ℕ → PcapFault → Type 0
-RestFault bytes p n fault = record_fault p.format p.last (n + 1) (drop p.place bytes) ≡ Some fault
-
--- the record at the start of these bytes, by its numbers
-abbrev pub found_in : List ℕ → Found → Record
-found_in bytes x = record { stamp = x.stamp; original = x.original; bytes = take x.length (drop 16 bytes) }
-
--- the next record of these bytes, by its numbers
-abbrev pub next_in : List ℕ → Next → Record
-next_in bytes x = record { stamp = x.progress.last; original = x.original; bytes = take (x.progress.place - x.start) (drop x.start bytes) }
-
--- its bytes are there, and not too many for a record
-pub record IsPart (bytes : List ℕ) (x : Next) : Type 0 where
-  pub order : x.start ≤ x.progress.place
-  pub within : x.progress.place ≤ length bytes
-  pub limit : x.progress.place - x.start ≤ captured_limit
 
 -- the answer where there is no next record: the fault, or none
 abbrev pub answer_without : Option PcapFault → Result (Option Record) PcapFault

@@ -47,4 +47,21 @@ impl<'a, A: Allocator> Bytes<'a, A> {
             Bytes::Lent(_) => unreachable!(),
         }
     }
+
+    /// Lets go of the first `count` of bytes that are owned, and keeps their memory for others. O(the rest).
+    pub fn forget(&mut self, count: usize)
+        requires owned { is_lent self.old ≡ false }
+        requires within { count ≤ length (plain_bytes self.old) }
+        ensures bytes { plain_bytes self.new ≡ drop count (plain_bytes self.old) }
+        ensures lent { is_lent self.new ≡ false }
+    {
+        match self {
+            Bytes::Owned(bytes) => {
+                let rest = bytes.len() - count;
+                bytes.copy_within(count.., 0);
+                bytes.truncate(rest);
+            }
+            Bytes::Lent(_) => unreachable!(),
+        }
+    }
 }

@@ -9,6 +9,7 @@
 mod bytes;
 mod fault;
 mod format;
+mod gone;
 pub mod laws;
 mod progress;
 mod reader;

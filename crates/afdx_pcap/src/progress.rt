@@ -1,11 +1,11 @@
 //! How far a capture was read, and the step to its next record.
 
-ghost use Rattle.std.specs.Prelude.{◌≡◌, ◌≢◌, ◌+◌, false, Err, Some, None, IfOk, IfErr, IfSome, IfNone, not, ◌||◌, if◌then◌else◌};
+ghost use Rattle.std.specs.Prelude.{◌≡◌, ◌≢◌, ◌+◌, ◌≤◌, length, drop, false, IfOk, IfErr, IfSome, IfNone};
 ghost use Rattle.afdx_pcap.specs.declared.fault.PcapFault.TheVariants.{Memory};
 ghost use Rattle.afdx_pcap.specs.Bytes.{plain_bytes, is_lent};
 ghost use Rattle.afdx_pcap.specs.Capture.{header_of};
-ghost use Rattle.afdx_pcap.specs.Fault.{is_cut};
-ghost use Rattle.afdx_pcap.specs.Reading.{Answers, At, IsNext, NoNext, IsPart, IsAtPlace, answer_without, next_in};
+ghost use Rattle.afdx_pcap.specs.Fault.{record_fault};
+ghost use Rattle.afdx_pcap.specs.Inner.Place.{BeginsAt, Comes, IsPart, IsPlaced, IsRestAnswer, NoneComes, first_place, lasting, next_in, place_of};
 
 use crate::bytes::Bytes;
 use crate::fault::PcapFault;
@@ -26,8 +26,8 @@ pub struct Progress {
 impl Progress {
     /// After the header of these bytes, before any record.
     fn after_header(bytes: &[u8]) -> Result<Progress, PcapFault>
-        ensures at { IfOk result (λ p. At bytes.now 0 p) }
-        ensures fault { IfErr result (λ fault. header_of bytes.now ≡ Err fault) }
+        ensures place { result ≡ first_place (header_of bytes.now) }
+        ensures within { IfOk result (λ p. p.place ≤ length bytes.now) }
         ensures no_memory { IfErr result (λ fault. fault ≢ Memory) }
     {
         let format = read_header(bytes)?;
@@ -40,11 +40,9 @@ impl Progress {
 
     /// The record at the start of the rest, and how far it leads.
     fn read_on(self, bytes: &[u8], given: usize) -> Option<Next>
-        requires { At bytes.now given self }
-        ensures next { IfSome result (λ x. IsNext bytes.now given (next_in bytes.now x)) }
-        ensures at { IfSome result (λ x. At bytes.now (given + 1) x.progress) }
-        ensures part { IfSome result (IsPart bytes.now) }
-        ensures none { IfNone result (NoNext bytes.now given) }
+        requires { IsPlaced bytes.now given (Some self) }
+        ensures begins { IfSome result (BeginsAt bytes.now self) }
+        ensures none { IfNone result (record_fault self.format self.last (given + 1) (drop self.place bytes.now) ≢ None) }
     {
         let rest = &bytes[self.place..];
         let found = find_record(self.format, self.last, given + 1, rest)?;
@@ -89,9 +87,9 @@ impl Next {
 
 /// How far the bytes were read; after their header, where they were not read so far.
 fn place_in(bytes: &[u8], given: usize, progress: Option<Progress>) -> Result<Progress, PcapFault>
-    requires { IsAtPlace bytes.now given progress }
-    ensures at { IfOk result (λ p. At bytes.now given p) }
-    ensures fault { IfErr result (λ fault. header_of bytes.now ≡ Err fault) }
+    requires { IsPlaced bytes.now given progress }
+    ensures place { result ≡ place_of bytes.now progress }
+    ensures placed { IfOk result (λ p. IsPlaced bytes.now given (Some p)) }
     ensures no_memory { IfErr result (λ fault. fault ≢ Memory) }
 {
     match progress {
@@ -104,11 +102,9 @@ fn place_in(bytes: &[u8], given: usize, progress: Option<Progress>) -> Result<Pr
 ///
 /// Only the 24 bytes of the header and the 16 of a record's header are looked at again by a later call.
 pub fn next_record(bytes: &[u8], given: usize, progress: Option<Progress>) -> Option<Next>
-    requires { IsAtPlace bytes.now given progress }
-    ensures next { IfSome result (λ x. IsNext bytes.now given (next_in bytes.now x)) }
-    ensures at { IfSome result (λ x. At bytes.now (given + 1) x.progress) }
-    ensures part { IfSome result (IsPart bytes.now) }
-    ensures none { IfNone result (NoNext bytes.now given) }
+    requires { IsPlaced bytes.now given progress }
+    ensures comes { IfSome result (Comes bytes.now progress) }
+    ensures none { IfNone result (NoneComes bytes.now given progress) }
 {
     match place_in(bytes, given, progress) {
         Ok(progress) => progress.read_on(bytes, given),
@@ -118,7 +114,7 @@ pub fn next_record(bytes: &[u8], given: usize, progress: Option<Progress>) -> Op
 
 /// A fault, unless bytes that may still come can mend it.
 fn unless_it_waits(closed: bool, fault: PcapFault) -> Option<PcapFault>
-    ensures { result ≡ (if closed || not (is_cut fault) then Some fault else None) }
+    ensures { result ≡ lasting closed fault }
 {
     if closed || !fault.is_cut() {
         Some(fault)
@@ -134,9 +130,9 @@ pub fn fault_after(
     closed: bool,
     progress: Option<Progress>,
 ) -> Option<PcapFault>
-    requires at { IsAtPlace bytes.now given progress }
-    requires none { NoNext bytes.now given }
-    ensures answer { Answers bytes.now given closed (answer_without result) }
+    requires placed { IsPlaced bytes.now given progress }
+    requires none { NoneComes bytes.now given progress }
+    ensures answer { IsRestAnswer bytes.now given closed (place_of bytes.now progress) result }
     ensures no_memory { IfSome result (λ fault. fault ≢ Memory) }
 {
     let progress = match place_in(bytes, given, progress) {

@@ -6,6 +6,7 @@ ghost use Rattle.afdx_pcap.specs.Reading.{Answers, HasNext, NoNext, answer_witho
 
 use crate::bytes::Bytes;
 use crate::fault::PcapFault;
+use crate::gone::Gone;
 use crate::progress::{Progress, fault_after, next_record};
 use crate::record::Record;
 use std::alloc::Allocator;
@@ -17,40 +18,45 @@ const CACHE_LINE: usize = 64;
 /// Reads the records of a capture: of one that comes in pieces, each as soon as its last byte is there; or of
 /// a whole one, which stays where it is.
 ///
-/// A reader keeps all bytes that it was fed, and its records have copies of theirs. However they were cut, feeding
-/// them and taking the records is O(bytes). One over a whole capture copies nothing: its records are lent.
+/// A reader that is fed lets go of what it has read: after each piece it keeps this and at most twice the bytes before it that
+/// were not read. Its records have copies of theirs. However the bytes were cut, feeding them and taking the records is
+/// O(bytes). A reader over a whole capture copies nothing: its records are lent.
 #[derive(Drop)]
 pub struct Reader<'a, A: Allocator> {
     alloc: A,
-    bytes: Bytes<'a, A>,
+    /// What was read and let go: contracts see it before what is kept.
+    gone: Gone,
+    kept: Bytes<'a, A>,
     given: usize,
     progress: Option<Progress>,
     closed: bool,
     fault: Option<PcapFault>,
-    /// Before this place the bytes were looked at.
+    /// Before this place the bytes that are kept were looked at.
     looked: usize,
     /// What was seen there, kept so that no compiler leaves the look out.
     glance: u8,
 }
 
 impl<'a, A: Allocator> Model for Reader<'a, A> {
-    ghost use Rattle.std.specs.Prelude.{◌≡◌, true};
+    ghost use Rattle.std.specs.Prelude.{◌≡◌, ◌++◌, true};
     ghost use Rattle.afdx_pcap.specs.Bytes.{plain_bytes, is_lent};
-    ghost use Rattle.afdx_pcap.specs.Reading.{Reading, IsAtPlace};
+    ghost use Rattle.afdx_pcap.specs.Inner.Place.{IsAtPlace, IsPlaced};
+    ghost use Rattle.afdx_pcap.specs.Reading.{Reading};
 
     ghost Value = { Reading };
 
     ghost view = { λ r. record {
-      bytes = plain_bytes r.bytes;
+      bytes = r.gone.bytes ++ plain_bytes r.kept;
       given = r.given;
       closed = r.closed;
       fault = r.fault;
-      lent = is_lent r.bytes;
+      lent = is_lent r.kept;
     } };
 
     // What is lent is whole, so that nothing is fed behind it.
-    ghost invariant = { λ r. IsAtPlace (plain_bytes r.bytes) r.given r.progress
-        × (is_lent r.bytes ≡ true → r.closed ≡ true) };
+    ghost invariant = { λ r. IsAtPlace r.gone.bytes (plain_bytes r.kept) r.given r.progress
+        × IsPlaced (plain_bytes r.kept) r.given r.progress
+        × (is_lent r.kept ≡ true → r.closed ≡ true) };
 }
 
 impl<'a, A: Allocator + Copy> Reader<'a, A> {
@@ -60,7 +66,8 @@ impl<'a, A: Allocator + Copy> Reader<'a, A> {
     {
         Reader {
             alloc,
-            bytes: Bytes::Owned(Vec::new(alloc)),
+            gone: Gone::new(),
+            kept: Bytes::Owned(Vec::new(alloc)),
             given: 0,
             progress: None,
             closed: false,
@@ -76,7 +83,8 @@ impl<'a, A: Allocator + Copy> Reader<'a, A> {
     {
         Reader {
             alloc,
-            bytes: Bytes::Lent(bytes),
+            gone: Gone::new(),
+            kept: Bytes::Lent(bytes),
             given: 0,
             progress: None,
             closed: true,
@@ -93,7 +101,7 @@ impl<'a, A: Allocator + Copy> Reader<'a, A> {
     /// # Errors
     ///
     /// The fault that this or `next` answered before, and for good; else `Memory` alone, and the piece is
-    /// not kept.
+    /// not kept: memory for it was refused, or with it there might be more records than a `usize` counts.
     ///
     /// Amortized O(piece).
     pub fn feed(&mut self, piece: &[u8]) -> Result<(), PcapFault>
@@ -108,11 +116,37 @@ impl<'a, A: Allocator + Copy> Reader<'a, A> {
         if let Some(fault) = self.fault {
             return Err(fault);
         }
-        if self.bytes.extend(piece).is_err() {
+        self.forget();
+        let kept = self.kept.as_slice().len();
+        // Each record takes some of the bytes, so that there are no more than these; faults count one more.
+        let most = self.given.saturating_add(kept).saturating_add(piece.len());
+        if most == usize::MAX || self.kept.extend(piece).is_err() {
             self.fault = Some(PcapFault::Memory);
             return Err(PcapFault::Memory);
         }
         Ok(())
+    }
+
+    /// Lets go of what was read, where that is no less than what was not, so that no more bytes are moved than were read.
+    /// O(what was not read).
+    fn forget(&mut self)
+        requires { self.old.closed ≡ false }
+        ensures { self.new ≡ self.old }
+    {
+        let Some(progress) = self.progress else {
+            return;
+        };
+        let (read, rest) = self.kept.as_slice().split_at(progress.place);
+        if read.len() < rest.len() {
+            return;
+        }
+        self.gone = self.gone.and(read);
+        self.kept.forget(progress.place);
+        self.progress = Some(Progress {
+            place: 0,
+            ..progress
+        });
+        self.looked = self.looked.saturating_sub(progress.place);
     }
 
     /// The next whole record; none where the bytes so far hold neither one nor a fault.
@@ -145,10 +179,10 @@ impl<'a, A: Allocator + Copy> Reader<'a, A> {
             return Err(fault);
         }
         let (alloc, given, progress) = (self.alloc, self.given, self.progress);
-        match next_record(self.bytes.as_slice(), given, progress) {
+        match next_record(self.kept.as_slice(), given, progress) {
             Some(next) => {
                 let onward = next.progress;
-                let Ok(record) = next.record(alloc, &self.bytes) else {
+                let Ok(record) = next.record(alloc, &self.kept) else {
                     self.fault = Some(PcapFault::Memory);
                     return Err(PcapFault::Memory);
                 };
@@ -177,7 +211,7 @@ impl<'a, A: Allocator + Copy> Reader<'a, A> {
         ensures no_memory { IfSome self.new.fault (λ fault. fault ≢ Memory) }
     {
         let (given, closed, progress) = (self.given, self.closed, self.progress);
-        self.fault = fault_after(self.bytes.as_slice(), given, closed, progress);
+        self.fault = fault_after(self.kept.as_slice(), given, closed, progress);
     }
 
     /// Looks at the next `count` bytes, as far as they are there and were not looked at before, so that the processor has
@@ -189,7 +223,7 @@ impl<'a, A: Allocator + Copy> Reader<'a, A> {
         ensures { self.new ≡ self.old }
     {
         let place = self.progress.map_or(0, |progress| progress.place);
-        let bytes = self.bytes.as_slice();
+        let bytes = self.kept.as_slice();
         let end = bytes.len().min(place.saturating_add(count));
         let start = self.looked.max(place).min(end);
         for byte in bytes[start..end].iter().step_by(CACHE_LINE) {

@@ -5,7 +5,7 @@ ghost use Rattle.std.specs.Option.{option_or};
 ghost use Rattle.afdx_pcap.specs.declared.fault.PcapFault.TheVariants.{Memory};
 ghost use Rattle.afdx_pcap.specs.Capture.{header_of, parts_of_second, stamp_of, Begins, after};
 ghost use Rattle.afdx_pcap.specs.Fault.{head_fault, data_fault, record_fault};
-ghost use Rattle.afdx_pcap.specs.Reading.{found_in};
+ghost use Rattle.afdx_pcap.specs.Inner.Place.{found_in};
 
 use crate::fault::PcapFault;
 use crate::format::{Endian, Format, HEAD_LENGTH, HEADER_LENGTH, Head, Resolution};
