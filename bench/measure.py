@@ -1,10 +1,11 @@
 #!/usr/bin/env python3
-"""Times the built programs beside `cat` of the same files in the same run, and prints the ratios of the median times.
+"""Times the built programs beside `cat`, `mergecap` and `tcpdump -r -w` of the same files in the same run, and prints the ratios
+of the median times.
 
 usage: bench/measure.py [RUNS]        5 runs where none is said
 
-The programs are built by `./test`, or by `rt run` in crates/recapture and crates/afdx. Needs 2 GB under /tmp, and
-mergecap (Debian's wireshark-common).
+The programs are built by `./test`, or by `rt run` in crates/recapture and crates/afdx. Needs 3 GB under /tmp, and
+mergecap and tcpdump (Debian's wireshark-common and tcpdump).
 """
 import glob
 import os
@@ -20,6 +21,9 @@ RECAPTURE = f"{TOP}/crates/recapture/out/recapture"
 AFDX = f"{TOP}/crates/afdx/out/afdx"
 HEADER = bytes.fromhex("4d3cb2a1 02000400 00000000 00000000 00000400 01000000")
 ADDRESSES = bytes.fromhex("03000000000a 020000000001 0800")
+
+# Started by root, tcpdump would write as a user that may not write here.
+TCPDUMP = ["tcpdump", "--relinquish-privileges=root"] if os.geteuid() == 0 else ["tcpdump"]
 
 
 def write_capture(path, count, size, gap):
@@ -58,10 +62,15 @@ def medians(commands, source, target, runs):
 def compare(what, arguments, room, runs, count, size, gap):
     source, target = f"{room}/source", f"{room}/target"
     write_capture(source, count, size, gap)
-    took, memory = medians({"cat": (["cat"], 0), "program": (arguments, 0)}, source, target, runs)
+    took, memory = medians({
+        "cat": (["cat"], 0),
+        "tcpdump": ([*TCPDUMP, "-r", source, "-w", f"{room}/dumped"], 0),
+        "program": (arguments, 0),
+    }, source, target, runs)
     megabytes = os.path.getsize(source) / 1e6
     print(f"{what}: {count} frames of {size} bytes, {megabytes:.0f} MB: cat {took['cat']:.3f} s, "
-          f"program {took['program']:.3f} s in {memory:.0f} MB, ratio {took['program'] / took['cat']:.1f}")
+          f"tcpdump {took['tcpdump']:.3f} s, program {took['program']:.3f} s in {memory:.0f} MB, "
+          f"ratio to cat {took['program'] / took['cat']:.1f}, to tcpdump {took['program'] / took['tcpdump']:.1f}")
 
 
 def make_network(room, count):
