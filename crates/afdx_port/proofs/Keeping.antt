@@ -1,9 +1,7 @@
 -- What a port keeps is kept by each of its calls.
-use Rattle.std.proofs.Common.{◌≡◌, ℕ, ◌+◌, ◌<◌, ◌≤◌, true, false, [], ◌∷◌, ◌++◌, refl, ap, sym, ◌∙◌, arith, vec_len, subst}
+use Rattle.std.proofs.Common.{◌≡◌, ℕ, ◌+◌, ◌<◌, ◌≤◌, true, false, [], ◌∷◌, ◌++◌, refl, ap, sym, ◌∙◌, arith, subst}
 use Rattle.std.specs.Prelude.{nat_le, max, sum_by}
-use Rattle.std.specs.Vec.{vec_capacity}
 use Rattle.std.proofs.lemmas.List.Elements.{All-nil, All-push, All-weaker}
-use Rattle.std.specs.declared.vec.Vec.{Vec}
 use Rattle.afdx_units.specs.Time.{stamp_end}
 use Rattle.afdx_port.specs.declared.Settings.{Settings}
 use Rattle.afdx_port.specs.declared.Item.{Item}

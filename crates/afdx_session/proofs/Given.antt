@@ -237,22 +237,26 @@ rest_waits {Z = Z} ordered t lanes s counts first going none = by_first first no
 pub advances : {Z : Type 0} (t : Content) (lanes : List (Lane Z)) (s next : State) (counts : Tally) (to : ℕ) (going : IsGoing t lanes s counts) → s.run.latest ≤ to
     → AllFrom to (merged (map waiting_of lanes)) → to ≤ come_to (frontier going.streams) → next.run ≡ after_advance to s.run → Keeps s next
     → (on : IsGoing t lanes next counts) × (on.streams ≡ going.streams) × (next.run.latest ≡ to)
-advances {Z} t lanes s next counts to going onward later until run keeps = (record {
-  streams = going.streams;
-  given = going.given;
-  since = going.since;
-  lanes_are = going.lanes_are;
-  settling = going.settling;
-  is_given = (comes t going.given to s next going.is_given run keeps).is_given;
-  come = let since = going.come in omega (arith, since, onward, at);
-  later = subst (λ n. AllFrom n (merged (map waiting_of lanes))) (sym at) later;
-  until = omega (arith, at, until);
-  counts_are = going.counts_are;
-  few = going.few;
-  outs = λ place p l in_all is_port is_lane.
-      let out = going.outs place p l tt is_port is_lane in
-      record { count = ap (λ (r : Run). slice_index r.handed place) run ∙ out.count; taken = out.taken; left = out.left };
-}, refl, at) where
+advances {Z} t lanes s next counts to going onward later until run keeps = (
+  record {
+    streams = going.streams;
+    given = going.given;
+    since = going.since;
+    lanes_are = going.lanes_are;
+    settling = going.settling;
+    is_given = (comes t going.given to s next going.is_given run keeps).is_given;
+    come = let since = going.come in omega (arith, since, onward, at);
+    later = subst (λ n. AllFrom n (merged (map waiting_of lanes))) (sym at) later;
+    until = omega (arith, at, until);
+    counts_are = going.counts_are;
+    few = going.few;
+    outs = λ place p l in_all is_port is_lane.
+        let out = going.outs place p l tt is_port is_lane in
+        record { count = ap (λ (r : Run). slice_index r.handed place) run ∙ out.count; taken = out.taken; left = out.left };
+  },
+  refl,
+  at,
+) where
   at : next.run.latest ≡ to
   at = ap (λ (r : Run). r.latest) run
 
@@ -287,7 +291,7 @@ comes_anywhere {Z} ordered t lanes s next counts to going ended none onward earl
   until : to ≤ come_to (frontier going.streams)
   until =
       let at : come_to (frontier going.streams) ≡ last_instant = ap come_to (sym (frontier_is lanes going.streams going.lanes_are))
-          ∙ ap (λ o. come_to (option_map (λ (p : ℕ × ℕ). p.0) o)) (no_limit lanes ended) in
+      ∙ ap (λ o. come_to (option_map (λ (p : ℕ × ℕ). p.0) o)) (no_limit lanes ended) in
       omega (arith, early, at)
 
 -- that is no going back

@@ -1,5 +1,4 @@
-use Rattle.std.proofs.Common.{◌≡◌, ◌-◌, ap, sym, ◌∙◌, length, arith, drop}
-use Rattle.std.specs.Prelude.{filter}
+use Rattle.std.proofs.Common.{ap, sym, ◌∙◌, length, arith}
 use Rattle.afdx_port.specs.Inner.Queued.{of_priority}
 use Rattle.afdx_port.proofs.Waiting.{none_behind, first_behind}
 use Rattle.afdx_port.proofs.queues.take_first.Goals as goal

@@ -1,4 +1,3 @@
-use Rattle.std.proofs.Common.{arith}
 use Rattle.afdx_port.proofs.Keeping.{kept_fresh}
 use Rattle.afdx_port.proofs.port.Port.new.Goals as goal
 

@@ -1,4 +1,4 @@
-use Rattle.std.proofs.Common.{◌≡◌, ℕ, ◌+◌, arith}
+use Rattle.std.proofs.Common.{arith}
 use Rattle.afdx_units.specs.declared.line.Priority.TheVariants.{High, Low}
 use Rattle.afdx_port.specs.Inner.Queued.{of_priority}
 use Rattle.afdx_port.proofs.Waiting.{few_behind}

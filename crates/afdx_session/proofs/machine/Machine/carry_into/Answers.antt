@@ -24,8 +24,7 @@ returns-clause-ok g c =
     let start = c.args.self.now in
     let mid = c.carry_some.new.self in
     let on = rw c.if-branch.false at c.in_ok-carry_some.ensures.ok in
-    let out = c.in_ok-run_out.ensures.ok in
-    (
+    let out = c.in_ok-run_out.ensures.ok in (
       proceeds_then contents start mid c.run_out.new.self c.args.files.now c.loop-self.files c.run_out.new.files
           (proceeds_on contents start c.loop-self.self mid c.args.files.now c.loop-self.files false c.loop-self.invariant c.carry_some.ensures.same on) out.0,
       none_left_to_read c.run_out.new.self.lanes.items out.1,
