@@ -407,7 +407,8 @@ impl<'a, A: Allocator + Copy> Machine<'a, A> {
     }
 
     /// Where all records have gone to the switch and many frames are still held, they go out step by step, so that a frame that
-    /// several ports send is at hand for all of them. Port by port, each would fetch it from memory once more.
+    /// several ports send is at hand for all of them. Port by port, each would fetch it from memory once more. There are some
+    /// 500 steps at most, since nothing waits for longer than half a second. O(ports) for each, and O(bytes) of what goes out.
     fn run_out<F: NewFile>(&mut self, files: &mut [F]) -> Result<(), AllocError>
         requires carrying { IsCarrying self.old }
         requires all { left_in self.old.lanes.items ≡ 0 }

@@ -207,7 +207,7 @@ pub fn read(alloc: Global, bytes: &[u8]) -> Result<Table, TableFault>
 /// [`read`], of which the tree of the text is leaked: for a program that reads a table or two and ends. To give back its many
 /// small pieces, one by one, takes a tenth of the time of reading.
 ///
-/// What it answers and what it costs are those of [`read`], but for some ten bytes of memory that stay taken for each byte of
+/// What it answers and what it costs are those of [`read`], but for some 25 bytes of memory that stay taken for each byte of
 /// the text.
 #[tactic(auto, unfolding(crate::specs::Text::table_of))]
 pub fn read_leaking(alloc: Global, bytes: &[u8]) -> Result<Table, TableFault>
