@@ -3,7 +3,7 @@ use Rattle.std.proofs.Common.{◌≡◌, ℕ, zero, suc, ◌<◌, ◌^◌, true,
 use Rattle.std.specs.declared.vec.Vec.{Vec}
 use Rattle.std.specs.Vec.{with_items}
 use Rattle.std.specs.Prelude.{is_some}
-use Rattle.std.proofs.lemmas.List.{append-nil, length-set}
+use Rattle.std.proofs.lemmas.List.{append-nil, length-set, map-set}
 use Rattle.std.proofs.lemmas.Option.{slice_get_within, same_Some, slice_get-get_or}
 use Rattle.afdx_pcap.specs.Record.{Record}
 use Rattle.afdx_table.specs.Content.{Content}
@@ -21,7 +21,7 @@ use Rattle.afdx_session.specs.declared.lane.Lane.{Lane}
 use Rattle.afdx_session.specs.declared.machine.Machine.{Machine}
 use Rattle.afdx_session.specs.Inner.Settled.{first_place, IsWithin}
 use Rattle.afdx_instants.specs.Instants.{IsFirstIn}
-use Rattle.afdx_session.specs.Inner.Lanes.{waiting_of, limit_at, heads_of, with_waiting, IsLimit, Goes, GoesAt, NoneGoes}
+use Rattle.afdx_session.specs.Inner.Lanes.{waiting_of, limit_at, head_of, heads_of, with_waiting, IsLimit, Goes, GoesAt, NoneGoes}
 use Rattle.afdx_session.specs.Inner.Kept.{AreOfTable, IsGoing, AreTouched, IsOfSameTable}
 use Rattle.afdx_session.specs.Inner.View.{HasGone, IsRound}
 use Rattle.afdx_session.proofs.Settles.{back_items}
@@ -142,6 +142,28 @@ goes_from {Z = Z} limit v start new place frame l d is goes read =
     ∙ set_there limit v.items (with_items v new).items place frame here) in
     let port : here.port ≡ l.port = here.goes.port_is ∙ ap (λ (x : Lane Z). x.port) (sym own) in
     subst (λ n. GoesFrom limit v.items (with_items v new).items place n frame) port (record { within = lt; goes = here.goes; here = here.here })
+
+-- another record waits there then, or none
+pub heads_gone : {Z : Type 0} (limit : Option (ℕ × ℕ)) (heads : List (Option ℕ)) (old new : List (Lane Z)) (place port : ℕ) (frame : Record) (l d : Lane Z) (head : Option ℕ) → heads ≡ heads_of old
+    → GoesFrom limit old new place port frame → l ≡ get_or new place d → head ≡ head_of l.waiting.items → set heads place head ≡ heads_of new
+heads_gone {Z = Z} limit heads old new place port frame l d head are from read is =
+    ap (λ hs. set hs place head) are
+    ∙ ap (set (heads_of old) place) (is ∙ ap (λ (x : Lane Z). head_of x.waiting.items) own)
+    ∙ sym (map-set (λ (x : Lane Z). head_of x.waiting.items) old place w)
+    ∙ ap (λ k. heads_of (set old k w)) (sym from.here)
+    ∙ ap (λ (ls : List (Lane Z)). heads_of ls) (sym from.goes.lanes)
+  where
+    w : Lane Z
+    w = with_waiting from.goes.rest from.goes.lane
+
+    there : slice_get new place ≡ Some w
+    there =
+        ap (λ k. slice_get new k) (sym from.here)
+        ∙ ap (λ (ls : List (Lane Z)). slice_get ls from.goes.place) from.goes.lanes
+        ∙ set_here old from.goes.place from.goes.lane w from.goes.at
+
+    own : l ≡ w
+    own = same_Some l w (ap Some read ∙ sym (slice_get-get_or new place d from.within) ∙ there)
 
 pub none_here : {Z : Type 0} (v : Vec (Lane Z) Z) (start new : List (Lane Z)) → start ≡ v.items → new ≡ start → (with_items v new).items ≡ v.items
 none_here {Z = Z} v start new is same = back_items v new (ap (λ (ls : List (Lane Z)). length ls) (same ∙ is)) ∙ same ∙ is

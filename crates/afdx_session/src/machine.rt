@@ -154,12 +154,17 @@ impl<'a, A: Allocator + Copy> Machine<'a, A> {
         Ok(())
     }
 
-    /// The first of all records that wait goes to the switch where it lies within the limit. The place of its lane.
-    /// O(ports).
-    fn give_next(&mut self, limit: Option<(Stamp, u8)>) -> Result<Option<usize>, AllocError>
+    /// The first of all records that wait goes to the switch where it lies within the limit. The place of its lane. O(1).
+    fn give_next(
+        &mut self,
+        heads: &mut Instants,
+        limit: Option<(Stamp, u8)>,
+    ) -> Result<Option<usize>, AllocError>
         requires of { AreOfTable self.old.switch.run.table self.old.lanes.items }
         requires going { IsGoing self.old.switch.run.table self.old.lanes.items self.old.switch self.old.counts }
         requires limit { IsLimit limit self.old.lanes.items }
+        requires heads { heads.old ≡ heads_of self.old.lanes.items }
+        ensures heads { OnOk result (heads.new ≡ heads_of self.new.lanes.items) }
         ensures touched { AreTouched self.old.lanes.items self.new.lanes.items }
         ensures same { IsOfSameTable self.old.switch self.new.switch }
         ensures ok { IfOk result (λ went. IsRound went self.old self.new) }
@@ -168,12 +173,14 @@ impl<'a, A: Allocator + Copy> Machine<'a, A> {
         arrivals_change_nothing_earlier();
         stamps_keep_their_order();
         note_counts_one_more();
-        let Some((place, stamp)) = heads_of(&self.lanes).first() else {
+        let Some((place, stamp)) = heads.first() else {
             return Ok(None);
         };
         match take_settled(&mut self.lanes, place, stamp, limit) {
             Some(frame) => {
-                let port = self.lanes[place].port;
+                let lane = &self.lanes[place];
+                let port = lane.port;
+                heads.set(place, head_of(lane));
                 self.give(port, frame)?;
                 Ok(Some(place))
             }
@@ -191,7 +198,8 @@ impl<'a, A: Allocator + Copy> Machine<'a, A> {
             × ((first : Option (ℕ × ℕ)) × NoneGoes (limit_at self.new.lanes.items) self.new.lanes.items first)) }
     {
         let limit = limit_of(&self.lanes);
-        while self.give_next(limit)?.is_some() {}
+        let mut heads = heads_of(&self.lanes);
+        while self.give_next(&mut heads, limit)?.is_some() {}
         Ok(())
     }
 
