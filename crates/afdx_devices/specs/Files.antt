@@ -28,6 +28,11 @@ abbrev pub ShowsAll : Option Files → List (List ℕ) → List (List ℕ) → T
 ShowsAll None names all = ⊤
 ShowsAll (Some f) names all = map f names ≡ map (λ bytes. Some bytes) all
 
+-- a reader has the bytes that are under the name
+abbrev pub IsOpened : Option Files → List ℕ → Option (List ℕ) → Type 0
+IsOpened None name remaining = ⊤
+IsOpened (Some f) name remaining = (bytes : List ℕ) × (f name ≡ Some bytes) × (remaining ≡ Some bytes)
+
 -- no file has changed
 abbrev pub KeepsFiles : Option Files → Option Files → Type 0
 KeepsFiles None new = ⊤

@@ -74,6 +74,23 @@ fn read_file<R: Files, A: Allocator + Copy>(
     Ok((FileId::of(&metadata), bytes))
 }
 
+/// The regular file under a name, and which it is. What is not there, is none or cannot be opened is none; a pipe is not touched.
+fn open_file<R: Files>(rt: &R, name: &str) -> Option<(FileId, R::File)> {
+    let Ok(there) = fs::metadata(rt, name) else {
+        return None;
+    };
+    if !there.is_file() {
+        return None;
+    }
+    let Ok(file) = fs::open(rt, name) else {
+        return None;
+    };
+    match file.metadata() {
+        Ok(metadata) if metadata.is_file() => Some((FileId::of(&metadata), file)),
+        _ => None,
+    }
+}
+
 /// Whether a name may be put: nothing is there, or a file that may be written and is none of these.
 fn may_be_put<R: Files>(rt: &R, name: &str, got: &[FileId]) -> bool {
     match fs::metadata(rt, name) {
@@ -88,6 +105,8 @@ fn may_be_put<R: Files>(rt: &R, name: &str, got: &[FileId]) -> bool {
 
 impl<R: Files, A: Allocator + Copy> Folder for Disk<'_, R, A> {
     type New = WholeFile<R, A>;
+
+    type Opened = R::File;
 
     ghost failed = { λ disk. disk.log };
 
@@ -104,6 +123,21 @@ impl<R: Files, A: Allocator + Copy> Folder for Disk<'_, R, A> {
             Err(FolderFault::Memory) => Err(FolderFault::Memory),
             Err(FolderFault::Device) => Err(self.log.note(name)),
         }
+    }
+
+    fn length(&self, name: &str) -> Option<u64> {
+        match fs::metadata(self.rt, name) {
+            Ok(metadata) if metadata.is_file() => Some(metadata.len()),
+            _ => None,
+        }
+    }
+
+    fn open(&mut self, name: &str) -> Result<Option<R::File>, AllocError> {
+        let Some((id, file)) = open_file(self.rt, name) else {
+            return Ok(None);
+        };
+        self.got.push(id)?;
+        Ok(Some(file))
     }
 
     fn put<B: Allocator + Copy>(

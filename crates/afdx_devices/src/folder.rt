@@ -1,11 +1,12 @@
 //! A folder of files.
 
 ghost use Rattle.std.specs.Prelude.{◌≡◌, [], Option, Some, None, IfOk, IfSome, OnOk};
-ghost use Rattle.afdx_devices.specs.Files.{Files, DeviceLog, Shows, KeepsFiles, PutsFile, KeepsOthers, HasCause};
+ghost use Rattle.afdx_devices.specs.Files.{Files, DeviceLog, Shows, IsOpened, KeepsFiles, PutsFile, KeepsOthers, HasCause};
 
 use crate::input::InputFault;
 use crate::new_file::NewFile;
 use std::alloc::{AllocError, AllocFailed, Allocator};
+use std::io::Read;
 use thiserror::Error;
 
 /// Why a file was not got or put. Each message is its variant's name.
@@ -57,6 +58,9 @@ pub trait Folder {
     /// A file that is written in parts, before it is put.
     type New: NewFile + Drop;
 
+    /// A file that was opened to be read in pieces.
+    type Opened: Read + Drop;
+
     /// The files, where it shows them.
     ghost files: { Self → Option Files } = { λ _. None };
     /// How often it has failed, as far as 64 bits go, and the name that the last of these calls was for.
@@ -73,6 +77,19 @@ pub trait Folder {
         ensures bytes { IfOk result (λ v. Shows (files self.old) name.now v.items) }
         ensures same { KeepsFiles (files self.old) (files self.new) }
         ensures cause { HasCause name.now (failed self.old) (failed self.new) result };
+
+    /// How many bytes the file under a name has, where it is known before the file is read. It is for speed alone, so that no
+    /// contract speaks of it. O(name).
+    fn length(&self, name: &str) -> Option<u64>;
+
+    /// The file under a name, to be read in pieces, where it is one that can be got afterwards as well; none where it is not there,
+    /// is no such file (as a pipe is none) or was not opened. No failure is counted. An error is out of memory.
+    ///
+    /// O(name).
+    fn open(&mut self, name: &str) -> Result<Option<Self::Opened>, AllocError>
+        ensures bytes { IfOk result (λ found. IfSome found (λ file. IsOpened (files self.old) name.now (Self.Opened.remaining file))) }
+        ensures same { KeepsFiles (files self.old) (files self.new) }
+        ensures failed { failed self.new ≡ failed self.old };
 
     /// Puts bytes under a name, in place of what is there. After an error nothing is said of what is there.
     ///

@@ -4,7 +4,7 @@ use crate::allocations::{Calls, Memory, refuse};
 use crate::tables::plan_of;
 use afdx_refusing::Refusing;
 use afdx_samples::{Link, MemoryFile, Sample, capture, frame, link, port, single, small, table};
-use afdx_session::{Outcome, RunFault, run, run_into};
+use afdx_session::{Outcome, RunFault, SourceFault, run, run_from, run_into};
 use std::alloc::{AllocError, Allocator, Global};
 use std::test::*;
 
@@ -162,6 +162,50 @@ impl Calls for IntoFiles<'_> {
     }
 }
 
+/// What a run answers whose captures are read in pieces, with what the files have.
+fn ran_from<A: Allocator + Copy>(
+    alloc: Global,
+    memory: A,
+    ample: A,
+    table: &str,
+    came: &[(u8, Vec<u8>)],
+) -> Result<Result<Outcome<A>, RunFault>, Fail> {
+    let mut readers = Vec::new(ample);
+    for (_, text) in came {
+        readers.push(text.as_slice())?;
+    }
+    let mut files = files_of(memory, ample, came.len())?;
+    let plan = plan_of(alloc, table)?;
+    let ports = plan.table().ports().len();
+    if readers.len() != ports || files.len() != ports {
+        return Ok(Err(RunFault::WrongPorts));
+    }
+    match run_from(memory, plan, &mut readers, &mut files) {
+        Ok(counts) => Ok(Ok(Outcome {
+            captures: texts_in(ample, came, files)?,
+            counts,
+        })),
+        Err(SourceFault::Memory) => Ok(Err(RunFault::Memory)),
+        Err(SourceFault::Capture(port, fault)) => Ok(Err(RunFault::Capture(port, fault))),
+        Err(SourceFault::Read) => Ok(Err(RunFault::Failed)),
+    }
+}
+
+/// The same run, from readers into files.
+#[derive(Clone, Copy)]
+struct FromReaders<'a> {
+    running: Running<'a>,
+}
+
+impl Calls for FromReaders<'_> {
+    fn answer(&self, memory: &Memory) -> Result<Option<bool>, Fail> {
+        let running = self.running;
+        let ample = Refusing::new(running.alloc, 0);
+        let answer = ran_from(running.alloc, memory, &ample, running.table, running.came)?;
+        Ok(is_right(&running, answer))
+    }
+}
+
 /// The report of one frame of link 10.
 const ONE_FRAME: &str =
     "in 1 seen 1 cut 0 short 0 long 0 foreign 0 no-link 0 wrong-port 0 too-big 0 clean 1
@@ -276,5 +320,7 @@ fn hundred_frames_at_three_ports(rt: HostRuntime) -> Result<(), Fail> {
     };
     refuse(&rt, alloc, "run of a hundred frames", &calls, 60)?;
     let into_files = IntoFiles { running: calls };
-    refuse(&rt, alloc, "the same into files", &into_files, 60)
+    refuse(&rt, alloc, "the same into files", &into_files, 60)?;
+    let from_readers = FromReaders { running: calls };
+    refuse(&rt, alloc, "the same from readers", &from_readers, 60)
 }

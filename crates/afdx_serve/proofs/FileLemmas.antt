@@ -2,7 +2,7 @@
 use Rattle.std.proofs.Common.{◌≡◌, ℕ, ◌+◌, ◌<◌, List, [], ◌∷◌, ◌++◌, map, length, take, Option, Some, None, refl, sym, ap, subst, ◌∙◌, arith, get_or}
 use Rattle.std.proofs.Common.{min}
 use Rattle.std.proofs.lemmas.List.{map-append, take_more, take-map, length-map, length-take}
-use Rattle.afdx_devices.specs.Files.{Files, with_file, with_files, Shows, ShowsAll, KeepsFiles, PutsFile, PutsFiles}
+use Rattle.afdx_devices.specs.Files.{Files, with_file, with_files, Shows, ShowsAll, IsOpened, KeepsFiles, PutsFile, PutsFiles}
 
 -- ---- files that stay
 
@@ -31,6 +31,9 @@ PutsFiles-before a b c names all keeps = carried (λ k. PutsFiles k c names all)
 
 pub ShowsAll-before : (a b : Option Files) (names all : List (List ℕ)) → KeepsFiles a b → ShowsAll b names all → ShowsAll a names all
 ShowsAll-before a b names all keeps = carried (λ k. ShowsAll k names all) a b tt keeps
+
+pub IsOpened-before : (a b : Option Files) (name : List ℕ) (remaining : Option (List ℕ)) → KeepsFiles a b → IsOpened b name remaining → IsOpened a name remaining
+IsOpened-before a b name remaining keeps = carried (λ k. IsOpened k name remaining) a b tt keeps
 
 -- ---- files that were got
 

@@ -4,6 +4,7 @@ pub mod JitterLemmas
 pub mod NetworkCheckLemmas
 pub mod CaptureLemmas
 pub mod RunLemmas
+pub mod LeadLemmas
 pub mod MeasureLemmas
 pub mod GetLemmas
 pub mod GivenLemmas

@@ -9,11 +9,8 @@ use Rattle.afdx_table.specs.declared.rows.PortRow.{PortRow}
 use Rattle.afdx_table.specs.Content.{Content}
 use Rattle.afdx_core.specs.Merge.{merged}
 use Rattle.afdx_table.specs.WellFormed.{TablesAreWellFormed}
-use Rattle.afdx_count.specs.Tally.{Tally}
-use Rattle.afdx_count.specs.Report.{report_of}
 use Rattle.afdx_session.specs.Texts.{Text}
 use Rattle.afdx_session.specs.Output.{output_text}
-use Rattle.afdx_session.specs.Written.{IsWritten}
 use Rattle.afdx_core.specs.State.{State}
 use Rattle.afdx_core.specs.Isolation.{IsIsolatedRun}
 use Rattle.afdx_session.specs.declared.plan.Plan.{Plan}
@@ -26,14 +23,12 @@ use Rattle.afdx_failures.specs.declared.failure.Failure.TheVariants as failure
 use Rattle.afdx_devices.specs.Files.{Files, DeviceLog, KeepsFiles, PutsFiles, one_more}
 use Rattle.afdx_serve.specs.Measures.{IsMeasured, MeasuresTo}
 use Rattle.afdx_serve.specs.Runs.{inputs_of, IsRunOf, LeadsTo, names_in, bytes_of_captures, StopsAt, StopsRun, FailsToPut, FailsToEnd, FailsToRun, HasPlan, FailsToGetAll, FailsToGather, FailsToLead}
-use Rattle.afdx_serve.specs.Runs.{capture_name, report_in}
-use Rattle.afdx_serve.specs.Inner.Outputs.{AreEmpty, HaveBytes}
+use Rattle.afdx_serve.specs.Runs.{capture_name}
 use Rattle.afdx_serve.specs.Traces.{trace_names, trace_texts, IsTraceIn, PutsTrace, StopsTrace, FailsToTrace}
 use Rattle.std.specs.Io.KnownBytes.{Keeps}
 use Rattle.afdx_serve.specs.Serving.{world, PutsResults, FailsToRunAll}
 use Rattle.afdx_serve.proofs.CaptureLemmas.{StopsAt-before, GetsUpTo-before}
 use Rattle.afdx_serve.proofs.FileLemmas.{PutsFiles-before}
-use Rattle.afdx_serve.proofs.PutLemmas.{have_bytes}
 
 -- what was led to was not all put
 module _ (paths : Paths) (names all : List (List ℕ)) (a b c : Option Files) (first before after : DeviceLog) (keeps : KeepsFiles a b) (same : before ≡ first)
@@ -98,7 +93,7 @@ module _ (inputs : Inputs) (a b : Option Files) (t : Content) (first before afte
 -- ---- what that leads to
 
 module _ (inputs : Inputs) (a : Option Files) (plan : Plan) (captures : List Text) (before after : DeviceLog) (of : IsRunOf inputs a plan captures) (count : after ≡ before) where
-  not_led : (f : Failure) → FailsToLead f (table_in plan) captures → FailsToGather f inputs a before after
+  pub not_led : (f : Failure) → FailsToLead f (table_in plan) captures → FailsToGather f inputs a before after
   not_led (failure.PortCapture p r) h = (table_in plan, captures, of.has_plan, of.has_captures, h, count)
   not_led failure.Memory h = tt
   not_led failure.Usage h = absurd h
@@ -207,30 +202,3 @@ same_names path t captures results is =
 -- there are as many names as captures
 pub same_count : (path : List ℕ) (names : List (String Global)) (captures : List Text) → map (λ (s : String Global). string_bytes s) names ≡ names_in path captures → length names ≡ length captures
 same_count path names captures is = sym (length-map names (λ (s : String Global). string_bytes s)) ∙ ap length is ∙ length-map captures (λ (x : Text). capture_name path x.0)
-
--- ---- outputs in files
-
--- what the files of a run lead to is in these new files, which are to be put under these names, and this is the report
-pub record IsLed {N : Type 0} (contents : N → Option (List ℕ)) (paths : Paths) (a : Option Files) (files : List N) (names : List (String Global)) (report : List ℕ) : Type 0 where
-  pub results : Results
-  pub leads : LeadsTo paths a results
-  pub named : map (λ (s : String Global). string_bytes s) names ≡ names_in paths.output.now results.captures
-  pub many : length (bytes_of_captures results.captures) ≡ length names
-  pub have : HaveBytes contents a files (bytes_of_captures results.captures)
-  pub reported : report ≡ report_in results
-
-pub led : TablesAreWellFormed → AcceptedRunsIsolate → {N : Type 0} (contents : N → Option (List ℕ)) (paths : Paths) (a b : Option Files) (plan : Plan) (captures : List Text)
-    (names : List (String Global)) (old new : List N) (counts : Tally) (report : List ℕ)
-    → IsRunOf (inputs_of paths) a plan captures → KeepsFiles a b → map (λ (s : String Global). string_bytes s) names ≡ names_in paths.output.now captures → AreEmpty contents b old
-    → IsWritten contents (table_in plan) captures old new counts → report ≡ report_of counts → IsLed contents paths a new names report
-led formed isolate contents paths a b plan captures names old new counts report of keeps named empty is reported =
-    let all = is.results.captures in
-    let same = named ∙ same_names paths.output.now (table_in plan) captures is.results is.outcome in
-    record {
-      results = is.results;
-      leads = leads_to formed isolate paths a plan captures is.results of is.outcome;
-      named = same;
-      many = length-map all (λ (x : Text). x.1) ∙ sym (same_count paths.output.now names all same);
-      have = have_bytes contents a b old new all keeps empty is.appended;
-      reported = reported ∙ ap report_of is.counted;
-    }

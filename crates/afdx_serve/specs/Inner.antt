@@ -1,3 +1,4 @@
+pub mod Leading
 pub mod NetworkRunning
 pub mod OpenPorts
 pub mod Outputs

@@ -8,7 +8,7 @@ ghost use Rattle.afdx_wiring.specs.Lines.{as_line};
 ghost use Rattle.afdx_serve.specs.Checks.{IsLeastBuffer, bound_text, load_text, IsLineOf, AreLinesOf, IsCheckOf};
 ghost use Rattle.afdx_serve.specs.Serving.{world, FailsToAccept, Checks, FailsToCheck};
 
-use crate::get::{Tree, get_table};
+use crate::get::get_table;
 use afdx_devices::{Folder, write_bytes};
 use afdx_failures::Failure;
 use afdx_load::laws::longest_shows_links;
@@ -112,7 +112,7 @@ pub(crate) fn check<O: Write, F: Folder>(
     // Room for the lines is made before the table is read: asked for after its tree was given back in many small pieces, it
     // has the C library join these, which takes longer than all that is done here.
     let empty = String::with_capacity(alloc, ROOM)?;
-    let table = get_table(alloc, folder, path, Tree::Leaked)?;
+    let table = get_table(alloc, folder, path)?;
     let text = check_text(alloc, table, empty)?;
     write_bytes(out, text.as_bytes())?;
     Ok(())

@@ -4,10 +4,11 @@ ghost use Rattle.std.specs.Prelude.{◌≡◌, false, not, MatchResult};
 ghost use Rattle.afdx_load.specs.Accepted.{IsAccepted};
 ghost use Rattle.afdx_session.specs.Texts.{texts_of};
 ghost use Rattle.afdx_session.specs.Outcome.{table_in, is_cleared};
-ghost use Rattle.afdx_devices.specs.Files.{KeepsFiles};
+ghost use Rattle.afdx_devices.specs.Files.{Shows, KeepsFiles};
 ghost use Rattle.afdx_serve.specs.Runs.{inputs_of, IsRunOf, FailsToPlan, FailsToGather};
+ghost use Rattle.afdx_serve.specs.Inner.Leading.{IsPlanOf, FailsToReadPlan};
 
-use crate::get::{Tree, get_captures, get_table};
+use crate::get::{get_captures, get_text};
 use afdx_arguments::{Inputs, Paths};
 use afdx_devices::Folder;
 use afdx_failures::Failure;
@@ -41,6 +42,37 @@ fn plan(table: Table, unchecked: bool) -> Result<Plan, Failure>
     }
 }
 
+/// The plan of a run over the table of a text, which is accepted unless the run is unchecked.
+///
+/// The tree of the text is given back, so that its memory serves the run that follows.
+///
+/// # Errors
+///
+/// `Table`, `Load`; `Memory` where memory ran out. O(text).
+pub(crate) fn read_plan(alloc: Global, text: &[u8], unchecked: bool) -> Result<Plan, Failure>
+    ensures { MatchResult result (λ plan. IsPlanOf text.now unchecked plan) (λ f. FailsToReadPlan f text.now unchecked) }
+{
+    let table = afdx_table::read(alloc, text)?;
+    plan(table, unchecked)
+}
+
+/// The text of a run's table, which is leaked, and the plan that is read of it.
+pub(crate) fn get_plan<F: Folder>(
+    alloc: Global,
+    inputs: &Inputs<'_>,
+    folder: &mut F,
+) -> Result<(&'static [u8], Plan), Failure>
+    ensures got { MatchResult result
+        (λ both. Shows (F.files folder.old) inputs.now.table.now both.0.now × IsPlanOf both.0.now inputs.now.unchecked both.1
+        × (F.failed folder.new ≡ F.failed folder.old))
+        (λ f. FailsToGather f inputs.now (F.files folder.old) (F.failed folder.old) (F.failed folder.new)) }
+    ensures same { KeepsFiles (F.files folder.old) (F.files folder.new) }
+{
+    let text = get_text(alloc, folder, inputs.table)?;
+    let plan = read_plan(alloc, text, inputs.unchecked)?;
+    Ok((text, plan))
+}
+
 /// The plan and the captures of the table's ports, by rising number, from the files of a run.
 pub(crate) fn gather<F: Folder>(
     alloc: Global,
@@ -52,8 +84,7 @@ pub(crate) fn gather<F: Folder>(
         (λ f. FailsToGather f inputs.now (F.files folder.old) (F.failed folder.old) (F.failed folder.new)) }
     ensures same { KeepsFiles (F.files folder.old) (F.files folder.new) }
 {
-    let table = get_table(alloc, folder, inputs.table, Tree::GivenBack)?;
-    let plan = plan(table, inputs.unchecked)?;
+    let (_, plan) = get_plan(alloc, inputs, folder)?;
     let captures = get_captures(alloc, folder, inputs.input, plan.table())?;
     Ok((plan, captures))
 }

@@ -1,16 +1,16 @@
 //! What is got from a folder.
 
-ghost use Rattle.std.specs.Prelude.{◌≡◌, MatchResult};
+ghost use Rattle.std.specs.Prelude.{◌≡◌, map, string_bytes, IfOk, IfSome, MatchResult};
 ghost use Rattle.afdx_session.specs.Texts.{texts_of};
 ghost use Rattle.afdx_devices.specs.Files.{Shows, KeepsFiles};
 ghost use Rattle.afdx_serve.specs.Runs.{HasTable, HasCaptures, FailsToGet, FailsToGetAll, FailsToRead};
+ghost use Rattle.afdx_serve.specs.Inner.Leading.{AreOpened};
 
 use crate::names::capture_name;
 use afdx_devices::{Folder, FolderFault};
 use afdx_failures::Failure;
 use afdx_table::Table;
-use std::alloc::Global;
-use std::mem;
+use std::alloc::{AllocError, Global};
 
 /// The bytes of a file.
 pub(crate) fn get<F: Folder>(alloc: Global, folder: &mut F, name: &str) -> Result<Vec<u8>, Failure>
@@ -29,37 +29,37 @@ pub(crate) fn get<F: Folder>(alloc: Global, folder: &mut F, name: &str) -> Resul
     }
 }
 
-/// What becomes of the tree of a table's text once the table is read.
-#[derive(Clone, Copy)]
-pub(crate) enum Tree {
-    /// It is given back, so that its memory serves the run that follows.
-    GivenBack,
-    /// It is leaked, where the command takes little memory after it.
-    Leaked,
+/// The text of a table's file, which is leaked.
+///
+/// Given back, a block of its size would have the C library take such blocks from its heap from then on, where a list that grows is
+/// copied, and not from the system, which moves its pages.
+pub(crate) fn get_text<F: Folder>(
+    alloc: Global,
+    folder: &mut F,
+    path: &str,
+) -> Result<&'static [u8], Failure>
+    ensures got { MatchResult result
+        (λ text. Shows (F.files folder.old) path.now text.now × (F.failed folder.new ≡ F.failed folder.old))
+        (λ f. FailsToGet f path.now (F.failed folder.old) (F.failed folder.new)) }
+    ensures same { KeepsFiles (F.files folder.old) (F.files folder.new) }
+{
+    let text = get(alloc, folder, path)?;
+    Ok(text.leak())
 }
 
-/// The table of a file.
-///
-/// Its text is leaked. Given back, a block of its size would have the C library take such blocks from its heap from then on,
-/// where a list that grows is copied, and not from the system, which moves its pages.
+/// The table of a file, for a command that takes little memory after it: the tree of its text is leaked too.
 pub(crate) fn get_table<F: Folder>(
     alloc: Global,
     folder: &mut F,
     path: &str,
-    tree: Tree,
 ) -> Result<Table, Failure>
     ensures got { MatchResult result
         (λ table. HasTable (F.files folder.old) path.now table × (F.failed folder.new ≡ F.failed folder.old))
         (λ f. FailsToRead f (F.files folder.old) path.now (F.failed folder.old) (F.failed folder.new)) }
     ensures same { KeepsFiles (F.files folder.old) (F.files folder.new) }
 {
-    let text = get(alloc, folder, path)?;
-    let read = match tree {
-        Tree::GivenBack => afdx_table::read(alloc, &text),
-        Tree::Leaked => afdx_table::read_leaking(alloc, &text),
-    };
-    mem::forget(text);
-    Ok(read?)
+    let text = get_text(alloc, folder, path)?;
+    Ok(afdx_table::read_leaking(alloc, text)?)
 }
 
 /// The captures of the table's ports in a folder, by rising number.
@@ -81,4 +81,45 @@ pub(crate) fn get_captures<F: Folder>(
         captures.push((port.id, bytes))?;
     }
     Ok(captures)
+}
+
+/// From so many bytes on captures are read in pieces (profile). Read whole, they take their own length in memory; fewer of them take
+/// less time so, where frames are small or wait for long.
+const LARGE: u64 = 268_435_456;
+
+/// Whether the files under these names have so many bytes in all that they are to be read in pieces. O(names).
+fn are_large<F: Folder>(folder: &F, names: &[String]) -> bool {
+    let mut total = 0u64;
+    for name in names {
+        match folder.length(name) {
+            Some(length) => total = total.saturating_add(length),
+            None => return false,
+        }
+    }
+    total >= LARGE
+}
+
+/// The files under these names, opened to be read in pieces; none where they are not large, or one of them was not opened. An error is
+/// out of memory.
+pub(crate) fn open_all<F: Folder>(
+    alloc: Global,
+    folder: &mut F,
+    names: &[String],
+) -> Result<Option<Vec<F::Opened>>, AllocError>
+    ensures opened { IfOk result (λ found. IfSome found
+        (λ opened. AreOpened F.Opened.remaining (F.files folder.old) (map string_bytes names.now) opened.items)) }
+    ensures same { KeepsFiles (F.files folder.old) (F.files folder.new) }
+    ensures failed { F.failed folder.new ≡ F.failed folder.old }
+{
+    if !are_large(folder, names) {
+        return Ok(None);
+    }
+    let mut opened = Vec::with_capacity(alloc, names.len())?;
+    for name in names {
+        let Some(file) = folder.open(name)? else {
+            return Ok(None);
+        };
+        opened.push_reserved(file);
+    }
+    Ok(Some(opened))
 }

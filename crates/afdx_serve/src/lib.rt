@@ -6,6 +6,7 @@
 mod check;
 mod gathering;
 mod get;
+mod leading;
 mod measure;
 mod names;
 mod network_check;

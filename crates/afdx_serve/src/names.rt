@@ -4,6 +4,7 @@ ghost use Rattle.std.specs.Prelude.{◌≡◌, map, string_bytes, IfOk};
 ghost use Rattle.afdx_session.specs.Texts.{texts_of};
 ghost use Rattle.afdx_serve.specs.Runs.{capture_name, names_in};
 
+use afdx_table::PortRow;
 use std::alloc::{AllocError, Global};
 
 /// The name of a port's capture: the folder's, `/port-`, the port's number, `.pcap`.
@@ -15,7 +16,22 @@ pub(crate) fn capture_name(alloc: Global, folder: &str, port: u8) -> Result<Stri
     Ok(name)
 }
 
-/// The names of these ports' captures.
+/// The names of the captures of these ports.
+pub(crate) fn port_names(
+    alloc: Global,
+    folder: &str,
+    ports: &[PortRow],
+) -> Result<Vec<String>, AllocError>
+    ensures { IfOk result (λ names. map string_bytes names.items ≡ map (λ p. capture_name folder.now p.id) ports.now) }
+{
+    let mut names = Vec::with_capacity(alloc, ports.len())?;
+    for port in ports {
+        names.push(capture_name(alloc, folder, port.id)?)?;
+    }
+    Ok(names)
+}
+
+/// The names of these captures.
 pub(crate) fn names_in(
     alloc: Global,
     folder: &str,

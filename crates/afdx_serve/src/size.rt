@@ -9,7 +9,7 @@ ghost use Rattle.afdx_serve.specs.Checks.{IsLeastBuffer};
 ghost use Rattle.afdx_serve.specs.Sizes.{delay_text, letter_of, letters_of, verdict_text, amounts_text, delays_text, size_text, IsSizeOf, AreSizesOf};
 ghost use Rattle.afdx_serve.specs.Serving.{world, Sizes, FailsToSize};
 
-use crate::get::{Tree, get_table};
+use crate::get::get_table;
 use afdx_devices::{Folder, write_bytes};
 use afdx_failures::Failure;
 use afdx_load::laws::longest_shows_links;
@@ -177,7 +177,7 @@ pub(crate) fn size<O: Write, F: Folder>(
         (λ f. FailsToSize f path.now
         (world (O.contents out.old) (F.files folder.old) (F.failed folder.old)) (world (O.contents out.new) (F.files folder.new) (F.failed folder.new))) }
 {
-    let table = get_table(alloc, folder, path, Tree::Leaked)?;
+    let table = get_table(alloc, folder, path)?;
     let text = sizes_text(alloc, &table)?;
     write_bytes(out, text.as_bytes())?;
     Ok(())

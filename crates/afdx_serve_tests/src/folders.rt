@@ -3,7 +3,7 @@
 
 use crate::allocations::{Calls, Memory, allocations};
 use crate::fixtures::{OneFrame, REPORT, RUN, answer_over};
-use crate::memory_folder::MemoryFolder;
+use crate::memory_folder::{MemoryFolder, Opening};
 use afdx_devices::{Folder, FolderFault};
 use std::alloc::Global;
 use std::test::*;
@@ -149,11 +149,12 @@ fn files_put_and_got(rt: HostRuntime) -> Result<(), Fail> {
     Ok(())
 }
 
-/// The run of one frame.
+/// The run of one frame, over a folder that opens these.
 #[derive(Clone, Copy)]
 struct Running<'a> {
     alloc: Global,
     run: &'a OneFrame,
+    opening: Opening,
 }
 
 impl Calls for Running<'_> {
@@ -162,6 +163,7 @@ impl Calls for Running<'_> {
         let Ok(()) = self.run.add_to(&mut folder) else {
             return None;
         };
+        folder.open_as(self.opening);
         let Ok(got) = answer_over(self.alloc, RUN, b"", &mut folder) else {
             return Some(false);
         };
@@ -179,13 +181,20 @@ impl Calls for Running<'_> {
 }
 
 /// One allocation at least for the name and for the bytes of each file that is there, for each new file that is begun, for the bytes
-/// of the frame that leaves, and for the name of each file that is put.
+/// of the frame that leaves, and for the name of each file that is put; and for each capture that is opened.
 #[test]
 fn new_files_are_put_or_let_go(rt: HostRuntime) -> Result<(), Fail> {
     let alloc = rt.alloc();
     let run = OneFrame::new(alloc)?;
-    let refused = allocations(&rt, alloc, &Running { alloc, run: &run })?;
-    assert!(rt; refused >= 11);
-    println!(rt; "Run over a folder in memory: {refused} allocations refused")?;
+    for (opening, least) in [(Opening::None, 11), (Opening::Files, 13)] {
+        let running = Running {
+            alloc,
+            run: &run,
+            opening,
+        };
+        let refused = allocations(&rt, alloc, &running)?;
+        assert!(rt; refused >= least);
+        println!(rt; "Run over a folder in memory: {refused} allocations refused")?;
+    }
     Ok(())
 }

@@ -2,18 +2,50 @@
 
 ghost use Rattle.std.specs.Prelude.{◌≡◌, Some, find, string_bytes, option_map, option_copied};
 ghost use Rattle.std.specs.Str.{bytes_eq};
+ghost use Rattle.std.specs.Io.Cursor.{cursor_remaining};
 ghost use Rattle.afdx_devices.specs.Files.{HasCause};
 ghost use Rattle.afdx_serve_tests.specs.declared.memory_folder.File.{File};
 
 use afdx_devices::{DeviceLog, Folder, FolderFault, NewFile};
 use afdx_samples::MemoryFile;
 use std::alloc::{AllocError, Allocator};
+use std::io;
+use std::io::{Cursor, ErrorKind, Read};
 
 /// A name, and the bytes that are under it.
 #[derive(Debug, Drop)]
 struct File<A: Allocator> {
     name: String<A>,
     bytes: Vec<u8, A>,
+}
+
+/// What it opens.
+#[derive(Clone, Copy, Debug, PartialEq, Eq)]
+pub(crate) enum Opening {
+    /// No file.
+    None,
+    /// Each file that is there.
+    Files,
+    /// Each file that is there, and then every read fails.
+    Failing,
+}
+
+/// A copy of a file's bytes, to be read in pieces.
+#[derive(Drop)]
+pub(crate) struct OpenedFile<A: Allocator> {
+    left: Cursor<Vec<u8, A>>,
+    fails: bool,
+}
+
+impl<A: Allocator> Read for OpenedFile<A> {
+    ghost remaining = { λ file. cursor_remaining (λ v. Some v.items) file.left };
+
+    fn read(&mut self, buf: &mut [u8]) -> io::Result<usize> {
+        if self.fails {
+            return Err(io::Error::from(ErrorKind::Other));
+        }
+        self.left.read(buf)
+    }
 }
 
 /// The files, the one that was put last first, and how many new ones were neither put nor let go. Of the calls that get or put,
@@ -23,6 +55,7 @@ pub(crate) struct MemoryFolder<A: Allocator> {
     alloc: A,
     files: Vec<File<A>, A>,
     begun: usize,
+    opening: Opening,
     calls: u64,
     failing: u64,
     fault: FolderFault,
@@ -41,11 +74,17 @@ impl<A: Allocator + Copy> MemoryFolder<A> {
             alloc,
             files: Vec::new(alloc),
             begun: 0,
+            opening: Opening::None,
             calls: 0,
             failing,
             fault,
             log: DeviceLog::new(alloc),
         }
+    }
+
+    /// From now on it opens these.
+    pub(crate) fn open_as(&mut self, opening: Opening) {
+        self.opening = opening;
     }
 
     /// From now on the call of this number, from 1, fails so.
@@ -123,6 +162,8 @@ fn call<A: Allocator + Copy>(folder: &mut MemoryFolder<A>, name: &str) -> Result
 impl<B: Allocator + Copy> Folder for MemoryFolder<B> {
     type New = MemoryFile<B>;
 
+    type Opened = OpenedFile<B>;
+
     ghost files = { λ m. Some (λ name. option_map (λ f. f.bytes.items) (find (λ f. bytes_eq (string_bytes f.name) name) m.files.items)) };
 
     ghost failed = { λ m. m.log };
@@ -140,6 +181,26 @@ impl<B: Allocator + Copy> Folder for MemoryFolder<B> {
             Ok(bytes) => Ok(bytes),
             Err(_) => Err(FolderFault::Memory),
         }
+    }
+
+    /// So many where files are opened that the captures of a run are large.
+    fn length(&self, _name: &str) -> Option<u64> {
+        match self.opening {
+            Opening::None => None,
+            Opening::Files | Opening::Failing => Some(1_000_000_000),
+        }
+    }
+
+    fn open(&mut self, name: &str) -> Result<Option<OpenedFile<B>>, AllocError> {
+        if self.opening == Opening::None {
+            return Ok(None);
+        }
+        let Some(file) = find_file(&self.files, name) else {
+            return Ok(None);
+        };
+        let left = Cursor::new(Vec::from_slice(self.alloc, &file.bytes)?);
+        let fails = self.opening == Opening::Failing;
+        Ok(Some(OpenedFile { left, fails }))
     }
 
     fn put<A: Allocator + Copy>(

@@ -4,7 +4,7 @@ use crate::fixtures::{
     Broken, CHECKED, OneFrame, REPORT, RUN, Served, answer_over, answers, answers_over_files,
     captured, folder_of, refuses,
 };
-use crate::memory_folder::MemoryFolder;
+use crate::memory_folder::{MemoryFolder, Opening};
 use afdx_devices::FolderFault;
 use afdx_samples::{HEADER, Link, Port, capture, link, mixed, port, single, table};
 use std::alloc::{AllocError, Global};
@@ -253,6 +253,90 @@ fn says_a_tables_refusal(rt: HostRuntime) -> Result<(), Fail> {
     ] {
         assert!(rt;
             answers_over_files(rt.alloc(), RUN, text, &[], (3, "", line))?,
+            "{line}"
+        );
+    }
+    Ok(())
+}
+
+/// Whether the run of one frame, over a folder that opens these, is done after so many calls.
+fn is_done_opening(
+    run: &OneFrame,
+    alloc: Global,
+    arguments: &str,
+    opening: Opening,
+    calls: u64,
+) -> Result<bool, AllocError> {
+    let mut folder = run.sound()?;
+    folder.open_as(opening);
+    let is_said = answers(alloc, arguments, &mut folder, (0, REPORT, ""))?;
+    let is_left = folder.holds(&run.files(), 5);
+    Ok(is_said && is_left && folder.calls() == calls)
+}
+
+#[test]
+fn runs_in_pieces(rt: HostRuntime) -> Result<(), Fail> {
+    let alloc = rt.alloc();
+    let run = OneFrame::new(alloc)?;
+    // Captures that are opened are not got, unless a read fails.
+    for (opening, calls) in [
+        (Opening::None, 5),
+        (Opening::Files, 3),
+        (Opening::Failing, 5),
+    ] {
+        for arguments in [CHECKED, RUN] {
+            assert!(rt;
+                is_done_opening(&run, rt.alloc(), arguments, opening, calls)?,
+                "{opening:?} {arguments}"
+            );
+        }
+    }
+    Ok(())
+}
+
+/// How many bytes are left of a port's capture, where it is there.
+type Left = Option<usize>;
+
+/// Whether a run over a folder that opens files has this line, where so much is left of each port's capture; it puts none and leaves
+/// no new file.
+fn is_refused_opening(
+    alloc: Global,
+    left: [Left; 2],
+    status: u8,
+    line: &str,
+) -> Result<bool, AllocError> {
+    let mut folder = MemoryFolder::new(alloc);
+    folder.add("t", single(alloc)?.as_bytes())?;
+    for (name, left) in ["in/port-1.pcap", "in/port-2.pcap"].iter().zip(left) {
+        if let Some(left) = left {
+            folder.add(name, &cut(alloc, left)?)?;
+        }
+    }
+    folder.open_as(Opening::Files);
+    let files = folder.count();
+    let is_said = answers(alloc, RUN, &mut folder, (status, "", line))?;
+    Ok(is_said && folder.count() == files)
+}
+
+#[test]
+fn says_a_ports_fault_in_pieces(rt: HostRuntime) -> Result<(), Fail> {
+    // How many bytes are left of each port's capture, the status and the line.
+    for (left, status, line) in [
+        (
+            [Some(99), Some(23)],
+            3,
+            "afdx: capture P11 CutData, port 1, record 1\n",
+        ),
+        (
+            [Some(100), Some(23)],
+            3,
+            "afdx: capture P2 NoHeader, port 2\n",
+        ),
+        ([Some(99), None], 5, "afdx: device get in/port-2.pcap\n"),
+        ([None, Some(23)], 5, "afdx: device get in/port-1.pcap\n"),
+    ] {
+        assert!(rt;
+            is_refused_opening(rt.alloc(), left, status, line)?,
             "{line}"
         );
     }

@@ -46,7 +46,7 @@ ended_as_marked {Z = Z} begun start now n l marked closes at =
 read_before : {Z : Type 0} (begun : Bool) (start : Machine Z) (now : List (Lane Z)) (n : ℕ) (l : Lane Z) → IsReady start begun → Closes start now n → slice_get now n ≡ Some l → HasReadAll l
 read_before begun start now n l ready closes at = lane_stands HasReadAll n start.lanes.items now l closes.ends at ready.read
 
-set_same : {X : Type 0} (xs : List X) (k : ℕ) (x : X) → slice_get xs k ≡ Some x → set xs k x ≡ xs
+pub set_same : {X : Type 0} (xs : List X) (k : ℕ) (x : X) → slice_get xs k ≡ Some x → set xs k x ≡ xs
 set_same [] k x at = absurd cc
 set_same (y ∷ xs) zero x at = ap (λ z. z ∷ xs) (sym (same_Some y x at))
 set_same (y ∷ xs) (suc k) x at = ap (λ zs. y ∷ zs) (set_same xs k x at)

@@ -36,7 +36,7 @@ use Rattle.afdx_session.proofs.Shown.{half_ports}
 
 -- ---- the intake of each port
 
-find_intake : {Z : Type 0} (ports : List PortRow) (lanes : List (Lane Z)) (k : ℕ) (l : Lane Z) → table.Rises ports → map (λ (m : Lane Z). m.port) lanes ≡ map (λ (p : PortRow). p.id) ports
+pub find_intake : {Z : Type 0} (ports : List PortRow) (lanes : List (Lane Z)) (k : ℕ) (l : Lane Z) → table.Rises ports → map (λ (m : Lane Z). m.port) lanes ≡ map (λ (p : PortRow). p.id) ports
     → slice_get lanes k ≡ Some l
     → find (λ (i : Intake). i.port == l.port) (intakes_of lanes) ≡ Some (intake_of l)
 find_intake ports [] k l rises same at = absurd cc
@@ -63,7 +63,7 @@ same_lists f g i j (x ∷ xs) (y ∷ ys) same each =
     ap (λ w. w ∷ map f xs) (each 0 x y refl refl)
     ∙ ap (λ ws. g y ∷ ws) (same_lists f g i j xs ys (ap (drop 1) same) (λ k. each (suc k)))
 
-text_ports : {Z : Type 0} (lanes : List (Lane Z)) → map (λ (text : Text). text.0) (texts_at lanes) ≡ map (λ (l : Lane Z). l.port) lanes
+pub text_ports : {Z : Type 0} (lanes : List (Lane Z)) → map (λ (text : Text). text.0) (texts_at lanes) ≡ map (λ (l : Lane Z). l.port) lanes
 text_ports [] = refl
 text_ports {Z = Z} (l ∷ lanes) = ap (λ ns. l.port ∷ ns) (text_ports lanes)
 

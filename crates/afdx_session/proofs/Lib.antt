@@ -42,6 +42,7 @@ pub mod Rounds
 pub mod Fresh
 pub mod Places
 pub mod Taken
+pub mod Waiting
 pub mod ReadUp
 pub mod Carrying
 pub mod Checks
@@ -51,5 +52,7 @@ pub mod Readings
 pub mod Pieces
 pub mod Readable
 pub mod Writing
+pub mod Into
+pub mod FromReaders
 pub mod Prefix
 pub mod Parts

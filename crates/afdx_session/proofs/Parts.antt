@@ -187,7 +187,7 @@ more_on {F} contents t arrivals taken start now k n bytes f g is_taken is_now ap
       (subst (Appends (contents o) (contents g)) (on p is_port_k) both))
 
 -- of the same table and captures
-have_over : {F : Type 0} (contents : F → Option (List ℕ)) (t u : Content) (texts others : List Text) (taken : List ℕ) (start now : List F) → t ≡ u → texts ≡ others
+pub have_over : {F : Type 0} (contents : F → Option (List ℕ)) (t u : Content) (texts others : List Text) (taken : List ℕ) (start now : List F) → t ≡ u → texts ≡ others
     → HaveMore contents t texts taken start now → HaveMore contents u others taken start now
 have_over contents t u texts others taken start now table same have =
     subst (λ ts. HaveMore contents u ts taken start now) same (subst (λ (c : Content). HaveMore contents c texts taken start now) table have)
@@ -264,7 +264,7 @@ puts_one {F} {Z} ordered stay reaches goes_on takes begin one contents m files l
 
 -- ---- the machine goes on
 
-same_length : {Z : Type 0} (old new : List (Lane Z)) → taken_by new ≡ taken_by old → length new ≡ length old
+pub same_length : {Z : Type 0} (old new : List (Lane Z)) → taken_by new ≡ taken_by old → length new ≡ length old
 same_length old new same =
     let a = length-map new (λ l. l.taken) in
     let b = length-map old (λ l. l.taken) in

@@ -43,7 +43,7 @@ is_row_of port p = p.id == port
 fed_none : (i : Intake) → IsFedOn i i
 fed_none i = record { port = refl; more = []; bytes = sym (append-nil i.bytes); ended = λ closed. (refl, closed) }
 
-all_fed_none : (intakes : List Intake) → AreFedOn intakes intakes
+pub all_fed_none : (intakes : List Intake) → AreFedOn intakes intakes
 all_fed_none [] = tt
 all_fed_none (i ∷ intakes) = (fed_none i, all_fed_none intakes)
 
@@ -295,7 +295,7 @@ continued_fed (i ∷ intakes) (text ∷ texts) on = (
   continued_fed intakes texts on.1,
 )
 
-found_output : (f : PortRow → List ℕ) (ports : List PortRow) (port : ℕ) (p : PortRow) → find (is_row_of port) ports ≡ Some p
+pub found_output : (f : PortRow → List ℕ) (ports : List PortRow) (port : ℕ) (p : PortRow) → find (is_row_of port) ports ≡ Some p
     → find (is_text_of port) (map {B = Text} (λ (q : PortRow). (q.id, f q)) ports) ≡ Some (p.id, f p)
 found_output f [] port p found = absurd cc
 found_output f (q ∷ ports) port p found = by (q.id == port) refl (found_output f ports port p) where
@@ -338,7 +338,7 @@ taken_is_a_prefix ordered stay reaches goes_on records unique v port taken texts
 
 -- ---- the end
 
-all_continued : (intakes : List Intake) → AllZip IsContinued intakes (map text_in intakes)
+pub all_continued : (intakes : List Intake) → AllZip IsContinued intakes (map text_in intakes)
 all_continued [] = tt
 all_continued (i ∷ intakes) = (record { port = refl; more = []; bytes = sym (append-nil i.bytes); ended = λ closed. refl }, all_continued intakes)
 

@@ -1,9 +1,11 @@
 -- What contracts see of a session after a call, from what its lanes are then.
 use Rattle.std.proofs.Common.{◌≡◌, ℕ, zero, suc, ◌+◌, ◌<◌, ◌≤◌, ◌^◌, ◌==◌, Bool, true, false, cond, List, [], ◌∷◌, ◌++◌, map, length, take, drop, set, slice_get, slice_index_or, Some, None, Ok}
-use Rattle.std.proofs.Common.{option_map, Err, refl, ap, sym, ◌∙◌, inl, inr, subst}
-use Rattle.std.specs.Prelude.{find, Result, IsErr, IsErrAnd, IfErr, IfSome, IfNone}
+use Rattle.std.proofs.Common.{◌-◌, Option, arith, option_map, Err, refl, ap, sym, ◌∙◌, inl, inr, subst}
+use Rattle.std.specs.Prelude.{find, Result, IsErr, IsErrAnd, IfErr, OnOk, IfSome, IfNone}
+use Rattle.std.specs.Io.KnownBytes.{Appends}
+use Rattle.std.specs.declared.alloc.AllocError.{AllocError}
 use Rattle.std.specs.List.{position}
-use Rattle.std.proofs.lemmas.Option.{same_Some, slice_get-map, slice_get-get_or}
+use Rattle.std.proofs.lemmas.Option.{same_Some, slice_get-map, slice_get-get_or, IfSome_then}
 use Rattle.std.proofs.lemmas.Bool.{eqb-true}
 use Rattle.afdx_pcap.specs.Record.{Record}
 use Rattle.afdx_pcap.specs.Capture.{IsCapture}
@@ -37,7 +39,7 @@ use Rattle.afdx_session.proofs.Places.{IsPlaceOf, position_at, position_none, pl
 use Rattle.afdx_session.proofs.Shown.{kept_ready, kept_failed}
 use Rattle.afdx_session.proofs.Ending.{TakenAreTheCapture}
 use Rattle.afdx_session.proofs.Finishing.{finished, half_intakes}
-use Rattle.afdx_session.proofs.Taken.{all_taken, took_intake}
+use Rattle.afdx_session.proofs.Taken.{all_taken, took_intake, set_back}
 
 -- the place of an open lane is that of its intake and its row
 pub open_is : {Z : Type 0} (t : Content) (lanes : List (Lane Z)) (port place : ℕ) → AreOfTable t lanes → IsOpenAt lanes port place → IsPlaceOf t.ports lanes port place
@@ -125,7 +127,7 @@ refused_end old new begun port place fault of is_open same is =
 -- ---- calls of a session, as contracts see it
 
 -- what is seen of the parts of a session, none of whose calls has failed
-seen_so_far : {Z : Type 0} (m : Machine Z) (begun failed : Bool) (v : Seen) → seen_of m begun failed ≡ v → failed ≡ false → seen_of m begun false ≡ v
+pub seen_so_far : {Z : Type 0} (m : Machine Z) (begun failed : Bool) (v : Seen) → seen_of m begun failed ≡ v → failed ≡ false → seen_of m begun false ≡ v
 seen_so_far m begun failed v is not_failed = ap (λ b. seen_of m begun b) (sym not_failed) ∙ is
 
 -- no such port, or it is closed
@@ -289,6 +291,65 @@ answers_take {Z} m next begun failed v port place old new bytes view kept is at 
 
       after : seen_of next begun failed ≡ after_take seen_now port (length out)
       after = ap (λ s. seen s.run.table s.accepted (intakes_of next.lanes.items) begun failed) switch ∙ ap (λ is. seen m.switch.run.table m.switch.accepted is begun failed) intakes
+
+-- what was not taken
+pub shows : {Z : Type 0} (m : Machine Z) (begun failed : Bool) (v : Seen) (port place : ℕ) (l : Lane Z) → seen_of m begun failed ≡ v → IsKeptMachine m begun failed
+    → position (is_lane_of port) m.lanes.items ≡ Some place → slice_get m.lanes.items place ≡ Some l
+    → IfSome (port_row v.table port) (λ p. (text : List ℕ) × HasGoneOut v p text × (taken_of v port ≤ length text) × (l.ready ≡ length text - taken_of v port))
+shows {Z} m begun failed v port place l view kept is at =
+    subst (λ w. IfSome (port_row w.table port) (λ p. (text : List ℕ) × HasGoneOut w p text × (taken_of w port ≤ length text) × (l.ready ≡ length text - taken_of w port))) view
+    (subst (λ o. IfSome o (λ p. (text : List ℕ) × HasGoneOut seen_now p text × (taken_of seen_now port ≤ length text) × (l.ready ≡ length text - taken_of seen_now port))) (sym own.row_is) (
+      out,
+      record { streams = kept.shown.streams; are = kept.shown.are; text_is = refl },
+      subst (λ n. n ≤ length out) (sym count) shown.taken,
+      subst (λ n. l.ready ≡ length out - n) (sym count) (let all = all_taken out l shown in omega (arith, all)),
+    )) where
+      seen_now : Seen
+      seen_now = seen_of m begun failed
+
+      own : IsPlaceOf m.switch.run.table.ports m.lanes.items port place
+      own = place_is m.switch.run.table m.lanes.items port place kept.of is
+
+      out : List ℕ
+      out = gone_out m.switch.run.table begun kept.shown.streams own.row
+
+      shown : IsShownAt out l
+      shown = shown_place m begun failed port place l kept own at
+
+      count : taken_of seen_now port ≡ l.taken
+      count = ap taken_in own.intake_is ∙ ap (λ (x : Lane Z). x.taken) (same_Some own.lane l (sym own.at ∙ at))
+
+-- so many of its bytes are there
+pub take_reaches : {Z : Type 0} (m : Machine Z) (begun failed : Bool) (port place : ℕ) (l : Lane Z) → IsKeptMachine m begun failed → position (is_lane_of port) m.lanes.items ≡ Some place
+    → slice_get m.lanes.items place ≡ Some l → l.ready ≤ length l.out.items
+take_reaches m begun failed port place l kept is at = (shown_place m begun failed port place l kept (place_is m.switch.run.table m.lanes.items port place kept.of is) at).ready
+
+-- it went to a file, where there was memory
+pub answers_take_into : {F Z : Type 0} (contents : F → Option (List ℕ)) (m next : Machine Z) (begun failed : Bool) (v : Seen) (port place : ℕ) (old new : Lane Z) (file later : F)
+    (result : Result (Unit {0}) AllocError) → seen_of m begun failed ≡ v → IsKeptMachine m begun failed → position (is_lane_of port) m.lanes.items ≡ Some place
+    → slice_get m.lanes.items place ≡ Some old
+    → OnOk result (Appends (contents file) (contents later) (take old.ready old.out.items)) → OnOk result (IsTaken old new) → next.switch ≡ m.switch → next.lanes.items ≡ set m.lanes.items place new
+    → IfSome (port_row v.table port) (λ p. (text : List ℕ) × HasGoneOut v p text × (taken_of v port ≤ length text)
+    × OnOk result (Appends (contents file) (contents later) (drop (taken_of v port) text) × (seen_of next begun failed ≡ after_take v port (length text))))
+answers_take_into {F} {Z} contents m next begun failed v port place old new file later (Ok done) view kept is at appends taken switch lanes =
+    IfSome_then (port_row v.table port) (answers_take m next begun failed v port place old new (take old.ready old.out.items) view kept is at taken refl switch lanes)
+    (λ p all. (all.0, all.1, all.2, (subst (Appends (contents file) (contents later)) all.3 appends, all.4)))
+answers_take_into {F} {Z} contents m next begun failed v port place old new file later (Err e) view kept is at appends taken switch lanes =
+    IfSome_then (port_row v.table port) (shows m begun failed v port place old view kept is at) (λ p all. (all.0, all.1, all.2, tt))
+
+-- where there was none nothing has changed
+pub take_into_fails : {Z : Type 0} (m next : Machine Z) (begun failed : Bool) (v : Seen) (place : ℕ) (old new : Lane Z) (result : Result (Unit {0}) AllocError) → seen_of m begun failed ≡ v
+    → slice_get m.lanes.items place ≡ Some old → IfErr result (λ _. new ≡ old) → next.switch ≡ m.switch → next.lanes.items ≡ set m.lanes.items place new
+    → IfErr result (λ _. seen_of next begun failed ≡ v)
+take_into_fails {Z} m next begun failed v place old new (Ok done) view at same switch lanes = tt
+take_into_fails {Z} m next begun failed v place old new (Err e) view at same switch lanes =
+    ap (λ s. seen s.run.table s.accepted (intakes_of next.lanes.items) begun failed) switch
+    ∙ ap (λ (ls : List (Lane Z)). seen m.switch.run.table m.switch.accepted (intakes_of ls) begun failed) (set_back m.lanes.items next.lanes.items place old new at same lanes)
+    ∙ view
+
+pub none_told : {X : Type 0} (o : Option X) (P : Type 0) → P → IfNone o P
+none_told None P told = told
+none_told (Some x) P told = tt
 
 -- the port is there
 pub take_is_known : {Z : Type 0} (m : Machine Z) (begun failed : Bool) (v : Seen) (port place : ℕ) (Unknown : Type 0) → seen_of m begun failed ≡ v → AreOfTable m.switch.run.table m.lanes.items

@@ -1,5 +1,7 @@
 -- What is taken of a lane's output.
 use Rattle.std.proofs.Common.{◌≡◌, ℕ, zero, suc, ◌+◌, ◌<◌, ◌≤◌, ◌==◌, Bool, true, false, cond, List, [], ◌∷◌, map, length, take, drop, set, slice_get, Some, refl, ap, sym, ◌∙◌, arith, inl, inr, subst}
+use Rattle.std.specs.Prelude.{Result, Ok, Err, OnOk, IfErr}
+use Rattle.std.specs.declared.alloc.AllocError.{AllocError}
 use Rattle.std.specs.List.{AllByRecursion}
 use Rattle.std.proofs.lemmas.Bool.{cases_Bool}
 use Rattle.std.proofs.lemmas.Bool.Decides.{nat_tests}
@@ -222,3 +224,31 @@ kept_taken {Z} m next begun failed k old new at taken switch counts lanes kept =
         marked = rw lanes (took_marked begun m.lanes.items k old new at taken ready.marked);
       };
 }
+
+-- what is put back where it was changes nothing
+pub set_back : {X : Type 0} (xs ys : List X) (k : ℕ) (old new : X) → slice_get xs k ≡ Some old → new ≡ old → ys ≡ set xs k new → ys ≡ xs
+set_back {X = X} xs ys k old new at same is = is ∙ ap (set xs k) same ∙ back xs k at where
+  back : (zs : List X) (n : ℕ) → slice_get zs n ≡ Some old → set zs n old ≡ zs
+  back [] n there = absurd cc
+  back (z ∷ zs) zero there = ap (λ x. x ∷ zs) (sym (same_Some z old there))
+  back (z ∷ zs) (suc n) there = ap (λ ws. z ∷ ws) (back zs n there)
+
+kept_same : {Z : Type 0} (m next : Machine Z) (begun failed : Bool) → next.switch ≡ m.switch → next.counts ≡ m.counts → next.lanes.items ≡ m.lanes.items → IsKeptMachine m begun failed
+    → IsKeptMachine next begun failed
+kept_same {Z} m next begun failed switch counts lanes kept = record {
+  of = rw (switch, lanes) kept.of;
+  handed = rw switch kept.handed;
+  accepted = rw switch kept.accepted;
+  shown = rw (switch, lanes) kept.shown;
+  ready = λ not_failed.
+      let ready = kept.ready not_failed in
+      record { running = rw (switch, lanes, counts) ready.running; read = rw lanes ready.read; marked = rw lanes ready.marked };
+}
+
+-- whether it was taken, or memory ran out
+pub kept_taken_into : {Z : Type 0} (m next : Machine Z) (begun failed : Bool) (k : ℕ) (old new : Lane Z) (result : Result (Unit {0}) AllocError) → slice_get m.lanes.items k ≡ Some old
+    → OnOk result (IsTaken old new) → IfErr result (λ _. new ≡ old) → next.switch ≡ m.switch → next.counts ≡ m.counts → next.lanes.items ≡ set m.lanes.items k new
+    → IsKeptMachine m begun failed → IsKeptMachine next begun failed
+kept_taken_into m next begun failed k old new (Ok done) at taken same switch counts lanes kept = kept_taken m next begun failed k old new at taken switch counts lanes kept
+kept_taken_into m next begun failed k old new (Err e) at taken same switch counts lanes kept =
+    kept_same m next begun failed switch counts (set_back m.lanes.items next.lanes.items k old new at same lanes) kept

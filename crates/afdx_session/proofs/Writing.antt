@@ -57,7 +57,7 @@ number_at f g (z ∷ xs) (w ∷ ys) zero x y same at there = ap f (sym (same_Som
 number_at f g (z ∷ xs) (w ∷ ys) (suc k) x y same at there = number_at f g xs ys k x y (ap (drop 1) same) at there
 
 -- the element that a mapped one comes from
-mapped_from : {X Y : Type 0} (f : X → Y) (xs : List X) (k : ℕ) (y : Y) → slice_get (map f xs) k ≡ Some y → (x : X) × (slice_get xs k ≡ Some x) × (f x ≡ y)
+pub mapped_from : {X Y : Type 0} (f : X → Y) (xs : List X) (k : ℕ) (y : Y) → slice_get (map f xs) k ≡ Some y → (x : X) × (slice_get xs k ≡ Some x) × (f x ≡ y)
 mapped_from f [] k y at = absurd cc
 mapped_from f (x ∷ xs) zero y at = (x, refl, same_Some (f x) y at)
 mapped_from f (x ∷ xs) (suc k) y at = mapped_from f xs k y at
@@ -245,20 +245,15 @@ passed_done takes cleared t texts m s passed run accepted is_run =
       accepted = accepted ∙ passed.accepted;
     }
 
--- what is left of it, beside what went to the files
-pub rest_is_left : {F Z : Type 0} → SentGoesOn → ReachesInOrder → TakenAreTheCapture → EndCountsTheRun
-    → (contents : F → Option (List ℕ)) (t : Content) (texts : List Text) (m : Machine Z) (r : Rest)
-    (files now : List F) → AreOfPorts t texts → m.switch.run.table ≡ t → HasWritten contents texts m files now
-    → r.state.run ≡ after_finish m.switch.run → Keeps m.switch r.state → r.counts ≡ ended_tally (after_finish m.switch.run) m.counts
-    → r.texts ≡ map (λ (l : Lane Z). (l.port, l.out.items)) m.lanes.items → r.taken ≡ taken_by m.lanes.items → HasRest contents t texts r files now
-rest_is_left {F} {Z} goes_on reaches takes law contents t texts m r files now ports table has run keeps counts outs taken = record {
-  ports = ports;
-  read = captures_of going.streams;
-  are_read = all_read takes texts m has.gone;
-  left = subst (λ (c : Content). IsLeft c (merged (captures_of going.streams)) 0 r) table (subst (λ xs. IsLeft u xs 0 r) (sym given_is) left);
-  prefixes = subst (λ (c : Content). HavePrefixes contents c (merged (captures_of going.streams)) r.taken files now) table
-      (subst (λ ns. HavePrefixes contents u (merged (captures_of going.streams)) ns files now) (sym taken) (has.more (captures_of going.streams) (all_read takes texts m has.gone)));
-} where
+-- what is left of it
+pub gone_is_left : {Z : Type 0} → SentGoesOn → ReachesInOrder → TakenAreTheCapture → EndCountsTheRun → (t : Content) (texts : List Text) (m : Machine Z) (r : Rest) (gone : HaveGone texts m)
+    → m.switch.run.table ≡ t → r.state.run ≡ after_finish m.switch.run → Keeps m.switch r.state → r.counts ≡ ended_tally (after_finish m.switch.run) m.counts
+    → r.texts ≡ map (λ (l : Lane Z). (l.port, l.out.items)) m.lanes.items → r.taken ≡ taken_by m.lanes.items
+    → AreCaptures texts (captures_of gone.carrying.going.streams) × IsLeft t (merged (captures_of gone.carrying.going.streams)) 0 r
+gone_is_left {Z} goes_on reaches takes law t texts m r gone table run keeps counts outs taken = (
+  all_read takes texts m gone,
+  subst (λ (c : Content). IsLeft c (merged (captures_of going.streams)) 0 r) table (subst (λ xs. IsLeft u xs 0 r) (sym given_is) left),
+) where
   u : Content
   u = m.switch.run.table
 
@@ -266,13 +261,13 @@ rest_is_left {F} {Z} goes_on reaches takes law contents t texts m r files now po
   lanes = m.lanes.items
 
   going : IsGoing u lanes m.switch m.counts
-  going = has.gone.carrying.going
+  going = gone.carrying.going
 
   given : List Arrival
   given = going.given
 
   given_is : merged (captures_of going.streams) ≡ given
-  given_is = all_given texts m has.gone
+  given_is = all_given texts m gone
 
   rows : m.switch.run.rows ≡ rows_of u given
   rows = going.is_given.rows
@@ -281,14 +276,14 @@ rest_is_left {F} {Z} goes_on reaches takes law contents t texts m r files now po
   long = ap length rows ∙ length-map given _
 
   of : AreOfTable u lanes
-  of = has.gone.carrying.of
+  of = gone.carrying.of
 
   left : IsLeft u given 0 r
   left = record {
     formed = of.formed;
     table = ap (λ (x : Run). x.table) run;
     long = sym (ap (λ (x : Run). length x.rows) run ∙ long);
-    handed = ap (λ (x : Run). length x.handed) run ∙ has.gone.carrying.handed ∙ ap (λ (x : Run). length x.table.ports) (sym run);
+    handed = ap (λ (x : Run). length x.handed) run ∙ gone.carrying.handed ∙ ap (λ (x : Run). length x.table.ports) (sym run);
     frames = bytes_stay given m.switch r.state (omega (arith, long)) keeps going.is_given.frames;
     ports = ap (map (λ (x : Text). x.0)) outs ∙ out_ports lanes ∙ of.ports;
     many = ap length taken ∙ length-map lanes (λ l. l.taken) ∙ sym (length-map lanes (λ l. l.port)) ∙ ap length of.ports ∙ length-map u.ports (λ p. p.id);
@@ -302,6 +297,24 @@ rest_is_left {F} {Z} goes_on reaches takes law contents t texts m r files now po
         ∙ ap (λ (x : Run). take from.0.taken (output_text u given p) ++ from.0.out.items ++ flat_map record_text (map (written given) (left_at x (Some place)))) run
         ∙ rest_of_port goes_on reaches given going.since m.switch p place from.0 rows is_port (going.outs place p from.0 tt is_port from.1);
   }
+
+-- and what went to the files
+pub rest_is_left : {F Z : Type 0} → SentGoesOn → ReachesInOrder → TakenAreTheCapture → EndCountsTheRun
+    → (contents : F → Option (List ℕ)) (t : Content) (texts : List Text) (m : Machine Z) (r : Rest)
+    (files now : List F) → AreOfPorts t texts → m.switch.run.table ≡ t → HasWritten contents texts m files now
+    → r.state.run ≡ after_finish m.switch.run → Keeps m.switch r.state → r.counts ≡ ended_tally (after_finish m.switch.run) m.counts
+    → r.texts ≡ map (λ (l : Lane Z). (l.port, l.out.items)) m.lanes.items → r.taken ≡ taken_by m.lanes.items → HasRest contents t texts r files now
+rest_is_left {F} goes_on reaches takes law contents t texts m r files now ports table has run keeps counts outs taken =
+    let read = captures_of has.gone.carrying.going.streams in
+    let both = gone_is_left goes_on reaches takes law t texts m r has.gone table run keeps counts outs taken in
+    record {
+      ports = ports;
+      read = read;
+      are_read = both.0;
+      left = both.1;
+      prefixes = subst (λ (c : Content). HavePrefixes contents c (merged read) r.taken files now) table
+          (subst (λ ns. HavePrefixes contents m.switch.run.table (merged read) ns files now) (sym taken) (has.more read both.0));
+    }
 
 -- ---- the files have the whole
 

@@ -9,4 +9,5 @@ pub mod Readable
 pub mod Replay
 pub mod Rest
 pub mod Settled
+pub mod Sources
 pub mod View

@@ -1,11 +1,13 @@
 pub mod Finish
 pub mod Headline
 pub mod Inner
+pub mod Into
 pub mod Lanes
 pub mod Outcome
 pub mod Output
 pub mod Reading
 pub mod Session
+pub mod Sources
 pub mod Streams
 pub mod Texts
 pub mod Written

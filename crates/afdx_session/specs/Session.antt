@@ -1,12 +1,12 @@
 -- A session as contracts see it: what it was fed, and what its calls do to that (profile).
-use Rattle.std.specs.Prelude.{ℕ, ◌≡◌, ◌⊎◌, ◌==◌, Bool, true, false, if◌then◌else◌, List, [], ◌∷◌, ◌++◌, map, find, Option, Some, None}
+use Rattle.std.specs.Prelude.{ℕ, ◌≡◌, ◌⊎◌, ◌==◌, Bool, true, false, if◌then◌else◌, List, [], ◌∷◌, ◌++◌, map, find, Option, Some, None, Contains}
 use Rattle.afdx_table.specs.declared.rows.PortRow.{PortRow}
 use Rattle.afdx_table.specs.Content.{Content}
 use Rattle.afdx_pcap.specs.declared.fault.PcapFault.{PcapFault}
 use Rattle.afdx_pcap.specs.Fault.{IsEarlyFault}
 use Rattle.afdx_session.specs.declared.plan.RunFault.{RunFault}
 use Rattle.afdx_session.specs.declared.plan.RunFault.TheVariants as run
-use Rattle.afdx_session.specs.Streams.{Stream, AreWhole, text_so_far}
+use Rattle.afdx_session.specs.Streams.{Stream, AreWhole, last_of, frontier, text_so_far}
 
 -- what a session took of a port, and what was taken of it there
 pub record Intake : Type 0 where
@@ -53,6 +53,16 @@ pub record HasGoneOut (v : Seen) (p : PortRow) (text : List ℕ) : Type 0 where
   pub streams : List Stream
   pub are : AreStreams v.intakes streams
   pub text_is : text ≡ (if v.begun then text_so_far v.table streams p else [])
+
+-- the capture of a port has not ended, and its last record is where the frontier is: nothing more goes out before it goes on
+pub record IsHeldBackBy (v : Seen) (port : ℕ) : Type 0 where
+  pub streams : List Stream
+  pub are : AreStreams v.intakes streams
+  pub stream : Stream
+  pub among : Contains streams stream
+  pub port_is : stream.port ≡ port
+  pub still_open : stream.closed ≡ false
+  pub at : frontier streams ≡ Some (last_of stream)
 
 -- ---- what calls do
 

@@ -1,7 +1,8 @@
 //! What the machine has of one port.
 
 ghost use Rattle.std.specs.Prelude.{◌≡◌, ◌<◌, ◌≤◌, ◌-◌, ◌^◌, ◌==◌, ◌++◌, ℕ, true, false, take, None, Some, Ok, List, length, IfOk, IfErr, OnOk, IfSome, IfNone, Option, is_some};
-ghost use Rattle.std.specs.Prelude.{if◌then◌else◌, ◌+◌, IsTrue, ◌↔◌, position, find};
+ghost use Rattle.std.specs.Prelude.{if◌then◌else◌, ◌+◌, IsTrue, ◌↔◌, ◌||◌, position, find};
+ghost use Rattle.std.specs.List.{list_all};
 ghost use Rattle.afdx_pcap.specs.Record as pcap;
 ghost use Rattle.afdx_pcap.specs.Reading.{Answers};
 ghost use Rattle.afdx_session.specs.Lanes.{IsPieceFault};
@@ -204,6 +205,26 @@ impl<'a, A: Allocator + Copy> Lane<'a, A> {
         bytes
     }
 
+    /// What has gone out and was not taken goes to a file. The room of the output stays for what comes next. O(bytes).
+    ///
+    /// An error is out of memory: nothing was taken then.
+    pub(crate) fn take_into<F: NewFile>(&mut self, file: &mut F) -> Result<(), AllocError>
+        requires bound { self.old.taken + self.old.ready < 2 ^ 128 }
+        requires ready { self.old.ready ≤ length self.old.out.items }
+        ensures gives { OnOk result (Appends (F.contents file.old) (F.contents file.new) (take self.old.ready self.old.out.items)) }
+        ensures taken { OnOk result (IsTaken self.old self.new) }
+        ensures err { IfErr result (λ _. self.new ≡ self.old) }
+    {
+        if self.ready == 0 {
+            return Ok(());
+        }
+        file.append(&self.out[..self.ready])?;
+        self.taken += self.ready as u128;
+        self.ready = 0;
+        self.out.clear();
+        Ok(())
+    }
+
     /// What there is of the output goes to a file, where it is a part at least. O(bytes).
     pub(crate) fn hand_over<F: NewFile>(&mut self, file: &mut F) -> Result<(), AllocError>
         requires bound { self.old.taken + length self.old.out.items < 2 ^ 128 }
@@ -248,6 +269,20 @@ pub(crate) fn place_of<A: Allocator>(lanes: &[Lane<'_, A>], port: u8) -> Option<
     ensures { result ≡ position (λ l. l.port == port) lanes.now }
 {
     lanes.iter().position(|lane| lane.port == port)
+}
+
+/// Whether a lane is of this port, or its capture has ended.
+fn is_own_or_closed<A: Allocator>(lane: &Lane<'_, A>, port: u8) -> bool
+    ensures { result ≡ ((lane.now.port == port) || lane.now.closed) }
+{
+    lane.port == port || lane.closed
+}
+
+/// Whether the captures of all other ports have ended. O(ports).
+pub(crate) fn is_last<A: Allocator>(lanes: &[Lane<'_, A>], port: u8) -> bool
+    ensures { result ≡ list_all (λ l. (l.port == port) || l.closed) lanes.now }
+{
+    lanes.iter().all(|lane| is_own_or_closed(lane, port))
 }
 
 /// The place of the lane of a port that may be fed or closed. O(ports).

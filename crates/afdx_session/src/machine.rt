@@ -13,7 +13,7 @@ ghost use Rattle.afdx_count.specs.Tally.{noted, fresh, ended_tally};
 ghost use Rattle.afdx_session.specs.Inner.Kept.{AreOfTable, AreTouched, IsOfSameTable, IsGoing, IsRunning, come_to};
 ghost use Rattle.afdx_session.specs.Inner.Lanes.{limit_at, heads_of, NoneGoes, IsLimit};
 ghost use Rattle.afdx_session.specs.Inner.Lent.{texts_over, taken_by, left_in, IsOneFault, IsCarrying, CarriesOn, HandsOn, HaveGone};
-ghost use Rattle.afdx_session.specs.Inner.Files.{PutsOut, Proceeds, HasWritten};
+ghost use Rattle.afdx_session.specs.Inner.Files.{PutsOut, Proceeds, HasWritten, HasEndedInto};
 ghost use Rattle.std.specs.List.{AllByRecursion};
 ghost use Rattle.afdx_session.specs.Inner.View.{IsRound, IsReady, IsOpenAt, IsFed, IsNotFed, IsEnded, IsNotEnded, AreSettledLanes, AreFreshLanes, AreHalfDone, AreEndedLanes, AreLent, texts_at};
 ghost use Rattle.afdx_session.specs.Texts.{texts_of, AreOfPorts};
@@ -602,6 +602,22 @@ impl<'a, A: Allocator + Copy> Machine<'a, A> {
         self.close_all()?;
         self.go_on()?;
         Ok(Vec::with_capacity(alloc, self.lanes.len())?)
+    }
+
+    /// All captures end, and all their records go to the switch; of what leaves, what there is much of goes to the files, as in a run.
+    pub(crate) fn end_into<F: NewFile>(&mut self, files: &mut [F]) -> Result<(), RunFault>
+        requires of { AreOfTable self.old.switch.run.table self.old.lanes.items }
+        requires handed { length self.old.switch.run.handed ≡ length self.old.switch.run.table.ports }
+        requires ready { (begun : Bool) × IsReady self.old begun }
+        requires files { length files.old ≡ length self.old.lanes.items }
+        ensures ok { OnOk result (IsOfSameTable self.old.switch self.new.switch
+            × HasEndedInto F.contents (texts_at self.old.lanes.items) self.old.lanes.items files.old self.new files.new) }
+        ensures err { IfErr result (λ fault. IsReadFault (texts_at self.old.lanes.items) fault) }
+    {
+        self.close_all()?;
+        self.give_settled()?;
+        self.run_out(files)?;
+        Ok(())
     }
 
     /// The switch carries out all that is left, and all counts.

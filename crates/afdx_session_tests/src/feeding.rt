@@ -1,6 +1,7 @@
 //! Captures that are fed to a session piece by piece, while what goes out is taken.
 
 use crate::settings::{Setting, plan};
+use afdx_samples::MemoryFile;
 use afdx_session::{Outcome, RunFault, Session, run};
 use std::alloc::{AllocError, Global};
 use std::test::*;
@@ -81,7 +82,7 @@ pub(crate) struct Intake<'a> {
     port: u8,
     left: &'a [u8],
     closed: bool,
-    taken: Vec<u8>,
+    taken: MemoryFile<Global>,
 }
 
 /// Nothing of these captures has come yet.
@@ -91,7 +92,9 @@ pub(crate) fn intakes<'a>(
 ) -> Result<Vec<Intake<'a>>, AllocError> {
     let mut intakes = Vec::new(alloc);
     for (port, text) in captures {
-        let taken = Vec::new(alloc);
+        let taken = MemoryFile {
+            bytes: Vec::new(alloc),
+        };
         intakes.push(Intake {
             port: *port,
             left: text,
@@ -144,7 +147,7 @@ pub(crate) fn feed_at(
 /// Takes what has gone out of a port.
 fn take_more(session: &mut Session<Global>, intake: &mut Intake<'_>) -> Result<(), AllocError> {
     let bytes = take(session, intake.port);
-    intake.taken.extend_from_slice(&bytes)
+    intake.taken.bytes.extend_from_slice(&bytes)
 }
 
 /// The same of the port at a place.
@@ -201,6 +204,68 @@ pub(crate) fn feed_all(
     Ok(())
 }
 
+/// The next bytes of a port's capture come, so many at most; with the last of them it ends.
+fn feed_port(
+    session: &mut Session<Global>,
+    intakes: &mut [Intake<'_>],
+    port: u8,
+    size: usize,
+) -> Result<(), RunFault> {
+    for intake in intakes.iter_mut() {
+        if intake.port == port {
+            return feed_more(session, intake, size);
+        }
+    }
+    Err(RunFault::WrongPorts)
+}
+
+/// What has gone out of a port goes to its file, where there is something; whether it was as much as the session says.
+fn write_more(session: &mut Session<Global>, intake: &mut Intake<'_>) -> Result<bool, AllocError> {
+    let count = session.untaken(intake.port);
+    let wanted = intake.taken.bytes.len().checked_add(count);
+    if count > 0 {
+        session.take_into(intake.port, &mut intake.taken)?;
+    }
+    Ok(wanted == Some(intake.taken.bytes.len()) && session.untaken(intake.port) == 0)
+}
+
+/// The same of each port.
+fn write_all(
+    session: &mut Session<Global>,
+    intakes: &mut [Intake<'_>],
+) -> Result<bool, AllocError> {
+    let mut right = true;
+    for intake in intakes.iter_mut() {
+        right = write_more(session, intake)? && right;
+    }
+    Ok(right)
+}
+
+fn are_others_closed(intakes: &[Intake<'_>], port: u8) -> bool {
+    intakes
+        .iter()
+        .all(|intake| intake.port == port || intake.closed)
+}
+
+/// Pieces of the capture that holds back the output, until all have ended, but no more than 100,000; after each, what has
+/// gone out goes to the files. Whether the session says rightly how much that is, and when the capture is the last one.
+pub(crate) fn feed_waited(
+    session: &mut Session<Global>,
+    intakes: &mut [Intake<'_>],
+    size: usize,
+) -> Result<bool, RunFault> {
+    let mut right = true;
+    for _ in 0..100_000 {
+        let Some(port) = session.waits_for() else {
+            break;
+        };
+        right = session.is_last(port) == are_others_closed(intakes, port) && right;
+        feed_port(session, intakes, port, size)?;
+        right = write_all(session, intakes)? && right;
+    }
+    Ok(right && are_closed(intakes))
+}
+
 /// Whether what was taken of a port and then this rest is this text.
 fn is_joined(taken: &[u8], rest: &[u8], text: &[u8]) -> bool {
     text.len() == taken.len() + rest.len() && text.starts_with(taken) && text.ends_with(rest)
@@ -215,7 +280,7 @@ pub(crate) fn agree(intakes: &[Intake<'_>], rest: &Reported, whole: &Reported) -
     for intake in intakes {
         let (left, text) = (rest.captures.get(place), whole.captures.get(place));
         let same = match (left, text) {
-            (Some(left), Some(text)) => is_joined(&intake.taken, &left.1, &text.1),
+            (Some(left), Some(text)) => is_joined(&intake.taken.bytes, &left.1, &text.1),
             _ => false,
         };
         if !same {

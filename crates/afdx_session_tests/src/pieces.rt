@@ -1,7 +1,7 @@
 //! Captures that come in pieces, in any order of ports, beside a run over the whole captures.
 
 use crate::feeding::{
-    Intake, Reported, agree, feed_all, feed_at, intakes, open, rest, take_at, whole,
+    Intake, Reported, agree, feed_all, feed_at, feed_waited, intakes, open, rest, take_at, whole,
 };
 use crate::formats::{AT_BIG_NANOS, AT_LITTLE_MICROS, BIG_NANOS, LITTLE_MICROS};
 use crate::settings::Content::Rows;
@@ -24,13 +24,16 @@ enum Pieces<'a> {
     Round(&'a [usize], usize),
     /// Of random sizes and captures, with takes at random, which this seed determines.
     Random(u64),
+    /// Of this size, each of the capture that holds back the output, while all that goes out goes to files.
+    Waited(usize),
 }
 
-/// The pieces come; whether none was refused.
+/// The pieces come; whether none was refused, and the session says rightly what it waits for.
 fn come(session: &mut Session<Global>, intakes: &mut [Intake<'_>], pieces: Pieces<'_>) -> bool {
     match pieces {
         Pieces::Round(places, size) => feed_all(session, intakes, places, size).is_ok(),
         Pieces::Random(seed) => come_at_random(session, intakes, seed),
+        Pieces::Waited(size) => feed_waited(session, intakes, size) == Ok(true),
     }
 }
 
@@ -75,7 +78,7 @@ struct Row {
     kinds: &'static [Pieces<'static>],
 }
 
-/// Pieces of 1, 7 and 64 bytes round two ports, from the lowest and from the highest.
+/// Pieces of 1, 7 and 64 bytes round two ports, from the lowest and from the highest, and of the port that is waited for.
 const ROUND_TWO: &[Pieces<'static>] = &[
     Pieces::Round(&[0, 1], 1),
     Pieces::Round(&[0, 1], 7),
@@ -83,6 +86,9 @@ const ROUND_TWO: &[Pieces<'static>] = &[
     Pieces::Round(&[1, 0], 1),
     Pieces::Round(&[1, 0], 7),
     Pieces::Round(&[1, 0], 64),
+    Pieces::Waited(1),
+    Pieces::Waited(7),
+    Pieces::Waited(64),
 ];
 
 /// The same round three ports.
@@ -93,6 +99,9 @@ const ROUND_THREE: &[Pieces<'static>] = &[
     Pieces::Round(&[2, 1, 0], 1),
     Pieces::Round(&[2, 1, 0], 7),
     Pieces::Round(&[2, 1, 0], 64),
+    Pieces::Waited(1),
+    Pieces::Waited(7),
+    Pieces::Waited(64),
 ];
 
 const ROWS: &[Row] = &[
@@ -277,7 +286,12 @@ fn come_at_random(session: &mut Session<Global>, intakes: &mut [Intake<'_>], see
 fn random_captures_lead(alloc: Global, seed: u64) -> Result<bool, Fail> {
     let mut random = SmallRng::seed_from_u64(seed);
     let captures = random_captures(alloc, &mut random)?;
-    all_lead(alloc, NETWORK, &captures, &[Pieces::Random(seed)])
+    all_lead(
+        alloc,
+        NETWORK,
+        &captures,
+        &[Pieces::Random(seed), Pieces::Waited(100)],
+    )
 }
 
 #[test]

@@ -1,0 +1,229 @@
+-- What the files of a run lead to, read in pieces or whole.
+use Rattle.std.proofs.Common.{◌≡◌, ℕ, zero, suc, ◌+◌, ◌<◌, get_or, Bool, List, [], ◌∷◌, map, length, take, drop, ◌++◌, slice_get, Option, Some, None, Ok, Err, refl, sym, ap, subst, ◌∙◌, inl, inr}
+use Rattle.std.proofs.Common.{Result}
+use Rattle.std.specs.Prelude.{IfSome, MatchResult}
+use Rattle.std.proofs.lemmas.List.{length-map, length-append, map-append, take_more}
+use Rattle.std.proofs.lemmas.Option.{same_Some}
+use Rattle.std.proofs.lemmas.Simd.{map-map}
+use Rattle.afdx_table.specs.declared.rows.PortRow.{PortRow}
+use Rattle.afdx_table.specs.Content.{Content}
+use Rattle.afdx_table.specs.WellFormed.{TablesAreWellFormed}
+use Rattle.afdx_count.specs.Tally.{Tally}
+use Rattle.afdx_count.specs.Report.{report_of}
+use Rattle.afdx_session.specs.Texts.{Text, AreOfPorts}
+use Rattle.afdx_session.specs.declared.plan.Plan.{Plan}
+use Rattle.afdx_session.specs.Outcome.{table_in}
+use Rattle.afdx_session.specs.Headline.{AcceptedRunsIsolate}
+use Rattle.afdx_session.specs.Sources.{AreRead}
+use Rattle.afdx_session.specs.Written.{IsWritten}
+use Rattle.afdx_arguments.specs.declared.request.Paths.{Paths}
+use Rattle.afdx_arguments.specs.declared.request.Inputs.{Inputs}
+use Rattle.afdx_failures.specs.declared.failure.Failure.{Failure}
+use Rattle.afdx_failures.specs.declared.failure.Failure.TheVariants as failure
+use Rattle.afdx_devices.specs.Files.{Files, DeviceLog, Shows, ShowsAll, IsOpened, KeepsFiles}
+use Rattle.afdx_devices.specs.Input.{AreGiven}
+use Rattle.afdx_serve.specs.Runs.{capture_name, names_in, port_names, bytes_of_captures, inputs_of, HasPlan, HasCaptures, FailsToGather}
+use Rattle.afdx_serve.specs.Inner.Outputs.{AreEmpty, HaveBytes}
+use Rattle.afdx_serve.specs.Inner.Leading.{IsPlanOf, FailsToReadPlan, AreOpened, IsInFiles, FailsToLeadWhole, IsLed}
+use Rattle.afdx_serve.proofs.FileLemmas.{KeepsFiles-trans, ShowsAll-before, IsOpened-before}
+use Rattle.afdx_serve.proofs.PutLemmas.{have_bytes, written_back}
+use Rattle.afdx_serve.proofs.RunLemmas.{leads_to, same_names, not_gathered, not_led}
+
+-- ---- readers
+
+-- what holds at each place of two lists holds with one pair before them
+cons_each : {R : Type 0} (P : R → List ℕ → Type 0) (reader : R) (name : List ℕ) (readers : List R) (names : List (List ℕ)) → P reader name
+    → ((place : ℕ) (r : R) (n : List ℕ) → slice_get readers place ≡ Some r → slice_get names place ≡ Some n → P r n)
+    → (place : ℕ) (r : R) (n : List ℕ) → slice_get (reader ∷ readers) place ≡ Some r → slice_get (name ∷ names) place ≡ Some n → P r n
+cons_each P reader name readers names one rest zero r n is_reader is_name =
+    let same_reader : reader ≡ r = same_Some reader r is_reader in
+    let same_name : name ≡ n = same_Some name n is_name in
+    subst (λ x. P x n) same_reader (subst (λ m. P reader m) same_name one)
+cons_each P reader name readers names one rest (suc place) r n is_reader is_name = rest place r n is_reader is_name
+
+-- of one pair more
+push_each : {R : Type 0} (P : R → List ℕ → Type 0) (reader : R) (name : List ℕ) (readers : List R) (names : List (List ℕ)) → length readers ≡ length names → P reader name
+    → ((place : ℕ) (r : R) (n : List ℕ) → slice_get readers place ≡ Some r → slice_get names place ≡ Some n → P r n)
+    → (place : ℕ) (r : R) (n : List ℕ) → slice_get (readers ++ reader ∷ []) place ≡ Some r → slice_get (names ++ name ∷ []) place ≡ Some n → P r n
+push_each P reader name [] [] many one rest = cons_each P reader name [] [] one rest
+push_each P reader name [] (m ∷ names) many one rest = absurd cc
+push_each P reader name (x ∷ readers) [] many one rest = absurd cc
+push_each P reader name (x ∷ readers) (m ∷ names) many one rest =
+    let fewer : length readers ≡ length names = cc in
+    cons_each P x m (readers ++ reader ∷ []) (names ++ name ∷ []) (rest zero x m refl refl)
+    (push_each P reader name readers names fewer one (λ place r n is_reader is_name. rest (suc place) r n is_reader is_name))
+
+-- one more was opened
+opened_push : {R : Type 0} (remaining : R → Option (List ℕ)) (files : Option Files) (names : List (List ℕ)) (readers : List R) (name : List ℕ) (new : R)
+    → AreOpened remaining files names readers → IsOpened files name (remaining new) → AreOpened remaining files (names ++ name ∷ []) (readers ++ new ∷ [])
+opened_push remaining files names readers name new was one = record {
+  many = length-append readers (new ∷ []) ∙ ap (λ n. n + 1) was.many ∙ sym (length-append names (name ∷ []));
+  each = push_each (λ r n. IsOpened files n (remaining r)) new name readers names was.many one was.each;
+}
+
+-- the next of these names was opened
+pub opened_next : {X : Type 0} (str : X → List ℕ) {R : Type 0} (remaining : R → Option (List ℕ)) (a b : Option Files) (names : List X) (i : ℕ) (d : X) (name : List ℕ) (old new : List R) (one : R)
+    → i < length names → KeepsFiles a b → AreOpened remaining a (map str (take i names)) old → name ≡ str (get_or names i d) → IsOpened b name (remaining one) → new ≡ old ++ one ∷ []
+    → AreOpened remaining a (map str (take (i + 1) names)) new
+opened_next str remaining a b names i d name old new one lt keeps was is opened grown =
+    let more : map str (take (i + 1) names) ≡ map str (take i names) ++ str (get_or names i d) ∷ [] =
+    ap (map str) (take_more names i d lt) ∙ map-append str (take i names) (get_or names i d ∷ []) in
+    let here = subst (λ (n : List ℕ). IsOpened a n (remaining one)) is (IsOpened-before a b name (remaining one) keeps opened) in
+    subst (λ all. AreOpened remaining a all new) (sym more) (subst (λ rs. AreOpened remaining a (map str (take i names) ++ str (get_or names i d) ∷ []) rs) (sym grown)
+    (opened_push remaining a (map str (take i names)) old (str (get_or names i d)) one was here))
+
+-- the texts that readers of files give are what is under the names
+module _ {R : Type 0} (remaining : R → Option (List ℕ)) (f : Files) where
+  given_bytes : (name bytes : List ℕ) (reader : R) → IsOpened (Some f) name (remaining reader) → AreGiven (remaining reader) bytes → f name ≡ Some bytes
+  given_bytes name bytes reader opened given =
+      let same : bytes ≡ opened.0 = subst (λ (o : Option (List ℕ)). IfSome o (λ all. bytes ≡ all)) opened.2 given in
+      opened.1 ∙ ap (λ (b : List ℕ). Some b) (sym same)
+
+  shown : (names : List (List ℕ)) (readers : List R) (texts : List Text) → length readers ≡ length names → length texts ≡ length readers
+      → ((place : ℕ) (reader : R) (name : List ℕ) → slice_get readers place ≡ Some reader → slice_get names place ≡ Some name → IsOpened (Some f) name (remaining reader))
+      → ((place : ℕ) (reader : R) (text : Text) → slice_get readers place ≡ Some reader → slice_get texts place ≡ Some text → AreGiven (remaining reader) text.1)
+      → map f names ≡ map (λ (bytes : List ℕ). Some bytes) (bytes_of_captures texts)
+  shown [] [] [] many as_many opened given = refl
+  shown [] [] (t ∷ texts) many as_many opened given = absurd cc
+  shown [] (r ∷ readers) texts many as_many opened given = absurd cc
+  shown (n ∷ names) [] texts many as_many opened given = absurd cc
+  shown (n ∷ names) (r ∷ readers) [] many as_many opened given = absurd cc
+  shown (n ∷ names) (r ∷ readers) (t ∷ texts) many as_many opened given =
+      let fewer : length readers ≡ length names = cc in
+      let fewer_texts : length texts ≡ length readers = cc in
+      ap (λ (o : Option (List ℕ)). o ∷ map f names) (given_bytes n t.1 r (opened zero r n refl refl) (given zero r t refl refl))
+      ∙ ap (λ (os : List (Option (List ℕ))). Some t.1 ∷ os) (shown names readers texts fewer fewer_texts (λ place. opened (suc place)) (λ place. given (suc place)))
+
+all_shown : {R : Type 0} (remaining : R → Option (List ℕ)) (files : Option Files) (names : List (List ℕ)) (readers : List R) (texts : List Text) → AreOpened remaining files names readers
+    → AreRead remaining readers texts → ShowsAll files names (bytes_of_captures texts)
+all_shown remaining None names readers texts opened read = tt
+all_shown remaining (Some f) names readers texts opened read = shown remaining f names readers texts opened.many read.many opened.each read.each
+
+-- the names of captures of a table's ports
+pub named_ports : (path : List ℕ) (t : Content) (captures : List Text) → AreOfPorts t captures → names_in path captures ≡ port_names path t
+named_ports path t captures are =
+    sym (map-map (capture_name path) (λ (x : Text). x.0) captures) ∙ ap (map (capture_name path)) are ∙ map-map (capture_name path) (λ (p : PortRow). p.id) t.ports
+
+-- what was read of opened captures are the captures of the table's ports
+pub opened_are_captures : {R : Type 0} (remaining : R → Option (List ℕ)) (files : Option Files) (path : List ℕ) (t : Content) (names : List (List ℕ)) (readers : List R) (texts : List Text)
+    → names ≡ port_names path t → AreOpened remaining files names readers → AreRead remaining readers texts → AreOfPorts t texts → HasCaptures files path t texts
+opened_are_captures remaining files path t names readers texts named opened read are =
+    (are, subst (λ (ns : List (List ℕ)). ShowsAll files ns (bytes_of_captures texts)) (named ∙ sym (named_ports path t texts are)) (all_shown remaining files names readers texts opened read))
+
+-- ---- new files
+
+-- what was written to new files, which were lent as a whole, is in them
+pub in_files : {N : Type 0} (contents : N → Option (List ℕ)) (a b : Option Files) (t : Content) (texts : List Text) (begun new : List N) (len : ℕ) (counts : Tally) (report : List ℕ)
+    → KeepsFiles a b → AreEmpty contents b begun → len ≡ length new → IsWritten contents t texts begun new counts → report ≡ report_of counts
+    → IsInFiles contents a t texts (take len (new ++ drop (length new) begun)) report
+in_files contents a b t texts begun new len counts report keeps empty long is reported = record {
+  results = is.results;
+  outcome = is.outcome;
+  have = subst (λ files. HaveBytes contents a files (bytes_of_captures is.results.captures)) (sym (written_back begun new len long))
+      (have_bytes contents a b begun new is.results.captures keeps empty is.appended);
+  reported = reported ∙ ap report_of is.counted;
+}
+
+have_before : {N : Type 0} (contents : N → Option (List ℕ)) (a b : Option Files) (files : List N) (all : List (List ℕ)) → KeepsFiles a b → HaveBytes contents b files all
+    → HaveBytes contents a files all
+have_before contents None b files all keeps have = tt
+have_before contents (Some f) None files all keeps have = absurd keeps
+have_before contents (Some f) (Some g) files all keeps have = have
+
+-- ---- plans
+
+pub has_plan : (inputs : Inputs) (files : Option Files) (text : List ℕ) (plan : Plan) → Shows files inputs.table.now text → IsPlanOf text inputs.unchecked plan → HasPlan files inputs (table_in plan)
+has_plan inputs files text plan shows is = ((text, shows, is.is_table), is.accepted)
+
+-- two plans that are read of one text are over one table
+pub same_table : (text : List ℕ) (unchecked : Bool) (first second : Plan) → IsPlanOf text unchecked first → IsPlanOf text unchecked second → table_in first ≡ table_in second
+same_table text unchecked first second one two =
+    let a = one.is_table in
+    let b = two.is_table in
+    cc
+
+-- there is no plan, so that the files lead to nothing
+pub not_planned : (f : Failure) (inputs : Inputs) (files : Option Files) (text : List ℕ) (before after : DeviceLog) → Shows files inputs.table.now text → after ≡ before
+    → FailsToReadPlan f text inputs.unchecked → FailsToGather f inputs files before after
+not_planned (failure.Table r) inputs files text before after shows same h = ((text, shows, h), same)
+not_planned (failure.Load r) inputs files text before after shows same h = (h.0, (h.1.0, (text, shows, h.1.1), h.1.2, same))
+not_planned failure.Memory inputs files text before after shows same h = tt
+not_planned failure.Usage inputs files text before after shows same h = absurd h
+not_planned (failure.Capture r) inputs files text before after shows same h = absurd h
+not_planned (failure.PortCapture p r) inputs files text before after shows same h = absurd h
+not_planned (failure.Get s) inputs files text before after shows same h = absurd h
+not_planned (failure.Put s) inputs files text before after shows same h = absurd h
+not_planned (failure.Network r) inputs files text before after shows same h = absurd h
+not_planned failure.Read inputs files text before after shows same h = absurd h
+not_planned failure.Write inputs files text before after shows same h = absurd h
+
+-- ---- what it leads to
+
+-- the captures are those of the table's ports, and their outcome is in the new files
+pub led : TablesAreWellFormed → AcceptedRunsIsolate → {N : Type 0} (contents : N → Option (List ℕ)) (paths : Paths) (a b : Option Files) (text : List ℕ) (plan : Plan) (captures : List Text)
+    (names : List (List ℕ)) (files : List N) (report : List ℕ) → Shows a paths.table.now text → IsPlanOf text paths.unchecked plan → HasCaptures a paths.input.now (table_in plan) captures
+    → names ≡ port_names paths.output.now (table_in plan) → KeepsFiles a b → IsInFiles contents b (table_in plan) captures files report → IsLed contents paths a files names report
+led formed isolate contents paths a b text plan captures names files report shows is has named keeps in_them =
+    let results = in_them.results in
+    let same = named ∙ sym (named_ports paths.output.now (table_in plan) captures has.0) ∙ same_names paths.output.now (table_in plan) captures results in_them.outcome in
+    record {
+      results = results;
+      leads = leads_to formed isolate paths a plan captures results (record { has_plan = has_plan (inputs_of paths) a text plan shows is; cleared = is.cleared; has_captures = has }) in_them.outcome;
+      named = same;
+      many = length-map results.captures (λ (x : Text). x.1) ∙ sym (length-map results.captures (λ (x : Text). capture_name paths.output.now x.0)) ∙ sym (ap length same);
+      have = have_before contents a b files (bytes_of_captures results.captures) keeps in_them.have;
+      reported = in_them.reported;
+    }
+
+-- the captures were not got whole, or lead to nothing
+pub not_led_whole : (inputs : Inputs) (a b : Option Files) (text : List ℕ) (plan : Plan) (first before after : DeviceLog) → Shows a inputs.table.now text → IsPlanOf text inputs.unchecked plan
+    → KeepsFiles a b → before ≡ first → (f : Failure) → FailsToLeadWhole f b inputs.input.now (table_in plan) before after → FailsToGather f inputs a first after
+not_led_whole inputs a b text plan first before after shows is keeps same f (inl h) =
+    not_gathered inputs a b (table_in plan) first before after (has_plan inputs a text plan shows is) keeps same f h
+not_led_whole inputs a b text plan first before after shows is keeps same f (inr h) =
+    not_led inputs a plan h.0 first after
+    (record { has_plan = has_plan inputs a text plan shows is; cleared = is.cleared; has_captures = (h.1.0, ShowsAll-before a b _ _ keeps h.1.1) })
+    (h.3 ∙ same) f h.2
+
+captures_before : (a b : Option Files) (path : List ℕ) (t : Content) (texts : List Text) → KeepsFiles a b → HasCaptures b path t texts → HasCaptures a path t texts
+captures_before a b path t texts keeps has = (has.0, ShowsAll-before a b _ _ keeps has.1)
+
+-- what captures lead to that were got whole is what the files lead to
+pub whole_led : TablesAreWellFormed → AcceptedRunsIsolate → {N X : Type 0} (contents : N → Option (List ℕ)) (files : X → List N) (report : X → List ℕ) (paths : Paths) (a b : Option Files)
+    (text : List ℕ) (plan : Plan) (names : List (List ℕ)) (first before after : DeviceLog) (r : Result X Failure) → Shows a paths.table.now text → IsPlanOf text paths.unchecked plan
+    → names ≡ port_names paths.output.now (table_in plan) → KeepsFiles a b → before ≡ first
+    → MatchResult r
+    (λ x. ((texts : List Text) × HasCaptures b paths.input.now (table_in plan) texts × IsInFiles contents b (table_in plan) texts (files x) (report x)) × (after ≡ before))
+    (λ f. FailsToLeadWhole f b paths.input.now (table_in plan) before after)
+    → MatchResult r (λ x. IsLed contents paths a (files x) names (report x) × (after ≡ first)) (λ f. FailsToGather f (inputs_of paths) a first after)
+whole_led formed isolate contents files report paths a b text plan names first before after (Ok x) shows is named keeps same h = (
+  led formed isolate contents paths a b text plan h.0.0 names (files x) (report x) shows is (captures_before a b paths.input.now (table_in plan) h.0.0 keeps h.0.1) named keeps h.0.2,
+  h.1 ∙ same,
+)
+whole_led formed isolate contents files report paths a b text plan names first before after (Err f) shows is named keeps same h =
+    not_led_whole (inputs_of paths) a b text plan first before after shows is keeps same f h
+
+opened_before : {R : Type 0} (remaining : R → Option (List ℕ)) (a b : Option Files) (names : List (List ℕ)) (readers : List R) → KeepsFiles a b → AreOpened remaining b names readers
+    → AreOpened remaining a names readers
+opened_before remaining a b names readers keeps opened = record {
+  many = opened.many;
+  each = λ place reader name is_reader is_name. IsOpened-before a b name (remaining reader) keeps (opened.each place reader name is_reader is_name);
+}
+
+-- so is what opened captures lead to
+pub opened_led : TablesAreWellFormed → AcceptedRunsIsolate → {N R : Type 0} (contents : N → Option (List ℕ)) (remaining : R → Option (List ℕ)) (paths : Paths) (a b c : Option Files) (text : List ℕ)
+    (plan : Plan) (sources names : List (List ℕ)) (readers : List R) (texts : List Text) (files : List N) (report : List ℕ) → Shows a paths.table.now text → IsPlanOf text paths.unchecked plan
+    → sources ≡ port_names paths.input.now (table_in plan) → names ≡ port_names paths.output.now (table_in plan) → KeepsFiles a b → KeepsFiles b c → AreOpened remaining b sources readers
+    → AreRead remaining readers texts → IsInFiles contents c (table_in plan) texts files report → IsLed contents paths a files names report
+opened_led formed isolate contents remaining paths a b c text plan sources names readers texts files report shows is from named first second opened read in_them =
+    led formed isolate contents paths a c text plan texts names files report shows is
+    (opened_are_captures remaining a paths.input.now (table_in plan) sources readers texts from (opened_before remaining a b sources readers first opened) read in_them.outcome.ports) named
+    (KeepsFiles-trans a b c first second) in_them
+
+-- there are as many names as ports
+pub as_many : {X : Type 0} (str : X → List ℕ) (path : List ℕ) (t : Content) (names : List X) → map str names ≡ port_names path t → length names ≡ length t.ports
+as_many str path t names named = sym (length-map names str) ∙ ap length named ∙ length-map t.ports (λ (p : PortRow). capture_name path p.id)
+
+-- what holds of what is there
+pub some_has : {X : Type 0} (P : X → Type 0) (o : Option X) (x : X) → o ≡ Some x → IfSome o P → P x
+some_has P o x is h = subst (λ (k : Option _). IfSome k P) is h

@@ -1,0 +1,770 @@
+-- Captures that are read in pieces: one more read, and then what has gone out is taken.
+use Rattle.std.proofs.Common.{◌≡◌, ◌≢◌, ◌⊎◌, ℕ, zero, suc, ◌+◌, ◌<◌, ◌≤◌, ◌==◌, nat_lt, Bool, true, false, cond, not, List, [], ◌∷◌, ◌++◌, map, length, drop, set, get_or}
+use Rattle.std.proofs.Common.{slice_get, Option, Some, None, IfSome}
+use Rattle.std.proofs.Common.{refl, ap, sym, ◌∙◌, arith, subst, inl, inr, length-set}
+use Rattle.std.specs.Prelude.{find, Result, Ok, Err, IsErr, IsErrAnd, IfErr}
+use Rattle.std.specs.List.{AllByRecursion, position, position_or_len}
+use Rattle.std.specs.Io.KnownBytes.{Appends, Consumes, IsAtEnd, Keeps}
+use Rattle.std.proofs.KnownBytes.{Appends-nil, Appends-trans, Consumes-nil, Consumes-trans, Consumes-whole}
+use Rattle.std.proofs.lemmas.Bool.{both_ways, eqb-true}
+use Rattle.std.proofs.lemmas.List.{append-nil, length-map}
+use Rattle.std.proofs.lemmas.Option.{same_Some, slice_get_within}
+use Rattle.afdx_pcap.specs.declared.fault.PcapFault.{PcapFault}
+use Rattle.afdx_pcap.specs.Fault.{IsFault, IsEarlyFault}
+use Rattle.afdx_table.specs.declared.rows.PortRow.{PortRow}
+use Rattle.afdx_table.specs.Content.{Content, port_row}
+use Rattle.afdx_table.specs.WellFormed.{Rises}
+use Rattle.afdx_count.specs.Tally.{Tally}
+use Rattle.afdx_devices.specs.Input.{AreGiven}
+use Rattle.afdx_session.specs.declared.plan.RunFault.{RunFault}
+use Rattle.afdx_session.specs.declared.plan.RunFault.TheVariants as run
+use Rattle.afdx_session.specs.declared.sources.SourceFault.{SourceFault}
+use Rattle.afdx_session.specs.Texts.{Text}
+use Rattle.afdx_session.specs.Reading.{IsFirstFault, IsReadFault, IsFaultAt}
+use Rattle.afdx_session.specs.Lanes.{IsPieceFault}
+use Rattle.afdx_session.specs.Session.{Intake, Seen, fresh_intake, fresh_session, HasGoneOut, intake_bytes, taken_in, fed_bytes, taken_of, refusal_at, refusal, changed, fed, closed_intake, took}
+use Rattle.afdx_session.specs.Session.{after_feed, after_close, after_take, IsRefused}
+use Rattle.afdx_session.specs.Finish.{text_in, texts_in}
+use Rattle.afdx_session.specs.Sources.{AreRead, GivesFault, IsSourceFault}
+use Rattle.afdx_session.specs.Into.{HasTaken, HaveTaken, IsFinishedInto, IsNotFinishedInto}
+use Rattle.afdx_session.specs.Outcome.{IsOutcome}
+use Rattle.afdx_session.specs.Written.{IsWritten}
+use Rattle.afdx_session.specs.Inner.Pieces.{GoesOnTo, CallsGoOn, NothingWasTaken, TakenStays, TakesJoin}
+use Rattle.afdx_session.specs.Inner.Sources.{IsOfBytes, source_fault, IsReadUpTo, AreReadUpTo, AreAtEnd, IsOfTable, GoesOnUntaken, ReadsOn, HasSameBytes, HaveSameBytes, TakesParts}
+use Rattle.afdx_session.specs.Inner.Sources.{GoesOnReading, IsFaultSince}
+use Rattle.afdx_session.proofs.Closing.{set_same}
+use Rattle.afdx_session.proofs.Handing.{its_place}
+use Rattle.afdx_session.proofs.Into.{row_found}
+use Rattle.afdx_session.proofs.Numbered.{all_slice_get}
+use Rattle.afdx_session.proofs.Parts.{at_set}
+use Rattle.afdx_session.proofs.Pieces.{all_fed_none}
+use Rattle.afdx_session.proofs.Places.{position_at, position_none}
+use Rattle.afdx_session.proofs.Writing.{mapped_from}
+
+-- ---- the intake of a port
+
+abbrev is_of : ℕ → Intake → Bool
+is_of port i = i.port == port
+
+abbrev is_port : ℕ → ℕ → Bool
+is_port port n = n == port
+
+abbrev ports_in : List Intake → List ℕ
+ports_in intakes = map (λ (i : Intake). i.port) intakes
+
+-- the first of a port, and what it is changed to
+pub record IsIntakeAt (intakes : List Intake) (port place : ℕ) : Type 0 where
+  pub intake : Intake
+  pub at : slice_get intakes place ≡ Some intake
+  pub port_is : intake.port ≡ port
+  pub found : find (is_of port) intakes ≡ Some intake
+  pub changed_is : (f : Intake → Intake) → changed port f intakes ≡ set intakes place (f intake)
+
+intake_place : (intakes : List Intake) (port place : ℕ) → position_or_len (is_port port) (ports_in intakes) ≡ place → place < length intakes → IsIntakeAt intakes port place
+intake_place [] port place is lt = absurd (omega (arith, lt))
+intake_place (i ∷ intakes) port place is lt = by (i.port == port) refl (intake_place intakes port (position_or_len (is_port port) (ports_in intakes)) refl) where
+  by : (b : Bool) → (i.port == port) ≡ b → (position_or_len (is_port port) (ports_in intakes) < length intakes → IsIntakeAt intakes port (position_or_len (is_port port) (ports_in intakes)))
+      → IsIntakeAt (i ∷ intakes) port place
+  by true here further =
+      let none : zero ≡ place = ap (λ b. cond (not b) (1 + position_or_len (is_port port) (ports_in intakes)) zero) (sym here) ∙ is in
+      subst (IsIntakeAt (i ∷ intakes) port) none (record {
+        intake = i;
+        at = refl;
+        port_is = eqb-true i.port port here;
+        found = ap (λ b. cond b (Some i) (find (is_of port) intakes)) here;
+        changed_is = λ f. ap (λ b. cond b (f i ∷ intakes) (i ∷ changed port f intakes)) here;
+      })
+  by false other further =
+      let more : 1 + position_or_len (is_port port) (ports_in intakes) ≡ place = ap (λ b. cond (not b) (1 + position_or_len (is_port port) (ports_in intakes)) zero) (sym other) ∙ is in
+      let rest = further (omega (arith, lt, more)) in
+      let step : suc (position_or_len (is_port port) (ports_in intakes)) ≡ place = omega (arith, more) in
+      subst (IsIntakeAt (i ∷ intakes) port) step (record {
+        intake = rest.intake;
+        at = rest.at;
+        port_is = rest.port_is;
+        found = ap (λ b. cond b (Some i) (find (is_of port) intakes)) other ∙ rest.found;
+        changed_is = λ f. ap (λ b. cond b (f i ∷ intakes) (i ∷ changed port f intakes)) other ∙ ap (λ is. i ∷ is) (rest.changed_is f);
+      })
+
+none_found : (intakes : List Intake) (port : ℕ) → length intakes ≤ position_or_len (is_port port) (ports_in intakes) → find (is_of port) intakes ≡ None
+none_found [] port le = refl
+none_found (i ∷ intakes) port le = by (i.port == port) refl (none_found intakes port) where
+  by : (b : Bool) → (i.port == port) ≡ b → (length intakes ≤ position_or_len (is_port port) (ports_in intakes) → find (is_of port) intakes ≡ None) → find (is_of port) (i ∷ intakes) ≡ None
+  by true here further =
+      let none = ap (λ b. cond (not b) (1 + position_or_len (is_port port) (ports_in intakes)) zero) here in
+      absurd (omega (arith, le, none))
+  by false other further =
+      let more = ap (λ b. cond (not b) (1 + position_or_len (is_port port) (ports_in intakes)) zero) other in
+      ap (λ b. cond b (Some i) (find (is_of port) intakes)) other ∙ further (omega (arith, le, more))
+
+-- the ports, as numbers, are those of the intakes
+numbers_are : (v : Seen) (numbers : List ℕ) → IsOfTable v.table v → numbers ≡ map (λ (p : PortRow). p.id) v.table.ports → numbers ≡ ports_in v.intakes
+numbers_are v numbers of are = are ∙ sym of.ports
+
+pub place_in : (v : Seen) (numbers : List ℕ) (port place : ℕ) → IsOfTable v.table v → numbers ≡ map (λ (p : PortRow). p.id) v.table.ports → position (is_port port) numbers ≡ Some place
+    → IsIntakeAt v.intakes port place
+place_in v numbers port place of are at =
+    let both = position_at (is_port port) (ports_in v.intakes) place (ap (position (is_port port)) (sym (numbers_are v numbers of are)) ∙ at) in
+    intake_place v.intakes port place both.0 (subst (λ n. place < n) (length-map v.intakes _) both.1)
+
+-- a port that may go on is there
+pub is_there : (v : Seen) (numbers : List ℕ) (port : ℕ) → IsOfTable v.table v → numbers ≡ map (λ (p : PortRow). p.id) v.table.ports → refusal v port ≡ None
+    → position (is_port port) numbers ≡ None → ⊥
+is_there v numbers port of are may none =
+    let le = position_none (is_port port) (ports_in v.intakes) (ap (position (is_port port)) (sym (numbers_are v numbers of are)) ∙ none) in
+    let lost = none_found v.intakes port (subst (λ n. n ≤ position_or_len (is_port port) (ports_in v.intakes)) (length-map v.intakes _) le) in
+    let is : cond v.failed (Some run.Failed) (Some run.WrongPorts) ≡ None = ap (λ o. cond v.failed (Some run.Failed) (refusal_at o)) (sym lost) ∙ may in
+    absurd (some v.failed is) where
+      some : (b : Bool) → cond b (Some run.Failed) (Some run.WrongPorts) ≡ None → ⊥
+      some true is = cc
+      some false is = cc
+
+-- it has not ended
+still_open : (v : Seen) (port : ℕ) (i : Intake) → refusal v port ≡ None → find (is_of port) v.intakes ≡ Some i → i.closed ≡ true → ⊥
+still_open v port i may found closed = by v.failed (ap (λ o. cond v.failed (Some run.Failed) (refusal_at o)) (sym found) ∙ may) where
+  by : (b : Bool) → cond b (Some run.Failed) (refusal_at (Some i)) ≡ None → ⊥
+  by true is = absurd cc
+  by false is = let none : Some run.Closed ≡ None = ap (λ c. cond c (Some run.Closed) None) (sym closed) ∙ is in absurd cc
+
+-- ---- places
+
+pub row_of_intake : (intakes : List Intake) (ports : List PortRow) (k : ℕ) (i : Intake) → ports_in intakes ≡ map (λ (p : PortRow). p.id) ports → slice_get intakes k ≡ Some i
+    → (p : PortRow) × (slice_get ports k ≡ Some p) × (p.id ≡ i.port)
+row_of_intake [] ports k i same at = absurd cc
+row_of_intake (j ∷ intakes) [] k i same at = absurd cc
+row_of_intake (j ∷ intakes) (p ∷ ports) zero i same at = (p, refl, sym (ap (λ (ns : List ℕ). get_or ns 0 0) same) ∙ ap (λ (x : Intake). x.port) (same_Some j i at))
+row_of_intake (j ∷ intakes) (p ∷ ports) (suc k) i same at = row_of_intake intakes ports k i (ap (drop 1) same) at
+
+mapped_position : (ports : List PortRow) (port : ℕ) → position_or_len (is_port port) (map (λ (p : PortRow). p.id) ports) ≡ position_or_len (λ (p : PortRow). p.id == port) ports
+mapped_position [] port = refl
+mapped_position (p ∷ ports) port = ap (λ n. cond (not (p.id == port)) (1 + n) zero) (mapped_position ports port)
+
+-- a row's place is that of its number
+position_in : (ports : List PortRow) (k : ℕ) (p : PortRow) → Rises ports → slice_get ports k ≡ Some p → position (is_port p.id) (map (λ (q : PortRow). q.id) ports) ≡ Some k
+position_in ports k p rises at =
+    ap (λ n. cond (nat_lt n (length (map (λ (q : PortRow). q.id) ports))) (Some n) None) (mapped_position ports p.id)
+    ∙ ap (λ m. cond (nat_lt (position_or_len (λ (q : PortRow). q.id == p.id) ports) m) (Some (position_or_len (λ (q : PortRow). q.id == p.id) ports)) None) (length-map ports (λ q. q.id))
+    ∙ its_place ports k p rises at
+
+-- no two have the same port
+one_place : (v : Seen) (a b : ℕ) (i j : Intake) → IsOfTable v.table v → slice_get v.intakes a ≡ Some i → slice_get v.intakes b ≡ Some j → i.port ≡ j.port → a ≡ b
+one_place v a b i j of at_a at_b same =
+    let p = row_of_intake v.intakes v.table.ports a i of.ports at_a in
+    let q = row_of_intake v.intakes v.table.ports b j of.ports at_b in
+    same_Some a b (sym (its_place v.table.ports a p.0 of.rises p.1)
+    ∙ ap (λ n. position (λ (x : PortRow). x.id == n) v.table.ports) (p.2 ∙ same ∙ sym q.2) ∙ its_place v.table.ports b q.0 of.rises q.1)
+
+-- what is at a place of a list as long as another
+pub at_place : {X : Type 0} (xs : List X) (k : ℕ) → k < length xs → (x : X) × (slice_get xs k ≡ Some x)
+at_place [] k lt = absurd (omega (arith, lt))
+at_place (x ∷ xs) zero lt = (x, refl)
+at_place (x ∷ xs) (suc k) lt = at_place xs k (omega (arith, lt))
+
+intakes_long : (t : Content) (v : Seen) → IsOfTable t v → length v.intakes ≡ length t.ports
+intakes_long t v of = sym (length-map v.intakes (λ (i : Intake). i.port)) ∙ ap (λ (ns : List ℕ). length ns) of.ports ∙ length-map t.ports (λ (p : PortRow). p.id)
+
+-- ---- what changes in a session
+
+changed_ports : (port : ℕ) (f : Intake → Intake) (intakes : List Intake) → ((i : Intake) → (f i).port ≡ i.port) → ports_in (changed port f intakes) ≡ ports_in intakes
+changed_ports port f [] keeps = refl
+changed_ports port f (i ∷ intakes) keeps = by (i.port == port) refl (changed_ports port f intakes keeps) where
+  by : (b : Bool) → (i.port == port) ≡ b → ports_in (changed port f intakes) ≡ ports_in intakes → ports_in (changed port f (i ∷ intakes)) ≡ ports_in (i ∷ intakes)
+  by true here more = ap (λ b. ports_in (cond b (f i ∷ intakes) (i ∷ changed port f intakes))) here ∙ ap (λ n. n ∷ ports_in intakes) (keeps i)
+  by false other more = ap (λ b. ports_in (cond b (f i ∷ intakes) (i ∷ changed port f intakes))) other ∙ ap (λ ns. i.port ∷ ns) more
+
+-- what was taken of a port stays where it is not changed
+changed_taken : (port q : ℕ) (f : Intake → Intake) (intakes : List Intake) → ((i : Intake) → (f i).port ≡ i.port) → ((i : Intake) → i.port ≡ q → i.port ≡ port → (f i).taken ≡ i.taken)
+    → taken_in (find (is_of q) (changed port f intakes)) ≡ taken_in (find (is_of q) intakes)
+changed_taken port q f [] keeps same = refl
+changed_taken port q f (i ∷ intakes) keeps same = by (i.port == port) refl (changed_taken port q f intakes keeps same) where
+  head : (c : Bool) → (i.port == q) ≡ c → (i.port == port) ≡ true → taken_in (find (is_of q) (f i ∷ intakes)) ≡ taken_in (find (is_of q) (i ∷ intakes))
+  head true there here =
+      ap (λ b. taken_in (cond b (Some (f i)) (find (is_of q) intakes))) (ap (λ n. n == q) (keeps i) ∙ there)
+      ∙ same i (eqb-true i.port q there) (eqb-true i.port port here)
+      ∙ ap (λ b. taken_in (cond b (Some i) (find (is_of q) intakes))) (sym there)
+  head false there here =
+      ap (λ b. taken_in (cond b (Some (f i)) (find (is_of q) intakes))) (ap (λ n. n == q) (keeps i) ∙ there)
+      ∙ ap (λ b. taken_in (cond b (Some i) (find (is_of q) intakes))) (sym there)
+
+  tail : (c : Bool) → (i.port == q) ≡ c → taken_in (find (is_of q) (changed port f intakes)) ≡ taken_in (find (is_of q) intakes)
+      → taken_in (find (is_of q) (i ∷ changed port f intakes)) ≡ taken_in (find (is_of q) (i ∷ intakes))
+  tail true there more =
+      ap (λ b. taken_in (cond b (Some i) (find (is_of q) (changed port f intakes)))) there
+      ∙ ap (λ b. taken_in (cond b (Some i) (find (is_of q) intakes))) (sym there)
+  tail false there more =
+      ap (λ b. taken_in (cond b (Some i) (find (is_of q) (changed port f intakes)))) there
+      ∙ more
+      ∙ ap (λ b. taken_in (cond b (Some i) (find (is_of q) intakes))) (sym there)
+
+  by : (b : Bool) → (i.port == port) ≡ b → taken_in (find (is_of q) (changed port f intakes)) ≡ taken_in (find (is_of q) intakes)
+      → taken_in (find (is_of q) (changed port f (i ∷ intakes))) ≡ taken_in (find (is_of q) (i ∷ intakes))
+  by true here more = ap (λ b. taken_in (find (is_of q) (cond b (f i ∷ intakes) (i ∷ changed port f intakes)))) here ∙ head (i.port == q) refl here
+  by false other more = ap (λ b. taken_in (find (is_of q) (cond b (f i ∷ intakes) (i ∷ changed port f intakes)))) other ∙ tail (i.port == q) refl more
+
+-- nothing was done
+pub on_same : (v : Seen) → GoesOnTo v v
+on_same v = record { table = refl; fed = all_fed_none v.intakes; begun = λ is. is }
+
+pub untaken_same : (v : Seen) → GoesOnUntaken v v
+untaken_same v = record { on = on_same v; taken = λ port. refl }
+
+pub untaken_feed : CallsGoOn → (v : Seen) (port : ℕ) (piece : List ℕ) → refusal v port ≡ None → GoesOnUntaken v (after_feed v port piece)
+untaken_feed calls v port piece may = record { on = calls.feed v port piece may; taken = λ q. changed_taken port q (fed piece) v.intakes (λ i. refl) (λ i there here. refl) }
+
+pub untaken_close : CallsGoOn → (v : Seen) (port : ℕ) → GoesOnUntaken v (after_close v port)
+untaken_close calls v port = record { on = calls.close v port; taken = λ q. changed_taken port q closed_intake v.intakes (λ i. refl) (λ i there here. refl) }
+
+pub of_feed : (t : Content) (v : Seen) (port : ℕ) (piece : List ℕ) → IsOfTable t v → IsOfTable t (after_feed v port piece)
+of_feed t v port piece of = record { table = of.table; rises = of.rises; ports = changed_ports port (fed piece) v.intakes (λ i. refl) ∙ of.ports; none_failed = of.none_failed }
+
+pub of_close : (t : Content) (v : Seen) (port : ℕ) → IsOfTable t v → IsOfTable t (after_close v port)
+of_close t v port of = record { table = of.table; rises = of.rises; ports = changed_ports port closed_intake v.intakes (λ i. refl) ∙ of.ports; none_failed = of.none_failed }
+
+of_take : (t : Content) (v : Seen) (port n : ℕ) → IsOfTable t v → IsOfTable t (after_take v port n)
+of_take t v port n of = record { table = of.table; rises = of.rises; ports = changed_ports port (took n) v.intakes (λ i. refl) ∙ of.ports; none_failed = of.none_failed }
+
+-- files that have what was taken have it still
+pub taken_on : {F : Type 0} → CallsGoOn → (contents : F → Option (List ℕ)) (v later : Seen) (start now : List F) → GoesOnUntaken v later → HaveTaken contents v start now
+    → HaveTaken contents later start now
+taken_on calls contents v later start now on have = record {
+  long = have.long;
+  each = λ place p f g is_row is_f is_g.
+      let has = have.each place p f g (ap (λ (c : Content). slice_get c.ports place) (sym on.on.table) ∙ is_row) is_f is_g in
+      record {
+        taken = has.taken;
+        were = record { before = has.were.before; was = has.were.was; on = calls.both has.were.before v later has.were.on on.on; same = on.taken p.id ∙ has.were.same };
+        appended = has.appended;
+      };
+}
+
+-- ---- one more read
+
+pub reads_one : {R : Type 0} (remaining : R → Option (List ℕ)) (v later : Seen) (first readers : List R) (place : ℕ) (i j : Intake) (r s : R) → slice_get v.intakes place ≡ Some i
+    → slice_get readers place ≡ Some r → later.intakes ≡ set v.intakes place j → ((f : R) → IsReadUpTo remaining i f r → IsReadUpTo remaining j f s)
+    → AreReadUpTo remaining v first readers → AreReadUpTo remaining later first (set readers place s)
+reads_one {R} remaining v later first readers place i j r s at reader_at changes step was = record {
+  many = length-set readers place s ∙ was.many;
+  each = λ k m f g is_m is_f is_g. by k m f g is_f (at_set v.intakes place k j m (ap (λ is. slice_get is k) (sym changes) ∙ is_m)) (at_set readers place k s g is_g);
+} where
+  by : (k : ℕ) (m : Intake) (f g : R) → slice_get first k ≡ Some f → ((k ≡ place) × (m ≡ j)) ⊎ ((k ≢ place) × (slice_get v.intakes k ≡ Some m))
+      → ((k ≡ place) × (g ≡ s)) ⊎ ((k ≢ place) × (slice_get readers k ≡ Some g)) → IsReadUpTo remaining m f g
+  by k m f g is_f (inl here) (inr other) = absurd (other.0 here.0)
+  by k m f g is_f (inr other) (inl here) = absurd (other.0 here.0)
+  by k m f g is_f (inr one) (inr other) = was.each k m f g one.1 is_f other.1
+  by k m f g is_f (inl one) (inl here) =
+      subst (λ (x : Intake). IsReadUpTo remaining x f g) (sym one.1) (subst (IsReadUpTo remaining j f) (sym here.1)
+      (step f (was.each place i f r at (ap (slice_get first) (sym one.0) ∙ is_f) reader_at)))
+
+-- a piece came of it
+pub piece_read : {R : Type 0} (remaining : R → Option (List ℕ)) (i : Intake) (piece : List ℕ) (f r s : R) → (i.closed ≡ true → ⊥) → Consumes (remaining r) (remaining s) piece
+    → IsReadUpTo remaining i f r → IsReadUpTo remaining (fed piece i) f s
+piece_read remaining i piece f r s is_open gives was = record {
+  bytes = Consumes-trans (remaining f) (remaining r) (remaining s) i.bytes piece was.bytes gives;
+  ended = λ closed. absurd (is_open closed);
+}
+
+-- nothing did
+nothing_read : {R : Type 0} (remaining : R → Option (List ℕ)) (i : Intake) (f r s : R) → Consumes (remaining r) (remaining s) [] → IsReadUpTo remaining i f r
+    → Consumes (remaining f) (remaining s) i.bytes
+nothing_read remaining i f r s gives was = subst (Consumes (remaining f) (remaining s)) (append-nil i.bytes) (Consumes-trans (remaining f) (remaining r) (remaining s) i.bytes [] was.bytes gives)
+
+pub end_read : {R : Type 0} (remaining : R → Option (List ℕ)) (i : Intake) (f r s : R) → Consumes (remaining r) (remaining s) [] → IsAtEnd (remaining s)
+    → IsReadUpTo remaining i f r → IsReadUpTo remaining (closed_intake i) f s
+end_read remaining i f r s gives end was = record { bytes = nothing_read remaining i f r s gives was; ended = λ closed. end }
+
+pub kept_consumes : (a b : Option (List ℕ)) → Keeps a b → Consumes a b []
+kept_consumes None b keeps = tt
+kept_consumes (Some xs) None keeps = absurd keeps
+kept_consumes (Some xs) (Some ys) keeps = sym keeps
+
+pub still_read : {R : Type 0} (remaining : R → Option (List ℕ)) (i : Intake) (f r s : R) → (i.closed ≡ true → ⊥) → Consumes (remaining r) (remaining s) []
+    → IsReadUpTo remaining i f r → IsReadUpTo remaining i f s
+still_read remaining i f r s is_open gives was = record { bytes = nothing_read remaining i f r s gives was; ended = λ closed. absurd (is_open closed) }
+
+-- at the end of the last that has not ended all are at their ends
+pub all_at_end : {R : Type 0} (remaining : R → Option (List ℕ)) (v : Seen) (first readers : List R) (port place : ℕ) (at : IsIntakeAt v.intakes port place) (s : R) → IsOfTable v.table v
+    → length readers ≡ length v.intakes → AllByRecursion (λ (i : Intake). (i.port ≡ port) ⊎ (i.closed ≡ true)) v.intakes → IsAtEnd (remaining s) → AreReadUpTo remaining v first readers
+    → AreAtEnd remaining (set readers place s)
+all_at_end {R} remaining v first readers port place at s of many last end was k r is = by (at_set readers place k s r is) where
+  by : ((k ≡ place) × (r ≡ s)) ⊎ ((k ≢ place) × (slice_get readers k ≡ Some r)) → IsAtEnd (remaining r)
+  by (inl here) = subst (λ (x : R). IsAtEnd (remaining x)) (sym here.1) end
+  by (inr other) =
+      let lt = slice_get_within readers k r other.1 in
+      let long = was.many in
+      let i = at_place v.intakes k (omega (arith, lt, many)) in
+      let f = at_place first k (omega (arith, lt, long)) in
+      elim (all_slice_get (λ (x : Intake). (x.port ≡ port) ⊎ (x.closed ≡ true)) v.intakes k i.0 last i.1) [
+        | inl same ↦ absurd (other.0 (one_place v k place i.0 at.intake of i.1 at.at (same ∙ sym at.port_is)))
+        | inr closed ↦ (was.each k i.0 f.0 r i.1 f.1 other.1).ended closed
+      ]
+
+-- a read gave a piece
+pub reads_piece : {R : Type 0} → CallsGoOn → (remaining : R → Option (List ℕ)) (v later : Seen) (readers : List R) (port place : ℕ) (at : IsIntakeAt v.intakes port place) (piece : List ℕ) (r s : R)
+    → IsOfTable v.table v → refusal v port ≡ None → slice_get readers place ≡ Some r → Consumes (remaining r) (remaining s) piece → later ≡ after_feed v port piece
+    → ReadsOn remaining v readers true later (set readers place s)
+reads_piece calls remaining v later readers port place at piece r s of may reader_at gives is = subst (λ (w : Seen). ReadsOn remaining v readers true w (set readers place s)) (sym is) (record {
+  of = of_feed v.table v port piece of;
+  on = untaken_feed calls v port piece may;
+  many = length-set readers place s;
+  read = λ first was.
+      reads_one remaining v (after_feed v port piece) first readers place at.intake (fed piece at.intake) r s at.at reader_at (at.changed_is (fed piece))
+      (λ f. piece_read remaining at.intake piece f r s (still_open v port at.intake may at.found) gives) was;
+  all = λ none. absurd (both_ways true none refl);
+})
+
+-- or the end
+pub reads_end : {R : Type 0} → CallsGoOn → (remaining : R → Option (List ℕ)) (v later : Seen) (readers : List R) (port place : ℕ) (at : IsIntakeAt v.intakes port place) (r s : R)
+    → IsOfTable v.table v → slice_get readers place ≡ Some r → Consumes (remaining r) (remaining s) [] → IsAtEnd (remaining s) → later ≡ after_close v port
+    → ReadsOn remaining v readers true later (set readers place s)
+reads_end calls remaining v later readers port place at r s of reader_at gives end is = subst (λ (w : Seen). ReadsOn remaining v readers true w (set readers place s)) (sym is) (record {
+  of = of_close v.table v port of;
+  on = untaken_close calls v port;
+  many = length-set readers place s;
+  read = λ first was.
+      reads_one remaining v (after_close v port) first readers place at.intake (closed_intake at.intake) r s at.at reader_at (at.changed_is closed_intake)
+      (λ f. end_read remaining at.intake f r s gives end) was;
+  all = λ none. absurd (both_ways true none refl);
+})
+
+read_nothing : {R : Type 0} (remaining : R → Option (List ℕ)) (v : Seen) (first readers : List R) (port place : ℕ) (at : IsIntakeAt v.intakes port place) (r s : R) → refusal v port ≡ None
+    → slice_get readers place ≡ Some r → Consumes (remaining r) (remaining s) [] → AreReadUpTo remaining v first readers → AreReadUpTo remaining v first (set readers place s)
+read_nothing remaining v first readers port place at r s may reader_at gives was =
+    reads_one remaining v v first readers place at.intake at.intake r s at.at reader_at (sym (set_same v.intakes place at.intake at.at))
+    (λ f. still_read remaining at.intake f r s (still_open v port at.intake may at.found) gives) was
+
+-- or nothing, since it was interrupted
+pub reads_nothing : {R : Type 0} (remaining : R → Option (List ℕ)) (v : Seen) (readers : List R) (port place : ℕ) (at : IsIntakeAt v.intakes port place) (r s : R) → IsOfTable v.table v
+    → refusal v port ≡ None → slice_get readers place ≡ Some r → Keeps (remaining r) (remaining s) → ReadsOn remaining v readers true v (set readers place s)
+reads_nothing remaining v readers port place at r s of may reader_at keeps = record {
+  of = of;
+  on = untaken_same v;
+  many = length-set readers place s;
+  read = λ first was. read_nothing remaining v first readers port place at r s may reader_at (kept_consumes (remaining r) (remaining s) keeps) was;
+  all = λ none. absurd (both_ways true none refl);
+}
+
+-- or the end of the last that has not ended
+pub reads_last : {R : Type 0} (remaining : R → Option (List ℕ)) (v : Seen) (readers : List R) (port place : ℕ) (at : IsIntakeAt v.intakes port place) (r s : R) → IsOfTable v.table v
+    → refusal v port ≡ None → slice_get readers place ≡ Some r → length readers ≡ length v.intakes → Consumes (remaining r) (remaining s) [] → IsAtEnd (remaining s)
+    → AllByRecursion (λ (i : Intake). (i.port ≡ port) ⊎ (i.closed ≡ true)) v.intakes → ReadsOn remaining v readers false v (set readers place s)
+reads_last remaining v readers port place at r s of may reader_at many gives end last = record {
+  of = of;
+  on = untaken_same v;
+  many = length-set readers place s;
+  read = λ first was. read_nothing remaining v first readers port place at r s may reader_at gives was;
+  all = λ none first was. all_at_end remaining v first readers port place at s of many last end was;
+}
+
+-- there are as many as numbers
+pub as_many : {R : Type 0} (v : Seen) (numbers : List ℕ) (readers : List R) → IsOfTable v.table v → numbers ≡ map (λ (p : PortRow). p.id) v.table.ports → length readers ≡ length numbers
+    → length readers ≡ length v.intakes
+as_many v numbers readers of are many = many ∙ ap (λ (ns : List ℕ). length ns) (numbers_are v numbers of are) ∙ length-map v.intakes (λ (i : Intake). i.port)
+
+-- a call at a port that may go on was refused for its bytes
+pub for_its_bytes : (v later : Seen) (port : ℕ) (fault : RunFault) (Why : Type 0) → refusal v port ≡ None → IsRefused v later port fault Why → Why
+for_its_bytes v later port fault Why may (inl is) = let none : Some fault ≡ None = sym is.0 ∙ may in absurd cc
+for_its_bytes v later port fault Why may (inr is) = is.2
+
+pub of_piece : (bytes : List ℕ) (port : ℕ) (fault : RunFault) → IsPieceFault bytes port fault → IsOfBytes fault
+of_piece bytes port run.Memory is = tt
+of_piece bytes port (run.Capture at why) is = tt
+of_piece bytes port run.WrongPorts is = absurd is
+of_piece bytes port run.Closed is = absurd is
+of_piece bytes port run.Failed is = absurd is
+
+pub of_end : (bytes : List ℕ) (port : ℕ) (fault : RunFault) → IsFaultAt bytes port fault → IsOfBytes fault
+of_end bytes port run.Memory is = tt
+of_end bytes port (run.Capture at why) is = tt
+of_end bytes port run.WrongPorts is = absurd is
+of_end bytes port run.Closed is = absurd is
+of_end bytes port run.Failed is = absurd is
+
+pub of_read : (texts : List Text) (fault : RunFault) → IsReadFault texts fault → IsOfBytes fault
+of_read texts run.Memory is = tt
+of_read texts (run.Capture at why) is = tt
+of_read texts run.WrongPorts is = absurd is
+of_read texts run.Closed is = absurd is
+of_read texts run.Failed is = absurd is
+
+-- where all have ended they are, too
+pub ended_at_end : {R : Type 0} (remaining : R → Option (List ℕ)) (v : Seen) (first readers : List R) → length readers ≡ length v.intakes
+    → AllByRecursion (λ (i : Intake). i.closed ≡ true) v.intakes → AreReadUpTo remaining v first readers → AreAtEnd remaining readers
+ended_at_end remaining v first readers many ended was k r is =
+    let lt = slice_get_within readers k r is in
+    let long = was.many in
+    let i = at_place v.intakes k (omega (arith, lt, many)) in
+    let f = at_place first k (omega (arith, lt, long)) in
+    (was.each k i.0 f.0 r i.1 f.1 is).ended (all_slice_get (λ (x : Intake). x.closed ≡ true) v.intakes k i.0 ended i.1)
+
+-- ---- faults
+
+-- whatever else it gives, all that a reader gives has the fault
+early_all : ((bytes more : List ℕ) (fault : PcapFault) → IsEarlyFault bytes fault → IsEarlyFault (bytes ++ more) fault) → (a b : Option (List ℕ)) (bytes : List ℕ) (why : PcapFault)
+    → Consumes a b bytes → IsEarlyFault bytes why → IfSome a (λ all. IsFault all why)
+early_all law None b bytes why gives early = tt
+early_all law (Some xs) None bytes why gives early = absurd gives
+early_all law (Some xs) (Some ys) bytes why gives early = subst (λ zs. IsFault zs why) (sym gives) (law bytes ys why early).0
+
+gives_fault : {R : Type 0} (remaining : R → Option (List ℕ)) (v : Seen) (first : List R) (port place : ℕ) (at : IsIntakeAt v.intakes port place) (f : R) (Has : List ℕ → Type 0)
+    → IsOfTable v.table v → slice_get first place ≡ Some f → IfSome (remaining f) Has → GivesFault remaining v.table first port Has
+gives_fault remaining v first port place at f Has of is_f has =
+    let row = row_of_intake v.intakes v.table.ports place at.intake of.ports at.at in
+    record { place = place; row = row.0; reader = f; row_is = row.1; port_is = row.2 ∙ at.port_is; reader_is = is_f; has = has }
+
+pub piece_fault : {R : Type 0} → ((bytes more : List ℕ) (fault : PcapFault) → IsEarlyFault bytes fault → IsEarlyFault (bytes ++ more) fault)
+    → (remaining : R → Option (List ℕ)) (v : Seen) (readers : List R) (port place : ℕ) (at : IsIntakeAt v.intakes port place) (piece : List ℕ) (r s : R) (fault : RunFault) → IsOfTable v.table v
+    → slice_get readers place ≡ Some r → Consumes (remaining r) (remaining s) piece → IsPieceFault (fed_bytes v port ++ piece) port fault
+    → IsFaultSince remaining v readers (source_fault fault)
+piece_fault law remaining v readers port place at piece r s run.Memory of reader_at gives why first was = tt
+piece_fault law remaining v readers port place at piece r s (run.Capture other why) of reader_at gives is first was =
+    let lt = slice_get_within readers place r reader_at in
+    let long = was.many in
+    let f = at_place first place (omega (arith, lt, long)) in
+    let read = was.each place at.intake f.0 r at.at f.1 reader_at in
+    let both = Consumes-trans (remaining f.0) (remaining r) (remaining s) at.intake.bytes piece read.bytes gives in
+    let early = subst (λ xs. IsEarlyFault (xs ++ piece) why) (ap intake_bytes at.found) is.1 in
+    subst (λ n. GivesFault remaining v.table first n (λ bytes. IsFault bytes why)) (sym is.0)
+    (gives_fault remaining v first port place at f.0 (λ bytes. IsFault bytes why) of f.1 (early_all law (remaining f.0) (remaining s) (at.intake.bytes ++ piece) why both early))
+piece_fault law remaining v readers port place at piece r s run.WrongPorts of reader_at gives why first was = absurd why
+piece_fault law remaining v readers port place at piece r s run.Closed of reader_at gives why first was = absurd why
+piece_fault law remaining v readers port place at piece r s run.Failed of reader_at gives why first was = absurd why
+
+pub end_fault : {R : Type 0} (remaining : R → Option (List ℕ)) (v : Seen) (readers : List R) (port place : ℕ) (at : IsIntakeAt v.intakes port place) (r s : R) (fault : RunFault)
+    → IsOfTable v.table v → slice_get readers place ≡ Some r → Consumes (remaining r) (remaining s) [] → IsAtEnd (remaining s) → IsFaultAt (fed_bytes v port) port fault
+    → IsFaultSince remaining v readers (source_fault fault)
+end_fault remaining v readers port place at r s run.Memory of reader_at gives end why first was = tt
+end_fault remaining v readers port place at r s (run.Capture other why) of reader_at gives end is first was =
+    let lt = slice_get_within readers place r reader_at in
+    let long = was.many in
+    let f = at_place first place (omega (arith, lt, long)) in
+    let read = nothing_read remaining at.intake f.0 r s gives (was.each place at.intake f.0 r at.at f.1 reader_at) in
+    let own = subst (λ xs. IsFault xs why) (ap intake_bytes at.found) is.1 in
+    subst (λ n. GivesFault remaining v.table first n (λ bytes. IsFault bytes why)) (sym is.0)
+    (gives_fault remaining v first port place at f.0 (λ bytes. IsFault bytes why) of f.1 (Consumes-whole (remaining f.0) (remaining s) at.intake.bytes (λ bytes. IsFault bytes why) read end own))
+end_fault remaining v readers port place at r s run.WrongPorts of reader_at gives end why first was = absurd why
+end_fault remaining v readers port place at r s run.Closed of reader_at gives end why first was = absurd why
+end_fault remaining v readers port place at r s run.Failed of reader_at gives end why first was = absurd why
+
+-- ---- what has gone out is taken
+
+same_bytes : (i j : Intake) → i ≡ j → HasSameBytes i j
+same_bytes i j is = record { port = ap (λ (x : Intake). x.port) (sym is); bytes = ap (λ (x : Intake). x.bytes) (sym is); closed = ap (λ (x : Intake). x.closed) (sym is) }
+
+pub parts_none : {F : Type 0} (contents : F → Option (List ℕ)) (v : Seen) (files : List F) → IsOfTable v.table v → TakesParts contents v files v files
+parts_none contents v files of = record {
+  of = of;
+  same = (refl, λ place i j at there. same_bytes i j (same_Some i j (sym at ∙ there)));
+  many = refl;
+  taken = λ start have. have;
+}
+
+same_both_bytes : (a b c : List Intake) → HaveSameBytes a b → HaveSameBytes b c → HaveSameBytes a c
+same_both_bytes a b c one two = (
+  two.0 ∙ one.0,
+  λ place i k at there.
+      let lt = slice_get_within a place i at in
+      let long = one.0 in
+      let j = at_place b place (omega (arith, lt, long)) in
+      let x = one.1 place i j.0 at j.1 in
+      let y = two.1 place j.0 k j.1 there in
+      record { port = y.port ∙ x.port; bytes = y.bytes ∙ x.bytes; closed = y.closed ∙ x.closed },
+)
+
+took_same : (v : Seen) (port place n : ℕ) → IsIntakeAt v.intakes port place → HaveSameBytes v.intakes (changed port (took n) v.intakes)
+took_same v port place n own = (
+  ap length (own.changed_is (took n)) ∙ length-set v.intakes place (took n own.intake),
+  λ k i j at there. by k i j at (at_set v.intakes place k (took n own.intake) j (ap (λ is. slice_get is k) (sym (own.changed_is (took n))) ∙ there)),
+) where
+  by : (k : ℕ) (i j : Intake) → slice_get v.intakes k ≡ Some i → ((k ≡ place) × (j ≡ took n own.intake)) ⊎ ((k ≢ place) × (slice_get v.intakes k ≡ Some j)) → HasSameBytes i j
+  by k i j at (inl here) =
+      let is : i ≡ own.intake = same_Some i own.intake (sym at ∙ ap (slice_get v.intakes) here.0 ∙ own.at) in
+      record {
+        port = ap (λ (x : Intake). x.port) here.1 ∙ ap (λ (x : Intake). x.port) (sym is);
+        bytes = ap (λ (x : Intake). x.bytes) here.1 ∙ ap (λ (x : Intake). x.bytes) (sym is);
+        closed = ap (λ (x : Intake). x.closed) here.1 ∙ ap (λ (x : Intake). x.closed) (sym is);
+      }
+  by k i j at (inr other) = same_bytes i j (same_Some i j (sym at ∙ other.1))
+
+-- of one port more
+pub parts_one : {F : Type 0} → CallsGoOn → TakenStays → TakesJoin → (contents : F → Option (List ℕ)) (first v : Seen) (start now : List F) (place : ℕ) (p : PortRow) (text : List ℕ) (old new : F)
+    → TakesParts contents first start v now → slice_get first.table.ports place ≡ Some p → HasGoneOut v p text → slice_get now place ≡ Some old
+    → Appends (contents old) (contents new) (drop (taken_of v p.id) text)
+    → TakesParts contents first start (after_take v p.id (length text)) (set now place new)
+parts_one {F} calls stays joins contents first v start now place p text old new was is_row gone is_old appends = record {
+  of = of_take first.table v p.id (length text) was.of;
+  same = same_both_bytes first.intakes v.intakes later.intakes was.same (took_same v p.id place (length text) own);
+  many = length-set now place new ∙ was.many;
+  taken = λ from have. one from (was.taken from have);
+} where
+  later : Seen
+  later = after_take v p.id (length text)
+
+  of : IsOfTable v.table v
+  of = record {
+    table = refl;
+    rises = subst (λ (c : Content). Rises c.ports) (sym was.of.table) was.of.rises;
+    ports = was.of.ports ∙ ap (λ (c : Content). map (λ (q : PortRow). q.id) c.ports) (sym was.of.table);
+    none_failed = was.of.none_failed;
+  }
+
+  row_here : slice_get v.table.ports place ≡ Some p
+  row_here = ap (λ (c : Content). slice_get c.ports place) was.of.table ∙ is_row
+
+  row : port_row v.table p.id ≡ Some p
+  row = row_found v.table.ports place p of.rises row_here
+
+  own : IsIntakeAt v.intakes p.id place
+  own = place_in v (map (λ (q : PortRow). q.id) v.table.ports) p.id place of refl (position_in v.table.ports place p of.rises row_here)
+
+  apart : (k : ℕ) (q : PortRow) → slice_get v.table.ports k ≡ Some q → q.id ≡ p.id → k ≡ place
+  apart k q is_q same =
+      same_Some k place (sym (its_place v.table.ports k q of.rises is_q) ∙ ap (λ n. position (λ (x : PortRow). x.id == n) v.table.ports) same ∙ its_place v.table.ports place p of.rises row_here)
+
+  one : (from : List F) → HaveTaken contents v from now → HaveTaken contents later from (set now place new)
+  one from have = record {
+    long = length-set now place new ∙ have.long;
+    each = λ k q f g is_q is_f is_g. by k q f g is_q is_f (at_set now place k new g is_g);
+  } where
+    by : (k : ℕ) (q : PortRow) (f g : F) → slice_get v.table.ports k ≡ Some q → slice_get from k ≡ Some f → ((k ≡ place) × (g ≡ new)) ⊎ ((k ≢ place) × (slice_get now k ≡ Some g))
+        → HasTaken contents later q.id f g
+    by k q f g is_q is_f (inl here) =
+        let same : q ≡ p = same_Some q p (sym is_q ∙ ap (slice_get v.table.ports) here.0 ∙ row_here) in
+        let has = have.each place p f old row_here (ap (slice_get from) (sym here.0) ∙ is_f) is_old in
+        let now_was = stays has.were.before v p.id p has.taken text has.were.on has.were.same (ap (λ (c : Content). port_row c p.id) (sym has.were.on.table) ∙ row) gone has.were.was in
+        let joined = joins v p.id p has.taken text row gone now_was in
+        subst (λ (x : PortRow). HasTaken contents later x.id f g) (sym same) (subst (HasTaken contents later p.id f) (sym here.1) (record {
+          taken = text;
+          were = record { before = later; was = joined.1; on = on_same later; same = refl };
+          appended = subst (Appends (contents f) (contents new)) joined.0 (Appends-trans (contents f) (contents old) (contents new) has.taken (drop (taken_of v p.id) text) has.appended appends);
+        }))
+    by k q f g is_q is_f (inr other) =
+        let has = have.each k q f g is_q is_f other.1 in
+        record {
+          taken = has.taken;
+          were = record {
+            before = has.were.before;
+            was = has.were.was;
+            on = calls.both has.were.before v later has.were.on (calls.take v p.id (length text));
+            same = changed_taken p.id q.id (took (length text)) v.intakes (λ i. refl) (λ i there here. absurd (other.0 (apart k q is_q (sym there ∙ here)))) ∙ has.were.same;
+          };
+          appended = has.appended;
+        }
+
+-- what is at a place of the numbers is that of a row
+pub row_of_number : (ports : List PortRow) (k n : ℕ) → slice_get (map (λ (p : PortRow). p.id) ports) k ≡ Some n → (p : PortRow) × (slice_get ports k ≡ Some p) × (p.id ≡ n)
+row_of_number ports k n at = mapped_from (λ (p : PortRow). p.id) ports k n at
+
+-- ---- a whole run
+
+-- both go on, one after the other
+pub reads_both : {R F : Type 0} → CallsGoOn → (remaining : R → Option (List ℕ)) (contents : F → Option (List ℕ)) (v mid later : Seen) (readers now : List R)
+    (files written : List F) (more : Bool) (last : List R)
+    → GoesOnReading remaining contents v readers files mid now written → ReadsOn remaining mid now more later last → GoesOnReading remaining contents v readers files later last written
+reads_both calls remaining contents v mid later readers now files written more last was on = record {
+  of = subst (λ (c : Content). IsOfTable c later) was.of.table on.of;
+  many = on.many ∙ was.many;
+  long = was.long;
+  read = λ first read. on.read first (was.read first read);
+  taken = λ start have. taken_on calls contents mid later start written on.on (was.taken start have);
+}
+
+same_read : {R : Type 0} (remaining : R → Option (List ℕ)) (v later : Seen) (first now : List R) → HaveSameBytes v.intakes later.intakes → AreReadUpTo remaining v first now
+    → AreReadUpTo remaining later first now
+same_read remaining v later first now same was = record {
+  many = was.many;
+  each = λ place j r s is_j is_r is_s.
+      let lt = slice_get_within later.intakes place j is_j in
+      let long = same.0 in
+      let i = at_place v.intakes place (omega (arith, lt, long)) in
+      let bytes = same.1 place i.0 j i.1 is_j in
+      let read = was.each place i.0 r s i.1 is_r is_s in
+      record { bytes = subst (Consumes (remaining r) (remaining s)) (sym bytes.bytes) read.bytes; ended = λ closed. read.ended (sym bytes.closed ∙ closed) };
+}
+
+pub takes_both : {R F : Type 0} (remaining : R → Option (List ℕ)) (contents : F → Option (List ℕ)) (v mid later : Seen) (readers now : List R) (files written after : List F)
+    → GoesOnReading remaining contents v readers files mid now written → TakesParts contents mid written later after → GoesOnReading remaining contents v readers files later now after
+takes_both remaining contents v mid later readers now files written after was takes = record {
+  of = subst (λ (c : Content). IsOfTable c later) was.of.table takes.of;
+  many = was.many;
+  long = takes.many ∙ was.long;
+  read = λ first read. same_read remaining mid later first now takes.same (was.read first read);
+  taken = λ start have. takes.taken start (was.taken start have);
+}
+
+pub reads_none : {R F : Type 0} (remaining : R → Option (List ℕ)) (contents : F → Option (List ℕ)) (v : Seen) (readers : List R) (files : List F) → IsOfTable v.table v
+    → GoesOnReading remaining contents v readers files v readers files
+reads_none remaining contents v readers files of = record { of = of; many = refl; long = refl; read = λ first read. read; taken = λ start have. have }
+
+-- a fault after some reads
+pub fault_since : {R F : Type 0} (remaining : R → Option (List ℕ)) (contents : F → Option (List ℕ)) (v mid : Seen) (readers now : List R) (files written : List F) (why : SourceFault)
+    → GoesOnReading remaining contents v readers files mid now written → IsFaultSince remaining mid now why → IsFaultSince remaining v readers why
+fault_since remaining contents v mid readers now files written why was is first read =
+    subst (λ (c : Content). IsSourceFault remaining c first why) was.of.table (is first (was.read first read))
+
+-- ---- at first
+
+fresh_ports : (ports : List PortRow) → ports_in (map fresh_intake ports) ≡ map (λ (p : PortRow). p.id) ports
+fresh_ports [] = refl
+fresh_ports (p ∷ ports) = ap (λ ns. p.id ∷ ns) (fresh_ports ports)
+
+pub of_fresh : (accepted : Bool) (t : Content) → Rises t.ports → IsOfTable t (fresh_session accepted t)
+of_fresh accepted t rises = record { table = refl; rises = rises; ports = fresh_ports t.ports; none_failed = refl }
+
+pub read_fresh : {R : Type 0} (remaining : R → Option (List ℕ)) (accepted : Bool) (t : Content) (readers : List R) → AreReadUpTo remaining (fresh_session accepted t) readers readers
+read_fresh {R} remaining accepted t readers = record {
+  many = refl;
+  each = λ place i r s is_i is_r is_s.
+      let from = mapped_from fresh_intake t.ports place i is_i in
+      let same : r ≡ s = same_Some r s (sym is_r ∙ is_s) in
+      record {
+        bytes = subst (λ (x : R). Consumes (remaining r) (remaining x) i.bytes) same
+            (subst (Consumes (remaining r) (remaining r)) (ap (λ (x : Intake). x.bytes) from.2) (Consumes-nil (remaining r)));
+        ended = λ closed. let none : false ≡ true = ap (λ (x : Intake). x.closed) from.2 ∙ closed in absurd cc;
+      };
+}
+
+pub taken_fresh : {F : Type 0} → NothingWasTaken → (contents : F → Option (List ℕ)) (accepted : Bool) (t : Content) (files : List F) → Rises t.ports
+    → HaveTaken contents (fresh_session accepted t) files files
+taken_fresh {F} nothing contents accepted t files rises = record {
+  long = refl;
+  each = λ place p f g is_p is_f is_g. record {
+    taken = [];
+    were = record { before = fresh_session accepted t; was = nothing accepted t p.id p (row_found t.ports place p rises is_p); on = on_same (fresh_session accepted t); same = refl };
+    appended = subst (λ (x : F). Appends (contents f) (contents x) []) (same_Some f g (sym is_f ∙ is_g)) (Appends-nil (contents f));
+  };
+}
+
+-- ---- at last
+
+-- all that the readers gave came
+pub all_read : {R : Type 0} (remaining : R → Option (List ℕ)) (t : Content) (v : Seen) (first now : List R) → IsOfTable t v → length first ≡ length t.ports → AreReadUpTo remaining v first now
+    → AreAtEnd remaining now → AreRead remaining first (texts_in v)
+all_read remaining t v first now of long was end = record {
+  many = length-map v.intakes text_in ∙ intakes_long t v of ∙ sym long;
+  each = λ place r text is_r is_text.
+      let from = mapped_from text_in v.intakes place text is_text in
+      let lt = slice_get_within first place r is_r in
+      let many = was.many in
+      let s = at_place now place (omega (arith, lt, many)) in
+      let read = was.each place from.0 r s.0 from.1 is_r s.1 in
+      subst (λ (x : Text). AreGiven (remaining r) x.1) from.2 (Consumes-whole (remaining r) (remaining s.0) from.0.bytes (λ all. from.0.bytes ≡ all) read.bytes (end place s.0 s.1) refl);
+}
+
+pub last_fault : {R : Type 0} (remaining : R → Option (List ℕ)) (t : Content) (v : Seen) (first now : List R) (fault : RunFault) → IsOfTable t v → length first ≡ length t.ports
+    → AreReadUpTo remaining v first now → AreAtEnd remaining now → IsReadFault (texts_in v) fault → IsSourceFault remaining t first (source_fault fault)
+last_fault remaining t v first now run.Memory of long was end is = tt
+last_fault {R} remaining t v first now (run.Capture port why) of long was end is =
+    let at = first_at (texts_in v) is in
+    let from = mapped_from text_in v.intakes at.0 at.1 at.2 in
+    let row = row_of_intake v.intakes t.ports at.0 from.0 of.ports from.1 in
+    let lt = slice_get_within t.ports at.0 row.0 row.1 in
+    let f = at_place first at.0 (omega (arith, lt, long)) in
+    let given = (all_read remaining t v first now of long was end).each at.0 f.0 at.1 f.1 at.2 in
+    record {
+      place = at.0;
+      row = row.0;
+      reader = f.0;
+      row_is = row.1;
+      port_is = row.2 ∙ ap (λ (x : Text). x.0) from.2 ∙ at.3;
+      reader_is = f.1;
+      has = given_has (remaining f.0) at.1.1 given at.4;
+    } where
+      first_at : (texts : List Text) → IsFirstFault texts port why → (k : ℕ) × (text : Text) × (slice_get texts k ≡ Some text) × (text.0 ≡ port) × IsFault text.1 why
+      first_at [] is = absurd is
+      first_at (text ∷ texts) (inl here) = (0, text, refl, here.0, here.1)
+      first_at (text ∷ texts) (inr later) = let at = first_at texts later.1 in (suc at.0, at.1, at.2, at.3, at.4)
+
+      given_has : (a : Option (List ℕ)) (bytes : List ℕ) → AreGiven a bytes → IsFault bytes why → IfSome a (λ all. IsFault all why)
+      given_has None bytes given has = tt
+      given_has (Some all) bytes given has = subst (λ xs. IsFault xs why) given has
+last_fault remaining t v first now run.WrongPorts of long was end is = absurd is
+last_fault remaining t v first now run.Closed of long was end is = absurd is
+last_fault remaining t v first now run.Failed of long was end is = absurd is
+
+-- what a call that takes says of a port's number
+abbrev IsTakenOf : {F : Type 0} → (F → Option (List ℕ)) → Seen → Seen → F → F → ℕ → PortRow → Type 0
+IsTakenOf contents v later old new n p =
+    (text : List ℕ) × HasGoneOut v p text × (taken_of v n ≤ length text)
+    × (Appends (contents old) (contents new) (drop (taken_of v n) text) × (later ≡ after_take v n (length text)))
+
+pub parts_number : {F : Type 0} → CallsGoOn → TakenStays → TakesJoin → (contents : F → Option (List ℕ)) (first v later : Seen) (start now : List F) (numbers : List ℕ) (place n : ℕ) (old new : F)
+    → TakesParts contents first start v now → numbers ≡ map (λ (p : PortRow). p.id) first.table.ports → slice_get numbers place ≡ Some n → slice_get now place ≡ Some old
+    → IfSome (port_row v.table n) (IsTakenOf contents v later old new n) → TakesParts contents first start later (set now place new)
+parts_number {F} calls stays joins contents first v later start now numbers place n old new was are at is_old known =
+    subst (λ (w : Seen). TakesParts contents first start w (set now place new)) (sym taken.3.1)
+    (parts_one calls stays joins contents first v start now place row.0 taken.0 old new was row.1 taken.1 is_old taken.3.0) where
+      row : (p : PortRow) × (slice_get first.table.ports place ≡ Some p) × (p.id ≡ n)
+      row = row_of_number first.table.ports place n (ap (λ ns. slice_get ns place) (sym are) ∙ at)
+
+      found : port_row v.table row.0.id ≡ Some row.0
+      found = ap (λ (c : Content). port_row c row.0.id) was.of.table ∙ row_found first.table.ports place row.0 was.of.rises row.1
+
+      taken : IsTakenOf contents v later old new row.0.id row.0
+      taken = subst (λ o. IfSome o (IsTakenOf contents v later old new row.0.id)) found (subst (λ m. IfSome (port_row v.table m) (IsTakenOf contents v later old new m)) (sym row.2) known)
+
+-- where no capture is waited for, all have ended
+pub ended_of : {R F : Type 0} (remaining : R → Option (List ℕ)) (contents : F → Option (List ℕ)) (v mid : Seen) (numbers : List ℕ) (readers now : List R) (files written : List F)
+    → numbers ≡ map (λ (p : PortRow). p.id) v.table.ports → length readers ≡ length numbers → GoesOnReading remaining contents v readers files mid now written
+    → (mid.failed ≡ true) ⊎ AllByRecursion (λ (i : Intake). i.closed ≡ true) mid.intakes
+    → (first : List R) → AreReadUpTo remaining v first readers → AreAtEnd remaining now
+ended_of remaining contents v mid numbers readers now files written are long was (inl failed) first read = absurd (both_ways mid.failed was.of.none_failed failed)
+ended_of remaining contents v mid numbers readers now files written are long was (inr ended) first read =
+    ended_at_end remaining mid first now many ended (was.read first read) where
+      many : length now ≡ length mid.intakes
+      many = was.many ∙ long ∙ ap (λ (ns : List ℕ). length ns) are ∙ length-map v.table.ports (λ (p : PortRow). p.id) ∙ sym (intakes_long v.table mid was.of)
+
+pub of_source_error : {T : Type 0} (P : SourceFault → Type 0) (r : Result T SourceFault) (e : SourceFault) → IsErr r × IsErrAnd r (λ x. x ≡ e) → P e → IfErr r P
+of_source_error P (Ok x) e is holds = absurd is.1
+of_source_error P (Err x) e is holds = subst P (sym is.1) holds
+
+-- ---- from the first read to the last
+
+-- a session that was fed nothing read all
+record ReadsAll {R F : Type 0} (remaining : R → Option (List ℕ)) (contents : F → Option (List ℕ)) (t : Content) (readers now : List R) (files written : List F) (later : Seen) : Type 0 where
+  of : IsOfTable t later
+  read : AreReadUpTo remaining later readers now
+  end : AreAtEnd remaining now
+  taken : HaveTaken contents later files written
+
+reads_all : {R F : Type 0} → NothingWasTaken → (remaining : R → Option (List ℕ)) (contents : F → Option (List ℕ)) (accepted : Bool) (t : Content) (v later : Seen) (readers now : List R)
+    (files written : List F) → Rises t.ports → v ≡ fresh_session accepted t → GoesOnReading remaining contents v readers files later now written
+    → ((first : List R) → AreReadUpTo remaining v first readers → AreAtEnd remaining now) → ReadsAll remaining contents t readers now files written later
+reads_all {R} nothing remaining contents accepted t v later readers now files written rises is was ends =
+    let on = subst (λ (w : Seen). GoesOnReading remaining contents w readers files later now written) is was in
+    let first = read_fresh remaining accepted t readers in
+    record {
+      of = on.of;
+      read = on.read readers first;
+      end = subst (λ (w : Seen). (first : List R) → AreReadUpTo remaining w first readers → AreAtEnd remaining now) is ends readers first;
+      taken = on.taken files (taken_fresh nothing contents accepted t files rises);
+    }
+
+pub runs_from : {R F : Type 0} → NothingWasTaken → (remaining : R → Option (List ℕ)) (contents : F → Option (List ℕ)) (accepted : Bool) (t : Content) (v later : Seen) (readers now : List R)
+    (files written after : List F) (counts : Tally) → Rises t.ports → v ≡ fresh_session accepted t → length readers ≡ length t.ports
+    → GoesOnReading remaining contents v readers files later now written
+    → ((first : List R) → AreReadUpTo remaining v first readers → AreAtEnd remaining now) → IsFinishedInto contents later written after counts
+    → (texts : List Text) × AreRead remaining readers texts × IsWritten contents t texts files after counts
+runs_from nothing remaining contents accepted t v later readers now files written after counts rises is long was ends finished =
+    let all = reads_all nothing remaining contents accepted t v later readers now files written rises is was ends in (
+      texts_in later,
+      all_read remaining t later readers now all.of long all.read all.end,
+      record {
+        results = finished.whole;
+        outcome = subst (λ (c : Content). IsOutcome c (texts_in later) finished.whole) all.of.table finished.outcome;
+        counted = finished.counted;
+        appended = finished.appended files all.taken;
+      },
+    )
+
+-- it was not finished for its bytes
+pub not_finished : (t : Content) (v : Seen) (fault : RunFault) → IsOfTable t v → IsNotFinishedInto v fault → IsReadFault (texts_in v) fault
+not_finished t v fault of (inl failed) = absurd (both_ways v.failed of.none_failed failed.0)
+not_finished t v fault of (inr why) = why.1
+
+pub fault_from : {R F : Type 0} → NothingWasTaken → (remaining : R → Option (List ℕ)) (contents : F → Option (List ℕ)) (accepted : Bool) (t : Content) (v later : Seen) (readers now : List R)
+    (files written : List F) (fault : RunFault) → Rises t.ports → v ≡ fresh_session accepted t → length readers ≡ length t.ports
+    → GoesOnReading remaining contents v readers files later now written
+    → ((first : List R) → AreReadUpTo remaining v first readers → AreAtEnd remaining now) → IsNotFinishedInto later fault → IsSourceFault remaining t readers (source_fault fault)
+fault_from nothing remaining contents accepted t v later readers now files written fault rises is long was ends why =
+    let all = reads_all nothing remaining contents accepted t v later readers now files written rises is was ends in
+    last_fault remaining t later readers now fault all.of long all.read all.end (not_finished t later fault all.of why)

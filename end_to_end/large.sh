@@ -1,0 +1,89 @@
+#!/usr/bin/env bash
+# Captures of more than 256 MiB in all, which a run reads in pieces: what goes out is what goes out without the frames that make them
+# large, in a fraction of their memory; and where they have faults, the one of the lowest port is named, and nothing is put.
+. "$(dirname "$0")/common.sh"
+install text2pcap=wireshark-common python3=python3
+export PYTHONDONTWRITEBYTECODE=1
+afdx=${AFDX:-$top/crates/afdx/out/afdx}
+cd "$room" || exit 1
+
+cat >table.toml <<'END'
+[[port]]
+id = 1
+mbit = 100
+buffer = 100000
+max_delay_us = 500000
+
+[[port]]
+id = 2
+mbit = 100
+buffer = 100000
+max_delay_us = 500000
+
+[[link]]
+id = 10
+from = 1
+to = [2]
+bag_ms = 1
+jitter_us = 0
+max_size = 1518
+priority = "low"
+
+[[link]]
+id = 11
+from = 2
+to = [1]
+bag_ms = 1
+jitter_us = 0
+max_size = 200
+priority = "high"
+END
+mkdir -p small in out wanted cut
+frames small/port-1.pcap 0.000000000:10:1518 0.000999999:10:1518 0.001000000:10:1518 0.003000000:10:64
+frames small/port-2.pcap 0.000000000:11:64 0.002000000:11:200 0.004000000:11:100 2.000000000:11:64
+
+# enlarge FILE: the capture is followed by 1,050 records of 262,144 bytes, which are for no link.
+enlarge() {
+    python3 - "$1" <<'END'
+import struct
+import sys
+
+with open(sys.argv[1], "r+b") as file:
+    file.seek(0, 2)
+    for _ in range(1_050):
+        file.write(struct.pack("<4I", 1, 0, 262_144, 262_144))
+        file.seek(262_144, 1)
+    file.truncate()
+END
+}
+
+# runs_in MEGABYTES FOLDER: a run over this folder takes no more memory at its peak.
+runs_in() {
+    python3 - "$1" "$afdx" run table.toml "$2" out <<'END'
+import resource
+import subprocess
+import sys
+
+ended = subprocess.run(sys.argv[2:], stdout=subprocess.DEVNULL)
+peak = resource.getrusage(resource.RUSAGE_CHILDREN).ru_maxrss // 1024
+print(f"status {ended.returncode}, {peak} MB")
+sys.exit(ended.returncode or peak > int(sys.argv[1]))
+END
+}
+
+# names_fault LINE FOLDER: a run over this folder ends with this line, and puts nothing.
+names_fault() {
+    rm -rf out && mkdir out && "$afdx" run table.toml "$2" out >answer.txt 2>said.txt
+    [ $? -eq 3 ] && cat said.txt && [ "$(cat said.txt)" = "$1" ] && [ ! -s answer.txt ] && [ -z "$(ls out)" ]
+}
+
+check "a run over small captures" "$afdx" run table.toml small wanted
+check "the captures are made large" eval 'cp small/* in && enlarge in/port-1.pcap && [ "$(stat -c %s in/port-1.pcap)" -gt 268435456 ]'
+check "a run over large captures takes less than 40 MB" runs_in 40 in
+check "it puts what goes out without those frames" diff -r wanted out
+cp in/port-1.pcap cut && truncate -s -1 cut/port-1.pcap && head -c 99 small/port-2.pcap >cut/port-2.pcap
+check "of two faults the lowest port's is named, though the other is met first" \
+    names_fault "afdx: capture P11 CutData, port 1, record 1054" cut
+cp in/port-1.pcap cut
+check "and the other port's, where it is the only one" names_fault "afdx: capture P11 CutData, port 2, record 1" cut
+finish
