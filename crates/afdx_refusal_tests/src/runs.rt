@@ -8,10 +8,22 @@ use afdx_session::{Outcome, RunFault, SourceFault, run, run_from, run_into};
 use std::alloc::{AllocError, Allocator, Global};
 use std::test::*;
 
+/// How captures come and where outputs go.
+#[derive(Clone, Copy)]
+enum Way {
+    /// Whole, and in memory.
+    Whole,
+    /// Whole, and to files.
+    IntoFiles,
+    /// In pieces, and to files.
+    FromReaders,
+}
+
 /// A run over a table that is checked and the captures of its ports, with what they put out and the report.
 #[derive(Clone, Copy)]
 struct Running<'a> {
     alloc: Global,
+    way: Way,
     table: &'a str,
     came: &'a [(u8, Vec<u8>)],
     left: &'a [(u8, Vec<u8>)],
@@ -88,14 +100,6 @@ fn is_right<A: Allocator + Copy>(
     }
 }
 
-impl Calls for Running<'_> {
-    fn answer(&self, memory: &Memory) -> Result<Option<bool>, Fail> {
-        let ample = Refusing::new(self.alloc, 0);
-        let answer = ran(self.alloc, memory, &ample, self.table, self.came)?;
-        Ok(is_right(self, answer))
-    }
-}
-
 /// So many files of no bytes, whose bytes take other memory.
 fn files_of<A: Allocator + Copy>(
     memory: A,
@@ -147,21 +151,6 @@ fn ran_into<A: Allocator + Copy>(
     }
 }
 
-/// The same run, into files.
-#[derive(Clone, Copy)]
-struct IntoFiles<'a> {
-    running: Running<'a>,
-}
-
-impl Calls for IntoFiles<'_> {
-    fn answer(&self, memory: &Memory) -> Result<Option<bool>, Fail> {
-        let running = self.running;
-        let ample = Refusing::new(running.alloc, 0);
-        let answer = ran_into(running.alloc, memory, &ample, running.table, running.came)?;
-        Ok(is_right(&running, answer))
-    }
-}
-
 /// What a run answers whose captures are read in pieces, with what the files have.
 fn ran_from<A: Allocator + Copy>(
     alloc: Global,
@@ -191,18 +180,15 @@ fn ran_from<A: Allocator + Copy>(
     }
 }
 
-/// The same run, from readers into files.
-#[derive(Clone, Copy)]
-struct FromReaders<'a> {
-    running: Running<'a>,
-}
-
-impl Calls for FromReaders<'_> {
+impl Calls for Running<'_> {
     fn answer(&self, memory: &Memory) -> Result<Option<bool>, Fail> {
-        let running = self.running;
-        let ample = Refusing::new(running.alloc, 0);
-        let answer = ran_from(running.alloc, memory, &ample, running.table, running.came)?;
-        Ok(is_right(&running, answer))
+        let ample = &Refusing::new(self.alloc, 0);
+        let answer = match self.way {
+            Way::Whole => ran(self.alloc, memory, ample, self.table, self.came)?,
+            Way::IntoFiles => ran_into(self.alloc, memory, ample, self.table, self.came)?,
+            Way::FromReaders => ran_from(self.alloc, memory, ample, self.table, self.came)?,
+        };
+        Ok(is_right(self, answer))
     }
 }
 
@@ -238,6 +224,7 @@ fn one_frame(rt: HostRuntime) -> Result<(), Fail> {
     let captures = of_one_frame(alloc)?;
     let calls = Running {
         alloc,
+        way: Way::Whole,
         table: &table,
         came: &captures.came,
         left: &captures.left,
@@ -313,14 +300,21 @@ fn hundred_frames_at_three_ports(rt: HostRuntime) -> Result<(), Fail> {
     let whole = with_ample_memory(alloc, &table, &came)?;
     let calls = Running {
         alloc,
+        way: Way::Whole,
         table: &table,
         came: &came,
         left: &whole.left,
         report: &whole.report,
     };
     refuse(&rt, alloc, "run of a hundred frames", &calls, 60)?;
-    let into_files = IntoFiles { running: calls };
+    let into_files = Running {
+        way: Way::IntoFiles,
+        ..calls
+    };
     refuse(&rt, alloc, "the same into files", &into_files, 60)?;
-    let from_readers = FromReaders { running: calls };
+    let from_readers = Running {
+        way: Way::FromReaders,
+        ..calls
+    };
     refuse(&rt, alloc, "the same from readers", &from_readers, 60)
 }

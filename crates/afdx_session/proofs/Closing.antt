@@ -14,6 +14,7 @@ use Rattle.afdx_session.specs.Inner.Kept.{AreLanesOf, AreOfTable, IsGoing, IsMar
 use Rattle.afdx_session.specs.Inner.View.{IsReady, AreHalfDone, AreEndedLanes, texts_at}
 use Rattle.afdx_session.proofs.Going.{reads_on}
 use Rattle.afdx_session.proofs.Intakes.{still_of_table, ended_half}
+use Rattle.afdx_session.proofs.Numbered.{set_same}
 use Rattle.afdx_session.proofs.Shown.{half_ports}
 use Rattle.afdx_session.proofs.Ending.{EndsUpTo, ends_none, lane_stands, ends_more, ends_over, ends_half, ends_half_more, ends_all, TakenAreTheCapture, end_fault}
 
@@ -45,11 +46,6 @@ ended_as_marked {Z = Z} begun start now n l marked closes at =
 -- it was read up before
 read_before : {Z : Type 0} (begun : Bool) (start : Machine Z) (now : List (Lane Z)) (n : ℕ) (l : Lane Z) → IsReady start begun → Closes start now n → slice_get now n ≡ Some l → HasReadAll l
 read_before begun start now n l ready closes at = lane_stands HasReadAll n start.lanes.items now l closes.ends at ready.read
-
-pub set_same : {X : Type 0} (xs : List X) (k : ℕ) (x : X) → slice_get xs k ≡ Some x → set xs k x ≡ xs
-set_same [] k x at = absurd cc
-set_same (y ∷ xs) zero x at = ap (λ z. z ∷ xs) (sym (same_Some y x at))
-set_same (y ∷ xs) (suc k) x at = ap (λ zs. y ∷ zs) (set_same xs k x at)
 
 -- a capture that had ended before
 pub closes_over : {Z : Type 0} (begun : Bool) (start : Machine Z) (now : List (Lane Z)) (n : ℕ) (l : Lane Z) → IsReady start begun → slice_get now n ≡ Some l → l.closed ≡ true → Closes start now n

@@ -28,6 +28,7 @@ use Rattle.afdx_session.specs.Session.{Intake}
 use Rattle.afdx_session.specs.Inner.Lanes.{waiting_of, HasReadAll}
 use Rattle.afdx_session.specs.Inner.Kept.{IsLaneOf, AreLanesOf, AreOfTable, come_to, IsGoing, IsRunning, AreTouched, IsMarked}
 use Rattle.afdx_session.specs.Inner.View.{IsHalfDone, AreHalfDone, IsEndedLane, AreEndedLanes, texts_at}
+use Rattle.afdx_session.proofs.Numbered.{set_same}
 use Rattle.afdx_session.proofs.Going.{Early, lanes_early}
 use Rattle.afdx_session.proofs.Growing.{no_frontier, output_of_all, AllEnded}
 use Rattle.afdx_session.proofs.Settling.{all_back}
@@ -63,11 +64,6 @@ ends_suc n [] (k ∷ new) l m at one ends = absurd ends
 ends_suc n (k ∷ old) [] l m at one ends = absurd ends
 ends_suc {Z = Z} zero (k ∷ old) (i ∷ new) l m at one ends = (subst (λ (x : Lane Z). IsEndedLane x m) (sym (same_Some i l at) ∙ ends.0) one, ends.1)
 ends_suc (suc n) (k ∷ old) (i ∷ new) l m at one ends = (ends.0, ends_suc n old new l m at one ends.1)
-
-set_same : {Z : Type 0} (lanes : List (Lane Z)) (n : ℕ) (l : Lane Z) → slice_get lanes n ≡ Some l → set lanes n l ≡ lanes
-set_same [] n l at = absurd cc
-set_same (m ∷ lanes) zero l at = ap (λ x. x ∷ lanes) (sym (same_Some m l at))
-set_same (m ∷ lanes) (suc n) l at = ap (λ ls. m ∷ ls) (set_same lanes n l at)
 
 pub ends_more : {Z : Type 0} (n : ℕ) (old new : List (Lane Z)) (l m : Lane Z) → slice_get new n ≡ Some l → IsEndedLane l m → EndsUpTo n old new → EndsUpTo (n + 1) old (set new n m)
 ends_more n old new l m at one ends = subst (λ k. EndsUpTo k old (set new n m)) (suc-eq-add-one n) (ends_suc n old new l m at one ends)

@@ -50,11 +50,14 @@ heads_all {Z} lanes heads n ge le are =
     are ∙ ap (λ k. heads_of (take n lanes) ++ replicate k None) none ∙ append-nil (heads_of (take n lanes))
     ∙ ap (λ (ls : List (Lane Z)). heads_of ls) (ap (λ k. take k lanes) all ∙ take-length lanes)
 
+-- there are as many lanes as ports
+pub lanes_long : {Z : Type 0} (t : Content) (lanes : List (Lane Z)) → AreOfTable t lanes → length lanes ≡ length t.ports
+lanes_long {Z} t lanes of = sym (length-map lanes (λ (l : Lane Z). l.port)) ∙ ap (λ (ns : List ℕ). length ns) of.ports ∙ length-map t.ports (λ (p : PortRow). p.id)
+
 -- there is no lane without a port
 pub lanes_few : {Z : Type 0} (t : Content) (lanes : List (Lane Z)) → AreOfTable t lanes → length lanes ≤ 24
-lanes_few {Z} t lanes of =
-    let same : length lanes ≡ length t.ports =
-    sym (length-map lanes (λ (l : Lane Z). l.port)) ∙ ap (λ (ns : List ℕ). length ns) of.ports ∙ length-map t.ports (λ (p : PortRow). p.id) in
+lanes_few t lanes of =
+    let same = lanes_long t lanes of in
     let few = of.formed.few_ports in
     omega (arith, same, few)
 

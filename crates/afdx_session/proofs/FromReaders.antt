@@ -1,14 +1,14 @@
 -- Captures that are read in pieces: one more read, and then what has gone out is taken.
-use Rattle.std.proofs.Common.{◌≡◌, ◌≢◌, ◌⊎◌, ℕ, zero, suc, ◌+◌, ◌<◌, ◌≤◌, ◌==◌, nat_lt, Bool, true, false, cond, not, List, [], ◌∷◌, ◌++◌, map, length, drop, set, get_or}
+use Rattle.std.proofs.Common.{◌≡◌, ◌≢◌, ◌⊎◌, ℕ, zero, suc, ◌+◌, ◌<◌, ◌≤◌, ◌==◌, nat_lt, Bool, true, false, cond, not, List, [], ◌∷◌, ◌++◌, map, length, take, drop, set, get_or}
 use Rattle.std.proofs.Common.{slice_get, Option, Some, None, IfSome}
 use Rattle.std.proofs.Common.{refl, ap, sym, ◌∙◌, arith, subst, inl, inr, length-set}
-use Rattle.std.specs.Prelude.{find, Result, Ok, Err, IsErr, IsErrAnd, IfErr}
+use Rattle.std.specs.Prelude.{find}
 use Rattle.std.specs.List.{AllByRecursion, position, position_or_len}
 use Rattle.std.specs.Io.KnownBytes.{Appends, Consumes, IsAtEnd, Keeps}
 use Rattle.std.proofs.KnownBytes.{Appends-nil, Appends-trans, Consumes-nil, Consumes-trans, Consumes-whole}
 use Rattle.std.proofs.lemmas.Bool.{both_ways, eqb-true}
 use Rattle.std.proofs.lemmas.List.{append-nil, length-map}
-use Rattle.std.proofs.lemmas.Option.{same_Some, slice_get_within}
+use Rattle.std.proofs.lemmas.Option.{same_Some, slice_get_within, slice_get-get_or}
 use Rattle.afdx_pcap.specs.declared.fault.PcapFault.{PcapFault}
 use Rattle.afdx_pcap.specs.Fault.{IsFault, IsEarlyFault}
 use Rattle.afdx_table.specs.declared.rows.PortRow.{PortRow}
@@ -32,10 +32,9 @@ use Rattle.afdx_session.specs.Written.{IsWritten}
 use Rattle.afdx_session.specs.Inner.Pieces.{GoesOnTo, CallsGoOn, NothingWasTaken, TakenStays, TakesJoin}
 use Rattle.afdx_session.specs.Inner.Sources.{IsOfBytes, source_fault, IsReadUpTo, AreReadUpTo, AreAtEnd, IsOfTable, GoesOnUntaken, ReadsOn, HasSameBytes, HaveSameBytes, TakesParts}
 use Rattle.afdx_session.specs.Inner.Sources.{GoesOnReading, IsFaultSince}
-use Rattle.afdx_session.proofs.Closing.{set_same}
 use Rattle.afdx_session.proofs.Handing.{its_place}
 use Rattle.afdx_session.proofs.Into.{row_found}
-use Rattle.afdx_session.proofs.Numbered.{all_slice_get}
+use Rattle.afdx_session.proofs.Numbered.{all_slice_get, set_same}
 use Rattle.afdx_session.proofs.Parts.{at_set}
 use Rattle.afdx_session.proofs.Pieces.{all_fed_none}
 use Rattle.afdx_session.proofs.Places.{position_at, position_none}
@@ -101,7 +100,7 @@ none_found (i ∷ intakes) port le = by (i.port == port) refl (none_found intake
 numbers_are : (v : Seen) (numbers : List ℕ) → IsOfTable v.table v → numbers ≡ map (λ (p : PortRow). p.id) v.table.ports → numbers ≡ ports_in v.intakes
 numbers_are v numbers of are = are ∙ sym of.ports
 
-pub place_in : (v : Seen) (numbers : List ℕ) (port place : ℕ) → IsOfTable v.table v → numbers ≡ map (λ (p : PortRow). p.id) v.table.ports → position (is_port port) numbers ≡ Some place
+place_in : (v : Seen) (numbers : List ℕ) (port place : ℕ) → IsOfTable v.table v → numbers ≡ map (λ (p : PortRow). p.id) v.table.ports → position (is_port port) numbers ≡ Some place
     → IsIntakeAt v.intakes port place
 place_in v numbers port place of are at =
     let both = position_at (is_port port) (ports_in v.intakes) place (ap (position (is_port port)) (sym (numbers_are v numbers of are)) ∙ at) in
@@ -298,67 +297,85 @@ all_at_end {R} remaining v first readers port place at s of many last end was k 
         | inr closed ↦ (was.each k i.0 f.0 r i.1 f.1 other.1).ended closed
       ]
 
+-- there are as many as numbers
+as_many : {R : Type 0} (v : Seen) (numbers : List ℕ) (readers : List R) → IsOfTable v.table v → numbers ≡ map (λ (p : PortRow). p.id) v.table.ports → length readers ≡ length numbers
+    → length readers ≡ length v.intakes
+as_many v numbers readers of are many = many ∙ ap (λ (ns : List ℕ). length ns) (numbers_are v numbers of are) ∙ length-map v.intakes (λ (i : Intake). i.port)
+
+-- the reader of a port that may go on, among as many as ports
+pub record IsReaderAt {R : Type 0} (v : Seen) (readers : List R) (port place : ℕ) (r : R) : Type 0 where
+  pub own : IsIntakeAt v.intakes port place
+  pub at : slice_get readers place ≡ Some r
+  pub many : length readers ≡ length v.intakes
+
+pub reader_at : {R : Type 0} (v : Seen) (numbers : List ℕ) (readers : List R) (port place : ℕ) (d : R) → IsOfTable v.table v → numbers ≡ map (λ (p : PortRow). p.id) v.table.ports
+    → length readers ≡ length numbers → position (is_port port) numbers ≡ Some place → IsReaderAt v readers port place (get_or readers place d)
+reader_at v numbers readers port place d of are long at =
+    let own = place_in v numbers port place of are at in
+    let many = as_many v numbers readers of are long in
+    record { own = own; at = slice_get-get_or readers place d (subst (λ n. place < n) (sym many) (slice_get_within v.intakes place own.intake own.at)); many = many }
+
+-- a read with room that gave nothing found the end
+pub end_found : (a b : Option (List ℕ)) (n room : ℕ) (buf : List ℕ) → Consumes a b (take n buf) × (n ≡ 0 → 0 < length buf → IsAtEnd b) → n ≡ 0 → length buf ≡ room → 0 < room
+    → Consumes a b [] × IsAtEnd b
+end_found a b n room buf gave none same some = (subst (λ k. Consumes a b (take k buf)) none gave.0, gave.1 none (subst (λ k. 0 < k) (sym same) some))
+
 -- a read gave a piece
-pub reads_piece : {R : Type 0} → CallsGoOn → (remaining : R → Option (List ℕ)) (v later : Seen) (readers : List R) (port place : ℕ) (at : IsIntakeAt v.intakes port place) (piece : List ℕ) (r s : R)
-    → IsOfTable v.table v → refusal v port ≡ None → slice_get readers place ≡ Some r → Consumes (remaining r) (remaining s) piece → later ≡ after_feed v port piece
+pub reads_piece : {R : Type 0} → CallsGoOn → (remaining : R → Option (List ℕ)) (v later : Seen) (readers : List R) (port place : ℕ) (piece : List ℕ) (r s : R)
+    → IsOfTable v.table v → refusal v port ≡ None → IsReaderAt v readers port place r → Consumes (remaining r) (remaining s) piece → later ≡ after_feed v port piece
     → ReadsOn remaining v readers true later (set readers place s)
-reads_piece calls remaining v later readers port place at piece r s of may reader_at gives is = subst (λ (w : Seen). ReadsOn remaining v readers true w (set readers place s)) (sym is) (record {
+reads_piece calls remaining v later readers port place piece r s of may there gives is = subst (λ (w : Seen). ReadsOn remaining v readers true w (set readers place s)) (sym is) (record {
   of = of_feed v.table v port piece of;
   on = untaken_feed calls v port piece may;
   many = length-set readers place s;
   read = λ first was.
-      reads_one remaining v (after_feed v port piece) first readers place at.intake (fed piece at.intake) r s at.at reader_at (at.changed_is (fed piece))
-      (λ f. piece_read remaining at.intake piece f r s (still_open v port at.intake may at.found) gives) was;
+      reads_one remaining v (after_feed v port piece) first readers place there.own.intake (fed piece there.own.intake) r s there.own.at there.at (there.own.changed_is (fed piece))
+      (λ f. piece_read remaining there.own.intake piece f r s (still_open v port there.own.intake may there.own.found) gives) was;
   all = λ none. absurd (both_ways true none refl);
 })
 
 -- or the end
-pub reads_end : {R : Type 0} → CallsGoOn → (remaining : R → Option (List ℕ)) (v later : Seen) (readers : List R) (port place : ℕ) (at : IsIntakeAt v.intakes port place) (r s : R)
-    → IsOfTable v.table v → slice_get readers place ≡ Some r → Consumes (remaining r) (remaining s) [] → IsAtEnd (remaining s) → later ≡ after_close v port
+pub reads_end : {R : Type 0} → CallsGoOn → (remaining : R → Option (List ℕ)) (v later : Seen) (readers : List R) (port place : ℕ) (r s : R)
+    → IsOfTable v.table v → IsReaderAt v readers port place r → Consumes (remaining r) (remaining s) [] → IsAtEnd (remaining s) → later ≡ after_close v port
     → ReadsOn remaining v readers true later (set readers place s)
-reads_end calls remaining v later readers port place at r s of reader_at gives end is = subst (λ (w : Seen). ReadsOn remaining v readers true w (set readers place s)) (sym is) (record {
+reads_end calls remaining v later readers port place r s of there gives end is = subst (λ (w : Seen). ReadsOn remaining v readers true w (set readers place s)) (sym is) (record {
   of = of_close v.table v port of;
   on = untaken_close calls v port;
   many = length-set readers place s;
   read = λ first was.
-      reads_one remaining v (after_close v port) first readers place at.intake (closed_intake at.intake) r s at.at reader_at (at.changed_is closed_intake)
-      (λ f. end_read remaining at.intake f r s gives end) was;
+      reads_one remaining v (after_close v port) first readers place there.own.intake (closed_intake there.own.intake) r s there.own.at there.at (there.own.changed_is closed_intake)
+      (λ f. end_read remaining there.own.intake f r s gives end) was;
   all = λ none. absurd (both_ways true none refl);
 })
 
-read_nothing : {R : Type 0} (remaining : R → Option (List ℕ)) (v : Seen) (first readers : List R) (port place : ℕ) (at : IsIntakeAt v.intakes port place) (r s : R) → refusal v port ≡ None
-    → slice_get readers place ≡ Some r → Consumes (remaining r) (remaining s) [] → AreReadUpTo remaining v first readers → AreReadUpTo remaining v first (set readers place s)
-read_nothing remaining v first readers port place at r s may reader_at gives was =
-    reads_one remaining v v first readers place at.intake at.intake r s at.at reader_at (sym (set_same v.intakes place at.intake at.at))
-    (λ f. still_read remaining at.intake f r s (still_open v port at.intake may at.found) gives) was
+read_nothing : {R : Type 0} (remaining : R → Option (List ℕ)) (v : Seen) (first readers : List R) (port place : ℕ) (r s : R) → refusal v port ≡ None
+    → IsReaderAt v readers port place r → Consumes (remaining r) (remaining s) [] → AreReadUpTo remaining v first readers → AreReadUpTo remaining v first (set readers place s)
+read_nothing remaining v first readers port place r s may there gives was =
+    reads_one remaining v v first readers place there.own.intake there.own.intake r s there.own.at there.at (sym (set_same v.intakes place there.own.intake there.own.at))
+    (λ f. still_read remaining there.own.intake f r s (still_open v port there.own.intake may there.own.found) gives) was
 
 -- or nothing, since it was interrupted
-pub reads_nothing : {R : Type 0} (remaining : R → Option (List ℕ)) (v : Seen) (readers : List R) (port place : ℕ) (at : IsIntakeAt v.intakes port place) (r s : R) → IsOfTable v.table v
-    → refusal v port ≡ None → slice_get readers place ≡ Some r → Keeps (remaining r) (remaining s) → ReadsOn remaining v readers true v (set readers place s)
-reads_nothing remaining v readers port place at r s of may reader_at keeps = record {
+pub reads_nothing : {R : Type 0} (remaining : R → Option (List ℕ)) (v : Seen) (readers : List R) (port place : ℕ) (r s : R) → IsOfTable v.table v
+    → refusal v port ≡ None → IsReaderAt v readers port place r → Keeps (remaining r) (remaining s) → ReadsOn remaining v readers true v (set readers place s)
+reads_nothing remaining v readers port place r s of may there keeps = record {
   of = of;
   on = untaken_same v;
   many = length-set readers place s;
-  read = λ first was. read_nothing remaining v first readers port place at r s may reader_at (kept_consumes (remaining r) (remaining s) keeps) was;
+  read = λ first was. read_nothing remaining v first readers port place r s may there (kept_consumes (remaining r) (remaining s) keeps) was;
   all = λ none. absurd (both_ways true none refl);
 }
 
 -- or the end of the last that has not ended
-pub reads_last : {R : Type 0} (remaining : R → Option (List ℕ)) (v : Seen) (readers : List R) (port place : ℕ) (at : IsIntakeAt v.intakes port place) (r s : R) → IsOfTable v.table v
-    → refusal v port ≡ None → slice_get readers place ≡ Some r → length readers ≡ length v.intakes → Consumes (remaining r) (remaining s) [] → IsAtEnd (remaining s)
+pub reads_last : {R : Type 0} (remaining : R → Option (List ℕ)) (v : Seen) (readers : List R) (port place : ℕ) (r s : R) → IsOfTable v.table v
+    → refusal v port ≡ None → IsReaderAt v readers port place r → Consumes (remaining r) (remaining s) [] → IsAtEnd (remaining s)
     → AllByRecursion (λ (i : Intake). (i.port ≡ port) ⊎ (i.closed ≡ true)) v.intakes → ReadsOn remaining v readers false v (set readers place s)
-reads_last remaining v readers port place at r s of may reader_at many gives end last = record {
+reads_last remaining v readers port place r s of may there gives end last = record {
   of = of;
   on = untaken_same v;
   many = length-set readers place s;
-  read = λ first was. read_nothing remaining v first readers port place at r s may reader_at gives was;
-  all = λ none first was. all_at_end remaining v first readers port place at s of many last end was;
+  read = λ first was. read_nothing remaining v first readers port place r s may there gives was;
+  all = λ none first was. all_at_end remaining v first readers port place there.own s of there.many last end was;
 }
-
--- there are as many as numbers
-pub as_many : {R : Type 0} (v : Seen) (numbers : List ℕ) (readers : List R) → IsOfTable v.table v → numbers ≡ map (λ (p : PortRow). p.id) v.table.ports → length readers ≡ length numbers
-    → length readers ≡ length v.intakes
-as_many v numbers readers of are many = many ∙ ap (λ (ns : List ℕ). length ns) (numbers_are v numbers of are) ∙ length-map v.intakes (λ (i : Intake). i.port)
 
 -- a call at a port that may go on was refused for its bytes
 pub for_its_bytes : (v later : Seen) (port : ℕ) (fault : RunFault) (Why : Type 0) → refusal v port ≡ None → IsRefused v later port fault Why → Why
@@ -405,45 +422,43 @@ early_all law None b bytes why gives early = tt
 early_all law (Some xs) None bytes why gives early = absurd gives
 early_all law (Some xs) (Some ys) bytes why gives early = subst (λ zs. IsFault zs why) (sym gives) (law bytes ys why early).0
 
-gives_fault : {R : Type 0} (remaining : R → Option (List ℕ)) (v : Seen) (first : List R) (port place : ℕ) (at : IsIntakeAt v.intakes port place) (f : R) (Has : List ℕ → Type 0)
-    → IsOfTable v.table v → slice_get first place ≡ Some f → IfSome (remaining f) Has → GivesFault remaining v.table first port Has
-gives_fault remaining v first port place at f Has of is_f has =
-    let row = row_of_intake v.intakes v.table.ports place at.intake of.ports at.at in
-    record { place = place; row = row.0; reader = f; row_is = row.1; port_is = row.2 ∙ at.port_is; reader_is = is_f; has = has }
+gives_fault : {R : Type 0} (remaining : R → Option (List ℕ)) (v : Seen) (first : List R) (port other place : ℕ) (own : IsIntakeAt v.intakes port place) (f : R) (why : PcapFault)
+    → IsOfTable v.table v → slice_get first place ≡ Some f → other ≡ port → IfSome (remaining f) (λ bytes. IsFault bytes why) → GivesFault remaining v.table first other why
+gives_fault remaining v first port other place own f why of is_f same has =
+    let row = row_of_intake v.intakes v.table.ports place own.intake of.ports own.at in
+    record { place = place; row = row.0; reader = f; row_is = row.1; port_is = row.2 ∙ own.port_is ∙ sym same; reader_is = is_f; has = has }
 
 pub piece_fault : {R : Type 0} → ((bytes more : List ℕ) (fault : PcapFault) → IsEarlyFault bytes fault → IsEarlyFault (bytes ++ more) fault)
-    → (remaining : R → Option (List ℕ)) (v : Seen) (readers : List R) (port place : ℕ) (at : IsIntakeAt v.intakes port place) (piece : List ℕ) (r s : R) (fault : RunFault) → IsOfTable v.table v
-    → slice_get readers place ≡ Some r → Consumes (remaining r) (remaining s) piece → IsPieceFault (fed_bytes v port ++ piece) port fault
+    → (remaining : R → Option (List ℕ)) (v : Seen) (readers : List R) (port place : ℕ) (piece : List ℕ) (r s : R) (fault : RunFault) → IsOfTable v.table v
+    → IsReaderAt v readers port place r → Consumes (remaining r) (remaining s) piece → IsPieceFault (fed_bytes v port ++ piece) port fault
     → IsFaultSince remaining v readers (source_fault fault)
-piece_fault law remaining v readers port place at piece r s run.Memory of reader_at gives why first was = tt
-piece_fault law remaining v readers port place at piece r s (run.Capture other why) of reader_at gives is first was =
-    let lt = slice_get_within readers place r reader_at in
+piece_fault law remaining v readers port place piece r s run.Memory of there gives why first was = tt
+piece_fault law remaining v readers port place piece r s (run.Capture other why) of there gives is first was =
+    let lt = slice_get_within readers place r there.at in
     let long = was.many in
     let f = at_place first place (omega (arith, lt, long)) in
-    let read = was.each place at.intake f.0 r at.at f.1 reader_at in
-    let both = Consumes-trans (remaining f.0) (remaining r) (remaining s) at.intake.bytes piece read.bytes gives in
-    let early = subst (λ xs. IsEarlyFault (xs ++ piece) why) (ap intake_bytes at.found) is.1 in
-    subst (λ n. GivesFault remaining v.table first n (λ bytes. IsFault bytes why)) (sym is.0)
-    (gives_fault remaining v first port place at f.0 (λ bytes. IsFault bytes why) of f.1 (early_all law (remaining f.0) (remaining s) (at.intake.bytes ++ piece) why both early))
-piece_fault law remaining v readers port place at piece r s run.WrongPorts of reader_at gives why first was = absurd why
-piece_fault law remaining v readers port place at piece r s run.Closed of reader_at gives why first was = absurd why
-piece_fault law remaining v readers port place at piece r s run.Failed of reader_at gives why first was = absurd why
+    let read = was.each place there.own.intake f.0 r there.own.at f.1 there.at in
+    let both = Consumes-trans (remaining f.0) (remaining r) (remaining s) there.own.intake.bytes piece read.bytes gives in
+    let early = subst (λ xs. IsEarlyFault (xs ++ piece) why) (ap intake_bytes there.own.found) is.1 in
+    gives_fault remaining v first port other place there.own f.0 why of f.1 is.0 (early_all law (remaining f.0) (remaining s) (there.own.intake.bytes ++ piece) why both early)
+piece_fault law remaining v readers port place piece r s run.WrongPorts of there gives why first was = absurd why
+piece_fault law remaining v readers port place piece r s run.Closed of there gives why first was = absurd why
+piece_fault law remaining v readers port place piece r s run.Failed of there gives why first was = absurd why
 
-pub end_fault : {R : Type 0} (remaining : R → Option (List ℕ)) (v : Seen) (readers : List R) (port place : ℕ) (at : IsIntakeAt v.intakes port place) (r s : R) (fault : RunFault)
-    → IsOfTable v.table v → slice_get readers place ≡ Some r → Consumes (remaining r) (remaining s) [] → IsAtEnd (remaining s) → IsFaultAt (fed_bytes v port) port fault
+pub end_fault : {R : Type 0} (remaining : R → Option (List ℕ)) (v : Seen) (readers : List R) (port place : ℕ) (r s : R) (fault : RunFault)
+    → IsOfTable v.table v → IsReaderAt v readers port place r → Consumes (remaining r) (remaining s) [] → IsAtEnd (remaining s) → IsFaultAt (fed_bytes v port) port fault
     → IsFaultSince remaining v readers (source_fault fault)
-end_fault remaining v readers port place at r s run.Memory of reader_at gives end why first was = tt
-end_fault remaining v readers port place at r s (run.Capture other why) of reader_at gives end is first was =
-    let lt = slice_get_within readers place r reader_at in
+end_fault remaining v readers port place r s run.Memory of there gives end why first was = tt
+end_fault remaining v readers port place r s (run.Capture other why) of there gives end is first was =
+    let lt = slice_get_within readers place r there.at in
     let long = was.many in
     let f = at_place first place (omega (arith, lt, long)) in
-    let read = nothing_read remaining at.intake f.0 r s gives (was.each place at.intake f.0 r at.at f.1 reader_at) in
-    let own = subst (λ xs. IsFault xs why) (ap intake_bytes at.found) is.1 in
-    subst (λ n. GivesFault remaining v.table first n (λ bytes. IsFault bytes why)) (sym is.0)
-    (gives_fault remaining v first port place at f.0 (λ bytes. IsFault bytes why) of f.1 (Consumes-whole (remaining f.0) (remaining s) at.intake.bytes (λ bytes. IsFault bytes why) read end own))
-end_fault remaining v readers port place at r s run.WrongPorts of reader_at gives end why first was = absurd why
-end_fault remaining v readers port place at r s run.Closed of reader_at gives end why first was = absurd why
-end_fault remaining v readers port place at r s run.Failed of reader_at gives end why first was = absurd why
+    let read = nothing_read remaining there.own.intake f.0 r s gives (was.each place there.own.intake f.0 r there.own.at f.1 there.at) in
+    let own = subst (λ xs. IsFault xs why) (ap intake_bytes there.own.found) is.1 in
+    gives_fault remaining v first port other place there.own f.0 why of f.1 is.0 (Consumes-whole (remaining f.0) (remaining s) there.own.intake.bytes (λ bytes. IsFault bytes why) read end own)
+end_fault remaining v readers port place r s run.WrongPorts of there gives end why first was = absurd why
+end_fault remaining v readers port place r s run.Closed of there gives end why first was = absurd why
+end_fault remaining v readers port place r s run.Failed of there gives end why first was = absurd why
 
 -- ---- what has gone out is taken
 
@@ -712,10 +727,6 @@ ended_of remaining contents v mid numbers readers now files written are long was
     ended_at_end remaining mid first now many ended (was.read first read) where
       many : length now ≡ length mid.intakes
       many = was.many ∙ long ∙ ap (λ (ns : List ℕ). length ns) are ∙ length-map v.table.ports (λ (p : PortRow). p.id) ∙ sym (intakes_long v.table mid was.of)
-
-pub of_source_error : {T : Type 0} (P : SourceFault → Type 0) (r : Result T SourceFault) (e : SourceFault) → IsErr r × IsErrAnd r (λ x. x ≡ e) → P e → IfErr r P
-of_source_error P (Ok x) e is holds = absurd is.1
-of_source_error P (Err x) e is holds = subst P (sym is.1) holds
 
 -- ---- from the first read to the last
 

@@ -5,7 +5,6 @@ use Rattle.std.specs.Prelude.{find}
 use Rattle.std.specs.List.{AllByRecursion}
 use Rattle.std.specs.Io.KnownBytes.{Appends}
 use Rattle.std.proofs.lemmas.Bool.{both_ways, eq-eqb, ne_eqb}
-use Rattle.std.proofs.lemmas.List.{length-map}
 use Rattle.std.proofs.lemmas.Option.{same_Some}
 use Rattle.afdx_pcap.specs.Record.{Record}
 use Rattle.afdx_table.specs.declared.rows.PortRow.{PortRow}
@@ -237,10 +236,6 @@ have_taken {F} {Z} stays prefix contents m begun start now kept have read are = 
     taken_is = ap (λ n. take n out) count ∙ ap (take (length has.taken)) out_is ∙ take_prefix has.taken rest.0
 
 -- ---- the end of a session
-
--- there are as many lanes as ports
-pub lanes_long : {Z : Type 0} (t : Content) (lanes : List (Lane Z)) → AreOfTable t lanes → length lanes ≡ length t.ports
-lanes_long t lanes of = sym (length-map lanes (λ l. l.port)) ∙ ap (λ (ns : List ℕ). length ns) of.ports ∙ length-map t.ports (λ p. p.id)
 
 pub finished_into : {F Z : Type 0} → TakenStays → TakenIsAPrefix → AcceptedRunsIsolate → (contents : F → Option (List ℕ)) (m new : Machine Z) (begun : Bool) (r : Rest) (read : List Capture)
     (files mid now : List F) (counts : Tally) → IsKeptMachine m begun false → IsOfSameTable m.switch new.switch → AreCaptures (texts_at m.lanes.items) read

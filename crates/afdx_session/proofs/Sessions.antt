@@ -142,7 +142,7 @@ refused_place m begun failed v lanes port fault Why is not_failed same at =
       refl,
     )
 
-pub of_error : {T : Type 0} (P : RunFault → Type 0) (r : Result T RunFault) (e : RunFault) → IsErr r × IsErrAnd r (λ x. x ≡ e) → P e → IfErr r P
+pub of_error : {T E : Type 0} (P : E → Type 0) (r : Result T E) (e : E) → IsErr r × IsErrAnd r (λ x. x ≡ e) → P e → IfErr r P
 of_error P (Ok x) e is holds = absurd is.1
 of_error P (Err x) e is holds = subst P (sym is.1) holds
 
@@ -293,7 +293,7 @@ answers_take {Z} m next begun failed v port place old new bytes view kept is at 
       after = ap (λ s. seen s.run.table s.accepted (intakes_of next.lanes.items) begun failed) switch ∙ ap (λ is. seen m.switch.run.table m.switch.accepted is begun failed) intakes
 
 -- what was not taken
-pub shows : {Z : Type 0} (m : Machine Z) (begun failed : Bool) (v : Seen) (port place : ℕ) (l : Lane Z) → seen_of m begun failed ≡ v → IsKeptMachine m begun failed
+shows : {Z : Type 0} (m : Machine Z) (begun failed : Bool) (v : Seen) (port place : ℕ) (l : Lane Z) → seen_of m begun failed ≡ v → IsKeptMachine m begun failed
     → position (is_lane_of port) m.lanes.items ≡ Some place → slice_get m.lanes.items place ≡ Some l
     → IfSome (port_row v.table port) (λ p. (text : List ℕ) × HasGoneOut v p text × (taken_of v port ≤ length text) × (l.ready ≡ length text - taken_of v port))
 shows {Z} m begun failed v port place l view kept is at =
@@ -346,10 +346,6 @@ take_into_fails {Z} m next begun failed v place old new (Err e) view at same swi
     ap (λ s. seen s.run.table s.accepted (intakes_of next.lanes.items) begun failed) switch
     ∙ ap (λ (ls : List (Lane Z)). seen m.switch.run.table m.switch.accepted (intakes_of ls) begun failed) (set_back m.lanes.items next.lanes.items place old new at same lanes)
     ∙ view
-
-pub none_told : {X : Type 0} (o : Option X) (P : Type 0) → P → IfNone o P
-none_told None P told = told
-none_told (Some x) P told = tt
 
 -- the port is there
 pub take_is_known : {Z : Type 0} (m : Machine Z) (begun failed : Bool) (v : Seen) (port place : ℕ) (Unknown : Type 0) → seen_of m begun failed ≡ v → AreOfTable m.switch.run.table m.lanes.items

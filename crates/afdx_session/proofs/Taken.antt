@@ -22,7 +22,7 @@ use Rattle.afdx_session.specs.Inner.Lanes.{intake_of, waiting_of, HasReadAll}
 use Rattle.afdx_session.specs.Inner.Kept.{IsLaneOf, AreLanesOf, text_up_to, IsOut, IsGoing, IsRunning, IsMarked}
 use Rattle.afdx_session.specs.Inner.View.{intakes_of, gone_out, IsShownAt, IsShown, IsKeptMachine, IsTaken}
 use Rattle.afdx_session.proofs.Going.{get-set}
-use Rattle.afdx_session.proofs.Numbered.{all_slice_get}
+use Rattle.afdx_session.proofs.Numbered.{all_slice_get, set_same}
 use Rattle.afdx_session.proofs.ReadUp.{read_same, all_set}
 use Rattle.afdx_session.proofs.Shown.{length-drop-within}
 
@@ -227,11 +227,7 @@ kept_taken {Z} m next begun failed k old new at taken switch counts lanes kept =
 
 -- what is put back where it was changes nothing
 pub set_back : {X : Type 0} (xs ys : List X) (k : ℕ) (old new : X) → slice_get xs k ≡ Some old → new ≡ old → ys ≡ set xs k new → ys ≡ xs
-set_back {X = X} xs ys k old new at same is = is ∙ ap (set xs k) same ∙ back xs k at where
-  back : (zs : List X) (n : ℕ) → slice_get zs n ≡ Some old → set zs n old ≡ zs
-  back [] n there = absurd cc
-  back (z ∷ zs) zero there = ap (λ x. x ∷ zs) (sym (same_Some z old there))
-  back (z ∷ zs) (suc n) there = ap (λ ws. z ∷ ws) (back zs n there)
+set_back xs ys k old new at same is = is ∙ ap (set xs k) same ∙ set_same xs k old at
 
 kept_same : {Z : Type 0} (m next : Machine Z) (begun failed : Bool) → next.switch ≡ m.switch → next.counts ≡ m.counts → next.lanes.items ≡ m.lanes.items → IsKeptMachine m begun failed
     → IsKeptMachine next begun failed

@@ -1,5 +1,6 @@
 -- Captures that are read in pieces, from readers.
 use Rattle.std.specs.Prelude.{ℕ, ◌≡◌, List, length, slice_get, Option, Some, IfSome}
+use Rattle.afdx_pcap.specs.declared.fault.PcapFault.{PcapFault}
 use Rattle.afdx_pcap.specs.Fault.{IsFault}
 use Rattle.afdx_devices.specs.Input.{AreGiven}
 use Rattle.afdx_table.specs.declared.rows.PortRow.{PortRow}
@@ -13,18 +14,18 @@ pub record AreRead {R : Type 0} (remaining : R → Option (List ℕ)) (readers :
   pub many : length texts ≡ length readers
   pub each : (place : ℕ) (reader : R) (text : Text) → slice_get readers place ≡ Some reader → slice_get texts place ≡ Some text → AreGiven (remaining reader) text.1
 
--- what the reader at a port's place gives has this fault
-pub record GivesFault {R : Type 0} (remaining : R → Option (List ℕ)) (t : Content) (readers : List R) (port : ℕ) (Has : List ℕ → Type 0) : Type 0 where
+-- what the reader at a port's place gives has this fault, where it is known
+pub record GivesFault {R : Type 0} (remaining : R → Option (List ℕ)) (t : Content) (readers : List R) (port : ℕ) (why : PcapFault) : Type 0 where
   pub place : ℕ
   pub row : PortRow
   pub reader : R
   pub row_is : slice_get t.ports place ≡ Some row
   pub port_is : row.id ≡ port
   pub reader_is : slice_get readers place ≡ Some reader
-  pub has : IfSome (remaining reader) Has
+  pub has : IfSome (remaining reader) (λ bytes. IsFault bytes why)
 
 -- why there is no outcome: memory ran out or a reader failed, which may be at any time; or a text has this fault, and others may have one too
 abbrev pub IsSourceFault : {R : Type 0} → (R → Option (List ℕ)) → Content → List R → SourceFault → Type 0
 IsSourceFault remaining t readers fault.Memory = Unit {0}
 IsSourceFault remaining t readers fault.Read = Unit {0}
-IsSourceFault remaining t readers (fault.Capture port why) = GivesFault remaining t readers port (λ bytes. IsFault bytes why)
+IsSourceFault remaining t readers (fault.Capture port why) = GivesFault remaining t readers port why

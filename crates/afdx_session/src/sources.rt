@@ -16,7 +16,7 @@ use afdx_devices::{NewFile, TURNS};
 use afdx_pcap::PcapFault;
 use afdx_pcap::laws::early_faults_stay;
 use afdx_table::PortRow;
-use std::alloc::{AllocError, AllocFailed, Allocator};
+use std::alloc::{AllocError, Allocator};
 use std::io::{ErrorKind, Read};
 use thiserror::Error;
 
@@ -43,16 +43,6 @@ impl From<AllocError> for SourceFault {
     ghost from_gives = { λ _ e. e ≡ Memory };
 
     fn from(_error: AllocError) -> SourceFault {
-        SourceFault::Memory
-    }
-}
-
-impl<T: Drop> From<AllocFailed<T>> for SourceFault {
-    ghost use Rattle.afdx_session.specs.declared.sources.SourceFault.TheVariants.{Memory};
-
-    ghost from_gives = { λ _ e. e ≡ Memory };
-
-    fn from(_error: AllocFailed<T>) -> SourceFault {
         SourceFault::Memory
     }
 }
@@ -154,7 +144,8 @@ fn take_at<A: Allocator + Copy, F: NewFile>(
 
 /// The place after this one, and 0 after the last.
 fn place_after(place: usize, count: usize) -> usize {
-    if place < count { place + 1 } else { 0 }
+    let next = place.saturating_add(1);
+    if next < count { next } else { 0 }
 }
 
 /// All captures are read to their ends, and but for the last they have ended. What has gone out goes to the files, of one port after

@@ -219,24 +219,15 @@ fn feed_port(
     Err(RunFault::WrongPorts)
 }
 
-/// What has gone out of a port goes to its file, where there is something; whether it was as much as the session says.
-fn write_more(session: &mut Session<Global>, intake: &mut Intake<'_>) -> Result<bool, AllocError> {
-    let count = session.untaken(intake.port);
-    let wanted = intake.taken.bytes.len().checked_add(count);
-    if count > 0 {
-        session.take_into(intake.port, &mut intake.taken)?;
-    }
-    Ok(wanted == Some(intake.taken.bytes.len()) && session.untaken(intake.port) == 0)
-}
-
-/// The same of each port.
+/// What has gone out of each port goes to its file; whether nothing is left to be taken then.
 fn write_all(
     session: &mut Session<Global>,
     intakes: &mut [Intake<'_>],
 ) -> Result<bool, AllocError> {
     let mut right = true;
     for intake in intakes.iter_mut() {
-        right = write_more(session, intake)? && right;
+        session.take_into(intake.port, &mut intake.taken)?;
+        right = session.take(intake.port).is_empty() && right;
     }
     Ok(right)
 }
@@ -248,7 +239,7 @@ fn are_others_closed(intakes: &[Intake<'_>], port: u8) -> bool {
 }
 
 /// Pieces of the capture that holds back the output, until all have ended, but no more than 100,000; after each, what has
-/// gone out goes to the files. Whether the session says rightly how much that is, and when the capture is the last one.
+/// gone out goes to the files. Whether nothing is left of it, and the session says rightly when the capture is the last one.
 pub(crate) fn feed_waited(
     session: &mut Session<Global>,
     intakes: &mut [Intake<'_>],

@@ -1,6 +1,7 @@
 use Rattle.std.proofs.Common.{◌<◌, false, sym, subst, refl}
 use Rattle.afdx_session.specs.Inner.Sources.{IsFaultSince}
-use Rattle.afdx_session.proofs.FromReaders.{reads_none, reads_both, takes_both, fault_since, ended_of, of_source_error}
+use Rattle.afdx_session.proofs.FromReaders.{reads_none, reads_both, takes_both, fault_since, ended_of}
+use Rattle.afdx_session.proofs.Sessions.{of_error}
 use Rattle.afdx_session.proofs.sources.read_all.Goals as goal
 
 pub loop-turn-init : goal.loop-turn-init
@@ -19,7 +20,7 @@ returns-in_err-read_on-clause-err g c =
     let v = c.args.session.now in
     let rem = g.R.Read.remaining in
     let fault = c.in_err-read_on.field-0.0 in
-    of_source_error (IsFaultSince rem v c.args.readers.now) c.from_residual.result fault c.from_residual.ensures
+    of_error (IsFaultSince rem v c.args.readers.now) c.from_residual.result fault c.from_residual.ensures
     (fault_since rem g.F.NewFile.contents v c.loop-turn.session c.args.readers.now c.loop-turn.readers c.args.files.now c.loop-turn.files fault c.loop-turn.invariant.on c.in_err-read_on.ensures.err)
 
 pub returns-then-not-branch-clause-ok : goal.returns-then-not-branch-clause-ok

@@ -8,7 +8,8 @@ use Rattle.afdx_session.specs.Session.{Seen}
 use Rattle.afdx_session.specs.Finish.{texts_in}
 use Rattle.afdx_session.specs.Sources.{IsSourceFault}
 use Rattle.afdx_session.specs.Inner.Sources.{IsOfTable, IsFaultSince}
-use Rattle.afdx_session.proofs.FromReaders.{of_fresh, of_read, read_fresh, runs_from, not_finished, fault_from, of_source_error}
+use Rattle.afdx_session.proofs.FromReaders.{of_fresh, of_read, read_fresh, runs_from, not_finished, fault_from}
+use Rattle.afdx_session.proofs.Sessions.{of_error}
 use Rattle.afdx_session.proofs.sources.run_from.Goals as goal
 
 pub read_all-requires-clause-of : goal.read_all-requires-clause-of
@@ -38,7 +39,7 @@ returns-in_err-read_all-clause-err g c =
     let readers = c.args.readers.now in
     let fault = c.in_err-read_all.field-0.0 in
     let since = subst (λ (w : Seen). IsFaultSince rem w readers fault) c.in-Ok.ensures.ok c.in_err-read_all.ensures.err in
-    of_source_error (IsSourceFault rem t readers) c.from_residual-in_err-read_all.result fault c.from_residual-in_err-read_all.ensures
+    of_error (IsSourceFault rem t readers) c.from_residual-in_err-read_all.result fault c.from_residual-in_err-read_all.ensures
     (since readers (read_fresh rem (is_cleared c.args.plan) t readers))
 
 pub returns-in-Ok-finish_into-clause-ok : goal.returns-in-Ok-finish_into-clause-ok

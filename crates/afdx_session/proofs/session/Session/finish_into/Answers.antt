@@ -6,7 +6,8 @@ use Rattle.afdx_session.specs.Session.{Seen}
 use Rattle.afdx_session.specs.Into.{IsFinishedInto, IsNotFinishedInto}
 use Rattle.afdx_session.specs.Inner.Rest.{Rest}
 use Rattle.afdx_session.specs.Inner.View.{texts_at, IsKeptMachine}
-use Rattle.afdx_session.proofs.Into.{lanes_long, finished_into}
+use Rattle.afdx_session.proofs.FirstHeads.{lanes_long}
+use Rattle.afdx_session.proofs.Into.{finished_into}
 use Rattle.afdx_session.proofs.Sessions.{seen_so_far, of_error}
 use Rattle.afdx_session.proofs.Writing.{gone_is_left}
 use Rattle.afdx_session.proofs.session.Session.finish_into.Goals as goal
