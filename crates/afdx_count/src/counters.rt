@@ -1,7 +1,8 @@
 //! Counters, each of which stays at its greatest value.
 
 ghost use Rattle.std.specs.Prelude.{◌≡◌, [], ◌∷◌};
-ghost use Rattle.afdx_count.specs.Counting.{up, with_verdict, with_fate, with_answers, with_ended, is_of, more_sent, more_aged};
+ghost use Rattle.afdx_count.specs.Counting.{up, with_verdict, with_fate, with_answers, more_sent, more_aged};
+ghost use Rattle.afdx_units.specs.declared.line.Priority.TheVariants.{High, Low};
 
 use afdx_core::Fate;
 use afdx_filter::Verdict;
@@ -82,12 +83,6 @@ impl InCount {
     }
 }
 
-fn is_of(priority: Priority, other: Priority) -> bool
-    ensures { result ≡ is_of priority other }
-{
-    priority == other
-}
-
 impl OutCount {
     /// Counts a copy that was offered.
     pub(crate) fn note(&mut self, offer: Offer)
@@ -101,42 +96,36 @@ impl OutCount {
             Offer::Queued => {}
         }
     }
-
-    /// Counts the copies of a priority that were sent and discarded.
-    pub(crate) fn with_ended(self, priority: Priority, sent: &[Sent], aged: &[Aged]) -> OutCount
-        ensures { result ≡ with_ended priority sent.now aged.now self }
-    {
-        OutCount {
-            offered: self.offered,
-            full: self.full,
-            aged: more_aged(self.aged, priority, aged),
-            sent: more_sent(self.sent, priority, sent),
-        }
-    }
 }
 
-/// The counter, with those of a priority that were sent.
-fn more_sent(start: u64, priority: Priority, sent: &[Sent]) -> u64
-    ensures { result ≡ more_sent start priority sent.now }
+/// The counters of the high copies and of the low ones, with those that were sent. It is one pass over the list, which is long.
+pub(crate) fn more_sent(high: u64, low: u64, sent: &[Sent]) -> (u64, u64)
+    ensures high { result.0 ≡ more_sent high High sent.now }
+    ensures low { result.1 ≡ more_sent low Low sent.now }
 {
-    let mut count = start;
+    let mut of_high = high;
+    let mut of_low = low;
     for one in sent {
-        if is_of(priority, one.item.priority) {
-            count = up(count);
+        match one.item.priority {
+            Priority::High => of_high = up(of_high),
+            Priority::Low => of_low = up(of_low),
         }
     }
-    count
+    (of_high, of_low)
 }
 
-/// The counter, with those of a priority that were discarded.
-fn more_aged(start: u64, priority: Priority, aged: &[Aged]) -> u64
-    ensures { result ≡ more_aged start priority aged.now }
+/// The counters of the high copies and of the low ones, with those that were discarded.
+pub(crate) fn more_aged(high: u64, low: u64, aged: &[Aged]) -> (u64, u64)
+    ensures high { result.0 ≡ more_aged high High aged.now }
+    ensures low { result.1 ≡ more_aged low Low aged.now }
 {
-    let mut count = start;
+    let mut of_high = high;
+    let mut of_low = low;
     for one in aged {
-        if is_of(priority, one.item.priority) {
-            count = up(count);
+        match one.item.priority {
+            Priority::High => of_high = up(of_high),
+            Priority::Low => of_low = up(of_low),
         }
     }
-    count
+    (of_high, of_low)
 }

@@ -6,7 +6,7 @@ ghost use Rattle.afdx_count.specs.Counting.{with_fate};
 ghost use Rattle.afdx_count.specs.Tally.{new_port, with_arrival, with_copies, with_class, ended_port, port_in};
 ghost use Rattle.afdx_count.specs.Inner.Places.{IsPlaceOf, LeadTo};
 
-use crate::counters::{InCount, OutCount};
+use crate::counters::{InCount, OutCount, more_aged, more_sent};
 use afdx_core::{Done, Fate};
 use afdx_port::Offer;
 use afdx_table::laws::ports_are_distinct;
@@ -54,13 +54,21 @@ impl PortTally {
     fn with_end<B: Allocator + Copy>(self, done: &Done<'_, B>) -> PortTally
         ensures { result ≡ ended_port done.now.run self }
     {
-        let sent = done.sent(self.id);
-        let aged = done.aged(self.id);
+        let (high_sent, low_sent) = more_sent(self.high.sent, self.low.sent, done.sent(self.id));
+        let (high_aged, low_aged) = more_aged(self.high.aged, self.low.aged, done.aged(self.id));
         PortTally {
             id: self.id,
             input: self.input,
-            high: self.high.with_ended(Priority::High, sent, aged),
-            low: self.low.with_ended(Priority::Low, sent, aged),
+            high: OutCount {
+                aged: high_aged,
+                sent: high_sent,
+                ..self.high
+            },
+            low: OutCount {
+                aged: low_aged,
+                sent: low_sent,
+                ..self.low
+            },
         }
     }
 }

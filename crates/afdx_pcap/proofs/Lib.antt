@@ -1,3 +1,4 @@
+pub mod Parts
 pub mod Splitting
 pub mod Written
 pub mod Unique

@@ -1,14 +1,17 @@
-//! Bytes that are owned or lent.
+//! Bytes that are owned, shared or lent.
 
-ghost use Rattle.std.specs.Prelude.{◌≡◌, ◌-◌, ◌≤◌, ◌++◌, length, take, drop, false, is_ok, IfOk, IfErr, if◌then◌else◌};
-ghost use Rattle.afdx_pcap.specs.Bytes.{plain_bytes, is_lent};
+ghost use Rattle.std.specs.Prelude.{◌≡◌, ◌-◌, ◌≤◌, ◌++◌, length, take, drop, true, false, is_ok, IfOk, IfErr, if◌then◌else◌};
+ghost use Rattle.afdx_pcap.specs.Bytes.{plain_bytes, is_lent, is_owned};
 
+use crate::part::Part;
 use std::alloc::{AllocError, Allocator};
+use std::mem;
 
-/// Some bytes, as std's `Cow` has them.
+/// Some bytes, as std's `Cow` has them, or a part of some that others share.
 #[derive(Debug, Drop)]
 pub enum Bytes<'a, A: Allocator> {
     Owned(Vec<u8, A>),
+    Shared(Part<A>),
     Lent(&'a [u8]),
 }
 
@@ -18,37 +21,68 @@ impl<'a, A: Allocator> Bytes<'a, A> {
     {
         match self {
             Bytes::Owned(bytes) => bytes,
+            Bytes::Shared(part) => part.as_slice(),
             Bytes::Lent(bytes) => bytes,
         }
     }
+}
 
-    /// The bytes from `start` to `end`: lent where these are, else a copy.
-    pub fn part(&self, alloc: A, start: usize, end: usize) -> Result<Bytes<'a, A>, AllocError>
-        requires order { start ≤ end }
-        requires within { end ≤ length (plain_bytes self.now) }
-        ensures ok { IfOk result (λ part. plain_bytes part ≡ take (end - start) (drop start (plain_bytes self.now))) }
-        ensures lent { IfOk result (λ part. is_lent part ≡ is_lent self.now) }
-        ensures err { IfErr result (λ _. is_lent self.now ≡ false) }
+impl<'a, A: Allocator + Copy> Bytes<'a, A> {
+    /// Shares the bytes that are owned, so that parts of them are no copies. O(1).
+    fn share(&mut self, alloc: A) -> Result<(), AllocError>
+        ensures bytes { plain_bytes self.new ≡ plain_bytes self.old }
+        ensures lent { is_lent self.new ≡ is_lent self.old }
+        ensures ok { IfOk result (λ _. is_owned self.new ≡ false) }
+        ensures err { IfErr result (λ _. is_lent self.old ≡ false) }
     {
+        if let Bytes::Owned(bytes) = self {
+            let bytes = mem::replace(bytes, Vec::new(alloc));
+            match Part::whole(alloc, bytes) {
+                Ok(part) => *self = Bytes::Shared(part),
+                Err(bytes) => {
+                    *self = Bytes::Owned(bytes);
+                    return Err(AllocError);
+                }
+            }
+        }
+        Ok(())
+    }
+
+    /// The bytes from `start` to `end`: lent where these are, else shared with these. O(1).
+    pub fn part(&mut self, alloc: A, start: usize, end: usize) -> Result<Bytes<'a, A>, AllocError>
+        requires order { start ≤ end }
+        requires within { end ≤ length (plain_bytes self.old) }
+        ensures bytes { plain_bytes self.new ≡ plain_bytes self.old }
+        ensures same { is_lent self.new ≡ is_lent self.old }
+        ensures ok { IfOk result (λ part. plain_bytes part ≡ take (end - start) (drop start (plain_bytes self.old))) }
+        ensures err { IfErr result (λ _. is_lent self.old ≡ false) }
+    {
+        self.share(alloc)?;
         match self {
-            Bytes::Owned(bytes) => Ok(Bytes::Owned(Vec::from_slice(alloc, &bytes[start..end])?)),
+            Bytes::Owned(_) => unreachable!(),
+            Bytes::Shared(part) => Ok(Bytes::Shared(part.part(start, end)?)),
             Bytes::Lent(bytes) => Ok(Bytes::Lent(&bytes[start..end])),
         }
     }
 
-    /// Puts more bytes behind those that are owned.
-    pub fn extend(&mut self, more: &[u8]) -> Result<(), AllocError>
+    /// Puts more bytes behind those that are not lent: behind a copy of those that are shared. O(more), and O(bytes) then.
+    pub fn extend(&mut self, alloc: A, more: &[u8]) -> Result<(), AllocError>
         requires { is_lent self.old ≡ false }
         ensures bytes { plain_bytes self.new ≡ (if is_ok result then plain_bytes self.old ++ more.now else plain_bytes self.old) }
         ensures lent { is_lent self.new ≡ false }
     {
         match self {
             Bytes::Owned(bytes) => bytes.extend_from_slice(more),
+            Bytes::Shared(part) => {
+                *self = Bytes::Owned(part.and(alloc, more)?);
+                Ok(())
+            }
             Bytes::Lent(_) => unreachable!(),
         }
     }
 
-    /// Lets go of the first `count` of bytes that are owned, and keeps their memory for others. O(the rest).
+    /// Lets go of the first `count` of bytes that are not lent, and keeps the memory of those that are owned for others.
+    /// O(the rest), and O(1) where they are shared.
     pub fn forget(&mut self, count: usize)
         requires owned { is_lent self.old ≡ false }
         requires within { count ≤ length (plain_bytes self.old) }
@@ -61,6 +95,7 @@ impl<'a, A: Allocator> Bytes<'a, A> {
                 bytes.copy_within(count.., 0);
                 bytes.truncate(rest);
             }
+            Bytes::Shared(part) => part.forget(count),
             Bytes::Lent(_) => unreachable!(),
         }
     }

@@ -11,6 +11,7 @@ mod fault;
 mod format;
 mod gone;
 pub mod laws;
+mod part;
 mod progress;
 mod reader;
 mod reading;

@@ -70,15 +70,17 @@ pub struct Next {
 }
 
 impl Next {
-    /// The record: its bytes are lent where these are, else it has its own copy of them.
-    pub fn record<'a, A: Allocator>(
+    /// The record: its bytes are lent where these are, else it shares them. O(1).
+    pub fn record<'a, A: Allocator + Copy>(
         self,
         alloc: A,
-        bytes: &Bytes<'a, A>,
+        bytes: &mut Bytes<'a, A>,
     ) -> Result<Record<'a, A>, AllocError>
-        requires { IsPart (plain_bytes bytes.now) self }
-        ensures ok { IfOk result (λ r. r ≡ next_in (plain_bytes bytes.now) self) }
-        ensures err { IfErr result (λ _. is_lent bytes.now ≡ false) }
+        requires { IsPart (plain_bytes bytes.old) self }
+        ensures bytes { plain_bytes bytes.new ≡ plain_bytes bytes.old }
+        ensures same { is_lent bytes.new ≡ is_lent bytes.old }
+        ensures ok { IfOk result (λ r. r ≡ next_in (plain_bytes bytes.old) self) }
+        ensures err { IfErr result (λ _. is_lent bytes.old ≡ false) }
     {
         let data = bytes.part(alloc, self.start, self.progress.place)?;
         Ok(Record::of(self.progress.last, self.original, data))

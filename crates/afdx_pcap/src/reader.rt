@@ -19,8 +19,9 @@ const CACHE_LINE: usize = 64;
 /// a whole one, which stays where it is.
 ///
 /// A reader that is fed lets go of what it has read: after each piece it keeps this and at most twice the bytes before it that
-/// were not read. Its records have copies of theirs. However the bytes were cut, feeding them and taking the records is
-/// O(bytes). A reader over a whole capture copies nothing: its records are lent.
+/// were not read. A record shares the piece in which its last byte came, which stays as long as one of its records does. However
+/// the bytes were cut, feeding them and taking the records is O(bytes) where all whole records are taken between two pieces.
+/// A reader over a whole capture copies nothing: its records are lent.
 #[derive(Drop)]
 pub struct Reader<'a, A: Allocator> {
     alloc: A,
@@ -103,7 +104,7 @@ impl<'a, A: Allocator + Copy> Reader<'a, A> {
     /// The fault that this or `next` answered before, and for good; else `Memory` alone, and the piece is
     /// not kept: memory for it was refused, or with it there might be more records than a `usize` counts.
     ///
-    /// Amortized O(piece).
+    /// Amortized O(piece); O(bytes that were not read) too where a record was taken since the last piece.
     pub fn feed(&mut self, piece: &[u8]) -> Result<(), PcapFault>
         requires { self.old.closed ≡ false }
         ensures ok { OnOk result (self.new ≡ record self.old { bytes = self.old.bytes ++ piece.now }) }
@@ -120,7 +121,7 @@ impl<'a, A: Allocator + Copy> Reader<'a, A> {
         let kept = self.kept.as_slice().len();
         // Each record takes some of the bytes, so that there are no more than these; faults count one more.
         let most = self.given.saturating_add(kept).saturating_add(piece.len());
-        if most == usize::MAX || self.kept.extend(piece).is_err() {
+        if most == usize::MAX || self.kept.extend(self.alloc, piece).is_err() {
             self.fault = Some(PcapFault::Memory);
             return Err(PcapFault::Memory);
         }
@@ -128,7 +129,7 @@ impl<'a, A: Allocator + Copy> Reader<'a, A> {
     }
 
     /// Lets go of what was read, where that is no less than what was not, so that no more bytes are moved than were read.
-    /// O(what was not read).
+    /// O(what was not read), and O(1) where a record was taken since the last piece.
     fn forget(&mut self)
         requires { self.old.closed ≡ false }
         ensures { self.new ≡ self.old }
@@ -154,11 +155,10 @@ impl<'a, A: Allocator + Copy> Reader<'a, A> {
     /// # Errors
     ///
     /// The fault of the bytes, with the record's number, after all whole records before it; while the reader
-    /// is open only one that no further bytes can mend, so not P2, P6 or P11. `Memory` where the copy of the
-    /// record's bytes was refused, so never where the bytes are lent. The same fault is then answered for good.
+    /// is open only one that no further bytes can mend, so not P2, P6 or P11. `Memory` where what counts the
+    /// owners of a piece was refused, so never where the bytes are lent. The same fault is then answered for good.
     ///
-    /// O(bytes of the record), and O(1) where these are lent or there is none: no byte of an earlier record is read
-    /// again.
+    /// O(1): no byte of an earlier record is read again.
     pub fn next(&mut self) -> Result<Option<Record<'a, A>>, PcapFault>
         ensures ok { IfOk result (λ found. self.new ≡ record self.old {
           given = (if is_some found then self.old.given + 1 else self.old.given);
@@ -166,7 +166,7 @@ impl<'a, A: Allocator + Copy> Reader<'a, A> {
         ensures err { IfErr result (λ fault. self.new ≡ record self.old { fault = Some fault }) }
 
         // A fault that was answered stays the answer; else this is what the bytes say, and memory is taken for
-        // the copy of a whole record alone.
+        // a whole record alone.
         ensures failed { IfSome self.old.fault (λ fault. result ≡ Err fault) }
         ensures answer { IfNone self.old.fault (Answers self.old.bytes self.old.given self.old.closed result) }
         ensures memory { IfNone self.old.fault (IfErr result (λ fault. fault ≡ Memory
@@ -182,7 +182,7 @@ impl<'a, A: Allocator + Copy> Reader<'a, A> {
         match next_record(self.kept.as_slice(), given, progress) {
             Some(next) => {
                 let onward = next.progress;
-                let Ok(record) = next.record(alloc, &self.kept) else {
+                let Ok(record) = next.record(alloc, &mut self.kept) else {
                     self.fault = Some(PcapFault::Memory);
                     return Err(PcapFault::Memory);
                 };
