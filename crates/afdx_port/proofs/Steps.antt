@@ -1,6 +1,6 @@
 -- What one event of a line does, in the terms in which the code takes it.
-use Rattle.std.proofs.Common.{◌≡◌, ℕ, zero, suc, ◌+◌, ◌-◌, ◌<◌, ◌≤◌, cond, List, [], ◌∷◌, ◌++◌, length, take, drop, Some, refl, ap, sym, ◌∙◌, arith, append_assoc, append-nil}
-use Rattle.std.specs.Prelude.{nat_lt, remove, slice_get, All}
+use Rattle.std.proofs.Common.{◌≡◌, ℕ, suc, ◌+◌, ◌-◌, ◌<◌, ◌≤◌, cond, List, [], ◌∷◌, ◌++◌, take, drop, refl, ap, sym, ◌∙◌, append_assoc, append-nil}
+use Rattle.std.specs.Prelude.{nat_lt, remove, All}
 use Rattle.std.proofs.lemmas.List.Elements.{All-append, All-take, All-drop}
 use Rattle.afdx_units.specs.Line.{cost_of}
 use Rattle.afdx_port.specs.declared.Settings.{Settings}
@@ -29,12 +29,11 @@ aged_of-append [] fs = refl
 aged_of-append (sending x ∷ es) fs = aged_of-append es fs
 aged_of-append (aging x ∷ es) fs = ap (λ xs. x ∷ xs) (aged_of-append es fs)
 
-pub on_line_last : (t k : ℕ) (xs : List Sent) (last : Sent) → k + 1 ≡ length xs → slice_get xs k ≡ Some last → on_line t xs ≡ cond (nat_lt t last.end) last.item.size 0
-on_line_last t k [] last is at = absurd (omega (arith, is))
-on_line_last t zero (x ∷ []) last is at = let e : x ≡ last = (cc) in ap (λ (y : Sent). cond (nat_lt t y.end) y.item.size 0) e
-on_line_last t (suc k) (x ∷ []) last is at = absurd (omega (arith, is))
-on_line_last t zero (x ∷ y ∷ xs) last is at = absurd (omega (arith, is))
-on_line_last t (suc k) (x ∷ y ∷ xs) last is at = on_line_last t k (y ∷ xs) last (omega (arith, is)) at
+-- the last one sent is on the line
+pub on_line-push : (t : ℕ) (xs : List Sent) (x : Sent) → on_line t (xs ++ x ∷ []) ≡ cond (nat_lt t x.end) x.item.size 0
+on_line-push t [] x = refl
+on_line-push t (y ∷ []) x = refl
+on_line-push t (y ∷ z ∷ zs) x = on_line-push t (z ∷ zs) x
 
 -- what was done and what is left stay all of it, when the next events move from the one to the other
 pub carried : {X : Type 0} (pick : List Event → List X) (pick-append : (es fs : List Event) → pick (es ++ fs) ≡ pick es ++ pick fs) (all now rest : List Event) (xs ys goal : List X) → all ≡ now

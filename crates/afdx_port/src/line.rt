@@ -8,18 +8,36 @@ ghost use Rattle.afdx_port.specs.Inner.Progress.{on_line};
 ghost use Rattle.afdx_port.specs.Course.{starts_before};
 ghost use Rattle.afdx_port.specs.Inner.Course.{next_in_line, after_next, rest_in_line, reached, first_start};
 ghost use Rattle.afdx_port.specs.Inner.Queued.{count_of, queued};
-ghost use Rattle.afdx_port.specs.Inner.Sound.{IsSound, IsSmall, HasRoom, queue_of, admitted_by, state_of};
+ghost use Rattle.afdx_port.specs.Inner.Sound.{IsSound, IsSmall, HasRoom, size_at, queue_of, admitted_by, state_of};
 
 use crate::queues::Queues;
 use crate::{Aged, Item, Sent, Settings};
 use afdx_units::Stamp;
 use std::alloc::{AllocError, Allocator};
 
-/// A line, all items that it admitted, which of them wait, and what became of the others. The last one sent is the one
-/// that is being sent, until its end.
+/// What is on the line: the last item sent, until its end. It is kept beside the list, since each offer asks for it.
+#[derive(Clone, Copy)]
+pub(crate) struct OnLine {
+    /// Bytes.
+    pub(crate) size: u32,
+    /// The instant of the end in nanoseconds.
+    pub(crate) end: u64,
+}
+
+impl OnLine {
+    /// The bytes on the line at an instant.
+    fn size_at(self, at: u64) -> u32
+        ensures { result ≡ size_at at self }
+    {
+        if at < self.end { self.size } else { 0 }
+    }
+}
+
+/// A line, all items that it admitted, which of them wait, and what became of the others.
 #[derive(Drop)]
 pub(crate) struct Line<A: Allocator> {
     pub(crate) settings: Settings,
+    pub(crate) on_line: OnLine,
     /// The instant in nanoseconds at which an item that waits would start. All that wait have come by then.
     /// Where none waits, it may lie past the last stamp.
     pub(crate) ready: u64,
@@ -44,6 +62,7 @@ impl<A: Allocator + Copy> Line<A> {
     {
         Line {
             settings,
+            on_line: OnLine { size: 0, end: 0 },
             ready: settings.reach(Stamp::ZERO),
             waiting: Queues::new(alloc),
             sent: Vec::new(alloc),
@@ -130,6 +149,10 @@ impl<A: Allocator + Copy> Line<A> {
             match self.settings.fate(start, item) {
                 Ok(sent) => {
                     self.ready = sent.end.ns();
+                    self.on_line = OnLine {
+                        size: sent.item.size,
+                        end: self.ready,
+                    };
                     self.sent.push_reserved(sent);
                 }
                 Err(aged) => self.aged.push_reserved(aged),
@@ -195,18 +218,8 @@ impl<A: Allocator + Copy> Line<A> {
         requires { IsSound self.now }
         ensures { result ≡ nat_le (item.now.size + (on_line (came self.now.settings item.now) self.now.sent.items + sum_by (λ other. other.size) (queue_of self.now))) self.now.settings.buffer }
     {
-        let on_line = on_line_at(&self.sent, item.came(&self.settings));
+        let on_line = self.on_line.size_at(item.came(&self.settings));
         let occupied = on_line as u64 + self.waiting.bytes() as u64;
         item.size as u64 + occupied <= self.settings.buffer as u64
-    }
-}
-
-/// The size of the last item sent, until its end.
-pub(crate) fn on_line_at(sent: &[Sent], at: u64) -> u32
-    ensures { result ≡ on_line at sent.now }
-{
-    match sent.last() {
-        Some(last) if at < last.end.ns() => last.item.size,
-        _ => 0,
     }
 }

@@ -83,12 +83,15 @@ pub(crate) fn get_captures<F: Folder>(
     Ok(captures)
 }
 
-/// From so many bytes on captures are read in pieces (profile). Read whole, they take their own length in memory; fewer of them take
-/// less time so, where frames are small or wait for long.
+/// Captures of fewer bytes in all are read in pieces (profile): whole, they would take memory that so short a run does not touch.
+const SMALL: u64 = 16_777_216;
+
+/// From so many bytes on captures are read in pieces (profile): whole, they would take their own length in memory.
 const LARGE: u64 = 268_435_456;
 
-/// Whether the files under these names have so many bytes in all that they are to be read in pieces. O(names).
-fn are_large<F: Folder>(folder: &F, names: &[String]) -> bool {
+/// Whether the files under these names are to be read in pieces, by the bytes that they have in all. Of so many as lie in between,
+/// frames that wait for long take less time where they lie in whole captures. O(names).
+fn go_in_pieces<F: Folder>(folder: &F, names: &[String]) -> bool {
     let mut total = 0u64;
     for name in names {
         match folder.length(name) {
@@ -96,11 +99,11 @@ fn are_large<F: Folder>(folder: &F, names: &[String]) -> bool {
             None => return false,
         }
     }
-    total >= LARGE
+    total < SMALL || total >= LARGE
 }
 
-/// The files under these names, opened to be read in pieces; none where they are not large, or one of them was not opened. An error is
-/// out of memory.
+/// The files under these names, opened to be read in pieces; none where they are to be read whole, or one of them was not opened. An
+/// error is out of memory.
 pub(crate) fn open_all<F: Folder>(
     alloc: Global,
     folder: &mut F,
@@ -111,7 +114,7 @@ pub(crate) fn open_all<F: Folder>(
     ensures same { KeepsFiles (F.files folder.old) (F.files folder.new) }
     ensures failed { F.failed folder.new ≡ F.failed folder.old }
 {
-    if !are_large(folder, names) {
+    if !go_in_pieces(folder, names) {
         return Ok(None);
     }
     let mut opened = Vec::with_capacity(alloc, names.len())?;

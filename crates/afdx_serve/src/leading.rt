@@ -148,7 +148,7 @@ pub(crate) fn lead<F: Folder>(
     accepted_runs_isolate();
     tables_are_well_formed();
     let sources = port_names(alloc, paths.input, plan.table().ports())?;
-    // Read in pieces, large captures need not be held, whose pages are many times what the run itself takes.
+    // Read in pieces, captures need not be held: the pages of large ones are many times what the run itself takes.
     let Some(opened) = open_all(alloc, folder, &sources)? else {
         return lead_whole(alloc, folder, paths.input, plan, names);
     };

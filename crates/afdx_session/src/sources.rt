@@ -21,7 +21,7 @@ use std::io::{ErrorKind, Read};
 use thiserror::Error;
 
 /// How many bytes one read gives at most (profile): so few that the pieces of 24 captures, and their records, stay at hand.
-const PIECE: usize = 8_192;
+const PIECE: usize = 16_384;
 
 /// Why a run whose captures are read in pieces has no outcome.
 #[derive(Clone, Copy, Debug, PartialEq, Eq, Error)]
@@ -185,7 +185,7 @@ fn read_all<A: Allocator + Copy, R: Read, F: NewFile>(
 /// no more is kept than a piece and the records that wait.
 ///
 /// Of the captures that have not ended, the one whose last record is the earliest is read next, by at most 16,777,216 reads in all,
-/// of at most 8,192 bytes (profile).
+/// of at most 16,384 bytes (profile).
 ///
 /// # Errors
 ///

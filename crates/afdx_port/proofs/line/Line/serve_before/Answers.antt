@@ -15,6 +15,7 @@ returns-clause-sound g c =
       small = e.sound.small;
       bytes = e.sound.bytes;
       start = λ some. omega (arith, e.sound.start some, waits_from c.reach-to.result c.serve_due.new.self.ready (high_of q) (low_of q) (omega (arith, some)) e.none_due);
+      on_line_is = e.sound.on_line_is;
     }
 
 pub returns-clause-room : goal.returns-clause-room
