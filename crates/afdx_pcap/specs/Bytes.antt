@@ -13,8 +13,3 @@ abbrev pub is_lent : {Z : Type 0} → Bytes Z → Bool
 is_lent (Owned v) = false
 is_lent (Shared p) = false
 is_lent (Lent s) = true
-
-abbrev pub is_owned : {Z : Type 0} → Bytes Z → Bool
-is_owned (Owned v) = true
-is_owned (Shared p) = false
-is_owned (Lent s) = false

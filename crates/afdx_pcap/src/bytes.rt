@@ -1,7 +1,7 @@
 //! Bytes that are owned, shared or lent.
 
-ghost use Rattle.std.specs.Prelude.{◌≡◌, ◌-◌, ◌≤◌, ◌++◌, length, take, drop, true, false, is_ok, IfOk, IfErr, if◌then◌else◌};
-ghost use Rattle.afdx_pcap.specs.Bytes.{plain_bytes, is_lent, is_owned};
+ghost use Rattle.std.specs.Prelude.{◌≡◌, ◌-◌, ◌≤◌, ◌++◌, length, take, drop, false, is_ok, IfOk, IfErr, if◌then◌else◌};
+ghost use Rattle.afdx_pcap.specs.Bytes.{plain_bytes, is_lent};
 
 use crate::part::Part;
 use std::alloc::{AllocError, Allocator};
@@ -28,14 +28,17 @@ impl<'a, A: Allocator> Bytes<'a, A> {
 }
 
 impl<'a, A: Allocator + Copy> Bytes<'a, A> {
-    /// Shares the bytes that are owned, so that parts of them are no copies. O(1).
-    fn share(&mut self, alloc: A) -> Result<(), AllocError>
+    /// Shares bytes that are owned, where no more than `most` lie from `end` on. O(1).
+    fn share(&mut self, alloc: A, end: usize, most: usize) -> Result<(), AllocError>
+        requires within { end ≤ length (plain_bytes self.old) }
         ensures bytes { plain_bytes self.new ≡ plain_bytes self.old }
         ensures lent { is_lent self.new ≡ is_lent self.old }
-        ensures ok { IfOk result (λ _. is_owned self.new ≡ false) }
         ensures err { IfErr result (λ _. is_lent self.old ≡ false) }
     {
         if let Bytes::Owned(bytes) = self {
+            if bytes.len() - end > most {
+                return Ok(());
+            }
             let bytes = mem::replace(bytes, Vec::new(alloc));
             match Part::whole(alloc, bytes) {
                 Ok(part) => *self = Bytes::Shared(part),
@@ -48,8 +51,15 @@ impl<'a, A: Allocator + Copy> Bytes<'a, A> {
         Ok(())
     }
 
-    /// The bytes from `start` to `end`: lent where these are, else shared with these. O(1).
-    pub fn part(&mut self, alloc: A, start: usize, end: usize) -> Result<Bytes<'a, A>, AllocError>
+    /// The bytes from `start` to `end`: lent where these are; shared with these where no more than `most` lie behind them, since to put
+    /// more behind shared bytes takes a copy of them; else a copy. O(1), and O(bytes of the part) where it is a copy.
+    pub fn part(
+        &mut self,
+        alloc: A,
+        start: usize,
+        end: usize,
+        most: usize,
+    ) -> Result<Bytes<'a, A>, AllocError>
         requires order { start ≤ end }
         requires within { end ≤ length (plain_bytes self.old) }
         ensures bytes { plain_bytes self.new ≡ plain_bytes self.old }
@@ -57,9 +67,19 @@ impl<'a, A: Allocator + Copy> Bytes<'a, A> {
         ensures ok { IfOk result (λ part. plain_bytes part ≡ take (end - start) (drop start (plain_bytes self.old))) }
         ensures err { IfErr result (λ _. is_lent self.old ≡ false) }
     {
-        self.share(alloc)?;
+        self.share(alloc, end, most)?;
+        self.cut(alloc, start, end)
+    }
+
+    /// The bytes from `start` to `end`: lent or shared where these are, else a copy.
+    fn cut(&self, alloc: A, start: usize, end: usize) -> Result<Bytes<'a, A>, AllocError>
+        requires order { start ≤ end }
+        requires within { end ≤ length (plain_bytes self.now) }
+        ensures ok { IfOk result (λ part. plain_bytes part ≡ take (end - start) (drop start (plain_bytes self.now))) }
+        ensures err { IfErr result (λ _. is_lent self.now ≡ false) }
+    {
         match self {
-            Bytes::Owned(_) => unreachable!(),
+            Bytes::Owned(bytes) => Ok(Bytes::Owned(Vec::from_slice(alloc, &bytes[start..end])?)),
             Bytes::Shared(part) => Ok(Bytes::Shared(part.part(start, end)?)),
             Bytes::Lent(bytes) => Ok(Bytes::Lent(&bytes[start..end])),
         }

@@ -70,11 +70,13 @@ pub struct Next {
 }
 
 impl Next {
-    /// The record: its bytes are lent where these are, else it shares them. O(1).
+    /// The record: its bytes are lent where these are; where no more than `most` lie behind them it shares them, else it has its own
+    /// copy.
     pub fn record<'a, A: Allocator + Copy>(
         self,
         alloc: A,
         bytes: &mut Bytes<'a, A>,
+        most: usize,
     ) -> Result<Record<'a, A>, AllocError>
         requires { IsPart (plain_bytes bytes.old) self }
         ensures bytes { plain_bytes bytes.new ≡ plain_bytes bytes.old }
@@ -82,7 +84,7 @@ impl Next {
         ensures ok { IfOk result (λ r. r ≡ next_in (plain_bytes bytes.old) self) }
         ensures err { IfErr result (λ _. is_lent bytes.old ≡ false) }
     {
-        let data = bytes.part(alloc, self.start, self.progress.place)?;
+        let data = bytes.part(alloc, self.start, self.progress.place, most)?;
         Ok(Record::of(self.progress.last, self.original, data))
     }
 }

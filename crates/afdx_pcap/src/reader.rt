@@ -19,15 +19,17 @@ const CACHE_LINE: usize = 64;
 /// a whole one, which stays where it is.
 ///
 /// A reader that is fed lets go of what it has read: after each piece it keeps this and at most twice the bytes before it that
-/// were not read. A record shares the piece in which its last byte came, which stays as long as one of its records does. However
-/// the bytes were cut, feeding them and taking the records is O(bytes) where all whole records are taken between two pieces.
-/// A reader over a whole capture copies nothing: its records are lent.
+/// were not read. Its records share these bytes, which stay as long as one of such records does, or have copies of theirs. However
+/// the bytes were cut, feeding them and taking the records is O(bytes). A reader over a whole capture copies nothing: its records
+/// are lent.
 #[derive(Drop)]
 pub struct Reader<'a, A: Allocator> {
     alloc: A,
     /// What was read and let go: contracts see it before what is kept.
     gone: Gone,
     kept: Bytes<'a, A>,
+    /// How long the last piece was.
+    piece: usize,
     given: usize,
     progress: Option<Progress>,
     closed: bool,
@@ -69,6 +71,7 @@ impl<'a, A: Allocator + Copy> Reader<'a, A> {
             alloc,
             gone: Gone::new(),
             kept: Bytes::Owned(Vec::new(alloc)),
+            piece: 0,
             given: 0,
             progress: None,
             closed: false,
@@ -86,6 +89,7 @@ impl<'a, A: Allocator + Copy> Reader<'a, A> {
             alloc,
             gone: Gone::new(),
             kept: Bytes::Lent(bytes),
+            piece: 0,
             given: 0,
             progress: None,
             closed: true,
@@ -104,7 +108,7 @@ impl<'a, A: Allocator + Copy> Reader<'a, A> {
     /// The fault that this or `next` answered before, and for good; else `Memory` alone, and the piece is
     /// not kept: memory for it was refused, or with it there might be more records than a `usize` counts.
     ///
-    /// Amortized O(piece); O(bytes that were not read) too where a record was taken since the last piece.
+    /// Amortized O(piece).
     pub fn feed(&mut self, piece: &[u8]) -> Result<(), PcapFault>
         requires { self.old.closed ≡ false }
         ensures ok { OnOk result (self.new ≡ record self.old { bytes = self.old.bytes ++ piece.now }) }
@@ -118,6 +122,7 @@ impl<'a, A: Allocator + Copy> Reader<'a, A> {
             return Err(fault);
         }
         self.forget();
+        self.piece = piece.len();
         let kept = self.kept.as_slice().len();
         // Each record takes some of the bytes, so that there are no more than these; faults count one more.
         let most = self.given.saturating_add(kept).saturating_add(piece.len());
@@ -129,7 +134,7 @@ impl<'a, A: Allocator + Copy> Reader<'a, A> {
     }
 
     /// Lets go of what was read, where that is no less than what was not, so that no more bytes are moved than were read.
-    /// O(what was not read), and O(1) where a record was taken since the last piece.
+    /// O(what was not read), and O(1) where it is shared.
     fn forget(&mut self)
         requires { self.old.closed ≡ false }
         ensures { self.new ≡ self.old }
@@ -155,10 +160,11 @@ impl<'a, A: Allocator + Copy> Reader<'a, A> {
     /// # Errors
     ///
     /// The fault of the bytes, with the record's number, after all whole records before it; while the reader
-    /// is open only one that no further bytes can mend, so not P2, P6 or P11. `Memory` where what counts the
-    /// owners of a piece was refused, so never where the bytes are lent. The same fault is then answered for good.
+    /// is open only one that no further bytes can mend, so not P2, P6 or P11. `Memory` where what the
+    /// record's bytes need was refused, so never where they are lent. The same fault is then answered for good.
     ///
-    /// O(1): no byte of an earlier record is read again.
+    /// O(1), and O(bytes of the record) where more than the last piece was not read behind it, so that it gets a copy: no byte of an
+    /// earlier record is read again.
     pub fn next(&mut self) -> Result<Option<Record<'a, A>>, PcapFault>
         ensures ok { IfOk result (λ found. self.new ≡ record self.old {
           given = (if is_some found then self.old.given + 1 else self.old.given);
@@ -182,7 +188,7 @@ impl<'a, A: Allocator + Copy> Reader<'a, A> {
         match next_record(self.kept.as_slice(), given, progress) {
             Some(next) => {
                 let onward = next.progress;
-                let Ok(record) = next.record(alloc, &mut self.kept) else {
+                let Ok(record) = next.record(alloc, &mut self.kept, self.piece) else {
                     self.fault = Some(PcapFault::Memory);
                     return Err(PcapFault::Memory);
                 };

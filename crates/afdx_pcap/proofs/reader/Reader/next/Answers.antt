@@ -16,7 +16,7 @@ pub invariant_of-self-in-Some-next_record : goal.invariant_of-self-in-Some-next_
 invariant_of-self-in-Some-next_record g c =
     let came = rw c.as_slice.ensures at c.in-Some-next_record.ensures.comes in
     rw (c.record.ensures.bytes, c.record.ensures.same)
-      (comes_on _ _ _ c.self.inside.progress _ c.self.invariant.0 came, placed_on _ _ c.self.inside.progress _ c.self.invariant.1 came, c.self.invariant.2)
+    (comes_on _ _ _ c.self.inside.progress _ c.self.invariant.0 came, placed_on _ _ c.self.inside.progress _ c.self.invariant.1 came, c.self.invariant.2)
 
 pub find_fault-requires : goal.find_fault-requires
 find_fault-requires g c =
