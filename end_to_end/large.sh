@@ -1,6 +1,7 @@
 #!/usr/bin/env bash
-# Captures of more than 256 MiB in all, which a run reads in pieces: what goes out is what goes out without the frames that make them
-# large, in a fraction of their memory; and where they have faults, the one of the lowest port is named, and nothing is put.
+# Captures of more than 256 MiB in all, which a run reads in pieces as it does small ones, and some of 26 MB, which it reads whole: what
+# goes out is what goes out without the frames that make them large, in a fraction of their memory; and where they have faults, the one
+# of the lowest port is named, and nothing is put.
 . "$(dirname "$0")/common.sh"
 install text2pcap=wireshark-common python3=python3
 export PYTHONDONTWRITEBYTECODE=1
@@ -38,19 +39,19 @@ jitter_us = 0
 max_size = 200
 priority = "high"
 END
-mkdir -p small in out wanted cut
+mkdir -p small middle in out wanted cut
 frames small/port-1.pcap 0.000000000:10:1518 0.000999999:10:1518 0.001000000:10:1518 0.003000000:10:64
 frames small/port-2.pcap 0.000000000:11:64 0.002000000:11:200 0.004000000:11:100 2.000000000:11:64
 
-# enlarge FILE: the capture is followed by 1,050 records of 262,144 bytes, which are for no link.
+# enlarge FILE COUNT: the capture is followed by so many records of 262,144 bytes, which are for no link.
 enlarge() {
-    python3 - "$1" <<'END'
+    python3 - "$1" "$2" <<'END'
 import struct
 import sys
 
 with open(sys.argv[1], "r+b") as file:
     file.seek(0, 2)
-    for _ in range(1_050):
+    for _ in range(int(sys.argv[2])):
         file.write(struct.pack("<4I", 1, 0, 262_144, 262_144))
         file.seek(262_144, 1)
     file.truncate()
@@ -78,7 +79,8 @@ names_fault() {
 }
 
 check "a run over small captures" "$afdx" run table.toml small wanted
-check "the captures are made large" eval 'cp small/* in && enlarge in/port-1.pcap && [ "$(stat -c %s in/port-1.pcap)" -gt 268435456 ]'
+check "captures of 26 MB" eval 'cp small/* middle && enlarge middle/port-1.pcap 100 && "$afdx" run table.toml middle out && diff -r wanted out'
+check "the captures are made large" eval 'cp small/* in && enlarge in/port-1.pcap 1050 && [ "$(stat -c %s in/port-1.pcap)" -gt 268435456 ]'
 check "a run over large captures takes less than 40 MB" runs_in 40 in
 check "it puts what goes out without those frames" diff -r wanted out
 cp in/port-1.pcap cut && truncate -s -1 cut/port-1.pcap && head -c 99 small/port-2.pcap >cut/port-2.pcap

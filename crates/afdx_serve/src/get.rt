@@ -47,7 +47,7 @@ pub(crate) fn get_text<F: Folder>(
     Ok(text.leak())
 }
 
-/// The table of a file, for a command that takes little memory after it: the tree of its text is leaked too.
+/// The table of a file. The tree of its text is leaked too.
 pub(crate) fn get_table<F: Folder>(
     alloc: Global,
     folder: &mut F,
