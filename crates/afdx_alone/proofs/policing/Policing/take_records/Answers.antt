@@ -14,7 +14,12 @@ loop-format-preserved-in_ok-offer-in-Ok g c =
     let found = c.in-Ok.ensures.record in
     goes_on c.ground.ensures _ _ _ _ _ _ _ _ c.in-Ok.frame c.loop-format.invariant found.0 found.1 c.in_ok-offer-in-Ok.ensures
 
--- the same where the frame's bytes are dropped
+-- the same where the frame's bytes are shared, or its own, and dropped
+pub loop-format-preserved-in_ok-offer-in-Ok-2 : goal.loop-format-preserved-in_ok-offer-in-Ok-2
+loop-format-preserved-in_ok-offer-in-Ok-2 g c =
+    let found = c.in-Ok.ensures.record in
+    goes_on c.ground.ensures _ _ _ _ _ _ _ _ c.in-Ok.frame c.loop-format.invariant found.0 found.1 c.in_ok-offer-in-Ok.ensures
+
 pub loop-format-preserved : goal.loop-format-preserved
 loop-format-preserved g c =
     let found = c.in-Ok.ensures.record in
