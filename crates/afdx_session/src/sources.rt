@@ -182,7 +182,7 @@ fn read_all<A: Allocator + Copy, R: Read, F: NewFile>(
 }
 
 /// The run of [`run_into`](crate::run_into) over captures that readers give, of the table's ports by rising number. Of each capture
-/// no more is kept than a piece and the records that wait.
+/// no more is kept than a piece and those that records which wait came in.
 ///
 /// Of the captures that have not ended, the one whose last record is the earliest is read next, by at most 16,777,216 reads in all,
 /// of at most 16,384 bytes (profile).
