@@ -1,5 +1,5 @@
 -- The values of a table in the places of their keys, as a pass over its entries fills them.
-use Rattle.std.proofs.Common.{◌≡◌, ◌≢◌, ◌<◌, ◌==◌, ◌∷◌, ℕ, zero, suc, Bool, true, false, List, [], length, Option, Some, None, option_map, get_or, get_or-set_same, get_or-set_other, set}
+use Rattle.std.proofs.Common.{◌≡◌, ◌≢◌, ◌<◌, ◌==◌, ◌||◌, ◌∷◌, ℕ, zero, suc, Bool, true, false, List, [], length, Option, Some, None, option_map, get_or, get_or-set_same, get_or-set_other, set}
 use Rattle.std.proofs.Common.{Bor, String, Global, string_bytes, nat_cmp, Ordering, Less, Equal, Greater, is_eq, refl, sym, ap, ◌∙◌, inl, inr, arith}
 use Rattle.std.specs.Prelude.{find}
 use Rattle.std.specs.Option.{is_some}
@@ -243,3 +243,9 @@ free slots place j d is within h = ap (option_map (λ (x : Bor Value). view x.no
 
 pub taken : (slots : Slots) (place : ℕ) (j : Key) (d : Option (Bor Value)) → place ≡ key_place j → place < length slots → is_some (get_or slots place d) ≡ true → is_some (value_in slots j) ≡ true
 taken slots place j d is within h = ap (λ (o : Option (Bor Value)). is_some (option_map (λ x. view x.now) o)) (in_place slots place j d is within) ∙ seen_some _ h
+
+-- ---- the places of the keys
+
+-- the places of the keys that were passed are marked, and these are the rest
+abbrev pub MarksYet : List Bool → List Key → List Key → Type 0
+MarksYet places rest all = (n : ℕ) → n < 16 → (get_or places n false || list_any (λ k. key_place k == n) rest) ≡ list_any (λ k. key_place k == n) all

@@ -2,16 +2,16 @@
 
 ghost use Rattle.std.specs.Prelude.{◌≡◌, ◌≢◌, ◌≤◌, Result, Err, IfOk, IfErr, map, option_map};
 ghost use Rattle.toml.specs.Data.{get_member};
-ghost use Rattle.toml.specs.View.{view, table_view};
-ghost use Rattle.afdx_table.specs.Refusal.{Gives};
+ghost use Rattle.toml.specs.View.{view, items_view, table_view};
+ghost use Rattle.afdx_table.specs.Refusal.{Gives, or_refuse, ◌>>=◌ as first_then};
 ghost use Rattle.afdx_table.specs.Names.{key_text};
 ghost use Rattle.afdx_table.specs.Inner.Room.{HasItems};
 ghost use Rattle.afdx_table.specs.Inner.Slots.{AreValues};
-ghost use Rattle.afdx_table.specs.declared.fault.TableFault.TheVariants.{Memory};
+ghost use Rattle.afdx_table.specs.declared.fault.TableFault.TheVariants.{Memory, Kind};
 ghost use Rattle.afdx_table.specs.Fields.{bounded_natural, known_at, value_at, number_in, text_in, number_at, bounded, bounded_at, text_at, optional_number_at};
-ghost use Rattle.afdx_table.specs.Fields.{optional_text_at, tables_at, all_bounded, numbers_at};
+ghost use Rattle.afdx_table.specs.Fields.{optional_text_at, tables_at, all_of, as_natural, all_bounded, numbers_at};
 
-use crate::arrays::{natural, naturals_of, tables_of};
+use crate::arrays::{natural, tables_of};
 use crate::fault::{At, Key, TableFault};
 use crate::limits::MAX_PORT_ID;
 use crate::values::Values;
@@ -62,7 +62,7 @@ fn bounded_natural(
     high: u8,
     number: Option<u64>,
 ) -> Result<u8, TableFault>
-    ensures { Gives (λ n. n) result (bounded_natural at key low high number) }
+    ensures { result ≡ bounded_natural at key low high number }
 {
     match number {
         Some(number) => {
@@ -73,24 +73,32 @@ fn bounded_natural(
     }
 }
 
-/// These numbers, each from `low` to `high`.
-#[tactic(auto, unfolding(crate::specs::Fields::all_bounded))]
-fn all_bounded(
+/// The numbers of an array, each from `low` to `high`. O(items).
+fn numbers_of(
     alloc: Global,
     at: At,
     key: Key,
     low: u8,
     high: u8,
-    numbers: &[Option<u64>],
+    items: &[Value],
 ) -> Result<Vec<u8>, TableFault>
-    ensures { Gives (λ v. v.items) result (all_bounded at key low high numbers.now) }
+    ensures { Gives (λ v. v.items) result (first_then (or_refuse (Kind at key) (all_of as_natural (items_view items.now))) (all_bounded at key low high)) }
 {
-    let mut found = Vec::with_capacity(alloc, numbers.len())?;
-    for number in numbers {
-        let number = bounded_natural(at, key, low, high, *number)?;
-        found.push(number).map_err(|_| TableFault::Memory)?;
+    let mut numbers = Vec::with_capacity(alloc, items.len())?;
+    let mut are_within = true;
+    for item in items {
+        let Some(integer) = item.as_integer() else {
+            return Err(TableFault::Kind(at, key));
+        };
+        match bounded_natural(at, key, low, high, natural(integer)) {
+            Ok(number) => numbers.push(number).map_err(|_| TableFault::Memory)?,
+            Err(_) => are_within = false,
+        }
     }
-    Ok(found)
+    if !are_within {
+        return Err(TableFault::Range(at, key));
+    }
+    Ok(numbers)
 }
 
 /// The fields of one table, at its place.
@@ -228,9 +236,6 @@ impl<'a> Fields<'a> {
         let Some(items) = value.as_array() else {
             return Err(TableFault::Kind(self.at, key));
         };
-        let Some(numbers) = naturals_of(alloc, items)? else {
-            return Err(TableFault::Kind(self.at, key));
-        };
-        all_bounded(alloc, self.at, key, low, high, &numbers)
+        numbers_of(alloc, self.at, key, low, high, items)
     }
 }

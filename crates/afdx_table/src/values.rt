@@ -1,6 +1,6 @@
 //! The values of one TOML table, each in the place of its key.
 
-ghost use Rattle.std.specs.Prelude.{◌≡◌, ◌<◌, ◌==◌, true, false, MatchOption, option_map};
+ghost use Rattle.std.specs.Prelude.{◌≡◌, ◌<◌, ◌==◌, ℕ, true, false, MatchOption, option_map, slice_index_or};
 ghost use Rattle.std.specs.List.{list_any};
 ghost use Rattle.toml.specs.View.{view, table_view};
 ghost use Rattle.afdx_table.specs.Fields.{are_known};
@@ -62,11 +62,15 @@ fn key_named(text: &str) -> Option<Key>
     }
 }
 
-/// Whether the key of a place is one of these.
-fn has_place(keys: &[Key], place: usize) -> bool
-    ensures { result ≡ list_any (λ k. key_place k == place) keys.now }
+/// Which places are those of these keys. O(keys).
+fn places_of(keys: &[Key]) -> [bool; KEYS]
+    ensures { (n : ℕ) → n < 16 → slice_index_or result n false ≡ list_any (λ k. key_place k == n) keys.now }
 {
-    keys.iter().any(|key| place_of(*key) == place)
+    let mut places = [false; KEYS];
+    for key in keys {
+        places[place_of(*key)] = true;
+    }
+    places
 }
 
 /// The values of one table, each in the place of its key.
@@ -81,10 +85,11 @@ impl<'a> Values<'a> {
         ensures { MatchOption result (are_known keys.now (table_view table.now) ≡ false)
             (λ v. (are_known keys.now (table_view table.now) ≡ true) × AreValues v.slots (table_view table.now)) }
     {
+        let places = places_of(keys);
         let mut slots = [None; KEYS];
         for (name, value) in table.iter() {
             let place = place_of(key_named(name.as_str())?);
-            if !has_place(keys, place) {
+            if !places[place] {
                 return None;
             }
             if slots[place].is_none() {

@@ -18,13 +18,14 @@ returns-in_err-key_named c =
     let none : key_named (string_bytes e.0) ≡ None = ap key_named (sym c.as_str.ensures.value) ∙ sym c.key_named.ensures ∙ c.in_err-key_named.was in
     rw c.from_residual.ensures (refused c.args.keys.now e c.next.new.self _ (is_one_of-unnamed c.args.keys.now (string_bytes e.0) none) (rw c.in-Some.ensures.steps at c.loop-name.invariant.known))
 
-pub returns-then-not-has_place : goal.returns-then-not-has_place
-returns-then-not-has_place c =
+pub returns-then-not-places-place : goal.returns-then-not-places-place
+returns-then-not-places-place c =
     let e : String Global × Value = (c.in-Some.name.now, c.in-Some.value.now) in
     let j = c.in_ok-key_named.field-0 in
     let named : key_named (string_bytes e.0) ≡ Some j = ap key_named (sym c.as_str.ensures.value) ∙ sym c.key_named.ensures ∙ c.in_ok-key_named.was in
+    let there = sym (c.places_of-places.ensures c.place_of-place.result c.place_of-place.ensures.within) ∙ c.if-not-places-place.true in
     let other : is_one_of c.args.keys.now (string_bytes e.0) ≡ false =
-    is_one_of-named c.args.keys.now (string_bytes e.0) j named ∙ rw (← c.place_of-place.ensures.place) (sym c.has_place.ensures ∙ c.if-not-has_place.true) in
+    is_one_of-named c.args.keys.now (string_bytes e.0) j named ∙ rw (← c.place_of-place.ensures.place) there in
     refused c.args.keys.now e c.next.new.self _ other (rw c.in-Some.ensures.steps at c.loop-name.invariant.known)
 
 pub loop-name-preserved-then-is_none : goal.loop-name-preserved-then-is_none
@@ -32,8 +33,9 @@ loop-name-preserved-then-is_none c =
     let e : String Global × Value = (c.in-Some.name.now, c.in-Some.value.now) in
     let j = c.in_ok-key_named.field-0 in
     let named : key_named (string_bytes e.0) ≡ Some j = ap key_named (sym c.as_str.ensures.value) ∙ sym c.key_named.ensures ∙ c.in_ok-key_named.was in
+    let there = sym (c.places_of-places.ensures c.place_of-place.result c.place_of-place.ensures.within) ∙ c.if-not-places-place.false in
     let one : is_one_of c.args.keys.now (string_bytes e.0) ≡ true =
-    is_one_of-named c.args.keys.now (string_bytes e.0) j named ∙ rw (← c.place_of-place.ensures.place) (sym c.has_place.ensures ∙ c.if-not-has_place.false) in
+    is_one_of-named c.args.keys.now (string_bytes e.0) j named ∙ rw (← c.place_of-place.ensures.place) there in
     let here : c.place_of-place.result < length c.loop-name.slots = omega (arith, c.place_of-place.ensures.within, c.loop-name.invariant.long) in
     let within : key_place j < length c.loop-name.slots = omega (arith, c.place_of-place.ensures.place, here) in
     let is_free : value_in c.loop-name.slots j ≡ None = free c.loop-name.slots c.place_of-place.result j c.index-slots-place.result c.place_of-place.ensures.place here c.if-is_none.ensures in
@@ -49,8 +51,9 @@ loop-name-preserved c =
     let e : String Global × Value = (c.in-Some.name.now, c.in-Some.value.now) in
     let j = c.in_ok-key_named.field-0 in
     let named : key_named (string_bytes e.0) ≡ Some j = ap key_named (sym c.as_str.ensures.value) ∙ sym c.key_named.ensures ∙ c.in_ok-key_named.was in
+    let there = sym (c.places_of-places.ensures c.place_of-place.result c.place_of-place.ensures.within) ∙ c.if-not-places-place.false in
     let one : is_one_of c.args.keys.now (string_bytes e.0) ≡ true =
-    is_one_of-named c.args.keys.now (string_bytes e.0) j named ∙ rw (← c.place_of-place.ensures.place) (sym c.has_place.ensures ∙ c.if-not-has_place.false) in
+    is_one_of-named c.args.keys.now (string_bytes e.0) j named ∙ rw (← c.place_of-place.ensures.place) there in
     let here : c.place_of-place.result < length c.loop-name.slots = omega (arith, c.place_of-place.ensures.within, c.loop-name.invariant.long) in
     let is_taken = taken c.loop-name.slots c.place_of-place.result j c.index-slots-place.result c.place_of-place.ensures.place here c.if-is_none.ensures in
     record {
