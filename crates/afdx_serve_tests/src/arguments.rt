@@ -1,9 +1,9 @@
 //! `afdx alone` and the arguments. Values from outside: bytes of pcap 2.4 captures and of AFDX frames,
 //! printed lines.
 
-use crate::fixtures::{LINK_10, answer, captured, split};
 use afdx_alone::alone;
 use afdx_arguments::{Alone, Request, parse};
+use afdx_fixtures::{LINK_10, MemoryFolder, answer_over, split};
 use afdx_samples::{HEADER, Sample, capture};
 use std::alloc::{AllocError, Global};
 use std::test::Fail;
@@ -144,72 +144,132 @@ Example: afdx alone --id 10 --bag 1 --jitter 0 --size 1000 < in.pcap > out.pcap
 
 const VERSION: &str = "afdx 0.1.0\nrattle-kit-13f logic dac8208d650f15bf\n";
 
+/// Frames of link 10 of size 64 and of size 1518, at the start of 1970.
+const SMALL: Sample = Sample {
+    captured: 60,
+    original: 60,
+    ..FULL
+};
+
+const FULL: Sample = Sample {
+    seconds: 0,
+    nanos: 0,
+    captured: 1514,
+    original: 1514,
+    first: 3,
+    link: 10,
+};
+
+/// One of size 1518 that comes a nanosecond too early after another, and one that does not.
+const EARLY: Sample = Sample {
+    nanos: 999_999,
+    ..FULL
+};
+
+const DUE: Sample = Sample {
+    nanos: 1_000_000,
+    ..FULL
+};
+
+const FAR: Sample = Sample {
+    seconds: 4_000_000_000,
+    ..FULL
+};
+
+const FOREIGN: Sample = Sample { first: 2, ..SMALL };
+
+const OF_LINK_11: Sample = Sample { link: 11, ..SMALL };
+
+const CUT: Sample = Sample {
+    original: 61,
+    ..SMALL
+};
+
+const SHORT: Sample = Sample {
+    captured: 59,
+    original: 59,
+    ..SMALL
+};
+
+const LONG: Sample = Sample {
+    captured: 1515,
+    original: 1515,
+    ..SMALL
+};
+
+const REPORTED_SHORT: Sample = Sample {
+    original: 0,
+    ..SMALL
+};
+
+/// What comes in, and what is passed of it.
+type Passing = (&'static str, &'static [Sample], &'static [Sample]);
+
+/// Frames of the link.
+const CONFORMING: &[Passing] = &[
+    ("no frames", &[], &[]),
+    ("a nanosecond early", &[FULL, EARLY, DUE], &[FULL, DUE]),
+    ("far apart", &[FULL, FAR], &[FULL, FAR]),
+    ("24 small frames", &[SMALL; 24], &[SMALL; 23]),
+];
+
+/// Frames of others beside one of the link, and one whose original length is below the captured one.
+const BESIDE_OTHERS: &[Passing] = &[
+    (
+        "frames of others",
+        &[FOREIGN, OF_LINK_11, CUT, SHORT, LONG, FULL],
+        &[FULL],
+    ),
+    (
+        "an original below the captured length",
+        &[REPORTED_SHORT],
+        &[SMALL],
+    ),
+];
+
+/// Whether the program has this status, output and line over this input.
+fn says(
+    alloc: Global,
+    line: &str,
+    input: &[u8],
+    status: u8,
+    out: &[u8],
+    err: &[u8],
+) -> Result<bool, AllocError> {
+    let mut folder = MemoryFolder::new(alloc);
+    let got = answer_over(alloc, line, input, &mut folder)?;
+    Ok(got.is(status, out, err))
+}
+
 /// Whether of these frames those that conform are passed, in one capture.
-fn passes(alloc: Global, given: &[Sample], passed: &[Sample]) -> Result<bool, Fail> {
+fn passes(alloc: Global, given: &[Sample], passed: &[Sample]) -> Result<bool, AllocError> {
     let input = capture(alloc, given)?;
     let want = capture(alloc, passed)?;
-    let got = answer(alloc, LINK_10, &input)?;
-    Ok(got.is(0, want.as_slice(), b""))
+    says(alloc, LINK_10, &input, 0, &want, b"")
 }
 
 #[test]
-fn passes_what_conforms(rt: HostRuntime) -> Result<(), Fail> {
-    let alloc = rt.alloc();
-    let small = captured(60, 0, 0);
-    let full = captured(1514, 0, 0);
-    let early = captured(1514, 0, 999_999);
-    let due = captured(1514, 0, 1_000_000);
-    let far = captured(1514, 4_000_000_000, 0);
-    for (name, given, passed) in [
-        ("no frames", [].as_slice(), [].as_slice()),
-        (
-            "a nanosecond early",
-            [full, early, due].as_slice(),
-            [full, due].as_slice(),
-        ),
-        ("far apart", [full, far].as_slice(), [full, far].as_slice()),
-        (
-            "24 small frames",
-            [small; 24].as_slice(),
-            [small; 23].as_slice(),
-        ),
-    ] {
-        assert!(rt; passes(alloc, given, passed)?, "{name}");
+fn passes_what_conforms(rt: HostRuntime) {
+    for (name, given, passed) in CONFORMING {
+        assert!(rt;
+            matches!(passes(rt.alloc(), given, passed), Ok(true)),
+            "{name}"
+        );
     }
-    Ok(())
 }
 
 #[test]
-fn passes_frames_of_the_link_alone(rt: HostRuntime) -> Result<(), Fail> {
-    let alloc = rt.alloc();
-    let small = captured(60, 0, 0);
-    let full = captured(1514, 0, 0);
-    let foreign = Sample { first: 2, ..small };
-    let other_link = Sample { link: 11, ..small };
-    let cut = Sample {
-        original: 61,
-        ..small
-    };
-    let short = captured(59, 0, 0);
-    let long = captured(1515, 0, 0);
-    let others = [foreign, other_link, cut, short, long, full];
-    assert!(rt;
-        passes(alloc, others.as_slice(), [full].as_slice())?,
-        "frames of others"
-    );
-    let reported_short = Sample {
-        original: 0,
-        ..small
-    };
-    assert!(rt;
-        passes(alloc, [reported_short].as_slice(), [small].as_slice())?,
-        "an original below the captured length"
-    );
-    Ok(())
+fn passes_frames_of_the_link_alone(rt: HostRuntime) {
+    for (name, given, passed) in BESIDE_OTHERS {
+        assert!(rt;
+            matches!(passes(rt.alloc(), given, passed), Ok(true)),
+            "{name}"
+        );
+    }
 }
 
 /// Arguments that are refused.
-const REFUSED: [&str; 32] = [
+const REFUSED: &[&str] = &[
     "",
     "afdx",
     "afdx check --version",
@@ -245,111 +305,158 @@ const REFUSED: [&str; 32] = [
 ];
 
 #[test]
-fn refuses_wrong_arguments(rt: HostRuntime) -> Result<(), Fail> {
-    let alloc = rt.alloc();
+fn refuses_wrong_arguments(rt: HostRuntime) {
     for line in REFUSED {
-        let got = answer(alloc, line, &HEADER)?;
-        assert!(rt; got.is(2, b"", b"afdx: usage\n"), "{line}");
+        assert!(rt;
+            matches!(
+                says(rt.alloc(), line, &HEADER, 2, b"", b"afdx: usage\n"),
+                Ok(true)
+            ),
+            "{line}"
+        );
     }
-    Ok(())
 }
+
+/// Arguments with values at their limits.
+const AT_LIMITS: &[&str] = &[
+    "afdx alone --id 65535 --bag 128 --jitter 10000 --size 1518",
+    "afdx alone --size=064 --jitter=+0 --bag=1 --id=0",
+];
 
 #[test]
-fn takes_values_at_their_limits(rt: HostRuntime) -> Result<(), Fail> {
-    let alloc = rt.alloc();
-    for line in [
-        "afdx alone --id 65535 --bag 128 --jitter 10000 --size 1518",
-        "afdx alone --size=064 --jitter=+0 --bag=1 --id=0",
-    ] {
-        let got = answer(alloc, line, &HEADER)?;
-        assert!(rt; got.is(0, HEADER.as_slice(), b""), "{line}");
+fn takes_values_at_their_limits(rt: HostRuntime) {
+    for line in AT_LIMITS {
+        assert!(rt;
+            matches!(says(rt.alloc(), line, &HEADER, 0, &HEADER, b""), Ok(true)),
+            "{line}"
+        );
     }
-    Ok(())
 }
 
-/// Whether a capture of these frames, of which so many bytes are left and one is another, is refused with this line.
-fn refuses(
+/// The frames of a capture, how many of its bytes are left, one of them that is another, and the line that it is refused with.
+type Refusal = (&'static [Sample], usize, (usize, u8), &'static str);
+
+const GOOD: Sample = Sample {
+    seconds: 1,
+    ..SMALL
+};
+
+const LAST: Sample = Sample {
+    seconds: 4_294_967_295,
+    ..SMALL
+};
+
+/// The first byte as it is.
+const SAME: (usize, u8) = (0, 0x4d);
+
+const HEADERS: &[Refusal] = &[
+    (&[GOOD], 23, (0, 0), "afdx: capture P2 NoHeader\n"),
+    (&[GOOD], 100, (0, 0), "afdx: capture P3 Magic\n"),
+    (&[GOOD], 100, (6, 3), "afdx: capture P4 Version\n"),
+    (&[GOOD], 100, (20, 113), "afdx: capture P5 LinkType 113\n"),
+];
+
+const RECORDS: &[Refusal] = &[
+    (&[GOOD], 39, SAME, "afdx: capture P6 CutHeader, record 1\n"),
+    (
+        &[GOOD, GOOD],
+        176,
+        (111, 1),
+        "afdx: capture P7 Huge, record 2\n",
+    ),
+    (
+        &[GOOD],
+        100,
+        (31, 0x40),
+        "afdx: capture P8 Fraction, record 1\n",
+    ),
+    (&[LAST], 100, SAME, "afdx: capture P9 Late, record 1\n"),
+    (
+        &[GOOD, SMALL],
+        176,
+        SAME,
+        "afdx: capture P10 Backwards, record 2\n",
+    ),
+    (&[GOOD], 99, SAME, "afdx: capture P11 CutData, record 1\n"),
+];
+
+/// A capture of these frames, of which so many bytes are left and one is another.
+fn damaged(
     alloc: Global,
     samples: &[Sample],
     left: usize,
-    changed: (usize, u8),
-    line: &str,
-) -> Result<bool, Fail> {
-    let (at, byte) = changed;
+    (at, byte): (usize, u8),
+) -> Result<Vec<u8>, AllocError> {
     let mut input = capture(alloc, samples)?;
     input.truncate(left);
     if let Some(place) = input.get_mut(at) {
         *place = byte;
     }
-    let got = answer(alloc, LINK_10, &input)?;
-    Ok(got.is(3, b"", line.as_bytes()))
+    Ok(input)
+}
+
+/// Whether such a capture is refused with its line.
+fn is_refused(
+    alloc: Global,
+    samples: &[Sample],
+    left: usize,
+    changed: (usize, u8),
+    line: &str,
+) -> Result<bool, AllocError> {
+    let input = damaged(alloc, samples, left, changed)?;
+    says(alloc, LINK_10, &input, 3, b"", line.as_bytes())
 }
 
 #[test]
-fn says_the_fault_of_a_header(rt: HostRuntime) -> Result<(), Fail> {
-    let alloc = rt.alloc();
-    let good = [captured(60, 1, 0)];
-    for (left, changed, line) in [
-        (23, (0, 0), "afdx: capture P2 NoHeader\n"),
-        (100, (0, 0), "afdx: capture P3 Magic\n"),
-        (100, (6, 3), "afdx: capture P4 Version\n"),
-        (100, (20, 113), "afdx: capture P5 LinkType 113\n"),
-    ] {
+fn says_the_fault_of_a_header(rt: HostRuntime) {
+    for (samples, left, changed, line) in HEADERS {
         assert!(rt;
-            refuses(alloc, good.as_slice(), left, changed, line)?,
+            matches!(
+                is_refused(rt.alloc(), samples, *left, *changed, line),
+                Ok(true)
+            ),
             "{line}"
         );
     }
-    Ok(())
 }
 
 #[test]
-fn says_the_first_fault_of_a_record(rt: HostRuntime) -> Result<(), Fail> {
-    let alloc = rt.alloc();
-    let good = captured(60, 1, 0);
-    let first = captured(60, 0, 0);
-    let last = captured(60, 4_294_967_295, 0);
-    let same = (0, 0x4d);
-    for (samples, left, changed, line) in [
-        ([good].as_slice(), 39, same, "P6 CutHeader, record 1"),
-        ([good, good].as_slice(), 176, (111, 1), "P7 Huge, record 2"),
-        ([good].as_slice(), 100, (31, 0x40), "P8 Fraction, record 1"),
-        ([last].as_slice(), 100, same, "P9 Late, record 1"),
-        (
-            [good, first].as_slice(),
-            176,
-            same,
-            "P10 Backwards, record 2",
-        ),
-        ([good].as_slice(), 99, same, "P11 CutData, record 1"),
-    ] {
-        let line = format!(in alloc; "afdx: capture {line}\n")?;
+fn says_the_first_fault_of_a_record(rt: HostRuntime) {
+    for (samples, left, changed, line) in RECORDS {
         assert!(rt;
-            refuses(alloc, samples, left, changed, line.as_str())?,
+            matches!(
+                is_refused(rt.alloc(), samples, *left, *changed, line),
+                Ok(true)
+            ),
             "{line}"
         );
     }
-    Ok(())
 }
 
+/// Arguments that ask for a text, and the text.
+const TEXTS: &[(&str, &str)] = &[
+    ("afdx --help", HELP),
+    ("afdx help alone", HELP_ALONE),
+    ("afdx alone --help", HELP_ALONE),
+    ("afdx run --help", HELP_RUN),
+    ("afdx size --help", HELP_SIZE),
+    ("afdx measure --help", HELP_MEASURE),
+    ("afdx trace --help", HELP_TRACE),
+    ("afdx --version", VERSION),
+    ("afdx -V", VERSION),
+];
+
 #[test]
-fn shows_help(rt: HostRuntime) -> Result<(), Fail> {
-    let alloc = rt.alloc();
-    for (line, text) in [
-        ("afdx --help", HELP),
-        ("afdx help alone", HELP_ALONE),
-        ("afdx alone --help", HELP_ALONE),
-        ("afdx run --help", HELP_RUN),
-        ("afdx size --help", HELP_SIZE),
-        ("afdx measure --help", HELP_MEASURE),
-        ("afdx trace --help", HELP_TRACE),
-        ("afdx --version", VERSION),
-        ("afdx -V", VERSION),
-    ] {
-        let got = answer(alloc, line, b"")?;
-        assert!(rt; got.is(0, text.as_bytes(), b""), "{line}");
+fn shows_help(rt: HostRuntime) {
+    for (line, text) in TEXTS {
+        assert!(rt;
+            matches!(
+                says(rt.alloc(), line, b"", 0, text.as_bytes(), b""),
+                Ok(true)
+            ),
+            "{line}"
+        );
     }
-    Ok(())
 }
 
 /// What these arguments ask for, where it is the policing of one link.
@@ -361,16 +468,20 @@ fn link_in(alloc: Global, line: &str) -> Result<Option<Alone>, AllocError> {
     }
 }
 
+/// Whether the frame that comes too early is policed, and no other.
+fn polices(alloc: Global, link: &Alone) -> Result<bool, AllocError> {
+    let input = capture(alloc, &[FULL, EARLY, DUE])?;
+    let want = capture(alloc, &[FULL, DUE])?;
+    match alone(alloc, link, &input) {
+        Ok(passed) => Ok(passed.as_slice() == want.as_slice()),
+        Err(_) => Ok(false),
+    }
+}
+
 #[test]
 fn polices_one_link(rt: HostRuntime) -> Result<(), Fail> {
-    let alloc = rt.alloc();
     let link = Alone::of_numbers(10, 1, 0, 1518).ok_or("a link")?;
-    assert_eq!(rt; link_in(alloc, LINK_10)?, Some(link));
-    let full = captured(1514, 0, 0);
-    let due = captured(1514, 0, 1_000_000);
-    let input = capture(alloc, &[full, captured(1514, 0, 999_999), due])?;
-    let passed = alone(alloc, &link, &input).ok().ok_or("an answer")?;
-    let want = capture(alloc, &[full, due])?;
-    assert_eq!(rt; passed.as_slice(), want.as_slice());
+    assert_eq!(rt; link_in(rt.alloc(), LINK_10)?, Some(link));
+    assert!(rt; polices(rt.alloc(), &link)?);
     Ok(())
 }

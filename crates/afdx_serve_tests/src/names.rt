@@ -6,48 +6,74 @@ use afdx_failures::Failure;
 use afdx_load::{LoadFault, Rule};
 use afdx_pcap::PcapFault;
 use afdx_table::TableFault;
-use std::test::Fail;
+use std::alloc::{AllocError, Global};
 
-#[test]
-fn folder_and_alone_faults_are_named(rt: HostRuntime) -> Result<(), Fail> {
-    let alloc = rt.alloc();
-    for (fault, name) in [
-        (FolderFault::Memory, "Memory"),
-        (FolderFault::Device, "Device"),
-    ] {
-        assert_eq!(rt; format!(in alloc; "{fault}")?.as_str(), name);
-    }
-    for (fault, name) in [
-        (AloneFault::Memory, "Memory"),
-        (AloneFault::Capture(PcapFault::Magic), "Capture"),
-    ] {
-        assert_eq!(rt; format!(in alloc; "{fault}")?.as_str(), name);
-    }
-    Ok(())
+/// Whether a folder's fault is printed so.
+fn is_of_folder(alloc: Global, fault: FolderFault, name: &str) -> Result<bool, AllocError> {
+    Ok(format!(in alloc; "{fault}")?.as_str() == name)
+}
+
+/// Whether a fault of the policing of one link is printed so.
+fn is_of_alone(alloc: Global, fault: AloneFault, name: &str) -> Result<bool, AllocError> {
+    Ok(format!(in alloc; "{fault}")?.as_str() == name)
+}
+
+/// Whether each of them is printed so.
+fn faults_are_named(alloc: Global) -> Result<bool, AllocError> {
+    let memory = is_of_folder(alloc, FolderFault::Memory, "Memory")?;
+    let device = is_of_folder(alloc, FolderFault::Device, "Device")?;
+    let alone_memory = is_of_alone(alloc, AloneFault::Memory, "Memory")?;
+    let capture = is_of_alone(alloc, AloneFault::Capture(PcapFault::Magic), "Capture")?;
+    Ok(memory && device && alone_memory && capture)
 }
 
 #[test]
-fn failures_are_named(rt: HostRuntime) -> Result<(), Fail> {
-    let alloc = rt.alloc();
-    let load = LoadFault {
-        rule: Rule::Rate,
-        port: 2,
-        need: 2,
-        limit: 1,
-    };
-    for (failure, name) in [
-        (Failure::Usage, "Usage"),
-        (Failure::Table(TableFault::Toml), "Table"),
-        (Failure::Load(load), "Load"),
-        (Failure::Capture(PcapFault::Magic), "Capture"),
-        (Failure::PortCapture(1, PcapFault::Magic), "PortCapture"),
-        (Failure::Get(String::from_str(alloc, "t")?), "Get"),
-        (Failure::Put(String::from_str(alloc, "t")?), "Put"),
-        (Failure::Read, "Read"),
-        (Failure::Write, "Write"),
-        (Failure::Memory, "Memory"),
-    ] {
-        assert_eq!(rt; format!(in alloc; "{failure}")?.as_str(), name);
-    }
-    Ok(())
+fn folder_and_alone_faults_are_named(rt: HostRuntime) {
+    assert!(rt; matches!(faults_are_named(rt.alloc()), Ok(true)));
+}
+
+/// Whether a failure is printed so.
+fn is_named(alloc: Global, failure: Failure, name: &str) -> Result<bool, AllocError> {
+    Ok(format!(in alloc; "{failure}")?.as_str() == name)
+}
+
+/// What a table of too high a load is refused for.
+const LOAD: LoadFault = LoadFault {
+    rule: Rule::Rate,
+    port: 2,
+    need: 2,
+    limit: 1,
+};
+
+/// Whether what a folder fails to get or to put is printed so.
+fn files_are_named(alloc: Global) -> Result<bool, AllocError> {
+    let got = is_named(alloc, Failure::Get(String::from_str(alloc, "t")?), "Get")?;
+    let put = is_named(alloc, Failure::Put(String::from_str(alloc, "t")?), "Put")?;
+    Ok(got && put)
+}
+
+/// Whether the table and the captures that are none, and a load that is too high, are printed so.
+fn inputs_are_named(alloc: Global) -> Result<bool, AllocError> {
+    let magic = PcapFault::Magic;
+    let table = is_named(alloc, Failure::Table(TableFault::Toml), "Table")?;
+    let load = is_named(alloc, Failure::Load(LOAD), "Load")?;
+    let capture = is_named(alloc, Failure::Capture(magic), "Capture")?;
+    let port = is_named(alloc, Failure::PortCapture(1, magic), "PortCapture")?;
+    Ok(table && load && capture && port)
+}
+
+/// Whether arguments, devices and memory that fail are printed so.
+fn others_are_named(alloc: Global) -> Result<bool, AllocError> {
+    let usage = is_named(alloc, Failure::Usage, "Usage")?;
+    let read = is_named(alloc, Failure::Read, "Read")?;
+    let write = is_named(alloc, Failure::Write, "Write")?;
+    let memory = is_named(alloc, Failure::Memory, "Memory")?;
+    Ok(usage && read && write && memory)
+}
+
+#[test]
+fn failures_are_named(rt: HostRuntime) {
+    assert!(rt; matches!(inputs_are_named(rt.alloc()), Ok(true)));
+    assert!(rt; matches!(files_are_named(rt.alloc()), Ok(true)));
+    assert!(rt; matches!(others_are_named(rt.alloc()), Ok(true)));
 }

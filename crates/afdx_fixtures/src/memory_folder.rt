@@ -4,7 +4,7 @@ ghost use Rattle.std.specs.Prelude.{◌≡◌, Some, find, string_bytes, option_
 ghost use Rattle.std.specs.Str.{bytes_eq};
 ghost use Rattle.std.specs.Io.Cursor.{cursor_remaining};
 ghost use Rattle.afdx_devices.specs.Files.{HasCause};
-ghost use Rattle.afdx_serve_tests.specs.declared.memory_folder.File.{File};
+ghost use Rattle.afdx_fixtures.specs.declared.memory_folder.File.{File};
 
 use afdx_devices::{DeviceLog, Folder, FolderFault, NewFile};
 use afdx_samples::MemoryFile;
@@ -21,7 +21,7 @@ struct File<A: Allocator> {
 
 /// What it opens.
 #[derive(Clone, Copy, Debug, PartialEq, Eq)]
-pub(crate) enum Opening {
+pub enum Opening {
     /// No file.
     None,
     /// Each file that is there.
@@ -32,7 +32,7 @@ pub(crate) enum Opening {
 
 /// A copy of a file's bytes, to be read in pieces.
 #[derive(Drop)]
-pub(crate) struct OpenedFile<A: Allocator> {
+pub struct OpenedFile<A: Allocator> {
     left: Cursor<Vec<u8, A>>,
     fails: bool,
 }
@@ -51,7 +51,7 @@ impl<A: Allocator> Read for OpenedFile<A> {
 /// The files, the one that was put last first, and how many new ones were neither put nor let go. Of the calls that get or put,
 /// the one of number `failing`, from 1, fails so; 0 is none.
 #[derive(Debug, Drop)]
-pub(crate) struct MemoryFolder<A: Allocator> {
+pub struct MemoryFolder<A: Allocator> {
     alloc: A,
     files: Vec<File<A>, A>,
     begun: usize,
@@ -64,12 +64,12 @@ pub(crate) struct MemoryFolder<A: Allocator> {
 
 impl<A: Allocator + Copy> MemoryFolder<A> {
     /// No files, and no call fails.
-    pub(crate) fn new(alloc: A) -> MemoryFolder<A> {
+    pub fn new(alloc: A) -> MemoryFolder<A> {
         MemoryFolder::failing(alloc, 0, FolderFault::Device)
     }
 
     /// No files.
-    pub(crate) fn failing(alloc: A, failing: u64, fault: FolderFault) -> MemoryFolder<A> {
+    pub fn failing(alloc: A, failing: u64, fault: FolderFault) -> MemoryFolder<A> {
         MemoryFolder {
             alloc,
             files: Vec::new(alloc),
@@ -83,18 +83,18 @@ impl<A: Allocator + Copy> MemoryFolder<A> {
     }
 
     /// From now on it opens these.
-    pub(crate) fn open_as(&mut self, opening: Opening) {
+    pub fn open_as(&mut self, opening: Opening) {
         self.opening = opening;
     }
 
     /// From now on the call of this number, from 1, fails so.
-    pub(crate) fn fail_at(&mut self, failing: u64, fault: FolderFault) {
+    pub fn fail_at(&mut self, failing: u64, fault: FolderFault) {
         self.failing = failing;
         self.fault = fault;
     }
 
     /// Puts a file, which is no call that is counted.
-    pub(crate) fn add(&mut self, name: &str, bytes: &[u8]) -> Result<(), AllocError> {
+    pub fn add(&mut self, name: &str, bytes: &[u8]) -> Result<(), AllocError> {
         let name = String::from_str(self.alloc, name)?;
         let bytes = Vec::from_slice(self.alloc, bytes)?;
         self.files.insert(0, File { name, bytes })?;
@@ -102,7 +102,7 @@ impl<A: Allocator + Copy> MemoryFolder<A> {
     }
 
     /// Whether it has the first so many of these files and no others, each once, and no new ones.
-    pub(crate) fn holds(&self, files: &[(&str, &[u8])], count: usize) -> bool {
+    pub fn holds(&self, files: &[(&str, &[u8])], count: usize) -> bool {
         let mut all = self.count() == count;
         for place in 0..count {
             all = all
@@ -115,22 +115,22 @@ impl<A: Allocator + Copy> MemoryFolder<A> {
     }
 
     /// How many times a file was added or put, and how many new ones are left beside these.
-    pub(crate) fn count(&self) -> usize {
+    pub fn count(&self) -> usize {
         self.files.len().saturating_add(self.begun)
     }
 
     /// How many calls it was given.
-    pub(crate) fn calls(&self) -> u64 {
+    pub fn calls(&self) -> u64 {
         self.calls
     }
 
     /// The name that the last failure was for.
-    pub(crate) fn last_failure(&self) -> Option<&str> {
+    pub fn last_failure(&self) -> Option<&str> {
         self.log.last()
     }
 
     /// The bytes that are under a name.
-    pub(crate) fn bytes(&self, name: &str) -> Option<&[u8]> {
+    pub fn bytes(&self, name: &str) -> Option<&[u8]> {
         match find_file(&self.files, name) {
             Some(file) => Some(file.bytes.as_slice()),
             None => None,

@@ -1,5 +1,5 @@
 use Rattle.std.proofs.Common.{◌∙◌}
-use Rattle.afdx_serve_tests.proofs.memory_folder.MemoryFolderFolder.put.Goals as goal
+use Rattle.afdx_fixtures.proofs.memory_folder.MemoryFolderFolder.put.Goals as goal
 
 pub returns-in_err-new-clause-others : goal.returns-in_err-new-clause-others
 returns-in_err-new-clause-others g c = λ q other. c.begin.ensures.same q

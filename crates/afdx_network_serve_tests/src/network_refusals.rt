@@ -2,10 +2,9 @@
 
 use crate::networks::{Change, TwoSwitches};
 use std::alloc::{AllocError, Global};
-use std::test::Fail;
 
 /// The network file, changed, and the rule by which it is refused.
-const FILES: [(Change<'static>, &str); 13] = [
+const FILES: &[(Change<'static>, &str)] = &[
     (("version = 1", "version = "), "G1 Toml"),
     (("delay_ns", "delay_us"), "G2 UnknownKey, wire 1"),
     (("name = \"B\"\n", ""), "G2 MissingKey, switch 2, name"),
@@ -31,7 +30,7 @@ const FILES: [(Change<'static>, &str); 13] = [
 ];
 
 /// The table of B, changed, and the rule by which the network is refused.
-const TABLES: [(Change<'static>, &str); 7] = [
+const TABLES: &[(Change<'static>, &str)] = &[
     (
         ("version = 2", "version = 2\nconstant = \"07000000\""),
         "G4 Constant, wire 1",
@@ -66,65 +65,99 @@ fn breaks(alloc: Global, network: &TwoSwitches, rule: &str) -> Result<bool, Allo
     is_refused(network, 3, &line)
 }
 
-#[test]
-fn network_files(rt: HostRuntime) -> Result<(), Fail> {
-    let alloc = rt.alloc();
-    for (change, rule) in FILES {
-        let network = TwoSwitches::new(alloc, 14)?.rewired(change)?;
-        assert!(rt; breaks(alloc, &network, rule)?, "{rule}");
-    }
-    Ok(())
+/// Whether a network with another text in its file is.
+fn breaks_in_file(alloc: Global, change: Change<'_>, rule: &str) -> Result<bool, AllocError> {
+    let network = TwoSwitches::new(alloc, 14)?.rewired(change)?;
+    breaks(alloc, &network, rule)
 }
 
 #[test]
-fn tables_that_do_not_fit(rt: HostRuntime) -> Result<(), Fail> {
-    let alloc = rt.alloc();
-    for (change, rule) in TABLES {
-        let network = TwoSwitches::new(alloc, 14)?.second_changed(change)?;
-        assert!(rt; breaks(alloc, &network, rule)?, "{rule}");
+fn network_files(rt: HostRuntime) {
+    for (change, rule) in FILES {
+        assert!(rt;
+            matches!(breaks_in_file(rt.alloc(), *change, rule), Ok(true)),
+            "{rule}"
+        );
     }
-    Ok(())
+}
+
+/// Whether a network with another text in the table of B is.
+fn breaks_in_table(alloc: Global, change: Change<'_>, rule: &str) -> Result<bool, AllocError> {
+    let network = TwoSwitches::new(alloc, 14)?.second_changed(change)?;
+    breaks(alloc, &network, rule)
+}
+
+#[test]
+fn tables_that_do_not_fit(rt: HostRuntime) {
+    for (change, rule) in TABLES {
+        assert!(rt;
+            matches!(breaks_in_table(rt.alloc(), *change, rule), Ok(true)),
+            "{rule}"
+        );
+    }
+}
+
+/// Whether a network in which A sends the third link elsewhere is.
+fn breaks_without_a_source(alloc: Global, rule: &str) -> Result<bool, AllocError> {
+    let elsewhere = ("from = 3\nto = [4]", "from = 3\nto = [2]");
+    let network = TwoSwitches::new(alloc, 14)?.first_changed(elsewhere)?;
+    breaks(alloc, &network, rule)
 }
 
 /// The link comes in at a port with a wire, on which A does not send it.
 #[test]
-fn a_link_without_a_source(rt: HostRuntime) -> Result<(), Fail> {
-    let alloc = rt.alloc();
-    let elsewhere = ("from = 3\nto = [4]", "from = 3\nto = [2]");
-    let network = TwoSwitches::new(alloc, 14)?.first_changed(elsewhere)?;
-    assert!(rt; breaks(alloc, &network, "G8 NoSource, switch B, link 3")?);
-    Ok(())
+fn a_link_without_a_source(rt: HostRuntime) {
+    let rule = "G8 NoSource, switch B, link 3";
+    assert!(rt; matches!(breaks_without_a_source(rt.alloc(), rule), Ok(true)));
 }
 
-/// The network in which B's table is none.
-fn without_a_table(alloc: Global) -> Result<TwoSwitches, AllocError> {
-    TwoSwitches::new(alloc, 14)?.second_changed(("mbit", "mbits"))
+/// Whether a network in which B's table is none is refused with this line.
+fn refuses_second(alloc: Global, line: &str) -> Result<bool, AllocError> {
+    let network = TwoSwitches::new(alloc, 14)?.second_changed(("mbit", "mbits"))?;
+    is_refused(&network, 3, line)
+}
+
+/// Whether one in which no table is one is.
+fn refuses_both(alloc: Global, line: &str) -> Result<bool, AllocError> {
+    let network = TwoSwitches::new(alloc, 14)?
+        .second_changed(("mbit", "mbits"))?
+        .first_changed(("[[port]]", "[[port]"))?;
+    is_refused(&network, 3, line)
 }
 
 /// Where no table is one, that of the first switch is reported.
 #[test]
-fn tables_that_are_none(rt: HostRuntime) -> Result<(), Fail> {
-    let alloc = rt.alloc();
-    let second = without_a_table(alloc)?;
+fn tables_that_are_none(rt: HostRuntime) {
     let line = "afdx: table C3 UnknownKey, port 1, switch B\n";
-    assert!(rt; is_refused(&second, 3, line)?);
-    let both = without_a_table(alloc)?.first_changed(("[[port]]", "[[port]"))?;
-    assert!(rt; is_refused(&both, 3, "afdx: table C2 Toml, switch A\n")?);
-    Ok(())
+    assert!(rt; matches!(refuses_second(rt.alloc(), line), Ok(true)));
+    assert!(rt;
+        matches!(
+            refuses_both(rt.alloc(), "afdx: table C2 Toml, switch A\n"),
+            Ok(true)
+        )
+    );
+}
+
+/// Whether a network with too small a jitter at B is refused with this line.
+fn refuses_short(alloc: Global, line: &str) -> Result<bool, AllocError> {
+    let network = TwoSwitches::new(alloc, 13)?;
+    is_refused(&network, 4, line)
+}
+
+/// Whether one with too small a buffer at B is, whose constant field is another too.
+fn refuses_small(alloc: Global, line: &str) -> Result<bool, AllocError> {
+    let network = TwoSwitches::new(alloc, 14)?
+        .second_changed(("buffer = 100000", "buffer = 100"))?
+        .second_changed(("version = 2", "version = 2\nconstant = \"07000000\""))?;
+    is_refused(&network, 4, line)
 }
 
 /// Loads and jitters are refused with another status. Loads are looked at before the tables are compared.
 #[test]
-fn loads_and_jitters(rt: HostRuntime) -> Result<(), Fail> {
-    let alloc = rt.alloc();
-    let short = TwoSwitches::new(alloc, 13)?;
-    let line = "afdx: network J1 Jitter, switch B, link 1, need 14, has 13\n";
-    assert!(rt; is_refused(&short, 4, line)?);
-    let small = TwoSwitches::new(alloc, 14)?
-        .second_changed(("buffer = 100000", "buffer = 100"))?
-        .second_changed(("version = 2", "version = 2\nconstant = \"07000000\""))?;
-    let line =
+fn loads_and_jitters(rt: HostRuntime) {
+    let jitter = "afdx: network J1 Jitter, switch B, link 1, need 14, has 13\n";
+    assert!(rt; matches!(refuses_short(rt.alloc(), jitter), Ok(true)));
+    let load =
         "afdx: load L2 Buffer, port 2, need 55628267520000, limit 16384000000000, switch B\n";
-    assert!(rt; is_refused(&small, 4, line)?);
-    Ok(())
+    assert!(rt; matches!(refuses_small(rt.alloc(), load), Ok(true)));
 }

@@ -2,6 +2,7 @@
 
 use afdx_refusing::Refusing;
 use std::alloc::Global;
+use std::io::Print;
 use std::process::Abort;
 use std::test::*;
 
@@ -19,17 +20,31 @@ pub(crate) trait Calls {
 
 /// Refuses the first allocation of these calls, then the second, and so on until none is refused: how many there were. Each time
 /// they are out of memory exactly where an allocation was refused, and answer as they should elsewhere.
-pub(crate) fn allocations(rt: &impl Abort, alloc: Global, calls: &impl Calls) -> Result<u64, Fail> {
+fn allocations(rt: &impl Abort, alloc: Global, calls: &impl Calls) -> Result<u64, Fail> {
     let mut refused = 0u64;
     for n in 1..MOST {
         let memory = Refusing::new(alloc, n);
         let answer = calls.answer(&memory);
         let wanted = if memory.is_spent() { None } else { Some(true) };
-        assert_eq!(rt; answer, wanted, "{n}");
+        assert!(rt; answer == wanted, "{n}");
         if wanted.is_some() {
             break;
         }
         refused = n;
     }
     Ok(refused)
+}
+
+/// Refuses each allocation of these calls in turn, of which there have to be so many at least, and prints how many there were.
+pub(crate) fn refuse<R: Abort + Print>(
+    rt: &R,
+    alloc: Global,
+    name: &str,
+    calls: &impl Calls,
+    least: u64,
+) -> Result<(), Fail> {
+    let refused = allocations(rt, alloc, calls)?;
+    assert!(rt; refused >= least);
+    println!(rt; "{name}: {refused} allocations refused")?;
+    Ok(())
 }

@@ -1,11 +1,12 @@
 //! The folder in memory that the tests have, with each of its allocations refused in turn: by its calls, of which each that is out
 //! of memory is made once more, and in a run.
 
-use crate::allocations::{Calls, Memory, allocations};
-use crate::fixtures::{OneFrame, REPORT, RUN, answer_over};
-use crate::memory_folder::{MemoryFolder, Opening};
+use crate::allocations::{Calls, Memory, refuse};
 use afdx_devices::{Folder, FolderFault};
+use afdx_fixtures::{MemoryFolder, OneFrame, Opening, REPORT, RUN, answer_over};
 use std::alloc::Global;
+use std::io::Print;
+use std::process::Abort;
 use std::test::*;
 
 /// A call of a folder, for the file at this place.
@@ -20,7 +21,7 @@ enum Call {
 }
 
 /// Each file is put, the first of them twice, and then got; then one is got that is not there.
-const CALLS: [Call; 12] = [
+const CALLS: &[Call] = &[
     Call::Put(0),
     Call::Put(1),
     Call::Put(2),
@@ -104,10 +105,10 @@ fn answered<'a>(
     let mut right = 0usize;
     let mut failed = 0usize;
     for call in CALLS {
-        let mut answer = made(folder, memory, files, call);
+        let mut answer = made(folder, memory, files, *call);
         if answer.is_none() {
             failed = failed.saturating_add(1);
-            answer = made(folder, memory, files, call);
+            answer = made(folder, memory, files, *call);
         }
         if answer == Some(true) {
             right = right.saturating_add(1);
@@ -143,10 +144,7 @@ impl Calls for Calling<'_> {
 fn files_put_and_got(rt: HostRuntime) -> Result<(), Fail> {
     let alloc = rt.alloc();
     let run = OneFrame::new(alloc)?;
-    let refused = allocations(&rt, alloc, &Calling { run: &run })?;
-    assert!(rt; refused >= 18);
-    println!(rt; "Folder in memory: {refused} allocations refused")?;
-    Ok(())
+    refuse(&rt, alloc, "Folder in memory", &Calling { run: &run }, 18)
 }
 
 /// The run of one frame, over a folder that opens these.
@@ -180,21 +178,26 @@ impl Calls for Running<'_> {
     }
 }
 
+/// Refuses each allocation of the run of one frame in turn, over a folder that opens these.
+fn refuse_running<R: Abort + Print>(
+    rt: &R,
+    alloc: Global,
+    opening: Opening,
+    least: u64,
+) -> Result<(), Fail> {
+    let run = OneFrame::new(alloc)?;
+    let running = Running {
+        alloc,
+        run: &run,
+        opening,
+    };
+    refuse(rt, alloc, "Run over a folder in memory", &running, least)
+}
+
 /// One allocation at least for the name and for the bytes of each file that is there, for each new file that is begun, for the bytes
 /// of the frame that leaves, and for the name of each file that is put; and for each capture that is opened.
 #[test]
 fn new_files_are_put_or_let_go(rt: HostRuntime) -> Result<(), Fail> {
-    let alloc = rt.alloc();
-    let run = OneFrame::new(alloc)?;
-    for (opening, least) in [(Opening::None, 11), (Opening::Files, 13)] {
-        let running = Running {
-            alloc,
-            run: &run,
-            opening,
-        };
-        let refused = allocations(&rt, alloc, &running)?;
-        assert!(rt; refused >= least);
-        println!(rt; "Run over a folder in memory: {refused} allocations refused")?;
-    }
-    Ok(())
+    refuse_running(&rt, rt.alloc(), Opening::None, 11)?;
+    refuse_running(&rt, rt.alloc(), Opening::Files, 13)
 }

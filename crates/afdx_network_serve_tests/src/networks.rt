@@ -1,7 +1,6 @@
 //! Networks of two switches in a folder in memory.
 
-use crate::fixtures::{Said, answers};
-use crate::memory_folder::MemoryFolder;
+use afdx_fixtures::{MemoryFolder, Said, answers};
 use afdx_samples::{Link, four_ports, two_switches};
 use std::alloc::{AllocError, Global};
 

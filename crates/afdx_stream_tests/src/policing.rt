@@ -1,10 +1,11 @@
 //! The policing of one link, with each of its allocations refused in turn, and of a capture that is cut at each byte.
 
-use crate::allocations::{Calls, Memory, allocations};
+use crate::allocations::{Calls, Memory, refuse};
 use afdx_alone::{AloneFault, alone};
 use afdx_arguments::Alone;
 use afdx_pcap::PcapFault;
 use afdx_samples::{capture, large, small};
+use std::alloc::Global;
 use std::test::*;
 
 /// Link 10, which may send a large frame each millisecond.
@@ -43,10 +44,7 @@ fn each_allocation_refused(rt: HostRuntime) -> Result<(), Fail> {
         input: &input,
         expected: &expected,
     };
-    let refused = allocations(&rt, alloc, &calls)?;
-    assert!(rt; refused >= 2);
-    println!(rt; "alone: {refused} allocations refused")?;
-    Ok(())
+    refuse(&rt, alloc, "alone", &calls, 2)
 }
 
 /// The fault of the first bytes of a capture of two small frames, by the format.
@@ -61,26 +59,38 @@ fn fault_in(length: usize) -> Option<PcapFault> {
     }
 }
 
-/// All that goes in comes out, where it is whole.
+/// Whether all of these bytes come out where they are whole, and else they are refused with the format's fault.
+fn is_right(alloc: Global, link: &Alone, cut: &[u8]) -> bool {
+    let fault = fault_in(cut.len());
+    match alone(alloc, link, cut) {
+        Ok(answer) => fault.is_none() && answer.as_slice() == cut,
+        Err(AloneFault::Capture(found)) => fault == Some(found),
+        Err(AloneFault::Memory) => false,
+    }
+}
+
+/// At how many places a capture may be cut so that what is left of it is answered right.
+fn right_cuts(alloc: Global, link: &Alone, input: &[u8]) -> usize {
+    let mut cuts = 0usize;
+    for length in 0..=input.len() {
+        let is_right = match input.get(..length) {
+            Some(cut) => is_right(alloc, link, cut),
+            None => false,
+        };
+        if is_right {
+            cuts = cuts.saturating_add(1);
+        }
+    }
+    cuts
+}
+
 #[test]
 fn each_cut(rt: HostRuntime) -> Result<(), Fail> {
     let alloc = rt.alloc();
     let link = link().ok_or("a link")?;
     let input = capture(alloc, &[small(10, 0), small(10, 1_000_000)])?;
-    let mut cuts = 0usize;
-    for length in 0..=176usize {
-        let cut = input.get(..length).ok_or("so many bytes")?;
-        let fault = match alone(alloc, &link, cut) {
-            Ok(answer) => {
-                assert!(rt; answer.as_slice() == cut);
-                None
-            }
-            Err(AloneFault::Memory) => Some(PcapFault::Memory),
-            Err(AloneFault::Capture(fault)) => Some(fault),
-        };
-        assert_eq!(rt; fault, fault_in(length), "{length} bytes");
-        cuts = cuts.saturating_add(1);
-    }
+    let cuts = right_cuts(alloc, &link, &input);
+    assert_eq!(rt; cuts, 177);
     println!(rt; "alone: {cuts} cuts")?;
     Ok(())
 }

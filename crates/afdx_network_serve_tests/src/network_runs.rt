@@ -1,12 +1,10 @@
 //! `afdx network run` over a folder in memory. Values from outside: tables, captures and printed lines.
 
-use crate::fixtures::answers;
-use crate::memory_folder::MemoryFolder;
 use crate::networks::{TwoSwitches, stated};
 use afdx_devices::FolderFault;
+use afdx_fixtures::{MemoryFolder, answers};
 use afdx_samples::{HEADER, Sample, capture, port, small, small_link, table};
 use std::alloc::{AllocError, Global};
-use std::test::Fail;
 
 const RUN: &str = "afdx network run net/n.toml in out";
 
@@ -67,10 +65,9 @@ fn puts(alloc: Global, came: Sample, at_a: Sample, at_b: Sample) -> Result<bool,
 
 /// The frame leaves A after 6,720 ns, and B after 25 and 6,720 ns more.
 #[test]
-fn a_frame_over_two_switches(rt: HostRuntime) -> Result<(), Fail> {
+fn a_frame_over_two_switches(rt: HostRuntime) {
     let (at_a, at_b) = (small(1, 6_720), small(1, 13_465));
-    assert!(rt; puts(rt.alloc(), small(1, 0), at_a, at_b)?);
-    Ok(())
+    assert!(rt; matches!(puts(rt.alloc(), small(1, 0), at_a, at_b), Ok(true)));
 }
 
 /// Whether the run over captures with this frame, of which one has so many bytes of a header, is refused with this line and puts
@@ -89,34 +86,50 @@ fn puts_nothing(
     Ok(is_said && folder.bytes("out/A/port-1.pcap").is_none())
 }
 
+/// A frame of size 64 of link 1 at the start of 1970, and one that comes as late as a stamp can say but for a second.
+const SMALL: Sample = Sample {
+    seconds: 0,
+    nanos: 0,
+    captured: 60,
+    original: 60,
+    first: 3,
+    link: 1,
+};
+
+const LATE: Sample = Sample {
+    seconds: 4_294_967_294,
+    nanos: 999_999_999,
+    ..SMALL
+};
+
+/// The frame, the file of which so many bytes of a header are left, and the line.
+const REFUSED: &[(Sample, (&str, usize), &str)] = &[
+    (
+        SMALL,
+        ("in/B/port-2.pcap", 23),
+        "afdx: capture P2 NoHeader, port 2, switch B\n",
+    ),
+    (
+        SMALL,
+        ("in/A/port-2.pcap", 0),
+        "afdx: capture P2 NoHeader, port 2, switch A\n",
+    ),
+    (
+        LATE,
+        ("in/B/port-2.pcap", 24),
+        "afdx: capture P9 Late, port 1, record 1, switch B\n",
+    ),
+];
+
 /// Captures are refused by switch and then by port; what a wire brings is refused where it comes in.
 #[test]
-fn captures_that_are_refused(rt: HostRuntime) -> Result<(), Fail> {
-    let late = Sample {
-        seconds: 4_294_967_294,
-        ..small(1, 999_999_999)
-    };
-    // The frame, the file of which so many bytes of a header are left, and the line.
-    for (came, file, line) in [
-        (
-            small(1, 0),
-            ("in/B/port-2.pcap", 23),
-            "afdx: capture P2 NoHeader, port 2, switch B\n",
-        ),
-        (
-            small(1, 0),
-            ("in/A/port-2.pcap", 0),
-            "afdx: capture P2 NoHeader, port 2, switch A\n",
-        ),
-        (
-            late,
-            ("in/B/port-2.pcap", 24),
-            "afdx: capture P9 Late, port 1, record 1, switch B\n",
-        ),
-    ] {
-        assert!(rt; puts_nothing(rt.alloc(), came, file, line)?, "{line}");
+fn captures_that_are_refused(rt: HostRuntime) {
+    for (came, file, line) in REFUSED {
+        assert!(rt;
+            matches!(puts_nothing(rt.alloc(), *came, *file, line), Ok(true)),
+            "{line}"
+        );
     }
-    Ok(())
 }
 
 /// Whether the run fails with this line, where the captures of A alone are there, or none.
@@ -130,14 +143,11 @@ fn fails_to_get(alloc: Global, has_a: bool, line: &str) -> Result<bool, AllocErr
 }
 
 #[test]
-fn captures_that_are_not_there(rt: HostRuntime) -> Result<(), Fail> {
-    for (has_a, line) in [
-        (false, "afdx: device get in/A/port-1.pcap\n"),
-        (true, "afdx: device get in/B/port-2.pcap\n"),
-    ] {
-        assert!(rt; fails_to_get(rt.alloc(), has_a, line)?, "{line}");
-    }
-    Ok(())
+fn captures_that_are_not_there(rt: HostRuntime) {
+    let of_a = "afdx: device get in/A/port-1.pcap\n";
+    assert!(rt; matches!(fails_to_get(rt.alloc(), false, of_a), Ok(true)));
+    let of_b = "afdx: device get in/B/port-2.pcap\n";
+    assert!(rt; matches!(fails_to_get(rt.alloc(), true, of_b), Ok(true)));
 }
 
 /// Whether the run fails with this line at the call of this number, after which none comes, and has put the captures of A or has
@@ -150,16 +160,21 @@ fn fails_at(alloc: Global, call: u64, line: &str, is_put: bool) -> Result<bool, 
     Ok(is_said && is_left && folder.calls() == call)
 }
 
-/// Six files are got, and the seventh call puts the first one.
+/// The call that fails, the line, and whether the captures of A are put by then: six files are got, and the seventh call puts the
+/// first one.
+const FAILING: &[(u64, &str, bool)] = &[
+    (2, "afdx: device get net/A.toml\n", false),
+    (6, "afdx: device get in/B/port-2.pcap\n", false),
+    (7, "afdx: device put out/A/port-1.pcap\n", false),
+    (9, "afdx: device put out/B/port-1.pcap\n", true),
+];
+
 #[test]
-fn a_folder_that_fails(rt: HostRuntime) -> Result<(), Fail> {
-    for (call, line, is_put) in [
-        (2, "afdx: device get net/A.toml\n", false),
-        (6, "afdx: device get in/B/port-2.pcap\n", false),
-        (7, "afdx: device put out/A/port-1.pcap\n", false),
-        (9, "afdx: device put out/B/port-1.pcap\n", true),
-    ] {
-        assert!(rt; fails_at(rt.alloc(), call, line, is_put)?, "{line}");
+fn a_folder_that_fails(rt: HostRuntime) {
+    for (call, line, is_put) in FAILING {
+        assert!(rt;
+            matches!(fails_at(rt.alloc(), *call, line, *is_put), Ok(true)),
+            "{line}"
+        );
     }
-    Ok(())
 }

@@ -1,0 +1,103 @@
+//! What the program answers to its arguments, over a folder in memory.
+
+use crate::MemoryFolder;
+use afdx_serve::serve;
+use std::alloc::{AllocError, Allocator, Global};
+
+/// A folder with a table and with captures of ports 1 and up.
+pub fn folder_of(
+    alloc: Global,
+    table: &str,
+    captures: &[&[u8]],
+) -> Result<MemoryFolder<Global>, AllocError> {
+    let mut folder = MemoryFolder::new(alloc);
+    folder.add("t", table.as_bytes())?;
+    let names = [
+        "in/port-1.pcap",
+        "in/port-2.pcap",
+        "in/port-3.pcap",
+        "in/port-4.pcap",
+    ];
+    for (name, bytes) in names.iter().zip(captures) {
+        folder.add(name, bytes)?;
+    }
+    Ok(folder)
+}
+
+/// The arguments of a command line.
+pub fn split(alloc: Global, line: &str) -> Result<Vec<String>, AllocError> {
+    let mut arguments = Vec::new(alloc);
+    for argument in line.split_whitespace() {
+        arguments.push(String::from_str(alloc, argument)?)?;
+    }
+    Ok(arguments)
+}
+
+/// What the program answers.
+#[derive(Drop)]
+pub struct Served {
+    pub status: u8,
+    pub out: Vec<u8>,
+    pub err: Vec<u8>,
+}
+
+impl Served {
+    /// Whether it is this status, with this on standard output and that on standard error.
+    pub fn is(&self, status: u8, out: &[u8], err: &[u8]) -> bool {
+        self.status == status && self.out.as_slice() == out && self.err.as_slice() == err
+    }
+}
+
+/// What the program answers over a folder.
+pub fn answer_over<A: Allocator + Copy>(
+    alloc: Global,
+    line: &str,
+    mut input: &[u8],
+    folder: &mut MemoryFolder<A>,
+) -> Result<Served, AllocError> {
+    let arguments = split(alloc, line)?;
+    let mut out = Vec::new(alloc);
+    let mut err = Vec::new(alloc);
+    let status = serve(alloc, &arguments, &mut input, &mut out, &mut err, folder);
+    Ok(Served { status, out, err })
+}
+
+/// A status, and what is on standard output and on standard error.
+pub type Said<'a> = (u8, &'a str, &'a str);
+
+/// Whether the program answers so over a folder.
+pub fn answers<A: Allocator + Copy>(
+    alloc: Global,
+    line: &str,
+    folder: &mut MemoryFolder<A>,
+    (status, out, err): Said,
+) -> Result<bool, AllocError> {
+    let got = answer_over(alloc, line, b"", folder)?;
+    Ok(got.is(status, out.as_bytes(), err.as_bytes()))
+}
+
+/// Whether it answers so over a folder with a table and with captures of ports 1 and up.
+pub fn answers_over_files(
+    alloc: Global,
+    line: &str,
+    table: &str,
+    captures: &[&[u8]],
+    said: Said,
+) -> Result<bool, AllocError> {
+    let mut folder = folder_of(alloc, table, captures)?;
+    answers(alloc, line, &mut folder, said)
+}
+
+/// Whether captures of ports 1 and up that are none are refused with status 3 and this line, and no file is put.
+pub fn refuses(
+    alloc: Global,
+    line: &str,
+    table: &str,
+    captures: &[&[u8]],
+    said: &str,
+) -> Result<bool, AllocError> {
+    let mut folder = folder_of(alloc, table, captures)?;
+    let files = folder.count();
+    let is_said = answers(alloc, line, &mut folder, (3, "", said))?;
+    Ok(is_said && folder.count() == files)
+}

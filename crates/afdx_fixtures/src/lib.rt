@@ -1,0 +1,14 @@
+//! What the tests of the program's commands share: a folder in memory, the run of one frame, and what the program answers over them.
+//!
+//! They are in a crate of their own, so that the crates of tests are proved side by side. No program uses it.
+#![tactic(auto)]
+
+mod commands;
+mod memory_folder;
+mod one_frame;
+
+pub use commands::{
+    Said, Served, answer_over, answers, answers_over_files, folder_of, refuses, split,
+};
+pub use memory_folder::{MemoryFolder, OpenedFile, Opening};
+pub use one_frame::{Broken, CHECKED, LINK_10, OneFrame, REPORT, RUN, captured, leaves, stops};
