@@ -19,7 +19,6 @@ mod log;
 mod output_port;
 mod step;
 mod switch;
-mod targets;
 
 pub use accounts::{accounts_of, police};
 pub use step::{CoreFault, Fate, Offers, Row, Step};

@@ -1,6 +1,6 @@
 -- The numbers of a table's ports and links are different.
-use Rattle.std.proofs.Common.{◌≡◌, ℕ, ◌+◌, ◌||◌, nat_eq, Bool, false, List, [], ◌∷◌, ◌++◌, get_or, map, take, slice_get, Some, refl, subst, sym, ap, ◌∙◌}
-use Rattle.std.specs.List.{IsDistinct, list_any}
+use Rattle.std.proofs.Common.{◌≡◌, ℕ, ◌+◌, nat_eq, List, [], ◌∷◌, ◌++◌, get_or, map, take, slice_get, Some, subst, sym, ap, ◌∙◌}
+use Rattle.std.specs.List.{IsDistinct}
 use Rattle.std.proofs.lemmas.Option.{slice_get_within, get_or_from_slice_get}
 use Rattle.std.proofs.lemmas.List.{take_more, map-append}
 use Rattle.afdx_table.specs.declared.rows.PortRow.{PortRow}
@@ -10,25 +10,17 @@ use Rattle.afdx_table.specs.Inner.Distinct.{PortsAreDistinct}
 use Rattle.afdx_count.specs.declared.ports.PortTally.{PortTally}
 use Rattle.afdx_count.specs.declared.links.LinkTally.{LinkTally}
 use Rattle.afdx_count.specs.Tally.{new_port, new_link}
-use Rattle.afdx_count.proofs.Placed.{new_number}
 use Rattle.afdx_count.proofs.Notes.{map_twice}
-
-any_map : {X Y : Type 0} (f : X → Y) (p : Y → Bool) (xs : List X) → list_any p (map f xs) ≡ list_any (λ x. p (f x)) xs
-any_map f p [] = refl
-any_map f p (x ∷ xs) = ap (λ b. p (f x) || b) (any_map f p xs)
-
-pub fresh_link : (links : List Link) (i : ℕ) (row : Link) (tally : LinkTally) (old : List LinkTally) → IsDistinct nat_eq (map (λ (l : Link). l.id) links) → slice_get links i ≡ Some row
-    → tally ≡ new_link row → old ≡ map new_link (take i links) → list_any (λ (l : LinkTally). nat_eq tally.id l.id) old ≡ false
-fresh_link links i row tally old distinct at tally-is old-is =
-    ap (λ (t : LinkTally). list_any (λ (l : LinkTally). nat_eq t.id l.id) old) tally-is
-    ∙ ap (list_any (λ (l : LinkTally). nat_eq row.id l.id)) old-is
-    ∙ any_map new_link (λ (l : LinkTally). nat_eq row.id l.id) (take i links)
-    ∙ new_number (λ (l : Link). l.id) links i row distinct at
 
 pub ports_once : PortsAreDistinct → (table ports : List PortRow) (tallies : List PortTally) → Rises table → ports ≡ table → tallies ≡ map new_port ports
     → IsDistinct nat_eq (map (λ (p : PortTally). p.id) tallies)
 ports_once distinct table ports tallies rises is tallies-is =
     subst (IsDistinct nat_eq) (sym (ap (map (λ (p : PortTally). p.id)) (tallies-is ∙ ap (map new_port) is) ∙ map_twice new_port (λ (p : PortTally). p.id) table)) (distinct table rises)
+
+pub links_once : (links : List Link) (tallies : List LinkTally) → IsDistinct nat_eq (map (λ (l : Link). l.id) links) → tallies ≡ map new_link links
+    → IsDistinct nat_eq (map (λ (l : LinkTally). l.id) tallies)
+links_once links tallies distinct is =
+    subst (IsDistinct nat_eq) (sym (ap (map (λ (l : LinkTally). l.id)) is ∙ map_twice new_link (λ (l : LinkTally). l.id) links)) distinct
 
 -- what is made of each row, for one more row
 pub new_more : {X Y : Type 0} (f : X → Y) (rows : List X) (i : ℕ) (row : X) (tally : Y) (old now : List Y) → slice_get rows i ≡ Some row → tally ≡ f row

@@ -1,35 +1,18 @@
 -- Elements under their numbers, where the numbers are different.
-use Rattle.std.proofs.Common.{◌≡◌, ℕ, zero, suc, ◌<◌, nat_eq, true, false, cond, List, [], ◌∷◌, ◌++◌, set, get_or, length, map, take, find, slice_get, Option, Some, None, refl, subst}
+use Rattle.std.proofs.Common.{◌≡◌, ℕ, zero, suc, ◌<◌, nat_eq, true, false, cond, List, [], ◌∷◌, set, get_or, length, map, find, slice_get, Option, Some, None, refl, subst}
 use Rattle.std.proofs.Common.{sym, ap, ◌∙◌, arith, inl, inr, ◌||◌, ◌+◌, ◌≤◌, ◌⊎◌, ⊎_elim, ltb, position, unwrap_or}
 use Rattle.std.specs.Prelude.{IfSome, IfNone, not}
 use Rattle.std.specs.List.{AllByRecursion, IsDistinct, list_any, position_or_len}
 use Rattle.std.proofs.lemmas.Option.{gets, slice_get_within, slice_get-get_or, none-some, same_Some}
-use Rattle.std.proofs.lemmas.List.{length-map, map-append, get_or-set_same, get_or-set_other}
+use Rattle.std.proofs.lemmas.List.{length-map, get_or-set_same, get_or-set_other}
 use Rattle.std.proofs.lemmas.List.Sums.{passes_at_first, prefix_len-le-length}
-use Rattle.std.proofs.lemmas.List.Sorted.{IsPermutation-append_comm}
-use Rattle.std.proofs.lemmas.Map.Keys.{IsDistinct-IsPermutation}
 use Rattle.std.proofs.lemmas.Bool.{cases_Bool, cases_eq, cases_lt, eqb-true, lt-ltb, le-ltb, true≢false}
-use Rattle.std.proofs.lemmas.Bool.Decides.{nat_tests}
 use Rattle.std.proofs.lemmas.Cmp.{nat_eq_equiv}
 use Rattle.std.proofs.lemmas.List.Elements.{All-from_recursion}
+use Rattle.std.proofs.lemmas.List.Quantifiers.{position-Some}
 use Rattle.afdx_count.specs.Inner.Places.{IsPlaceOf, LeadTo, changed_at}
 
--- the same search, asked the other way round
-turned_any : (n : ℕ) (ks : List ℕ) → list_any (λ k. nat_eq k n) ks ≡ list_any (nat_eq n) ks
-turned_any n [] = refl
-turned_any n (k ∷ ks) = (λ j. either_way k j || turned_any n ks j) where
-  either_way : (k : ℕ) → nat_eq k n ≡ nat_eq n k
-  either_way k = grind (arith, nat_tests)
-
-pub unlisted : (n : ℕ) (ks : List ℕ) (o : Option ℕ) → IfNone o (list_any (λ k. nat_eq k n) ks ≡ false) → IfNone o (list_any (nat_eq n) ks ≡ false)
-unlisted n ks None h = sym (turned_any n ks) ∙ h
-unlisted n ks (Some place) h = tt
-
 module _ {X : Type 0} (number : X → ℕ) where
-  pub any_number : (n : ℕ) (xs : List X) → list_any (nat_eq n) (map number xs) ≡ list_any (λ x. nat_eq n (number x)) xs
-  any_number n [] = refl
-  any_number n (x ∷ xs) = ap (λ b. nat_eq n (number x) || b) (any_number n xs)
-
   -- where a search finds an element by its number, and else the length, is the first place of the number in the list of numbers
   pub first_place : (n : ℕ) (xs : List X) (o : Option ℕ) → o ≡ position (λ x. nat_eq (number x) n) xs → unwrap_or o (length xs) ≡ position_or_len (λ k. nat_eq k n) (map number xs)
   first_place n xs o is = ap (λ p. unwrap_or p (length xs)) is ∙ by_test (cases_lt place (length xs)) ∙ sym (of_numbers xs) where
@@ -59,6 +42,10 @@ module _ {X : Type 0} (number : X → ℕ) where
   pub still_led_to : (places : List ℕ) (old new : List X) → map number old ≡ map number new → LeadTo places (map number old) × IsDistinct nat_eq (map number old)
       → LeadTo places (map number new) × IsDistinct nat_eq (map number new)
   still_led_to places old new same led = subst (λ ns. LeadTo places ns × IsDistinct nat_eq ns) same led
+
+  position-within : (n : ℕ) (xs : List X) (i : ℕ) → Some i ≡ position (λ x. nat_eq (number x) n) xs → i < length xs
+  position-within n [] i is = absurd (none-some i (sym is))
+  position-within n (x ∷ xs) i is = (position-Some (λ y. nat_eq (number y) n) (x ∷ xs) i x (sym is)).0
 
   -- the element at such a place has the number, and none has it where the place is past the last one
   pub is_there : (n : ℕ) (xs : List X) (i : ℕ) → i ≡ position_or_len (λ k. nat_eq k n) (map number xs) → i < length xs → IsPlaceOf number n xs i
@@ -136,32 +123,6 @@ module _ {X : Type 0} (number : X → ℕ) where
   numbers-set (z ∷ zs) zero x y h = ap (λ n. n ∷ map number zs) h
   numbers-set (z ∷ zs) (suc i) x y h = ap (λ ns. number z ∷ ns) (numbers-set zs i x y h)
 
-  -- an element has another number than those before it
-  pub new_number : (xs : List X) (i : ℕ) (x : X) → IsDistinct nat_eq (map number xs) → slice_get xs i ≡ Some x → list_any (λ y. nat_eq (number x) (number y)) (take i xs) ≡ false
-  unfolding IsDistinct
-  new_number [] i x d at = absurd (none-some x at)
-  new_number (y ∷ ys) zero x d at = refl
-  new_number (y ∷ ys) (suc i) x d at =
-      let miss : nat_eq (number y) (number x) ≡ false = grind (arith, gets, mapped ys i at, All-from_recursion (λ k. nat_eq (number y) k ≡ false) (map number ys) d.0 i (number x)) in
-      rw (nat_eq_equiv.symm (number x) (number y) ∙ miss) (new_number ys i x d.1 at) where
-        mapped : (zs : List X) (k : ℕ) → slice_get zs k ≡ Some x → slice_get (map number zs) k ≡ Some (number x)
-        mapped [] k e = absurd (none-some x e)
-        mapped (z ∷ zs) zero e = ap (λ (o : Option X). map_option o) e where
-          map_option : Option X → Option ℕ
-          map_option None = None
-          map_option (Some z) = Some (number z)
-        mapped (z ∷ zs) (suc k) e = mapped zs k e
-
-  -- one more element, of a new number
-  pub distinct_more : (xs : List X) (y : X) → IsDistinct nat_eq (map number xs) → list_any (λ x. nat_eq (number y) (number x)) xs ≡ false → IsDistinct nat_eq (map number (xs ++ y ∷ []))
-  unfolding IsDistinct
-  distinct_more xs y d new =
-      subst (IsDistinct nat_eq) (sym (map-append number xs (y ∷ [])))
-      (IsDistinct-IsPermutation nat_eq either_way (number y ∷ map number xs) (map number xs ++ number y ∷ []) (IsPermutation-append_comm (number y ∷ []) (map number xs))
-      (any_false (number y) xs new, d)) where
-        either_way : (a b : ℕ) → nat_eq a b ≡ nat_eq b a
-        either_way a b = grind (arith, nat_tests)
-
   -- ---- the same of a list as it is seen
 
   pub found_in : (n : ℕ) (xs seen : List X) (i : ℕ) (x : X) → xs ≡ seen → IsDistinct nat_eq (map number seen) → IsPlaceOf number n seen i → x ≡ get_or xs i x → Some x
@@ -176,34 +137,19 @@ module _ {X : Type 0} (number : X → ℕ) where
   pub numbers_kept : (ns : List ℕ) (xs : List X) (i : ℕ) (x y : X) → ns ≡ map number xs → number y ≡ number x → x ≡ get_or xs i x → ns ≡ map number (set xs i y)
   numbers_kept ns xs i x y ns-is same-number is = ns-is ∙ sym (numbers-set xs i x y (same-number ∙ ap number is))
 
-  -- the numbers, which are different, where the element at a place gives way to one of its number, and where one more comes
-  pub still_numbered : (ns : List ℕ) (xs : List X) (i : ℕ) (x y : X) → (ns ≡ map number xs) × IsDistinct nat_eq (map number xs) → number y ≡ number x → x ≡ get_or xs i x
-      → (ns ≡ map number (set xs i y)) × IsDistinct nat_eq (map number (set xs i y))
-  still_numbered ns xs i x y ok same-number is =
-      (numbers_kept ns xs i x y ok.0 same-number is, subst (IsDistinct nat_eq) (numbers_kept (map number xs) xs i x y refl same-number is) ok.1)
+  -- numbers that are different stay so where the element at a place gives way to one of its number
+  pub still_distinct : (xs : List X) (i : ℕ) (x y : X) → IsDistinct nat_eq (map number xs) → number y ≡ number x → x ≡ get_or xs i x → IsDistinct nat_eq (map number (set xs i y))
+  still_distinct xs i x y distinct same-number is = subst (IsDistinct nat_eq) (numbers_kept (map number xs) xs i x y refl same-number is) distinct
 
-  pub more_numbered : (ns more : List ℕ) (xs seen ys zs : List X) (y : X) → (ns ≡ map number xs) × IsDistinct nat_eq (map number xs) → xs ≡ seen → list_any (λ x. nat_eq (number y) (number x)) seen
-      ≡ false
-      → more ≡ ns ++ number y ∷ [] → ys ≡ xs → zs ≡ ys ++ y ∷ [] → (more ≡ map number zs) × IsDistinct nat_eq (map number zs)
-  more_numbered ns more xs seen ys zs y ok view new more-is ys-is zs-is =
-      let all : zs ≡ xs ++ y ∷ [] = zs-is ∙ ap (λ (ws : List X). ws ++ y ∷ []) ys-is in
-      let unlike : list_any (λ x. nat_eq (number y) (number x)) xs ≡ false = ap (list_any (λ (x : X). nat_eq (number y) (number x))) view ∙ new in (
-        more-is ∙ ap (λ (ks : List ℕ). ks ++ number y ∷ []) ok.0 ∙ sym (map-append number xs (y ∷ [])) ∙ ap (map number) (sym all),
-        subst (λ (ws : List X). IsDistinct nat_eq (map number ws)) (sym all) (distinct_more xs y ok.1 unlike),
-      )
+  -- what a search by number finds is the place of the number, and where it finds none there is none
+  pub placed_at : (n : ℕ) (xs seen : List X) (o : Option ℕ) → o ≡ position (λ x. nat_eq (number x) n) xs → xs ≡ seen → IfSome o (IsPlaceOf number n seen)
+  placed_at n xs seen None is view = tt
+  placed_at n xs seen (Some i) is view =
+      subst (λ (ys : List X). IsPlaceOf number n ys i) view (is_there n xs i (first_place n xs (Some i) is) (position-within n xs i is))
 
-  pub none_listed : (n : ℕ) (ns : List ℕ) (xs seen : List X) → ns ≡ map number xs → xs ≡ seen → list_any (λ x. nat_eq n (number x)) seen ≡ false → list_any (λ k. nat_eq k n) ns ≡ false
-  none_listed n ns xs seen ns-is view none = turned_any n ns ∙ ap (list_any (nat_eq n)) (ns-is ∙ ap (map number) view) ∙ any_number n seen ∙ none
-
-  pub absent_in : (n : ℕ) (ns : List ℕ) (xs seen : List X) (o : Option ℕ) → ns ≡ map number xs → xs ≡ seen → IfNone o (list_any (nat_eq n) ns ≡ false)
-      → IfNone o (list_any (λ x. nat_eq n (number x)) seen ≡ false)
-  absent_in n ns xs seen None ns-is view none = sym (any_number n seen) ∙ sym (ap (list_any (nat_eq n)) (ns-is ∙ ap (map number) view)) ∙ none
-  absent_in n ns xs seen (Some i) ns-is view none = tt
-
-  pub within_in : (n : ℕ) (ns : List ℕ) (xs seen : List X) (o : Option ℕ) → ns ≡ map number xs → xs ≡ seen → IfSome o (λ place. slice_get ns place ≡ Some n) → IfSome o (λ place. place < length seen)
-  within_in n ns xs seen None ns-is view at = tt
-  within_in n ns xs seen (Some i) ns-is view at =
-      within n seen (Some i) (ap (λ ks. slice_get ks i) (sym (ns-is ∙ ap (map number) view)) ∙ at)
+  pub placed_nowhere : (n : ℕ) (xs seen : List X) (o : Option ℕ) → o ≡ position (λ x. nat_eq (number x) n) xs → xs ≡ seen → IfNone o (list_any (λ x. nat_eq n (number x)) seen ≡ false)
+  placed_nowhere n xs seen None is view = subst (λ (ys : List X). list_any (λ x. nat_eq n (number x)) ys ≡ false) view (is_nowhere n xs (length xs) (first_place n xs None is) (omega arith))
+  placed_nowhere n xs seen (Some i) is view = tt
 
   pub number_at : (n : ℕ) (xs seen : List X) (i : ℕ) (x : X) → xs ≡ seen → IsPlaceOf number n seen i → x ≡ get_or xs i x → number x ≡ n
   number_at n xs seen i x view at is = ap number (is ∙ ap (λ (ys : List X). get_or ys i x) view) ∙ by_place seen i at where

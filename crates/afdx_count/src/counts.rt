@@ -45,7 +45,8 @@ impl<A: Allocator + Copy> Counts<A> {
     }
 
     /// Counts what a switch did with an arrival: the arrival at its port, the frame at its link, and its copies at the ports
-    /// that were offered them. It takes no memory. O(offers), whatever the numbers of ports and links.
+    /// that were offered them. It takes no memory. O(offers), whatever the numbers of ports and links, where the step has the place
+    /// of its link, as a switch gives it; else O(links).
     pub fn note(&mut self, step: &Step)
         ensures { self.new ≡ noted step.now self.old }
     {
@@ -70,7 +71,7 @@ impl<A: Allocator + Copy> Counts<A> {
         Some(tally.input)
     }
 
-    /// The counters of the clean frames of a link; none where the table has no such link. O(1).
+    /// The counters of the clean frames of a link; none where the table has no such link. O(links).
     pub fn link(&self, id: u16) -> Option<LinkCount>
         ensures { result ≡ count_of id self.now }
     {

@@ -1,13 +1,12 @@
 //! The counters of links.
 
-ghost use Rattle.std.specs.Prelude.{◌≡◌, ◌==◌, ◌<◌, nat_eq, [], ◌∷◌, ◌++◌, false, length, map, IsTrue, IfSome, IfOk, IfNone, OnOk, option_map};
+ghost use Rattle.std.specs.Prelude.{◌≡◌, ◌==◌, ◌<◌, nat_eq, false, length, map, position, IsTrue, IfSome, IfOk, IfNone, option_map};
 ghost use Rattle.std.specs.List.{list_any, IsDistinct};
 ghost use Rattle.afdx_count.specs.Tally.{new_link, one_passed, one_policed, link_in, noted_link, class_of};
 ghost use Rattle.afdx_count.specs.Inner.Places.{IsPlaceOf, changed_at};
 
 use crate::counters::{LinkCount, up};
 use afdx_core::Fate;
-use afdx_numbers::Numbers;
 use afdx_table::{LinkRow, Table};
 use afdx_units::Priority;
 use std::alloc::{AllocError, Allocator};
@@ -49,15 +48,35 @@ impl LinkTally {
     }
 }
 
+/// The counters of a table's links, in the file's order. O(links).
+fn tallies_of<A: Allocator + Copy>(alloc: A, table: &Table) -> Result<Vec<LinkTally, A>, AllocError>
+    ensures tallies { IfOk result (λ tallies. tallies.items ≡ map new_link table.now.links) }
+    ensures distinct { IsDistinct nat_eq (map (λ l. l.id) table.now.links) }
+{
+    let mut tallies = Vec::with_capacity(alloc, table.link_count())?;
+    for index in 0..table.link_count() {
+        tallies.push(LinkTally::new(table.link_at(index).unwrap()))?;
+    }
+    Ok(tallies)
+}
+
+/// The place of the link of a number among these, from 0. O(links).
+fn search(tallies: &[LinkTally], id: u16) -> Option<usize>
+    ensures { result ≡ position (λ l. l.id == id) tallies.now }
+{
+    tallies.iter().position(|tally| tally.id == id)
+}
+
 /// The counters of links of different numbers. Contracts see their list in order.
+///
+/// There is no table of places by number: an arrival comes with the place of its link.
 #[derive(Drop)]
 pub(crate) struct Links<A: Allocator> {
-    numbers: Numbers<A>,
     tallies: Vec<LinkTally, A>,
 }
 
 impl<A: Allocator> Model for Links<A> {
-    ghost use Rattle.std.specs.Prelude.{◌≡◌, nat_eq, List, map};
+    ghost use Rattle.std.specs.Prelude.{nat_eq, List, map};
     ghost use Rattle.std.specs.List.{IsDistinct};
     ghost use Rattle.afdx_count.specs.declared.links.LinkTally.{LinkTally as Seen};
 
@@ -65,39 +84,16 @@ impl<A: Allocator> Model for Links<A> {
 
     ghost view = { λ l. l.tallies.items };
 
-    ghost invariant = { λ l. (l.numbers ≡ map (λ t. t.id) l.tallies.items) × IsDistinct nat_eq (map (λ t. t.id) l.tallies.items) };
+    ghost invariant = { λ l. IsDistinct nat_eq (map (λ t. t.id) l.tallies.items) };
 }
 
 impl<A: Allocator + Copy> Links<A> {
-    fn empty(alloc: A) -> Self
-        ensures { result ≡ [] }
-    {
-        Links {
-            numbers: Numbers::new(alloc),
-            tallies: Vec::new(alloc),
-        }
-    }
-
-    /// Adds the counters of a link of a new number at the end.
-    fn push(&mut self, tally: LinkTally) -> Result<(), AllocError>
-        requires { list_any (λ l. tally.id == l.id) self.old ≡ false }
-        ensures { OnOk result (self.new ≡ self.old ++ tally ∷ []) }
-    {
-        self.tallies.reserve(1)?;
-        self.numbers.push(tally.id)?;
-        self.tallies.push_reserved(tally);
-        Ok(())
-    }
-
     /// The counters of a table's links, in the file's order.
     pub(crate) fn new(alloc: A, table: &Table) -> Result<Self, AllocError>
         ensures { IfOk result (λ links. links ≡ map new_link table.now.links) }
     {
-        let mut links = Links::empty(alloc);
-        for index in 0..table.link_count() {
-            links.push(LinkTally::new(table.link_at(index).unwrap()))?;
-        }
-        Ok(links)
+        let tallies = tallies_of(alloc, table)?;
+        Ok(Links { tallies })
     }
 
     pub(crate) fn as_slice(&self) -> &[LinkTally]
@@ -106,14 +102,14 @@ impl<A: Allocator + Copy> Links<A> {
         self.tallies.as_slice()
     }
 
-    /// The place of the link of a number, from 0.
+    /// The place of the link of a number, from 0. O(links).
     fn place(&self, id: u16) -> Option<usize>
         ensures at { IfSome result (IsPlaceOf (λ l. l.id) id self.now) }
         ensures absent { IfNone result (list_any (λ l. id == l.id) self.now ≡ false) }
         ensures within { IfSome result (λ place. place < length self.now) }
         ensures distinct { IsDistinct nat_eq (map (λ l. l.id) self.now) }
     {
-        self.numbers.place(id)
+        search(&self.tallies, id)
     }
 
     /// Whether the link at a place has the number.

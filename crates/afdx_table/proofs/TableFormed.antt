@@ -103,6 +103,9 @@ no_links : (ports : List PortRow) → AreLinks ports []
 unfolding IsDistinct
 no_links ports = record { limits = tt; distinct = tt }
 
+pub few_ports-formed : (ms : Members) (t : Top) (ports : List PortRow) → top_at ms ≡ Ok t → ports_from t.version 0 [] t.ports ≡ Ok ports → length ports ≤ 24
+few_ports-formed ms t ports h p = omega (arith, (top_at-formed ms t h).few_ports, (ports_from-formed t.version 0 [] t.ports ports no_ports p).1)
+
 pub parts-formed : (ms : Members) (t : Top) (ports : List PortRow) (links : List Link) → top_at ms ≡ Ok t → ports_from t.version 0 [] t.ports ≡ Ok ports
     → links_from t.version ports 0 [] t.links ≡ Ok links → IsWellFormed (record { constant = t.constant; latency = t.latency; ports = ports; links = links })
 parts-formed ms t ports links h p l =
@@ -113,7 +116,7 @@ parts-formed ms t ports links h p l =
       constant_length = top.constant.constant_length;
       constant_first = top.constant.constant_first;
       latency_most = top.latency_most;
-      few_ports = omega (arith, top.few_ports, all_ports.1);
+      few_ports = few_ports-formed ms t ports h p;
       ports = all_ports.0.limits;
       ports_rise = all_ports.0.rise;
       few_links = omega (arith, top.few_links, all_links.1);

@@ -35,7 +35,7 @@ fn copy_rows(alloc: Global, rows: &[LinkRow]) -> Result<Vec<LinkRow>, AllocError
 {
     let mut copies = Vec::with_capacity(alloc, rows.len())?;
     for row in rows {
-        copies.push(row.copy(alloc)?)?;
+        copies.push(row.copy())?;
     }
     Ok(copies)
 }
@@ -50,7 +50,7 @@ impl LinkMap {
         }
     }
 
-    /// The same links once more. O(n + m) for n links that together name m ports.
+    /// The same links once more. O(n) for n links.
     pub(crate) fn copy(&self, alloc: Global) -> Result<LinkMap, AllocError>
         ensures { IfOk result (λ l. l ≡ self.now) }
     {

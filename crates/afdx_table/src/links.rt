@@ -1,6 +1,6 @@
 //! The links of a table, in file order.
 
-ghost use Rattle.std.specs.Prelude.{◌≡◌, ◌<◌, false, [], length, map, option_map, Err, IfOk};
+ghost use Rattle.std.specs.Prelude.{◌≡◌, ◌<◌, ◌≤◌, false, [], length, map, option_map, Err, IfOk};
 ghost use Rattle.toml.specs.View.{table_view};
 ghost use Rattle.afdx_table.specs.Refusal.{Gives};
 ghost use Rattle.afdx_table.specs.declared.fault.TableFault.TheVariants.{Memory};
@@ -13,7 +13,9 @@ use crate::fields::Fields;
 use crate::limits::MAX_PORT_ID;
 use crate::link_map::LinkMap;
 use crate::ports::has_port;
-use crate::rows::{LinkRow, PortRow, bag_from_ms, nanos, police_from_text, priority_from_text};
+use crate::rows::{
+    LinkRow, PortRow, Targets, bag_from_ms, nanos, police_from_text, priority_from_text,
+};
 use afdx_units::{GREATEST_SIZE, LEAST_SIZE, MAX_JITTER, MAX_LINK_ID, Police};
 use std::alloc::Global;
 use toml::Table;
@@ -84,10 +86,15 @@ fn police_from(at: At, stated: Option<&str>) -> Result<Police, TableFault>
     }
 }
 
-/// The row of a link's fields.
+/// The row of a link's fields, which leads nowhere yet, and the ports that it is to lead to.
 #[tactic(auto, unfolding(crate::specs::Links::row_at))]
-fn read_row(alloc: Global, version: u64, at: At, table: &Table) -> Result<LinkRow, TableFault>
-    ensures { Gives (λ r. r) result (row_at version at (table_view table.now)) }
+fn read_row(
+    alloc: Global,
+    version: u64,
+    at: At,
+    table: &Table,
+) -> Result<(LinkRow, Vec<u8>), TableFault>
+    ensures { Gives (λ r. record r.0 { to = r.1.items }) result (row_at version at (table_view table.now)) }
 {
     let fields = link_fields(version, at, table)?;
     let id = fields.bounded(Key::Id, 0, MAX_LINK_ID)? as u16;
@@ -104,22 +111,30 @@ fn read_row(alloc: Global, version: u64, at: At, table: &Table) -> Result<LinkRo
     let text = fields.text(Key::Priority)?;
     let priority = priority_from_text(text).ok_or(TableFault::Range(at, Key::Priority))?;
     let police = police_from(at, fields.optional_text(Key::Police)?)?;
-    Ok(LinkRow {
+    let row = LinkRow {
         id,
         from,
-        to,
+        to: Targets::new(),
         bag,
         jitter: nanos(jitter_us),
         max_size,
         priority,
         police,
-    })
+    };
+    Ok((row, to))
 }
 
-/// A row beside the ports and the links before it.
+/// A row that is to lead to these ports, beside the ports of the table and the links before it.
 #[tactic(auto, unfolding(crate::specs::Links::fitting))]
-fn fit(at: At, ports: &[PortRow], before: &LinkMap, row: LinkRow) -> Result<LinkRow, TableFault>
-    ensures row { Gives (λ r. r) result (fitting at ports.now before.now row) }
+fn fit(
+    at: At,
+    ports: &[PortRow],
+    before: &LinkMap,
+    mut row: LinkRow,
+    to: &[u8],
+) -> Result<LinkRow, TableFault>
+    requires few { length ports.now ≤ 24 }
+    ensures row { Gives (λ r. r) result (fitting at ports.now before.now (record row { to = to.now })) }
     ensures fresh { IfOk result (λ r. has_link before.now r.id ≡ false) }
 {
     if before.contains(row.id) {
@@ -128,10 +143,14 @@ fn fit(at: At, ports: &[PortRow], before: &LinkMap, row: LinkRow) -> Result<Link
     if !has_port(ports, row.from) {
         return Err(TableFault::NoSuchPort(at));
     }
-    if row.to.is_empty() {
+    if to.is_empty() {
         return Err(TableFault::ToEmpty(at));
     }
-    check_targets(at, ports, row.from, &row.to)?;
+    check_targets(at, ports, row.from, to)?;
+    let Ok(to) = Targets::try_from(to) else {
+        unreachable!();
+    };
+    row.to = to;
     Ok(row)
 }
 
@@ -145,11 +164,12 @@ fn read_link(
     ports: &[PortRow],
     before: &LinkMap,
 ) -> Result<LinkRow, TableFault>
+    requires few { length ports.now ≤ 24 }
     ensures fresh { IfOk result (λ r. has_link before.now r.id ≡ false) }
     ensures row { Gives (λ r. r) result (link_at version at ports.now before.now (table_view table.now)) }
 {
-    let row = read_row(alloc, version, at, table)?;
-    fit(at, ports, before, row)
+    let (row, to) = read_row(alloc, version, at, table)?;
+    fit(at, ports, before, row, &to)
 }
 
 /// The links, in file order.
@@ -160,6 +180,7 @@ pub(crate) fn read_links(
     ports: &[PortRow],
     tables: &[&Table],
 ) -> Result<LinkMap, TableFault>
+    requires few { length ports.now ≤ 24 }
     ensures links { Gives (λ v. v) result (links_from version ports.now 0 [] (map (λ t. table_view t.now) tables.now)) }
     ensures memory { result ≡ Err Memory → 0 < length tables.now }
 {

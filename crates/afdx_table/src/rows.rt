@@ -1,12 +1,16 @@
 //! The rows of a table, and what its numbers and words name.
 
-ghost use Rattle.std.specs.Prelude.{◌≡◌, ◌≤◌, ◌*◌, IfOk};
+ghost use Rattle.std.specs.Prelude.{◌≡◌, ◌≤◌, ◌*◌};
 ghost use Rattle.afdx_table.specs.Names.{speed_of, bag_of, priority_of, police_of};
 
 use crate::limits::LATENCY_VERSION;
 use afdx_units::{Bag, MICROSECOND, Police, Priority, Speed};
-use std::alloc::{AllocError, Global};
+use arrayvec::ArrayVec;
 use std::marker::Model;
+
+/// The ports that a link leads to: at most as many as a table has, so that they lie in the row, where an arrival finds them in
+/// one step.
+pub(crate) type Targets = ArrayVec<u8, 24>;
 
 /// A port of the switch.
 #[derive(Clone, Copy, Debug, PartialEq, Eq)]
@@ -31,7 +35,7 @@ pub struct LinkRow {
     /// The port at which its frames come in.
     pub from: u8,
     /// The ports at which they leave, in the order of the table.
-    pub to: Vec<u8>,
+    pub to: ArrayVec<u8, 24>,
     /// The gap that its policing counts on.
     pub bag: Bag,
     /// Nanoseconds by which its frames may come early, at most 10,000,000.
@@ -63,12 +67,13 @@ impl Model for LinkRow {
 
 impl LinkRow {
     /// The same row once more.
-    pub(crate) fn copy(&self, alloc: Global) -> Result<LinkRow, AllocError>
-        ensures { IfOk result (λ l. l ≡ self.now) }
+    pub(crate) fn copy(&self) -> LinkRow
+        ensures { result ≡ self.now }
     {
-        let mut to = Vec::new(alloc);
-        to.extend_from_slice(&self.to)?;
-        Ok(LinkRow {
+        let Ok(to) = Targets::try_from(self.to.as_slice()) else {
+            unreachable!();
+        };
+        LinkRow {
             id: self.id,
             from: self.from,
             to,
@@ -77,7 +82,7 @@ impl LinkRow {
             max_size: self.max_size,
             priority: self.priority,
             police: self.police,
-        })
+        }
     }
 }
 

@@ -50,7 +50,7 @@ impl Model for Table {
 }
 
 impl Table {
-    /// The same table once more. O(p + n + m) for p ports and n links that together name m ports.
+    /// The same table once more. O(p + n) for p ports and n links.
     pub fn copy(&self, alloc: Global) -> Result<Table, AllocError>
         ensures { IfOk result (λ t. t ≡ self.now) }
     {

@@ -49,7 +49,6 @@ pub record IsKeptEngine {Z : Type 0} (e : Engine Z) : Type 0 where
   pub frames : length e.store.held ≡ length e.log.rows.items
   pub copies : HoldsCopies e.store.held e.output_ports.items
   pub accounts : AccountsAgree e.table.links e.log.rows.items e.latest e.accounts.items
-  pub targets : map (λ t. t.items) e.targets.items ≡ map (λ l. l.to) e.table.links
   pub ports : map (λ o. o.row) e.output_ports.items ≡ e.table.ports
   pub contents : All (λ o. Follows e.table e.log.rows.items e.latest e.finished (seen o)) e.output_ports.items
   pub counted : All (λ o. IsCounted o) e.output_ports.items

@@ -1,9 +1,14 @@
 use Rattle.std.proofs.Common.{rules, inl, inr, arith}
 use Rattle.std.proofs.lemmas.List.{length-map}
 use Rattle.toml.specs.View.{table_view}
-use Rattle.afdx_table.proofs.TableFormed.{parts-formed}
+use Rattle.afdx_table.proofs.TableFormed.{few_ports-formed, parts-formed}
 use Rattle.afdx_table.proofs.RoomLemmas.{top_wants}
 use Rattle.afdx_table.proofs.table.read_tree.Goals as goal
+
+pub read_links-requires : goal.read_links-requires
+read_links-requires c = record {
+  few = rw c.deref-2.ensures.value (few_ports-formed (table_view c.args.tree.now) _ _ c.in_ok-top.ensures.top (rw c.deref.ensures.value at c.in_ok-ports.ensures.ports));
+}
 
 pub invariant_of-result : goal.invariant_of-result
 invariant_of-result c =

@@ -1,15 +1,5 @@
-use Rattle.std.proofs.Common.{sym, ap, ◌∙◌}
-use Rattle.std.specs.Option.{option_copied}
-use Rattle.afdx_count.specs.Tally.{new_link}
-use Rattle.afdx_count.proofs.Numbered.{fresh_link, new_more}
+use Rattle.afdx_count.proofs.Numbered.{links_once}
 use Rattle.afdx_count.proofs.links.Links.new.Goals as goal
 
-pub push-requires : goal.push-requires
-push-requires g c =
-    fresh_link c.args.table.now.links c.loop-index.index c.unwrap.result.now c.new.result c.loop-index.links c.link_at.ensures.well_formed.links_distinct
-    (sym c.link_at.ensures.link ∙ ap option_copied c.unwrap.ensures) c.new.ensures c.loop-index.invariant
-
-pub loop-index-preserved : goal.loop-index-preserved
-loop-index-preserved g c =
-    new_more new_link c.args.table.now.links c.loop-index.index c.unwrap.result.now c.new.result c.loop-index.links c.push.new.self
-    (sym c.link_at.ensures.link ∙ ap option_copied c.unwrap.ensures) c.new.ensures c.loop-index.invariant c.in_ok-push.ensures
+pub invariant_of-result : goal.invariant_of-result
+invariant_of-result g c = links_once c.args.table.now.links c.in_ok-tallies.tallies.items c.in_ok-tallies.ensures.distinct c.in_ok-tallies.ensures.tallies

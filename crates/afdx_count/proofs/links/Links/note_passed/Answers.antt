@@ -1,7 +1,7 @@
 use Rattle.std.proofs.Common.{ap, option_map}
 use Rattle.afdx_count.specs.declared.links.LinkTally.{LinkTally}
 use Rattle.afdx_count.specs.Tally.{one_passed}
-use Rattle.afdx_count.proofs.Placed.{changed_in, unchanged, still_numbered, found_in, not_found}
+use Rattle.afdx_count.proofs.Placed.{changed_in, unchanged, still_distinct, found_in, not_found}
 use Rattle.afdx_count.proofs.links.Links.note_passed.Goals as goal
 
 pub returns-in-Some-clause-links : goal.returns-in-Some-clause-links
@@ -22,5 +22,5 @@ returns-in-None-clause-class g c = ap (option_map (λ (x : LinkTally). x.priorit
 
 pub invariant_of-self : goal.invariant_of-self
 invariant_of-self g c =
-    still_numbered (λ (x : LinkTally). x.id) c.self.inside.numbers c.self.inside.tallies.items c.in-Some.place c.index-tally.result.now c.with_passed.result c.self.invariant
+    still_distinct (λ (x : LinkTally). x.id) c.self.inside.tallies.items c.in-Some.place c.index-tally.result.now c.with_passed.result c.self.invariant
     (ap (λ (x : LinkTally). x.id) c.with_passed.ensures) c.index-tally.ensures

@@ -1,7 +1,7 @@
 use Rattle.afdx_count.specs.declared.links.LinkTally.{LinkTally}
 use Rattle.std.proofs.Common.{ap}
 use Rattle.afdx_count.specs.Tally.{one_policed}
-use Rattle.afdx_count.proofs.Placed.{changed_in, unchanged, still_numbered}
+use Rattle.afdx_count.proofs.Placed.{changed_in, unchanged, still_distinct}
 use Rattle.afdx_count.proofs.links.Links.note_policed.Goals as goal
 
 pub returns-in-Some : goal.returns-in-Some
@@ -14,5 +14,5 @@ returns-in_default g c = unchanged (λ (x : LinkTally). x.id) c.args.id one_poli
 
 pub invariant_of-self : goal.invariant_of-self
 invariant_of-self g c =
-    still_numbered (λ (x : LinkTally). x.id) c.self.inside.numbers c.self.inside.tallies.items c.in-Some.place c.index.result.now c.with_policed.result c.self.invariant
+    still_distinct (λ (x : LinkTally). x.id) c.self.inside.tallies.items c.in-Some.place c.index.result.now c.with_policed.result c.self.invariant
     (ap (λ (x : LinkTally). x.id) c.with_policed.ensures) c.index.ensures

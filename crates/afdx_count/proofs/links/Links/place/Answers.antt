@@ -1,11 +1,15 @@
 use Rattle.afdx_count.specs.declared.links.LinkTally.{LinkTally}
-use Rattle.afdx_count.proofs.Placed.{absent_in, within_in, unlisted}
+use Rattle.afdx_count.proofs.Placed.{placed_at, placed_nowhere, within}
 use Rattle.afdx_count.proofs.links.Links.place.Goals as goal
 
-pub returns-clause-absent : goal.returns-clause-absent
-returns-clause-absent g c = absent_in (λ (x : LinkTally). x.id) c.args.id c.self.inside.numbers c.self.inside.tallies.items c.args.self.now c.place.result c.self.invariant.0 c.self.view_is
-    (unlisted c.args.id c.self.inside.numbers c.place.result c.place.ensures.absent)
-
-pub returns-clause-within : goal.returns-clause-within
-returns-clause-within g c = within_in (λ (x : LinkTally). x.id) c.args.id c.self.inside.numbers c.self.inside.tallies.items c.args.self.now c.place.result c.self.invariant.0 c.self.view_is
-    c.place.ensures.at
+pub returns : goal.returns
+returns g c =
+    let xs = c.self.inside.tallies.items in
+    let is = rw c.deref.ensures.value at c.search.ensures in
+    let at = placed_at (λ (x : LinkTally). x.id) c.args.id xs c.args.self.now c.search.result is c.self.view_is in
+    record {
+      at = at;
+      absent = placed_nowhere (λ (x : LinkTally). x.id) c.args.id xs c.args.self.now c.search.result is c.self.view_is;
+      within = within (λ (x : LinkTally). x.id) c.args.id c.args.self.now c.search.result at;
+      distinct = rw c.self.view_is at c.self.invariant;
+    }

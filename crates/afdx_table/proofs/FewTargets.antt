@@ -1,12 +1,10 @@
--- A link leads to at most 24 ports, and its ports are at its place.
-use Rattle.std.proofs.Common.{◌≡◌, ℕ, ◌<◌, ◌≤◌, nat_eq, ◌||◌, Bool, true, false, List, [], ◌∷◌, length, map, get_or, refl, ap, sym, ◌∙◌, subst, arith}
+-- A link leads to at most as many ports as there are.
+use Rattle.std.proofs.Common.{◌≡◌, ℕ, ◌≤◌, nat_eq, ◌||◌, Bool, true, false, List, [], ◌∷◌, length, map, refl, ap, sym, ◌∙◌, subst, arith}
 use Rattle.std.specs.List.{AllByRecursion, list_any}
 use Rattle.std.proofs.lemmas.Cmp.{nat_eq_equiv}
 use Rattle.std.proofs.lemmas.Bool.{eqb-true}
-use Rattle.std.proofs.lemmas.List.{length-map, get_or-map}
+use Rattle.std.proofs.lemmas.List.{length-map}
 use Rattle.std.proofs.lemmas.Map.Made.{length-le_from_is_member}
-use Rattle.arrayvec.specs.ArrayVec.{ArrayVec}
-use Rattle.afdx_table.specs.Link.{Link}
 use Rattle.afdx_table.specs.Ports.{has_port}
 use Rattle.afdx_table.specs.WellFormed.{AreTargets}
 use Rattle.afdx_table.specs.declared.rows.PortRow.{PortRow}
@@ -31,12 +29,3 @@ pub few_targets : (ports : List PortRow) (from : ℕ) (to : List ℕ) → AreTar
 few_targets ports from to are few =
     let le = length-le_from_is_member nat_eq_equiv to (map (λ (p : PortRow). p.id) ports) are.once (λ q is. member ports to q are.are_ports is) in
     omega (arith, le, length-map ports (λ (p : PortRow). p.id), few)
-
-pub as_many : (targets : List (ArrayVec ℕ)) (links : List Link) → map (λ (t : ArrayVec ℕ). t.items) targets ≡ map (λ (l : Link). l.to) links → length targets ≡ length links
-as_many targets links same = sym (length-map targets (λ (t : ArrayVec ℕ). t.items)) ∙ ap length same ∙ length-map links (λ (l : Link). l.to)
-
-pub targets_at : (targets : List (ArrayVec ℕ)) (links : List Link) (place : ℕ) (t : ArrayVec ℕ) (l : Link) → map (λ (u : ArrayVec ℕ). u.items) targets ≡ map (λ (m : Link). m.to) links
-    → place < length links → (get_or targets place t).items ≡ (get_or links place l).to
-targets_at targets links place t l same lt =
-    let there : place < length targets = omega (arith, lt, as_many targets links same) in
-    sym (get_or-map (λ (u : ArrayVec ℕ). u.items) targets place t [] there) ∙ ap (λ xs. get_or xs place []) same ∙ get_or-map (λ (m : Link). m.to) links place l [] lt
