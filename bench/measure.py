@@ -1,11 +1,11 @@
 #!/usr/bin/env python3
 """Times the built programs beside `cat`, `mergecap` and `tcpdump -r -w` of the same files in the same run, and prints the ratios
-of the median times.
+of the median times, by the clock and of the processor, the system's included.
 
 usage: bench/measure.py [RUNS]        5 runs where none is said
 
 The programs are built by `./test`, or by `rt run` in crates/recapture and crates/afdx. Needs 3 GB under /tmp, and
-mergecap and tcpdump (Debian's wireshark-common and tcpdump).
+mergecap and tcpdump (Debian's wireshark-common and tcpdump). With TMPDIR=/dev/shm no disk is waited for.
 """
 import glob
 import os
@@ -37,7 +37,7 @@ def write_capture(path, count, size, gap):
 
 
 def measured(arguments, source, target, status=0):
-    """The seconds that this command takes, and the megabytes of memory at its peak."""
+    """The seconds that this command takes, those of the processor, and the megabytes of memory at its peak."""
     with open(source, "rb") as read, open(target, "wb") as written:
         start = time.perf_counter()
         process = subprocess.Popen(arguments, stdin=read, stdout=written, stderr=subprocess.DEVNULL)
@@ -46,17 +46,43 @@ def measured(arguments, source, target, status=0):
     process.returncode = os.waitstatus_to_exitcode(ended)
     if process.returncode != status:
         sys.exit(f"{arguments} ended with {process.returncode}")
-    return took, used.ru_maxrss / 1000
+    return took, used.ru_utime + used.ru_stime, used.ru_maxrss / 1000
+
+
+class Seconds:
+    """What a command took, by the clock and of the processor: the medians of its runs."""
+
+    def __init__(self):
+        self.clocks, self.processors = [], []
+
+    def note(self, clock, processor):
+        self.clocks.append(clock)
+        self.processors.append(processor)
+
+    @property
+    def clock(self):
+        return statistics.median(self.clocks)
+
+    @property
+    def processor(self):
+        return statistics.median(self.processors)
+
+    def __str__(self):
+        return f"{self.clock:.4f} s ({self.processor:.4f} s of the processor)"
+
+    def to(self, other):
+        """The ratio of this to another."""
+        return f"{self.clock / other.clock:.2f} ({self.processor / other.processor:.2f})"
 
 
 def medians(commands, source, target, runs):
-    """The median seconds of each command, turn by turn; the megabytes of the last one."""
-    took = {name: [] for name in commands}
+    """What each command took, turn by turn; the megabytes of the last one."""
+    took = {name: Seconds() for name in commands}
     for _ in range(runs):
         for name, (arguments, status) in commands.items():
-            seconds, memory = measured(arguments, source, target, status)
-            took[name].append(seconds)
-    return {name: statistics.median(seconds) for name, seconds in took.items()}, memory
+            clock, processor, memory = measured(arguments, source, target, status)
+            took[name].note(clock, processor)
+    return took, memory
 
 
 def compare(what, arguments, room, runs, count, size, gap):
@@ -68,9 +94,9 @@ def compare(what, arguments, room, runs, count, size, gap):
         "program": (arguments, 0),
     }, source, target, runs)
     megabytes = os.path.getsize(source) / 1e6
-    print(f"{what}: {count} frames of {size} bytes, {megabytes:.0f} MB: cat {took['cat']:.3f} s, "
-          f"tcpdump {took['tcpdump']:.3f} s, program {took['program']:.3f} s in {memory:.0f} MB, "
-          f"ratio to cat {took['program'] / took['cat']:.1f}, to tcpdump {took['program'] / took['tcpdump']:.1f}")
+    print(f"{what}: {count} frames of {size} bytes, {megabytes:.0f} MB: cat {took['cat']}, "
+          f"tcpdump {took['tcpdump']}, program {took['program']} in {memory:.0f} MB, "
+          f"ratio to cat {took['program'].to(took['cat'])}, to tcpdump {took['program'].to(took['tcpdump'])}", flush=True)
 
 
 def make_network(room, count):
@@ -90,9 +116,9 @@ def compare_run(room, runs, count):
     }, table, f"{room}/target", runs)
     came, went = (sum(map(os.path.getsize, glob.glob(f"{room}/{side}/*"))) / 1e6 for side in ("in", "out"))
     print(f"run: {count} frames on 24 ports, {came:.0f} MB in, {went:.0f} MB out: "
-          f"cat {took['cat']:.3f} s, mergecap {took['mergecap']:.3f} s, program {took['program']:.3f} s "
-          f"in {memory:.0f} MB, ratio to cat {took['program'] / took['cat']:.1f}, "
-          f"to mergecap {took['program'] / took['mergecap']:.1f}")
+          f"cat {took['cat']}, mergecap {took['mergecap']}, program {took['program']} "
+          f"in {memory:.0f} MB, ratio to cat {took['program'].to(took['cat'])}, "
+          f"to mergecap {took['program'].to(took['mergecap'])}", flush=True)
 
 
 def compare_check(room, runs):
@@ -104,9 +130,9 @@ def compare_check(room, runs):
         "reading": ([AFDX, "run", table, nowhere, nowhere, "--unchecked"], 5),
         "check": ([AFDX, "check", table], 0),
     }, table, f"{room}/target", runs)
-    print(f"check: a table of 24 ports and 4096 links, {os.path.getsize(table)} bytes: cat {took['cat']:.4f} s, "
-          f"reading alone {took['reading']:.4f} s, check {took['check']:.4f} s in {memory:.0f} MB, "
-          f"ratio to reading {took['check'] / took['reading']:.2f}")
+    print(f"check: a table of 24 ports and 4096 links, {os.path.getsize(table)} bytes: cat {took['cat']}, "
+          f"reading alone {took['reading']}, check {took['check']} in {memory:.0f} MB, "
+          f"ratio to reading {took['check'].to(took['reading'])}", flush=True)
 
 
 def main():
