@@ -1,0 +1,51 @@
+#!/usr/bin/env python3
+"""Says where the time of a crate's proof goes: for each function, and for each file of lemmas, the seconds that its modules took,
+the dearest first, by the times at which the prover wrote them.
+
+usage: bench/proofs.py CRATE|FOLDER [COUNT]        the 25 dearest where no count is said
+
+CRATE is a crate that was checked from nothing by one job, which writes one module after the other: `rm -r out` and
+`rt check --jobs 1` in its folder. FOLDER is any other folder of modules, as `rt ci` keeps while it tries a crate's wrong bodies
+(/tmp/rt-edits-*, until the second is tried).
+"""
+import collections
+import os
+import re
+import sys
+
+TOP = os.path.dirname(os.path.dirname(os.path.abspath(__file__)))
+# What the prover makes of one function: its code, its types and lifetimes, and its proof.
+PARTS = "Answers|Code|Contract|Given|Goals|Invariants|Key|Kinds|Layout|Lts|Met|Named|Proof|Reads|Statement|Symbol|TheImpl|TheLink|Tie"
+
+
+def written(folder):
+    """The modules of a folder with the times at which they were written, the first one first."""
+    modules = []
+    for place, _, names in os.walk(folder):
+        modules += [(os.stat(f"{place}/{name}").st_mtime, name) for name in names if name.endswith(".oantt")]
+    return sorted(modules)
+
+
+def subject(module):
+    """The function, or the file of definitions or lemmas, that a module is of."""
+    name = re.sub(r"^Rattle-\w+[-.]((proofs|specs)\.)?(contracts\.)?|(\.decls)?\.oantt$", "", module)
+    return re.sub(rf"\.({PARTS})(\..*)?$", "", name)
+
+
+def main():
+    if len(sys.argv) < 2:
+        sys.exit(__doc__)
+    folder = sys.argv[1] if os.path.isdir(sys.argv[1]) else f"{TOP}/crates/{sys.argv[1]}/out/incremental"
+    modules = written(folder)
+    if not modules:
+        sys.exit(f"no modules below {folder}")
+    seconds = collections.Counter()
+    for (before, _), (after, module) in zip(modules, modules[1:]):
+        seconds[subject(module)] += after - before
+    print(f"{len(modules)} modules, {modules[-1][0] - modules[0][0]:.0f} s")
+    for name, took in seconds.most_common(int(sys.argv[2]) if len(sys.argv) > 2 else 25):
+        print(f"{took:7.1f} {name}")
+
+
+if __name__ == "__main__":
+    main()
