@@ -44,15 +44,13 @@ fn plan(table: Table, unchecked: bool) -> Result<Plan, Failure>
 
 /// The plan of a run over the table of a text, which is accepted unless the run is unchecked.
 ///
-/// The tree of the text is leaked: to give back its small pieces takes longer than a run takes to touch as much fresh memory.
-///
 /// # Errors
 ///
 /// `Table`, `Load`; `Memory` where memory ran out. O(text).
 pub(crate) fn read_plan(alloc: Global, text: &[u8], unchecked: bool) -> Result<Plan, Failure>
     ensures { MatchResult result (λ plan. IsPlanOf text.now unchecked plan) (λ f. FailsToReadPlan f text.now unchecked) }
 {
-    let table = afdx_table::read_leaking(alloc, text)?;
+    let table = afdx_table::read(alloc, text)?;
     plan(table, unchecked)
 }
 

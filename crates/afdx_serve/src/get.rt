@@ -47,7 +47,7 @@ pub(crate) fn get_text<F: Folder>(
     Ok(text.leak())
 }
 
-/// The table of a file. The tree of its text is leaked too.
+/// The table of a file.
 pub(crate) fn get_table<F: Folder>(
     alloc: Global,
     folder: &mut F,
@@ -59,7 +59,7 @@ pub(crate) fn get_table<F: Folder>(
     ensures same { KeepsFiles (F.files folder.old) (F.files folder.new) }
 {
     let text = get_text(alloc, folder, path)?;
-    Ok(afdx_table::read_leaking(alloc, text)?)
+    Ok(afdx_table::read(alloc, text)?)
 }
 
 /// The captures of the table's ports in a folder, by rising number.

@@ -13,13 +13,13 @@ use Rattle.afdx_table.specs.declared.fault.Key.TheVariants as key
 use Rattle.afdx_table.specs.declared.rows.PortRow.{PortRow}
 use Rattle.afdx_table.specs.Link.{Link}
 use Rattle.afdx_table.specs.Content.{Content}
-use Rattle.afdx_table.specs.Fields.{known_at, tables_at, optional_number_at, optional_text_at}
-use Rattle.afdx_table.specs.Top.{Top, all_keys, top_keys, version_from, group_address, constant_from, latency_from, at_most, top_at}
+use Rattle.afdx_table.specs.Top.{Top, group_address, constant_from, latency_from, at_most, top_at}
 use Rattle.afdx_table.specs.Ports.{ports_from}
 use Rattle.afdx_table.specs.Links.{links_from}
 use Rattle.afdx_table.specs.Text.{content_of, tree_of, table_of}
 use Rattle.afdx_table.specs.WellFormed.{IsWellFormed, TablesAreWellFormed}
 use Rattle.afdx_table.proofs.Steps.{steps, ok_inside}
+use Rattle.afdx_table.proofs.TopSteps.{top_steps}
 use Rattle.afdx_table.proofs.PortsFormed.{bounded-within, ArePorts, ports_from-formed}
 use Rattle.afdx_table.proofs.LinksFormed.{AreLinks, links_from-formed}
 
@@ -71,28 +71,14 @@ pub record IsTop (t : Top) : Type 0 where
   pub few_links : length t.links ≤ 4096
 
 pub top_at-formed : (ms : Members) (t : Top) → top_at ms ≡ Ok t → IsTop t
-unfolding top_at
 top_at-formed ms t h =
-    let s1 = steps (known_at place.Top all_keys ms) _ t h in
-    let s2 = steps (optional_number_at place.Top key.Version ms) _ t s1.rest in
-    let s3 = steps (version_from s2.value) _ t s2.rest in
-    let k = steps (known_at place.Top (top_keys s3.value) ms) _ t s3.rest in
-    let s4 = steps (optional_text_at place.Top key.Constant ms) _ t k.rest in
-    let s5 = steps (constant_from s4.value) _ t s4.rest in
-    let l1 = steps (optional_number_at place.Top key.Latency ms) _ t s5.rest in
-    let l2 = steps (latency_from l1.value) _ t l1.rest in
-    let s6 = steps (tables_at place.Top key.Port ms) _ t l2.rest in
-    let s7 = steps (tables_at place.Top key.Link ms) _ t s6.rest in
-    let s8 = steps (at_most 24 key.Port s6.value) _ t s7.rest in
-    let s9 = steps (at_most 4096 key.Link s7.value) _ t s8.rest in
-    let new : Top = record { version = s3.value; constant = s5.value; latency = l2.value * 1000; ports = s6.value; links = s7.value } in
-    let good : IsTop new = record {
-      constant = constant_from-formed s4.value s5.value s5.first;
-      latency_most = let most = latency_from-formed l1.value l2.value l2.first in omega (arith, most);
-      few_ports = at_most-formed 24 key.Port s6.value s8.value s8.first;
-      few_links = at_most-formed 4096 key.Link s7.value s9.value s9.first;
-    } in
-    subst IsTop {x = new} (ok_inside new t s9.rest) good
+    let s = top_steps ms t h in
+    subst IsTop s.is_top (record {
+      constant = constant_from-formed s.stated_constant s.constant s.gives_constant;
+      latency_most = let most = latency_from-formed s.stated_latency s.microseconds s.gives_latency in omega (arith, most);
+      few_ports = at_most-formed 24 key.Port s.ports tt s.few_ports;
+      few_links = at_most-formed 4096 key.Link s.links tt s.few_links;
+    })
 
 -- ---- the whole
 

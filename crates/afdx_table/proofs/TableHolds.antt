@@ -19,13 +19,14 @@ use Rattle.afdx_table.specs.Refusal.{or_refuse}
 use Rattle.afdx_table.specs.Link.{Link}
 use Rattle.afdx_table.specs.Content.{Content}
 use Rattle.afdx_table.specs.Names.{speed_of, bag_of, priority_of}
-use Rattle.afdx_table.specs.Fields.{are_known, known_at, number_at, numbers_at, text_at, bounded, bounded_at, optional_number_at, optional_text_at, tables_at}
-use Rattle.afdx_table.specs.Top.{Top, all_keys, top_keys, version_from, group_address, constant_from, latency_from, at_most, top_at}
+use Rattle.afdx_table.specs.Fields.{are_known, known_at, number_at, numbers_at, text_at, bounded, bounded_at, optional_number_at, optional_text_at}
+use Rattle.afdx_table.specs.Top.{Top, top_keys, version_from, group_address, constant_from, latency_from, top_at}
 use Rattle.afdx_table.specs.Ports.{with_port, port_keys, port_at, ports_from}
 use Rattle.afdx_table.specs.Links.{link_keys, police_from, row_at, fitting, link_at, links_from}
 use Rattle.afdx_table.specs.Text.{content_of, tree_of, table_of}
 use Rattle.afdx_table.specs.Inner.Holds.{IsPortOf, IsLinkOf, HasNumber, HasVersion, HasConstant, HasLatency, HasTables, Holds, TablesHoldTheirTexts}
 use Rattle.afdx_table.proofs.Steps.{steps, ok_inside}
+use Rattle.afdx_table.proofs.TopSteps.{top_steps}
 use Rattle.afdx_table.proofs.Says.{there, known_at-says, number_at-says, bounded_at-says, text_at-says, optional_number_at-says, no_number, optional_text_at-says, no_text, tables_at-says}
 use Rattle.afdx_table.proofs.Says.{numbers_at-says, speed-says, bag-says, priority-says, police-says}
 use Rattle.afdx_table.proofs.PortsFormed.{fresh_port}
@@ -187,30 +188,16 @@ record Tops (ms : Members) (top : Top) : Type 0 where
   no_other : are_known (top_keys top.version) ms ≡ true
 
 top_at-says : (ms : Members) (top : Top) → top_at ms ≡ Ok top → Tops ms top
-unfolding top_at
 top_at-says ms top h =
-    let s1 = steps (known_at place.Top all_keys ms) _ top h in
-    let s2 = steps (optional_number_at place.Top key.Version ms) _ top s1.rest in
-    let s3 = steps (version_from s2.value) _ top s2.rest in
-    let k = steps (known_at place.Top (top_keys s3.value) ms) _ top s3.rest in
-    let s4 = steps (optional_text_at place.Top key.Constant ms) _ top k.rest in
-    let s5 = steps (constant_from s4.value) _ top s4.rest in
-    let l1 = steps (optional_number_at place.Top key.Latency ms) _ top s5.rest in
-    let l2 = steps (latency_from l1.value) _ top l1.rest in
-    let s6 = steps (tables_at place.Top key.Port ms) _ top l2.rest in
-    let s7 = steps (tables_at place.Top key.Link ms) _ top s6.rest in
-    let s8 = steps (at_most 24 key.Port s6.value) _ top s7.rest in
-    let s9 = steps (at_most 4096 key.Link s7.value) _ top s8.rest in
-    let new : Top = record { version = s3.value; constant = s5.value; latency = l2.value * 1000; ports = s6.value; links = s7.value } in
-    let says : Tops ms new = record {
-      version = version-says ms s2.value s3.value s2.first s3.first;
-      constant = constant-says ms s4.value s5.value s4.first s5.first;
-      ports = tables_at-says place.Top key.Port ms s6.value s6.first;
-      links = tables_at-says place.Top key.Link ms s7.value s7.first;
-      latency = latency-says ms l1.value l2.value l1.first l2.first;
-      no_other = known_at-says place.Top (top_keys s3.value) ms k.value k.first;
-    } in
-    subst (Tops ms) {x = new} (ok_inside new top s9.rest) says
+    let s = top_steps ms top h in
+    subst (Tops ms) s.is_top (record {
+      version = version-says ms s.stated_version s.version s.reads_version s.gives_version;
+      constant = constant-says ms s.stated_constant s.constant s.reads_constant s.gives_constant;
+      ports = tables_at-says place.Top key.Port ms s.ports s.reads_ports;
+      links = tables_at-says place.Top key.Link ms s.links s.reads_links;
+      latency = latency-says ms s.stated_latency s.microseconds s.reads_latency s.gives_latency;
+      no_other = known_at-says place.Top (top_keys s.version) ms tt s.known_there;
+    })
 
 -- ---- the whole
 

@@ -1,3 +1,4 @@
+pub mod Apart
 pub mod Distinct
 pub mod Found
 pub mod Holds

@@ -4,6 +4,7 @@
 //! its ports to others of them. [`read`] is the one way to make a table.
 #![tactic(auto)]
 
+mod apart;
 mod arrays;
 mod fault;
 mod fields;
@@ -19,4 +20,4 @@ mod values;
 
 pub use fault::{At, Key, TableFault};
 pub use rows::{LinkRow, PortRow};
-pub use table::{Table, read, read_leaking};
+pub use table::{Table, read};

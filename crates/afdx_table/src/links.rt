@@ -156,7 +156,7 @@ fn fit(
 
 /// A link, after the ports and the links before it.
 #[tactic(auto, unfolding(crate::specs::Links::link_at))]
-fn read_link(
+pub(crate) fn read_link(
     alloc: Global,
     version: u64,
     at: At,

@@ -1,6 +1,6 @@
 //! The table, and how it is read.
 
-ghost use Rattle.std.specs.Prelude.{◌≡◌, ◌<◌, ◌≤◌, length, slice_get, option_copied, Err, IfOk, IfSome};
+ghost use Rattle.std.specs.Prelude.{◌≡◌, ◌<◌, ◌≤◌, length, slice_get, option_copied, Err, Ok, IfOk, IfSome};
 ghost use Rattle.toml.specs.View.{table_view};
 ghost use Rattle.afdx_table.specs.Refusal.{Gives};
 ghost use Rattle.afdx_table.specs.Link.{with_jitter};
@@ -11,15 +11,16 @@ ghost use Rattle.afdx_table.specs.Inner.Room.{WantsRoom};
 ghost use Rattle.afdx_table.specs.WellFormed.{IsPort, IsLink, IsWellFormed};
 ghost use Rattle.afdx_table.specs.declared.fault.TableFault.TheVariants.{Memory};
 
+use crate::apart::{cut, read_apart};
 use crate::fault::TableFault;
 use crate::link_map::LinkMap;
 use crate::links::read_links;
 use crate::ports::{port_of, read_ports};
 use crate::rows::{LinkRow, PortRow};
 use crate::top::read_top;
+use afdx_link_texts::laws::links_are_read_apart;
 use std::alloc::{AllocError, Global};
 use std::marker::Model;
-use std::mem;
 use toml::Table as Tree;
 
 /// A configuration table that was read: it is well formed.
@@ -176,6 +177,40 @@ fn read_text(alloc: Global, bytes: &[u8]) -> Result<Tree, TableFault>
     }
 }
 
+/// The table of a text whose links are read one by one; none where the text is refused, or its links are not written so that each
+/// can be read by itself.
+fn read_by_links(alloc: Global, bytes: &[u8]) -> Option<Table>
+    ensures { IfSome result (λ t. table_of bytes.now ≡ Ok t) }
+{
+    links_are_read_apart();
+    let Ok(text) = std::str::from_utf8(bytes) else {
+        return None;
+    };
+    let (head, behind) = cut(text);
+    let Some(texts) = behind else {
+        return None;
+    };
+    let Ok(tree) = toml::table_from_str(alloc, head) else {
+        return None;
+    };
+    if tree.contains_key("link") {
+        return None;
+    }
+    let Ok(top) = read_top(alloc, &tree) else {
+        return None;
+    };
+    let Ok(ports) = read_ports(alloc, top.version, &top.ports) else {
+        return None;
+    };
+    let links = read_apart(alloc, top.version, &ports, texts)?;
+    Some(Table {
+        constant: top.constant,
+        latency: top.latency,
+        ports,
+        links,
+    })
+}
+
 /// Reads a configuration table, a text of TOML 1.1.
 ///
 /// The first refusal in this order is given, and `Memory` where memory ran out, before every test that comes
@@ -192,6 +227,10 @@ fn read_text(alloc: Global, bytes: &[u8]) -> Result<Tree, TableFault>
 ///    `TwiceLink`; `NoSuchPort` of `from`; `ToEmpty`; then, of
 ///    each member of `to` from the left, `NoSuchPort`, `ToOwnPort`, `ToTwice`.
 ///
+/// Links at the end of a text, each behind a line `[[link]]`, are read one by one, so that no tree of the whole text is made, which
+/// takes some 14 times its memory. All else is read whole: links that are written otherwise, lines that end in a carriage return,
+/// and a text that is refused, for its first refusal.
+///
 /// O(n) time and memory in the length of the text; only where a text has many keys at one place does their sorting add a
 /// factor of O(log n).
 #[tactic(auto, unfolding(crate::specs::Text::table_of))]
@@ -200,23 +239,9 @@ pub fn read(alloc: Global, bytes: &[u8]) -> Result<Table, TableFault>
     ensures memory { result ≡ Err Memory → SaysSomething bytes.now }
     ensures well_formed { IfOk result (λ t. IsWellFormed t) }
 {
+    if let Some(table) = read_by_links(alloc, bytes) {
+        return Ok(table);
+    }
     let tree = read_text(alloc, bytes)?;
     read_tree(alloc, &tree)
-}
-
-/// [`read`], of which the tree of the text is leaked: for a program that reads a table or two and ends. To give back its many
-/// small pieces, one by one, takes a tenth of the time of reading.
-///
-/// What it answers and what it costs are those of [`read`], but for some 25 bytes of memory that stay taken for each byte of
-/// the text.
-#[tactic(auto, unfolding(crate::specs::Text::table_of))]
-pub fn read_leaking(alloc: Global, bytes: &[u8]) -> Result<Table, TableFault>
-    ensures table { Gives (λ t. t) result (table_of bytes.now) }
-    ensures memory { result ≡ Err Memory → SaysSomething bytes.now }
-    ensures well_formed { IfOk result (λ t. IsWellFormed t) }
-{
-    let tree = read_text(alloc, bytes)?;
-    let table = read_tree(alloc, &tree);
-    mem::forget(tree);
-    table
 }
