@@ -1,5 +1,5 @@
 -- A text, and what follows it on a new line; and what an option holds that a step made.
-use Rattle.std.proofs.Common.{◌≡◌, ℕ, List, ◌∷◌, ◌++◌, Option, Some, None, option_map, refl}
+use Rattle.std.proofs.Common.{◌≡◌, ℕ, List, ◌∷◌, ◌++◌, Option, Some, None, option_map, refl, ap}
 use Rattle.std.proofs.lemmas.Option.{none-some, same_Some}
 
 -- the text, a line feed and more
@@ -10,3 +10,7 @@ followed text more = text ++ 10 ∷ more
 pub option_map_some : {A B P : Type 0} (f : A → B) (o : Option A) (y : B) → option_map f o ≡ Some y → ((x : A) → o ≡ Some x → f x ≡ y → P) → P
 option_map_some f None y e go = absurd (none-some y e)
 option_map_some f (Some x) y e go = go x refl (same_Some (f x) y e)
+
+-- the same thing was read, and more stands behind the rest
+pub carried : {A : Type 0} (more : List ℕ) {p q : A × List ℕ} → p ≡ q → ◌≡◌ {A = Option (A × List ℕ)} (Some (p.0, followed p.1 more)) (Some (q.0, followed q.1 more))
+carried {A} more same = ap (λ (p : A × List ℕ). Some (p.0, followed p.1 more)) same

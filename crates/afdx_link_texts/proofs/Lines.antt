@@ -1,5 +1,5 @@
 -- Lines of a text that is followed by a new line.
-use Rattle.std.proofs.Common.{◌≡◌, ℕ, zero, suc, ◌+◌, ◌≤◌, true, false, ◌==◌, List, [], ◌∷◌, length, Option, Some, option_and_then, option_map, length-append, refl, sym, ap, inl, inr, arith}
+use Rattle.std.proofs.Common.{◌≡◌, ℕ, zero, suc, ◌+◌, ◌≤◌, true, false, ◌==◌, List, [], ◌∷◌, length, Option, Some, option_and_then, option_map, length-append, refl, sym, inl, inr, arith}
 use Rattle.std.proofs.lemmas.Bool.{cases_Bool, eqb-true}
 use Rattle.std.proofs.lemmas.Bool.Decides.{nat_tests}
 use Rattle.std.proofs.lemmas.Option.{none-some, same_Some, cond_some, option_and_then_some}
@@ -7,7 +7,7 @@ use Rattle.toml_parser.specs.Lexical.{first, skip_blank, skip_ws}
 use Rattle.toml_parser.specs.Strings.{Key, key}
 use Rattle.toml.specs.Tables.{Document, Expression, array_table, std_table, key_value, define}
 use Rattle.toml.specs.Parse.{after_byte, read_map, keyval, val, header_key, expression, ends_line, line, lines}
-use Rattle.afdx_link_texts.proofs.Followed.{followed, option_map_some}
+use Rattle.afdx_link_texts.proofs.Followed.{followed, carried, option_map_some}
 use Rattle.afdx_link_texts.proofs.Runs.{skip_ws-followed, skip_from-followed, skip_from-through}
 use Rattle.afdx_link_texts.proofs.Keys.{key_after-followed, key_equals-start}
 use Rattle.afdx_link_texts.proofs.Values.{keyval-followed}
@@ -24,7 +24,7 @@ header_key-followed text more k rest read =
     option_and_then_some _ (key (skip_ws text)) (k, rest) read (λ x found closed.
     option_map_some _ (after_byte 93 x.1) (k, rest) closed (λ after bracket same.
     rw (skip_ws-followed text more, key_after-followed 80 [] (skip_ws text) more x.0 x.1 found, bracket-followed x.1 more after bracket)
-    (ap (λ (p : Key × List ℕ). Some (p.0, followed p.1 more)) same)))
+    (carried more same)))
 
 -- the three kinds of expressions
 abbrev array_header : List ℕ → Option (Expression × List ℕ)
@@ -40,17 +40,17 @@ array_header-followed : (text more : List ℕ) (e : Expression) (rest : List ℕ
 array_header-followed text more e rest read =
     option_and_then_some _ (header_key text) (e, rest) read (λ x found closed.
     option_map_some _ (after_byte 93 x.1) (e, rest) closed (λ after bracket same.
-    rw (header_key-followed text more x.0 x.1 found, bracket-followed x.1 more after bracket) (ap (λ (p : Expression × List ℕ). Some (p.0, followed p.1 more)) same)))
+    rw (header_key-followed text more x.0 x.1 found, bracket-followed x.1 more after bracket) (carried more same)))
 
 table_header-followed : (text more : List ℕ) (e : Expression) (rest : List ℕ) → table_header text ≡ Some (e, rest) → table_header (followed text more) ≡ Some (e, followed rest more)
 table_header-followed text more e rest read =
     option_map_some _ (header_key text) (e, rest) read (λ x found same.
-    rw (header_key-followed text more x.0 x.1 found) (ap (λ (p : Expression × List ℕ). Some (p.0, followed p.1 more)) same))
+    rw (header_key-followed text more x.0 x.1 found) (carried more same))
 
 pair-followed : (text more : List ℕ) (e : Expression) (rest : List ℕ) → pair text ≡ Some (e, rest) → pair (followed text more) ≡ Some (e, followed rest more)
 pair-followed text more e rest read =
     option_map_some _ (keyval (val 80) text) (e, rest) read (λ x found same.
-    rw (keyval-followed 80 text more x.0 x.1 found) (ap (λ (p : Expression × List ℕ). Some (p.0, followed p.1 more)) same))
+    rw (keyval-followed 80 text more x.0 x.1 found) (carried more same))
 
 expression-followed : (text more : List ℕ) (e : Expression) (rest : List ℕ) → expression text ≡ Some (e, rest) → expression (followed text more) ≡ Some (e, followed rest more)
 unfolding expression
@@ -79,7 +79,7 @@ line-followed text more e rest read =
     option_and_then_some _ (expression text) (e, rest) read (λ x found ended.
     let (ends, same) = cond_some (ends_line (skip_ws x.1)) x (e, rest) ended in
     rw (expression-followed text more x.0 x.1 found, skip_ws-followed x.1 more, ends_line-followed (skip_ws x.1) more ends)
-    (ap (λ (p : Expression × List ℕ). Some (p.0, followed p.1 more)) same))
+    (carried more same))
 
 -- a line does not begin with half a line end
 pair-start : (text : List ℕ) (e : Expression × List ℕ) → pair text ≡ Some e → (first text == 13) ≡ false

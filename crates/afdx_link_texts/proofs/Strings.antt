@@ -13,7 +13,7 @@ use Rattle.afdx_link_texts.proofs.Followed.{followed}
 use Rattle.afdx_link_texts.proofs.Runs.{prefix_len-followed, skip_ws-followed, skip_from-followed}
 
 -- what was read, and more behind the rest
-abbrev carry : {A : Type 0} → List ℕ → Read A → Read A
+abbrev pub carry : {A : Type 0} → List ℕ → Read A → Read A
 carry more r = option_map (λ p. (p.0, followed p.1 more)) r
 
 parts : {A : Type 0} (p q : A × List ℕ) → Some p ≡ Some q → (p.0 ≡ q.0) × (p.1 ≡ q.1)

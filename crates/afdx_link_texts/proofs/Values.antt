@@ -12,7 +12,7 @@ use Rattle.toml.specs.Parse.{read_map, scalar_data, atom, after_element, key_equ
 use Rattle.toml.proofs.Turns.{items_end, items_more, val_atom, keyval_ok, members_end, members_more}
 use Rattle.afdx_link_texts.proofs.Followed.{followed}
 use Rattle.afdx_link_texts.proofs.Runs.{skip_from-followed}
-use Rattle.afdx_link_texts.proofs.Strings.{quoted-followed}
+use Rattle.afdx_link_texts.proofs.Strings.{carry, quoted-followed}
 use Rattle.afdx_link_texts.proofs.Keys.{key_equals-start, key_equals-followed}
 use Rattle.afdx_link_texts.proofs.Numbers.{unquoted-start, unquoted-followed}
 
@@ -143,7 +143,7 @@ items-followed r starts follows (suc n) m found text more ds rest fuel read =
           let begins : Begins (skip_blank text) = grind (arith, nat_tests) in
           let same_first : (first (skip_blank (followed text more)) == 93) ≡ true = rw (skip_first text more begins) close in
           let same = sym (items_end r (suc n) found text (omega arith) close) ∙ read in
-          items_end r m found (followed text more) (omega arith) same_first ∙ rw (skip_drop text more begins) (ap (option_map (λ p. (p.0, followed p.1 more))) same)
+          items_end r m found (followed text more) (omega arith) same_first ∙ rw (skip_drop text more begins) (ap (carry more) same)
       | inr other ↦
           let (d, after, next, at_d, at_next, tail) = items_turn r n found text ds rest other read in
           let begins = starts (skip_blank text) d after at_d in
@@ -192,7 +192,7 @@ members-followed r follows (suc n) m found text more ms rest fuel read =
           let begins : Begins (skip_blank text) = grind (arith, nat_tests) in
           let same_first : (first (skip_blank (followed text more)) == 125) ≡ true = rw (skip_first text more begins) close in
           let same = sym (members_end r (suc n) found text (omega arith) close) ∙ read in
-          members_end r m found (followed text more) (omega arith) same_first ∙ rw (skip_drop text more begins) (ap (option_map (λ p. (p.0, followed p.1 more))) same)
+          members_end r m found (followed text more) (omega arith) same_first ∙ rw (skip_drop text more begins) (ap (carry more) same)
       | inr other ↦
           let (e, after, new, next, at_e, at_new, at_next, tail) = members_turn r n found text ms rest other read in
           let begins = keyval-start r (skip_blank text) e after at_e in
