@@ -9,12 +9,8 @@ use Rattle.toml_parser.specs.Lexical.{Read, first, is_ws, starts_newline, skip_w
 use Rattle.toml_parser.specs.Strings.{is_plain, hex_len, simple_escape, hex_escape, escape_char, escape, at_delims, special, prepend, after_piece, body, trim_newline, one_line, quoted, starts_string}
 use Rattle.toml_parser.proofs.LexicalLemmas.{skip_ws_none}
 use Rattle.toml_parser.proofs.StringsLemmas.{after_special, body_plain, body_special}
-use Rattle.afdx_link_texts.proofs.Followed.{followed}
+use Rattle.afdx_link_texts.proofs.Followed.{followed, carry}
 use Rattle.afdx_link_texts.proofs.Runs.{prefix_len-followed, skip_ws-followed, skip_from-followed}
-
--- what was read, and more behind the rest
-abbrev pub carry : {A : Type 0} → List ℕ → Read A → Read A
-carry more r = option_map (λ p. (p.0, followed p.1 more)) r
 
 parts : {A : Type 0} (p q : A × List ℕ) → Some p ≡ Some q → (p.0 ≡ q.0) × (p.1 ≡ q.1)
 parts p q read =

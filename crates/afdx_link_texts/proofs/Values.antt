@@ -10,9 +10,9 @@ use Rattle.toml.specs.Data.{Data, string, array, table, Items, no_items, push_it
 use Rattle.toml.specs.Tables.{Nodes, no_nodes, put}
 use Rattle.toml.specs.Parse.{read_map, scalar_data, atom, after_element, key_equals, items, members, keyval, val}
 use Rattle.toml.proofs.Turns.{items_end, items_more, val_atom, keyval_ok, members_end, members_more}
-use Rattle.afdx_link_texts.proofs.Followed.{followed}
+use Rattle.afdx_link_texts.proofs.Followed.{followed, carry}
 use Rattle.afdx_link_texts.proofs.Runs.{skip_from-followed}
-use Rattle.afdx_link_texts.proofs.Strings.{carry, quoted-followed}
+use Rattle.afdx_link_texts.proofs.Strings.{quoted-followed}
 use Rattle.afdx_link_texts.proofs.Keys.{key_equals-start, key_equals-followed}
 use Rattle.afdx_link_texts.proofs.Numbers.{unquoted-start, unquoted-followed}
 
