@@ -36,16 +36,16 @@ pub struct LinkRow {
     pub from: u8,
     /// The ports at which they leave, in the order of the table.
     pub to: ArrayVec<u8, 24>,
-    /// The gap that its policing counts on.
-    pub bag: Bag,
-    /// Nanoseconds by which its frames may come early, at most 10,000,000.
-    pub jitter: u64,
     /// The greatest size of its frames in bytes, from 64 to 1518.
     pub max_size: u32,
     /// The queue that its frames wait in.
     pub priority: Priority,
     /// How it is policed.
     pub police: Police,
+    /// The gap that its policing counts on.
+    pub bag: Bag,
+    /// Nanoseconds by which its frames may come early, at most 10,000,000.
+    pub jitter: u64,
 }
 
 impl Model for LinkRow {
