@@ -15,6 +15,7 @@ ghost use Rattle.afdx_store.specs.Seen.{copies_of};
 ghost use Rattle.afdx_core.specs.Inner.Dues.{IsFirstBefore};
 ghost use Rattle.afdx_core.specs.Inner.OutputPorts.{seen, PlacesAre, dues_of, IsCounted, queued_by, counted};
 ghost use Rattle.afdx_core.specs.Inner.OutputPorts.{offered_to, offered_at, BecameAt, touched, carried, carried_due, ended_out, CanTake, CanCarry, Became, answer_at};
+ghost use Rattle.afdx_core.specs.Inner.Engine.{HaveRoom};
 ghost use Rattle.afdx_core.specs.Inner.Copies.{copies_at, newly_aged, Discards, HoldsCopies, Thinned, Enough, AddsCopies};
 ghost use Rattle.afdx_core.specs.declared.output_port.OutputPort.{OutputPort as OneOutputPort};
 
@@ -156,37 +157,16 @@ pub(crate) fn place_of(places: &[Option<usize>; 25], port: u8) -> Option<usize>
     }
 }
 
-/// Makes room for one more item at a port, where there is such a port.
-fn make_room_at<A: Allocator + Copy>(
-    output_ports: &mut [OutputPort<A>],
-    places: &[Option<usize>; 25],
-    port: u8,
-) -> Result<(), AllocError>
-    requires places { PlacesAre places.now (map (λ o. o.row) output_ports.old) }
-    requires once { IsDistinct nat_eq (map (λ o. o.row.id) output_ports.old) }
-    ensures room { OnOk result (All (λ o. (o.row.id == port) ≡ true → 0 < o.port.room) output_ports.new) }
-    ensures more { (k : ℕ) → (d : OneOutputPort A) → (slice_index_or output_ports.old k d).port.room ≤ (slice_index_or output_ports.new k d).port.room }
-    ensures seen { Became (λ o. o) output_ports.old output_ports.new }
-{
-    match place_of(places, port) {
-        Some(place) => output_ports[place].port.reserve(1),
-        None => Ok(()),
-    }
-}
-
-/// Makes room for one more item at the ports that it leads to. O(ports that it leads to), and what lists take to move.
+/// Makes room for so many more items at each port. O(ports), and what lists take to move.
 pub(crate) fn make_room<A: Allocator + Copy>(
     output_ports: &mut [OutputPort<A>],
-    places: &[Option<usize>; 25],
-    to: &[u8],
+    items: usize,
 ) -> Result<(), AllocError>
-    requires places { PlacesAre places.now (map (λ o. o.row) output_ports.old) }
-    requires once { IsDistinct nat_eq (map (λ o. o.row.id) output_ports.old) }
-    ensures room { OnOk result (All (λ o. names_port o.row.id to.now ≡ true → 0 < o.port.room) output_ports.new) }
+    ensures room { OnOk result (HaveRoom items output_ports.new) }
     ensures seen { Became (λ o. o) output_ports.old output_ports.new }
 {
-    for port in to {
-        make_room_at(output_ports, places, *port)?;
+    for output_port in output_ports.iter_mut() {
+        output_port.port.reserve(items)?;
     }
     Ok(())
 }
@@ -281,6 +261,7 @@ fn offer_place<A: Allocator + Copy>(
     ensures answer { (d : OneOutputPort A) → result ≡ answer item.now (slice_index_or output_ports.old place d).port.content }
     ensures output_ports { BecameAt (offered_to item.now) place output_ports.old output_ports.new }
     ensures dues { dues.new ≡ dues_of output_ports.new }
+    ensures room { (k : ℕ) → (d : OneOutputPort A) → (slice_index_or output_ports.old k d).port.room ≤ (slice_index_or output_ports.new k d).port.room + 1 }
 {
     let output_port = &mut output_ports[place];
     let answer = output_port.port.offer(*item);
@@ -308,6 +289,7 @@ fn offer_to<A: Allocator + Copy>(
     ensures others { (k : ℕ) → (d : OneOutputPort A) → ((slice_index_or output_ports.old k d).row.id == port) ≡ false → slice_index_or output_ports.new k d ≡ slice_index_or output_ports.old k d }
     ensures copies { AddsCopies item.now.number (queued_by result) output_ports.old output_ports.new }
     ensures dues { dues.new ≡ dues_of output_ports.new }
+    ensures room { (k : ℕ) → (d : OneOutputPort A) → (slice_index_or output_ports.old k d).port.room ≤ (slice_index_or output_ports.new k d).port.room + 1 }
 {
     lagging_ports_follow();
     each_has_one_event();
@@ -351,6 +333,7 @@ pub(crate) fn offer_all<A: Allocator + Copy>(
     ensures answers { answers.new.items ≡ map (λ port. (port, answer_at item.now output_ports.old port)) to.now }
     ensures copies { AddsCopies item.now.number result output_ports.old output_ports.new }
     ensures dues { dues.new ≡ dues_of output_ports.new }
+    ensures room { (k : ℕ) → (d : OneOutputPort A) → (slice_index_or output_ports.old k d).port.room ≤ (slice_index_or output_ports.new k d).port.room + 1 }
 {
     let mut queued = 0;
     for port in to {

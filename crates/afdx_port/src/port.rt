@@ -15,10 +15,6 @@ use afdx_units::{Speed, Stamp};
 use std::alloc::{AllocError, Allocator};
 use std::marker::Model;
 
-/// The fewest offers for which room is made. A switch asks before each offer for room for one, which that offer may use up: to
-/// go through all lists each time would cost more than this room, which is some KB for each port.
-const LEAST_OFFERS: usize = 16;
-
 /// One output port: a line, the items that wait for it, and one buffer for both priorities.
 ///
 /// Contracts see its *content*, which is its settings, all items that it admitted, the horizon (the
@@ -76,7 +72,7 @@ impl<A: Allocator + Copy> Port<A> {
     }
 
     /// Makes room for so many further offers, in the queues and in the lists of what was admitted,
-    /// sent and discarded, so that no other call takes memory. Where there is not enough, it makes room for several at once.
+    /// sent and discarded, so that no other call takes memory.
     ///
     /// An error says that memory ran out; the content is as before then. O(1), and O(items held) where a
     /// list moves.
@@ -88,9 +84,8 @@ impl<A: Allocator + Copy> Port<A> {
         if self.room >= n {
             return Ok(());
         }
-        let offers = n.max(LEAST_OFFERS);
-        self.line.reserve(offers)?;
-        self.room = offers;
+        self.line.reserve(n)?;
+        self.room = n;
         Ok(())
     }
 

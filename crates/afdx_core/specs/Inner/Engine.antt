@@ -3,7 +3,6 @@ use Rattle.std.specs.Prelude.{◌≡◌, ℕ, ◌+◌, ◌<◌, ◌≤◌, Bool,
 use Rattle.std.specs.Vec.{vec_capacity}
 use Rattle.afdx_pcap.specs.Record.{Record}
 use Rattle.afdx_table.specs.declared.rows.PortRow.{PortRow}
-use Rattle.afdx_table.specs.Link.{names_port}
 use Rattle.afdx_table.specs.Content.{Content}
 use Rattle.afdx_units.specs.Time.{last_second}
 use Rattle.afdx_units.specs.Line.{least_size, greatest_size}
@@ -42,6 +41,10 @@ pub record Follows (t : Content) (rows : List Row) (latest : ℕ) (finished : Bo
   pub horizon : o.content.horizon ≤ latest
   pub done_is : done o.content ≡ done (port_after t rows latest finished o.row)
 
+-- each port has room for so many more offers
+abbrev pub HaveRoom : {Z : Type 0} → ℕ → List (OutputPort Z) → Type 0
+HaveRoom n output_ports = All (λ o. n ≤ o.port.room) output_ports
+
 -- how the parts agree with the arrivals
 pub record IsKeptEngine {Z : Type 0} (e : Engine Z) : Type 0 where
   pub accepted : e.accepted ≡ true → IsAccepted e.table
@@ -54,6 +57,7 @@ pub record IsKeptEngine {Z : Type 0} (e : Engine Z) : Type 0 where
   pub counted : All (λ o. IsCounted o) e.output_ports.items
   pub dues : e.finished ≡ false → e.dues ≡ dues_of e.output_ports.items
   pub places : PlacesAre e.places e.table.ports
+  pub room : e.finished ≡ false → HaveRoom e.room e.output_ports.items
 
 -- room for one more arrival
 pub record HasRoom {Z : Type 0} (l : Log Z) : Type 0 where
@@ -62,10 +66,6 @@ pub record HasRoom {Z : Type 0} (l : Log Z) : Type 0 where
 
 abbrev pub fresh_out : ℕ → PortRow → Out
 fresh_out latency p = record { row = p; content = fresh (settings_of latency p); handed = 0 }
-
--- ports that a copy leads to have room for it
-abbrev pub HaveRoom : {Z : Type 0} → List ℕ → List (OutputPort Z) → Type 0
-HaveRoom to output_ports = All (λ o. names_port o.row.id to ≡ true → 0 < o.port.room) output_ports
 
 -- a row may be taken: the switch is not finished, and the row comes no sooner than those before it, nor in the last second
 pub record CanBeTaken {Z : Type 0} (e : Engine Z) (row : Row) : Type 0 where

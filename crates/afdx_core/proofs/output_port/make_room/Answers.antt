@@ -1,35 +1,34 @@
-use Rattle.std.proofs.Common.{ℕ, List, subst, arith}
-use Rattle.std.proofs.lemmas.List.{take_all}
+use Rattle.std.proofs.Common.{◌+◌, ◌<◌, ◌≤◌, length, get_or, set, ap, arith}
+use Rattle.afdx_port.specs.Content.{Content}
+use Rattle.afdx_core.specs.declared.output_port.OutputPort.{OutputPort}
 use Rattle.afdx_core.specs.Inner.OutputPorts.{Out}
-use Rattle.afdx_core.proofs.Outs.{became_then}
-use Rattle.afdx_core.proofs.Keeping.{became_self}
-use Rattle.afdx_core.proofs.Rooms.{HaveRoomFor, room_none, room_next, places_same, once_same}
+use Rattle.afdx_core.proofs.Outs.{became_step, became_stays, all_step}
 use Rattle.afdx_core.proofs.output_port.make_room.Goals as goal
 
-pub loop-port-init : goal.loop-port-init
-loop-port-init g c = record { became = became_self c.args.output_ports.now; room = room_none c.args.output_ports.now }
+pub returns-in_err-reserve-clause-seen : goal.returns-in_err-reserve-clause-seen
+returns-in_err-reserve-clause-seen g c =
+    let os = c.loop-output_port.output_ports in
+    let k = c.loop-output_port.output_port-index in
+    let d = c.output_port-item.result in
+    let o = get_or os k d in
+    let next : OutputPort _ = record { row = o.row; port = c.reserve.new.self; handed = o.handed } in
+    became_stays c.args.output_ports.now (set os k next) (k + 1)
+    (became_step (λ (x : Out). x) c.args.output_ports.now os k next d (omega (arith, c.loop-output_port-test.true)) c.loop-output_port.invariant.became
+    (ap {B = Out} (λ (v : Content). record { row = o.row; content = v; handed = o.handed }) c.reserve.ensures.content))
 
-pub make_room_at-requires-clause-places : goal.make_room_at-requires-clause-places
-make_room_at-requires-clause-places g c = places_same c.args.places.now c.args.output_ports.now c.loop-port.output_ports c.loop-port.invariant.became c.requires.places
-
-pub make_room_at-requires-clause-once : goal.make_room_at-requires-clause-once
-make_room_at-requires-clause-once g c = once_same c.args.output_ports.now c.loop-port.output_ports c.loop-port.invariant.became c.requires.once
-
-pub returns-in_err-make_room_at-clause-seen : goal.returns-in_err-make_room_at-clause-seen
-returns-in_err-make_room_at-clause-seen g c =
-    became_then (λ (o : Out). o) (λ (o : Out). o) c.args.output_ports.now c.loop-port.output_ports c.make_room_at.new.output_ports c.loop-port.invariant.became c.make_room_at.ensures.seen
-
-pub loop-port-preserved : goal.loop-port-preserved
-loop-port-preserved g c = record {
-  became = became_then (λ (o : Out). o) (λ (o : Out). o) c.args.output_ports.now c.loop-port.output_ports c.make_room_at.new.output_ports c.loop-port.invariant.became c.make_room_at.ensures.seen;
-  room = room_next c.args.to.now c.loop-port.port-index c.loop-port.output_ports c.make_room_at.new.output_ports (omega (arith, c.loop-port-test.true)) c.loop-port.invariant.room
-      c.make_room_at.ensures.seen
-      c.make_room_at.ensures.more c.in_ok-make_room_at.ensures.room;
-}
+pub loop-output_port-preserved : goal.loop-output_port-preserved
+loop-output_port-preserved g c =
+    let os = c.loop-output_port.output_ports in
+    let k = c.loop-output_port.output_port-index in
+    let d = c.output_port-item.result in
+    let o = get_or os k d in
+    let next : OutputPort _ = record { row = o.row; port = c.reserve.new.self; handed = o.handed } in
+    let lt : k < length os = omega (arith, c.loop-output_port-test.true) in
+    record {
+      became = became_step (λ (x : Out). x) c.args.output_ports.now os k next d lt c.loop-output_port.invariant.became
+          (ap {B = Out} (λ (v : Content). record { row = o.row; content = v; handed = o.handed }) c.reserve.ensures.content);
+      room = all_step (λ (x : OutputPort _). c.args.items ≤ x.port.room) os k next lt c.loop-output_port.invariant.room c.in_ok-reserve.ensures.ok;
+    }
 
 pub returns-clause-room : goal.returns-clause-room
-returns-clause-room g c =
-    subst (λ (ports : List ℕ). HaveRoomFor ports c.loop-port.output_ports) (take_all c.loop-port.port-index c.args.to.now (omega (arith, c.loop-port-test.false))) c.loop-port.invariant.room
-
-pub returns-clause-seen : goal.returns-clause-seen
-returns-clause-seen g c = c.loop-port.invariant.became
+returns-clause-room g c k d lt = c.loop-output_port.invariant.room k d (omega (arith, lt, c.loop-output_port-test.false))

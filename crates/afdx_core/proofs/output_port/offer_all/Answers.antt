@@ -4,7 +4,7 @@ use Rattle.afdx_port.specs.declared.Offer.{Offer}
 use Rattle.afdx_port.specs.declared.Offer.TheVariants.{Full, Queued}
 use Rattle.afdx_core.specs.Inner.OutputPorts.{answer_at, queued_by}
 use Rattle.afdx_core.specs.Inner.Copies.{AddsCopies}
-use Rattle.afdx_core.proofs.Offers.{touched_none, adds_none, can_next, once_still, became_next, later_next, answer_same, adds_next, not_before, places_touched}
+use Rattle.afdx_core.proofs.Offers.{touched_none, adds_none, can_next, once_still, became_next, later_next, answer_same, adds_next, not_before, places_touched, less_next}
 use Rattle.afdx_core.proofs.output_port.offer_all.Goals as goal
 
 pub loop-port-init : goal.loop-port-init
@@ -15,6 +15,7 @@ loop-port-init g c = record {
   copies = adds_none c.args.item.now.number c.args.output_ports.now;
   few = omega arith;
   dues = c.requires.dues;
+  room = λ k d. omega arith;
 }
 
 pub offer_to-answer-requires-clause-can : goal.offer_to-answer-requires-clause-can
@@ -33,6 +34,9 @@ offer_to-answer-requires-clause-dues g c = c.loop-port.invariant.dues
 pub offer_to-answer-requires-clause-places : goal.offer_to-answer-requires-clause-places
 offer_to-answer-requires-clause-places g c = places_touched c.args.item.now (take c.loop-port.port-index c.args.to.now) c.args.places.now c.args.output_ports.now c.loop-port.output_ports
     c.loop-port.invariant.became c.requires.places
+
+pub returns-clause-room : goal.returns-clause-room
+returns-clause-room g c = c.loop-port.invariant.room
 
 pub returns-clause-dues : goal.returns-clause-dues
 returns-clause-dues g c = c.loop-port.invariant.dues
@@ -74,6 +78,8 @@ loop-port-preserved g c =
           (adds_next item.number c.loop-port.queued c.offer_to-answer.result old mid new c.loop-port.invariant.copies c.offer_to-answer.ensures.copies);
       few = omega (arith, c.loop-port.invariant.few, one, c.copies_by-queued.ensures);
       dues = c.offer_to-answer.ensures.dues;
+      room = less_next item to k old mid new lt c.requires.distinct c.loop-port.invariant.became c.loop-port.invariant.later c.offer_to-answer.ensures.others c.offer_to-answer.ensures.room
+          c.loop-port.invariant.room;
     }
 
 pub overflow_add-queued : goal.overflow_add-queued

@@ -1,4 +1,5 @@
-use Rattle.std.proofs.Common.{◌≡◌, ℕ, ◌≤◌, map, take}
+use Rattle.std.proofs.Common.{◌≡◌, ℕ, ◌+◌, ◌≤◌, get_or, map, take}
+use Rattle.afdx_core.specs.declared.output_port.OutputPort.{OutputPort}
 use Rattle.afdx_core.specs.Inner.OutputPorts.{dues_of, Became, touched, answer_at}
 use Rattle.afdx_core.specs.Inner.Copies.{AddsCopies}
 use Rattle.afdx_core.proofs.Offers.{Later}
@@ -12,4 +13,5 @@ invariant-loop-port g l = record {
   copies : AddsCopies l.item.number l.queued l.initial.output_ports l.output_ports;
   few : l.queued ≤ l.port-index;
   dues : l.dues ≡ dues_of l.output_ports;
+  room : (k : ℕ) (d : OutputPort _) → (get_or l.initial.output_ports k d).port.room ≤ (get_or l.output_ports k d).port.room + 1;
 }

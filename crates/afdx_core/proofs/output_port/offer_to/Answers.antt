@@ -1,4 +1,4 @@
-use Rattle.std.proofs.Common.{◌≡◌, position, Some, None, refl, sym, ◌∙◌}
+use Rattle.std.proofs.Common.{◌≡◌, position, Some, None, refl, sym, ◌∙◌, arith}
 use Rattle.std.proofs.lemmas.List.Quantifiers.{position-Some}
 use Rattle.afdx_core.proofs.Offers.{is_port, place_at, became_one, became_none, answer_some, answer_none, adds_none, adds_one, stays_at}
 use Rattle.afdx_core.proofs.Calls.{position_within}
@@ -26,6 +26,7 @@ returns-in-Some g c =
       copies = adds_one c.events_follow_the_line.ensures.parts c.each_has_one_event.ensures c.lagging_ports_follow.ensures.stays c.lagging_ports_follow.ensures.offer item place d
           c.offer_place.result os c.offer_place.new.output_ports found.0 (c.requires.can place d found.0 found.1) (c.offer_place.ensures.answer d) c.offer_place.ensures.output_ports;
       dues = c.offer_place.ensures.dues;
+      room = c.offer_place.ensures.room;
     }
 
 pub returns-in-None : goal.returns-in-None
@@ -37,6 +38,7 @@ returns-in-None g c =
       others = λ k d off. refl;
       copies = adds_none c.args.item.now.number c.args.output_ports.now;
       dues = c.requires.dues;
+      room = λ k d. omega arith;
     }
 
 pub offer_place-requires-clause-place : goal.offer_place-requires-clause-place

@@ -1,6 +1,6 @@
 use Rattle.std.proofs.Common.{refl, arith, ◌∙◌}
 use Rattle.std.proofs.lemmas.List.{length-set}
-use Rattle.afdx_core.proofs.Rooms.{places_step, places_end}
+use Rattle.afdx_core.proofs.Places.{places_step, places_end}
 use Rattle.afdx_core.proofs.output_port.places_of.Goals as goal
 
 pub loop-number-init : goal.loop-number-init
