@@ -306,15 +306,15 @@ fn hundred_frames_at_three_ports(rt: HostRuntime) -> Result<(), Fail> {
         left: &whole.left,
         report: &whole.report,
     };
-    refuse(&rt, alloc, "run of a hundred frames", &calls, 60)?;
+    refuse(&rt, alloc, "run of a hundred frames", &calls, 50)?;
     let into_files = Running {
         way: Way::IntoFiles,
         ..calls
     };
-    refuse(&rt, alloc, "the same into files", &into_files, 60)?;
+    refuse(&rt, alloc, "the same into files", &into_files, 50)?;
     let from_readers = Running {
         way: Way::FromReaders,
         ..calls
     };
-    refuse(&rt, alloc, "the same from readers", &from_readers, 60)
+    refuse(&rt, alloc, "the same from readers", &from_readers, 50)
 }
