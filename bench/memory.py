@@ -46,7 +46,7 @@ def peak_of(afdx, room, count, size):
     """The bytes that a run of so many frames takes at its peak, and those that it reads."""
     write_capture(f"{room}/in/port-1.pcap", count, size, MILLISECOND)
     arguments = [afdx, "run", f"{room}/table.toml", f"{room}/in", f"{room}/out"]
-    _, megabytes = measured(arguments, f"{room}/table.toml", f"{room}/report")
+    _, _, megabytes = measured(arguments, f"{room}/table.toml", f"{room}/report")
     files = [f"{room}/in/port-{port}.pcap" for port in (1, 2)]
     return megabytes * 1_024_000, sum(map(os.path.getsize, files))
 
