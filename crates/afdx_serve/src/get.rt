@@ -87,7 +87,7 @@ pub(crate) fn get_captures<F: Folder>(
 const SMALL: u64 = 16_777_216;
 
 /// From so many bytes on captures are read in pieces (profile): whole, they would take their own length in memory.
-const LARGE: u64 = 268_435_456;
+const LARGE: u64 = 134_217_728;
 
 /// Whether the files under these names are to be read in pieces, by the bytes that they have in all. Of so many as lie in between,
 /// frames that wait for long take less time where they lie in whole captures. O(names).
