@@ -27,7 +27,7 @@ use crate::lane::{
 use crate::plan::{Outcome, Plan, RunFault};
 use crate::rest::Rest;
 use afdx_core::laws::{by_stamp_is_ordered, merged_is_a_merge, merged_is_by_stamp_and_port};
-use afdx_core::{CoreFault, Switch};
+use afdx_core::{CoreFault, Relay};
 use afdx_count::Counts;
 use afdx_count::laws::note_counts_one_more;
 use afdx_devices::NewFile;
@@ -62,7 +62,7 @@ pub(crate) enum Leaving {
 /// A switch, its counters, and what there is of each port.
 #[derive(Drop)]
 pub(crate) struct Machine<'a, A: Allocator> {
-    pub(crate) switch: Switch<'a, A>,
+    pub(crate) switch: Relay<'a, A>,
     pub(crate) counts: Counts<A>,
     /// By rising port.
     pub(crate) lanes: Vec<Lane<'a, A>, A>,
@@ -120,7 +120,7 @@ fn first_fault<A: Allocator + Copy>(
 
 impl<'a, A: Allocator + Copy> Machine<'a, A> {
     /// A switch over a plan that took nothing.
-    pub(crate) fn new(alloc: A, plan: Plan) -> Result<Machine<'a, A>, AllocError>
+    pub(crate) fn new(alloc: A, plan: Plan, keeps: bool) -> Result<Machine<'a, A>, AllocError>
         ensures fresh { IfOk result (λ m. (m.switch ≡ fresh_state (is_cleared plan) (table_in plan)) × (m.counts ≡ fresh (table_in plan))
             × AreFreshLanes (table_in plan).ports m.lanes.items) }
         ensures formed { IsWellFormed (table_in plan) }
@@ -128,7 +128,7 @@ impl<'a, A: Allocator + Copy> Machine<'a, A> {
     {
         let lanes = lanes_of(alloc, plan.table().ports())?;
         let counts = Counts::new(alloc, plan.table())?;
-        let switch = plan.into_switch(alloc)?;
+        let switch = plan.into_switch(alloc, keeps)?;
         Ok(Machine {
             switch,
             counts,
@@ -634,7 +634,7 @@ impl<'a, A: Allocator + Copy> Machine<'a, A> {
             lanes,
         } = self;
         let switch = switch.finish();
-        counts.note_end(&switch);
+        counts.note_relayed(&switch);
         Rest {
             switch,
             counts,
@@ -654,7 +654,7 @@ impl<'a, A: Allocator + Copy> Machine<'a, A> {
             mut counts,
             lanes,
         } = self;
-        counts.note_end(&switch.finish());
+        counts.note_relayed(&switch.finish());
         let mut captures = room;
         for lane in lanes {
             let Lane { port, out, .. } = lane;

@@ -1,0 +1,31 @@
+use Rattle.std.proofs.Common.{◌≡◌, length, map, drop, List, ap, ap₂, sym, ◌∙◌, subst, arith}
+use Rattle.afdx_port.specs.declared.Aged.{Aged}
+use Rattle.afdx_port.specs.declared.Item.{Item}
+use Rattle.afdx_port.specs.Service.{aged_of}
+use Rattle.afdx_port.specs.Content.{Content, done, closed}
+use Rattle.afdx_core.specs.Inner.Copies.{copies_at, newly_aged, Enough}
+use Rattle.afdx_core.proofs.Copies.{aged_longer}
+use Rattle.afdx_core.proofs.Counts.{closed_copies, enough_one}
+use Rattle.afdx_core.proofs.output_port.end_flow.Goals as goal
+
+pub aged_from-requires-clause-left : goal.aged_from-requires-clause-left
+aged_from-requires-clause-left g c = omega (arith, c.aged_count-before.ensures.left, c.finish.ensures.form.aged)
+
+pub aged_from-requires-clause-within : goal.aged_from-requires-clause-within
+aged_from-requires-clause-within g c =
+    let k = c.args.port.now.content in
+    let more = c.lagging_ports_follow.ensures.finish k in
+    let n = aged_longer c.events_come_in_parts.ensures.aged k (closed k) more.0 more.1 in
+    let b = ap (λ (v : Content). length (aged_of (done v))) c.finish.ensures.content in
+    omega (arith, n, c.aged_count-before.ensures.count, b)
+
+pub discard_all-requires : goal.discard_all-requires
+discard_all-requires g c =
+    let k = c.args.port.now.content in
+    let aged : c.aged_from.result.now ≡ drop (length (aged_of (done k))) (aged_of (done (closed k))) =
+    c.aged_from.ensures ∙ ap₂ (λ n xs. drop n xs) c.aged_count-before.ensures.count (ap (λ (v : Content). aged_of (done v)) c.finish.ensures.content) in
+    subst (λ (xs : List Item). Enough xs c.args.store.now.held) (sym (ap (map (λ (a : Aged). a.item)) aged))
+    (enough_one (newly_aged k (closed k)) c.args.store.now.held (copies_at k c.args._handed) (copies_at (closed k) c.args._handed)
+    (λ i. closed_copies c.events_follow_the_line.ensures.parts c.each_has_one_event.ensures c.events_come_in_parts.ensures.sent c.events_come_in_parts.ensures.aged
+    c.lagging_ports_follow.ensures.finish k c.args._handed i c.requires.counted)
+    c.requires.holds)

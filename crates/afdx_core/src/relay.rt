@@ -1,0 +1,248 @@
+//! A switch that lets go of what has left it, and what is left of it once it is finished.
+
+ghost use Rattle.std.specs.Prelude.{◌≡◌, ◌+◌, ◌<◌, ◌≤◌, [], None, true, false, All, IsTrue, IfOk, IfErr, OnOk, OnErr, AllPairs, IfSome};
+ghost use Rattle.afdx_units.specs.Time.{last_second};
+ghost use Rattle.afdx_table.specs.Content.{port_row};
+ghost use Rattle.afdx_load.specs.Accepted.{IsAccepted};
+ghost use Rattle.afdx_core.specs.Rows.{row_of, fates_of};
+ghost use Rattle.afdx_core.specs.State.{State, fresh_state, after_advance, after_finish, refusal_of, admitted_in, sent_in, aged_in};
+ghost use Rattle.afdx_port.specs.declared.Offer.TheVariants.{Queued};
+ghost use Rattle.afdx_core.specs.Isolation.{IsRun, IsIsolatedRun};
+ghost use Rattle.afdx_port.specs.Tally.{tally_of_sent, tally_of_aged};
+ghost use Rattle.afdx_core.specs.Held.{held_count, Keeps, IsTaken, IsRefused, IsNext, IsAppended};
+
+use crate::engine::Engine;
+use crate::laws::{accepted_tables_isolate, no_step_is_full};
+use crate::step::{CoreFault, Step};
+use crate::switch::Done;
+use afdx_load::Cleared;
+use afdx_pcap::Record;
+use afdx_port::Tally;
+use afdx_table::Table;
+use afdx_units::Stamp;
+use std::alloc::{AllocError, Allocator};
+use std::marker::Model;
+
+/// A switch over one table, as [`Switch`](crate::Switch) is one, that lends no lists: it lets go of the arrivals, and of what ports
+/// sent once it was handed out or discarded, so that it keeps what waits alone. Contracts see it as they see a switch.
+///
+/// Where more than 2^64 - 1 arrivals or copies would be counted, it is out of memory.
+#[derive(Drop)]
+pub struct Relay<'a, A: Allocator> {
+    engine: Engine<'a, A>,
+}
+
+impl<'a, A: Allocator> Model for Relay<'a, A> {
+    ghost use Rattle.std.specs.Prelude.{◌≡◌, false};
+    ghost use Rattle.afdx_core.specs.State.{State};
+    ghost use Rattle.afdx_core.specs.Isolation.{IsRun};
+
+    ghost Value = { State };
+
+    ghost use Rattle.afdx_core.specs.Inner.Engine.{run_of, state_of, IsKeptEngine};
+
+    ghost view = { λ s. state_of s.engine };
+
+    ghost invariant = { λ s. IsKeptEngine s.engine × (s.engine.finished ≡ false) × IsRun (run_of s.engine) };
+}
+
+/// A relay that carried out all that was left. Contracts see it as they see the relay.
+#[derive(Drop)]
+pub struct Relayed<'a, A: Allocator> {
+    engine: Engine<'a, A>,
+}
+
+impl<'a, A: Allocator> Model for Relayed<'a, A> {
+    ghost use Rattle.afdx_core.specs.State.{State};
+    ghost use Rattle.afdx_core.specs.Isolation.{IsRun};
+
+    ghost Value = { State };
+
+    ghost use Rattle.afdx_core.specs.Inner.Engine.{run_of, state_of, IsKeptEngine};
+
+    ghost view = { λ s. state_of s.engine };
+
+    ghost invariant = { λ s. IsKeptEngine s.engine × IsRun (run_of s.engine) };
+}
+
+impl<'a, A: Allocator + Copy> Relay<'a, A> {
+    /// A switch that took nothing, over a table that was not checked.
+    ///
+    /// An error says that memory ran out; the table is dropped then. O(links + ports).
+    pub fn new(alloc: A, table: Table, keeps: bool) -> Result<Self, AllocError>
+        ensures { IfOk result (λ s. s ≡ fresh_state false table) }
+    {
+        let engine = Engine::new(alloc, table, false, keeps)?;
+        Ok(Relay { engine })
+    }
+
+    /// A switch that took nothing, over a table that was checked and accepted.
+    ///
+    /// An error says that memory ran out; the table is dropped then. O(links + ports).
+    pub fn cleared(alloc: A, cleared: Cleared, keeps: bool) -> Result<Self, AllocError>
+        ensures { IfOk result (λ s. (s ≡ fresh_state true cleared) × IsAccepted cleared) }
+    {
+        let engine = Engine::new(alloc, cleared.into_table(), true, keeps)?;
+        Ok(Relay { engine })
+    }
+
+    /// Whether its table was checked and accepted: whether [`Relay::cleared`] made it. O(1).
+    pub fn accepted(&self) -> bool
+        ensures accepted { result ≡ self.now.accepted }
+        ensures known { IsTrue result → IsAccepted self.now.run.table }
+    {
+        self.engine.accepted
+    }
+
+    /// Takes an arrival: each port carries out its starts before the instant that the stamp reaches, then the frame is filtered,
+    /// policed and offered to its link's ports, in the link's order. The stamp is not in the last second.
+    ///
+    /// The first refusal is given: `NoSuchPort` where the table has no such port, `Earlier` where the stamp
+    /// is below that of an earlier arrival or advance, `Memory` where memory ran out. The record
+    /// comes back then, and the switch answers every later call as if this one had not been made.
+    ///
+    /// O(1) for each start, for each port that is due before that instant and for each that the link leads to, and, of 64 frames of
+    /// links once, for each port, beside what lists take to grow; whatever the number of links.
+    pub fn arrive(
+        &mut self,
+        in_port: u8,
+        arrived: Record<'a, A>,
+    ) -> Result<Step, (CoreFault, Record<'a, A>)>
+        requires not_late { arrived.stamp < last_second }
+        ensures ok { IfOk result (λ step. IsTaken self.old self.new (row_of self.old.run.table in_port arrived.entry) arrived.entry step
+            × (refusal_of self.old.run in_port arrived.entry.stamp ≡ None)) }
+        ensures err { IfErr result (λ e. IsRefused self.old self.new in_port arrived.entry e) }
+
+        // Over an accepted table no port answers Full.
+        ensures none_full { self.old.accepted ≡ true → IfOk result (λ step. All (λ offer. offer.1 ≡ Queued) step.offers) }
+    {
+        no_step_is_full();
+        self.engine.know_the_table();
+        self.engine.arrive(in_port, arrived)
+    }
+
+    /// Carries out the starts before the instant that the stamp reaches, one latency later.
+    ///
+    /// `Earlier` where the instant is below the stamp of an earlier arrival or advance; nothing changes
+    /// then. O(1) for each start and for each port that is due. It takes no memory.
+    pub fn advance(&mut self, to: Stamp) -> Result<(), CoreFault>
+        ensures ok { OnOk result ((self.old.run.latest ≤ to) × (self.new.run ≡ after_advance to self.old.run) × Keeps self.old self.new) }
+        ensures err { IfErr result (λ e. (to < self.old.run.latest) × (e ≡ CoreFault.Earlier) × (self.new ≡ self.old)) }
+    {
+        self.engine.advance(to)
+    }
+
+    /// How many different frames are held: of which some port has a copy that is queued, being sent, or sent and
+    /// not handed out. O(1).
+    pub fn held(&self) -> usize
+        ensures { result ≡ held_count self.now.run }
+    {
+        self.engine.held()
+    }
+
+    /// The port's next sent frame that was not handed out yet, with its end as stamp, its length as
+    /// original and the bytes that `arrive` took; none where none is left, or there is no such port.
+    ///
+    /// An error says that memory ran out; nothing changes then. O(bytes of the frame).
+    pub fn next_out(&mut self, port: u8) -> Result<Option<Record<'a, A>>, AllocError>
+        ensures ok { IfOk result (λ out. IsNext self.old self.new port out) }
+        ensures err { OnErr result (self.new ≡ self.old) }
+    {
+        self.engine.next_out(port)
+    }
+
+    /// Appends the text of the record that `next_out` would give to a capture, and answers whether there
+    /// was one: its bytes are copied once, from the frame that is kept.
+    ///
+    /// An error says that memory ran out; nothing changes then. O(bytes of the frame) amortized.
+    pub fn next_out_into<B: Allocator>(
+        &mut self,
+        port: u8,
+        capture: &mut Vec<u8, B>,
+    ) -> Result<bool, AllocError>
+        ensures ok { IfOk result (λ some. IsAppended self.old self.new port capture.old.items capture.new.items some) }
+        ensures err { OnErr result (self.new ≡ self.old) }
+        ensures err_capture { OnErr result (capture.new.items ≡ capture.old.items) }
+    {
+        self.engine.next_out_into(port, capture)
+    }
+
+    /// Carries out all that is left. O(ports), and O(1) for each start. It takes no memory.
+    pub fn finish(self) -> Relayed<'a, A>
+        ensures run { result.run ≡ after_finish self.entry.run }
+        ensures keeps { Keeps self.entry result }
+        ensures is_run { IsRun result.run }
+
+        // Over an accepted table: the headline, for all that was taken.
+        ensures isolated { self.entry.accepted ≡ true → IsIsolatedRun result.run }
+    {
+        accepted_tables_isolate();
+        self.engine.know_the_table();
+        let mut engine = self.engine;
+        engine.finish();
+        Relayed { engine }
+    }
+}
+
+impl<'a, A: Allocator + Copy> Relayed<'a, A> {
+    /// The switch's table. O(1).
+    pub fn table(&self) -> &Table
+        ensures { result.now ≡ self.now.run.table }
+    {
+        &self.engine.table
+    }
+
+    /// The port's next sent frame that was not handed out yet, with its end as stamp, its length as
+    /// original and the bytes that `arrive` took; none where none is left, or there is no such port.
+    ///
+    /// An error says that memory ran out; nothing changes then. O(bytes of the frame).
+    pub fn next_out(&mut self, port: u8) -> Result<Option<Record<'a, A>>, AllocError>
+        ensures ok { IfOk result (λ out. IsNext self.old self.new port out) }
+        ensures err { OnErr result (self.new ≡ self.old) }
+    {
+        self.engine.next_out(port)
+    }
+
+    /// Appends the text of the record that `next_out` would give to a capture, and answers whether there
+    /// was one: its bytes are copied once, from the frame that is kept.
+    ///
+    /// An error says that memory ran out; nothing changes then. O(bytes of the frame) amortized.
+    pub fn next_out_into<B: Allocator>(
+        &mut self,
+        port: u8,
+        capture: &mut Vec<u8, B>,
+    ) -> Result<bool, AllocError>
+        ensures ok { IfOk result (λ some. IsAppended self.old self.new port capture.old.items capture.new.items some) }
+        ensures err { OnErr result (self.new ≡ self.old) }
+        ensures err_capture { OnErr result (capture.new.items ≡ capture.old.items) }
+    {
+        self.engine.next_out_into(port, capture)
+    }
+
+    /// How many items of each priority a port sent; none where there is no such port. O(ports).
+    pub fn sent_tally(&self, port: u8) -> Tally
+        ensures { result ≡ tally_of_sent (sent_in self.now.run (port_row self.now.run.table port)) }
+    {
+        self.engine.sent_tally(port)
+    }
+
+    /// How many items of each priority a port discarded for their age; none where there is no such port. O(ports).
+    pub fn aged_tally(&self, port: u8) -> Tally
+        ensures { result ≡ tally_of_aged (aged_in self.now.run (port_row self.now.run.table port)) }
+    {
+        self.engine.aged_tally(port)
+    }
+
+    /// The same with all its lists, where they were kept. O(1).
+    pub fn into_done(self) -> Option<Done<'a, A>>
+        ensures { IfSome result (λ done. done ≡ self.entry) }
+    {
+        if self.engine.log.keeps() {
+            Some(Done {
+                engine: self.engine,
+            })
+        } else {
+            None
+        }
+    }
+}

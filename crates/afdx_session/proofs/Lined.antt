@@ -1,0 +1,136 @@
+-- Records that keep to the lines of their ports, and outputs that always do.
+use Rattle.std.proofs.Common.{◌≡◌, ℕ, suc, ◌+◌, ◌≤◌, ◌==◌, Bool, true, false, cond, List, [], ◌∷◌, length, map, filter, get_or, Option, refl, ap, sym, ◌∙◌, subst, arith}
+use Rattle.std.specs.Prelude.{All, AllPairs}
+use Rattle.std.specs.List.{AllByRecursion, AllZip}
+use Rattle.std.proofs.lemmas.List.Elements.{All-nil, All-cons, All-head, All-tail, All-map, All-weaker, All-from_recursion, Contains-get_or}
+use Rattle.std.proofs.lemmas.List.Kept.{AllPairs-cons}
+use Rattle.std.proofs.lemmas.Bool.{both_ways, eq-eqb}
+use Rattle.afdx_units.specs.Line.{size_of, cost_of}
+use Rattle.afdx_pcap.specs.Record.{Record}
+use Rattle.afdx_table.specs.declared.rows.PortRow.{PortRow}
+use Rattle.afdx_table.specs.Content.{Content}
+use Rattle.afdx_filter.specs.Frame.{frame_of}
+use Rattle.afdx_serial.specs.Serial.{KeepsToLine}
+use Rattle.afdx_account.specs.declared.frame.Frame.{Frame}
+use Rattle.afdx_port.specs.declared.Sent.{Sent}
+use Rattle.afdx_port.specs.Inner.Order.{SendingsKeepToTheLine}
+use Rattle.afdx_port.specs.Inner.Admission.{AdmittedInParts}
+use Rattle.afdx_isolation.specs.Inner.LineTable.{IsInLesserBound}
+use Rattle.afdx_core.specs.Rows.{row_of}
+use Rattle.afdx_core.specs.Isolation.{AcceptedTablesIsolate}
+use Rattle.afdx_core.specs.Lined.{ComeApart, RowsKeepToLines, LinedRunsKeepBounds}
+use Rattle.afdx_core.specs.Merge.{Arrival, records_of, merged}
+use Rattle.afdx_core.specs.Inner.Merge.{part_at, ByStampIsOrdered, MergedIsAMerge}
+use Rattle.afdx_session.specs.Reading.{AreMerged}
+use Rattle.afdx_session.specs.Output.{rows_of, sent_by, bytes_in, written, output_of}
+use Rattle.afdx_session.specs.Headline.{passed_records, records_for}
+use Rattle.afdx_session.specs.Lined.{OutputsKeepToLines, IsInLesserTime, LinedOutcomesKeepBounds, OutcomesIsolate, PlainHeadlines}
+use Rattle.afdx_session.proofs.Isolated.{Ground, IsOffered, is_own, sent_is_offered}
+use Rattle.afdx_session.proofs.PortParts.{part_is_read}
+use Rattle.afdx_session.proofs.Arriving.{run_of, arrivals_are_a_run}
+use Rattle.afdx_session.proofs.Leaving.{sent_is, lesser_are, headline}
+
+pairs_head : {X : Type 0} (R : X → X → Type 0) (x : X) (xs : List X) → AllPairs R (x ∷ xs) → All (R x) xs
+pairs_head R x xs h k d lt = h 0 (suc k) d (omega arith) (omega (arith, lt))
+
+pairs_tail : {X : Type 0} (R : X → X → Type 0) (x : X) (xs : List X) → AllPairs R (x ∷ xs) → AllPairs R xs
+pairs_tail R x xs h i j d lt within = h (suc i) (suc j) d (omega (arith, lt)) (omega (arith, within))
+
+no_pairs : {X : Type 0} (R : X → X → Type 0) → AllPairs R []
+no_pairs R i j d lt within = absurd (omega (arith, within))
+
+all_unmap : {X Y : Type 0} (P : Y → Type 0) (f : X → Y) (xs : List X) → All P (map f xs) → All (λ x. P (f x)) xs
+all_unmap P f [] h = All-nil (λ x. P (f x))
+all_unmap P f (x ∷ xs) h = All-cons (λ x. P (f x)) x xs (All-head P (f x) (map f xs) h) (all_unmap P f xs (All-tail P (f x) (map f xs) h))
+
+pairs_unmap : {X Y : Type 0} (R : Y → Y → Type 0) (f : X → Y) (xs : List X) → AllPairs R (map f xs) → AllPairs (λ a b. R (f a) (f b)) xs
+pairs_unmap R f [] h = no_pairs (λ a b. R (f a) (f b))
+pairs_unmap R f (x ∷ xs) h = AllPairs-cons (λ a b. R (f a) (f b)) x xs (all_unmap (R (f x)) f xs (pairs_head R (f x) (map f xs) h)) (pairs_unmap R f xs (pairs_tail R (f x) (map f xs) h))
+
+pairs_map : {X Y : Type 0} (R : Y → Y → Type 0) (f : X → Y) (xs : List X) → AllPairs (λ a b. R (f a) (f b)) xs → AllPairs R (map f xs)
+pairs_map R f [] h = no_pairs R
+pairs_map R f (x ∷ xs) h =
+    AllPairs-cons R (f x) (map f xs) (All-map (R (f x)) f xs (pairs_head (λ a b. R (f a) (f b)) x xs h)) (pairs_map R f xs (pairs_tail (λ a b. R (f a) (f b)) x xs h))
+
+-- ---- what leaves
+
+-- where a fact of each later one helps
+pairs_with : {X : Type 0} (P : X → Type 0) (R S : X → X → Type 0) → ((a b : X) → P b → R a b → S a b) → (xs : List X) → AllByRecursion P xs → AllPairs R xs → AllPairs S xs
+pairs_with P R S step [] all h = no_pairs S
+pairs_with P R S step (x ∷ xs) all h =
+    let behind = pairs_head R x xs h in
+    let facts = All-from_recursion P xs all.1 in
+    AllPairs-cons S x xs (λ k d lt. step x (get_or xs k d) (facts k d lt) (behind k d lt)) (pairs_with P R S step xs all.1 (pairs_tail R x xs h))
+
+pub outputs_keep : Ground → SendingsKeepToTheLine → OutputsKeepToLines
+unfolding sent_by
+outputs_keep ground sends t arrivals p =
+    let sent = sent_by t arrivals p in
+    let R = λ (f g : Frame). f.stamp + cost_of p.speed g.size ≤ g.stamp in
+    pairs_map R frame_of (output_of t arrivals p)
+    (pairs_map (λ (a b : Record). a.stamp + cost_of p.speed (size_of (length b.bytes)) ≤ b.stamp) (written arrivals) sent
+    (pairs_with (λ (s : Sent). IsOffered t arrivals p.id s.item) (λ (a b : Sent). a.end + cost_of p.speed b.item.size ≤ b.end)
+    (λ (a b : Sent). a.end + cost_of p.speed (size_of (length (written arrivals b).bytes)) ≤ b.end)
+    (λ a b offer h.
+    let c = offer.1 in
+    let size : b.item.size ≡ size_of (length (written arrivals b).bytes) = c.size ∙ ap (λ (o : Option Arrival). size_of (length (bytes_in o))) (sym c.at) in
+    subst (λ (n : ℕ). a.end + cost_of p.speed n ≤ b.end) size h) sent (sent_is_offered t ground arrivals p) (sends _ 0 _)))
+
+-- ---- what comes
+
+-- of the records of a port, as of the arrivals there
+all_part : (P : Record → Type 0) (n : ℕ) (arrivals : List Arrival) → All P (part_at n arrivals) → All (λ (a : Arrival). a.port ≡ n → P a.frame) arrivals
+all_part P n [] h = All-nil (λ (a : Arrival). a.port ≡ n → P a.frame)
+all_part P n (a ∷ arrivals) h = by (a.port == n) refl h (λ more. all_part P n arrivals more) where
+  by : (b : Bool) → (a.port == n) ≡ b → All P (map (λ (a : Arrival). a.frame) (cond b (a ∷ filter (λ (a : Arrival). a.port == n) arrivals) (filter (λ (a : Arrival). a.port == n) arrivals)))
+      → (All P (part_at n arrivals) → All (λ (a : Arrival). a.port ≡ n → P a.frame) arrivals) → All (λ (a : Arrival). a.port ≡ n → P a.frame) (a ∷ arrivals)
+  by true is h ih = All-cons (λ (a : Arrival). a.port ≡ n → P a.frame) a arrivals (λ _. All-head P a.frame (part_at n arrivals) h) (ih (All-tail P a.frame (part_at n arrivals) h))
+  by false is h ih = All-cons (λ (a : Arrival). a.port ≡ n → P a.frame) a arrivals (λ same. absurd (both_ways (a.port == n) is (eq-eqb a.port n same))) (ih h)
+
+-- both came in at the port
+abbrev AtPort : (Record → Record → Type 0) → ℕ → Arrival → Arrival → Type 0
+AtPort S n a b = a.port ≡ n → b.port ≡ n → S a.frame b.frame
+
+pairs_part : (S : Record → Record → Type 0) (n : ℕ) (arrivals : List Arrival) → AllPairs S (part_at n arrivals) → AllPairs (λ (a b : Arrival). a.port ≡ n → b.port ≡ n → S a.frame b.frame) arrivals
+pairs_part S n [] h = no_pairs (λ (a b : Arrival). a.port ≡ n → b.port ≡ n → S a.frame b.frame)
+pairs_part S n (a ∷ arrivals) h = by (a.port == n) refl h (λ more. pairs_part S n arrivals more) where
+  by : (b : Bool) → (a.port == n) ≡ b → AllPairs S (map (λ (a : Arrival). a.frame) (cond b (a ∷ filter (λ (a : Arrival). a.port == n) arrivals) (filter (λ (a : Arrival). a.port == n) arrivals)))
+      → (AllPairs S (part_at n arrivals) → AllPairs (AtPort S n) arrivals) → AllPairs (AtPort S n) (a ∷ arrivals)
+  by true is h ih = AllPairs-cons (AtPort S n) a arrivals
+      (All-weaker (λ (b : Arrival). b.port ≡ n → S a.frame b.frame) (AtPort S n a) (λ b r _ there. r there) arrivals (all_part (S a.frame) n arrivals (pairs_head S a.frame (part_at n arrivals) h)))
+      (ih (pairs_tail S a.frame (part_at n arrivals) h))
+  by false is h ih = AllPairs-cons (AtPort S n) a arrivals
+      (λ k d lt same. absurd (both_ways (a.port == n) is (eq-eqb a.port n same)))
+      (ih h)
+
+-- the rows of arrivals whose records at a port keep to its line
+rows_apart : (t : Content) (q : PortRow) (arrivals : List Arrival) → KeepsToLine q.speed (map frame_of (part_at q.id arrivals)) → AllPairs (ComeApart q) (rows_of t arrivals)
+rows_apart t q arrivals h =
+    pairs_map (ComeApart q) (λ (a : Arrival). row_of t a.port a.frame) arrivals
+    (pairs_part (λ (a b : Record). a.stamp + cost_of q.speed (size_of (length b.bytes)) ≤ b.stamp) q.id arrivals
+    (pairs_unmap (λ (f g : Frame). f.stamp + cost_of q.speed g.size ≤ g.stamp) frame_of (part_at q.id arrivals) h))
+
+pub lined_outcomes : ByStampIsOrdered → Ground → MergedIsAMerge → AcceptedTablesIsolate → LinedRunsKeepBounds → LinedOutcomesKeepBounds
+lined_outcomes ordered ground merge isolate keeps t texts results formed accepted outcome lined lines p at burst high_burst less l among leads =
+    let read = outcome.read in
+    let arrivals = merged read in
+    let is_merged : AreMerged texts arrivals = record { read = read; are_read = outcome.are_read; all = refl } in
+    let is_run = arrivals_are_a_run ordered t texts arrivals is_merged in
+    let isolated = isolate (run_of t arrivals) is_run formed accepted in
+    let part : (n : ℕ) → part_at n arrivals ≡ records_of read n = part_is_read merge t texts read formed outcome.ports outcome.are_read in
+    let rows : RowsKeepToLines t lined (rows_of t arrivals) = λ k d lt on.
+    let q = get_or t.ports k d in
+    rows_apart t q arrivals (subst (λ (rs : List Record). KeepsToLine q.speed (map frame_of rs)) (sym (part q.id)) (lines q (Contains-get_or t.ports k d lt) on)) in
+    let within : All (IsInLesserBound t p burst high_burst) (sent_by t arrivals p) =
+    subst (All (IsInLesserBound t p burst high_burst)) (sent_is t formed ground arrivals isolated p at) (keeps (run_of t arrivals) is_run formed accepted lined rows p at burst high_burst less) in
+    subst (λ (xs : List Record). AllZip (IsInLesserTime t p l burst high_burst) xs (records_for l (output_of t arrivals p)))
+    (ap (λ (rs : List Record). passed_records l (filter (is_own t l) rs)) (part l.from))
+    (lesser_are t formed ground arrivals isolated p at l among burst high_burst within leads)
+
+pub outcomes_isolate : ByStampIsOrdered → Ground → AdmittedInParts → MergedIsAMerge → AcceptedTablesIsolate → OutcomesIsolate
+unfolding headline
+outcomes_isolate ordered ground in_parts merge isolate t texts results formed accepted outcome p at = (headline ordered ground in_parts merge isolate t texts results formed accepted outcome).isolated p at
+
+pub plain_headlines : ByStampIsOrdered → Ground → AdmittedInParts → MergedIsAMerge → AcceptedTablesIsolate → PlainHeadlines
+unfolding headline
+plain_headlines ordered ground in_parts merge isolate t texts results formed accepted outcome = (headline ordered ground in_parts merge isolate t texts results formed accepted outcome, refl, refl)
