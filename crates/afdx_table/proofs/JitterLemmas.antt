@@ -1,17 +1,10 @@
 -- A table in which one link has another jitter is as well formed.
-use Rattle.std.proofs.Common.{◌≡◌, ℕ, zero, suc, ◌<◌, ◌≤◌, nat_eq, List, [], ◌∷◌, map, length, refl, ap, subst, sym, arith, slice_index_or, slice_set}
+use Rattle.std.proofs.Common.{◌≡◌, ℕ, zero, suc, ◌≤◌, nat_eq, List, [], ◌∷◌, map, length, refl, ap, subst, sym}
 use Rattle.std.specs.List.{AllByRecursion, IsDistinct}
 use Rattle.afdx_table.specs.declared.rows.PortRow.{PortRow}
 use Rattle.afdx_table.specs.Link.{Link, with_jitter}
 use Rattle.afdx_table.specs.Content.{Content}
 use Rattle.afdx_table.specs.WellFormed.{IsLink, IsWellFormed}
-
--- to write the changed row at its place is to give that place its jitter
-pub set_is : (links : List Link) (place jitter : ℕ) (l : Link) → l ≡ slice_index_or links place l → place < length links → slice_set links place (record l { jitter = jitter })
-    ≡ with_jitter place jitter links
-set_is [] place jitter l is less = absurd (omega (arith, less))
-set_is (first ∷ rest) zero jitter l is less = ap (λ (l : Link). record l { jitter = jitter } ∷ rest) is
-set_is (first ∷ rest) (suc place) jitter l is less = ap (λ links. first ∷ links) (set_is rest place jitter l is (omega (arith, less)))
 
 pub ids_stay : (place jitter : ℕ) (links : List Link) → map (λ (l : Link). l.id) (with_jitter place jitter links) ≡ map (λ (l : Link). l.id) links
 ids_stay place jitter [] = refl

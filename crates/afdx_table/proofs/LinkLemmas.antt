@@ -1,37 +1,87 @@
 -- Links under their numbers, and as a list.
-use Rattle.std.proofs.Common.{◌≡◌, ℕ, Bool, zero, suc, ◌+◌, ◌<◌, not, true, false, ◌||◌, cond, is_some, nat_eq, nat_lt, List, [], ◌∷◌, ◌++◌, length, get_or, map, find, position, slice_get, Option}
+use Rattle.std.proofs.Common.{◌≡◌, ℕ, Bool, zero, suc, ◌+◌, ◌<◌, not, true, false, cond, is_some, nat_eq, nat_lt, List, [], ◌∷◌, ◌++◌, length, get_or, map, find, position, slice_get, Option}
 use Rattle.std.proofs.Common.{Some, None, refl, sym, ap, inl, inr, ◌∙◌, arith}
-use Rattle.std.specs.List.{list_any, prefix_len}
+use Rattle.std.specs.List.{AllByRecursion, prefix_len}
+use Rattle.std.specs.Map.{keys_of, values_of, lookup}
 use Rattle.std.proofs.lemmas.Bool.{cases_Bool}
 use Rattle.std.proofs.lemmas.Bool.Decides.{nat_tests}
 use Rattle.std.proofs.lemmas.Option.{slice_get-get_or}
-use Rattle.std.proofs.lemmas.List.{length-map, map-append}
 use Rattle.std.proofs.lemmas.List.Quantifiers.{position-Some}
-use Rattle.afdx_table.specs.Link.{Link}
+use Rattle.indexmap.specs.IndexMap.{set_value_at}
+use Rattle.afdx_table.specs.Link.{Link, with_jitter}
 use Rattle.afdx_table.specs.Links.{has_link}
 use Rattle.afdx_table.specs.Inner.Found.{LinksAreAtTheirPlaces}
 
--- ---- a search of the rows by number is one of their numbers
+some_same : {A : Type 0} (a b : A) → Some a ≡ Some b → a ≡ b
+some_same {A = A} a b h = ap (λ o. get_some a o) h
+  where
+    get_some : A → Option A → A
+    get_some d None = d
+    get_some d (Some x) = x
 
-prefix_map : (id : ℕ) (rows : List Link) → prefix_len (λ n. not (nat_eq n id)) (map (λ (l : Link). l.id) rows) ≡ prefix_len (λ l. not (nat_eq l.id id)) rows
-prefix_map id [] = refl
-prefix_map id (l ∷ rows) = ap (λ n. cond (not (nat_eq l.id id)) (1 + n) 0) (prefix_map id rows)
+abbrev pub Entry : Type 0
+Entry = ℕ × Link
 
-position_map : (id : ℕ) (rows : List Link) → position (λ n. nat_eq n id) (map (λ (l : Link). l.id) rows) ≡ position (λ l. nat_eq l.id id) rows
-position_map id rows = rw (prefix_map id rows, length-map rows (λ (l : Link). l.id)) refl
+-- each row is under its number
+abbrev pub AreNamed : List Entry → Type 0
+AreNamed es = AllByRecursion (λ e. e.0 ≡ e.1.id) es
 
-pub placed : (id : ℕ) (numbers : List ℕ) (rows seen : List Link) → numbers ≡ map (λ (l : Link). l.id) rows → rows ≡ seen → position (λ n. nat_eq n id) numbers ≡ position (λ l. nat_eq l.id id) seen
-placed id numbers rows seen named view = ap (position (λ n. nat_eq n id)) named ∙ position_map id rows ∙ ap (position (λ l. nat_eq l.id id)) view
+abbrev pub rows_of : List Entry → List Link
+rows_of es = map (λ e. e.1) es
 
-any_map : (id : ℕ) (rows : List Link) → list_any (λ n. nat_eq n id) (map (λ (l : Link). l.id) rows) ≡ has_link rows id
-any_map id [] = refl
-any_map id (l ∷ rows) = ap (λ b. nat_eq l.id id || b) (any_map id rows)
+turned : (a b : ℕ) → nat_eq a b ≡ nat_eq b a
+turned a b = grind (arith, nat_tests)
 
-pub new_number : (id : ℕ) (numbers : List ℕ) (rows seen : List Link) → numbers ≡ map (λ (l : Link). l.id) rows → rows ≡ seen → has_link seen id ≡ false → list_any (λ n. nat_eq n id) numbers ≡ false
-new_number id numbers rows seen named view new = ap (list_any (λ n. nat_eq n id)) named ∙ any_map id rows ∙ ap (λ links. has_link links id) view ∙ new
+-- what a look-up by number asks of an entry is what a search of the rows asks
+same_test : (id : ℕ) (e : Entry) → e.0 ≡ e.1.id → nat_eq id e.0 ≡ nat_eq e.1.id id
+same_test id e named = ap (nat_eq id) named ∙ turned id e.1.id
 
-pub named-push : (numbers : List ℕ) (rows : List Link) (row : Link) → numbers ≡ map (λ (l : Link). l.id) rows → numbers ++ row.id ∷ [] ≡ map (λ (l : Link). l.id) (rows ++ row ∷ [])
-named-push numbers rows row named = ap (λ ns. ns ++ row.id ∷ []) named ∙ sym (map-append (λ (l : Link). l.id) rows (row ∷ []))
+-- a look-up by number finds the row of that number
+pub looked_up : (id : ℕ) (es : List Entry) → AreNamed es → lookup (nat_eq id) es ≡ find (λ l. nat_eq l.id id) (map (λ e. e.1) es)
+looked_up id [] h = refl
+looked_up id (e ∷ es) h =
+    ap (λ b. cond b (Some e.1) (lookup (nat_eq id) es)) (same_test id e h.0) ∙ ap (cond (nat_eq e.1.id id) (Some e.1)) (looked_up id es h.1)
+
+-- one more row
+pub named-push : (es : List Entry) (row : Link) → AreNamed es → AreNamed (es ++ (row.id, row) ∷ [])
+named-push [] row h = (refl, tt)
+named-push (e ∷ es) row h = (h.0, named-push es row h.1)
+
+pub rows-push : (es : List Entry) (row : Link) → map (λ (e : Entry). e.1) (es ++ (row.id, row) ∷ []) ≡ map (λ (e : Entry). e.1) es ++ row ∷ []
+rows-push [] row = refl
+rows-push (e ∷ es) row = ap (λ rows. e.1 ∷ rows) (rows-push es row)
+
+-- another jitter of one row
+pub named-jitter : (es : List Entry) (place jitter : ℕ) (l : Link) → slice_get (values_of es) place ≡ Some l → AreNamed es → AreNamed (set_value_at es place (record l { jitter = jitter }))
+named-jitter [] place jitter l is h = tt
+named-jitter (e ∷ es) zero jitter l is h = (h.0 ∙ ap (λ (l : Link). l.id) (some_same e.1 l is), h.1)
+named-jitter (e ∷ es) (suc place) jitter l is h = (h.0, named-jitter es place jitter l is h.1)
+
+pub rows-jitter : (es : List Entry) (place jitter : ℕ) (l : Link) → slice_get (values_of es) place ≡ Some l → map (λ (e : Entry). e.1) (set_value_at es place (record l { jitter = jitter }))
+    ≡ with_jitter place jitter (map (λ (e : Entry). e.1) es)
+rows-jitter [] place jitter l is = refl
+rows-jitter (e ∷ es) zero jitter l is = ap (λ (l : Link). record l { jitter = jitter } ∷ map (λ (e : Entry). e.1) es) (sym (some_same e.1 l is))
+rows-jitter (e ∷ es) (suc place) jitter l is = ap (λ rows. e.1 ∷ rows) (rows-jitter es place jitter l is)
+
+-- ---- places
+
+place_len : (id : ℕ) (es : List Entry) → AreNamed es → prefix_len (λ k. not (nat_eq id k)) (keys_of es) ≡ prefix_len (λ l. not (nat_eq l.id id)) (map (λ e. e.1) es)
+place_len id [] h = refl
+place_len id (e ∷ es) h =
+    ap (λ b. cond (not b) (1 + prefix_len (λ k. not (nat_eq id k)) (keys_of es)) 0) (same_test id e h.0)
+    ∙ ap (λ n. cond (not (nat_eq e.1.id id)) (1 + n) 0) (place_len id es h.1)
+
+same_length : (es : List Entry) → length (keys_of es) ≡ length (map (λ e. e.1) es)
+same_length [] = refl
+same_length (e ∷ es) = ap suc (same_length es)
+
+-- a look-up by number finds the place of the row of that number
+pub placed : (id : ℕ) (es : List Entry) → AreNamed es → position (nat_eq id) (keys_of es) ≡ position (λ l. nat_eq l.id id) (map (λ e. e.1) es)
+placed id es h = rw (place_len id es h, same_length es) refl
+
+pub absent : {A : Type 0} (o : Option A) → is_some o ≡ false → o ≡ None
+absent None h = refl
+absent (Some x) h = absurd cc
 
 -- ---- the row at the place of a number is the one that a search by number finds
 
@@ -71,12 +121,11 @@ module _ (id : ℕ) where
       let first = position-Some (λ (m : Link). nat_eq m.id id) (l ∷ rows) i l (sym at) in
       slice_get-get_or (l ∷ rows) i l first.0 ∙ sym (find_first (l ∷ rows) i l first.0 first.1 first.2)
 
-  none-from_absent : {A : Type 0} (o : Option A) → is_some o ≡ false → o ≡ None
-  none-from_absent None h = refl
-  none-from_absent (Some x) h = absurd cc
-
   pub not_found : (rows : List Link) → None ≡ position (λ l. nat_eq l.id id) rows → None ≡ find (λ l. nat_eq l.id id) rows
-  not_found rows at = sym (none-from_absent _ (is_some-find rows ∙ sym (is_some-position rows) ∙ ap is_some (sym at)))
+  not_found rows at = sym (absent _ (is_some-find rows ∙ sym (is_some-position rows) ∙ ap is_some (sym at)))
+
+pub contained : (id : ℕ) (es : List Entry) → AreNamed es → is_some (lookup (nat_eq id) es) ≡ has_link (map (λ e. e.1) es) id
+contained id es h = ap is_some (looked_up id es h) ∙ is_some-find id (map (λ e. e.1) es)
 
 pub links_are_at_their_places : LinksAreAtTheirPlaces
 links_are_at_their_places = record {

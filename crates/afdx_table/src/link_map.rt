@@ -5,39 +5,29 @@ ghost use Rattle.afdx_table.specs.Link.{with_jitter};
 ghost use Rattle.afdx_table.specs.Links.{has_link};
 
 use crate::rows::LinkRow;
-use afdx_numbers::Numbers;
+use indexmap::IndexMap;
 use std::alloc::{AllocError, Global};
 use std::marker::Model;
 
-/// Links of different numbers. Each call is O(1), but for the growth of `push`, which is O(1) on average.
+/// Links of different numbers, kept in the file's order under their numbers. Each call is O(1), look-ups by number and `push` on
+/// average; where the numbers of a table were chosen against the hash, one look-up may read some 340 groups of 12 places.
 ///
 /// Contracts see the list of their rows in order.
 #[derive(Drop)]
 pub(crate) struct LinkMap {
-    numbers: Numbers<Global>,
-    rows: Vec<LinkRow>,
+    rows: IndexMap<u16, LinkRow>,
 }
 
 impl Model for LinkMap {
     ghost use Rattle.std.specs.Prelude.{◌≡◌, List, map};
+    ghost use Rattle.std.specs.List.{AllByRecursion};
     ghost use Rattle.afdx_table.specs.Link.{Link};
 
     ghost Value = { List Link };
 
-    ghost view = { λ l. l.rows.items };
+    ghost view = { λ l. map (λ e. e.1) l.rows.entries };
 
-    ghost invariant = { λ l. l.numbers ≡ map (λ r. r.id) l.rows.items };
-}
-
-/// The same rows once more.
-fn copy_rows(alloc: Global, rows: &[LinkRow]) -> Result<Vec<LinkRow>, AllocError>
-    ensures { IfOk result (λ v. v.items ≡ rows.now) }
-{
-    let mut copies = Vec::with_capacity(alloc, rows.len())?;
-    for row in rows {
-        copies.push(row.copy())?;
-    }
-    Ok(copies)
+    ghost invariant = { λ l. AllByRecursion (λ e. e.0 ≡ e.1.id) l.rows.entries };
 }
 
 impl LinkMap {
@@ -45,18 +35,16 @@ impl LinkMap {
         ensures { result ≡ [] }
     {
         LinkMap {
-            numbers: Numbers::new(alloc),
-            rows: Vec::new(alloc),
+            rows: IndexMap::new(alloc),
         }
     }
 
     /// The same links once more. O(n) for n links.
-    pub(crate) fn copy(&self, alloc: Global) -> Result<LinkMap, AllocError>
+    pub(crate) fn copy(&self) -> Result<LinkMap, AllocError>
         ensures { IfOk result (λ l. l ≡ self.now) }
     {
         Ok(LinkMap {
-            numbers: self.numbers.copy(alloc)?,
-            rows: copy_rows(alloc, &self.rows)?,
+            rows: self.rows.clone()?,
         })
     }
 
@@ -78,31 +66,32 @@ impl LinkMap {
     pub(crate) fn at(&self, index: usize) -> Option<&LinkRow>
         ensures { option_copied result ≡ slice_get self.now index }
     {
-        self.rows.get(index)
+        let (_, row) = self.rows.get_index(index)?;
+        Some(row)
     }
 
     /// Whether there is a link of this number.
+    #[tactic(auto, using(crate::proofs::LinkLemmas::contained))]
     pub(crate) fn contains(&self, id: u16) -> bool
         ensures { result ≡ has_link self.now id }
     {
-        self.place(id).is_some()
+        self.rows.contains_key(&id)
     }
 
     /// The link of a number.
+    #[tactic(auto, using(crate::proofs::LinkLemmas::looked_up))]
     pub(crate) fn get(&self, id: u16) -> Option<&LinkRow>
         ensures { option_copied result ≡ find (λ l. l.id == id) self.now }
     {
-        match self.place(id) {
-            Some(place) => self.at(place),
-            None => None,
-        }
+        self.rows.get(&id)
     }
 
     /// The place of a number in the order, from 0.
+    #[tactic(auto, using(crate::proofs::LinkLemmas::placed))]
     pub(crate) fn place(&self, id: u16) -> Option<usize>
         ensures { result ≡ position (λ l. l.id == id) self.now }
     {
-        self.numbers.place(id)
+        self.rows.get_index_of(&id)
     }
 
     /// Adds a link of a new number at the end.
@@ -111,9 +100,7 @@ impl LinkMap {
         ensures ok { OnOk result (self.new ≡ self.old ++ row ∷ []) }
         ensures err { OnErr result (self.new ≡ self.old) }
     {
-        self.rows.reserve(1)?;
-        self.numbers.push(row.id)?;
-        self.rows.push_reserved(row);
+        self.rows.insert(row.id, row)?;
         Ok(())
     }
 }

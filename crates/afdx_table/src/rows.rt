@@ -6,6 +6,7 @@ ghost use Rattle.afdx_table.specs.Names.{speed_of, bag_of, priority_of, police_o
 use crate::limits::LATENCY_VERSION;
 use afdx_units::{Bag, MICROSECOND, Police, Priority, Speed};
 use arrayvec::ArrayVec;
+use std::alloc::AllocError;
 use std::marker::Model;
 
 /// The ports that a link leads to: at most as many as a table has, so that they lie in the row, where an arrival finds them in
@@ -83,6 +84,14 @@ impl LinkRow {
             priority: self.priority,
             police: self.police,
         }
+    }
+}
+
+impl Clone for LinkRow {
+    ghost is_clone = { λ x y. y ≡ x };
+
+    fn clone(&self) -> Result<LinkRow, AllocError> {
+        Ok(self.copy())
     }
 }
 

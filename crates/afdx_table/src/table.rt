@@ -61,7 +61,7 @@ impl Table {
             constant: self.constant,
             latency: self.latency,
             ports,
-            links: self.links.copy(alloc)?,
+            links: self.links.copy()?,
         })
     }
 
