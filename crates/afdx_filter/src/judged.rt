@@ -53,7 +53,7 @@ impl Judged {
 
 /// The verdict on a frame that arrives at a port, with the link that it names and the place of a clean frame's link.
 ///
-/// O(1), whatever the table, with one look-up of the link; it takes no memory.
+/// O(1) on average, with one look-up of the link by its number; it takes no memory.
 pub fn judge<A: Allocator>(table: &Table, in_port: u8, frame: &Record<'_, A>) -> Judged
     ensures verdict { result.verdict ≡ verdict_of table.now in_port frame.now }
     ensures place { result.place ≡ place_named table.now result.verdict }
@@ -104,7 +104,7 @@ fn judge_number(table: &Table, in_port: u8, size: u32, number: u16) -> Judged
 
 /// The verdict on a frame that arrives at a port: the first case of [`Verdict`] that holds.
 ///
-/// O(1), whatever the table; it takes no memory.
+/// O(1) on average; it takes no memory.
 pub fn verdict<A: Allocator>(table: &Table, in_port: u8, frame: &Record<'_, A>) -> Verdict
     ensures { result ≡ verdict_of table.now in_port frame.now }
 {

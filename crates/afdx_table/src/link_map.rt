@@ -9,8 +9,8 @@ use indexmap::IndexMap;
 use std::alloc::{AllocError, Global};
 use std::marker::Model;
 
-/// Links of different numbers, kept in the file's order under their numbers. Each call is O(1), look-ups by number and `push` on
-/// average; where the numbers of a table were chosen against the hash, one look-up may read some 340 groups of 12 places.
+/// Links of different numbers, kept in the file's order under their numbers. Each call is O(1); look-ups by number and `push` are so on
+/// average, since the hash has a fixed seed: if the numbers of a table were chosen against it, one look-up reads up to about 340 groups of 12 places.
 ///
 /// Contracts see the list of their rows in order.
 #[derive(Drop)]

@@ -125,7 +125,7 @@ impl Table {
         self.links.at(index)
     }
 
-    /// The link of a number. O(1).
+    /// Finds the link of a number. O(1) on average: numbers that were chosen against the fixed hash can take longer.
     pub fn link(&self, id: u16) -> Option<&LinkRow>
         ensures link { option_copied result ≡ link_row self.now id }
         ensures limits { IfSome result (λ l. IsLink self.now.ports l.now) }
@@ -134,7 +134,7 @@ impl Table {
         self.links.get(id)
     }
 
-    /// The place in file order, from 0, of the link of a number. O(1).
+    /// Finds the place in file order, from 0, of the link of a number. O(1) on average, as [`Table::link`].
     pub fn link_place(&self, id: u16) -> Option<usize>
         ensures place { result ≡ link_place self.now id }
         ensures well_formed { IsWellFormed self.now }

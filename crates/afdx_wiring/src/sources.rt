@@ -1,7 +1,6 @@
 //! The sources of the links: each row is fed by one end system's port at last, and no number by two.
 
-ghost use Rattle.std.specs.Prelude.{◌≡◌, ◌==◌, [], ◌∷◌, ◌++◌, OnOk};
-ghost use Rattle.std.specs.List.{list_any};
+ghost use Rattle.std.specs.Prelude.{◌≡◌, [], ◌∷◌, ◌++◌, OnOk};
 ghost use Rattle.afdx_wiring.specs.Refusal.{Gives};
 ghost use Rattle.afdx_wiring.specs.Net.{rows_in, rows_of};
 ghost use Rattle.afdx_wiring.specs.Order.{row_of, first_of, ends_within, has_source, is_fed, fed_numbers, each_once};
@@ -10,19 +9,12 @@ use crate::fault::NetworkFault;
 use crate::joints::link_at;
 use crate::network::Network;
 use crate::row::Row;
-use afdx_numbers::Numbers;
 use afdx_table::Table;
+use indexmap::IndexSet;
 use std::alloc::Global;
 
 /// A way has each switch at most once, and there are at most so many.
 pub(crate) const MOST_ROWS: usize = 64;
-
-/// Whether a number was met.
-fn has_met(met: &Numbers<Global>, number: u16) -> bool
-    ensures { result ≡ list_any (λ n. n == number) met.now }
-{
-    met.place(number).is_some()
-}
 
 impl Network {
     /// Whether the way back from a row ends at a source, over at most so many rows.
@@ -84,30 +76,30 @@ impl Network {
     }
 
     /// Keeps the number of a row that an end system's port feeds.
-    fn meet_source(&self, met: &mut Numbers<Global>, row: Row<'_>) -> Result<(), NetworkFault>
-        ensures first { Gives (λ u. u) result (each_once met.old (fed_numbers self.now (row_of row.entry ∷ []))) }
-        ensures met { OnOk result (met.new ≡ met.old ++ fed_numbers self.now (row_of row.entry ∷ [])) }
+    fn meet_source(&self, met: &mut IndexSet<u16>, row: Row<'_>) -> Result<(), NetworkFault>
+        ensures first { Gives (λ u. u) result (each_once met.old.keys (fed_numbers self.now (row_of row.entry ∷ []))) }
+        ensures met { OnOk result (met.new.keys ≡ met.old.keys ++ fed_numbers self.now (row_of row.entry ∷ [])) }
     {
         if !self.is_fed(row) {
             return Ok(());
         }
         let link = row.link;
-        if has_met(met, link.id) {
-            return Err(NetworkFault::TwiceSource(link.id));
+        if met.insert(link.id)? {
+            Ok(())
+        } else {
+            Err(NetworkFault::TwiceSource(link.id))
         }
-        met.push(link.id)?;
-        Ok(())
     }
 
     /// Keeps those of a switch.
     fn meet_sources(
         &self,
-        met: &mut Numbers<Global>,
+        met: &mut IndexSet<u16>,
         switch: usize,
         table: &Table,
     ) -> Result<(), NetworkFault>
-        ensures first { Gives (λ u. u) result (each_once met.old (fed_numbers self.now (rows_in switch table.now.links))) }
-        ensures met { OnOk result (met.new ≡ met.old ++ fed_numbers self.now (rows_in switch table.now.links)) }
+        ensures first { Gives (λ u. u) result (each_once met.old.keys (fed_numbers self.now (rows_in switch table.now.links))) }
+        ensures met { OnOk result (met.new.keys ≡ met.old.keys ++ fed_numbers self.now (rows_in switch table.now.links)) }
     {
         for index in 0..table.link_count() {
             let link = link_at(table, index);
@@ -120,7 +112,7 @@ impl Network {
     pub(crate) fn each_fed_once(&self, alloc: Global) -> Result<(), NetworkFault>
         ensures { Gives (λ u. u) result (each_once [] (fed_numbers self.now (rows_of self.now))) }
     {
-        let mut met = Numbers::new(alloc);
+        let mut met = IndexSet::new(alloc);
         for (switch, table) in self.tables().iter().enumerate() {
             self.meet_sources(&mut met, switch, table)?;
         }

@@ -15,7 +15,7 @@ returns-in_err-meet_sources c =
     let rest : List Row = rows_from (c.loop-switch.switch + 1) (drop (c.loop-switch.switch + 1) c.args.self.now.tables) in
     let rows : List Row = rows_from c.loop-switch.switch (drop c.loop-switch.switch c.args.self.now.tables) in
     let are = next_rows c.loop-switch.switch c.args.self.now.tables c.table-item.result within item in
-    let stop = stop_there c.args.self.now c.loop-switch.met here rest rows c.in_err-meet_sources.field-0.0 are in
+    let stop = stop_there c.args.self.now c.loop-switch.met.keys here rest rows c.in_err-meet_sources.field-0.0 are in
     gives_refusal (each_once [] (fed_numbers c.args.self.now (rows_of c.args.self.now))) c.from_residual.result c.in_err-meet_sources.field-0.0 (search rules)
     (λ other. sym c.loop-switch.invariant ∙ stop (c.in_err-meet_sources.ensures.first other))
 
@@ -28,5 +28,5 @@ loop-switch-preserved c =
     let rest : List Row = rows_from (c.loop-switch.switch + 1) (drop (c.loop-switch.switch + 1) c.args.self.now.tables) in
     let rows : List Row = rows_from c.loop-switch.switch (drop c.loop-switch.switch c.args.self.now.tables) in
     let are = next_rows c.loop-switch.switch c.args.self.now.tables c.table-item.result within item in
-    let further = go_further c.args.self.now c.loop-switch.met c.meet_sources.new.met here rest rows are c.in_ok-meet_sources.ensures.first c.in_ok-meet_sources.ensures.met in
+    let further = go_further c.args.self.now c.loop-switch.met.keys c.meet_sources.new.met.keys here rest rows are c.in_ok-meet_sources.ensures.first c.in_ok-meet_sources.ensures.met in
     sym further.first ∙ c.loop-switch.invariant
