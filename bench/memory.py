@@ -1,13 +1,11 @@
 #!/usr/bin/env python3
-"""Shows that the memory of `afdx run` beside its captures does not grow with the bytes of its frames.
+"""Fails if the memory of `afdx run` grows with the frames of captures that are read in pieces.
 
-usage: bench/memory.py [AFDX]        the program that `./test` builds where none is said
+usage: bench/memory.py [AFDX]        the program that `./test` builds, unless another one is given
 
-One link sends a frame each millisecond, so that one frame at most is in flight. Its peak beside what it reads is reported for
-each frame, for small frames and for large ones, and for runs that are twice as long. Of what it writes it holds a part for
-each port. A frame's bytes lie in the input alone, so a large frame takes no more than a small one, and no more where the run
-is twice as long. A list that grows takes up to twice its length on the way: of eight counts of frames, up to the double of the
-first, the least number is reported. Needs 1 GB under /tmp.
+One link sends a frame each millisecond, so at most one frame is in flight, and whatever a run keeps of the frames before it shows.
+The captures are long enough to be read in pieces. The peak is the greater of the program's and this script's own, about 15 MB, and
+each count of frames is so large that 4 bytes kept for each of them would pass the limit. Needs 1.2 GB under /tmp.
 """
 import os
 import sys
@@ -16,9 +14,9 @@ import tempfile
 from measure import AFDX, HEADER, measured, write_capture
 
 MILLISECOND = 1_000_000
-FIRST = {64: 300_000, 1518: 30_000}  # so many that the peak is that of the program, and not of this one
-STEPS = 8
-ALLOWED = 759  # bytes for each frame between the least number and the greatest: half of a large frame
+COUNTS = {64: (2_000_000, 4_000_000), 1518: (100_000, 200_000)}  # frames, by their size: 152 and 304 MB
+MOST = 20.0  # megabytes at the peak
+GROWTH = 1.0  # megabytes between a count and its double
 TABLE = """[[port]]
 id = 1
 mbit = 100
@@ -43,23 +41,11 @@ priority = "low"
 
 
 def peak_of(afdx, room, count, size):
-    """The bytes that a run of so many frames takes at its peak, and those that it reads."""
+    """Returns the megabytes that a run of so many frames takes at its peak."""
     write_capture(f"{room}/in/port-1.pcap", count, size, MILLISECOND)
     arguments = [afdx, "run", f"{room}/table.toml", f"{room}/in", f"{room}/out"]
     _, _, megabytes = measured(arguments, f"{room}/table.toml", f"{room}/report")
-    files = [f"{room}/in/port-{port}.pcap" for port in (1, 2)]
-    return megabytes * 1_024_000, sum(map(os.path.getsize, files))
-
-
-def beside(afdx, room, first, size):
-    """The least number of bytes for each frame, over the counts from the first to its double."""
-    least = None
-    for step in range(STEPS):
-        count = round(first * 2 ** (step / STEPS))
-        peak, read = peak_of(afdx, room, count, size)
-        each = (peak - read) / count
-        least = each if least is None else min(least, each)
-    return least
+    return megabytes
 
 
 def main():
@@ -71,14 +57,11 @@ def main():
             file.write(TABLE)
         with open(f"{room}/in/port-2.pcap", "wb") as file:
             file.write(HEADER)
-        numbers = []
-        for size, fewest in FIRST.items():
-            for first in (fewest, 2 * fewest):
-                each = beside(afdx, room, first, size)
-                print(f"frames of {size} bytes, {first} to {2 * first} of them: {each:.0f} bytes for each beside the input")
-                numbers.append(each)
-    if max(numbers) - min(numbers) > ALLOWED:
-        sys.exit("memory grows with the bytes of the frames")
+        for size, counts in COUNTS.items():
+            peaks = [peak_of(afdx, room, count, size) for count in counts]
+            print(f"frames of {size} bytes: " + ", ".join(f"{count} take {peak:.1f} MB" for count, peak in zip(counts, peaks)))
+            if max(peaks) > MOST or peaks[1] - peaks[0] > GROWTH:
+                sys.exit("memory grows with the frames")
 
 
 if __name__ == "__main__":
