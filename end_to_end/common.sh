@@ -25,6 +25,15 @@ install() {
     exec {lock}>&-
 }
 
+# install_python MODULE..: the same of the modules of Debian's own Python, which view/afdx-view runs by.
+install_python() {
+    local module packages=()
+    for module in "$@"; do
+        /usr/bin/python3 -c "import $module" 2>/dev/null || packages+=("no-such-command=python3-$module")
+    done
+    install "${packages[@]}"
+}
+
 # check NAME COMMAND..: counts whether the command succeeds.
 check() {
     local name=$1

@@ -3,12 +3,7 @@
 # 24 ports and 4096 links, opened in Debian's chromium; and README's picture of it.
 . "$(dirname "$0")/common.sh"
 install python3=python3 chromium=chromium chromedriver=chromium-driver
-has() { /usr/bin/python3 -c "import $1" 2>/dev/null; }
-packages=()
-for module in matplotlib pandas selenium; do
-    has "$module" || packages+=("no-such-command=python3-$module")
-done
-install "${packages[@]}"
+install_python matplotlib pandas selenium
 export PYTHONDONTWRITEBYTECODE=1
 export AFDX=${AFDX:-$top/crates/afdx/out/afdx}
 view=$top/view/afdx-view

@@ -1,5 +1,6 @@
 """Runs the program afdx and says how far it is."""
 import os
+import pathlib
 import shutil
 import subprocess
 import sys
@@ -62,6 +63,18 @@ def answer(progress, afdx, *arguments):
         sys.stderr.buffer.write(line)
         sys.exit(process.returncode if process.returncode > 0 else 128 - process.returncode)
     return said.decode("ascii")
+
+
+def run_answered(progress, folder, unchecked=False):
+    """What a folder has of a run: size.txt and measure.txt with what these commands printed, and the two files of trace."""
+    progress.say("reading")
+    try:
+        said = [pathlib.Path(folder, name).read_text(encoding="ascii") for name in ("size.txt", "measure.txt")]
+        return readings.read(*said, folder, not unchecked)
+    except OSError as error:
+        fail(f"afdx-view: cannot read {error.filename}: {error.strerror}", DEVICE)
+    except ValueError:
+        fail(f"afdx-view: the files in {folder} are not what size, measure and trace answer", DEVICE)
 
 
 def run_of(progress, afdx, table, folder, unchecked=False):
