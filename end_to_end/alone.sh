@@ -4,7 +4,7 @@
 . "$(dirname "$0")/common.sh"
 install python3=python3 tcpdump=tcpdump text2pcap=wireshark-common editcap=wireshark-common mergecap=wireshark-common \
     tshark=tshark
-afdx=$top/crates/afdx/out/afdx
+afdx=${AFDX:-$top/crates/afdx/out/afdx}
 cd "$room" || exit 1
 
 # passes FILE FILTER: of the file, link 10 passes what tshark's filter lets through.
@@ -23,6 +23,34 @@ fills_the_disk() {
     [ "$status" -eq 5 ] && [ "$(cat said.txt)" = "afdx: device write" ]
 }
 
+# stamps JITTER STAMP..: with this jitter in us, link 10 passes of early.pcap the frames of these stamps.
+stamps() {
+    "$afdx" alone --id 10 --bag 1 --jitter "$1" --size 1518 <early.pcap >answer.pcap &&
+        tshark -r answer.pcap -T fields -e frame.time_epoch >seen.txt 2>complaints.txt && printf '%s\n' "${@:2}" | diff - seen.txt
+}
+
+# cut_answer LENGTH: how alone answers to two frames of 60 bytes that are cut to so many: its status and its line.
+cut_answer() {
+    case $1 in
+        24 | 100 | 176) echo "0 " ;;
+        ? | 1? | 2[0-3]) echo "3 afdx: capture P2 NoHeader" ;;
+        2? | 3? | 10? | 11[0-5]) echo "3 afdx: capture P6 CutHeader, record $(($1 / 100 + 1))" ;;
+        *) echo "3 afdx: capture P11 CutData, record $(($1 / 100 + 1))" ;;
+    esac
+}
+
+# at_each_cut: they are cut to each number of bytes, and come through a pipe; whole records are passed.
+at_each_cut() {
+    local length
+    for length in $(seq 0 176); do
+        head -c "$length" two.pcap >part.pcap
+        cat part.pcap | "$afdx" "${alone[@]}" >answer.pcap 2>said.txt
+        echo "${PIPESTATUS[1]} $(cat said.txt)" >seen.txt
+        cut_answer "$length" | diff - seen.txt || return 1
+        cmp "$([ -s said.txt ] && echo /dev/null || echo part.pcap)" answer.pcap || return 1
+    done
+}
+
 own='eth.dst == 03:00:00:00:00:0a && frame.cap_len == frame.len && frame.cap_len >= 60 && frame.cap_len <= 996'
 alone=(alone --id 10 --bag 1 --jitter 0 --size 1518)
 
@@ -34,16 +62,17 @@ editcap -s 500 sent.pcap -F nsecpcap snapped.pcap
 frames early.pcap 0.000000000:10:1518 0.000999999:10:1518 0.001000000:10:1518
 mergecap -F pcapng -w next.pcapng sent.pcap early.pcap
 head -c 150 nanos.pcap >cut.pcap
+frames two.pcap 0.000000000:10:64 0.001000000:10:64
 
 check "text2pcap's capture: the link's own frames" passes sent.pcap "$own"
 check "tcpdump's capture in microseconds" passes micros.pcap "$own"
 check "tcpdump's capture in nanoseconds" passes nanos.pcap "$own"
 check "cut frames are nobody's" passes snapped.pcap "$own"
-"$afdx" "${alone[@]}" <early.pcap >answer.pcap
-check "the frame that is a nanosecond early is policed" \
-    test "$(tshark -r answer.pcap -T fields -e frame.time_epoch 2>/dev/null | tr '\n' ' ')" = "0.000000000 0.001000000 "
+check "the frame that is a nanosecond early is policed" stamps 0 0.000000000 0.001000000
+check "with a jitter of a microsecond it is passed, and the next one is not" stamps 1 0.000000000 0.000999999
 check "pcapng is refused by its magic" ends 3 "afdx: capture P3 Magic" next.pcapng "${alone[@]}"
 check "a cut record is named" ends 3 "afdx: capture P11 CutData, record 2" cut.pcap "${alone[@]}"
+check "a capture that is cut at each byte" at_each_cut
 check "an unknown command" ends 2 "afdx: usage" sent.pcap alones
 check "a gap that is none" ends 2 "afdx: usage" sent.pcap alone --id 10 --bag 3 --jitter 0 --size 1518
 check "an option is missing" ends 2 "afdx: usage" sent.pcap alone --id 10 --bag 1 --jitter 0

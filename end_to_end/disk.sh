@@ -154,6 +154,41 @@ each_fails() {
     [ "$number" -gt 2 ] && [ "$lines" -eq "$2" ]
 }
 
+# filled NAME..: OUT has files of these names, as of an older run.
+filled() {
+    local name
+    rm -rf out
+    for name in "$@"; do
+        mkdir -p "$(dirname "out/$name")" && echo older >"out/$name"
+    done
+}
+
+# put_fails CALL NUMBER NAMES ARGUMENT..: afdx with these arguments puts files of these names, and this call fails for the file of
+# this number, from 0 on. The line names it; the files before it are those in WHOLE, and the others the older ones.
+put_fails() {
+    local call=$1 number=$2 names name
+    read -ra names <<<"$3"
+    shift 3
+    filled "${names[@]}" && rm -rf wanted && cp -r out wanted
+    for name in "${names[@]:0:number}"; do
+        cp "whole/$name" "wanted/$name"
+    done
+    preloaded "FAIL=$call:$((number + 1))" "$afdx" "$@" >answer.txt 2>said.txt
+    echo $? >status.txt
+    cat said.txt
+    said 5 "afdx: device put out/${names[number]}" && [ ! -s answer.txt ] && diff -r wanted out
+}
+
+# each_put_fails CALL NAMES ARGUMENT..: so it is for each file in turn.
+each_put_fails() {
+    local number names
+    read -ra names <<<"$2"
+    filled "${names[@]}" && "$afdx" "${@:3}" >answer.txt && rm -rf whole && mv out whole || return 1
+    for number in "${!names[@]}"; do
+        put_fails "$1" "$number" "${@:2}" || return 1
+    done
+}
+
 # each_half: each write takes half of its bytes, and the rest is written by the next.
 each_half() {
     local number
@@ -240,6 +275,8 @@ frames given/port-2.pcap 0.000000000:20:64 0.002000000:20:64
 cp table.toml elsewhere.pcap
 cc -shared -fPIC -O1 -o failing.so "$top/end_to_end/failing.c" || exit 1
 
+aircraft=$top/examples/aircraft
+ports=$(printf '%s/port-%s.pcap ' cabin 1 cabin 2 cabin 3 bay 1 bay 2 bay 3 bay 4 cockpit 1 cockpit 2 cockpit 3)
 put_1="afdx: device put out/port-1.pcap"
 put_2="afdx: device put out/port-2.pcap"
 check "older captures are replaced" leaves 0 "" 2
@@ -281,6 +318,10 @@ check "each sync fails in turn" each_fails fsync 2
 check "each rename fails in turn" each_fails rename 2
 check "each close fails in turn, after the sync" each_fails close 0
 check "each write takes half in turn" each_half
+for call in write rename; do
+    check "each $call of trace fails in turn" each_put_fails "$call" "arrivals.csv departures.csv" trace table.toml given out
+    check "each $call of network run fails in turn" each_put_fails "$call" "$ports" network run "$aircraft/network.toml" "$aircraft/in" out
+done
 check "a new file that can be neither moved nor removed" stays_beside
 check "each read of alone is interrupted" interrupted "afdx: device read" alone --id 10 --bag 1 --jitter 0 --size 1000
 check "each read of check is interrupted" interrupted "afdx: device get table.toml" check table.toml

@@ -63,6 +63,7 @@ priority = "low"
 END
 sed 's/to = .*/to = [1]/' table.toml >own.toml
 sed 's/bag_ms = .*/bag_ms = 3/' table.toml >bag.toml
+sed 's/jitter_us = .*/jitter_us = 10001/' table.toml >jitter.toml
 sed 's/buffer = .*/buffer = 1518/; s/jitter_us = .*/jitter_us = 1000/' table.toml >small.toml
 { cat table.toml && echo 'police = "frame"'; } >police.toml
 { echo 'version = 2' && sed 's/frame/none/' police.toml; } >no_police.toml
@@ -83,6 +84,7 @@ check "no TOML" refused 3 "afdx: table C2 Toml" run in/port-1.pcap in out --unch
 check "a link to its own port" refused 3 "afdx: table C13 ToOwnPort, link 1" run own.toml in out --unchecked
 check "a gap that is none, before captures that are not there" \
     refused 3 "afdx: table C6 Range, link 1, bag_ms" run bag.toml none out --unchecked
+check "a jitter above the greatest" refused 3 "afdx: table C6 Range, link 1, jitter_us" check jitter.toml
 check "policing by frames in version 1" refused 3 "afdx: table C3 UnknownKey, link 1" check police.toml
 check "a kind of policing that is none" refused 3 "afdx: table C6 Range, link 1, police" check no_police.toml
 check "a latency in version 1" refused 3 "afdx: table C3 UnknownKey, top" check latency.toml
