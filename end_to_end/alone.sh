@@ -23,10 +23,10 @@ fills_the_disk() {
     [ "$status" -eq 5 ] && [ "$(cat said.txt)" = "afdx: device write" ]
 }
 
-# stamps JITTER STAMP..: with this jitter in us, link 10 passes of early.pcap the frames of these stamps.
+# stamps FILE JITTER STAMP..: with this jitter in us, link 10 passes the frames of these stamps.
 stamps() {
-    "$afdx" alone --id 10 --bag 1 --jitter "$1" --size 1518 <early.pcap >answer.pcap &&
-        tshark -r answer.pcap -T fields -e frame.time_epoch >seen.txt 2>complaints.txt && printf '%s\n' "${@:2}" | diff - seen.txt
+    "$afdx" alone --id 10 --bag 1 --jitter "$2" --size 1518 <"$1" >answer.pcap &&
+        tshark -r answer.pcap -T fields -e frame.time_epoch >seen.txt 2>complaints.txt && printf '%s\n' "${@:3}" | diff - seen.txt
 }
 
 # cut_answer LENGTH: how alone answers to two frames of 60 bytes that are cut to so many: its status and its line.
@@ -62,14 +62,16 @@ editcap -s 500 sent.pcap -F nsecpcap snapped.pcap
 frames early.pcap 0.000000000:10:1518 0.000999999:10:1518 0.001000000:10:1518
 mergecap -F pcapng -w next.pcapng sent.pcap early.pcap
 head -c 150 nanos.pcap >cut.pcap
+frames sooner.pcap 0.000000000:10:1518 0.000600000:10:1518
 frames two.pcap 0.000000000:10:64 0.001000000:10:64
 
 check "text2pcap's capture: the link's own frames" passes sent.pcap "$own"
 check "tcpdump's capture in microseconds" passes micros.pcap "$own"
 check "tcpdump's capture in nanoseconds" passes nanos.pcap "$own"
 check "cut frames are nobody's" passes snapped.pcap "$own"
-check "the frame that is a nanosecond early is policed" stamps 0 0.000000000 0.001000000
-check "with a jitter of a microsecond it is passed, and the next one is not" stamps 1 0.000000000 0.000999999
+check "the frame that is a nanosecond early is policed" stamps early.pcap 0 0.000000000 0.001000000
+check "with a jitter of 400 us a frame that comes so much sooner is passed" stamps sooner.pcap 400 0.000000000 0.000600000
+check "with a microsecond less it is policed" stamps sooner.pcap 399 0.000000000
 check "pcapng is refused by its magic" ends 3 "afdx: capture P3 Magic" next.pcapng "${alone[@]}"
 check "a cut record is named" ends 3 "afdx: capture P11 CutData, record 2" cut.pcap "${alone[@]}"
 check "a capture that is cut at each byte" at_each_cut
