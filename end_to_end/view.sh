@@ -43,6 +43,13 @@ says() {
     done
 }
 
+# from_answers: of what the program answered before the same page is made, and no program is run.
+from_answers() {
+    "$AFDX" size "$network/table.toml" >answers/size.txt && "$AFDX" measure "$network/table.toml" "$network/in" >answers/measure.txt &&
+        "$AFDX" trace "$network/table.toml" "$network/in" answers || return 1
+    (export AFDX=none && makes answers.html "$network/table.toml" "$network/in" --answers answers) && cmp network.html answers.html
+}
+
 # tells_progress: on a terminal, view says what it does, and leaves nothing of it.
 tells_progress() {
     script -qec "'$view' '$network/table.toml' '$network/in' terminal.html" terminal.txt >/dev/null && cat -v terminal.txt &&
@@ -56,7 +63,7 @@ below_20_megabytes() {
 }
 
 sed 's/^mbit = .*/mbit = 10/; s/^buffer = .*/buffer = 1000/; s/^max_delay_us = .*/max_delay_us = 300/' "$network/table.toml" >tight.toml
-mkdir silent cut
+mkdir silent cut answers
 head -c 24 "$network/in/port-1.pcap" | tee silent/port-{1,2,3}.pcap >silent/port-4.pcap
 cp "$network"/in/* cut && head -c 5000 "$network/in/port-2.pcap" >cut/port-2.pcap
 echo 'version = 4' >other.toml
@@ -68,6 +75,12 @@ check "its verdict" says network.html '^Accepted\. ' '788 frames in, 958 copies 
 check "its page in a browser" opens network.html "$network/table.toml" "$network/in"
 check "the same page again" makes again.html "$network/table.toml" "$network/in"
 check "is the same" cmp network.html again.html
+check "so is that of earlier answers" from_answers
+check "answers that are not there" ends_with 5 "afdx-view: cannot read none/size.txt: No such file or directory" \
+    "$network/table.toml" "$network/in" made/page.html --answers none
+rm answers/departures.csv && echo 'no,such,columns' >answers/arrivals.csv
+check "answers that are none" ends_with 5 "afdx-view: the files in answers are not what size, measure and trace answer" \
+    "$network/table.toml" "$network/in" made/page.html --answers answers
 check "tight ports, unchecked" makes tight.html tight.toml "$network/in" --unchecked
 check "are not accepted, and lose frames" says tight.html '^Not accepted: port [0-9]+ breaks L' ' [1-9][0-9]* lost' 'no bound is promised'
 check "their page in a browser" opens tight.html tight.toml "$network/in" --unchecked

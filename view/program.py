@@ -41,7 +41,7 @@ def found():
     named = os.environ.get("AFDX")
     afdx = named or (BUILT if os.access(BUILT, os.X_OK) else shutil.which("afdx"))
     if not afdx:
-        fail("afdx-view: no program afdx: build it by ./demo, put it on the path, or name it in AFDX", DEVICE)
+        fail("afdx-view: no program afdx: build it by ./demo --proved, put it on the path, or name it in AFDX", DEVICE)
     return afdx
 
 
