@@ -1,9 +1,10 @@
 #!/usr/bin/env python3
 """Keeps the maps of crates in the pages as `crates.txt` and the first lines of the crates have them.
 
-    docs/develop/crates.py           writes the drawing and the tables of ARCHITECTURE.md, and README's list of the kit's crates
-    docs/develop/crates.py --check   changes nothing; fails if one of these differs, and if a crate of the program has no row
-                                     in README's table of what is proved or no section in PROOFS.md
+    docs/develop/crates.py           writes the drawing and the tables of ARCHITECTURE.md, README's list of the kit's
+                                     crates, and the counts of TESTED.md
+    docs/develop/crates.py --check   changes nothing; fails if one of these differs, and if a crate of the program has no
+                                     row in README's table of what is proved or no section in PROOFS.md
 
 What is written stands between `<!-- crates KIND -->` and `<!-- end -->`. What a crate is, the first paragraph of its
 `src/lib.rt` or `src/main.rt` says.
@@ -17,6 +18,7 @@ TOP = Path(__file__).resolve().parents[2]
 ARCHITECTURE = Path("docs/develop/ARCHITECTURE.md")
 README = Path("README.md")
 PROOFS = Path("docs/trust/PROOFS.md")
+TESTED = Path("docs/trust/TESTED.md")
 PROGRAM = "afdx"
 WIDTH = 100
 PART = re.compile(r"(<!-- crates (\w+) -->\n).*?(<!-- end -->)", re.S)
@@ -101,6 +103,30 @@ def kit(uses: Uses, program: list[str]) -> str:
     return f"The program uses the kit's {listed(sorted(ours))}; tests use its {listed(sorted(others))} as well.\n"
 
 
+def number_of_tests(name: str) -> int:
+    """Counts the tests of a crate."""
+    sources = (TOP / "crates" / name / "src").rglob("*.rt")
+    return sum(source.read_text(encoding="utf-8").count("#[test]") for source in sources)
+
+
+def number_of_edits(name: str, folder: str) -> int:
+    """Counts the wrong bodies and wrong statements of a crate in one of its folders."""
+    return len(list((TOP / "crates" / name / folder).glob("*.edit")))
+
+
+def counts(uses: Uses) -> str:
+    """Says how many of each kind of test there are."""
+    tests = [number_of_tests(name) for name in uses]
+    edits = [number_of_edits(name, "must-fail") for name in uses]
+    audit = sum(number_of_edits(name, "audit") for name in uses)
+    scripts = [path for path in (TOP / "end_to_end").glob("*.sh") if path.name != "common.sh"]
+    return "".join([
+        f"There are {sum(tests)} tests in {sum(map(bool, tests))} crates; {sum(edits)} wrong bodies and wrong statements ",
+        f"of {sum(map(bool, edits))} crates in `must-fail`, and {audit} in `audit`; ",
+        f"and {len(scripts)} scripts over the built program and the pages.\n",
+    ])
+
+
 def missing(uses: Uses, program: list[str]) -> list[str]:
     """Finds crates of the program that a page of what is proved leaves out, and crates there that are gone."""
     readme = (TOP / README).read_text(encoding="utf-8")
@@ -126,9 +152,10 @@ def main() -> None:
         "program": table(uses, program),
         "beside": table(uses, [name for name in uses if name not in in_program]),
         "kit": kit(uses, program),
+        "counts": counts(uses),
     }
     wrong = missing(uses, program)
-    for page in (ARCHITECTURE, README):
+    for page in (ARCHITECTURE, README, TESTED):
         old = (TOP / page).read_text(encoding="utf-8")
         new = PART.sub(lambda part: part[1] + texts[part[2]] + part[3], old)
         if not check:
