@@ -3,8 +3,8 @@
 
     docs/develop/crates.py           writes the drawing and the tables of ARCHITECTURE.md, README's list of the kit's
                                      crates, and the counts of TESTED.md
-    docs/develop/crates.py --check   changes nothing; fails if one of these differs, and if a crate of the program has no
-                                     row in README's table of what is proved or no section in PROOFS.md
+    docs/develop/crates.py --check   changes nothing; fails if one of these differs, and if a crate of the program has
+                                     no row in README's table of what is proved or no section in PROOFS.md
 
 What is written stands between `<!-- crates KIND -->` and `<!-- end -->`. What a crate is, the first paragraph of its
 `src/lib.rt` or `src/main.rt` says.
@@ -121,8 +121,8 @@ def counts(uses: Uses) -> str:
     audit = sum(number_of_edits(name, "audit") for name in uses)
     scripts = [path for path in (TOP / "end_to_end").glob("*.sh") if path.name != "common.sh"]
     return "".join([
-        f"There are {sum(tests)} tests in {sum(map(bool, tests))} crates; {sum(edits)} wrong bodies and wrong statements ",
-        f"of {sum(map(bool, edits))} crates in `must-fail`, and {audit} in `audit`; ",
+        f"There are {sum(tests)} tests in {sum(map(bool, tests))} crates; {sum(edits)} wrong bodies and wrong ",
+        f"statements of {sum(map(bool, edits))} crates in `must-fail`, and {audit} in `audit`; ",
         f"and {len(scripts)} scripts over the built program and the pages.\n",
     ])
 
