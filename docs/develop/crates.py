@@ -10,6 +10,7 @@ What is written stands between `<!-- crates KIND -->` and `<!-- end -->`. What a
 `src/lib.rt` or `src/main.rt` says.
 """
 
+import argparse
 import re
 import sys
 from pathlib import Path
@@ -140,27 +141,36 @@ def missing(uses: Uses, program: list[str]) -> list[str]:
     return wrong + [f"{PROOFS}: a section of `{name}`, which is no crate" for name in sorted(sections - set(uses))]
 
 
-def main() -> None:
-    check = sys.argv[1:] == ["--check"]
-    if sys.argv[1:] and not check:
-        sys.exit("usage: crates.py [--check]")
-    uses = read_uses()
-    in_program = below(uses, PROGRAM) | {PROGRAM}
-    program = [name for name in uses if name in in_program]
-    texts = {
+def texts_of(uses: Uses, program: list[str]) -> dict[str, str]:
+    """Makes the text of each part, by its kind."""
+    return {
         "drawing": drawing(uses, program),
         "program": table(uses, program),
-        "beside": table(uses, [name for name in uses if name not in in_program]),
+        "beside": table(uses, [name for name in uses if name not in program]),
         "kit": kit(uses, program),
         "counts": counts(uses),
     }
+
+
+def renewed(page: Path, texts: dict[str, str], check: bool) -> bool:
+    """Writes the parts of a page, unless it is only checked. Says whether they differed."""
+    old = (TOP / page).read_text(encoding="utf-8")
+    new = PART.sub(lambda part: part[1] + texts[part[2]] + part[3], old)
+    if not check:
+        (TOP / page).write_text(new, encoding="utf-8")
+    return new != old
+
+
+def main() -> None:
+    parser = argparse.ArgumentParser(description="Keeps the maps of crates in the pages as crates.txt has them.")
+    parser.add_argument("--check", action="store_true", help="change nothing, and fail if something differs")
+    check = parser.parse_args().check
+    uses = read_uses()
+    program = [name for name in uses if name in below(uses, PROGRAM) | {PROGRAM}]
+    texts = texts_of(uses, program)
     wrong = missing(uses, program)
     for page in (ARCHITECTURE, README, TESTED):
-        old = (TOP / page).read_text(encoding="utf-8")
-        new = PART.sub(lambda part: part[1] + texts[part[2]] + part[3], old)
-        if not check:
-            (TOP / page).write_text(new, encoding="utf-8")
-        elif new != old:
+        if renewed(page, texts, check) and check:
             wrong.append(f"{page}: not as crates.txt and the crates have it: run docs/develop/crates.py")
     print("\n".join(wrong))
     sys.exit(1 if wrong else 0)
