@@ -70,8 +70,7 @@ def main() -> None:
         faults = [found for row in rows() if (found := fault(row))]
     except (OSError, ValueError) as error:
         sys.exit(f"constants.py: {error}")
-    print("\n".join(faults))
-    sys.exit(1 if faults else 0)
+    sys.exit("\n".join(faults) or None)
 
 
 if __name__ == "__main__":

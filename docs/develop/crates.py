@@ -172,8 +172,7 @@ def main() -> None:
     for page in (ARCHITECTURE, README, TESTED):
         if renewed(page, texts, check) and check:
             wrong.append(f"{page}: not as crates.txt and the crates have it: run docs/develop/crates.py")
-    print("\n".join(wrong))
-    sys.exit(1 if wrong else 0)
+    sys.exit("\n".join(wrong) or None)
 
 
 if __name__ == "__main__":
