@@ -1,17 +1,21 @@
 #!/usr/bin/env python3
-"""Keeps the quotes of SPECIFICATION.md, NETWORKS.md and PROGRAM.md as their sources have them.
+"""Keeps the quotes of HEADLINE.md, SPECIFICATION.md, NETWORKS.md and PROGRAM.md as their sources have them.
 
-    docs/trust/quotes.py           writes each quote anew from its source, also where that has moved to another file
-    docs/trust/quotes.py --check   changes nothing; fails where a quote is not its source's text, where a name is not found, and
-                                   where something that the contracts of ROOTS rest on is not quoted, or something else is,
-                                   where a word of the kit has no meaning in the table of these words, and where what a quote has
-                                   under another name (`use .. as`) is in backticks under that name on no page
+    docs/trust/quotes.py           writes each quote anew from its source, also if that has moved to another file, and each count
+    docs/trust/quotes.py --check   changes nothing; fails if a quote is not its source's text, if a name is not found, if a count
+                                   is not what it counts, if something that the contracts of ROOTS rest on is not quoted, or
+                                   something else is, if a word of the kit has no meaning in the table of these words, and if
+                                   what a quote has under another name (`use .. as`) is in backticks under that name on no page
     docs/trust/quotes.py --list    prints what the contracts of ROOTS rest on, and where it is
 
 A quote is a line `<!-- quote FILE NAME.. -->`, and after it the file's name and the block of code, which this script writes. In a
 file of specs/ a NAME is that of a definition. In a file of src/ it is that of a type, a trait or a function (its docstring and
 contract), `TYPE.FUNCTION` (one of the type's), or `TYPE.Model` (what contracts see of the type). The line `<!-- kit -->` is before a
-table whose first column has the words of the kit that the quotes use, in backticks.
+table whose first column has the words of the kit that the quotes use, in backticks. HEADLINE.md quotes again what the other pages
+have.
+
+A count is `<!-- count FILE NAME -->106 definitions, 424 lines<!-- end -->`: how many definitions NAME rests on, itself among them,
+and how many lines these have without comments, attributes and blank lines. This script writes it.
 """
 
 import re
@@ -21,10 +25,12 @@ from pathlib import Path
 
 TOP = Path(__file__).resolve().parents[2]
 PAGES = [Path(__file__).resolve().parent / name for name in ("SPECIFICATION.md", "NETWORKS.md", "PROGRAM.md")]
+HEADLINE = Path(__file__).resolve().parent / "HEADLINE.md"
 
 # What the pages are about: whatever the contracts of these public functions name, directly or not, is quoted.
 ROOTS = [
     ("afdx_session", "run"),
+    ("afdx_account", "conforming_is_tested"),
     ("afdx_session", "own_frames_are_the_links_alone"),
     ("afdx_session", "others_change_nothing"),
     ("afdx_session", "Session.new"),
@@ -38,6 +44,7 @@ ROOTS = [
     ("afdx_network", "ways_are_there"),
     ("afdx_network", "network_runs_deliver"),
     ("afdx_network", "others_change_nothing_in_networks"),
+    ("afdx_network", "lesser_ways_deliver"),
     ("afdx_serve", "serve"),
 ]
 
@@ -290,10 +297,15 @@ def home_of(file, name):
 # ---- what the contracts rest on
 
 
-def closure():
+def contracts():
+    """The functions of ROOTS, each with its file."""
+    return [(home_of(f"crates/{crate}/src/lib.rt", name), name) for crate, name in ROOTS]
+
+
+def closure(roots):
     """Each thing that the roots name, directly or not, the kit's words among them, and the words that are other names."""
     kit, others, seen = set(), set(), {}
-    waiting = [(home_of(f"crates/{crate}/src/lib.rt", name), name) for crate, name in ROOTS]
+    waiting = list(roots)
     while waiting:
         file, name = waiting.pop()
         if file.endswith(".rt") and "." not in name and name[0].isupper() and has_model(file, name):
@@ -309,6 +321,7 @@ def closure():
 # ---- the page
 
 MARK = re.compile(r"^<!-- quote (?P<file>\S+) (?P<names>.*?) -->\n(?:`[^`\n]+`\n\n)?(?:```\w*\n.*?^```\n)?", re.M | re.S)
+COUNT = re.compile(r"<!-- count (?P<file>\S+) (?P<name>\S+) -->[^<]*<!-- end -->")
 KIT = re.compile(r"^<!-- kit -->\n(?P<table>(?:\|.*\n)*)", re.M)
 
 
@@ -322,9 +335,22 @@ def quoted(file, names):
     return f"<!-- quote {file} {' '.join(names)} -->\n`{file}`\n\n```{language}\n{text}\n```\n"
 
 
+def code_lines(file, name):
+    """The lines of a definition or of an item, without comments, attributes and blank lines."""
+    text, mark = (defined_in(file)[name], "--") if file.endswith(".antt") else (rust_item(file, name), "//")
+    return [line for line in without_comments(text, mark).split("\n") if line.strip() and not line.startswith("#[")]
+
+
+def counted(mark):
+    """A count as it is to be written."""
+    seen, _, _ = closure([(home_of(mark["file"], mark["name"]), mark["name"])])
+    lines = sum(len(code_lines(file, name)) for file, name in seen)
+    return f"<!-- count {mark['file']} {mark['name']} -->{len(seen)} definitions, {lines} lines<!-- end -->"
+
+
 def rewritten(page):
     """The page with each quote as its source has it, what is quoted, and what is wrong. A quote follows what has moved to
-    another file, and becomes several where only a part has."""
+    another file, and becomes several if only a part has."""
     there, wrong = [], []
 
     def block(mark):
@@ -337,7 +363,10 @@ def rewritten(page):
         parts = groupby(homes, key=lambda home: home[0])
         return "\n".join(quoted(file, [name for _, name in part]) for file, part in parts)
 
-    return MARK.sub(block, page), there, wrong
+    try:
+        return COUNT.sub(counted, MARK.sub(block, page)), there, wrong
+    except Missing as error:
+        return page, there, [*wrong, str(error)]
 
 
 def judged(there, needed):
@@ -367,23 +396,26 @@ def unexplained(pages, others):
 
 def main(arguments):
     try:
-        needed, kit, others = closure()
+        needed, kit, others = closure(contracts())
     except Missing as error:
         sys.exit(f"quotes.py: {error}")
     if arguments == ["--list"]:
         print("\n".join([f"{file} {name}" for file, name in sorted(needed)] + sorted(kit)))
         return
     there, wrong, texts = [], [], []
-    for page in PAGES:
+    for page in [*PAGES, HEADLINE]:
         old = page.read_text(encoding="utf-8")
         new, quotes, faults = rewritten(old)
-        there += quotes
         wrong += faults
-        texts.append(new)
+        if page is HEADLINE:
+            wrong += [f"{page.name} quotes what no other page does: {file} {name}" for file, name in quotes if (file, name) not in there]
+        else:
+            there += quotes
+            texts.append(new)
         if not arguments:
             page.write_text(new, encoding="utf-8")
         elif new != old:
-            wrong.append(f"{page.name}: a quote is not its source's text: run docs/trust/quotes.py")
+            wrong.append(f"{page.name}: a quote is not its source's text, or a count is wrong: run docs/trust/quotes.py")
     wrong += judged(there, needed) + without_meaning(texts, kit) + unexplained(texts, others)
     print("\n".join([*wrong, f"{len(there)} quotes, {len(needed)} needed"]))
     sys.exit(1 if wrong else 0)
