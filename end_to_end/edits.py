@@ -1,6 +1,6 @@
 #!/usr/bin/env python3
-"""Fails if a wrong body of crates/NAME/must-fail or crates/NAME/audit cannot be applied, if docs/trust/PROOFS.md does not
-name it, or if a column of wrong bodies on that page names one that is not there.
+"""Fails if a wrong body of crates/NAME/must-fail or crates/NAME/audit cannot be applied, or docs/trust/PROOFS.md does
+not name it, or a column of wrong bodies there names one of which there is no edit.
 
 The gate counts an edit that cannot be applied for nothing, and fails nothing by it.
 """
