@@ -36,14 +36,16 @@ pub record State : Type 0 where
   pub frames : List (Option Record)
   -- the table was checked, and accepted, before the switch was made
   pub accepted : Bool
+  -- the lists of what came and of what ports admitted, sent and discarded are kept whole
+  pub keeps : Bool
 
 -- what a switch that took nothing rests on
 abbrev pub fresh_run : Content → Run
 fresh_run t = record { table = t; rows = []; latest = 0; handed = map (λ p. 0) t.ports; finished = false }
 
--- a switch that took nothing, over a table that was accepted or not checked
-abbrev pub fresh_state : Bool → Content → State
-fresh_state accepted t = record { run = fresh_run t; frames = []; accepted = accepted }
+-- a switch that took nothing, over a table that was accepted or not checked, and that keeps its lists or lets go of them
+abbrev pub fresh_state : (accepted keeps : Bool) → Content → State
+fresh_state accepted keeps t = record { run = fresh_run t; frames = []; accepted = accepted; keeps = keeps }
 
 -- an output port after these arrivals: it admits from its feed, and has come to the instant
 abbrev pub port_after : Content → List Row → ℕ → Bool → PortRow → PortContent

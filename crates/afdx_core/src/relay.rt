@@ -1,6 +1,6 @@
 //! A switch that lets go of what has left it, and what is left of it once it is finished.
 
-ghost use Rattle.std.specs.Prelude.{◌≡◌, ◌+◌, ◌<◌, ◌≤◌, [], None, true, false, All, IsTrue, IfOk, IfErr, OnOk, OnErr, AllPairs, IfSome};
+ghost use Rattle.std.specs.Prelude.{◌≡◌, ◌+◌, ◌<◌, ◌≤◌, [], None, true, false, All, IsTrue, IfOk, IfErr, OnOk, OnErr, AllPairs};
 ghost use Rattle.afdx_units.specs.Time.{last_second};
 ghost use Rattle.afdx_table.specs.Content.{port_row};
 ghost use Rattle.afdx_load.specs.Accepted.{IsAccepted};
@@ -23,10 +23,11 @@ use afdx_units::Stamp;
 use std::alloc::{AllocError, Allocator};
 use std::marker::Model;
 
-/// A switch over one table, as [`Switch`](crate::Switch) is one, that lends no lists: it lets go of the arrivals, and of what ports
-/// sent once it was handed out or discarded, so that it keeps what waits alone. Contracts see it as they see a switch.
+/// A switch over one table that lends no lists, in contrast to [`Switch`](crate::Switch). Unless it is told to keep them, it lets go of
+/// the arrivals, of what ports sent once it was handed out, and of what they discarded: then it holds only what waits. Contracts see
+/// the same state as of a switch.
 ///
-/// Where more than 2^64 - 1 arrivals or copies would be counted, it is out of memory.
+/// It answers out of memory if more than 2^64 - 1 arrivals or copies would be counted.
 #[derive(Drop)]
 pub struct Relay<'a, A: Allocator> {
     engine: Engine<'a, A>,
@@ -46,7 +47,7 @@ impl<'a, A: Allocator> Model for Relay<'a, A> {
     ghost invariant = { λ s. IsKeptEngine s.engine × (s.engine.finished ≡ false) × IsRun (run_of s.engine) };
 }
 
-/// A relay that carried out all that was left. Contracts see it as they see the relay.
+/// A relay that has carried out all that was left. Contracts see the same state.
 #[derive(Drop)]
 pub struct Relayed<'a, A: Allocator> {
     engine: Engine<'a, A>,
@@ -66,21 +67,22 @@ impl<'a, A: Allocator> Model for Relayed<'a, A> {
 }
 
 impl<'a, A: Allocator + Copy> Relay<'a, A> {
-    /// A switch that took nothing, over a table that was not checked.
+    /// Makes a switch that has taken nothing, over a table that was not checked. `keeps` says whether it keeps its lists, for
+    /// [`Relayed::into_done`].
     ///
     /// An error says that memory ran out; the table is dropped then. O(links + ports).
     pub fn new(alloc: A, table: Table, keeps: bool) -> Result<Self, AllocError>
-        ensures { IfOk result (λ s. s ≡ fresh_state false table) }
+        ensures { IfOk result (λ s. s ≡ fresh_state false keeps table) }
     {
         let engine = Engine::new(alloc, table, false, keeps)?;
         Ok(Relay { engine })
     }
 
-    /// A switch that took nothing, over a table that was checked and accepted.
+    /// Makes a switch that has taken nothing, over a table that was checked and accepted. `keeps` is as for [`Relay::new`].
     ///
     /// An error says that memory ran out; the table is dropped then. O(links + ports).
     pub fn cleared(alloc: A, cleared: Cleared, keeps: bool) -> Result<Self, AllocError>
-        ensures { IfOk result (λ s. (s ≡ fresh_state true cleared) × IsAccepted cleared) }
+        ensures { IfOk result (λ s. (s ≡ fresh_state true keeps cleared) × IsAccepted cleared) }
     {
         let engine = Engine::new(alloc, cleared.into_table(), true, keeps)?;
         Ok(Relay { engine })
@@ -233,16 +235,13 @@ impl<'a, A: Allocator + Copy> Relayed<'a, A> {
         self.engine.aged_tally(port)
     }
 
-    /// The same with all its lists, where they were kept. O(1).
-    pub fn into_done(self) -> Option<Done<'a, A>>
-        ensures { IfSome result (λ done. done ≡ self.entry) }
+    /// Lends all its lists, if they were kept. O(1).
+    pub fn into_done(self) -> Done<'a, A>
+        requires { self.keeps ≡ true }
+        ensures { result ≡ self.entry }
     {
-        if self.engine.log.keeps() {
-            Some(Done {
-                engine: self.engine,
-            })
-        } else {
-            None
+        Done {
+            engine: self.engine,
         }
     }
 }

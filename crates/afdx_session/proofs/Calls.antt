@@ -41,11 +41,12 @@ pub advanced_same : (mid adv : State) (to : ℕ) → adv.run ≡ after_advance t
 advanced_same mid adv to run keeps = record {
   table = ap (λ (r : Run). r.table) run;
   accepted = keeps.accepted;
+  keeps = keeps.lists;
   handed = ap (λ (r : Run). length r.handed) run;
 }
 
 pub handed_same : (adv next : State) → HandsOut adv next → IsOfSameTable adv next
-handed_same adv next hands = record { table = hands.table; accepted = hands.accepted; handed = hands.handed }
+handed_same adv next hands = record { table = hands.table; accepted = hands.accepted; keeps = hands.keeps; handed = hands.handed }
 
 -- it came to the frontier
 pub machine_comes : {Z : Type 0} → ByStampIsOrdered → (mid : Machine Z) (adv : State) (limit : Option (ℕ × ℕ)) (to : ℕ) (first : Option (ℕ × ℕ))

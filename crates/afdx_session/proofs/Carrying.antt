@@ -377,7 +377,7 @@ hands_on {Z} m next start now carrying hands is grown out lanes counts = record 
       (subst (λ (ls : List (Lane Z)). AreOut t carrying.going.given carrying.going.since m.switch ls Every) (sym is) carrying.going.outs))
 
 pub same_table : (s : State) → IsOfSameTable s s
-same_table s = record { table = refl; accepted = refl; handed = refl }
+same_table s = record { table = refl; accepted = refl; keeps = refl; handed = refl }
 
 -- nothing goes out
 pub hands_none : {Z : Type 0} (m : Machine Z) → IsCarrying m → HandsOn m m

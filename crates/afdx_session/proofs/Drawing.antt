@@ -64,7 +64,7 @@ comes t given h old new is run keeps = record {
 
 pub draws_start : (given : List Arrival) (port place : ℕ) (start : State) (before : List ℕ) → Draws given port place start start before before
 draws_start given port place start before = record {
-  drained = record { table = refl; rows = refl; finished = refl; accepted = refl; latest = refl; handed = refl; others = λ place other. refl; frames = λ arrivals len has. has };
+  drained = record { table = refl; rows = refl; finished = refl; accepted = refl; keeps = refl; latest = refl; handed = refl; others = λ place other. refl; frames = λ arrivals len has. has };
   count = refl;
   rest = refl;
 }
@@ -95,6 +95,7 @@ draws_on given port place start now new before text more out k s at len long has
         latest = ap (λ (r : Run). r.latest) own.run ∙ d.latest;
         finished = ap (λ (r : Run). r.finished) own.run ∙ d.finished;
         accepted = own.keeps.accepted ∙ d.accepted;
+        keeps = own.keeps.lists ∙ d.keeps;
         handed = ap (λ (r : Run). length r.handed) own.run ∙ length-set now.run.handed place (slice_index now.run.handed place + 1) ∙ d.handed;
         others = λ other differs.
             ap (λ (r : Run). slice_index r.handed other) own.run
@@ -203,6 +204,7 @@ drained_on port start now new out place s len d handed =
       latest = ap (λ (r : Run). r.latest) handed.run ∙ d.latest;
       finished = ap (λ (r : Run). r.finished) handed.run ∙ d.finished;
       accepted = handed.keeps.accepted ∙ d.accepted;
+      keeps = handed.keeps.lists ∙ d.keeps;
       handed = ap (λ (r : Run). length r.handed) handed.run ∙ length-set now.run.handed place (slice_index now.run.handed place + 1) ∙ d.handed;
       others = λ other differs.
           ap (λ (r : Run). slice_index r.handed other) handed.run
@@ -212,7 +214,7 @@ drained_on port start now new out place s len d handed =
     }
 
 pub starts_drained : (port : ℕ) (start : State) → IsDrained port start start
-starts_drained port start = record { table = refl; rows = refl; finished = refl; accepted = refl; latest = refl; handed = refl; others = λ place other. refl; frames = λ arrivals len has. has }
+starts_drained port start = record { table = refl; rows = refl; finished = refl; accepted = refl; keeps = refl; latest = refl; handed = refl; others = λ place other. refl; frames = λ arrivals len has. has }
 
 pub same_handed : (port : ℕ) (start now : State) → length start.run.handed ≡ length start.run.table.ports → IsDrained port start now → length now.run.handed ≡ length now.run.table.ports
 same_handed port start now len d = d.handed ∙ len ∙ ap (λ (c : Content). length c.ports) (sym d.table)

@@ -155,11 +155,11 @@ zeros [] k = refl
 zeros (p ∷ ports) zero = refl
 zeros (p ∷ ports) (suc k) = zeros ports k
 
-fresh_given : (accepted : Bool) (t : Content) → IsGiven t [] (fresh_state accepted t)
-fresh_given accepted t = record { table = refl; rows = refl; still_open = refl; frames = λ i frame lt held. absurd (omega (arith, lt)) }
+fresh_given : (accepted keeps : Bool) (t : Content) → IsGiven t [] (fresh_state accepted keeps t)
+fresh_given accepted keeps t = record { table = refl; rows = refl; still_open = refl; frames = λ i frame lt held. absurd (omega (arith, lt)) }
 
-fresh_going : {Z : Type 0} → StartsWithNone → (accepted : Bool) (t : Content) (lanes : List (Lane Z)) → AreFreshLanes t.ports lanes → IsGoing t lanes (fresh_state accepted t) (fresh t)
-fresh_going starts accepted t lanes fresh = record {
+fresh_going : {Z : Type 0} → StartsWithNone → (accepted keeps : Bool) (t : Content) (lanes : List (Lane Z)) → AreFreshLanes t.ports lanes → IsGoing t lanes (fresh_state accepted keeps t) (fresh t)
+fresh_going starts accepted keeps t lanes fresh = record {
   streams = map fresh_stream t.ports;
   given = [];
   since = 0;
@@ -169,7 +169,7 @@ fresh_going starts accepted t lanes fresh = record {
     whole = ap by_stamp (none_arrived t.ports ∙ sym (none_wait t.ports lanes fresh));
     settled = tt;
   };
-  is_given = fresh_given accepted t;
+  is_given = fresh_given accepted keeps t;
   come = omega arith;
   later = subst (λ xs. AllByRecursion (λ (a : Arrival). 0 ≤ a.frame.stamp) (by_stamp xs)) (sym (none_wait t.ports lanes fresh)) tt;
   until = omega arith;
@@ -185,10 +185,10 @@ fresh_going starts accepted t lanes fresh = record {
       };
 }
 
-fresh_running : {Z : Type 0} → StartsWithNone → (accepted : Bool) (t : Content) (lanes : List (Lane Z)) → AreFreshLanes t.ports lanes → IsRunning t lanes (fresh_state accepted t) (fresh t)
+fresh_running : {Z : Type 0} → StartsWithNone → (accepted keeps : Bool) (t : Content) (lanes : List (Lane Z)) → AreFreshLanes t.ports lanes → IsRunning t lanes (fresh_state accepted keeps t) (fresh t)
 unfolding fresh_going
-fresh_running starts accepted t lanes fresh = record {
-  going = fresh_going starts accepted t lanes fresh;
+fresh_running starts accepted keeps t lanes fresh = record {
+  going = fresh_going starts accepted keeps t lanes fresh;
   out = λ some. fresh_frontier t.ports (subst (λ n. 0 < n) (fresh_count t.ports lanes fresh) some);
 }
 
@@ -216,10 +216,10 @@ length-zeros [] = refl
 length-zeros (p ∷ ports) = ap suc (length-zeros ports)
 
 -- what is true of each session is true of it
-pub fresh_kept : {Z : Type 0} → StartsWithNone → (accepted : Bool) (t : Content) (m : Machine Z) → IsWellFormed t → (accepted ≡ true → IsAccepted t) → m.switch ≡ fresh_state accepted t → m.counts
+pub fresh_kept : {Z : Type 0} → StartsWithNone → (accepted keeps : Bool) (t : Content) (m : Machine Z) → IsWellFormed t → (accepted ≡ true → IsAccepted t) → m.switch ≡ fresh_state accepted keeps t → m.counts
     ≡ fresh t → AreFreshLanes t.ports m.lanes.items
     → IsKeptMachine m false false
-fresh_kept starts accepted t m formed is_accepted switch counts fresh = record {
+fresh_kept starts accepted keeps t m formed is_accepted switch counts fresh = record {
   of = rw switch (record { formed = formed; ports = fresh_ports t.ports m.lanes.items fresh });
   handed = rw switch (length-zeros t.ports);
   accepted = rw switch is_accepted;
@@ -239,6 +239,6 @@ fresh_intakes (p ∷ ports) (l ∷ lanes) fresh = ap (λ i. i ∷ intakes_of lan
   own : IsFreshLane p.id l → intake_of l ≡ fresh_intake p
   own f = rw (f.port_is, f.reader, f.undone, f.closed, f.taken) refl
 
-pub fresh_seen : {Z : Type 0} (accepted : Bool) (t : Content) (m : Machine Z) → m.switch ≡ fresh_state accepted t → AreFreshLanes t.ports m.lanes.items → seen_of m false false
+pub fresh_seen : {Z : Type 0} (accepted keeps : Bool) (t : Content) (m : Machine Z) → m.switch ≡ fresh_state accepted keeps t → AreFreshLanes t.ports m.lanes.items → seen_of m false false
     ≡ fresh_session accepted t
-fresh_seen accepted t m switch fresh = rw (switch, fresh_intakes t.ports m.lanes.items fresh) refl
+fresh_seen accepted keeps t m switch fresh = rw (switch, fresh_intakes t.ports m.lanes.items fresh) refl

@@ -186,7 +186,7 @@ drained_on {Z} goes_on reaches t given h k s next lanes n old new of at le is_ol
 -- ---- frames of several ports
 
 pub hands_none : (s : State) → HandsOut s s
-hands_none s = record { table = refl; rows = refl; latest = refl; finished = refl; accepted = refl; handed = refl; frames = λ arrivals long has. has }
+hands_none s = record { table = refl; rows = refl; latest = refl; finished = refl; accepted = refl; keeps = refl; handed = refl; frames = λ arrivals long has. has }
 
 pub hands_on : (start now next : State) (port : ℕ) → HandsOut start now → IsDrained port now next → HandsOut start next
 hands_on start now next port was drained = record {
@@ -195,6 +195,7 @@ hands_on start now next port was drained = record {
   latest = drained.latest ∙ was.latest;
   finished = drained.finished ∙ was.finished;
   accepted = drained.accepted ∙ was.accepted;
+  keeps = drained.keeps ∙ was.keeps;
   handed = drained.handed ∙ was.handed;
   frames = λ arrivals long has. drained.frames arrivals (long ∙ ap length (sym was.rows)) (was.frames arrivals long has);
 }

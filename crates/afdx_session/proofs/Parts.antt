@@ -283,7 +283,7 @@ carrying_on mid next of handed going over switch counts = record {
 pub proceeds_none : {F Z : Type 0} (contents : F → Option (List ℕ)) (m : Machine Z) (files : List F) → IsCarrying m → Proceeds contents m files m files
 proceeds_none contents m files carrying = record {
   carrying = carrying;
-  same = record { table = refl; accepted = refl; handed = refl };
+  same = record { table = refl; accepted = refl; keeps = refl; handed = refl };
   texts = refl;
   many = refl;
   long = refl;

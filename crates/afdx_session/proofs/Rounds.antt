@@ -42,13 +42,13 @@ pub record Gives {Z : Type 0} (start now : Machine Z) : Type 0 where
   pub going : IsGoing start.switch.run.table now.lanes.items now.switch now.counts
 
 pub gives_none : {Z : Type 0} (start : Machine Z) → IsGoing start.switch.run.table start.lanes.items start.switch start.counts → Gives start start
-gives_none start going = record { touched = all_touched_none start.lanes.items; same = record { table = refl; accepted = refl; handed = refl }; going = going }
+gives_none start going = record { touched = all_touched_none start.lanes.items; same = record { table = refl; accepted = refl; keeps = refl; handed = refl }; going = going }
 
 of_now : {Z : Type 0} (start now : Machine Z) → Gives start now → AreOfTable start.switch.run.table start.lanes.items → AreOfTable start.switch.run.table now.lanes.items
 of_now start now gives of = still_of_table start.switch.run.table start.lanes.items now.lanes.items (touched_ports start.lanes.items now.lanes.items gives.touched) of
 
 pub same_both : (a b c : State) → IsOfSameTable a b → IsOfSameTable b c → IsOfSameTable a c
-same_both a b c one two = record { table = two.table ∙ one.table; accepted = two.accepted ∙ one.accepted; handed = two.handed ∙ one.handed }
+same_both a b c one two = record { table = two.table ∙ one.table; accepted = two.accepted ∙ one.accepted; keeps = two.keeps ∙ one.keeps; handed = two.handed ∙ one.handed }
 
 -- ---- one round
 

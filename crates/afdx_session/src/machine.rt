@@ -121,7 +121,7 @@ fn first_fault<A: Allocator + Copy>(
 impl<'a, A: Allocator + Copy> Machine<'a, A> {
     /// A switch over a plan that took nothing.
     pub(crate) fn new(alloc: A, plan: Plan, keeps: bool) -> Result<Machine<'a, A>, AllocError>
-        ensures fresh { IfOk result (λ m. (m.switch ≡ fresh_state (is_cleared plan) (table_in plan)) × (m.counts ≡ fresh (table_in plan))
+        ensures fresh { IfOk result (λ m. (m.switch ≡ fresh_state (is_cleared plan) keeps (table_in plan)) × (m.counts ≡ fresh (table_in plan))
             × AreFreshLanes (table_in plan).ports m.lanes.items) }
         ensures formed { IsWellFormed (table_in plan) }
         ensures accepted { is_cleared plan ≡ true → IsAccepted (table_in plan) }
@@ -205,7 +205,7 @@ impl<'a, A: Allocator + Copy> Machine<'a, A> {
 
     /// What is settled goes to the switch, which comes to the frontier; what then has left goes out.
     ///
-    /// O(ports), O(ports) for each record that goes, and O(bytes) of what goes out, beside the switch's own work.
+    /// O(ports), O(1) for each record that goes, and O(bytes) of what goes out, beside the switch's own work.
     pub(crate) fn go_on(&mut self) -> Result<(), AllocError>
         requires of { AreOfTable self.old.switch.run.table self.old.lanes.items }
         requires going { IsGoing self.old.switch.run.table self.old.lanes.items self.old.switch self.old.counts }
@@ -295,7 +295,7 @@ impl<'a, A: Allocator + Copy> Machine<'a, A> {
     }
 
     /// The first of all records that wait goes to the switch, and the next one of its capture is read. Whether there
-    /// was one. O(ports).
+    /// was one. O(1).
     ///
     /// One of each capture that has not ended waits, so the first of them comes before whatever is still to be read. The
     /// next one is read before it goes, so that the processor gets its bytes while the switch works.
@@ -341,7 +341,7 @@ impl<'a, A: Allocator + Copy> Machine<'a, A> {
         }
     }
 
-    /// Some records go to the switch, by stamp and then by port. Whether more may be left. O(ports) for each of them.
+    /// Some records go to the switch, by stamp and then by port. Whether more may be left. O(ports), and O(1) for each of them.
     fn carry_some(&mut self) -> Result<bool, RunFault>
         requires { IsCarrying self.old }
         ensures same { IsOfSameTable self.old.switch self.new.switch }

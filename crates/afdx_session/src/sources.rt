@@ -192,8 +192,8 @@ fn read_all<A: Allocator + Copy, R: Read, F: NewFile>(
 /// What is met first: `Read` where a read fails or all reads are used up; `Capture` with a port whose text is no capture and its
 /// first fault, which need not be the lowest such port; `Memory` where memory ran out. Nothing is said then of what the files have.
 ///
-/// A frame's bytes are copied when they come, and when it goes out, once for each port that sends it. O(links + ports), O(ports) for
-/// each record and each read, and O(bytes), beside the switch's own work.
+/// A frame's bytes are copied when they come, and when it goes out, once for each port that sends it. O(links + ports), O(1)
+/// for each record, O(ports) for each read, and O(bytes), beside the switch's own work.
 pub fn run_from<A: Allocator + Copy, R: Read, F: NewFile>(
     alloc: A,
     plan: Plan,

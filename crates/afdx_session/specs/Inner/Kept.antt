@@ -113,10 +113,11 @@ AreGrown [] (n ∷ new) = ⊥
 AreGrown (l ∷ old) [] = ⊥
 AreGrown (l ∷ old) (n ∷ new) = IsGrown l n × AreGrown old new
 
--- a switch is over the same table, and of the same ports
+-- a switch is over the same table, of the same ports, and keeps its lists or lets go of them as before
 pub record IsOfSameTable (old new : State) : Type 0 where
   pub table : new.run.table ≡ old.run.table
   pub accepted : new.accepted ≡ old.accepted
+  pub keeps : new.keeps ≡ old.keeps
   pub handed : length new.run.handed ≡ length old.run.handed
 
 -- the call before has answered Ok: its bytes and its end count, and so does what has gone out, once a call has brought something

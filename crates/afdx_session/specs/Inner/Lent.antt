@@ -76,9 +76,10 @@ pub record HaveGone {Z : Type 0} (texts : List Text) (m : Machine Z) : Type 0 wh
   pub over : texts_over m.lanes.items ≡ texts
   pub all : AllByRecursion (λ (l : Lane Z). l.ended ≡ true) m.lanes.items
 
--- the machine of a plan over this table, whose switch took all records of these captures of the table's ports
+-- the machine of a plan over this table, whose switch took all records of these captures of the table's ports and keeps its lists
 pub record HasPassed {Z : Type 0} (cleared : Bool) (t : Content) (texts : List Text) (m : Machine Z) : Type 0 where
   pub ports : AreOfPorts t texts
   pub table : m.switch.run.table ≡ t
   pub accepted : m.switch.accepted ≡ cleared
+  pub keeps : m.switch.keeps ≡ true
   pub gone : HaveGone texts m

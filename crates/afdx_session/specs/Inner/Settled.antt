@@ -151,6 +151,7 @@ pub record HandsOut (old new : State) : Type 0 where
   pub latest : new.run.latest ≡ old.run.latest
   pub finished : new.run.finished ≡ old.run.finished
   pub accepted : new.accepted ≡ old.accepted
+  pub keeps : new.keeps ≡ old.keeps
   pub handed : length new.run.handed ≡ length old.run.handed
   pub frames : (arrivals : List Arrival) → length arrivals ≡ length old.run.rows → HasBytesOf arrivals old → HasBytesOf arrivals new
 

@@ -175,11 +175,12 @@ AreFreshLanes [] (l ∷ lanes) = ⊥
 AreFreshLanes (p ∷ ports) [] = ⊥
 AreFreshLanes (p ∷ ports) (l ∷ lanes) = IsFreshLane p.id l × AreFreshLanes ports lanes
 
--- a machine of a plan over this table that took nothing, for captures of the table's ports
-pub record IsBegun {Z : Type 0} (cleared : Bool) (t : Content) (texts : List Text) (m : Machine Z) : Type 0 where
+-- a machine of a plan over this table that took nothing, for captures of the table's ports, and keeps its lists or lets go of them
+pub record IsBegun {Z : Type 0} (cleared keeps : Bool) (t : Content) (texts : List Text) (m : Machine Z) : Type 0 where
   pub ports : AreOfPorts m.switch.run.table texts
   pub table : m.switch.run.table ≡ t
   pub accepted : m.switch.accepted ≡ cleared
+  pub lists : m.switch.keeps ≡ keeps
   pub fresh : AreFreshLanes m.switch.run.table.ports m.lanes.items
   pub kept : IsKeptMachine m false false
 

@@ -16,6 +16,7 @@ returns-clause-ok g c =
       ports = subst (λ (s : State). AreOfPorts s.run.table texts) (sym made.fresh.0) ports;
       table = ap (λ (s : State). s.run.table) made.fresh.0;
       accepted = ap (λ (s : State). s.accepted) made.fresh.0;
+      lists = ap (λ (s : State). s.keeps) made.fresh.0;
       fresh = subst (λ (s : State). AreFreshLanes s.run.table.ports c.in_ok-machine.machine.lanes.items) (sym made.fresh.0) made.fresh.2;
-      kept = fresh_kept c.starts_with_none.ensures (is_cleared c.args.plan) (table_in c.args.plan) c.in_ok-machine.machine made.formed made.accepted made.fresh.0 made.fresh.1 made.fresh.2;
+      kept = fresh_kept c.starts_with_none.ensures (is_cleared c.args.plan) c.args.keeps (table_in c.args.plan) c.in_ok-machine.machine made.formed made.accepted made.fresh.0 made.fresh.1 made.fresh.2;
     }

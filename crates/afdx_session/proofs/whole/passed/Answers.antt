@@ -31,5 +31,6 @@ returns-clause-ok g c =
       ports = subst (λ (t : Content). AreOfPorts t (texts_of c.args.captures.now)) begun.table begun.ports;
       table = c.pass_on.ensures.same.table ∙ begun.table;
       accepted = c.pass_on.ensures.same.accepted ∙ begun.accepted;
+      keeps = c.pass_on.ensures.same.keeps ∙ begun.lists;
       gone = c.in_ok-pass_on.ensures.ok;
     }

@@ -5,9 +5,9 @@ use Rattle.afdx_session.proofs.session.Session.new.Goals as goal
 pub invariant_of-result : goal.invariant_of-result
 invariant_of-result g c =
     let made = c.in_ok-machine.ensures in
-    fresh_kept c.starts_with_none.ensures (is_cleared c.args.plan) (table_in c.args.plan) c.in_ok-machine.machine made.formed made.accepted made.fresh.0 made.fresh.1 made.fresh.2
+    fresh_kept c.starts_with_none.ensures (is_cleared c.args.plan) false (table_in c.args.plan) c.in_ok-machine.machine made.formed made.accepted made.fresh.0 made.fresh.1 made.fresh.2
 
 pub returns-clause-ok : goal.returns-clause-ok
 returns-clause-ok g c =
     let made = c.in_ok-machine.ensures in
-    fresh_seen (is_cleared c.args.plan) (table_in c.args.plan) c.in_ok-machine.machine made.fresh.0 made.fresh.2
+    fresh_seen (is_cleared c.args.plan) false (table_in c.args.plan) c.in_ok-machine.machine made.fresh.0 made.fresh.2
