@@ -1,0 +1,1 @@
+"""Says what differs between two tables or two networks."""

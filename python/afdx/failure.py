@@ -1,0 +1,46 @@
+"""How a command ends early: lines on standard error and an exit status, never a traceback."""
+import os
+import sys
+from collections.abc import Callable, Sequence
+
+# The exit statuses of the program afdx, with their meaning.
+USAGE = 2
+INPUT = 3
+LOAD = 4
+DEVICE = 5
+
+
+class Failure(Exception):
+    """Ends a command with these lines and this exit status."""
+
+    def __init__(self, status: int, *lines: str) -> None:
+        super().__init__(*lines)
+        self.status = status
+        self.lines = lines
+
+
+def failing(command: str, what: str, error: OSError) -> Failure:
+    """Answers the failure of a device call, with the system's own words."""
+    return Failure(DEVICE, f"{command}: {what}: {error.strerror or error}")
+
+
+def say(command: str, text: str) -> None:
+    """Writes a text on standard output, whole."""
+    try:
+        sys.stdout.buffer.write(os.fsencode(text))
+        sys.stdout.buffer.flush()
+    except OSError as error:
+        sys.stdout = None  # type: ignore[assignment]  # its closing would fail once more
+        raise failing(command, "cannot write standard output", error) from error
+
+
+def run(main: Callable[[Sequence[str]], int]) -> int:
+    """Runs a command over the program's arguments; answers its exit status."""
+    try:
+        return main(sys.argv[1:])
+    except Failure as failure:
+        for line in failure.lines:
+            sys.stderr.buffer.write(os.fsencode(line + "\n"))
+        return failure.status
+    except KeyboardInterrupt:
+        return 130

@@ -1,0 +1,1 @@
+"""Makes the tables of a network from its interface control document (ICD)."""

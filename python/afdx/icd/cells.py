@@ -1,0 +1,85 @@
+"""Says what a cell may hold, and reads it."""
+import re
+from collections.abc import Callable
+from dataclasses import dataclass
+from typing import Generic, TypeVar
+
+T = TypeVar("T")
+SWITCH = re.compile(r"[A-Za-z0-9_-]{1,16}", re.ASCII)
+NUMBER = re.compile(r"[0-9]{1,18}", re.ASCII)
+
+
+class Unfit(Exception):
+    """Says why a cell's text is not what its column holds."""
+
+
+@dataclass(frozen=True)
+class Column(Generic[T]):
+    """A column: its key in the mapping, what reads its cells, and what stands for an empty one, if one may be empty."""
+    key: str
+    reader: Callable[[str], T]
+    default: str | None = None
+
+
+def number(text: str) -> int:
+    if not NUMBER.fullmatch(text):
+        raise Unfit("not a whole number")
+    return int(text)
+
+
+def whole(least: int, most: int) -> Callable[[str], int]:
+    """Reads a number of this range."""
+    def read(text: str) -> int:
+        value = number(text)
+        if not least <= value <= most:
+            raise Unfit(f"not from {least} to {most}")
+        return value
+    return read
+
+
+def one_of(*values: int) -> Callable[[str], int]:
+    """Reads one of these numbers."""
+    def read(text: str) -> int:
+        value = number(text)
+        if value not in values:
+            raise Unfit(f"not one of {', '.join(map(str, values))}")
+        return value
+    return read
+
+
+def word(*words: str) -> Callable[[str], str]:
+    """Reads one of these words, in either case, also by its first letter alone."""
+    def read(text: str) -> str:
+        for word in words:
+            if text and text.lower() in (word, word[0]):
+                return word
+        raise Unfit(f"not {' or '.join(words)}")
+    return read
+
+
+def printable(text: str) -> str:
+    """Reads a name as one line, for a comment."""
+    line = " ".join(text.split())
+    if not line.isprintable():
+        raise Unfit("has a character that cannot be printed")
+    return line
+
+
+def switch(text: str) -> str:
+    """Reads a switch's name, which is that of its table's file too."""
+    if not SWITCH.fullmatch(text):
+        raise Unfit("not 1 to 16 of A-Z a-z 0-9 - _")
+    if text.lower() == "network":
+        raise Unfit("the table would have the network file's name")
+    return text
+
+
+def parts(text: str) -> list[str]:
+    """Reads what lies between | or commas; an empty cell has no parts."""
+    found = [printable(part) for part in re.split(r"[|,]", text)] if text else []
+    if "" in found:
+        raise Unfit("an empty name between two separators")
+    twice = [part for place, part in enumerate(found) if part in found[:place]]
+    if twice:
+        raise Unfit(f"has {twice[0]} twice")
+    return found

@@ -1,0 +1,36 @@
+"""Keeps all that is wrong with the lists, to be said at once."""
+import json
+from dataclasses import dataclass, field
+
+from afdx.failure import INPUT, Failure
+
+
+@dataclass(frozen=True, order=True)
+class Place:
+    """A cell of a list, or its heading."""
+    order: int  # the list's place among the three
+    line: int
+    rank: int  # the column's place in the list
+    path: str
+    column: str
+    value: str | None  # None at a heading
+
+    def words(self) -> str:
+        value = "" if self.value is None else f", value {json.dumps(self.value, ensure_ascii=False)}"
+        return f"{self.path} line {self.line}, column {self.column}{value}"
+
+
+@dataclass
+class Complaints:
+    """What is wrong, by place."""
+    found: list[tuple[Place, str]] = field(default_factory=list)
+    rows: set[tuple[int, int]] = field(default_factory=set)  # the order and line of each place
+
+    def note(self, place: Place, what: str) -> None:
+        self.found.append((place, what))
+        self.rows.add((place.order, place.line))
+
+    def refuse(self, command: str) -> None:
+        """Ends the command if anything is wrong, with a line for each, in the order of the lists and lines."""
+        if self.found:
+            raise Failure(INPUT, *(f"{command}: {what}, {place.words()}" for place, what in sorted(self.found)))

@@ -1,0 +1,57 @@
+"""Gives each row the jitter that it needs, and has the program judge the network."""
+import tempfile
+from collections.abc import Callable
+from dataclasses import dataclass
+from pathlib import Path
+
+from afdx import files, printed
+from afdx.icd.tables import Table
+from afdx.program import Answer, Program
+
+MOST = 10_000  # µs that a row can have
+
+Texts = Callable[[dict[str, Table]], dict[str, bytes]]
+
+
+@dataclass
+class Verdict:
+    """What the program says of a network, and its files."""
+    texts: dict[str, bytes]
+    answer: Answer  # of `afdx network check`, or of `afdx network jitter` if that refuses the network
+    broken: list[str]  # the ports that break rules, if the network is refused, with their names
+
+
+def put_all(command: str, folder: Path, texts: dict[str, bytes]) -> None:
+    for name, text in texts.items():
+        files.put(command, folder / name, text)
+
+
+def give(tables: dict[str, Table], said: str) -> None:
+    """Gives the rows the jitters that `afdx network jitter` printed, as far as a table can have them."""
+    for need in printed.lines_of(printed.JITTER, said):
+        tables[need["switch"]].rows[int(need["link"])].jitter_us = min(int(need["jitter_us"]), MOST)
+
+
+def broken_ports(program: Program, folder: Path, tables: dict[str, Table]) -> list[str]:
+    """Answers the lines that `afdx size` has for ports that break rules, with the names of switch and port."""
+    lines = []
+    for switch, table in tables.items():
+        said = program.ask("size", folder / f"{switch}.toml").said
+        for line, port in zip(said.splitlines(), printed.lines_of(printed.PORT, said)):
+            if port["breaks"] != "-":
+                lines.append(f"{switch} {line} ({table.names([int(port['port'])])})")
+    return lines
+
+
+def settle(program: Program, tables: dict[str, Table], texts_of: Texts) -> Verdict:
+    """Gives the rows their jitters and checks the network. One turn is enough: from the jitters at the links' first
+    switches on, `afdx network jitter` itself goes on until none changes."""
+    with tempfile.TemporaryDirectory(prefix="afdx-icd-") as room:
+        folder = Path(room)
+        put_all(program.progress.command, folder, texts_of(tables))
+        needs = program.ask("network", "jitter", folder / "network.toml")
+        give(tables, needs.said)
+        texts = texts_of(tables)
+        put_all(program.progress.command, folder, texts)
+        answer = needs if needs.status else program.ask("network", "check", folder / "network.toml")
+        return Verdict(texts, answer, broken_ports(program, folder, tables) if answer.status else [])

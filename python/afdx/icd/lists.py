@@ -1,0 +1,75 @@
+"""Finds the columns of a list and reads its cells."""
+from collections.abc import Iterator
+from pathlib import Path
+from typing import Any, TypeVar, cast
+
+from afdx.icd import spreadsheet
+from afdx.icd.cells import Column, Unfit
+from afdx.icd.columns import Columns
+from afdx.icd.complaints import Complaints, Place
+from afdx.icd.mapping import ListMapping
+from afdx.icd.spreadsheet import Row
+
+T = TypeVar("T")
+
+
+class List:
+    """A list with its columns. What is wrong with it goes to the complaints."""
+
+    def __init__(self, command: str, path: Path, order: int, known: Columns, mapping: ListMapping,
+                 complaints: Complaints) -> None:
+        sheet = spreadsheet.read(command, path)
+        self.path, self.sheet, self.width = path, sheet, len(sheet.heading.cells)
+        self.order, self.mapping, self.complaints = order, mapping, complaints
+        self.places: dict[str, int] = {}
+        for column in known:
+            self.find(column, sheet.heading)
+
+    def heading(self, column: Column[Any]) -> str:
+        return self.mapping.headings.get(column.key, column.key)
+
+    def find(self, column: Column[Any], headings: Row) -> None:
+        """Finds a column. It has to be there if the mapping names it, and if nothing stands for its empty cells."""
+        name = self.heading(column)
+        at = [place for place, heading in enumerate(headings.cells) if heading.casefold() == name.casefold()]
+        if at:
+            self.places[column.key] = at[0]
+        stands_in = column.default is not None or column.key in self.mapping.defaults
+        if len(at) > 1 or not at and (column.key in self.mapping.headings or not stands_in):
+            place = Place(self.order, headings.line, 0, str(self.path), name, None)
+            self.complaints.note(place, "two columns of this name" if at else "no such column")
+
+    def rows(self) -> Iterator[Row]:
+        """Answers the rows. A cell that no heading is above, as an unquoted separator makes them, is a complaint."""
+        for row in self.sheet.rows:
+            beyond = [at for at in range(self.width, len(row.cells)) if row.cells[at]]
+            if beyond:
+                place = Place(self.order, row.line, beyond[0], str(self.path), str(beyond[0] + 1), row.cells[beyond[0]])
+                self.complaints.note(place, "more cells than the heading has")
+            yield row
+
+    def text(self, row: Row, column: Column[Any]) -> str:
+        """Answers a cell's text; if the cell is empty or not there, what the mapping has for it."""
+        at = self.places.get(column.key, self.width)
+        own = row.cells[at] if at < min(self.width, len(row.cells)) else ""
+        return own or self.mapping.defaults.get(column.key, "")
+
+    def complain(self, row: Row, column: Column[Any], what: str) -> None:
+        rank = self.places.get(column.key, self.width)
+        place = Place(self.order, row.line, rank, str(self.path), self.heading(column), self.text(row, column))
+        self.complaints.note(place, what)
+
+    def cell(self, row: Row, column: Column[T]) -> T:
+        """Reads a cell. If it is not what its column holds, there is a complaint, and the answer means nothing."""
+        text = self.text(row, column) or column.default
+        try:
+            if text is None:
+                raise Unfit("empty")
+            return column.reader(text)
+        except Unfit as unfit:
+            self.complain(row, column, str(unfit))
+            return cast(T, None)
+
+    def is_sound(self, row: Row) -> bool:
+        """Says whether no cell of a row has a complaint."""
+        return (self.order, row.line) not in self.complaints.rows

@@ -1,0 +1,101 @@
+"""Reads the mapping: what the lists' columns are called, what stands for empty cells, and what all switches have."""
+import re
+import tomllib
+from dataclasses import dataclass
+from pathlib import Path
+from typing import Any
+
+from afdx import files
+from afdx.failure import INPUT, Failure
+from afdx.icd import columns
+from afdx.icd.cells import Column, Unfit, whole
+
+LISTS = {"": columns.LINKS, "ends": columns.ENDS, "wires": columns.WIRES}  # by their name in a section
+
+
+def constant(text: str) -> str:
+    """Reads the constant field: a group address of 8 hexadecimal digits."""
+    if not re.fullmatch(r"[0-9A-Fa-f][37BFbf][0-9A-Fa-f]{6}", text, re.ASCII):
+        raise Unfit("not 8 hexadecimal digits whose first byte has its two lowest bits set")
+    return text
+
+
+LATENCY = Column("latency_us", whole(0, 100), "0")
+CONSTANT = Column("constant", constant, "03000000")
+SWITCHES: columns.Columns = (LATENCY, CONSTANT)
+
+
+@dataclass(frozen=True)
+class ListMapping:
+    """What one list's columns are called, and the texts that stand for its empty cells, both by key."""
+    headings: dict[str, str]
+    defaults: dict[str, str]
+
+
+@dataclass(frozen=True)
+class Mapping:
+    links: ListMapping
+    ends: ListMapping
+    wires: ListMapping
+    latency_us: int
+    constant: str
+
+
+class Reading:
+    """Reads the sections of a mapping, and keeps what is wrong with them."""
+
+    def __init__(self, text: str) -> None:
+        self.wrong: list[str] = []
+        self.sections: dict[str, Any] = tomllib.loads(text)
+        for name in self.sections.keys() - {"columns", "defaults", "switches"}:
+            self.wrong.append(f"no such section, {name}")
+
+    def values(self, place: str, known: columns.Columns, number: bool) -> dict[str, str]:
+        """Answers the values of a section as texts; other keys are wrong, but for the sections of lists in it."""
+        section: Any = self.sections
+        for name in place.split("."):
+            section = section.get(name, {}) if isinstance(section, dict) else {}
+        if not isinstance(section, dict):
+            self.wrong.append(f"not a section, {place}")
+            return {}
+        keys = {column.key for column in known}
+        found = {key: value for key, value in section.items() if "." in place or key not in LISTS}
+        for key, value in found.items():
+            if key not in keys:
+                self.wrong.append(f"no such key, {place}.{key}")
+            elif not isinstance(value, str) and not (number and type(value) is int):
+                self.wrong.append(f"not a text{' or a number' if number else ''}, {place}.{key}")
+        return {key: str(value) for key, value in found.items() if key in keys}
+
+    def list_mapping(self, name: str) -> ListMapping:
+        """Reads what is said of one list."""
+        place = f".{name}" if name else ""
+        headings = self.values(f"columns{place}", LISTS[name], number=False)
+        defaults = self.values(f"defaults{place}", LISTS[name], number=True)
+        for column in LISTS[name]:
+            self.try_default(f"defaults{place}", column, defaults)
+        return ListMapping(headings, defaults)
+
+    def try_default(self, place: str, column: Column[Any], values: dict[str, str]) -> Any:
+        """Reads a value that stands for empty cells, or the column's own where there is none."""
+        try:
+            if column.key in values:
+                return column.reader(values[column.key])
+        except Unfit as unfit:
+            self.wrong.append(f"{unfit}, {place}.{column.key}")
+        return column.default
+
+
+def read(command: str, path: Path | None) -> Mapping:
+    """Reads a mapping file; without one all is as the keys say."""
+    try:
+        reading = Reading(files.get(command, path).decode() if path else "")
+    except (UnicodeDecodeError, tomllib.TOMLDecodeError) as error:
+        raise Failure(INPUT, f"{command}: not TOML: {error}, {path}") from error
+    links, ends, wires = (reading.list_mapping(name) for name in LISTS)
+    switches = reading.values("switches", SWITCHES, number=True)
+    latency = reading.try_default("switches", LATENCY, switches)
+    group = reading.try_default("switches", CONSTANT, switches)
+    if reading.wrong:
+        raise Failure(INPUT, *(f"{command}: {wrong}, {path}" for wrong in sorted(reading.wrong)))
+    return Mapping(links, ends, wires, int(latency), group)

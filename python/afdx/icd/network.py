@@ -1,0 +1,165 @@
+"""Reads the three lists as a network: its end systems, the cables between its switches, and its virtual links."""
+from dataclasses import dataclass, field
+from pathlib import Path
+from typing import Any
+
+from afdx.icd import columns
+from afdx.icd.cells import Column
+from afdx.icd.columns import HEADERS, PAYLOAD, SIZE, SMALLEST
+from afdx.icd.complaints import Complaints
+from afdx.icd.lists import List
+from afdx.icd.mapping import Mapping
+from afdx.icd.spreadsheet import Row
+
+
+@dataclass(frozen=True)
+class Port:
+    """A port of a switch, with its line and the switch's own numbers for it."""
+    switch: str
+    number: int
+    mbit: int
+    buffer: int
+    max_delay_us: int
+
+    def __str__(self) -> str:
+        return f"{self.switch}.{self.number}"
+
+
+@dataclass(frozen=True)
+class Cable:
+    """A cable between two switches: a wire in each direction."""
+    a: Port
+    b: Port
+    delay_ns: int
+
+
+@dataclass(frozen=True)
+class Link:
+    """A virtual link, from one end system to others, by their names."""
+    row: Row
+    id: int
+    name: str
+    source: str
+    targets: list[str]
+    bag_ms: int
+    jitter_us: int
+    max_size: int
+    priority: str
+    police: str
+    via: list[str]
+
+
+@dataclass
+class Network:
+    """What the rows say that are sound, and which names the others have."""
+    ends: dict[str, Port] = field(default_factory=dict)  # by the end system's name
+    cables: list[Cable] = field(default_factory=list)
+    links: list[Link] = field(default_factory=list)
+    names: set[str] = field(default_factory=set)  # of end systems, those of rows that are wrong too
+    switches: set[str] = field(default_factory=set)  # so too
+
+
+class Once:
+    """Keeps which row has something first, and complains of a later one."""
+
+    def __init__(self) -> None:
+        self.rows: dict[object, str] = {}
+
+    def take(self, of: List, row: Row, column: Column[Any], *key: object) -> None:
+        if None in key:
+            return
+        place = f"{of.path} line {row.line}"
+        first = self.rows.setdefault(key, place)
+        if first is not place:
+            of.complain(row, column, f"{first} has it too")
+
+
+def read_ends(of: List, network: Network, ports: Once) -> None:
+    """Reads the end systems, each at a port of its own."""
+    names = Once()
+    for row in of.rows():
+        name = of.cell(row, columns.END)
+        names.take(of, row, columns.END, name)
+        port = Port(of.cell(row, columns.SWITCH), of.cell(row, columns.PORT), of.cell(row, columns.MBIT),
+                    of.cell(row, columns.BUFFER), of.cell(row, columns.DELAY_LIMIT))
+        ports.take(of, row, columns.PORT, port.switch, port.number)
+        network.names.add(name)
+        network.switches.add(port.switch)
+        if of.is_sound(row):
+            network.ends[name] = port
+
+
+def read_cables(of: List, network: Network, ports: Once) -> None:
+    """Reads the cables, each between ports of its own at two switches."""
+    for row in of.rows():
+        line = (of.cell(row, columns.MBIT), of.cell(row, columns.BUFFER), of.cell(row, columns.DELAY_LIMIT))
+        a = Port(of.cell(row, columns.SWITCH_A), of.cell(row, columns.PORT_A), *line)
+        b = Port(of.cell(row, columns.SWITCH_B), of.cell(row, columns.PORT_B), *line)
+        delay = of.cell(row, columns.WIRE_DELAY)
+        ports.take(of, row, columns.PORT_A, a.switch, a.number)
+        ports.take(of, row, columns.PORT_B, b.switch, b.number)
+        if of.is_sound(row) and a.switch == b.switch:
+            of.complain(row, columns.SWITCH_B, "the cable leads to its own switch")
+        network.switches |= {a.switch, b.switch}
+        if of.is_sound(row):
+            network.cables.append(Cable(a, b, delay))
+
+
+def size_of(of: List, row: Row) -> int:
+    """Reads the largest frame of a link, which is given as such or by its UDP payload, or both ways."""
+    has_size, has_payload = bool(of.text(row, SIZE)), bool(of.text(row, PAYLOAD))
+    if not has_size and not has_payload:
+        of.complain(row, SIZE, "neither the largest frame nor its UDP payload is there")
+        return 0
+    if not has_payload:
+        return of.cell(row, SIZE)
+    payload = of.cell(row, PAYLOAD)
+    size = max(SMALLEST, (payload or 0) + HEADERS)
+    if has_size and of.cell(row, SIZE) != size and of.is_sound(row):
+        of.complain(row, SIZE, f"not the frame of the UDP payload, which has {size} bytes")
+    return size
+
+
+def check_names(of: List, link: Link, network: Network) -> None:
+    """Looks whether the end systems and switches of a link are there."""
+    if link.source is not None and link.source not in network.names:
+        of.complain(link.row, columns.SOURCE, "no such end system")
+    for target in link.targets or []:
+        if target not in network.names:
+            of.complain(link.row, columns.TARGETS, f"no such end system as {target}")
+        elif target == link.source:
+            of.complain(link.row, columns.TARGETS, f"{target} would send to itself")
+    for switch in set(link.via or []) - network.switches:
+        of.complain(link.row, columns.VIA, f"no such switch as {switch}")
+
+
+def read_links(of: List, network: Network) -> None:
+    """Reads the virtual links, each of its own number, between end systems that are there."""
+    numbers = Once()
+    for row in of.rows():
+        link = Link(row, of.cell(row, columns.ID), of.cell(row, columns.NAME), of.cell(row, columns.SOURCE),
+                    of.cell(row, columns.TARGETS), of.cell(row, columns.BAG), of.cell(row, columns.JITTER),
+                    size_of(of, row), of.cell(row, columns.PRIORITY), of.cell(row, columns.POLICE),
+                    of.cell(row, columns.VIA))
+        numbers.take(of, row, columns.ID, link.id)
+        check_names(of, link, network)
+        if of.is_sound(row):
+            network.links.append(link)
+
+
+def lists_of(command: str, paths: list[Path], mapping: Mapping, complaints: Complaints) -> list[List]:
+    """Opens the three lists, of links, end systems and cables, and ends the command if a column is missing."""
+    known = [(columns.LINKS, mapping.links), (columns.ENDS, mapping.ends), (columns.WIRES, mapping.wires)]
+    lists = [List(command, path, order, *known[order], complaints) for order, path in enumerate(paths)]
+    complaints.refuse(command)
+    return lists
+
+
+def read(lists: list[List]) -> Network:
+    """Reads the three lists. What is wrong with them goes to the complaints."""
+    network, ports = Network(), Once()
+    links, ends, wires = lists
+    read_ends(ends, network, ports)
+    read_cables(wires, network, ports)
+    read_links(links, network)
+    return network

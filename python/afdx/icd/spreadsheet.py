@@ -1,0 +1,84 @@
+"""Reads spreadsheets, .csv and .xlsx, as rows of texts that know their line."""
+import csv
+import io
+from dataclasses import dataclass
+from pathlib import Path
+
+import openpyxl
+
+from afdx import files
+from afdx.failure import INPUT, Failure
+
+SEPARATORS = (",", "\t", ";")
+
+
+@dataclass(frozen=True)
+class Row:
+    """A row that is not empty. Lines are counted from 1; in .xlsx a line is the row's number."""
+    line: int
+    cells: list[str]
+
+
+@dataclass(frozen=True)
+class Sheet:
+    """A list of rows below a heading, which is the first row that is not empty."""
+    path: Path
+    heading: Row
+    rows: list[Row]
+
+
+def text_of(value: object) -> str:
+    """Writes a workbook's cell as the same cell of a .csv would be; a whole number may be kept there as 8.0."""
+    if value is None:
+        return ""
+    if isinstance(value, float) and value.is_integer():
+        return str(int(value))
+    return str(value).strip()
+
+
+def workbook_rows(text: bytes) -> list[Row]:
+    """Answers the rows of a workbook's first sheet, of formulas the values that were saved with them."""
+    book = openpyxl.load_workbook(io.BytesIO(text), read_only=True, data_only=True)
+    values = book.worksheets[0].iter_rows(values_only=True)
+    return [Row(line, [text_of(value) for value in row]) for line, row in enumerate(values, 1)]
+
+
+def separator_of(text: str) -> str:
+    """Answers the separator that the first line has most of."""
+    first = text.lstrip("\r\n").split("\n", 1)[0]
+    return max(SEPARATORS, key=first.count)
+
+
+def separated_rows(text: str) -> list[Row]:
+    """Answers the rows of separated values; one with line feeds in its cells is of the line where it begins."""
+    reader = csv.reader(io.StringIO(text, newline=""), delimiter=separator_of(text), strict=True)
+    rows, line = [], 1
+    for cells in reader:
+        rows.append(Row(line, [cell.strip() for cell in cells]))
+        line = reader.line_num + 1
+    return rows
+
+
+def rows_of(command: str, path: Path) -> list[Row]:
+    """Answers all rows of a file, read by its ending."""
+    text = files.get(command, path)
+    if path.suffix.lower() == ".xlsx":
+        try:
+            return workbook_rows(text)
+        except Exception as error:  # what the readers of ZIP and XML below openpyxl raise is nowhere listed
+            raise Failure(INPUT, f"{command}: not a workbook that can be read, {path}") from error
+    try:
+        return separated_rows(text.decode("utf-8-sig"))
+    except UnicodeDecodeError as error:
+        line = text.count(b"\n", 0, error.start) + 1
+        raise Failure(INPUT, f"{command}: not UTF-8, {path} line {line}") from error
+    except csv.Error as error:
+        raise Failure(INPUT, f"{command}: not separated values: {error}, {path}") from error
+
+
+def read(command: str, path: Path) -> Sheet:
+    """Reads a file; rows whose cells are all empty are left out."""
+    rows = [row for row in rows_of(command, path) if any(row.cells)]
+    if not rows:
+        raise Failure(INPUT, f"{command}: no heading, {path}")
+    return Sheet(path, rows[0], rows[1:])

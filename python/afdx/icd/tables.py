@@ -1,0 +1,107 @@
+"""Writes the tables of a network's switches and its network file, the names of links and ports beside their rows."""
+from collections.abc import Iterable
+from dataclasses import dataclass, field
+from typing import TypeAlias
+
+import tomlkit
+from tomlkit.items import Item, Table as Section
+
+from afdx.icd.mapping import Mapping
+from afdx.icd.network import Cable, Link, Network, Port
+from afdx.icd.routes import Hop
+
+Value: TypeAlias = int | str | Item
+MADE = "Written by afdx-icd: what is changed here by hand is lost when it runs again."
+
+
+@dataclass
+class Row:
+    """A link at one switch."""
+    link: Link
+    hop: Hop
+    jitter_us: int
+
+
+@dataclass
+class Table:
+    """A switch's ports, each with its name, and the rows of its links, both by number."""
+    ports: dict[int, tuple[str, Port]] = field(default_factory=dict)
+    rows: dict[int, Row] = field(default_factory=dict)
+
+    def names(self, numbers: Iterable[int]) -> str:
+        return ", ".join(self.ports[number][0] for number in numbers)
+
+
+def tables_of(network: Network, hops: dict[int, list[Hop]]) -> dict[str, Table]:
+    """Answers the table of each switch, by name. Each row has its sender's jitter."""
+    tables = {switch: Table() for switch in sorted(network.switches)}
+    ports = list(network.ends.items())
+    for cable in network.cables:
+        ports += [(f"cable to {cable.b}", cable.a), (f"cable to {cable.a}", cable.b)]
+    for name, port in sorted(ports, key=lambda named: named[1].number):
+        tables[port.switch].ports[port.number] = (name, port)
+    for link in sorted(network.links, key=lambda link: link.id):
+        for hop in hops[link.id]:
+            tables[hop.switch].rows[link.id] = Row(link, hop, link.jitter_us)
+    return tables
+
+
+def section(name: str, values: dict[str, Value]) -> Section:
+    """Answers a section with these values, and a name beside its heading if there is one."""
+    made = tomlkit.table()
+    for key, value in values.items():
+        made.add(key, value)
+    if name:
+        made.comment(name)
+    return made
+
+
+def port_section(name: str, port: Port) -> Section:
+    return section(name, {
+        "id": port.number, "mbit": port.mbit, "buffer": port.buffer, "max_delay_us": port.max_delay_us})
+
+
+def row_section(table: Table, row: Row) -> Section:
+    link, hop = row.link, row.hop
+    source = tomlkit.item(hop.source).comment(table.names([hop.source]))
+    targets = tomlkit.item(hop.targets).comment(table.names(hop.targets))
+    return section(link.name, {
+        "id": link.id, "from": source, "to": targets, "bag_ms": link.bag_ms, "jitter_us": row.jitter_us,
+        "max_size": link.max_size, "priority": link.priority, "police": link.police})
+
+
+def document(top: dict[str, int | str], sections: dict[str, list[Section]]) -> bytes:
+    """Writes a file that says who made it, the values at its top, and its sections."""
+    made = tomlkit.document()
+    made.add(tomlkit.comment(MADE))
+    for key, value in top.items():
+        made.add(key, tomlkit.item(value))
+    for key, members in sections.items():
+        array = tomlkit.aot()
+        for member in members:
+            array.append(member)
+        made.add(key, array)
+    return tomlkit.dumps(made).encode()
+
+
+def table_text(table: Table, mapping: Mapping) -> bytes:
+    """Writes a switch's table."""
+    return document({"version": 3, "constant": mapping.constant, "latency_us": mapping.latency_us}, {
+        "port": [port_section(name, port) for name, port in table.ports.values()],
+        "link": [row_section(table, row) for row in table.rows.values()]})
+
+
+def network_text(switches: Iterable[str], cables: Iterable[Cable]) -> bytes:
+    """Writes the network file: the switches, and both wires of each cable, by switch and port."""
+    wires = [(start, end, cable.delay_ns) for cable in cables for start, end in ((cable.a, cable.b), (cable.b, cable.a))]
+    wires.sort(key=lambda wire: (wire[0].switch, wire[0].number))
+    return document({"version": 1}, {
+        "switch": [section("", {"name": switch, "table": f"{switch}.toml"}) for switch in switches],
+        "wire": [section("", {"from": str(start), "to": str(end), "delay_ns": delay})
+                 for start, end, delay in wires]})
+
+
+def texts_of(tables: dict[str, Table], network: Network, mapping: Mapping) -> dict[str, bytes]:
+    """Writes all files, by their names. The network file comes last, since it names the others."""
+    texts = {f"{switch}.toml": table_text(table, mapping) for switch, table in tables.items()}
+    return texts | {"network.toml": network_text(tables, network.cables)}

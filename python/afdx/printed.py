@@ -1,0 +1,19 @@
+"""Reads the lines that the program prints, each as its words by name."""
+import re
+
+# a port's needs beside what it has, as `afdx size` prints them
+PORT = re.compile(r"port (?P<port>\d+) rate (?P<rate>\d+) of (?P<rate_limit>\d+) "
+                  r"buffer (?P<buffer>\d+) of (?P<buffer_limit>\d+) "
+                  r"high (?:-|(?P<high>\d+) of (?P<high_limit>\d+)) "
+                  r"low (?:-|(?P<low>none|\d+) of (?P<low_limit>\d+)) "
+                  r"(?:fits|breaks (?P<breaks>.*))")
+# the jitter that a row needs, as `afdx network jitter` prints it
+JITTER = re.compile(r"switch (?P<switch>\S+) link (?P<link>\d+) jitter_us (?P<jitter_us>\d+)")
+# the way of a link to one of its ends, as `afdx network check` prints it
+WAY = re.compile(r"link (?P<link>\d+) from (?P<start>\S+) to (?P<end>\S+) ways (?P<ways>.+) "
+                 r"least (?P<least>\d+) most (?P<most>\d+) jitter (?P<jitter>[\d ]+)")
+
+
+def lines_of(pattern: re.Pattern[str], text: str) -> list[dict[str, str]]:
+    """Answers the words of each line of this form; a word that is not there is `-`."""
+    return [match.groupdict("-") for match in map(pattern.fullmatch, text.splitlines()) if match]

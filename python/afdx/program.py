@@ -1,0 +1,78 @@
+"""Runs the program afdx and says how far it is."""
+import os
+import shutil
+import subprocess
+import sys
+import time
+from dataclasses import dataclass
+from pathlib import Path
+
+from afdx.failure import DEVICE, Failure, failing
+
+BUILT = Path(__file__).resolve().parents[2] / "crates" / "afdx" / "out" / "afdx"
+TURN = 0.5  # seconds between two words on the terminal
+
+
+class Progress:
+    """Keeps a line on a terminal that says what is being done, and for how long."""
+
+    def __init__(self, command: str) -> None:
+        self.command = command
+        self.began = time.monotonic()
+        self.shown = sys.stderr.isatty()
+
+    def say(self, what: str) -> None:
+        if self.shown:
+            sys.stderr.write(f"\r\033[K{self.command}: {what}, {time.monotonic() - self.began:.0f} s so far ")
+            sys.stderr.flush()
+
+    def clear(self) -> None:
+        if self.shown:
+            sys.stderr.write("\r\033[K")
+            sys.stderr.flush()
+
+
+@dataclass
+class Answer:
+    """What the program printed for some arguments, and how it ended."""
+    status: int
+    said: str
+    line: str  # on standard error, without its line feed
+
+
+class Program:
+    """The program afdx, run for a command: the file that AFDX in the environment names, else the one that was built in
+    this repository, else the one on the path."""
+
+    def __init__(self, command: str) -> None:
+        found = os.environ.get("AFDX") or (str(BUILT) if os.access(BUILT, os.X_OK) else shutil.which("afdx"))
+        if not found:
+            raise Failure(DEVICE, f"{command}: no program afdx: build it by ./demo, put it on the path, "
+                                  "or name it in AFDX")
+        self.file = found
+        self.progress = Progress(command)
+
+    def ask(self, *arguments: str | os.PathLike[str]) -> Answer:
+        """Runs the program over these arguments. Fails only where it cannot be run."""
+        words = [os.fspath(argument) for argument in arguments]
+        try:
+            process = subprocess.Popen([self.file, *words], stdout=subprocess.PIPE, stderr=subprocess.PIPE)
+        except OSError as error:
+            raise failing(self.progress.command, f"cannot run {self.file}", error) from error
+        while True:
+            self.progress.say("afdx " + " ".join(words[:2] if words[0] == "network" else words[:1]))
+            try:
+                said, line = process.communicate(timeout=TURN)
+                break
+            except subprocess.TimeoutExpired:
+                pass
+        self.progress.clear()
+        status = process.returncode if process.returncode >= 0 else 128 - process.returncode
+        return Answer(status, os.fsdecode(said), os.fsdecode(line).removesuffix("\n"))
+
+    def answer(self, *arguments: str | os.PathLike[str]) -> str:
+        """Answers what the program prints; if it fails, its line and its status end the command."""
+        answer = self.ask(*arguments)
+        if answer.status:
+            raise Failure(answer.status, answer.line)
+        return answer.said
