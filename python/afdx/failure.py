@@ -1,4 +1,5 @@
 """How a command ends early: lines on standard error and an exit status, never a traceback."""
+import contextlib
 import os
 import sys
 from collections.abc import Callable, Sequence
@@ -39,8 +40,9 @@ def run(main: Callable[[Sequence[str]], int]) -> int:
     try:
         return main(sys.argv[1:])
     except Failure as failure:
-        for line in failure.lines:
-            sys.stderr.buffer.write(os.fsencode(line + "\n"))
+        with contextlib.suppress(OSError):  # nobody reads them any more
+            sys.stderr.buffer.write(os.fsencode("".join(f"{line}\n" for line in failure.lines)))
+            sys.stderr.buffer.flush()
         return failure.status
     except KeyboardInterrupt:
         return 130

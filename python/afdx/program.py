@@ -40,12 +40,18 @@ class Answer:
     line: str  # on standard error, without its line feed
 
 
+def find_program() -> str | None:
+    """Finds the program: what AFDX in the environment names, else this repository's own build, else the path's."""
+    if named := os.environ.get("AFDX"):
+        return named
+    return str(BUILT) if os.access(BUILT, os.X_OK) else shutil.which("afdx")
+
+
 class Program:
-    """The program afdx, run for a command: the file that AFDX in the environment names, else the one that was built in
-    this repository, else the one on the path."""
+    """The program afdx, run for a command."""
 
     def __init__(self, command: str) -> None:
-        found = os.environ.get("AFDX") or (str(BUILT) if os.access(BUILT, os.X_OK) else shutil.which("afdx"))
+        found = find_program()
         if not found:
             raise Failure(DEVICE, f"{command}: no program afdx: build it by ./demo, put it on the path, "
                                   "or name it in AFDX")

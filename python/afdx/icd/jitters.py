@@ -18,7 +18,7 @@ class Verdict:
     """What the program says of a network, and its files."""
     texts: dict[str, bytes]
     answer: Answer  # of `afdx network check`, or of `afdx network jitter` if that refuses the network
-    broken: list[str]  # the ports that break rules, if the network is refused, with their names
+    broken: list[str]  # if the network is refused, its rows that need too much jitter and its ports that break rules
 
 
 def put_all(command: str, folder: Path, texts: dict[str, bytes]) -> None:
@@ -26,10 +26,16 @@ def put_all(command: str, folder: Path, texts: dict[str, bytes]) -> None:
         files.put(command, folder / name, text)
 
 
-def give(tables: dict[str, Table], said: str) -> None:
-    """Gives the rows the jitters that `afdx network jitter` printed, as far as a table can have them."""
+def give(tables: dict[str, Table], said: str) -> list[str]:
+    """Gives the rows the jitters that `afdx network jitter` printed, as far as a table can have them. Answers the lines
+    of rows that need more, with their names."""
+    lines = []
     for need in printed.lines_of(printed.JITTER, said):
-        tables[need["switch"]].rows[int(need["link"])].jitter_us = min(int(need["jitter_us"]), MOST)
+        row = tables[need["switch"]].rows[int(need["link"])]
+        row.jitter_us = min(int(need["jitter_us"]), MOST)
+        if int(need["jitter_us"]) > MOST:
+            lines.append(f"{need['switch']} link {need['link']} needs jitter_us {need['jitter_us']} ({row.link.name})")
+    return lines
 
 
 def broken_ports(program: Program, folder: Path, tables: dict[str, Table]) -> list[str]:
@@ -50,8 +56,8 @@ def settle(program: Program, tables: dict[str, Table], texts_of: Texts) -> Verdi
         folder = Path(room)
         put_all(program.progress.command, folder, texts_of(tables))
         needs = program.ask("network", "jitter", folder / "network.toml")
-        give(tables, needs.said)
+        broken = give(tables, needs.said)
         texts = texts_of(tables)
         put_all(program.progress.command, folder, texts)
         answer = needs if needs.status else program.ask("network", "check", folder / "network.toml")
-        return Verdict(texts, answer, broken_ports(program, folder, tables) if answer.status else [])
+        return Verdict(texts, answer, broken + broken_ports(program, folder, tables) if answer.status else [])

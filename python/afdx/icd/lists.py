@@ -23,21 +23,27 @@ class List:
         self.order, self.mapping, self.complaints = order, mapping, complaints
         self.places: dict[str, int] = {}
         for column in known:
-            self.find(column, sheet.heading)
+            self.find(column)
 
     def heading(self, column: Column[Any]) -> str:
         return self.mapping.headings.get(column.key, column.key)
 
-    def find(self, column: Column[Any], headings: Row) -> None:
+    def find(self, column: Column[Any]) -> None:
         """Finds a column. It has to be there if the mapping names it, and if nothing stands for its empty cells."""
         name = self.heading(column)
-        at = [place for place, heading in enumerate(headings.cells) if heading.casefold() == name.casefold()]
+        headings = self.sheet.heading.cells
+        at = [place for place, heading in enumerate(headings) if heading.casefold() == name.casefold()]
         if at:
             self.places[column.key] = at[0]
         stands_in = column.default is not None or column.key in self.mapping.defaults
-        if len(at) > 1 or not at and (column.key in self.mapping.headings or not stands_in):
-            place = Place(self.order, headings.line, 0, str(self.path), name, None)
-            self.complaints.note(place, "two columns of this name" if at else "no such column")
+        if len(at) > 1:
+            self.complain_of_heading(column, "two columns of this name")
+        elif not at and (column.key in self.mapping.headings or not stands_in):
+            self.complain_of_heading(column, "no such column")
+
+    def complain_of_heading(self, column: Column[Any], what: str) -> None:
+        place = Place(self.order, self.sheet.heading.line, 0, str(self.path), self.heading(column), None)
+        self.complaints.note(place, what)
 
     def rows(self) -> Iterator[Row]:
         """Answers the rows. A cell that no heading is above, as an unquoted separator makes them, is a complaint."""

@@ -97,9 +97,10 @@ def read_cables(of: List, network: Network, ports: Once) -> None:
         b = Port(of.cell(row, columns.SWITCH_B), of.cell(row, columns.PORT_B), *line)
         delay = of.cell(row, columns.WIRE_DELAY)
         ports.take(of, row, columns.PORT_A, a.switch, a.number)
-        ports.take(of, row, columns.PORT_B, b.switch, b.number)
-        if of.is_sound(row) and a.switch == b.switch:
+        if a.switch == b.switch is not None:
             of.complain(row, columns.SWITCH_B, "the cable leads to its own switch")
+        else:
+            ports.take(of, row, columns.PORT_B, b.switch, b.number)
         network.switches |= {a.switch, b.switch}
         if of.is_sound(row):
             network.cables.append(Cable(a, b, delay))
@@ -151,6 +152,9 @@ def lists_of(command: str, paths: list[Path], mapping: Mapping, complaints: Comp
     """Opens the three lists, of links, end systems and cables, and ends the command if a column is missing."""
     known = [(columns.LINKS, mapping.links), (columns.ENDS, mapping.ends), (columns.WIRES, mapping.wires)]
     lists = [List(command, path, order, *known[order], complaints) for order, path in enumerate(paths)]
+    given = lists[0].places.keys() | mapping.links.defaults.keys()
+    if SIZE.key not in given and PAYLOAD.key not in given:
+        lists[0].complain_of_heading(SIZE, f"no such column, and no {lists[0].heading(PAYLOAD)} either")
     complaints.refuse(command)
     return lists
 

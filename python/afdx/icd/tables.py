@@ -1,6 +1,7 @@
 """Writes the tables of a network's switches and its network file, the names of links and ports beside their rows."""
 from collections.abc import Iterable
 from dataclasses import dataclass, field
+from itertools import chain
 from typing import TypeAlias
 
 import tomlkit
@@ -93,8 +94,8 @@ def table_text(table: Table, mapping: Mapping) -> bytes:
 
 def network_text(switches: Iterable[str], cables: Iterable[Cable]) -> bytes:
     """Writes the network file: the switches, and both wires of each cable, by switch and port."""
-    wires = [(start, end, cable.delay_ns) for cable in cables for start, end in ((cable.a, cable.b), (cable.b, cable.a))]
-    wires.sort(key=lambda wire: (wire[0].switch, wire[0].number))
+    both = [[(cable.a, cable.b, cable.delay_ns), (cable.b, cable.a, cable.delay_ns)] for cable in cables]
+    wires = sorted(chain(*both), key=lambda wire: (wire[0].switch, wire[0].number))
     return document({"version": 1}, {
         "switch": [section("", {"name": switch, "table": f"{switch}.toml"}) for switch in switches],
         "wire": [section("", {"from": str(start), "to": str(end), "delay_ns": delay})

@@ -1,0 +1,32 @@
+"""Takes the rows of tables and network files as facts. The program has read these files before, so they are sound."""
+from typing import Any
+
+from afdx.diff.facts import Facts, Place
+
+PORT = ("mbit", "buffer", "max_delay_us")
+LINK = ("from", "to", "bag_ms", "jitter_us", "max_size", "priority", "police")
+
+
+def text_of(value: Any) -> str:
+    """Writes a value; ports in their order, since a table means the same by any."""
+    return " ".join(map(str, sorted(value))) if isinstance(value, list) else str(value)
+
+
+def table_facts(table: dict[str, Any], switch: str = "") -> Facts:
+    """Answers the rows of a table, and what stands at its top, with what a missing key stands for."""
+    top = {"constant": table.get("constant", "03000000").lower(), "latency_us": str(table.get("latency_us", 0))}
+    facts = {Place(switch, "table", ""): top}
+    for port in table.get("port", []):
+        facts[Place(switch, "port", str(port["id"]))] = {key: text_of(port[key]) for key in PORT}
+    for link in table.get("link", []):
+        whole = {"police": "byte"} | link
+        facts[Place(switch, "link", str(link["id"]))] = {key: text_of(whole[key]) for key in LINK}
+    return facts
+
+
+def network_facts(network: dict[str, Any]) -> Facts:
+    """Answers the switches and wires of a network file. Where its tables lie is no fact."""
+    facts: Facts = {Place("", "switch", switch["name"]): {} for switch in network.get("switch", [])}
+    for wire in network.get("wire", []):
+        facts[Place("", "wire", wire["from"])] = {"to": wire["to"], "delay_ns": str(wire.get("delay_ns", 0))}
+    return facts

@@ -1,0 +1,100 @@
+"""Asks the program about a table or a network, and keeps all that is so of it."""
+import re
+import tomllib
+from dataclasses import dataclass
+from pathlib import Path
+from typing import Any
+
+from afdx import files, printed
+from afdx.diff import rows
+from afdx.diff.facts import Facts, Place
+from afdx.failure import INPUT, LOAD, Failure
+from afdx.program import Answer, Program
+
+# lines of a network whose files were all read, but do not fit together
+UNFIT = re.compile(r"afdx: network (G3 NoSuchPort|G[4-9] )")
+
+
+@dataclass
+class Side:
+    """A table or a network file."""
+    path: Path
+    content: dict[str, Any]
+    facts: Facts
+
+    def is_network(self) -> bool:
+        return "switch" in self.content or "wire" in self.content
+
+
+def content_of(command: str, path: Path) -> dict[str, Any]:
+    """Reads a file's TOML, as far as Python knows it: the program takes TOML 1.1, Python 1.0."""
+    try:
+        return tomllib.loads(files.get(command, path).decode("utf-8-sig"))
+    except (UnicodeDecodeError, tomllib.TOMLDecodeError) as error:
+        raise Failure(INPUT, f"{command}: not TOML 1.0: {error}, {path}") from error
+
+
+def refuse(program: Program, path: Path, answer: Answer) -> None:
+    """Ends the command with the program's line and the file that it is about."""
+    raise Failure(answer.status, f"{program.progress.command}: {answer.line.removeprefix('afdx: ')}, {path}")
+
+
+def verdict_of(answer: Answer) -> Facts:
+    return {Place("", "check", ""): {"verdict": answer.line or "accepted"}}
+
+
+def load_facts(said: str, switch: str = "") -> Facts:
+    """Answers what `afdx size` printed: of each port with links what they ask for, and the rules that it breaks."""
+    lines = printed.lines_of(printed.PORT, said)
+    return {Place(switch, "load", line["port"]): {key: line[key] for key in ("rate", "buffer", "high", "low", "breaks")}
+            for line in lines}
+
+
+def ask_table(program: Program, side: Side) -> None:
+    """Adds the rows of a table and what the program says of them."""
+    size = program.ask("size", side.path)
+    if size.status:
+        refuse(program, side.path, size)
+    side.facts |= rows.table_facts(side.content) | load_facts(size.said)
+    side.facts |= verdict_of(program.ask("check", side.path))
+
+
+def need_facts(said: str, facts: Facts) -> Facts:
+    """Answers what `afdx network jitter` printed, and by how much the row has less."""
+    needs = {}
+    for line in printed.lines_of(printed.JITTER, said):
+        has = int(facts[Place(line["switch"], "link", line["link"])]["jitter_us"])
+        lacks = str(max(0, int(line["jitter_us"]) - has))
+        needs[Place(line["switch"], "need", line["link"])] = {"jitter_us": line["jitter_us"], "lacks": lacks}
+    return needs
+
+
+def way_facts(said: str) -> Facts:
+    """Answers the ways that `afdx network check` printed."""
+    lines = printed.lines_of(printed.WAY, said)
+    return {Place("", "way", f"{line['link']} to {line['end']}"):
+            {key: line[key] for key in ("start", "ways", "least", "most", "jitter")} for line in lines}
+
+
+def ask_network(program: Program, side: Side) -> None:
+    """Adds the rows of a network and of its tables, and what the program says of them."""
+    check = program.ask("network", "check", side.path)
+    if check.status not in (0, LOAD) and not UNFIT.match(check.line):
+        refuse(program, side.path, check)
+    side.facts |= rows.network_facts(side.content)
+    for switch in side.content.get("switch", []):
+        table = side.path.parent / switch["table"]
+        side.facts |= rows.table_facts(content_of(program.progress.command, table), switch["name"])
+        side.facts |= load_facts(program.answer("size", table), switch["name"])
+    side.facts |= need_facts(program.ask("network", "jitter", side.path).said, side.facts)
+    side.facts |= way_facts(check.said) | verdict_of(check)
+
+
+def read(program: Program, path: Path) -> Side:
+    """Answers all that is so of a table or a network file."""
+    side = Side(path, content_of(program.progress.command, path), {})
+    if side.is_network():
+        ask_network(program, side)
+    else:
+        ask_table(program, side)
+    return side

@@ -1,0 +1,153 @@
+"""Every kind of bad row: all are said at once, each with its line, column and value."""
+from pathlib import Path
+
+import pytest
+
+import worked_lists
+from afdx.failure import INPUT, Failure
+from afdx.icd import command
+
+GOOD = {"id": "20", "name": "heading", "from": "A1", "to": "B1", "bag_ms": "8", "jitter_us": "0", "max_size": "100",
+        "udp_payload": "", "priority": "high", "police": "", "via": ""}
+END = {"name": "D1", "switch": "A", "port": "3", "mbit": "100", "buffer": "", "max_delay_us": ""}
+WIRE = {"switch_a": "A", "port_a": "11", "switch_b": "B", "port_b": "11", "mbit": "10", "delay_ns": "", "buffer": "",
+        "max_delay_us": ""}
+BAD_LINKS = [
+    ("id", "", "empty"),
+    ("id", "x20", "not a whole number"),
+    ("id", "-1", "not a whole number"),
+    ("id", "65536", "not from 0 to 65535"),
+    ("name", "a\u0007b", "has a character that cannot be printed"),
+    ("from", "", "empty"),
+    ("from", "D1", "no such end system"),
+    ("to", "", "empty"),
+    ("to", "B1|D1", "no such end system as D1"),
+    ("to", "B1||C1", "an empty name between two separators"),
+    ("to", "B1,B1", "has B1 twice"),
+    ("to", "B1|A1", "A1 would send to itself"),
+    ("bag_ms", "3", "not one of 1, 2, 4, 8, 16, 32, 64, 128"),
+    ("bag_ms", "4.5", "not a whole number"),
+    ("jitter_us", "10001", "not from 0 to 10000"),
+    ("max_size", "63", "not from 64 to 1518"),
+    ("max_size", "1519", "not from 64 to 1518"),
+    ("max_size", "", "neither the largest frame nor its UDP payload is there"),
+    ("udp_payload", "1472", "not from 0 to 1471"),
+    ("priority", "medium", "not high or low"),
+    ("police", "bits", "not byte or frame"),
+    ("via", "D", "no such switch as D"),
+    ("via", "B|A", "the way would come to A twice"),
+    ("via", "B|C", "no destination lies at or beyond C"),
+]
+BAD_ENDS = [
+    ("name", "", "empty"),
+    ("name", "A1", "{ends} line 2 has it too"),
+    ("switch", "the bay", "not 1 to 16 of A-Z a-z 0-9 - _"),
+    ("switch", "Network", "the table would have the network file's name"),
+    ("port", "25", "not from 1 to 24"),
+    ("port", "1", "{ends} line 2 has it too"),
+    ("mbit", "50", "not one of 10, 100, 1000"),
+    ("buffer", "16777217", "not from 0 to 16777216"),
+    ("max_delay_us", "0", "not from 1 to 500000"),
+]
+BAD_WIRES = [
+    ("switch_a", "", "empty"),
+    ("port_a", "1", "{ends} line 2 has it too"),
+    ("switch_b", "A", "the cable leads to its own switch"),
+    ("port_b", "21", "{wires} line 3 has it too"),
+    ("delay_ns", "1000001", "not from 0 to 1000000"),
+]
+
+
+def row(good: dict[str, str], column: str = "", value: str = "") -> str:
+    """Writes a row in which one cell is another."""
+    cells = good | {column: value} if column else good
+    return ",".join(f'"{cell}"' for cell in cells.values()) + "\n"
+
+
+def rows(good: dict[str, str], bad: list[tuple[str, str, str]]) -> str:
+    return ",".join(good) + "\n" + "".join(row(good, column, value) for column, value, _ in bad)
+
+
+def refusal(paths: list[Path]) -> Failure:
+    """Answers how the command ends for these lists, which has to be before it writes anything."""
+    net = paths[0].parent / "net"
+    with pytest.raises(Failure) as ended:
+        command.main([*map(str, paths), str(net)])
+    assert ended.value.status == INPUT and not net.exists()
+    return ended.value
+
+
+def line(what: str, path: Path, number: int, column: str, value: str) -> str:
+    shown = value.replace("\u0007", "\\u0007")
+    return f'afdx-icd: {what}, {path} line {number}, column {column}, value "{shown}"'
+
+
+@pytest.mark.parametrize("column, value, what", BAD_LINKS)
+def test_each_bad_cell_of_a_link(tmp_path: Path, column: str, value: str, what: str) -> None:
+    paths = worked_lists.write(tmp_path, ",".join(GOOD) + "\n" + row(GOOD | {"id": "21"}) + row(GOOD, column, value))
+    assert refusal(paths).lines == (line(what, paths[0], 3, column, value),)
+
+
+def test_all_bad_links_at_once(tmp_path: Path) -> None:
+    other = [bad for bad in BAD_LINKS if bad[0] != "id"]
+    text = ",".join(GOOD) + "\n" + "".join(row(GOOD | {"id": str(at), column: value})
+                                           for at, (column, value, _) in enumerate(other))
+    paths = worked_lists.write(tmp_path, text)
+    assert refusal(paths).lines == tuple(
+        line(what, paths[0], number, column, value) for number, (column, value, what) in enumerate(other, 2))
+
+
+@pytest.mark.parametrize("column, value, what", BAD_ENDS)
+def test_each_bad_cell_of_an_end_system(tmp_path: Path, column: str, value: str, what: str) -> None:
+    ends = "".join(f"{text},,\n" for text in worked_lists.ENDS.splitlines()[1:])
+    paths = worked_lists.write(tmp_path, ends=",".join(END) + "\n" + ends + row(END, column, value))
+    assert refusal(paths).lines == (line(what.format(ends=paths[1]), paths[1], 7, column, value),)
+
+
+@pytest.mark.parametrize("column, value, what", BAD_WIRES)
+def test_each_bad_cell_of_a_cable(tmp_path: Path, column: str, value: str, what: str) -> None:
+    wires = "".join(f"{text},,\n" for text in worked_lists.WIRES.splitlines()[1:])
+    paths = worked_lists.write(tmp_path, wires=",".join(WIRE) + "\n" + wires + row(WIRE, column, value))
+    assert refusal(paths).lines == (
+        line(what.format(ends=paths[1], wires=paths[2]), paths[2], 5, column, value),)
+
+
+def test_bad_rows_of_all_lists_at_once(tmp_path: Path) -> None:
+    links = worked_lists.LINKS.replace(",128,", ",3,").replace("13,local,A1,A2", "10,local,A1,A2")
+    ends, wires = worked_lists.ENDS.replace("A,2,10", "A,1,10"), worked_lists.WIRES.replace(",50", ",-50")
+    paths = worked_lists.write(tmp_path, links, ends, wires)
+    assert refusal(paths).lines == (
+        line("not one of 1, 2, 4, 8, 16, 32, 64, 128", paths[0], 4, "bag_ms", "3"),
+        line(f"{paths[0]} line 2 has it too", paths[0], 5, "id", "10"),
+        line(f"{paths[1]} line 2 has it too", paths[1], 3, "port", "1"),
+        line("not a whole number", paths[2], 2, "delay_ns", "-50"))
+
+
+def test_a_payload_of_another_size(tmp_path: Path) -> None:
+    paths = worked_lists.write(tmp_path, worked_lists.LINKS.replace(",64,17,", ",65,17,"))
+    assert refusal(paths).lines == (
+        line("not the frame of the UDP payload, which has 64 bytes", paths[0], 5, "max_size", "65"),)
+
+
+def test_a_cell_past_the_heading(tmp_path: Path) -> None:
+    paths = worked_lists.write(tmp_path, ends=worked_lists.ENDS + "D1,A,3,100,spare\n")
+    assert refusal(paths).lines == (line("more cells than the heading has", paths[1], 7, "5", "spare"),)
+
+
+def test_switches_that_no_cable_reaches(tmp_path: Path) -> None:
+    wires = worked_lists.WIRES.splitlines(keepends=True)
+    paths = worked_lists.write(tmp_path, wires=wires[0] + wires[1])
+    assert refusal(paths).lines == (
+        line("no cables lead from A to C", paths[0], 2, "to", "B1|C1"),
+        line("no cables lead from B to C round the switches before it", paths[0], 3, "via", "B"),
+        line("no cables lead from C to A", paths[0], 4, "to", "A2"))
+
+
+def test_missing_columns_of_all_lists_at_once(tmp_path: Path) -> None:
+    links = worked_lists.LINKS.replace("max_size", "size").replace("udp_payload", "payload").replace("police", "via")
+    paths = worked_lists.write(tmp_path, links, worked_lists.ENDS.replace("mbit", "speed"),
+                               worked_lists.WIRES.replace("port_a", "a").replace("port_b", "b"))
+    places = [("no such column, and no udp_payload either", 0, "max_size"), ("two columns of this name", 0, "via"),
+              ("no such column", 1, "mbit"), ("no such column", 2, "port_a"), ("no such column", 2, "port_b")]
+    assert refusal(paths).lines == tuple(
+        f"afdx-icd: {what}, {paths[order]} line 1, column {column}" for what, order, column in places)

@@ -1,0 +1,90 @@
+"""Spreadsheets as they come."""
+import csv
+import io
+from pathlib import Path
+
+import openpyxl
+import pytest
+from hypothesis import given, strategies
+
+from afdx.failure import INPUT, Failure
+from afdx.icd import spreadsheet
+from afdx.icd.spreadsheet import Row
+
+PRINTABLE = strategies.characters(blacklist_categories=("Cs", "Cc"))
+CELLS = strategies.text(PRINTABLE | strategies.sampled_from(',;"\n'))
+
+
+def read(path: Path, text: bytes) -> list[Row]:
+    path.write_bytes(text)
+    sheet = spreadsheet.read("command", path)
+    return [sheet.heading, *sheet.rows]
+
+
+def workbook(rows: list[list[object]]) -> bytes:
+    """Answers a workbook of these rows."""
+    book, text = openpyxl.Workbook(), io.BytesIO()
+    for row in rows:
+        book.active.append(row)
+    book.save(text)
+    return text.getvalue()
+
+
+@pytest.mark.parametrize("text", [
+    b"id,to\n1,A\n", b"id;to\n1;A\n", b"id\tto\r\n1\tA\r\n", b"\xef\xbb\xbfid;to\n1 ; A", b'"id","to"\n"1","A"\n'])
+def test_separators_and_line_ends(tmp_path: Path, text: bytes) -> None:
+    assert read(tmp_path / "list.csv", text) == [Row(1, ["id", "to"]), Row(2, ["1", "A"])]
+
+
+def test_a_row_is_of_the_line_where_it_begins(tmp_path: Path) -> None:
+    rows = read(tmp_path / "list.csv", b'\nid,to\n\n1,"A,\nB"\n,,\n2,C\n')
+    assert rows == [Row(2, ["id", "to"]), Row(4, ["1", "A,\nB"]), Row(7, ["2", "C"])]
+
+
+def test_a_workbook_reads_as_the_same_list(tmp_path: Path) -> None:
+    text = workbook([["id", "to", "bag_ms"], [1, "A ", 8.0], [], [2, None, 0.5]])
+    assert read(tmp_path / "list.xlsx", text) == [
+        Row(1, ["id", "to", "bag_ms"]), Row(2, ["1", "A", "8"]), Row(4, ["2", "", "0.5"])]
+
+
+@pytest.mark.parametrize("name, text, line", [
+    ("list.csv", b"", "no heading, {}"),
+    ("list.csv", b"id\n1\n\xff\n", "not UTF-8, {} line 3"),
+    ("list.csv", b'id,"to"x\n', "not separated values: ',' expected after '\"', {}"),
+    ("list.xlsx", b"id,to\n", "not a workbook that can be read, {}")])
+def test_files_that_are_no_lists(tmp_path: Path, name: str, text: bytes, line: str) -> None:
+    with pytest.raises(Failure) as ended:
+        read(tmp_path / name, text)
+    assert ended.value.status == INPUT
+    assert ended.value.lines == (f"command: {line.format(tmp_path / name)}",)
+
+
+@given(rows=strategies.lists(strategies.lists(CELLS, min_size=2, max_size=2)),
+       separator=strategies.sampled_from(",;\t"))
+def test_what_a_spreadsheet_writes_is_read(tmp_path: Path, rows: list[list[str]], separator: str) -> None:
+    text = io.StringIO()
+    csv.writer(text, delimiter=separator).writerows([["id", "to"], *rows])
+    kept = [[cell.strip() for cell in row] for row in rows]
+    assert [row.cells for row in read(tmp_path / "list.csv", text.getvalue().encode())[1:]] == [
+        row for row in kept if any(row)]
+
+
+def is_list_or_refused(path: Path, text: bytes) -> bool:
+    """Says that bytes are read, or refused as input; anything else is raised."""
+    try:
+        return bool(read(path, text))
+    except Failure as failure:
+        return failure.status == INPUT
+
+
+@given(text=strategies.binary())
+def test_any_bytes_are_a_list_or_refused(tmp_path: Path, text: bytes) -> None:
+    assert is_list_or_refused(tmp_path / "list.csv", text)
+
+
+@given(place=strategies.floats(0, 1, exclude_max=True), byte=strategies.none() | strategies.integers(0, 255))
+def test_a_damaged_workbook_is_a_list_or_refused(tmp_path: Path, place: float, byte: int | None) -> None:
+    text = workbook([["id", "to"], [1, "A"]])
+    at = int(place * len(text))
+    rest = b"" if byte is None else bytes([byte]) + text[at + 1:]
+    assert is_list_or_refused(tmp_path / "list.xlsx", text[:at] + rest)
