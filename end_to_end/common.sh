@@ -74,6 +74,36 @@ is_printed() {
     diff <(grep . "$1") <(sed -e 's/Running as user[^.]*\. This could be dangerous\.//g' -e '/^$/d' "$2")
 }
 
+# step_prints STEP: this step of a page prints what the page has. It ends with more than 1 (a `diff` that differs) where the last
+# line is a refusal, and only there.
+step_prints() {
+    local wanted=$room/steps/$1.txt status=0 refused=0
+    (cd work && bash -euo pipefail "$room/steps/$1.sh") >printed.txt 2>&1 || status=$?
+    tail -n 1 "$wanted" | grep -q '^afdx[a-z-]*: ' && refused=1
+    echo "status $status"
+    [ $((status > 1)) -eq "$refused" ] && is_printed "$wanted" printed.txt
+}
+
+# run_page PAGE: checks the page's commands, one after the other in $room/work, with the commands of $room/bin.
+run_page() {
+    local section step number
+    mkdir -p bin work && ln -sf "$afdx" bin/afdx && PATH=$room/bin:$PATH && cp -r "$top/examples" work
+    check "the page's commands are found" python3 "$top/end_to_end/steps.py" "$1" steps
+    while read -r section; do
+        for step in "steps/$section"/*.sh; do
+            number=$(basename "$step" .sh)
+            check "$section, $number: $(head -n 1 "$step")" step_prints "$section/$number"
+        done
+    done < <(sections "$1")
+}
+
+# sections PAGE: those that have commands, in the page's order, as steps.py names them.
+sections() {
+    sed -n 's/^## //p' "$1" | tr 'A-Z' 'a-z' | sed -E 's/[^a-z0-9]+/_/g; s/^_|_$//g' | while read -r section; do
+        [ ! -d "steps/$section" ] || echo "$section"
+    done
+}
+
 # ends STATUS LINE FILE ARGUMENT..: $afdx ends with this status and this line for these arguments and this input, and nothing is
 # on standard output.
 ends() {

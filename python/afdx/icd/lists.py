@@ -26,13 +26,14 @@ class List:
             self.find(column)
 
     def heading(self, column: Column[Any]) -> str:
-        return self.mapping.headings.get(column.key, column.key)
+        """Answers what a column is called: as the list has it, or as it is looked for if the list has it not."""
+        at = self.places.get(column.key)
+        return self.mapping.headings.get(column.key, column.key) if at is None else self.sheet.heading.cells[at]
 
     def find(self, column: Column[Any]) -> None:
         """Finds a column. It has to be there if the mapping names it, and if nothing stands for its empty cells."""
-        name = self.heading(column)
-        headings = self.sheet.heading.cells
-        at = [place for place, heading in enumerate(headings) if heading.casefold() == name.casefold()]
+        name = self.heading(column).casefold()
+        at = [place for place, heading in enumerate(self.sheet.heading.cells) if heading.casefold() == name]
         if at:
             self.places[column.key] = at[0]
         stands_in = column.default is not None or column.key in self.mapping.defaults
