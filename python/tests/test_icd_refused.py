@@ -3,9 +3,9 @@ from pathlib import Path
 
 import pytest
 
-import worked_lists
 from afdx.failure import INPUT, Failure
 from afdx.icd import command
+from tests import worked_lists
 
 GOOD = {"id": "20", "name": "heading", "from": "A1", "to": "B1", "bag_ms": "8", "jitter_us": "0", "max_size": "100",
         "udp_payload": "", "priority": "high", "police": "", "via": ""}

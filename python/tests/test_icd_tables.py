@@ -4,8 +4,8 @@ from pathlib import Path
 
 import pytest
 
-import worked_lists
 from afdx.icd import command
+from tests import worked_lists
 
 # Jitters by docs/use/RULES.md, J + most - least, in ns. N = 2,048,000,000.
 #   link 10 at A.20, 1000 Mbit/s: r = 21 * 8 * 200 * 64 = 2,150,400, r * 2,040,000 / N = 2,142, and (80 + 20) * 8 = 800

@@ -74,8 +74,8 @@ def main(arguments: Sequence[str]) -> int:
     options = options_of(arguments)
     mapped = mapping.read(COMMAND, options.mapping)
     read, hops = read_all(options, mapped)
-    made = tables.tables_of(read, hops)
-    verdict = jitters.settle(Program(COMMAND), made, lambda changed: tables.texts_of(changed, read, mapped))
+    made = tables.tables_of(read, hops, mapped)
+    verdict = jitters.settle(Program(COMMAND), made, read)
     if not verdict.answer.status or options.unchecked:
         say(COMMAND, put_changed(options.net, verdict.texts, made))
     if verdict.answer.status:

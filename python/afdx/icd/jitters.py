@@ -1,16 +1,14 @@
 """Gives each row the jitter that it needs, and has the program judge the network."""
 import tempfile
-from collections.abc import Callable
 from dataclasses import dataclass
 from pathlib import Path
 
 from afdx import files, printed
-from afdx.icd.tables import Table
+from afdx.icd.network import Network
+from afdx.icd.tables import Table, texts_of
 from afdx.program import Answer, Program
 
 MOST = 10_000  # µs that a row can have
-
-Texts = Callable[[dict[str, Table]], dict[str, bytes]]
 
 
 @dataclass
@@ -31,10 +29,10 @@ def give(tables: dict[str, Table], said: str) -> list[str]:
     of rows that need more, with their names."""
     lines = []
     for need in printed.lines_of(printed.JITTER, said):
-        row = tables[need["switch"]].rows[int(need["link"])]
-        row.jitter_us = min(int(need["jitter_us"]), MOST)
-        if int(need["jitter_us"]) > MOST:
-            lines.append(f"{need['switch']} link {need['link']} needs jitter_us {need['jitter_us']} ({row.link.name})")
+        row, jitter_us = tables[need["switch"]].rows[int(need["link"])], int(need["jitter_us"])
+        row.give(min(jitter_us, MOST))
+        if jitter_us > MOST:
+            lines.append(f"{need['switch']} link {need['link']} needs jitter_us {jitter_us} ({row.link.name})")
     return lines
 
 
@@ -49,15 +47,15 @@ def broken_ports(program: Program, folder: Path, tables: dict[str, Table]) -> li
     return lines
 
 
-def settle(program: Program, tables: dict[str, Table], texts_of: Texts) -> Verdict:
+def settle(program: Program, tables: dict[str, Table], network: Network) -> Verdict:
     """Gives the rows their jitters and checks the network. One turn is enough: from the jitters at the links' first
     switches on, `afdx network jitter` itself goes on until none changes."""
     with tempfile.TemporaryDirectory(prefix="afdx-icd-") as room:
         folder = Path(room)
-        put_all(program.progress.command, folder, texts_of(tables))
+        put_all(program.progress.command, folder, texts_of(tables, network))
         needs = program.ask("network", "jitter", folder / "network.toml")
         broken = give(tables, needs.said)
-        texts = texts_of(tables)
+        texts = texts_of(tables, network)
         put_all(program.progress.command, folder, texts)
         answer = needs if needs.status else program.ask("network", "check", folder / "network.toml")
         return Verdict(texts, answer, broken + broken_ports(program, folder, tables) if answer.status else [])

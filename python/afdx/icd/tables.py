@@ -5,6 +5,7 @@ from itertools import chain
 from typing import TypeAlias
 
 import tomlkit
+from tomlkit import TOMLDocument
 from tomlkit.items import Item, Table as Section
 
 from afdx.icd.mapping import Mapping
@@ -17,10 +18,12 @@ MADE = "Written by afdx-icd: what is changed here by hand is lost when it runs a
 
 @dataclass
 class Row:
-    """A link at one switch."""
+    """A link at one switch, with its section of the table."""
     link: Link
-    hop: Hop
-    jitter_us: int
+    section: Section
+
+    def give(self, jitter_us: int) -> None:
+        self.section["jitter_us"] = jitter_us
 
 
 @dataclass
@@ -28,23 +31,10 @@ class Table:
     """A switch's ports, each with its name, and the rows of its links, both by number."""
     ports: dict[int, tuple[str, Port]] = field(default_factory=dict)
     rows: dict[int, Row] = field(default_factory=dict)
+    document: TOMLDocument = field(default_factory=tomlkit.document)
 
     def names(self, numbers: Iterable[int]) -> str:
         return ", ".join(self.ports[number][0] for number in numbers)
-
-
-def tables_of(network: Network, hops: dict[int, list[Hop]]) -> dict[str, Table]:
-    """Answers the table of each switch, by name. Each row has its sender's jitter."""
-    tables = {switch: Table() for switch in sorted(network.switches)}
-    ports = list(network.ends.items())
-    for cable in network.cables:
-        ports += [(f"cable to {cable.b}", cable.a), (f"cable to {cable.a}", cable.b)]
-    for name, port in sorted(ports, key=lambda named: named[1].number):
-        tables[port.switch].ports[port.number] = (name, port)
-    for link in sorted(network.links, key=lambda link: link.id):
-        for hop in hops[link.id]:
-            tables[hop.switch].rows[link.id] = Row(link, hop, link.jitter_us)
-    return tables
 
 
 def section(name: str, values: dict[str, Value]) -> Section:
@@ -62,17 +52,17 @@ def port_section(name: str, port: Port) -> Section:
         "id": port.number, "mbit": port.mbit, "buffer": port.buffer, "max_delay_us": port.max_delay_us})
 
 
-def row_section(table: Table, row: Row) -> Section:
-    link, hop = row.link, row.hop
+def row_section(table: Table, link: Link, hop: Hop) -> Section:
+    """Answers a link's row with its sender's jitter, the names of its ports beside their numbers."""
     source = tomlkit.item(hop.source).comment(table.names([hop.source]))
     targets = tomlkit.item(hop.targets).comment(table.names(hop.targets))
     return section(link.name, {
-        "id": link.id, "from": source, "to": targets, "bag_ms": link.bag_ms, "jitter_us": row.jitter_us,
+        "id": link.id, "from": source, "to": targets, "bag_ms": link.bag_ms, "jitter_us": link.jitter_us,
         "max_size": link.max_size, "priority": link.priority, "police": link.police})
 
 
-def document(top: dict[str, int | str], sections: dict[str, list[Section]]) -> bytes:
-    """Writes a file that says who made it, the values at its top, and its sections."""
+def document(top: dict[str, int | str], sections: dict[str, list[Section]]) -> TOMLDocument:
+    """Answers a file that says who made it, the values at its top, and its sections."""
     made = tomlkit.document()
     made.add(tomlkit.comment(MADE))
     for key, value in top.items():
@@ -82,18 +72,35 @@ def document(top: dict[str, int | str], sections: dict[str, list[Section]]) -> b
         for member in members:
             array.append(member)
         made.add(key, array)
-    return tomlkit.dumps(made).encode()
+    return made
 
 
-def table_text(table: Table, mapping: Mapping) -> bytes:
-    """Writes a switch's table."""
-    return document({"version": 3, "constant": mapping.constant, "latency_us": mapping.latency_us}, {
-        "port": [port_section(name, port) for name, port in table.ports.values()],
-        "link": [row_section(table, row) for row in table.rows.values()]})
+def named_ports(network: Network) -> list[tuple[str, Port]]:
+    """Answers all ports by number, each with the name of what is at it."""
+    ports = list(network.ends.items())
+    for cable in network.cables:
+        ports += [(f"cable to {cable.b}", cable.a), (f"cable to {cable.a}", cable.b)]
+    return sorted(ports, key=lambda named: named[1].number)
 
 
-def network_text(switches: Iterable[str], cables: Iterable[Cable]) -> bytes:
-    """Writes the network file: the switches, and both wires of each cable, by switch and port."""
+def tables_of(network: Network, hops: dict[int, list[Hop]], mapping: Mapping) -> dict[str, Table]:
+    """Answers the table of each switch, by name."""
+    tables = {switch: Table() for switch in sorted(network.switches)}
+    for name, port in named_ports(network):
+        tables[port.switch].ports[port.number] = (name, port)
+    for link in sorted(network.links, key=lambda link: link.id):
+        for hop in hops[link.id]:
+            table = tables[hop.switch]
+            table.rows[link.id] = Row(link, row_section(table, link, hop))
+    for table in tables.values():
+        table.document = document({"version": 3, "constant": mapping.constant, "latency_us": mapping.latency_us}, {
+            "port": [port_section(name, port) for name, port in table.ports.values()],
+            "link": [row.section for row in table.rows.values()]})
+    return tables
+
+
+def network_document(switches: Iterable[str], cables: Iterable[Cable]) -> TOMLDocument:
+    """Answers the network file: the switches, and both wires of each cable, by switch and port."""
     both = [[(cable.a, cable.b, cable.delay_ns), (cable.b, cable.a, cable.delay_ns)] for cable in cables]
     wires = sorted(chain(*both), key=lambda wire: (wire[0].switch, wire[0].number))
     return document({"version": 1}, {
@@ -102,7 +109,8 @@ def network_text(switches: Iterable[str], cables: Iterable[Cable]) -> bytes:
                  for start, end, delay in wires]})
 
 
-def texts_of(tables: dict[str, Table], network: Network, mapping: Mapping) -> dict[str, bytes]:
+def texts_of(tables: dict[str, Table], network: Network) -> dict[str, bytes]:
     """Writes all files, by their names. The network file comes last, since it names the others."""
-    texts = {f"{switch}.toml": table_text(table, mapping) for switch, table in tables.items()}
-    return texts | {"network.toml": network_text(tables, network.cables)}
+    documents = {f"{switch}.toml": table.document for switch, table in tables.items()}
+    documents["network.toml"] = network_document(tables, network.cables)
+    return {name: tomlkit.dumps(document).encode() for name, document in documents.items()}
