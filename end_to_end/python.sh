@@ -8,6 +8,6 @@ export AFDX=${AFDX:-$top/crates/afdx/out/afdx}
 cd "$top/python" || exit 1
 
 check "types" mypy --cache-dir="$room/mypy" --python-executable=/usr/bin/python3
-check "style" flake8 afdx tests bin
+check "style" flake8 afdx tests bin/*
 check "tests" pytest-3
 finish

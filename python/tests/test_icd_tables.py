@@ -3,8 +3,11 @@ import tomllib
 from pathlib import Path
 
 import pytest
+import tomlkit
+from hypothesis import given, strategies
 
-from afdx.icd import command
+from afdx.icd import cells, command, tables
+from afdx.icd.cells import Unfit
 from tests import worked_lists
 
 # Jitters by docs/use/RULES.md, J + most - least, in ns. N = 2,048,000,000.
@@ -128,13 +131,25 @@ def test_a_changed_row_changes_its_rows_alone(tmp_path: Path) -> None:
 def test_a_mapping_names_columns_and_fills_cells(tmp_path: Path) -> None:
     paths, mapping = worked_lists.write(tmp_path), tmp_path / "map.toml"
     first = made(paths, tmp_path / "net")
-    links = worked_lists.LINKS.replace("id,name,from,to", "VL,Name,Sender,Receivers").replace(",128,1000,", ",128,,")
+    heading = 'VL,Name,"Sending\nend system",Receivers'
+    links = worked_lists.LINKS.replace("id,name,from,to", heading).replace(",128,1000,", ",128,,")
     ends = worked_lists.ENDS.replace("name,switch", "ES,Switch")
     worked_lists.write(tmp_path, links.replace("jitter_us", "JITTER"), ends, worked_lists.WIRES.replace(",50", ","))
-    mapping.write_text('[columns]\nid = "vl"\nfrom = "Sender"\nto = "Receivers"\njitter_us = "Jitter"\n'
+    mapping.write_text('[columns]\nid = "vl"\nfrom = "sending end system"\nto = "Receivers"\njitter_us = "Jitter"\n'
                        '[columns.ends]\nname = "ES"\n[defaults]\njitter_us = 1000\n[defaults.wires]\ndelay_ns = "50"\n'
                        '[switches]\nlatency_us = 16\nconstant = "070000aa"\n', encoding="utf-8")
     second = made(paths, tmp_path / "mapped", "--mapping", str(mapping))
     assert b"delay_ns = 25" in second["network.toml"] and b"delay_ns = 0\n" not in second["network.toml"]
     as_first = second["A.toml"].replace(b"latency_us = 16", b"latency_us = 0").replace(b"070000aa", b"03000000")
     assert as_first == first["A.toml"]
+
+
+@given(name=strategies.text(strategies.characters(blacklist_categories=("Cs",))))
+def test_any_name_that_can_be_printed_stands_in_a_comment(name: str) -> None:
+    try:
+        line = cells.printable(name)
+    except Unfit:
+        return
+    text = tomlkit.dumps(tables.document({"version": 3}, {"link": [tables.section(line, {"id": 10})]}))
+    assert tomllib.loads(text) == {"version": 3, "link": [{"id": 10}]}
+    assert f"[[link]] # {line}\n" in text or not line

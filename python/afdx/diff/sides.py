@@ -35,7 +35,7 @@ def content_of(command: str, path: Path) -> dict[str, Any]:
 
 
 def refuse(program: Program, path: Path, answer: Answer) -> None:
-    """Ends the command with the program's line and the file that it is about."""
+    """Ends the command with the program's line, and the file that it is about."""
     raise Failure(answer.status, f"{program.progress.command}: {answer.line.removeprefix('afdx: ')}, {path}")
 
 
@@ -52,11 +52,10 @@ def load_facts(said: str, switch: str = "") -> Facts:
 
 def ask_table(program: Program, side: Side) -> None:
     """Adds the rows of a table and what the program says of them."""
-    size = program.ask("size", side.path)
-    if size.status:
-        refuse(program, side.path, size)
-    side.facts |= rows.table_facts(side.content) | load_facts(size.said)
-    side.facts |= verdict_of(program.ask("check", side.path))
+    check = program.ask("check", side.path)
+    if check.status not in (0, LOAD):
+        refuse(program, side.path, check)
+    side.facts |= rows.table_facts(side.content) | load_facts(program.answer("size", side.path)) | verdict_of(check)
 
 
 def need_facts(said: str, facts: Facts) -> Facts:

@@ -57,9 +57,14 @@ def word(*words: str) -> Callable[[str], str]:
     return read
 
 
+def one_line(text: str) -> str:
+    """Writes a text with line feeds and many spaces as one line."""
+    return " ".join(text.split())
+
+
 def printable(text: str) -> str:
-    """Reads a name as one line, for a comment."""
-    line = " ".join(text.split())
+    """Reads a name, so that it can stand in a comment."""
+    line = one_line(text)
     if not line.isprintable():
         raise Unfit("has a character that cannot be printed")
     return line

@@ -4,7 +4,7 @@ from pathlib import Path
 from typing import Any, TypeVar, cast
 
 from afdx.icd import spreadsheet
-from afdx.icd.cells import Column, Unfit
+from afdx.icd.cells import Column, Unfit, one_line
 from afdx.icd.columns import Columns
 from afdx.icd.complaints import Complaints, Place
 from afdx.icd.mapping import ListMapping
@@ -26,14 +26,16 @@ class List:
             self.find(column)
 
     def heading(self, column: Column[Any]) -> str:
-        """Answers what a column is called: as the list has it, or as it is looked for if the list has it not."""
-        at = self.places.get(column.key)
-        return self.mapping.headings.get(column.key, column.key) if at is None else self.sheet.heading.cells[at]
+        """Answers what a column is called: in the list, or what is looked for if the list lacks it."""
+        if column.key in self.places:
+            return one_line(self.sheet.heading.cells[self.places[column.key]])
+        return self.mapping.headings.get(column.key, column.key)
 
     def find(self, column: Column[Any]) -> None:
         """Finds a column. It has to be there if the mapping names it, and if nothing stands for its empty cells."""
-        name = self.heading(column).casefold()
-        at = [place for place, heading in enumerate(self.sheet.heading.cells) if heading.casefold() == name]
+        name = one_line(self.heading(column)).casefold()
+        headings = [one_line(heading).casefold() for heading in self.sheet.heading.cells]
+        at = [place for place, heading in enumerate(headings) if heading == name]
         if at:
             self.places[column.key] = at[0]
         stands_in = column.default is not None or column.key in self.mapping.defaults
