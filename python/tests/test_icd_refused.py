@@ -68,11 +68,11 @@ def rows(good: dict[str, str], bad: list[tuple[str, str, str]]) -> str:
     return ",".join(good) + "\n" + "".join(row(good, column, value) for column, value, _ in bad)
 
 
-def refusal(paths: list[Path]) -> Failure:
+def refusal(paths: list[Path], *options: str) -> Failure:
     """Answers how the command ends for these lists, which has to be before it writes anything."""
     net = paths[0].parent / "net"
     with pytest.raises(Failure) as ended:
-        command.main([*map(str, paths), str(net)])
+        command.main([*map(str, paths), str(net), *options])
     assert ended.value.status == INPUT and not net.exists()
     return ended.value
 
@@ -141,6 +141,36 @@ def test_switches_that_no_cable_reaches(tmp_path: Path) -> None:
         line("no cables lead from A to C", paths[0], 2, "to", "B1|C1"),
         line("no cables lead from B to C round the switches before it", paths[0], 3, "via", "B"),
         line("no cables lead from C to A", paths[0], 4, "to", "A2"))
+
+
+BAD_MAPPING = """\
+rows = 1
+[columns]
+number = "VL"
+id = 3
+ends = "ES"
+[defaults]
+jitter_us = 20000
+[defaults.wires]
+mbit = "fast"
+[switches]
+latency_us = 101
+constant = "00000000"
+"""
+BAD_KEYS = [
+    "no such key, columns.number", "no such section, rows",
+    "not 8 hexadecimal digits whose first byte has its two lowest bits set, switches.constant",
+    "not a section, columns.ends", "not a text, columns.id", "not a whole number, defaults.wires.mbit",
+    "not from 0 to 100, switches.latency_us", "not from 0 to 10000, defaults.jitter_us"]
+
+
+def test_all_that_is_wrong_with_a_mapping_at_once(tmp_path: Path) -> None:
+    path = tmp_path / "map.toml"
+    path.write_text(BAD_MAPPING, encoding="utf-8")
+    lines = refusal(worked_lists.write(tmp_path), "--mapping", str(path)).lines
+    assert lines == tuple(f"afdx-icd: {what}, {path}" for what in BAD_KEYS)
+    path.write_text("[columns\n", encoding="utf-8")
+    assert refusal(worked_lists.write(tmp_path), "--mapping", str(path)).lines[0].startswith("afdx-icd: not TOML: ")
 
 
 def test_missing_columns_of_all_lists_at_once(tmp_path: Path) -> None:

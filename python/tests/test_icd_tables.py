@@ -6,6 +6,7 @@ import pytest
 import tomlkit
 from hypothesis import given, strategies
 
+from afdx.failure import DEVICE, Failure
 from afdx.icd import cells, command, tables
 from afdx.icd.cells import Unfit
 from tests import worked_lists
@@ -142,6 +143,15 @@ def test_a_mapping_names_columns_and_fills_cells(tmp_path: Path) -> None:
     assert b"delay_ns = 25" in second["network.toml"] and b"delay_ns = 0\n" not in second["network.toml"]
     as_first = second["A.toml"].replace(b"latency_us = 16", b"latency_us = 0").replace(b"070000aa", b"03000000")
     assert as_first == first["A.toml"]
+
+
+def test_a_file_that_cannot_be_put_leaves_nothing_of_it(tmp_path: Path) -> None:
+    net = tmp_path / "net"
+    (net / "B.toml").mkdir(parents=True)
+    with pytest.raises(Failure, match=f"^afdx-icd: cannot write {net}/B.toml: Is a directory$") as ended:
+        command.main([*map(str, worked_lists.write(tmp_path)), str(net)])
+    assert ended.value.status == DEVICE
+    assert sorted(path.name for path in net.iterdir()) == ["A.toml", "B.toml"]
 
 
 @given(name=strategies.text(strategies.characters(blacklist_categories=("Cs",))))

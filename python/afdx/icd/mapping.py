@@ -3,13 +3,14 @@ import re
 import tomllib
 from dataclasses import dataclass
 from pathlib import Path
-from typing import Any
+from typing import Any, TypeVar
 
 from afdx import files
 from afdx.failure import INPUT, Failure
 from afdx.icd import columns
 from afdx.icd.cells import Column, Unfit, whole
 
+T = TypeVar("T")
 LISTS = {"": columns.LINKS, "ends": columns.ENDS, "wires": columns.WIRES}  # by their name in a section
 
 
@@ -22,7 +23,11 @@ def constant(text: str) -> str:
 
 LATENCY = Column("latency_us", whole(0, 100), "0")
 CONSTANT = Column("constant", constant, "03000000")
-SWITCHES: columns.Columns = (LATENCY, CONSTANT)
+
+
+def value_of(column: Column[T], values: dict[str, str]) -> T:
+    """Reads a value, or the column's own if there is none."""
+    return column.reader(values.get(column.key, column.default or ""))
 
 
 @dataclass(frozen=True)
@@ -67,23 +72,22 @@ class Reading:
                 self.wrong.append(f"not a text{' or a number' if number else ''}, {place}.{key}")
         return {key: str(value) for key, value in found.items() if key in keys}
 
+    def fit(self, place: str, known: columns.Columns) -> dict[str, str]:
+        """Answers the values of a section that are cells; one that its column cannot hold is wrong."""
+        values = self.values(place, known, number=True)
+        for column in known:
+            try:
+                if column.key in values:
+                    column.reader(values[column.key])
+            except Unfit as unfit:
+                self.wrong.append(f"{unfit}, {place}.{column.key}")
+        return values
+
     def list_mapping(self, name: str) -> ListMapping:
         """Reads what is said of one list."""
         place = f".{name}" if name else ""
         headings = self.values(f"columns{place}", LISTS[name], number=False)
-        defaults = self.values(f"defaults{place}", LISTS[name], number=True)
-        for column in LISTS[name]:
-            self.try_default(f"defaults{place}", column, defaults)
-        return ListMapping(headings, defaults)
-
-    def try_default(self, place: str, column: Column[Any], values: dict[str, str]) -> Any:
-        """Reads a value that stands for empty cells, or the column's own where there is none."""
-        try:
-            if column.key in values:
-                return column.reader(values[column.key])
-        except Unfit as unfit:
-            self.wrong.append(f"{unfit}, {place}.{column.key}")
-        return column.default
+        return ListMapping(headings, self.fit(f"defaults{place}", LISTS[name]))
 
 
 def read(command: str, path: Path | None) -> Mapping:
@@ -93,9 +97,7 @@ def read(command: str, path: Path | None) -> Mapping:
     except (UnicodeDecodeError, tomllib.TOMLDecodeError) as error:
         raise Failure(INPUT, f"{command}: not TOML: {error}, {path}") from error
     links, ends, wires = (reading.list_mapping(name) for name in LISTS)
-    switches = reading.values("switches", SWITCHES, number=True)
-    latency = reading.try_default("switches", LATENCY, switches)
-    group = reading.try_default("switches", CONSTANT, switches)
+    switches = reading.fit("switches", (LATENCY, CONSTANT))
     if reading.wrong:
         raise Failure(INPUT, *(f"{command}: {wrong}, {path}" for wrong in sorted(reading.wrong)))
-    return Mapping(links, ends, wires, int(latency), group)
+    return Mapping(links, ends, wires, value_of(LATENCY, switches), value_of(CONSTANT, switches))

@@ -66,12 +66,10 @@ class Once:
         self.rows: dict[object, str] = {}
 
     def take(self, of: List, row: Row, column: Column[Any], *key: object) -> None:
-        if None in key:
-            return
-        place = f"{of.path} line {row.line}"
-        first = self.rows.setdefault(key, place)
-        if first is not place:
-            of.complain(row, column, f"{first} has it too")
+        if key in self.rows:
+            of.complain(row, column, f"{self.rows[key]} has it too")
+        elif None not in key:
+            self.rows[key] = f"{of.path} line {row.line}"
 
 
 def read_ends(of: List, network: Network, ports: Once) -> None:
@@ -115,10 +113,11 @@ def size_of(of: List, row: Row) -> int:
     if not has_payload:
         return of.cell(row, SIZE)
     payload = of.cell(row, PAYLOAD)
-    size = max(SMALLEST, (payload or 0) + HEADERS)
-    if has_size and of.cell(row, SIZE) != size and of.is_sound(row):
-        of.complain(row, SIZE, f"not the frame of the UDP payload, which has {size} bytes")
-    return size
+    frame = max(SMALLEST, payload + HEADERS) if payload is not None else None
+    size = of.cell(row, SIZE) if has_size else frame
+    if size is not None and frame is not None and size != frame:
+        of.complain(row, SIZE, f"not the frame of the UDP payload, which has {frame} bytes")
+    return size or 0
 
 
 def check_names(of: List, link: Link, network: Network) -> None:
