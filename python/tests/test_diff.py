@@ -89,20 +89,23 @@ def test_a_changed_row_with_its_bounds(tmp_path: Path, capfdbinary: pytest.Captu
 
 
 def test_rows_added_and_gone(tmp_path: Path, capfdbinary: pytest.CaptureFixture[bytes]) -> None:
-    port = "[[port]]\nid = 7\nmbit = 10\nbuffer = 1\nmax_delay_us = 2\n"
-    old, new = tables(tmp_path, TABLE, "version = 3\nlatency_us = 5\n" + port + TABLE.rsplit("[[link]]", 1)[0])
+    ports = "".join(f"[[port]]\nid = {port}\nmbit = 10\nbuffer = 1\nmax_delay_us = 2\n" for port in (17, 9))
+    old, new = tables(tmp_path, TABLE, "version = 3\nlatency_us = 5\n" + ports + TABLE.rsplit("[[link]]", 1)[0])
     assert lines(old, new, capfdbinary) == [
         "table changed: latency_us 0 -> 5",
-        "port 7 added: mbit 10, buffer 1, max_delay_us 2",
+        "port 9 added: mbit 10, buffer 1, max_delay_us 2",
+        "port 17 added: mbit 10, buffer 1, max_delay_us 2",
         "link 12 gone: from 1, to 2, bag_ms 1, jitter_us 0, max_size 1518, priority high, police byte",
         "load 2 changed: rate 652861440 -> 326430720, buffer 5523 -> 3531, high 282430 -> -, low 379224 -> 164390"]
 
 
 def test_order_and_what_stands_for_missing_keys_are_no_difference(
         tmp_path: Path, capfdbinary: pytest.CaptureFixture[bytes]) -> None:
-    port, second, link, other = (f"[[{part}" for part in TABLE.split("[[")[1:])
-    old, new = tables(tmp_path, TABLE, 'version = 3\nconstant = "03000000"\n' + other + link + 'police = "byte"\n'
-                      + second + "# a comment\n" + port)
+    third = "[[port]]\nid = 3\nmbit = 10\nbuffer = 90000\nmax_delay_us = 90000\n"
+    first = TABLE.replace("to = [2]", "to = [2, 3]")
+    port, second, link, other = (f"[[{part}" for part in first.replace("[2, 3]", "[3, 2]").split("[[")[1:])
+    old, new = tables(tmp_path, first + third, 'version = 3\nconstant = "03000000"\n' + other + link
+                      + 'police = "byte"\n' + third + second + "# a comment\n" + port)
     assert lines(old, new, capfdbinary) == []
     assert lines(old, new, capfdbinary, "--csv") == [",".join(compare.HEADING)]
 
@@ -115,6 +118,9 @@ def test_a_table_that_is_newly_refused(tmp_path: Path, capfdbinary: pytest.Captu
         "load 2 refused: breaks - -> L4",
         "check refused: verdict accepted -> afdx: load L4 LowDelay, port 2, need 379224, limit 283000"]
     assert lines(new, old, capfdbinary)[2] == "load 2 changed: breaks L4 -> -"
+    old, new = tables(tmp_path, new.read_text(encoding="utf-8"), TABLE.replace("400", "283").replace("6000", "5522"))
+    assert "load 2 refused: breaks L4 -> L2 L4" in lines(old, new, capfdbinary)
+    assert "load 2 changed: breaks L2 L4 -> L4" in lines(new, old, capfdbinary)
 
 
 def test_a_network_with_needs_and_ways(tmp_path: Path, capfdbinary: pytest.CaptureFixture[bytes]) -> None:

@@ -46,6 +46,11 @@ def test_ways_round_a_ring(source: str, targets: str, via: str, wanted: dict[str
     assert ways([(pair[0], pair[1]) for pair in RING], source, targets, via) == wanted
 
 
+def test_a_forced_way_keeps_later_switches_for_later() -> None:
+    cables = ["AC", "CB", "AD", "DE", "EB"]  # by C there would be fewer hops to B
+    assert ways([(pair[0], pair[1]) for pair in cables], "A", "C", "BC") == {"C": "ADEBC"}
+
+
 @pytest.mark.parametrize("targets, via, what", [
     ("E", "", "no cables lead from A to E"),
     ("B", "E", "no cables lead from A to E round the other switches of the way"),

@@ -11,7 +11,7 @@ A1,A,1,100
 A2,A,2,10
 B1,B,1,100
 C1,C,1,100
-C2,C,2,100
+C2,C,8,100
 """
 WIRES = """\
 switch_a,port_a,switch_b,port_b,mbit,delay_ns
