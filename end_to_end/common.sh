@@ -25,7 +25,7 @@ install() {
     exec {lock}>&-
 }
 
-# install_python MODULE..: the same of the modules of Debian's own Python, which view/afdx-view runs by.
+# install_python MODULE..: the same of modules of Debian's own Python, by which the package runs: each is in the package python3-MODULE.
 install_python() {
     local module packages=()
     for module in "$@"; do
