@@ -225,7 +225,7 @@ fresh_kept starts accepted keeps t m formed is_accepted switch counts fresh = re
   accepted = rw switch is_accepted;
   shown = rw switch (fresh_shown t m.lanes.items fresh);
   ready = λ not_failed. record {
-    running = rw (switch, counts) (fresh_running starts accepted t m.lanes.items fresh);
+    running = rw (switch, counts) (fresh_running starts accepted keeps t m.lanes.items fresh);
     read = fresh_read t.ports m.lanes.items fresh;
     marked = fresh_marked t.ports m.lanes.items fresh;
   };

@@ -1,9 +1,12 @@
 use Rattle.std.proofs.Common.{refl, ap, ◌∙◌, arith}
 use Rattle.afdx_core.specs.Merge.{merged}
 use Rattle.afdx_count.specs.Run.{counts_of}
+use Rattle.afdx_session.specs.declared.plan.RunFault.TheVariants as run
 use Rattle.afdx_session.specs.Output.{rows_of, outputs}
-use Rattle.afdx_session.specs.Outcome.{table_in}
+use Rattle.afdx_session.specs.Texts.{texts_of}
+use Rattle.afdx_session.specs.Outcome.{table_in, IsRefusal}
 use Rattle.afdx_session.specs.Inner.Rest.{Rest}
+use Rattle.afdx_session.proofs.Sessions.{of_error}
 use Rattle.afdx_session.proofs.Writing.{all_appended, as_many_texts}
 use Rattle.afdx_session.proofs.whole.run_into.Goals as goal
 
@@ -14,6 +17,12 @@ write_all-requires g c =
     let long = has.prefixes.long in
     let given = c.requires in
     (table_in c.args.plan, merged has.read, has.left, omega (arith, many, long, given))
+
+pub returns-in_err-write_all-clause-err : goal.returns-in_err-write_all-clause-err
+returns-in_err-write_all-clause-err g c =
+    let t = table_in c.args.plan in
+    let texts = texts_of c.args.captures.now in
+    of_error (λ e. IsRefusal t texts e) c.from_residual-in_err-write_all.result run.Memory c.from_residual-in_err-write_all.ensures c.in_ok-rest.ensures.ok.ports
 
 pub returns-clause-ok : goal.returns-clause-ok
 returns-clause-ok g c =

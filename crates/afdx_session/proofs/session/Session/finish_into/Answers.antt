@@ -3,6 +3,8 @@ use Rattle.afdx_core.specs.Merge.{merged}
 use Rattle.afdx_session.specs.declared.plan.RunFault.TheVariants as run
 use Rattle.afdx_session.specs.Streams.{captures_of}
 use Rattle.afdx_session.specs.Session.{Seen}
+use Rattle.afdx_session.specs.Reading.{IsReadFault}
+use Rattle.afdx_session.specs.Finish.{texts_in}
 use Rattle.afdx_session.specs.Into.{IsFinishedInto, IsNotFinishedInto}
 use Rattle.afdx_session.specs.Inner.Rest.{Rest}
 use Rattle.afdx_session.specs.Inner.View.{texts_at, IsKeptMachine}
@@ -33,6 +35,15 @@ write_all-requires g c =
       left.1,
       ended.1.long ∙ c.requires ∙ ap (λ (v : Seen). length v.table.ports) (sym c.self.view_is),
     )
+
+pub returns-in_err-end_into-clause-err : goal.returns-in_err-end_into-clause-err
+returns-in_err-end_into-clause-err g c =
+    let fault = c.in_err-end_into.field-0.0 in
+    of_error (λ e. IsNotFinishedInto c.args.self e) c.from_residual.result fault c.from_residual.ensures
+    (inr (
+      ap (λ (v : Seen). v.failed) (sym c.self.view_is) ∙ c.if-self.false,
+      subst (λ (v : Seen). IsReadFault (texts_in v) fault) c.self.view_is c.in_err-end_into.ensures.err,
+    ))
 
 pub returns-in_err-write_all-clause-err : goal.returns-in_err-write_all-clause-err
 returns-in_err-write_all-clause-err g c =

@@ -1,3 +1,4 @@
+use Rattle.std.proofs.Common.{false}
 use Rattle.afdx_session.specs.Outcome.{table_in, is_cleared}
 use Rattle.afdx_session.proofs.Fresh.{fresh_kept, fresh_seen}
 use Rattle.afdx_session.proofs.session.Session.new.Goals as goal
