@@ -1,12 +1,11 @@
 -- Rows whose way back ends.
-use Rattle.std.proofs.Common.{◌≡◌, ℕ, zero, suc, Bool, true, false, cond, List, [], ◌∷◌, Option, Some, None, option_and_then, Ok, refl, ap, ◌∙◌, subst}
-use Rattle.std.specs.Option.{option_map_or}
+use Rattle.std.proofs.Common.{◌≡◌, ℕ, zero, suc, Bool, true, false, cond, List, [], ◌∷◌, Option, Some, None, option_and_then, is_some, Ok, refl, ap, ◌∙◌, subst}
 use Rattle.std.proofs.lemmas.Option.{same_Some}
 use Rattle.afdx_table.specs.Link.{leads_to}
 use Rattle.afdx_wiring.specs.declared.fault.NetworkFault.TheVariants as fault
 use Rattle.afdx_wiring.specs.declared.layout.Wire.{Wire}
 use Rattle.afdx_wiring.specs.Net.{Network, Row, Back, row_at, ingress, wire_to, IsWayBack}
-use Rattle.afdx_wiring.specs.Order.{leading, row_before, ends_by, ends_within, most_rows, has_source}
+use Rattle.afdx_wiring.specs.Order.{leading, row_before, source_by, source_within, most_rows, has_source}
 use Rattle.afdx_wiring.proofs.Chains.{unless_not}
 
 -- ---- a step back
@@ -42,18 +41,22 @@ step_back net r w is b found more =
     (record { wire = w; row = b } ∷ more.0, (is, said.row_is, said.leads, more.1))
 
 -- where a walk back ends, there is a way back
-pub way_back : (n : ℕ) (net : Network) (r : Row) → ends_within n net r ≡ true → (backs : List Back) × IsWayBack net r backs
-way_back zero net r h = absurd cc
-way_back (suc n) net r h = by (way_back n net) (wire_to net (ingress r)) refl h where
-  before : ((b : Row) → ends_within n net b ≡ true → (backs : List Back) × IsWayBack net b backs) → (w : Wire) → wire_to net (ingress r) ≡ Some w
-      → (o : Option Row) → row_before net r.link.id w ≡ o → option_map_or (ends_within n net) o false ≡ true → (backs : List Back) × IsWayBack net r backs
+pub way_back : (n : ℕ) (net : Network) (r source : Row) → source_within n net r ≡ Some source → (backs : List Back) × IsWayBack net r backs
+way_back zero net r source h = absurd cc
+way_back (suc n) net r source h = by (way_back n net) (wire_to net (ingress r)) refl h where
+  before : ((b s : Row) → source_within n net b ≡ Some s → (backs : List Back) × IsWayBack net b backs) → (w : Wire) → wire_to net (ingress r) ≡ Some w
+      → (o : Option Row) → row_before net r.link.id w ≡ o → option_and_then (source_within n net) o ≡ Some source → (backs : List Back) × IsWayBack net r backs
   before further w is None found ends = absurd cc
-  before further w is (Some b) found ends = step_back net r w is b found (further b ends)
+  before further w is (Some b) found ends = step_back net r w is b found (further b source ends)
 
-  by : ((b : Row) → ends_within n net b ≡ true → (backs : List Back) × IsWayBack net b backs)
-      → (o : Option Wire) → wire_to net (ingress r) ≡ o → ends_by (ends_within n net) net r o ≡ true → (backs : List Back) × IsWayBack net r backs
+  by : ((b s : Row) → source_within n net b ≡ Some s → (backs : List Back) × IsWayBack net b backs)
+      → (o : Option Wire) → wire_to net (ingress r) ≡ o → source_by (source_within n net) net r o ≡ Some source → (backs : List Back) × IsWayBack net r backs
   by further None is ends = ([], is)
   by further (Some w) is ends = before further w is (row_before net r.link.id w) refl ends
 
-pub source_there : (net : Network) (r : Row) → has_source net r ≡ Ok tt → ends_within most_rows net r ≡ true
-source_there net r h = unless_not (ends_within most_rows net r) (fault.NoSource r.switch r.link.id) h
+there : (o : Option Row) → is_some o ≡ true → (source : Row) × (o ≡ Some source)
+there None h = absurd cc
+there (Some source) h = (source, refl)
+
+pub source_there : (net : Network) (r : Row) → has_source net r ≡ Ok tt → (source : Row) × (source_within most_rows net r ≡ Some source)
+source_there net r h = there (source_within most_rows net r) (unless_not (is_some (source_within most_rows net r)) (fault.NoSource r.switch r.link.id) h)

@@ -51,7 +51,7 @@ fits net h =
     record {
       wires = js;
       links = λ k d lt. goes_on net (get_or ws k d) (js k d lt, (ns k d lt, (ps k d lt, ts k d lt)));
-      sources = λ k d lt. let r = get_or (rows_of net) k d in way_back most_rows net r (source_there net r (fed k d lt));
+      sources = λ k d lt. let r = get_or (rows_of net) k d in let source = source_there net r (fed k d lt) in way_back most_rows net r source.0 source.1;
       once = once net [] (rows_of net) h5;
     }
 

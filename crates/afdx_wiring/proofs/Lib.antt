@@ -7,6 +7,7 @@ pub mod Fits
 pub mod JointLemmas
 pub mod LimitLemmas
 pub mod LoadLemmas
+pub mod LoadOrder
 pub mod NeedLemmas
 pub mod OnceLemmas
 pub mod TextLemmas

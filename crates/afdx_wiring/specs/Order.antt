@@ -3,7 +3,6 @@
 use Rattle.std.specs.Prelude.{ℕ, zero, suc, ◌+◌, ◌/◌, ◌==◌, ◌||◌, Bool, true, false, not, nat_le, nat_lt, if◌then◌else◌, List, [], ◌∷◌, ◌++◌, map, filter, slice_get}
 use Rattle.std.specs.Prelude.{Option, Some, None, option_map, option_and_then, is_some, Result, Ok, Err}
 use Rattle.std.specs.List.{list_any, enumerate_from}
-use Rattle.std.specs.Option.{option_map_or}
 use Rattle.std.specs.Str.{bytes_eq}
 use Rattle.afdx_units.specs.declared.police.Police.{Police}
 use Rattle.afdx_units.specs.declared.police.Police.TheVariants.{Byte, Frame}
@@ -125,17 +124,17 @@ leading port r = if leads_to port r.link then Some r else None
 abbrev pub row_before : Network → ℕ → Wire → Option Row
 row_before net id w = option_and_then (leading w.from.port) (row_at net w.from.switch id)
 
--- whether the way back from a row ends at a source, over at most n rows
-abbrev pub ends_by : (Row → Bool) → Network → Row → Option Wire → Bool
-ends_by back net r None = true
-ends_by back net r (Some w) = option_map_or back (row_before net r.link.id w) false
+-- the source of a row: where the way back from it ends, over at most n rows
+abbrev pub source_by : (Row → Option Row) → Network → Row → Option Wire → Option Row
+source_by back net r None = Some r
+source_by back net r (Some w) = option_and_then back (row_before net r.link.id w)
 
-abbrev pub ends_within : ℕ → Network → Row → Bool
-ends_within zero net r = false
-ends_within (suc n) net r = ends_by (ends_within n net) net r (wire_to net (ingress r))
+abbrev pub source_within : ℕ → Network → Row → Option Row
+source_within zero net r = None
+source_within (suc n) net r = source_by (source_within n net) net r (wire_to net (ingress r))
 
 abbrev pub has_source : Network → Row → Answer
-has_source net r = unless (not (ends_within most_rows net r)) (fault.NoSource r.switch r.link.id)
+has_source net r = unless (not (is_some (source_within most_rows net r))) (fault.NoSource r.switch r.link.id)
 
 abbrev pub is_fed : Network → Row → Bool
 is_fed net r = not (is_some (wire_to net (ingress r)))

@@ -1,10 +1,10 @@
 //! The jitters that the rows of a network need.
 
-ghost use Rattle.std.specs.Prelude.{◌≡◌, ◌≤◌, ◌++◌, ◌||◌, map, is_some, IfOk, IfSome};
+ghost use Rattle.std.specs.Prelude.{◌≡◌, ◌≤◌, ◌++◌, ◌||◌, map, option_map, is_some, IfOk, IfSome};
 ghost use Rattle.std.specs.List.{list_all};
 ghost use Rattle.afdx_wiring.specs.Net.{rows_of};
 ghost use Rattle.afdx_wiring.specs.Order.{row_of};
-ghost use Rattle.afdx_wiring.specs.Needs.{bare, DiffersInJitters, AreNeeds, needed, row_with_need, need_in, past_of, is_met};
+ghost use Rattle.afdx_wiring.specs.Needs.{bare, DiffersInJitters, AreNeeds, first_needed, needed, row_with_need, need_in, past_of, is_met};
 
 use crate::fault::{NetworkFault, Short};
 use crate::hops::Hops;
@@ -55,25 +55,41 @@ fn row_with_need(row: Row<'_>, need: u64) -> RowNeed
     }
 }
 
-/// What a row needs after a way of these delays from a source of this jitter; at the start, for none of it.
-fn needed(start: bool, far: Option<(u64, Delays)>) -> u64
+/// What a row needs to begin with: the jitter of its source.
+fn first_needed(source: Option<Row<'_>>) -> u64
+    ensures { result ≡ first_needed (option_map row_of source.entry) }
+{
+    match source {
+        None => NO_WAY,
+        Some(source) => {
+            let link = source.link;
+            link.jitter / MICROSECOND
+        }
+    }
+}
+
+/// What a row needs after a way of these delays from a source of this jitter.
+fn needed(far: Option<(u64, Delays)>) -> u64
     requires { IfSome far (λ f. (f.0 ≤ 10000000) × (f.1.most ≤ 1152921504606846976)) }
-    ensures { result ≡ needed start far }
+    ensures { result ≡ needed far }
 {
     match far {
         None => NO_WAY,
-        Some((jitter, _)) if start => jitter / MICROSECOND,
         Some((jitter, delays)) => need(delays, jitter),
     }
 }
 
 impl<'a> Hops<'a> {
-    /// What a row has, and what it needs: after the whole way to it or, at the start, for none of it.
+    /// What a row has, and what it needs: to begin with, or after the whole way to it.
     fn need_in(&self, start: bool, row: Row<'_>) -> RowNeed
         ensures { result ≡ need_in start self.now (row_of row.entry) }
     {
+        if start {
+            let source = self.network().source_within(MOST_ROWS, row);
+            return row_with_need(row, first_needed(source));
+        }
         let far = self.way_within(MOST_ROWS, row, Delays::none());
-        row_with_need(row, needed(start, far))
+        row_with_need(row, needed(far))
     }
 
     /// Adds what the rows of a switch need.

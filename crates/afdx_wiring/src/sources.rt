@@ -1,9 +1,9 @@
 //! The sources of the links: each row is fed by one end system's port at last, and no number by two.
 
-ghost use Rattle.std.specs.Prelude.{◌≡◌, [], ◌∷◌, ◌++◌, OnOk};
+ghost use Rattle.std.specs.Prelude.{◌≡◌, [], ◌∷◌, ◌++◌, option_map, OnOk};
 ghost use Rattle.afdx_wiring.specs.Refusal.{Gives};
 ghost use Rattle.afdx_wiring.specs.Net.{rows_in, rows_of};
-ghost use Rattle.afdx_wiring.specs.Order.{row_of, first_of, ends_within, has_source, is_fed, fed_numbers, each_once};
+ghost use Rattle.afdx_wiring.specs.Order.{row_of, first_of, source_within, has_source, is_fed, fed_numbers, each_once};
 
 use crate::fault::NetworkFault;
 use crate::joints::link_at;
@@ -17,22 +17,18 @@ use std::alloc::Global;
 pub(crate) const MOST_ROWS: usize = 64;
 
 impl Network {
-    /// Whether the way back from a row ends at a source, over at most so many rows.
-    #[tactic(auto, using(crate::proofs::WalkLemmas::ends_step))]
-    fn ends_within(&self, rows: usize, row: Row<'_>) -> bool
-        ensures { result ≡ ends_within rows self.now (row_of row.entry) }
+    /// The source of a row: the one at which the way back from it ends, over at most so many rows.
+    #[tactic(auto, using(crate::proofs::WalkLemmas::source_step))]
+    pub(crate) fn source_within<'a>(&'a self, rows: usize, row: Row<'a>) -> Option<Row<'a>>
+        ensures { option_map row_of result ≡ source_within rows self.now (row_of row.entry) }
     {
-        let Some(fewer) = rows.checked_sub(1) else {
-            return false;
-        };
+        let fewer = rows.checked_sub(1)?;
         let Some(wire) = self.wire_to(row.ingress()) else {
-            return true;
+            return Some(row);
         };
         let link = row.link;
-        match self.row_before(link.id, wire) {
-            Some(before) => self.ends_within(fewer, before),
-            None => false,
-        }
+        let before = self.row_before(link.id, wire)?;
+        self.source_within(fewer, before)
     }
 
     /// A row's way back.
@@ -40,10 +36,9 @@ impl Network {
         ensures { result ≡ has_source self.now (row_of row.entry) }
     {
         let link = row.link;
-        if self.ends_within(MOST_ROWS, row) {
-            Ok(())
-        } else {
-            Err(NetworkFault::NoSource(row.switch, link.id))
+        match self.source_within(MOST_ROWS, row) {
+            Some(_) => Ok(()),
+            None => Err(NetworkFault::NoSource(row.switch, link.id)),
         }
     }
 
