@@ -268,3 +268,21 @@ bounded leaves t speed port l formed among leads rate =
       by Low is there pays =
           let h = low speed (routed port t.links) t.latency l there (ap (λ q. not (is_high q)) is) pays in
           low_is (load_of t.latency speed port t.links) (cost_of speed 64) h.0 (leaves t speed port formed rate h.0) h.1
+
+-- where the greater load has a bound, the lesser one has one
+pub bound_before : (a b : Load) → LoadGrows a b → (priority : Priority) (y : ℕ) → bound_in (bounds_of b) priority ≡ Some y
+    → (x : ℕ) × (bound_in (bounds_of a) priority ≡ Some x) × (x ≤ y)
+bound_before a b h High y y_is =
+    let x : ℕ = (a.high_burst + parts * a.low_largest) / parts + a.latency in
+    let test = (cond_some (nat_lt 0 b.highs) ((b.high_burst + parts * b.low_largest) / parts + b.latency) y y_is).0 in
+    let is : bound_in (bounds_of a) High ≡ Some ((a.high_burst + parts * a.low_largest) / parts + a.latency)
+    = ap (λ c. cond c (Some ((a.high_burst + parts * a.low_largest) / parts + a.latency)) None) (sym (ap (nat_lt 0) h.highs) ∙ test) in
+    (x, is, bound_grows a b h High x y is y_is)
+bound_before a b h Low y y_is =
+    let x : ℕ = a.burst / (parts - a.high_rate) + a.latency in
+    let test = (cond_some (nat_lt 0 b.lows && nat_lt b.high_rate parts) (b.burst / (parts - b.high_rate) + b.latency) y y_is).0 in
+    let same : (nat_lt 0 b.lows && nat_lt b.high_rate parts) ≡ (nat_lt 0 a.lows && nat_lt a.high_rate parts)
+    = ap (λ (n : ℕ). nat_lt 0 n && nat_lt b.high_rate parts) h.lows ∙ ap (λ (n : ℕ). nat_lt 0 a.lows && nat_lt n parts) h.high_rate in
+    let is : bound_in (bounds_of a) Low ≡ Some (a.burst / (parts - a.high_rate) + a.latency)
+    = ap (λ c. cond c (Some (a.burst / (parts - a.high_rate) + a.latency)) None) (sym same ∙ test) in
+    (x, is, bound_grows a b h Low x y is y_is)

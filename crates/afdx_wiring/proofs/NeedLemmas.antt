@@ -49,7 +49,7 @@ kept_where : (b : Bool) (e : NetworkFault) → b ≡ false → unless b e ≡ Ok
 kept_where true e h = absurd cc
 kept_where false e h = refl
 
-has_its_need : (r : Row) (o : Option (ℕ × Delays)) → nat_le (needed false o) 10000 ≡ true → r.link.jitter ≡ needed false o * 1000 → has_jitter r o ≡ Ok tt
+has_its_need : (r : Row) (o : Option (ℕ × Delays)) → nat_le (needed o) 10000 ≡ true → r.link.jitter ≡ needed o * 1000 → has_jitter r o ≡ Ok tt
 has_its_need r None few is = absurd cc
 has_its_need r (Some far) few is = kept_where (nat_lt (r.link.jitter / 1000) (least_jitter far.1 far.0)) _ (no_less r.link.jitter (least_jitter far.1 far.0) is)
 
@@ -63,32 +63,15 @@ each_has net (r ∷ rs) h =
     let is = eqb-true n.has (n.need * 1000) (right (nat_le n.need 10000) (n.has == n.need * 1000) met) in
     (has_its_need r (way_within most_rows net r at_once) few is, each_has net rs (right (is_met n) rest h))
 
-each_is : (ns : List RowNeed) → list_all is_met ns ≡ true → AllByRecursion (λ n. n.has ≡ n.need * 1000) ns
+pub each_is : (ns : List RowNeed) → list_all is_met ns ≡ true → AllByRecursion (λ n. n.has ≡ n.need * 1000) ns
 each_is [] h = tt
 each_is (n ∷ ns) h =
     let rest : Bool = list_all is_met ns in
     (eqb-true n.has (n.need * 1000) (right (nat_le n.need 10000) (n.has == n.need * 1000) (left (is_met n) rest h)), each_is ns (right (is_met n) rest h))
 
-none_short : (net : Network) → list_all is_met (map (need_in false net) (rows_of net)) ≡ true → shortage net ≡ Ok tt
+pub none_short : (net : Network) → list_all is_met (map (need_in false net) (rows_of net)) ≡ true → shortage net ≡ Ok tt
 unfolding shortage
 none_short net h = all_fine (jitter_enough net) (rows_of net) (each_has net (rows_of net) h)
-
--- the needs of a turn, which are met where none is past what a table can have
-pub are_needs : (net turn : Network) (needs : List RowNeed) (past : Option Short) → DiffersInJitters net turn → needs ≡ map (need_in false turn) (rows_of turn)
-    → past ≡ past_of needs → (is_some past || list_all is_met needs) ≡ true → AreNeeds net needs past
-are_needs net turn needs past alike rows past_is h = record {
-  turn = turn;
-  alike = alike;
-  rows = rows;
-  past_is = past_is;
-  met = λ none.
-      let met = all_where past none h in
-      let fine_there = none_short turn (sym (ap (list_all is_met) rows) ∙ met) in
-      (All-from_recursion (λ n. n.has ≡ n.need * 1000) needs (each_is needs met), fine_there, enough turn fine_there);
-} where
-  all_where : (o : Option Short) → o ≡ None → (is_some o || list_all is_met needs) ≡ true → list_all is_met needs ≡ true
-  all_where None none met = met
-  all_where (Some s) none met = absurd cc
 
 -- ---- what jitters don't touch
 

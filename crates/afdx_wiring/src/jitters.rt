@@ -1,10 +1,12 @@
 //! The jitters that the rows of a network need.
 
-ghost use Rattle.std.specs.Prelude.{◌≡◌, ◌≤◌, ◌++◌, ◌||◌, map, option_map, is_some, IfOk, IfSome};
+ghost use Rattle.std.specs.Prelude.{◌≡◌, ◌≤◌, ◌++◌, ◌||◌, map, option_map, is_some, All, IfOk, IfSome};
 ghost use Rattle.std.specs.List.{list_all};
+ghost use Rattle.afdx_table.specs.WellFormed.{IsWellFormed};
 ghost use Rattle.afdx_wiring.specs.Net.{rows_of};
 ghost use Rattle.afdx_wiring.specs.Order.{row_of};
-ghost use Rattle.afdx_wiring.specs.Needs.{bare, DiffersInJitters, AreNeeds, first_needed, needed, row_with_need, need_in, past_of, is_met};
+ghost use Rattle.afdx_wiring.specs.Inner.Given.{given, given_all};
+ghost use Rattle.afdx_wiring.specs.Needs.{AreNeeds, first_needed, needed, row_with_need, need_in, past_of, is_met};
 
 use crate::fault::{NetworkFault, Short};
 use crate::hops::Hops;
@@ -12,8 +14,10 @@ use crate::joints::link_at;
 use crate::network::Network;
 use crate::row::Row;
 use crate::sources::MOST_ROWS;
+use afdx_load::laws::high_links_leave_a_part;
 use afdx_series::{Delays, need};
 use afdx_table::Table;
+use afdx_table::laws::{links_are_at_their_places, links_are_found};
 use afdx_units::{MAX_JITTER, MICROSECOND};
 use std::alloc::{AllocError, Global};
 
@@ -100,7 +104,8 @@ impl<'a> Hops<'a> {
         switch: usize,
         table: &Table,
     ) -> Result<(), AllocError>
-        ensures { IfOk result (λ _. needs.new.items ≡ needs.old.items ++ map (λ l. need_in start self.now (record { switch = switch; link = l })) table.now.links) }
+        ensures rows { IfOk result (λ _. needs.new.items ≡ needs.old.items ++ map (λ l. need_in start self.now (record { switch = switch; link = l })) table.now.links) }
+        ensures well_formed { IfOk result (λ _. IsWellFormed table.now) }
     {
         for index in 0..table.link_count() {
             let link = link_at(table, index);
@@ -111,7 +116,8 @@ impl<'a> Hops<'a> {
 
     /// What all rows need.
     fn needs(&self, alloc: Global, start: bool) -> Result<Vec<RowNeed>, AllocError>
-        ensures { IfOk result (λ v. v.items ≡ map (need_in start self.now) (rows_of self.now)) }
+        ensures rows { IfOk result (λ v. v.items ≡ map (need_in start self.now) (rows_of self.now)) }
+        ensures well_formed { IfOk result (λ _. All IsWellFormed self.now.tables) }
     {
         let mut needs = Vec::new(alloc);
         for (switch, table) in self.network().tables().iter().enumerate() {
@@ -124,7 +130,8 @@ impl<'a> Hops<'a> {
 impl Network {
     /// What all rows need where they have the jitters that they have.
     fn needs(&self, alloc: Global, start: bool) -> Result<Vec<RowNeed>, AllocError>
-        ensures { IfOk result (λ v. v.items ≡ map (need_in start self.now) (rows_of self.now)) }
+        ensures rows { IfOk result (λ v. v.items ≡ map (need_in start self.now) (rows_of self.now)) }
+        ensures well_formed { IfOk result (λ _. All IsWellFormed self.now.tables) }
     {
         let hops = Hops::new(alloc, self)?;
         hops.needs(alloc, start)
@@ -132,7 +139,7 @@ impl Network {
 
     /// The network with these jitters, as far as a table can have them.
     fn with_jitters(self, needs: &[RowNeed]) -> Result<Network, NetworkFault>
-        ensures { IfOk result (λ net. DiffersInJitters self net) }
+        ensures { IfOk result (λ net. net ≡ record self { tables = given_all needs.now self.tables }) }
     {
         let (layout, mut tables) = self.into_parts();
         for row in needs {
@@ -150,6 +157,9 @@ impl Network {
     pub fn jitters(self, alloc: Global) -> Result<Needs, NetworkFault>
         ensures { IfOk result (λ needs. AreNeeds self needs.rows.items needs.past) }
     {
+        links_are_found();
+        links_are_at_their_places();
+        high_links_leave_a_part();
         let first = self.needs(alloc, true)?;
         let mut network = self.with_jitters(&first)?;
         for _ in 0..u64::MAX {
@@ -167,15 +177,16 @@ impl Network {
 
 /// Gives a row the jitter that it needs, where a table can have it.
 fn set_jitter(tables: &mut Vec<Table>, row: &RowNeed)
-    ensures { map bare tables.new.items ≡ map bare tables.old.items }
+    ensures { tables.new.items ≡ given row.now tables.old.items }
 {
+    if row.need > MAX_JITTER {
+        return;
+    }
     let Some(table) = tables.get_mut(row.switch) else {
         return;
     };
     if let Some(place) = table.link_place(row.link) {
-        if row.need <= MAX_JITTER {
-            table.set_jitter(place, row.need * MICROSECOND);
-        }
+        table.set_jitter(place, row.need * MICROSECOND);
     }
 }
 

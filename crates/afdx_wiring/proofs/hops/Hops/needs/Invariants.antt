@@ -1,8 +1,11 @@
-use Rattle.std.proofs.Common.{◌≡◌, ◌++◌, drop, map}
+use Rattle.std.proofs.Common.{◌≡◌, ◌++◌, drop, take, map, All}
+use Rattle.afdx_table.specs.WellFormed.{IsWellFormed}
 use Rattle.afdx_wiring.specs.Net.{rows_from, rows_of}
 use Rattle.afdx_wiring.specs.Needs.{need_in}
 use Rattle.afdx_wiring.proofs.hops.Hops.needs.Given as goal
 
 abbrev pub invariant-loop-switch : goal.invariant-loop-switch
-invariant-loop-switch l =
-    l.needs.items ++ map (need_in l.start l.self) (rows_from l.switch (drop l.switch l.self.tables)) ≡ map (need_in l.start l.self) (rows_of l.self)
+invariant-loop-switch l = record {
+  rows : l.needs.items ++ map (need_in l.start l.self) (rows_from l.switch (drop l.switch l.self.tables)) ≡ map (need_in l.start l.self) (rows_of l.self);
+  well_formed : All IsWellFormed (take l.switch l.self.tables)
+}
