@@ -82,14 +82,16 @@ paired net other differs switch id r is =
     let table = at_place bare net.tables other.tables switch here.table differs.1 here.table_is in
     let links : map bare_link table.0.links ≡ map bare_link here.table.links = ap (λ (t : Content). t.links) table.2 in
     let link = by_number id here.table.links table.0.links r.link links here.link_is in
-    let s : Row = row_in switch link.0 in
-    (row_in switch link.0, record {
-      here = here;
-      there = record { table = table.0; table_is = table.1; link_is = link.1; switch_is = refl };
-      there_is = row_there other switch id table.0 link.0 table.1 link.1;
-      tables = table.2;
-      links = link.2;
-    })
+    let s : Row = row_in switch link.0 in (
+      row_in switch link.0,
+      record {
+        here = here;
+        there = record { table = table.0; table_is = table.1; link_is = link.1; switch_is = refl };
+        there_is = row_there other switch id table.0 link.0 table.1 link.1;
+        tables = table.2;
+        links = link.2;
+      },
+    )
 
 -- the same port
 pub same_port : (net other : Network) → DiffersInJitters net other → (e : End) (p : PortRow) → port_at net e ≡ Some p → port_at other e ≡ Some p
@@ -139,6 +141,6 @@ pub links_grow : LinksAreFound → (net other : Network) → Below net other →
 links_grow links net other below switch t u t_is u_is t_formed u_formed same =
     zipped t.links u.links (ap (λ (c : Content). c.links) same)
     (λ l m l_in m_in alike.
-      let number : m.id ≡ l.id = ap (λ (k : Link). k.id) alike in
-      below switch l.id (row_in switch l) (row_in switch m) (row_there net switch l.id t l t_is (links.found t t_formed l l_in))
-      (row_there other switch l.id u m u_is (subst (λ (id : ℕ). link_row u id ≡ Some m) number (links.found u u_formed m m_in))))
+    let number : m.id ≡ l.id = ap (λ (k : Link). k.id) alike in
+    below switch l.id (row_in switch l) (row_in switch m) (row_there net switch l.id t l t_is (links.found t t_formed l l_in))
+    (row_there other switch l.id u m u_is (subst (λ (id : ℕ). link_row u id ≡ Some m) number (links.found u u_formed m m_in))))

@@ -204,11 +204,11 @@ few_later : (net other turn : Network) → Asked net other → Growing turn othe
 few_later net other turn asked grow =
     needs_each (λ (q : Row). row_with_need q (later turn q)) (λ n. n.need ≤ 10000) (rows_of turn)
     (λ q among.
-      let q_is = known_as asked.laws.links turn grow.here q.switch q.link.id q among refl refl in
-      let there = paired turn other grow.differs q.switch q.link.id q q_is in
-      let most = later_below net other turn asked grow q.switch q.link.id q there.0 q_is there.1.there_is in
-      let limit = limited asked.laws other q.switch q.link.id there.0 asked.suffices.well_formed there.1.there_is in
-      omega (arith, most, limit))
+    let q_is = known_as asked.laws.links turn grow.here q.switch q.link.id q among refl refl in
+    let there = paired turn other grow.differs q.switch q.link.id q q_is in
+    let most = later_below net other turn asked grow q.switch q.link.id q there.0 q_is there.1.there_is in
+    let limit = limited asked.laws other q.switch q.link.id there.0 asked.suffices.well_formed there.1.there_is in
+    omega (arith, most, limit))
 
 -- ---- the sources keep their jitters
 

@@ -227,7 +227,7 @@ low_is load least some leaves pays =
     record {
       bound = load.burst / (parts - load.high_rate) + load.latency;
       bound_is = ap (λ b. cond b (Some (load.burst / (parts - load.high_rate) + load.latency)) None)
-      (both (nat_lt 0 load.lows) (nat_lt load.high_rate parts) (less_test 0 load.lows some) (less_test load.high_rate parts leaves));
+          (both (nat_lt 0 load.lows) (nat_lt load.high_rate parts) (less_test 0 load.lows some) (less_test load.high_rate parts leaves));
       order = omega (arith, quotient);
     }
 

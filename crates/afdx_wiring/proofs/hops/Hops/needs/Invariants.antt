@@ -7,5 +7,5 @@ use Rattle.afdx_wiring.proofs.hops.Hops.needs.Given as goal
 abbrev pub invariant-loop-switch : goal.invariant-loop-switch
 invariant-loop-switch l = record {
   rows : l.needs.items ++ map (need_in l.start l.self) (rows_from l.switch (drop l.switch l.self.tables)) ≡ map (need_in l.start l.self) (rows_of l.self);
-  well_formed : All IsWellFormed (take l.switch l.self.tables)
+  well_formed : All IsWellFormed (take l.switch l.self.tables);
 }
