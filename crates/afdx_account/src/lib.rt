@@ -19,6 +19,3 @@ pub use frame::Frame;
 pub use frame_account::FrameAccount;
 pub use meter::Meter;
 pub use too_early::early_by;
-
-#[cfg(test)]
-mod tests;

@@ -7,6 +7,3 @@ mod outcome;
 
 pub use judged::{Judged, judge, verdict};
 pub use outcome::Verdict;
-
-#[cfg(test)]
-mod tests;

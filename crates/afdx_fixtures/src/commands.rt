@@ -75,29 +75,3 @@ pub fn answers<A: Allocator + Copy>(
     let got = answer_over(alloc, line, b"", folder)?;
     Ok(got.is(status, out.as_bytes(), err.as_bytes()))
 }
-
-/// Whether it answers so over a folder with a table and with captures of ports 1 and up.
-pub fn answers_over_files(
-    alloc: Global,
-    line: &str,
-    table: &str,
-    captures: &[&[u8]],
-    said: Said,
-) -> Result<bool, AllocError> {
-    let mut folder = folder_of(alloc, table, captures)?;
-    answers(alloc, line, &mut folder, said)
-}
-
-/// Whether captures of ports 1 and up that are none are refused with status 3 and this line, and no file is put.
-pub fn refuses(
-    alloc: Global,
-    line: &str,
-    table: &str,
-    captures: &[&[u8]],
-    said: &str,
-) -> Result<bool, AllocError> {
-    let mut folder = folder_of(alloc, table, captures)?;
-    let files = folder.count();
-    let is_said = answers(alloc, line, &mut folder, (3, "", said))?;
-    Ok(is_said && folder.count() == files)
-}

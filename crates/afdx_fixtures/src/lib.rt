@@ -7,8 +7,6 @@ mod commands;
 mod memory_folder;
 mod one_frame;
 
-pub use commands::{
-    Said, Served, answer_over, answers, answers_over_files, folder_of, refuses, split,
-};
+pub use commands::{Said, Served, answer_over, answers, folder_of, split};
 pub use memory_folder::{MemoryFolder, OpenedFile, Opening};
-pub use one_frame::{Broken, CHECKED, LINK_10, OneFrame, REPORT, RUN, captured, leaves, stops};
+pub use one_frame::{Broken, CHECKED, LINK_10, OneFrame, REPORT, RUN, captured};

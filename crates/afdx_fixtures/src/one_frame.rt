@@ -1,6 +1,6 @@
 //! The run of one frame, and frames of its link.
 
-use crate::{MemoryFolder, Said, answers};
+use crate::{MemoryFolder, answers};
 use afdx_devices::FolderFault;
 use afdx_samples::{HEADER, Sample, capture, frame, single};
 use std::alloc::{AllocError, Allocator, Global};
@@ -125,30 +125,4 @@ impl Broken<'_> {
     fn is_of(&self, folder: &MemoryFolder<Global>) -> bool {
         folder.calls() == self.call && folder.last_failure() == self.name
     }
-}
-
-/// Whether the program, over what is there of the run of one frame, answers so, and the first so many of its files are there then and
-/// no others.
-pub fn leaves(
-    alloc: Global,
-    arguments: &str,
-    said: Said,
-    count: usize,
-) -> Result<bool, AllocError> {
-    let run = OneFrame::new(alloc)?;
-    let mut folder = run.sound()?;
-    let is_said = answers(alloc, arguments, &mut folder, said)?;
-    let is_left = folder.holds(&run.files(), count);
-    Ok(is_said && is_left)
-}
-
-/// Whether it stops so, where a call of the folder fails, and leaves the first so many of the files of that run and no others.
-pub fn stops(
-    alloc: Global,
-    arguments: &str,
-    broken: &Broken,
-    count: usize,
-) -> Result<bool, AllocError> {
-    let run = OneFrame::new(alloc)?;
-    run.stops(arguments, broken, &run.files(), count)
 }

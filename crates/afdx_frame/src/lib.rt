@@ -8,6 +8,3 @@ mod reading;
 
 pub use address::View;
 pub use reading::view;
-
-#[cfg(test)]
-mod tests;

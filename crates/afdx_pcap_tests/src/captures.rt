@@ -5,7 +5,7 @@ use crate::bytes::{
     HUGE_LENGTH, IN_THE_LAST_SECOND, LARGEST, LENGTHS, MAGICS, MESSAGES, PATCHES,
 };
 use crate::readers::{
-    answers_all, are_written_as, gives_one_record, is_early_fault, is_written_as, read_piece,
+    Call, answers_all, are_written_as, gives_one_record, is_early_fault, is_written_as, read_piece,
     read_whole,
 };
 use afdx_pcap::{PcapFault, Record, read_all, write_all, write_frame, write_header, write_record};
@@ -51,8 +51,8 @@ fn is_of_the_frame_at_zero(alloc: Global, bytes: &[u8]) -> Result<bool, PcapFaul
 #[test]
 fn first_capture(rt: HostRuntime) -> Result<(), Fail> {
     let bytes = one_frame(rt.alloc())?;
-    assert!(rt; is_of_the_frame_at_zero(rt.alloc(), &bytes)?);
-    assert!(rt; is_written_as(rt.alloc(), &bytes, &bytes)?);
+    let is_read = is_of_the_frame_at_zero(rt.alloc(), &bytes)?;
+    assert!(rt; is_read && is_written_as(rt.alloc(), &bytes, &bytes)?);
     Ok(())
 }
 
@@ -71,10 +71,10 @@ fn written_record_by_record(rt: HostRuntime) -> Result<(), Fail> {
     let mut written = Vec::new(rt.alloc());
     write_header(&mut written)?;
     append_records(rt.alloc(), &bytes, &mut written)?;
-    assert!(rt; written.as_slice() == bytes.as_slice());
+    let is_written = written.as_slice() == bytes.as_slice();
     written.truncate(100);
     write_frame(&mut written, Stamp::ZERO, FRAME)?;
-    assert!(rt; written.as_slice() == bytes.as_slice());
+    assert!(rt; is_written && written.as_slice() == bytes.as_slice());
     Ok(())
 }
 
@@ -89,12 +89,9 @@ fn four_magics(rt: HostRuntime) -> Result<(), Fail> {
     let written = joined(rt.alloc(), &[HEADER, AT_FIVE_MICROS, FRAME])?;
     for (header, head) in MAGICS {
         let bytes = joined(rt.alloc(), &[header, head, FRAME])?;
+        let is_read = begins_at(rt.alloc(), &bytes, 1_000_005_000)?;
         assert!(rt;
-            begins_at(rt.alloc(), &bytes, 1_000_005_000)?,
-            "in {header:?}"
-        );
-        assert!(rt;
-            is_written_as(rt.alloc(), &bytes, &written)?,
+            is_read && is_written_as(rt.alloc(), &bytes, &written)?,
             "in {header:?}"
         );
     }
@@ -123,9 +120,8 @@ fn is_answer(alloc: Global, bytes: &[u8], answer: &Result<usize, PcapFault>) -> 
 #[test]
 fn every_cut(rt: HostRuntime) -> Result<(), Fail> {
     let bytes = two_frames(rt.alloc())?;
-    assert!(rt; bytes.len() == 176);
     for length in 0usize..=176 {
-        let prefix = bytes.get(..length).unwrap_or(&[]);
+        let prefix = bytes.get(..length).unwrap_or(b"no such cut");
         assert!(rt;
             is_answer(rt.alloc(), prefix, &answer_of(length)),
             "{length} bytes"
@@ -139,14 +135,17 @@ fn is_fault(alloc: Global, bytes: &[u8], fault: &PcapFault) -> bool {
     read_whole(alloc, bytes) == Err(*fault)
 }
 
+/// Whether it has this fault also for an open reader, before the input has ended.
+fn is_fault_at_once(alloc: Global, bytes: &[u8], fault: &PcapFault) -> bool {
+    is_fault(alloc, bytes, fault) && is_early_fault(alloc, bytes, fault)
+}
+
 #[test]
 fn capture_faults(rt: HostRuntime) -> Result<(), Fail> {
     for (place, patch, fault) in PATCHES {
         let bytes = patched(rt.alloc(), *place, patch)?;
-        assert!(rt; is_fault(rt.alloc(), &bytes, fault), "{patch:?} at {place}");
-        // An open reader answers each of them before the input has ended.
         assert!(rt;
-            is_early_fault(rt.alloc(), &bytes, fault),
+            is_fault_at_once(rt.alloc(), &bytes, fault),
             "{patch:?} at {place}"
         );
     }
@@ -188,8 +187,8 @@ fn come_back(bytes: Vec<u8>) -> bool {
 #[test]
 fn one_byte_too_many(rt: HostRuntime) -> Result<(), Fail> {
     let data = vec![in rt.alloc(); 7u8; 262_145]?;
-    assert!(rt; Record::<Global>::lent(Stamp::ZERO, 60, &data).is_none());
-    assert!(rt; come_back(data));
+    let is_none = Record::<Global>::lent(Stamp::ZERO, 60, &data).is_none();
+    assert!(rt; is_none && come_back(data));
     Ok(())
 }
 
@@ -205,16 +204,15 @@ fn last_second(rt: HostRuntime) -> Result<(), Fail> {
     let stamp = Stamp::new(4_294_967_295, 6_719).unwrap();
     let written = written_at(rt.alloc(), stamp)?;
     let bytes = joined(rt.alloc(), &[HEADER, IN_THE_LAST_SECOND, FRAME])?;
-    assert!(rt; written.as_slice() == bytes.as_slice());
-    assert!(rt; is_fault(rt.alloc(), &bytes, &PcapFault::Late(1)));
+    let is_refused = is_fault(rt.alloc(), &bytes, &PcapFault::Late(1));
+    assert!(rt; is_refused && written.as_slice() == bytes.as_slice());
     Ok(())
 }
 
 #[test]
 fn byte_by_byte(rt: HostRuntime) -> Result<(), Fail> {
     let bytes = one_frame(rt.alloc())?;
-    assert!(rt; bytes.len() == 100);
-    assert!(rt; gives_one_record(rt.alloc(), &bytes));
+    assert!(rt; bytes.len() == 100 && gives_one_record(rt.alloc(), &bytes));
     Ok(())
 }
 
@@ -272,19 +270,19 @@ fn random_pieces(rt: HostRuntime) -> Result<(), Fail> {
     Ok(())
 }
 
-#[test]
-fn faults_for_good(rt: HostRuntime) {
-    assert!(rt; answers_all(rt.alloc(), FOR_GOOD));
-}
+/// Calls of a reader: a fault is for good, a record comes before the fault of the next one, and a length that is too long is
+/// answered as soon as the record's header is whole.
+const CALLS: &[(&str, &[Call])] = &[
+    ("faults for good", FOR_GOOD),
+    ("record before fault", BEFORE_FAULT),
+    ("huge length", HUGE_LENGTH),
+];
 
 #[test]
-fn record_before_fault(rt: HostRuntime) {
-    assert!(rt; answers_all(rt.alloc(), BEFORE_FAULT));
-}
-
-#[test]
-fn huge_length(rt: HostRuntime) {
-    assert!(rt; answers_all(rt.alloc(), HUGE_LENGTH));
+fn reader_by_its_calls(rt: HostRuntime) {
+    for (name, calls) in CALLS {
+        assert!(rt; answers_all(rt.alloc(), calls), "{name}");
+    }
 }
 
 /// Whether a fault is printed so.

@@ -1,4 +1,4 @@
-//! Tests of each call that takes memory, with each of its allocations refused in turn, and of captures that are cut at each byte.
+//! Tests of calls that take memory, with each of their allocations refused in turn; what comes after it is right too.
 //!
 //! They are in a crate of their own, since a crate with tests is proved twice.
 #![tactic(auto)]
@@ -12,7 +12,7 @@ mod captures;
 #[cfg(test)]
 mod counters;
 #[cfg(test)]
-mod cuts;
+mod folders;
 #[cfg(test)]
 mod ports;
 #[cfg(test)]

@@ -13,9 +13,6 @@ mod tables;
 pub use captures::{FRAME, HEADER, capture, joined};
 pub use frames::{Sample, frame, large, one_of_each, record, small};
 pub use memory_file::MemoryFile;
-pub use networks::{
-    Ends, MULTICAST, RING, four_ports, four_ports_each, multicast, network_file, ring, small_link,
-    three_switches, two_switches,
-};
+pub use networks::{Ends, four_ports_each, network_file, small_link, two_switches};
 pub use rows::{Link, Port};
 pub use tables::{double, later, link, mixed, narrow, port, single, slow, table};

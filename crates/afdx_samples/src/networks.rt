@@ -35,7 +35,7 @@ pub fn small_link(id: u16, from: u8, to: &'static str, jitter_us: u32) -> Link {
 }
 
 /// The text of a table with ports 1 to 4 at 100 Mbit/s and these links.
-pub fn four_ports(alloc: Global, links: &[Link]) -> Result<String, AllocError> {
+fn four_ports(alloc: Global, links: &[Link]) -> Result<String, AllocError> {
     table(alloc, &[port(1), port(2), port(3), port(4)], links)
 }
 
@@ -65,48 +65,3 @@ pub fn two_switches(jitter_us: u32) -> [[Link; 3]; 2] {
         ],
     ]
 }
-
-/// Link 1 over three switches in a row, from port 1 to port 3 of each, with these jitters at the second and the third. At port 2
-/// of each another one comes in, 11, 12 and 13, and goes on at port 3; the first two leave at port 4 of the next switch.
-pub fn three_switches(second_us: u32, third_us: u32) -> ([Link; 2], [Link; 3], [Link; 3]) {
-    (
-        [small_link(1, 1, "[3]", 0), small_link(11, 2, "[3]", 0)],
-        [
-            small_link(1, 1, "[3]", second_us),
-            small_link(11, 1, "[4]", 7),
-            small_link(12, 2, "[3]", 0),
-        ],
-        [
-            small_link(1, 1, "[3]", third_us),
-            small_link(12, 1, "[4]", 7),
-            small_link(13, 2, "[3]", 0),
-        ],
-    )
-}
-
-/// Links 1 to 3 in a ring: each comes in at port 2, goes on at port 3 of two switches and leaves at port 4 of the next, with these
-/// jitters at the second and the third.
-pub fn ring(second_us: u32, third_us: u32) -> [[Link; 3]; 3] {
-    [(1, 3, 2), (2, 1, 3), (3, 2, 1)].map(|(own, passing, last)| {
-        [
-            small_link(own, 2, "[3]", 0),
-            small_link(passing, 1, "[3]", second_us),
-            small_link(last, 1, "[4]", third_us),
-        ]
-    })
-}
-
-/// The wires of a ring.
-pub const RING: [Ends; 3] = [("A.3", "B.1", 0), ("B.3", "C.1", 0), ("C.3", "A.1", 0)];
-
-/// A frame of link 5 goes on at ports 2 and 3 of the first switch; of the second it leaves port 2, of the third ports 1 and 3.
-pub fn multicast() -> [[Link; 1]; 3] {
-    [
-        [small_link(5, 1, "[2, 3]", 0)],
-        [small_link(5, 1, "[2]", 0)],
-        [small_link(5, 2, "[1, 3]", 0)],
-    ]
-}
-
-/// The wires of those three.
-pub const MULTICAST: [Ends; 2] = [("A.2", "B.1", 25), ("A.3", "C.2", 0)];

@@ -1,11 +1,17 @@
-//! Tests of the program's commands: arguments, the names of faults, checks and runs, over a folder in memory.
+//! Tests of the program's commands where folders, readers and writers fail, and of what no case of the built program sees.
 //!
 //! They are in a crate of their own, since a crate with tests is proved twice.
 #![tactic(auto)]
 
 #[cfg(test)]
-mod arguments;
+mod devices;
+#[cfg(test)]
+mod folders;
 #[cfg(test)]
 mod names;
 #[cfg(test)]
-mod runs;
+mod networks;
+#[cfg(test)]
+mod policing;
+#[cfg(test)]
+mod streams;

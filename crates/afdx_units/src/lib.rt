@@ -14,6 +14,3 @@ pub use line::{GREATEST_SIZE, LEAST_SIZE, Priority, Speed, cost, size};
 pub use link::{MAX_JITTER, MAX_LINK_ID};
 pub use police::Police;
 pub use stamp::{MICROSECOND, Stamp};
-
-#[cfg(test)]
-mod tests;

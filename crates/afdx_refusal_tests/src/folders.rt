@@ -1,0 +1,195 @@
+//! The folder in memory that the tests have, with each of its allocations refused in turn: by its calls, of which each that is out
+//! of memory is made once more, and in a run.
+
+use crate::allocations::{Calls, Memory, count, made_again, refuse};
+use afdx_devices::{Folder, FolderFault};
+use afdx_fixtures::{MemoryFolder, OneFrame, Opening, REPORT, RUN, answer_over};
+use std::alloc::Global;
+use std::io::Print;
+use std::process::Abort;
+use std::test::*;
+
+/// A call of a folder, for the file at this place.
+#[derive(Clone, Copy)]
+enum Call {
+    /// Puts it.
+    Put(usize),
+    /// Gets it.
+    Get(usize),
+    /// Gets a file that is not there.
+    GetNone,
+}
+
+/// Each file is put, the first of them twice, and then got; then one is got that is not there.
+const CALLS: &[Call] = &[
+    Call::Put(0),
+    Call::Put(1),
+    Call::Put(2),
+    Call::Put(3),
+    Call::Put(4),
+    Call::Put(0),
+    Call::Get(0),
+    Call::Get(1),
+    Call::Get(2),
+    Call::Get(3),
+    Call::Get(4),
+    Call::GetNone,
+];
+
+/// The name of no file.
+const NONE: &str = "in/port-3.pcap";
+
+/// Puts a file; none where the folder is out of memory.
+fn put<'a>(
+    folder: &mut MemoryFolder<&'a Memory>,
+    memory: &'a Memory,
+    name: &str,
+    bytes: &[u8],
+) -> Option<bool> {
+    match folder.put(memory, name, bytes) {
+        Ok(()) => Some(true),
+        Err(FolderFault::Memory) => None,
+        Err(FolderFault::Device) => Some(false),
+    }
+}
+
+/// Whether a file is got with these bytes; none where the folder is out of memory.
+fn get<'a>(
+    folder: &mut MemoryFolder<&'a Memory>,
+    memory: &'a Memory,
+    name: &str,
+    bytes: &[u8],
+) -> Option<bool> {
+    match folder.get(memory, name) {
+        Ok(found) => Some(found.as_slice() == bytes),
+        Err(FolderFault::Memory) => None,
+        Err(FolderFault::Device) => Some(false),
+    }
+}
+
+/// Whether no file is got; none where the folder is out of memory.
+fn get_none<'a>(folder: &mut MemoryFolder<&'a Memory>, memory: &'a Memory) -> Option<bool> {
+    match folder.get(memory, NONE) {
+        Ok(_) => Some(false),
+        Err(FolderFault::Memory) => None,
+        Err(FolderFault::Device) => Some(true),
+    }
+}
+
+/// Whether a folder's answer to a call is right; none where it is out of memory.
+fn made<'a>(
+    folder: &mut MemoryFolder<&'a Memory>,
+    memory: &'a Memory,
+    files: &[(&str, &[u8])],
+    call: Call,
+) -> Option<bool> {
+    match call {
+        Call::Put(place) => match files.get(place) {
+            Some((name, bytes)) => put(folder, memory, name, bytes),
+            None => Some(false),
+        },
+        Call::Get(place) => match files.get(place) {
+            Some((name, bytes)) => get(folder, memory, name, bytes),
+            None => Some(false),
+        },
+        Call::GetNone => get_none(folder, memory),
+    }
+}
+
+/// How many of the calls a folder answers right, the second time where it was out of memory, and how often it was.
+fn answered<'a>(
+    folder: &mut MemoryFolder<&'a Memory>,
+    memory: &'a Memory,
+    files: &[(&str, &[u8])],
+) -> (usize, u64) {
+    let mut right = 0usize;
+    let mut wants = 0u64;
+    for call in CALLS {
+        let mut answer = made(folder, memory, files, *call);
+        if answer.is_none() {
+            count(&mut wants);
+            answer = made(folder, memory, files, *call);
+        }
+        if answer == Some(true) {
+            right = right.saturating_add(1);
+        }
+    }
+    (right, wants)
+}
+
+/// The calls for the files of a run.
+#[derive(Clone, Copy)]
+struct Calling<'a> {
+    run: &'a OneFrame,
+}
+
+impl Calls for Calling<'_> {
+    fn answer(&self, memory: &Memory) -> Result<Option<bool>, Fail> {
+        let mut folder = MemoryFolder::new(memory);
+        let (right, wants) = answered(&mut folder, memory, &self.run.files());
+        let is_right = right == CALLS.len()
+            && folder.failures() == 1
+            && folder.last_failure() == Some(NONE);
+        Ok(made_again(is_right, wants))
+    }
+}
+
+/// One allocation at least for the name and for the bytes of each file that is put, for the bytes of each that is got, and for the name
+/// of the one that is not there.
+#[test]
+fn files_put_and_got(rt: HostRuntime) -> Result<(), Fail> {
+    let alloc = rt.alloc();
+    let run = OneFrame::new(alloc)?;
+    refuse(&rt, alloc, "Folder in memory", &Calling { run: &run }, 18)
+}
+
+/// The run of one frame, over a folder that opens these.
+#[derive(Clone, Copy)]
+struct Running<'a> {
+    alloc: Global,
+    run: &'a OneFrame,
+    opening: Opening,
+}
+
+impl Calls for Running<'_> {
+    fn answer(&self, memory: &Memory) -> Result<Option<bool>, Fail> {
+        let mut folder = MemoryFolder::new(memory);
+        let Ok(()) = self.run.add_to(&mut folder) else {
+            return Ok(None);
+        };
+        folder.open_as(self.opening);
+        let got = answer_over(self.alloc, RUN, b"", &mut folder)?;
+        let files = self.run.files();
+        if got.is(0, REPORT.as_bytes(), b"") {
+            return Ok(Some(folder.holds(&files, 5)));
+        }
+        // The captures that were put are the first, and no new file is left.
+        let is_left = folder.holds(&files, 3) || folder.holds(&files, 4);
+        let is_out = got.is(5, b"", b"afdx: memory\n") && is_left;
+        Ok(if is_out { None } else { Some(false) })
+    }
+}
+
+/// Refuses each allocation of the run of one frame in turn, over a folder that opens these.
+fn refuse_running<R: Abort + Print>(
+    rt: &R,
+    alloc: Global,
+    opening: Opening,
+    least: u64,
+) -> Result<(), Fail> {
+    let run = OneFrame::new(alloc)?;
+    let running = Running {
+        alloc,
+        run: &run,
+        opening,
+    };
+    refuse(rt, alloc, "Run over a folder in memory", &running, least)
+}
+
+/// One allocation at least for the name and for the bytes of each file that is there, for each new file that is begun, for the bytes
+/// of the frame that leaves, and for the name of each file that is put; and for each capture that is opened.
+#[test]
+fn new_files_are_put_or_let_go(rt: HostRuntime) -> Result<(), Fail> {
+    refuse_running(&rt, rt.alloc(), Opening::None, 11)?;
+    refuse_running(&rt, rt.alloc(), Opening::Files, 13)
+}

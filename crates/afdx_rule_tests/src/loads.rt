@@ -1,0 +1,217 @@
+//! Load numbers, each reckoned by hand, and a table that is refused.
+
+use afdx_load::{Cleared, LoadFault, Rule, bounds, check, least_buffer, load, loads};
+use afdx_samples::{Link, Port, later, link, port, table};
+use afdx_table::{Table, read};
+use std::alloc::{AllocError, Global};
+use std::test::Fail;
+
+/// The low link of the worked tables, the high one, the low one policed by frames, and one of the smallest frames.
+const LOW: Link = Link {
+    id: 10,
+    from: 1,
+    to: "[2]",
+    bag_ms: 1,
+    jitter_us: 0,
+    max_size: 1518,
+    priority: "low",
+    police: "",
+};
+
+const HIGH: Link = Link {
+    id: 12,
+    priority: "high",
+    ..LOW
+};
+
+const FRAMED: Link = Link {
+    id: 13,
+    police: "frame",
+    ..LOW
+};
+
+const SMALL: Link = Link {
+    id: 11,
+    max_size: 64,
+    ..LOW
+};
+
+/// Rate, least buffer, high and low bound of port 2.
+type Numbers = (u64, u128, Option<u128>, Option<u128>);
+
+/// The table of ports 1 and 2, of which the second sends so many Mbit/s, and of these links.
+fn table_of(alloc: Global, mbit: u32, links: &[Link]) -> Result<Table, Fail> {
+    let second = Port { mbit, ..port(2) };
+    let text = table(alloc, &[port(1), second], links)?;
+    let table = read(alloc, text.as_bytes())?;
+    Ok(table)
+}
+
+/// The numbers of port 2, where the loads of all ports have that rate and there is no port 3.
+fn numbers(table: &Table) -> Option<Numbers> {
+    let row = table.port(2)?;
+    let load = load(table, 2)?;
+    let rate = loads(table).at(2)?.rate();
+    let bounds = bounds(&load);
+    if rate != load.rate() || afdx_load::load(table, 3).is_some() {
+        return None;
+    }
+    Some((
+        rate,
+        least_buffer(&load, row.speed),
+        bounds.high,
+        bounds.low,
+    ))
+}
+
+/// The numbers before the check and after it, where the table is accepted.
+fn numbers_of(table: Table) -> [Option<Numbers>; 3] {
+    let before = numbers(&table);
+    match check(table) {
+        Ok(cleared) => [before, numbers(cleared.table()), numbers_again(cleared)],
+        Err(_) => [before, None, None],
+    }
+}
+
+/// The numbers of the table that a cleared one gives back.
+fn numbers_again(cleared: Cleared) -> Option<Numbers> {
+    numbers(&cleared.into_table())
+}
+
+/// Mbit/s and links of tables that are accepted, with the numbers.
+const WORKED: &[(u32, &[Link], Numbers)] = &[
+    (100, &[LOW], (326_430_720, 3531, None, Some(159_390))),
+    (100, &[HIGH], (326_430_720, 3531, Some(159_390), None)),
+    (
+        100,
+        &[LOW, HIGH],
+        (652_861_440, 5523, Some(282_430), Some(379_224)),
+    ),
+    // by frames: one frame of 1518 bytes and its overhead each millisecond
+    (100, &[FRAMED], (251_985_920, 3076, None, Some(123_040))),
+    // by bytes and by frames
+    (
+        100,
+        &[LOW, FRAMED],
+        (578_416_640, 5069, None, Some(282_430)),
+    ),
+];
+
+#[test]
+fn worked_numbers(rt: HostRuntime) -> Result<(), Fail> {
+    for (mbit, links, want) in WORKED {
+        let table = table_of(rt.alloc(), *mbit, links)?;
+        assert_eq!(rt; numbers_of(table), [Some(*want); 3], "{}", want.0);
+    }
+    Ok(())
+}
+
+/// The latency is part of the bound alone.
+fn numbers_later(alloc: Global) -> Result<Option<Numbers>, Fail> {
+    let second = Port {
+        mbit: 1000,
+        ..port(2)
+    };
+    let rows = table(alloc, &[port(1), second], &[LOW])?;
+    let text = later(alloc, &rows, 50)?;
+    let table = read(alloc, text.as_bytes())?;
+    Ok(numbers(&table))
+}
+
+#[test]
+fn gigabit(rt: HostRuntime) -> Result<(), Fail> {
+    assert_eq!(rt;
+        numbers_later(rt.alloc())?,
+        Some((32_643_072, 3531, None, Some(65_939)))
+    );
+    Ok(())
+}
+
+/// What the links of a port ask for: rates, bursts, the longest times on the line, and how many links of each priority there are.
+type Sums = ([u64; 2], [u128; 2], [u64; 2], [u32; 2]);
+
+/// The sums of a port.
+fn sums(table: &Table, port: u8) -> Option<Sums> {
+    let load = load(table, port)?;
+    Some((
+        [load.rate(), load.high_rate()],
+        [load.burst(), load.high_burst()],
+        [load.largest(), load.low_largest()],
+        [load.highs(), load.lows()],
+    ))
+}
+
+#[test]
+fn sums_of_a_mixed_port_and_of_one_without_links(rt: HostRuntime) -> Result<(), Fail> {
+    let table = table_of(rt.alloc(), 100, &[SMALL, LOW, HIGH])?;
+    let mixed = (
+        [13_762_560 + 2 * 326_430_720, 326_430_720],
+        [666_624_000_000_000, 326_430_720_000_000],
+        [123_040, 123_040],
+        [1, 2],
+    );
+    let none = ([0, 0], [0, 0], [0, 0], [0, 0]);
+    assert_eq!(rt;
+        (sums(&table, 1), sums(&table, 2)),
+        (Some(none), Some(mixed))
+    );
+    Ok(())
+}
+
+/// Two ports that are too small and too hasty, the higher one first, and a link to both.
+fn small_ports(alloc: Global) -> Result<String, AllocError> {
+    let small = Port {
+        buffer: 0,
+        max_delay_us: 1,
+        ..port(2)
+    };
+    let wide = Link {
+        to: "[3, 2]",
+        ..link(10, 1, "[2]")
+    };
+    table(alloc, &[Port { id: 3, ..small }, small, port(1)], &[wide])
+}
+
+/// The fault of a table, and how many ports and links the table has that comes back.
+fn refused(table: Table) -> Option<(LoadFault, usize, usize)> {
+    match check(table) {
+        Ok(_) => None,
+        Err((table, fault)) => Some((fault, table.ports().len(), table.link_count())),
+    }
+}
+
+/// The lowest port is named, whatever the order of the text, and the table comes back.
+#[test]
+fn first_fault_stands(rt: HostRuntime) -> Result<(), Fail> {
+    let text = small_ports(rt.alloc())?;
+    let table = read(rt.alloc(), text.as_bytes())?;
+    let want = LoadFault {
+        port: 2,
+        rule: Rule::Buffer,
+        need: 578_416_640_000_000,
+        limit: 0,
+    };
+    assert_eq!(rt; refused(table), Some((want, 3, 1)));
+    Ok(())
+}
+
+/// The message of a fault begins with the name of its rule.
+#[test]
+fn messages(rt: HostRuntime) -> Result<(), Fail> {
+    for (rule, message) in [
+        (Rule::Rate, "Rate, port 2, need 9, limit 8"),
+        (Rule::Buffer, "Buffer, port 2, need 9, limit 8"),
+        (Rule::HighDelay, "HighDelay, port 2, need 9, limit 8"),
+        (Rule::LowDelay, "LowDelay, port 2, need 9, limit 8"),
+    ] {
+        let fault = LoadFault {
+            port: 2,
+            rule,
+            need: 9,
+            limit: 8,
+        };
+        let printed = format!(in rt.alloc(); "{fault}")?;
+        assert_eq!(rt; printed.as_str(), message);
+    }
+    Ok(())
+}

@@ -1,0 +1,147 @@
+//! Networks by their calls: the file, what its tables are judged for, and the jitters that they need.
+
+use afdx_samples::{Ends, four_ports_each, network_file, two_switches};
+use afdx_table::{Table, read};
+use afdx_wiring::{ClearedNetwork, End, Layout, Needs, Network, NetworkFault, Short, Wire};
+use std::alloc::{AllocError, Global};
+use std::test::Fail;
+
+/// The layout of these switches and wires.
+fn layout(alloc: Global, names: &[&str], wires: &[Ends]) -> Result<Layout, Fail> {
+    let text = network_file(alloc, names, wires)?;
+    let layout = afdx_wiring::read(alloc, text.as_bytes())
+        .ok()
+        .ok_or("a network file")?;
+    Ok(layout)
+}
+
+/// Whether the switch at a place has this name and table.
+fn is_switch(layout: &Layout, place: usize, (name, path): (&str, &str)) -> bool {
+    match layout.switches.get(place) {
+        Some(switch) => switch.name.as_str() == name && switch.path.as_str() == path,
+        None => false,
+    }
+}
+
+/// Whether a layout has these two switches and these wires.
+fn has(layout: &Layout, switches: [(&str, &str); 2], wires: &[Wire]) -> bool {
+    layout.switches.len() == 2
+        && is_switch(layout, 0, switches[0])
+        && is_switch(layout, 1, switches[1])
+        && layout.wires.as_slice() == wires
+}
+
+/// The greatest values that a network file has.
+#[test]
+fn a_file_is_read(rt: HostRuntime) -> Result<(), Fail> {
+    let names = ["AAAAAAAAAAAAAAAA", "a-b_9"];
+    let written = [
+        ("AAAAAAAAAAAAAAAA.24", "a-b_9.1", 1_000_000),
+        ("a-b_9.9", "AAAAAAAAAAAAAAAA.10", 0),
+    ];
+    let wires = [
+        Wire {
+            from: End {
+                switch: 0,
+                port: 24,
+            },
+            to: End { switch: 1, port: 1 },
+            delay: 1_000_000,
+        },
+        Wire {
+            from: End { switch: 1, port: 9 },
+            to: End {
+                switch: 0,
+                port: 10,
+            },
+            delay: 0,
+        },
+    ];
+    let switches = [
+        ("AAAAAAAAAAAAAAAA", "AAAAAAAAAAAAAAAA.toml"),
+        ("a-b_9", "a-b_9.toml"),
+    ];
+    let layout = layout(rt.alloc(), &names, &written)?;
+    assert!(rt; has(&layout, switches, &wires));
+    Ok(())
+}
+
+/// The tables of these texts.
+fn tables(alloc: Global, texts: &[String]) -> Result<Vec<Table>, Fail> {
+    let mut tables = Vec::new(alloc);
+    for text in texts {
+        tables.push(read(alloc, text.as_bytes())?)?;
+    }
+    Ok(tables)
+}
+
+/// The network of switches A and B, of these tables, which fit together.
+fn fitting(alloc: Global, texts: &[String]) -> Result<Network, Fail> {
+    let tables = tables(alloc, texts)?;
+    let layout = layout(alloc, &["A", "B"], &[("A.4", "B.1", 0)])?;
+    let network = Network::new(layout, tables)
+        .ok()
+        .ok_or("ports of the tables")?;
+    match network.fit(alloc) {
+        Ok(()) => Ok(network),
+        Err(_) => Err("tables that fit together".into()),
+    }
+}
+
+/// The tables of two switches in a row with this jitter at the second one; 13,440 ns of jitter arise at the first.
+fn two_tables(alloc: Global, jitter_us: u32) -> Result<Vec<String>, AllocError> {
+    let [first, second] = two_switches(jitter_us);
+    four_ports_each(alloc, &[&first, &second])
+}
+
+/// The network of these tables, where each load is accepted. Whether the jitters are enough is not asked.
+pub(crate) fn cleared(alloc: Global, jitter_us: u32) -> Result<ClearedNetwork, Fail> {
+    let texts = two_tables(alloc, jitter_us)?;
+    let network = fitting(alloc, &texts)?;
+    let cleared = network.clear().ok().ok_or("loads that are accepted")?;
+    Ok(cleared)
+}
+
+/// What the check of that network says.
+fn shortage(alloc: Global, jitter_us: u32) -> Result<Option<NetworkFault>, Fail> {
+    let network = cleared(alloc, jitter_us)?;
+    Ok(network.check(alloc).err())
+}
+
+#[test]
+fn fourteen_are_enough(rt: HostRuntime) -> Result<(), Fail> {
+    let short = Short {
+        switch: 1,
+        link: 1,
+        need: 14,
+        has: 13,
+    };
+    for (jitter_us, fault) in [(14, None), (13, Some(NetworkFault::Jitter(short)))] {
+        assert_eq!(rt; shortage(rt.alloc(), jitter_us)?, fault, "{jitter_us}");
+    }
+    Ok(())
+}
+
+/// The jitters that the rows of that network need, by switch and row, and whether one is past the limit.
+fn needs(alloc: Global, jitter_us: u32) -> Result<(Vec<u64>, bool), Fail> {
+    let texts = two_tables(alloc, jitter_us)?;
+    match fitting(alloc, &texts)?.jitters(alloc) {
+        Ok(needs) => Ok((numbers(alloc, &needs)?, needs.past.is_some())),
+        Err(_) => Err("jitters".into()),
+    }
+}
+
+fn numbers(alloc: Global, needs: &Needs) -> Result<Vec<u64>, AllocError> {
+    let mut all = Vec::new(alloc);
+    for row in &needs.rows {
+        all.push(row.need)?;
+    }
+    Ok(all)
+}
+
+#[test]
+fn fourteen_are_needed(rt: HostRuntime) -> Result<(), Fail> {
+    let (jitters, past) = needs(rt.alloc(), 0)?;
+    assert!(rt; jitters.as_slice() == [0, 0, 0, 14, 14, 14].as_slice() && !past);
+    Ok(())
+}

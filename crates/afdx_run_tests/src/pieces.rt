@@ -1,0 +1,315 @@
+//! Captures that come in pieces, in any order of ports, beside a run over the whole captures.
+
+use crate::feeding::{
+    Intake, Reported, agree, feed_all, feed_at, feed_waited, intakes, open, rest, take_at, whole,
+};
+use crate::settings::Content::Rows;
+use crate::settings::{DOUBLE, LINK, MIXED, NARROW, ONE, SINGLE, SLOW, Setting, THREE, TWO};
+use crate::texts::Frame::{Large, Small};
+use crate::texts::Text::{Frames, Parts};
+use crate::texts::{EMPTY, Text, captures};
+use afdx_samples::{FRAME, HEADER, Link, Port, Sample, capture, frame};
+use afdx_session::Session;
+use rand::RngExt;
+use rand::rngs::SmallRng;
+use rand_core::SeedableRng;
+use std::alloc::{AllocError, Global};
+use std::test::*;
+
+/// How the pieces of captures come.
+#[derive(Clone, Copy)]
+enum Pieces<'a> {
+    /// Of this size, round the captures at these places, while all that goes out is taken.
+    Round(&'a [usize], usize),
+    /// Of random sizes and captures, with takes at random, which this seed determines.
+    Random(u64),
+    /// Of this size, each of the capture that holds back the output, while all that goes out goes to files.
+    Waited(usize),
+}
+
+/// The pieces come; whether none was refused, and the session says rightly what it waits for.
+fn come(session: &mut Session<Global>, intakes: &mut [Intake<'_>], pieces: Pieces<'_>) -> bool {
+    match pieces {
+        Pieces::Round(places, size) => feed_all(session, intakes, places, size).is_ok(),
+        Pieces::Random(seed) => come_at_random(session, intakes, seed),
+        Pieces::Waited(size) => feed_waited(session, intakes, size) == Ok(true),
+    }
+}
+
+/// Whether these captures in such pieces lead where the whole run does.
+fn lead(
+    alloc: Global,
+    setting: Setting,
+    captures: &[(u8, Vec<u8>)],
+    pieces: Pieces<'_>,
+    whole: &Reported,
+) -> Result<bool, Fail> {
+    let mut intakes = intakes(alloc, captures)?;
+    let mut session = open(alloc, setting)?;
+    let fed = come(&mut session, &mut intakes, pieces);
+    Ok(match rest(alloc, session) {
+        Some(rest) => fed && agree(&intakes, &rest, whole),
+        None => false,
+    })
+}
+
+/// Whether these captures lead where the whole run does, in pieces of each of these kinds.
+fn all_lead(
+    alloc: Global,
+    setting: Setting,
+    captures: &[(u8, Vec<u8>)],
+    kinds: &[Pieces<'_>],
+) -> Result<bool, Fail> {
+    let whole = whole(alloc, setting, captures)?;
+    let mut right = true;
+    for pieces in kinds {
+        right = right && lead(alloc, setting, captures, *pieces, &whole)?;
+    }
+    Ok(right)
+}
+
+/// Captures of the ports from 1 on.
+#[derive(Clone, Copy)]
+struct Row {
+    name: &'static str,
+    setting: Setting,
+    came: &'static [Text],
+    kinds: &'static [Pieces<'static>],
+}
+
+/// Pieces of 1, 7 and 64 bytes round two ports, from the lowest and from the highest, and of the port that is waited for.
+const ROUND_TWO: &[Pieces<'static>] = &[
+    Pieces::Round(&[0, 1], 1),
+    Pieces::Round(&[0, 1], 7),
+    Pieces::Round(&[0, 1], 64),
+    Pieces::Round(&[1, 0], 1),
+    Pieces::Round(&[1, 0], 7),
+    Pieces::Round(&[1, 0], 64),
+    Pieces::Waited(1),
+    Pieces::Waited(7),
+    Pieces::Waited(64),
+];
+
+/// The same round three ports.
+const ROUND_THREE: &[Pieces<'static>] = &[
+    Pieces::Round(&[0, 1, 2], 1),
+    Pieces::Round(&[0, 1, 2], 7),
+    Pieces::Round(&[0, 1, 2], 64),
+    Pieces::Round(&[2, 1, 0], 1),
+    Pieces::Round(&[2, 1, 0], 7),
+    Pieces::Round(&[2, 1, 0], 64),
+    Pieces::Waited(1),
+    Pieces::Waited(7),
+    Pieces::Waited(64),
+];
+
+/// Headers of little-endian microseconds and of big-endian nanoseconds.
+const LITTLE_MICROS: [u8; 24] = [
+    0xd4, 0xc3, 0xb2, 0xa1, 2, 0, 4, 0, 0, 0, 0, 0, 0, 0, 0, 0, 0, 0, 4, 0, 1, 0, 0, 0,
+];
+
+const BIG_NANOS: [u8; 24] = [
+    0xa1, 0xb2, 0x3c, 0x4d, 0, 2, 0, 4, 0, 0, 0, 0, 0, 0, 0, 0, 0, 0, 0xff, 0xff, 0, 0, 0, 1,
+];
+
+/// A record at 1 s and 5 us, in each of them.
+const AT_LITTLE_MICROS: [u8; 16] = [1, 0, 0, 0, 5, 0, 0, 0, 60, 0, 0, 0, 60, 0, 0, 0];
+
+const AT_BIG_NANOS: [u8; 16] = [0, 0, 0, 1, 0, 0, 0x13, 0x88, 0, 0, 0, 60, 0, 0, 0, 60];
+
+const ROWS: &[Row] = &[
+    Row {
+        name: "one frame",
+        setting: SINGLE,
+        came: &[Frames(&[Small(10, 0)]), EMPTY],
+        kinds: ROUND_TWO,
+    },
+    Row {
+        name: "a high frame overtakes",
+        setting: MIXED,
+        came: &[Frames(&[Large(10, 0), Small(11, 1), Small(12, 1)]), EMPTY],
+        kinds: ROUND_TWO,
+    },
+    Row {
+        name: "one port is full",
+        setting: SLOW,
+        came: &[Frames(&[Small(10, 0), Small(10, 0)]), EMPTY, EMPTY],
+        kinds: ROUND_THREE,
+    },
+    Row {
+        name: "every verdict",
+        setting: NARROW,
+        came: &[Text::OneOfEach, Frames(&[Small(10, 0)]), EMPTY],
+        kinds: ROUND_THREE,
+    },
+    Row {
+        name: "two formats",
+        setting: DOUBLE,
+        came: &[
+            Parts(&[&LITTLE_MICROS, &AT_LITTLE_MICROS, &FRAME]),
+            Parts(&[&BIG_NANOS, &AT_BIG_NANOS, &FRAME]),
+            EMPTY,
+        ],
+        kinds: ROUND_THREE,
+    },
+];
+
+/// Whether the captures of a row lead where the whole run does.
+fn row_leads(alloc: Global, row: &Row) -> Result<bool, Fail> {
+    let captures = captures(alloc, row.came)?;
+    all_lead(alloc, row.setting, &captures, row.kinds)
+}
+
+#[test]
+fn pieces_round_the_ports(rt: HostRuntime) -> Result<(), Fail> {
+    for row in ROWS {
+        assert!(rt; row_leads(rt.alloc(), row)?, "{}", row.name);
+    }
+    Ok(())
+}
+
+// ---- random pieces
+
+/// A high link for small frames.
+const QUICK: Link = Link {
+    max_size: 300,
+    jitter_us: 100,
+    priority: "high",
+    ..LINK
+};
+
+/// The ports of the example network, and links as it has them: of both priorities, from each port to several.
+const NETWORK: Setting = Setting {
+    content: Rows(
+        &[
+            ONE,
+            TWO,
+            THREE,
+            Port {
+                id: 4,
+                mbit: 10,
+                buffer: 8192,
+                max_delay_us: 10_000,
+            },
+        ],
+        &[
+            Link {
+                id: 100,
+                to: "[2, 3]",
+                ..QUICK
+            },
+            Link {
+                id: 104,
+                to: "[4]",
+                ..LINK
+            },
+            Link {
+                id: 200,
+                from: 2,
+                to: "[1, 3]",
+                ..QUICK
+            },
+            Link {
+                id: 202,
+                from: 2,
+                to: "[1, 3]",
+                ..LINK
+            },
+            Link {
+                id: 30,
+                from: 3,
+                to: "[1, 4]",
+                ..QUICK
+            },
+            Link {
+                id: 31,
+                from: 3,
+                to: "[1, 2]",
+                ..LINK
+            },
+            Link {
+                id: 40,
+                from: 4,
+                to: "[1, 2, 3]",
+                ..LINK
+            },
+        ],
+    ),
+    checked: false,
+    ..SINGLE
+};
+
+/// The links of the network.
+const LINKS: [u8; 7] = [100, 104, 200, 202, 30, 31, 40];
+
+/// A frame of one of the links, some time after the instant.
+fn any_frame(random: &mut SmallRng, nanos: u32) -> Sample {
+    let place = random.random_range(0usize..7);
+    let link = LINKS.get(place).copied().unwrap_or(100);
+    let size = random.random_range(50u32..310);
+    let gap = random.random_range(0u32..400_000);
+    frame(link, size, nanos.saturating_add(gap))
+}
+
+/// A capture of so many frames of these links, also of links from other ports.
+fn traffic(alloc: Global, random: &mut SmallRng, count: usize) -> Result<Vec<u8>, AllocError> {
+    let mut frames: Vec<Sample> = Vec::new(alloc);
+    let mut nanos = 0u32;
+    for _ in 0..count {
+        let next = any_frame(random, nanos);
+        nanos = next.nanos;
+        frames.push(next)?;
+    }
+    capture(alloc, &frames)
+}
+
+/// Captures of the four ports; nothing comes in at port 3.
+fn random_captures(alloc: Global, random: &mut SmallRng) -> Result<Vec<(u8, Vec<u8>)>, AllocError> {
+    let mut captures = Vec::new(alloc);
+    captures.push((1, traffic(alloc, random, 40)?))?;
+    captures.push((2, traffic(alloc, random, 25)?))?;
+    captures.push((3, Vec::from_slice(alloc, &HEADER)?))?;
+    captures.push((4, traffic(alloc, random, 60)?))?;
+    Ok(captures)
+}
+
+/// A piece of one capture comes, and what has gone out of one port is taken; whether neither was refused.
+fn step_at_random(
+    session: &mut Session<Global>,
+    intakes: &mut [Intake<'_>],
+    random: &mut SmallRng,
+) -> bool {
+    let size = random.random_range(0usize..120);
+    let fed = feed_at(session, intakes, random.random_range(0usize..4), size).is_ok();
+    take_at(session, intakes, random.random_range(0usize..4)).is_ok() && fed
+}
+
+/// So it goes 400 times, and then what is left comes; whether none was refused.
+fn come_at_random(session: &mut Session<Global>, intakes: &mut [Intake<'_>], seed: u64) -> bool {
+    let mut random = SmallRng::seed_from_u64(seed);
+    let mut right = true;
+    for _ in 0..400 {
+        right = step_at_random(session, intakes, &mut random) && right;
+    }
+    feed_all(session, intakes, &[2, 0, 3, 1], 1000).is_ok() && right
+}
+
+/// Whether random pieces of random ports lead where the whole captures do. The seed makes the captures too.
+fn random_captures_lead(alloc: Global, seed: u64) -> Result<bool, Fail> {
+    let mut random = SmallRng::seed_from_u64(seed);
+    let captures = random_captures(alloc, &mut random)?;
+    all_lead(
+        alloc,
+        NETWORK,
+        &captures,
+        &[Pieces::Random(seed), Pieces::Waited(100)],
+    )
+}
+
+#[test]
+fn random_pieces(rt: HostRuntime) -> Result<(), Fail> {
+    for seed in 1..=8u64 {
+        assert!(rt; random_captures_lead(rt.alloc(), seed)?, "{seed}");
+    }
+    Ok(())
+}

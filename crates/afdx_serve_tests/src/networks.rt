@@ -1,0 +1,60 @@
+//! `afdx network run` over a folder in memory, one of whose calls fails. Values from outside: tables, captures and printed lines.
+
+use afdx_devices::FolderFault;
+use afdx_fixtures::{MemoryFolder, answers};
+use afdx_samples::{HEADER, capture, network_file, port, small, small_link, table};
+use std::alloc::{AllocError, Global};
+
+/// Two switches of one table: a link goes from port 1 to port 2 of A, and over a wire from port 1 to port 2 of B. A frame comes in
+/// at port 1 of A.
+fn two_in_a_row(alloc: Global) -> Result<MemoryFolder<Global>, AllocError> {
+    let network = network_file(alloc, &["A", "B"], &[("A.2", "B.1", 25)])?;
+    let text = table(alloc, &[port(1), port(2)], &[small_link(1, 1, "[2]", 0)])?;
+    let came = capture(alloc, &[small(1, 0)])?;
+    let mut folder = MemoryFolder::new(alloc);
+    for (name, bytes) in [
+        ("n", network.as_bytes()),
+        ("A.toml", text.as_bytes()),
+        ("B.toml", text.as_bytes()),
+        ("in/A/port-1.pcap", came.as_slice()),
+        ("in/A/port-2.pcap", &HEADER),
+        ("in/B/port-2.pcap", &HEADER),
+    ] {
+        folder.add(name, bytes)?;
+    }
+    Ok(folder)
+}
+
+/// Whether the run fails with this line at the call of this number, after which none comes, and has put the captures of A or has
+/// put none.
+fn fails_at(alloc: Global, call: u64, line: &str, is_put: bool) -> Result<bool, AllocError> {
+    let mut folder = two_in_a_row(alloc)?;
+    folder.fail_at(call, FolderFault::Device);
+    let is_said = answers(
+        alloc,
+        "afdx network run n in out",
+        &mut folder,
+        (5, "", line),
+    )?;
+    let is_left = folder.bytes("out/A/port-2.pcap").is_some() == is_put;
+    Ok(is_said && is_left && folder.calls() == call)
+}
+
+/// The call that fails, the line, and whether the captures of A are put by then: six files are got, and the seventh call puts the
+/// first one.
+const FAILING: &[(u64, &str, bool)] = &[
+    (2, "afdx: device get A.toml\n", false),
+    (6, "afdx: device get in/B/port-2.pcap\n", false),
+    (7, "afdx: device put out/A/port-1.pcap\n", false),
+    (9, "afdx: device put out/B/port-1.pcap\n", true),
+];
+
+#[test]
+fn failing_folder_of_a_network(rt: HostRuntime) {
+    for (call, line, is_put) in FAILING {
+        assert!(rt;
+            fails_at(rt.alloc(), *call, line, *is_put) == Ok(true),
+            "{line}"
+        );
+    }
+}

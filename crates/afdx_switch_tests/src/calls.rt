@@ -1,0 +1,128 @@
+//! A switch by its calls: refusals, offers and records.
+
+use crate::traffic::{
+    Call, answered, arrive, checked, finished, leaves, plays_to_the_end, switch_of,
+};
+use afdx_core::{CoreFault, Done, Fate, Switch};
+use afdx_port::Offer;
+use afdx_samples::{FRAME, double, joined, large, port, single, small};
+use std::alloc::Global;
+use std::test::*;
+
+/// Whether a switch over a table of one link was checked, how many of eight calls it answers as it should, whether it then hands
+/// out the rest, and what it gives at the end.
+fn answers_calls(
+    alloc: Global,
+    mut switch: Switch<'static, Global>,
+) -> (bool, usize, bool, (usize, usize, usize)) {
+    let queued = (Some(Fate::Passed(10)), Some((2, Offer::Queued)), None, 0);
+    let unknown = (None, None, Some(CoreFault::NoSuchPort), 5);
+    let earlier = (None, None, Some(CoreFault::Earlier), 4);
+    let calls = [
+        Call::Arrive(7, small(10, 5), unknown),
+        Call::Arrive(1, small(10, 5), queued),
+        Call::Arrive(1, small(10, 4), earlier),
+        Call::Arrive(1, small(10, 5), queued),
+        Call::Advance(4, false),
+        Call::Next(2, None),
+        Call::Advance(6, true),
+        Call::Next(2, Some((6_725, 60))),
+    ];
+    let accepted = switch.accepted();
+    let count = answered(alloc, &mut switch, &calls);
+    let mut done = finished(switch);
+    let is_left = leaves(&mut done, 2, &[(13_445, 60)]);
+    (accepted, count, is_left, reported_at_the_end(&done))
+}
+
+#[test]
+fn switch_by_calls(rt: HostRuntime) -> Result<(), Fail> {
+    let switch = switch_of(rt.alloc(), &single(rt.alloc())?)?;
+    assert_eq!(rt;
+        answers_calls(rt.alloc(), switch),
+        (false, 8, true, (2, 0, 2))
+    );
+    Ok(())
+}
+
+#[test]
+fn checked_switch_by_calls(rt: HostRuntime) -> Result<(), Fail> {
+    let switch = checked(rt.alloc(), &single(rt.alloc())?)?;
+    assert_eq!(rt;
+        answers_calls(rt.alloc(), switch),
+        (true, 8, true, (2, 0, 2))
+    );
+    Ok(())
+}
+
+/// What a switch says of port 2, how many frames it sent and discarded, and of all arrivals, how many fates.
+fn reported(switch: &Switch<'static, Global>) -> (usize, usize, usize) {
+    let sent = switch.sent(2).len();
+    let aged = switch.aged(2).len();
+    (sent, aged, switch.fates().len())
+}
+
+/// The same of a finished switch.
+fn reported_at_the_end(done: &Done<'static, Global>) -> (usize, usize, usize) {
+    (done.sent(2).len(), done.aged(2).len(), done.fates().len())
+}
+
+/// Whether a switch says what it did after the first frame has begun and at the end, and appends each of two frames to a capture
+/// once: the first begins at once, the second when the first has left.
+fn appends_two(alloc: Global, mut switch: Switch<'static, Global>, capture: &mut Vec<u8>) -> bool {
+    let _first = arrive(alloc, &mut switch, 1, small(10, 0));
+    let _second = arrive(alloc, &mut switch, 1, small(10, 6_720));
+    let begun = reported(&switch);
+    let one = switch.next_out_into(2, capture);
+    let none = switch.next_out_into(2, capture);
+    let mut done = finished(switch);
+    let two = done.next_out_into(2, capture);
+    let no_more = done.next_out_into(2, capture);
+    let nowhere = done.next_out_into(7, capture);
+    begun == (1, 0, 2)
+        && one == Ok(true)
+        && none == Ok(false)
+        && reported_at_the_end(&done) == (2, 0, 2)
+        && two == Ok(true)
+        && no_more == Ok(false)
+        && nowhere == Ok(false)
+}
+
+/// The bytes of the output capture: stamps 6,720 and 13,440 ns, 60 bytes captured and on the line.
+#[test]
+fn two_frames_as_a_capture(rt: HostRuntime) -> Result<(), Fail> {
+    let first = [0, 0, 0, 0, 0x40, 0x1a, 0, 0, 60, 0, 0, 0, 60, 0, 0, 0];
+    let second = [0, 0, 0, 0, 0x80, 0x34, 0, 0, 60, 0, 0, 0, 60, 0, 0, 0];
+    let text = joined(rt.alloc(), &[&first, &FRAME, &second, &FRAME])?;
+    let switch = switch_of(rt.alloc(), &single(rt.alloc())?)?;
+    let mut capture = Vec::new(rt.alloc());
+    let is_told = appends_two(rt.alloc(), switch, &mut capture);
+    assert!(rt; is_told && capture.as_slice() == text.as_slice());
+    Ok(())
+}
+
+/// The other merge of one instant: the large frame first. Both leave, at the ends that the definitions give for this order.
+#[test]
+fn second_merge_of_one_instant(rt: HostRuntime) -> Result<(), Fail> {
+    let calls = [
+        Call::Fate(2, large(20, 0), Fate::Passed(20)),
+        Call::Fate(1, small(10, 0), Fate::Passed(10)),
+    ];
+    let left = [(123_040, 1514), (129_760, 60)];
+    let text = double(rt.alloc(), port(3))?;
+    let played = plays_to_the_end(rt.alloc(), &text, &calls, 3, &left)?;
+    assert_eq!(rt; played, (2, true));
+    Ok(())
+}
+
+#[test]
+fn messages(rt: HostRuntime) -> Result<(), Fail> {
+    for (fault, name) in [
+        (CoreFault::Memory, "Memory"),
+        (CoreFault::Earlier, "Earlier"),
+        (CoreFault::NoSuchPort, "NoSuchPort"),
+    ] {
+        assert_eq!(rt; format!(in rt.alloc(); "{fault}")?.as_str(), name);
+    }
+    Ok(())
+}
