@@ -62,6 +62,21 @@ frames() {
         text2pcap -q -F nsecpcap -t '%s.%f' "$room/frames.txt" "$file"
 }
 
+# enlarge FILE COUNT: the capture is followed by so many records of 262,144 bytes, which are for no link.
+enlarge() {
+    python3 - "$1" "$2" <<'END'
+import struct
+import sys
+
+with open(sys.argv[1], "r+b") as file:
+    file.seek(0, 2)
+    for _ in range(int(sys.argv[2])):
+        file.write(struct.pack("<4I", 1, 0, 262_144, 262_144))
+        file.seek(262_144, 1)
+    file.truncate()
+END
+}
+
 # shown FILE: what tshark sees of a capture, to the nanosecond and the byte; arguments after FILE go to tshark.
 shown() {
     tshark -r "$@" -T fields -e frame.time_epoch -e frame.cap_len 2>/dev/null &&

@@ -43,21 +43,6 @@ mkdir -p small middle in out wanted cut
 frames small/port-1.pcap 0.000000000:10:1518 0.000999999:10:1518 0.001000000:10:1518 0.003000000:10:64
 frames small/port-2.pcap 0.000000000:11:64 0.002000000:11:200 0.004000000:11:100 2.000000000:11:64
 
-# enlarge FILE COUNT: the capture is followed by so many records of 262,144 bytes, which are for no link.
-enlarge() {
-    python3 - "$1" "$2" <<'END'
-import struct
-import sys
-
-with open(sys.argv[1], "r+b") as file:
-    file.seek(0, 2)
-    for _ in range(int(sys.argv[2])):
-        file.write(struct.pack("<4I", 1, 0, 262_144, 262_144))
-        file.seek(262_144, 1)
-    file.truncate()
-END
-}
-
 # runs_in MEGABYTES FOLDER: a run over this folder takes no more memory at its peak.
 runs_in() {
     python3 - "$1" "$afdx" run table.toml "$2" out <<'END'

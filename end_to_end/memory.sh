@@ -71,6 +71,7 @@ editcap -T usb-linux -F nsecpcap in/port-1.pcap usb/port-1.pcap
 for kind in cut pcapng usb; do
     cp in/port-2.pcap $kind
 done
+cp -r in whole && enlarge whole/port-1.pcap 65
 cp in/port-[12].pcap both/A
 cp in/port-2.pcap both/B
 alone=(alone --id 10 --bag 1 --jitter 0 --size 1518)
@@ -81,6 +82,7 @@ refuses "check" 0 "" /dev/null check table.toml
 refuses "size" 0 "" /dev/null size small.toml
 refuses "run" 0 "" /dev/null run table.toml in out
 refuses "run without the check" 0 "" /dev/null run table.toml in out --unchecked
+refuses "run of captures that are read whole" 0 "" /dev/null run table.toml whole out
 refuses "measure" 0 "" /dev/null measure table.toml in
 refuses "trace" 0 "" /dev/null trace table.toml in out
 refuses "network check" 0 "" /dev/null network check network.toml

@@ -67,10 +67,12 @@ fn numbers(table: &Table) -> Option<Numbers> {
 /// The numbers before the check and after it, where the table is accepted.
 fn numbers_of(table: Table) -> [Option<Numbers>; 3] {
     let before = numbers(&table);
-    match check(table) {
-        Ok(cleared) => [before, numbers(cleared.table()), numbers_again(cleared)],
-        Err(_) => [before, None, None],
-    }
+    let Ok(cleared) = check(table) else {
+        return [before, None, None];
+    };
+    let after = numbers(cleared.table());
+    let again = numbers_again(cleared);
+    [before, after, again]
 }
 
 /// The numbers of the table that a cleared one gives back.
@@ -127,34 +129,39 @@ fn gigabit(rt: HostRuntime) -> Result<(), Fail> {
     Ok(())
 }
 
-/// What the links of a port ask for: rates, bursts, the longest times on the line, and how many links of each priority there are.
-type Sums = ([u64; 2], [u128; 2], [u64; 2], [u32; 2]);
+/// What the links of a port ask for: rates and the longest times on the line, bursts, and how many links of each priority there are.
+type Sums = ([u64; 4], [u128; 2], [u32; 2]);
 
 /// The sums of a port.
 fn sums(table: &Table, port: u8) -> Option<Sums> {
     let load = load(table, port)?;
-    Some((
-        [load.rate(), load.high_rate()],
-        [load.burst(), load.high_burst()],
-        [load.largest(), load.low_largest()],
-        [load.highs(), load.lows()],
-    ))
+    let times = [
+        load.rate(),
+        load.high_rate(),
+        load.largest(),
+        load.low_largest(),
+    ];
+    let bursts = [load.burst(), load.high_burst()];
+    let links = [load.highs(), load.lows()];
+    Some((times, bursts, links))
 }
 
 #[test]
 fn sums_of_a_mixed_port_and_of_one_without_links(rt: HostRuntime) -> Result<(), Fail> {
     let table = table_of(rt.alloc(), 100, &[SMALL, LOW, HIGH])?;
-    let mixed = (
-        [13_762_560 + 2 * 326_430_720, 326_430_720],
-        [666_624_000_000_000, 326_430_720_000_000],
-        [123_040, 123_040],
-        [1, 2],
-    );
-    let none = ([0, 0], [0, 0], [0, 0], [0, 0]);
-    assert_eq!(rt;
-        (sums(&table, 1), sums(&table, 2)),
-        (Some(none), Some(mixed))
-    );
+    for (port, want) in [
+        (1, ([0, 0, 0, 0], [0, 0], [0, 0])),
+        (
+            2,
+            (
+                [666_624_000, 326_430_720, 123_040, 123_040],
+                [666_624_000_000_000, 326_430_720_000_000],
+                [1, 2],
+            ),
+        ),
+    ] {
+        assert_eq!(rt; sums(&table, port), Some(want), "port {port}");
+    }
     Ok(())
 }
 

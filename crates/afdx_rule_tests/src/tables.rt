@@ -1,6 +1,6 @@
 //! Tables that are read, to their rows; the greatest, and those that have too many rows.
 
-use afdx_samples::{double, mixed, single};
+use afdx_samples::{double, mixed, port, single};
 use afdx_table::{At, Key, LinkRow, PortRow, Table, TableFault, read};
 use afdx_units::{Bag, Police, Priority, Speed};
 use std::alloc::{AllocError, Global};
@@ -78,23 +78,13 @@ fn is_worked(alloc: Global, text: &str, ports: u8, links: &[WorkedLink]) -> Resu
 #[test]
 fn worked_tables(rt: HostRuntime) -> Result<(), Fail> {
     let low = Priority::Low;
-    let texts = [
-        single(rt.alloc())?,
-        double(rt.alloc(), afdx_samples::port(3))?,
-        mixed(rt.alloc())?,
-    ];
-    let links: [&[WorkedLink]; 3] = [
-        &[(10, 1, 2, low)],
-        &[(10, 1, 3, low), (20, 2, 3, low)],
-        &[(10, 1, 2, low), (11, 1, 2, low), (12, 1, 2, Priority::High)],
-    ];
-    for place in 0..3usize {
-        let ports = if place == 1 { 3 } else { 2 };
-        assert!(rt;
-            is_worked(rt.alloc(), &texts[place], ports, links[place])?,
-            "table {place}"
-        );
-    }
+    let alloc = rt.alloc();
+    let is_single = is_worked(alloc, &single(alloc)?, 2, &[(10, 1, 2, low)])?;
+    let of_double = [(10, 1, 3, low), (20, 2, 3, low)];
+    let is_double = is_worked(alloc, &double(alloc, port(3))?, 3, &of_double)?;
+    let of_mixed = [(10, 1, 2, low), (11, 1, 2, low), (12, 1, 2, Priority::High)];
+    let is_mixed = is_worked(alloc, &mixed(alloc)?, 2, &of_mixed)?;
+    assert_eq!(rt; [is_single, is_double, is_mixed], [true; 3]);
     Ok(())
 }
 

@@ -125,7 +125,8 @@ fn fourteen_are_enough(rt: HostRuntime) -> Result<(), Fail> {
 /// The jitters that the rows of that network need, by switch and row, and whether one is past the limit.
 fn needs(alloc: Global, jitter_us: u32) -> Result<(Vec<u64>, bool), Fail> {
     let texts = two_tables(alloc, jitter_us)?;
-    match fitting(alloc, &texts)?.jitters(alloc) {
+    let network = fitting(alloc, &texts)?;
+    match network.jitters(alloc) {
         Ok(needs) => Ok((numbers(alloc, &needs)?, needs.past.is_some())),
         Err(_) => Err("jitters".into()),
     }

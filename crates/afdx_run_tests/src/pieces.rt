@@ -161,7 +161,7 @@ fn row_leads(alloc: Global, row: &Row) -> Result<bool, Fail> {
 }
 
 #[test]
-fn pieces_round_the_ports(rt: HostRuntime) -> Result<(), Fail> {
+fn any_pieces_round_the_ports(rt: HostRuntime) -> Result<(), Fail> {
     for row in ROWS {
         assert!(rt; row_leads(rt.alloc(), row)?, "{}", row.name);
     }

@@ -128,7 +128,7 @@ const BEGINNING: Text = Parts(&[&[0x4d, 0x3c, 0xb2, 0xa1, 2]]);
 
 const ROWS: &[Row] = &[
     Row {
-        name: "three frames at two ports",
+        name: "session on D: three frames at two ports",
         setting: DOUBLE,
         calls: &[
             Call::Take(3, NOTHING),
@@ -209,7 +209,7 @@ const ROWS: &[Row] = &[
     },
     // The first frame of link 10 starts at 50,000 ns, so it is given once port 2 has come to 30,000 ns.
     Row {
-        name: "a latency of 50 µs",
+        name: "latency in a session: 50 µs",
         setting: BEHIND,
         calls: &[
             Call::Feed(3, EMPTY, Ok(())),
@@ -225,7 +225,7 @@ const ROWS: &[Row] = &[
     },
     // The frame at 30,000 ns is of no link, so nothing is offered to port 3 then: the advance alone carries it on.
     Row {
-        name: "a latency of 50 µs beside a frame of no link",
+        name: "latency in a session: 50 µs beside a frame of no link",
         setting: BEHIND,
         calls: &[
             Call::Feed(3, EMPTY, Ok(())),

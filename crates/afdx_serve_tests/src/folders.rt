@@ -18,7 +18,7 @@ fn is_done(alloc: Global, arguments: &str) -> Result<bool, AllocError> {
 }
 
 #[test]
-fn serves_in_memory(rt: HostRuntime) {
+fn serve_in_memory(rt: HostRuntime) {
     for arguments in [CHECKED, RUN] {
         assert!(rt; is_done(rt.alloc(), arguments) == Ok(true), "{arguments}");
     }

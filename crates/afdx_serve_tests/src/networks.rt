@@ -5,30 +5,29 @@ use afdx_fixtures::{MemoryFolder, answers};
 use afdx_samples::{HEADER, capture, network_file, port, small, small_link, table};
 use std::alloc::{AllocError, Global};
 
-/// Two switches of one table: a link goes from port 1 to port 2 of A, and over a wire from port 1 to port 2 of B. A frame comes in
-/// at port 1 of A.
-fn two_in_a_row(alloc: Global) -> Result<MemoryFolder<Global>, AllocError> {
+/// Adds the files of two switches of one table: a link goes from port 1 to port 2 of A, and over a wire from port 1 to port 2 of B.
+fn add_network(alloc: Global, folder: &mut MemoryFolder<Global>) -> Result<(), AllocError> {
     let network = network_file(alloc, &["A", "B"], &[("A.2", "B.1", 25)])?;
     let text = table(alloc, &[port(1), port(2)], &[small_link(1, 1, "[2]", 0)])?;
+    folder.add("n", network.as_bytes())?;
+    folder.add("A.toml", text.as_bytes())?;
+    folder.add("B.toml", text.as_bytes())
+}
+
+/// Adds the captures of their ports without a wire: a frame comes in at port 1 of A.
+fn add_captures(alloc: Global, folder: &mut MemoryFolder<Global>) -> Result<(), AllocError> {
     let came = capture(alloc, &[small(1, 0)])?;
-    let mut folder = MemoryFolder::new(alloc);
-    for (name, bytes) in [
-        ("n", network.as_bytes()),
-        ("A.toml", text.as_bytes()),
-        ("B.toml", text.as_bytes()),
-        ("in/A/port-1.pcap", came.as_slice()),
-        ("in/A/port-2.pcap", &HEADER),
-        ("in/B/port-2.pcap", &HEADER),
-    ] {
-        folder.add(name, bytes)?;
-    }
-    Ok(folder)
+    folder.add("in/A/port-1.pcap", &came)?;
+    folder.add("in/A/port-2.pcap", &HEADER)?;
+    folder.add("in/B/port-2.pcap", &HEADER)
 }
 
 /// Whether the run fails with this line at the call of this number, after which none comes, and has put the captures of A or has
 /// put none.
 fn fails_at(alloc: Global, call: u64, line: &str, is_put: bool) -> Result<bool, AllocError> {
-    let mut folder = two_in_a_row(alloc)?;
+    let mut folder = MemoryFolder::new(alloc);
+    add_network(alloc, &mut folder)?;
+    add_captures(alloc, &mut folder)?;
     folder.fail_at(call, FolderFault::Device);
     let is_said = answers(
         alloc,

@@ -159,7 +159,7 @@ fn is_written_beside_each(
 }
 
 #[test]
-fn stops_where_a_writer_fails(rt: HostRuntime) -> Result<(), Fail> {
+fn failing_streams_at_a_writer(rt: HostRuntime) -> Result<(), Fail> {
     for command in COMMANDS {
         for out in OUT_WRITERS {
             assert!(rt;
@@ -227,7 +227,7 @@ fn is_read_beside_each(
 }
 
 #[test]
-fn stops_where_a_reader_fails(rt: HostRuntime) -> Result<(), Fail> {
+fn failing_streams_at_a_reader(rt: HostRuntime) -> Result<(), Fail> {
     for (failing, kind, done) in READERS {
         assert!(rt;
             is_read_beside_each(rt.alloc(), *failing, *kind, *done)?,
@@ -284,7 +284,7 @@ fn gives_up(alloc: Global) -> Result<bool, AllocError> {
 }
 
 #[test]
-fn gives_up_where_every_read_is_interrupted(rt: HostRuntime) -> Result<(), Fail> {
+fn failing_streams_where_every_read_is_interrupted(rt: HostRuntime) -> Result<(), Fail> {
     assert!(rt; gives_up(rt.alloc())?);
     Ok(())
 }
