@@ -36,6 +36,8 @@ echo 'version = 4' >other.toml
 check "the example network fits" fits "$top/examples/network/table.toml"
 check "a small buffer and a short delay" breaks \
     "port 4 rate 167731200 of 2048000000 buffer 4394 of 4000 high 928160 of 2000000 low 2907417 of 2000000 breaks L2 L4" small.toml
+python3 "$top/bench/network.py" big 0
+check "24 ports and 4096 links fit" fits big/table.toml
 check "tables that are drawn by chance" python3 "$top/end_to_end/sizes.py" "$afdx" "$room" 200
 cat "$room/said"
 check "a file that is no table" ends 3 "afdx: table C6 Range, top, version" /dev/null size other.toml

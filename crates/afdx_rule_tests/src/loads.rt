@@ -64,20 +64,19 @@ fn numbers(table: &Table) -> Option<Numbers> {
     ))
 }
 
-/// The numbers before the check and after it, where the table is accepted.
+/// The numbers before the check, those of a table that it accepts, and those of the table that comes back of it.
 fn numbers_of(table: Table) -> [Option<Numbers>; 3] {
     let before = numbers(&table);
-    let Ok(cleared) = check(table) else {
-        return [before, None, None];
-    };
-    let after = numbers(cleared.table());
-    let again = numbers_again(cleared);
-    [before, after, again]
+    match check(table) {
+        Ok(cleared) => with_cleared(before, cleared),
+        Err(_) => [before, None, None],
+    }
 }
 
-/// The numbers of the table that a cleared one gives back.
-fn numbers_again(cleared: Cleared) -> Option<Numbers> {
-    numbers(&cleared.into_table())
+fn with_cleared(before: Option<Numbers>, cleared: Cleared) -> [Option<Numbers>; 3] {
+    let after = numbers(cleared.table());
+    let again = numbers(&cleared.into_table());
+    [before, after, again]
 }
 
 /// Mbit/s and links of tables that are accepted, with the numbers.

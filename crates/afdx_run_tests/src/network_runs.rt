@@ -86,8 +86,17 @@ fn has_line(alloc: Global, outcomes: &[Outcome<Global>], line: &str) -> Result<b
     }
 }
 
-/// Whether exactly these frames leave the two switches with this jitter where those come in, and the second one's report has this
-/// line.
+/// What the two switches with this jitter lead to, where these frames come in.
+fn outcomes(alloc: Global, jitter_us: u32, came: &[At]) -> Result<Vec<Outcome<Global>>, Fail> {
+    let network = cleared(alloc, jitter_us)?;
+    let given = given(alloc, came)?;
+    match run(alloc, &network, given) {
+        Ok(outcomes) => Ok(outcomes),
+        Err(_) => Err("a run".into()),
+    }
+}
+
+/// Whether exactly these frames leave them, and the second one's report has this line.
 fn leads_to(
     alloc: Global,
     jitter_us: u32,
@@ -95,11 +104,7 @@ fn leads_to(
     left: &[At],
     line: &str,
 ) -> Result<bool, Fail> {
-    let network = cleared(alloc, jitter_us)?;
-    let outcomes = match run(alloc, &network, given(alloc, came)?) {
-        Ok(outcomes) => outcomes,
-        Err(_) => return Ok(false),
-    };
+    let outcomes = outcomes(alloc, jitter_us, came)?;
     Ok(all_leave(alloc, &outcomes, left)? && has_line(alloc, &outcomes, line)?)
 }
 
