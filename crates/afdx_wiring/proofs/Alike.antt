@@ -1,16 +1,16 @@
 -- Networks that differ in their jitters alone have the same rows, but for their jitters.
-use Rattle.std.proofs.Common.{◌≡◌, ℕ, zero, suc, ◌+◌, ◌≤◌, ◌<◌, ◌==◌, Bool, true, false, cond, List, [], ◌∷◌, map, find, length, get_or, slice_get, Option, Some, None, option_map, option_and_then, refl, ap, sym, ◌∙◌, arith, subst}
+use Rattle.std.proofs.Common.{◌≡◌, ℕ, zero, suc, ◌≤◌, ◌==◌, Bool, true, false, cond, List, [], ◌∷◌, map, find, slice_get, Option, Some, None, option_map, option_and_then, refl, ap, sym, ◌∙◌, arith, subst}
 use Rattle.std.specs.Prelude.{All, Contains}
 use Rattle.std.specs.List.{AllZip}
 use Rattle.std.proofs.lemmas.List.Elements.{All-contains}
-use Rattle.std.proofs.lemmas.Option.{same_Some, slice_get-map, slice_get_within, get_or_from_slice_get}
+use Rattle.std.proofs.lemmas.Option.{same_Some, slice_get_within, get_or_from_slice_get}
 use Rattle.afdx_table.specs.Link.{Link}
 use Rattle.afdx_table.specs.Content.{Content, port_row, link_row}
 use Rattle.afdx_table.specs.WellFormed.{IsWellFormed}
 use Rattle.afdx_table.specs.Inner.Found.{LinksAreFound}
 use Rattle.afdx_table.specs.declared.rows.PortRow.{PortRow}
 use Rattle.afdx_wiring.specs.declared.layout.End.{End}
-use Rattle.afdx_wiring.specs.Net.{Network, Row, IsRowOf, row_in, rows_in, rows_from, rows_of, row_at, port_at}
+use Rattle.afdx_wiring.specs.Net.{Network, Row, IsRowOf, row_in, rows_of, row_at, port_at}
 use Rattle.afdx_wiring.specs.Needs.{bare_link, bare, DiffersInJitters}
 use Rattle.afdx_wiring.proofs.Chains.{all_rows}
 use Rattle.afdx_wiring.proofs.LoadOrder.{Grows}

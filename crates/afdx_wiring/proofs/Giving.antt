@@ -1,7 +1,7 @@
 -- Rows whose jitters are given one after another: what each has then.
-use Rattle.std.proofs.Common.{◌≡◌, ℕ, zero, suc, ◌+◌, ◌*◌, ◌<◌, ◌≤◌, ◌==◌, ◌⊎◌, inl, inr, Bool, true, false, not, cond, nat_le, nat_lt, List, [], ◌∷◌, map, find, length, get_or, slice_get, slice_set, Option, Some, None, option_map, option_and_then}
+use Rattle.std.proofs.Common.{◌≡◌, ℕ, zero, suc, ◌*◌, ◌<◌, ◌≤◌, ◌==◌, ◌⊎◌, inl, inr, Bool, true, false, cond, nat_le, nat_lt, List, [], ◌∷◌, map, find, length, get_or, slice_get, slice_set, Option, Some, None}
 use Rattle.std.proofs.Common.{refl, ap, sym, ◌∙◌, arith, subst}
-use Rattle.std.specs.Prelude.{Contains, position}
+use Rattle.std.specs.Prelude.{position}
 use Rattle.std.specs.List.{AllByRecursion, position_or_len}
 use Rattle.std.specs.Option.{option_map_or}
 use Rattle.std.proofs.lemmas.Bool.{eqb-true, eq-eqb, ne_eqb, true≢false}
@@ -13,11 +13,11 @@ use Rattle.afdx_table.specs.Content.{Content, link_row, link_place}
 use Rattle.afdx_table.specs.Inner.Found.{LinksAreAtTheirPlaces}
 use Rattle.afdx_wiring.specs.declared.jitters.RowNeed.{RowNeed}
 use Rattle.afdx_wiring.specs.Net.{Network, Row, row_in, row_at}
-use Rattle.afdx_wiring.specs.Needs.{bare_link, bare, DiffersInJitters}
+use Rattle.afdx_wiring.specs.Needs.{bare, DiffersInJitters}
 use Rattle.afdx_wiring.specs.Inner.Given.{given_in, given, given_all}
 use Rattle.afdx_wiring.proofs.NeedLemmas.{bare_same, bare_set}
 use Rattle.afdx_wiring.proofs.Reaching.{found_passes}
-use Rattle.afdx_wiring.proofs.Alike.{Found, found, row_there, numbered}
+use Rattle.afdx_wiring.proofs.Alike.{found, row_there, numbered}
 
 -- ---- the network stays alike
 

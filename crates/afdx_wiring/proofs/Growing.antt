@@ -1,7 +1,6 @@
 -- What a row needs grows with the jitters of a network.
-use Rattle.std.proofs.Common.{◌≡◌, ℕ, zero, suc, ◌+◌, ◌-◌, ◌*◌, ◌/◌, ◌%◌, ◌≤◌, ◌<◌, ◌==◌, Bool, true, false, cond, nat_le, List, [], ◌∷◌, length, slice_get, Option, Some, None, option_map, option_and_then, refl, ap, sym, ◌∙◌, arith, subst}
+use Rattle.std.proofs.Common.{◌≡◌, ℕ, zero, suc, ◌+◌, ◌-◌, ◌*◌, ◌/◌, ◌%◌, ◌≤◌, ◌<◌, Bool, true, false, cond, nat_le, List, [], ◌∷◌, length, slice_get, Option, Some, None, option_map, option_and_then, refl, ap, sym, ◌∙◌, arith, subst}
 use Rattle.std.specs.Prelude.{All}
-use Rattle.std.specs.List.{AllZip}
 use Rattle.std.proofs.lemmas.Bool.Decides.{nat_tests}
 use Rattle.std.proofs.lemmas.Option.{same_Some}
 use Rattle.afdx_units.specs.declared.line.Speed.{Speed}
@@ -16,10 +15,9 @@ use Rattle.afdx_load.specs.Load.{load_of}
 use Rattle.afdx_load.specs.Bounds.{bounds_of}
 use Rattle.afdx_series.specs.declared.delays.Delays.{Delays}
 use Rattle.afdx_series.specs.Delay.{hop_of, joined, at_once, IsEnough}
-use Rattle.afdx_wiring.specs.declared.layout.Wire.{Wire}
-use Rattle.afdx_wiring.specs.Net.{Network, Row, Back, row_at, ingress, wire_to, port_at, bound_in, bound_at, IsWayBack, source_of, AreDelays}
-use Rattle.afdx_wiring.specs.Order.{most_rows, row_before, within_reason, hop_from, hop_on, way_by, way_within}
-use Rattle.afdx_wiring.specs.Needs.{bare_link, bare, DiffersInJitters, needed}
+use Rattle.afdx_wiring.specs.Net.{Network, Row, Back, row_at, bound_in, IsWayBack, source_of, AreDelays}
+use Rattle.afdx_wiring.specs.Order.{most_rows, within_reason, hop_from, hop_on, way_by, way_within}
+use Rattle.afdx_wiring.specs.Needs.{DiffersInJitters, needed}
 use Rattle.afdx_wiring.proofs.Enough.{from_port}
 use Rattle.afdx_wiring.proofs.FeedLemmas.{before_is}
 use Rattle.afdx_wiring.proofs.LoadOrder.{load_grows, bound_before}

@@ -1,22 +1,20 @@
 -- Each turn's jitters are at most those of any network that suffices, from the sources' own on.
-use Rattle.std.proofs.Common.{◌≡◌, ℕ, zero, suc, ◌+◌, ◌-◌, ◌*◌, ◌/◌, ◌%◌, ◌<◌, ◌≤◌, ◌==◌, ◌&&◌, ◌||◌, inl, inr, Bool, true, false, cond, nat_le, nat_lt, List, [], ◌∷◌, map, find, length, get_or}
+use Rattle.std.proofs.Common.{◌≡◌, ℕ, zero, suc, ◌+◌, ◌-◌, ◌*◌, ◌/◌, ◌%◌, ◌<◌, ◌≤◌, ◌||◌, inl, inr, true, false, cond, nat_lt, List, [], ◌∷◌, map, find, length, get_or}
 use Rattle.std.proofs.Common.{Option, Some, None, is_some, option_map, Ok, refl, ap, sym, ◌∙◌, arith, subst}
 use Rattle.std.specs.Prelude.{All, Contains}
-use Rattle.std.specs.List.{AllZip, AllByRecursion, list_all}
+use Rattle.std.specs.List.{AllByRecursion, list_all}
 use Rattle.std.proofs.lemmas.Bool.Decides.{nat_tests}
 use Rattle.std.proofs.lemmas.List.Elements.{All-from_recursion, All-contains}
 use Rattle.std.proofs.lemmas.Option.{same_Some}
 use Rattle.afdx_table.specs.WellFormed.{IsLink, IsWellFormed}
 use Rattle.afdx_table.specs.Inner.Found.{LinksAreFound, LinksAreAtTheirPlaces}
 use Rattle.afdx_load.specs.Inner.Laws.{HighLinksLeaveAPart}
-use Rattle.afdx_series.specs.declared.delays.Delays.{Delays}
-use Rattle.afdx_series.specs.Delay.{at_once, least_jitter, IsEnough}
+use Rattle.afdx_series.specs.Delay.{at_once, IsEnough}
 use Rattle.afdx_wiring.specs.declared.fault.Short.{Short}
 use Rattle.afdx_wiring.specs.declared.jitters.RowNeed.{RowNeed}
 use Rattle.afdx_wiring.specs.Net.{Network, Row, rows_of, row_at, ingress, wire_to, IsSource, source_of}
-use Rattle.afdx_wiring.specs.Rules.{HasJitters}
 use Rattle.afdx_wiring.specs.Order.{most_rows, source_by, source_within, way_by, way_within, has_source, misfit, shortage}
-use Rattle.afdx_wiring.specs.Needs.{DiffersInJitters, AreNeeds, KeepsToLines, IsWhole, Suffices, IsBelow, first_needed, needed, row_with_need, need_in, is_past, past_of, is_met}
+use Rattle.afdx_wiring.specs.Needs.{DiffersInJitters, AreNeeds, KeepsToLines, IsWhole, Suffices, first_needed, needed, row_with_need, need_in, is_past, past_of, is_met}
 use Rattle.afdx_wiring.specs.Inner.Given.{given_all}
 use Rattle.afdx_wiring.proofs.Enough.{enough}
 use Rattle.afdx_wiring.proofs.FeedLemmas.{source_there}

@@ -1,7 +1,7 @@
 -- Loads grow with the jitters of their links, and so do bounds; a bound is no less than the latency and the line time of the least frame.
-use Rattle.std.proofs.Common.{◌≡◌, ℕ, zero, suc, ◌+◌, ◌-◌, ◌*◌, ◌/◌, ◌<◌, ◌≤◌, ◌&&◌, Bool, true, false, not, cond, nat_lt, max, List, [], ◌∷◌, length, get_or, Option, Some, None, refl, ap, sym, ◌∙◌, arith, subst}
+use Rattle.std.proofs.Common.{◌≡◌, ℕ, zero, suc, ◌+◌, ◌-◌, ◌*◌, ◌/◌, ◌<◌, ◌≤◌, ◌&&◌, Bool, true, false, not, cond, nat_lt, max, List, [], ◌∷◌, length, get_or, Some, None, refl, ap, sym, ◌∙◌, arith, subst}
 use Rattle.std.specs.Prelude.{Contains, filter, sum_by, count_by}
-use Rattle.std.specs.List.{AllZip, AllByRecursion}
+use Rattle.std.specs.List.{AllZip}
 use Rattle.std.proofs.Math.Nat.{mul-le-mul_left, div-mul-le_self}
 use Rattle.std.proofs.lemmas.Nat.{le-div}
 use Rattle.std.proofs.lemmas.Bool.Decides.{nat_tests}
@@ -16,7 +16,7 @@ use Rattle.afdx_units.specs.declared.line.Speed.{Speed}
 use Rattle.afdx_units.specs.declared.line.Speed.TheVariants.{Ten, Hundred, Thousand}
 use Rattle.afdx_units.specs.declared.police.Police.{Police}
 use Rattle.afdx_units.specs.declared.police.Police.TheVariants.{Byte, Frame}
-use Rattle.afdx_units.specs.Line.{least_size, tick_of, cost_of, is_high}
+use Rattle.afdx_units.specs.Line.{tick_of, cost_of, is_high}
 use Rattle.afdx_units.specs.Time.{bag_ms, bag_ns}
 use Rattle.afdx_account.specs.Policing.{parts}
 use Rattle.afdx_table.specs.Link.{Link, leads_to}

@@ -1,23 +1,20 @@
 -- Needs that are met: the check finds no shortage; and what jitters don't touch.
-use Rattle.std.proofs.Common.{◌≡◌, ℕ, zero, suc, ◌+◌, ◌*◌, ◌/◌, ◌==◌, ◌&&◌, ◌||◌, Bool, true, false, nat_le, nat_lt, List, [], ◌∷◌, ◌++◌, map, drop, length, get_or, slice_set, ◌<◌, append_assoc}
-use Rattle.std.proofs.Common.{Option, Some, None, is_some, Ok, Err, refl, ap, sym, ◌∙◌, arith}
+use Rattle.std.proofs.Common.{◌≡◌, ℕ, zero, suc, ◌+◌, ◌*◌, ◌/◌, ◌==◌, ◌&&◌, Bool, true, false, nat_le, nat_lt, List, [], ◌∷◌, ◌++◌, map, drop, length, get_or, slice_set, ◌<◌, append_assoc}
+use Rattle.std.proofs.Common.{Option, Some, None, Ok, Err, refl, ap, sym, ◌∙◌, arith}
 use Rattle.std.specs.List.{AllByRecursion, list_all}
 use Rattle.std.proofs.lemmas.Bool.Decides.{nat_tests}
-use Rattle.std.proofs.lemmas.List.Elements.{All-from_recursion}
 use Rattle.std.proofs.lemmas.Bool.{eqb-true}
 use Rattle.afdx_table.specs.Link.{Link, with_jitter}
 use Rattle.afdx_table.specs.Content.{Content}
 use Rattle.afdx_series.specs.declared.delays.Delays.{Delays}
 use Rattle.afdx_series.specs.Delay.{at_once, least_jitter}
-use Rattle.afdx_wiring.specs.declared.fault.Short.{Short}
 use Rattle.afdx_wiring.specs.declared.jitters.RowNeed.{RowNeed}
 use Rattle.afdx_wiring.specs.declared.fault.NetworkFault.{NetworkFault}
 use Rattle.afdx_wiring.specs.Refusal.{◌>>=◌, unless}
 use Rattle.afdx_wiring.specs.Net.{Network, Row, row_in, rows_from, rows_of}
 use Rattle.afdx_wiring.specs.Order.{Answer, first_of, most_rows, way_within, has_jitter, jitter_enough, shortage}
-use Rattle.afdx_wiring.specs.Needs.{bare_link, bare, DiffersInJitters, AreNeeds, needed, need_in, past_of, is_met}
+use Rattle.afdx_wiring.specs.Needs.{bare_link, bare, needed, need_in, is_met}
 use Rattle.afdx_wiring.proofs.Chains.{next_rows}
-use Rattle.afdx_wiring.proofs.Enough.{enough}
 
 -- ---- rules that are kept by each row
 

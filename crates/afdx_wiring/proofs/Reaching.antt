@@ -1,6 +1,6 @@
 -- The way back from a row whose source is found, in a network that differs in its jitters alone: it is there, and takes some time.
-use Rattle.std.proofs.Common.{◌≡◌, ℕ, zero, suc, ◌+◌, ◌≤◌, ◌<◌, ◌==◌, Bool, true, false, cond, List, [], ◌∷◌, map, find, filter, length, slice_get, Option, Some, None, option_and_then, refl, ap, sym, ◌∙◌, arith, subst}
-use Rattle.std.specs.Prelude.{All, Contains, sum_by}
+use Rattle.std.proofs.Common.{◌≡◌, ℕ, zero, suc, ◌+◌, ◌≤◌, ◌<◌, ◌==◌, Bool, true, false, cond, List, [], ◌∷◌, map, find, length, slice_get, Option, Some, None, option_and_then, refl, ap, sym, ◌∙◌, arith, subst}
+use Rattle.std.specs.Prelude.{All, Contains}
 use Rattle.std.specs.List.{AllZip}
 use Rattle.std.proofs.lemmas.Bool.{eqb-true}
 use Rattle.std.proofs.lemmas.List.Elements.{All-contains}
@@ -24,10 +24,10 @@ use Rattle.afdx_wiring.specs.File.{Layout, is_end}
 use Rattle.afdx_wiring.specs.Net.{Network, Row, Back, row_at, ingress, wire_to, port_at, bound_in, bound_at, IsSource, IsWayBack, source_of, AreDelays}
 use Rattle.afdx_wiring.specs.Rules.{Joins}
 use Rattle.afdx_wiring.specs.Order.{row_before, source_by, source_within}
-use Rattle.afdx_wiring.specs.Needs.{bare_link, bare, DiffersInJitters, KeepsToLines}
+use Rattle.afdx_wiring.specs.Needs.{bare_link, DiffersInJitters, KeepsToLines}
 use Rattle.afdx_wiring.proofs.FeedLemmas.{before_says}
-use Rattle.afdx_wiring.proofs.LoadOrder.{Grows, load_grows, Bounded, bounded}
-use Rattle.afdx_wiring.proofs.Alike.{Found, Pair, paired, same_port, all_at}
+use Rattle.afdx_wiring.proofs.LoadOrder.{Grows, load_grows, bounded}
+use Rattle.afdx_wiring.proofs.Alike.{Pair, paired, same_port, all_at}
 
 -- what is found passes the test, and is there
 pub found_passes : {X : Type 0} (p : X → Bool) (xs : List X) (x : X) → find p xs ≡ Some x → (p x ≡ true) × Contains xs x

@@ -1,5 +1,5 @@
 -- Rows of two networks that differ in their jitters alone, row by row and by their numbers.
-use Rattle.std.proofs.Common.{◌≡◌, ℕ, zero, suc, ◌+◌, ◌<◌, List, [], ◌∷◌, ◌++◌, map, length, get_or, slice_get, Some, refl, ap, sym, ◌∙◌, arith, subst}
+use Rattle.std.proofs.Common.{◌≡◌, ℕ, zero, suc, ◌+◌, List, [], ◌∷◌, ◌++◌, map, get_or, slice_get, Some, refl, ap, sym, ◌∙◌, arith, subst}
 use Rattle.std.specs.Prelude.{All, Contains}
 use Rattle.std.specs.List.{AllZip}
 use Rattle.std.proofs.lemmas.List.{length-map, get_or-map}
@@ -11,7 +11,7 @@ use Rattle.afdx_table.specs.WellFormed.{IsWellFormed}
 use Rattle.afdx_table.specs.Inner.Found.{LinksAreFound}
 use Rattle.afdx_wiring.specs.Net.{Network, Row, row_in, rows_in, rows_from, rows_of, row_at}
 use Rattle.afdx_wiring.specs.Needs.{bare_link, bare, DiffersInJitters}
-use Rattle.afdx_wiring.proofs.Alike.{Found, found, known, first_same, rest_same}
+use Rattle.afdx_wiring.proofs.Alike.{found, known, first_same, rest_same}
 
 -- of one switch and one number
 abbrev pub AreOne : Row → Row → Type 0

@@ -1,5 +1,5 @@
 -- Jitters that rows are given, as the code gives them.
-use Rattle.std.specs.Prelude.{ℕ, ◌*◌, nat_le, List, [], ◌∷◌, slice_get, slice_set, if◌then◌else◌}
+use Rattle.std.specs.Prelude.{◌*◌, nat_le, List, [], ◌∷◌, slice_get, slice_set, if◌then◌else◌}
 use Rattle.std.specs.Option.{option_map_or}
 use Rattle.afdx_table.specs.Link.{with_jitter}
 use Rattle.afdx_table.specs.Content.{Content, link_place}
