@@ -4,6 +4,8 @@ import os
 import sys
 from collections.abc import Callable, Sequence
 
+from afdx import signals
+
 # The exit statuses of the program afdx, with their meaning.
 USAGE = 2
 INPUT = 3
@@ -37,6 +39,7 @@ def say(command: str, text: str) -> None:
 
 def run(main: Callable[[Sequence[str]], int]) -> int:
     """Runs a command over the program's arguments; answers its exit status."""
+    signals.end_by_signals()
     try:
         return main(sys.argv[1:])
     except Failure as failure:
@@ -44,5 +47,3 @@ def run(main: Callable[[Sequence[str]], int]) -> int:
             sys.stderr.buffer.write(os.fsencode("".join(f"{line}\n" for line in failure.lines)))
             sys.stderr.buffer.flush()
         return failure.status
-    except KeyboardInterrupt:
-        return 130

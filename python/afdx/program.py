@@ -1,4 +1,5 @@
 """Runs the program afdx and says how far it is."""
+import contextlib
 import os
 import shutil
 import subprocess
@@ -7,6 +8,7 @@ import time
 from dataclasses import dataclass
 from pathlib import Path
 
+from afdx import signals
 from afdx.failure import DEVICE, Failure, failing
 
 BUILT = Path(__file__).resolve().parents[2] / "crates" / "afdx" / "out" / "afdx"
@@ -61,20 +63,33 @@ class Program:
     def ask(self, *arguments: str | os.PathLike[str]) -> Answer:
         """Runs the program over these arguments. Fails only where it cannot be run."""
         words = [os.fspath(argument) for argument in arguments]
+        process = None
         try:
-            process = subprocess.Popen([self.file, *words], stdout=subprocess.PIPE, stderr=subprocess.PIPE)
-        except OSError as error:
-            raise failing(self.progress.command, f"cannot run {self.file}", error) from error
-        while True:
-            self.progress.say("afdx " + " ".join(words[:2] if words[0] == "network" else words[:1]))
-            try:
-                said, line = process.communicate(timeout=TURN)
-                break
-            except subprocess.TimeoutExpired:
-                pass
-        self.progress.clear()
+            with signals.held():
+                process = self.begin(words)
+            said, line = self.wait(process, "afdx " + " ".join(words[:2] if words[0] == "network" else words[:1]))
+        finally:
+            if process:
+                process.kill()  # it goes on only if this command has to end before it
+                process.wait()
         status = process.returncode if process.returncode >= 0 else 128 - process.returncode
         return Answer(status, os.fsdecode(said), os.fsdecode(line).removesuffix("\n"))
+
+    def begin(self, words: list[str]) -> subprocess.Popen[bytes]:
+        try:
+            return subprocess.Popen([self.file, *words], stdout=subprocess.PIPE, stderr=subprocess.PIPE)
+        except OSError as error:
+            raise failing(self.progress.command, f"cannot run {self.file}", error) from error
+
+    def wait(self, process: subprocess.Popen[bytes], what: str) -> tuple[bytes, bytes]:
+        """Answers what a process prints until it ends."""
+        try:
+            while True:
+                self.progress.say(what)
+                with contextlib.suppress(subprocess.TimeoutExpired):
+                    return process.communicate(timeout=TURN)
+        finally:
+            self.progress.clear()
 
     def answer(self, *arguments: str | os.PathLike[str]) -> str:
         """Answers what the program prints; if it fails, its line and its status end the command."""

@@ -6,7 +6,7 @@ import pytest
 
 from afdx import program
 from afdx.failure import DEVICE, Failure
-from afdx.program import Answer, Program
+from afdx.program import Answer, Program, Progress
 
 
 def script(path: Path, text: str) -> Path:
@@ -49,3 +49,19 @@ def test_a_kill_and_a_program_that_cannot_be_run(tmp_path: Path, monkeypatch: py
     with pytest.raises(Failure, match=f"^command: cannot run {tmp_path}/none: No such file or directory$") as ended:
         Program("command").ask("check", "table.toml")
     assert ended.value.status == DEVICE
+
+
+def test_what_it_runs_ends_with_the_command(tmp_path: Path, monkeypatch: pytest.MonkeyPatch) -> None:
+    """After a signal, which is an exception here, nothing goes on."""
+    process = tmp_path / "process"
+    monkeypatch.setenv("AFDX", str(script(tmp_path / "afdx", f'echo $$ >"{process}"; exec sleep 60')))
+
+    def say(_: Progress, __: str) -> None:
+        if process.exists():
+            raise SystemExit(143)
+
+    monkeypatch.setattr(Progress, "say", say)
+    with pytest.raises(SystemExit):
+        Program("command").ask("check", "table.toml")
+    with pytest.raises(ProcessLookupError):
+        os.kill(int(process.read_text()), 0)

@@ -1,0 +1,74 @@
+"""How a command ends, and what it began with it."""
+import os
+import signal
+import subprocess
+import sys
+from pathlib import Path
+
+import pytest
+
+COMMAND = """
+import sys, tempfile, time
+from afdx.failure import Failure, run
+
+def main(arguments):
+    if arguments:
+        raise Failure(3, "command: one", "command: two")
+    with tempfile.TemporaryDirectory(dir="."):
+        print("there", flush=True)
+        time.sleep(60)
+
+sys.exit(run(main))
+"""
+
+
+# a command that runs a program, and takes long from the program's first word to its own next step
+RUNNING = """
+import subprocess, sys, time
+from afdx.failure import run
+from afdx.program import Program
+
+class Slow(subprocess.Popen):
+    def __init__(self, *words, **options):
+        super().__init__(*words, **options)
+        time.sleep(1)
+
+subprocess.Popen = Slow
+sys.exit(run(lambda arguments: len(Program("command").ask("check").said)))
+"""
+
+
+def begun(folder: Path, command: str, *arguments: str) -> "subprocess.Popen[str]":
+    environment = {"PYTHONPATH": str(Path(__file__).parents[1]), "AFDX": "./afdx", "PATH": os.environ["PATH"]}
+    return subprocess.Popen([sys.executable, "-c", command, *arguments], cwd=folder, stdout=subprocess.PIPE,
+                            stderr=subprocess.PIPE, text=True, env=environment)
+
+
+def test_a_failure(tmp_path: Path) -> None:
+    process = begun(tmp_path, COMMAND, "fail")
+    assert process.communicate() == ("", "command: one\ncommand: two\n")
+    assert process.returncode == 3
+
+
+@pytest.mark.parametrize("number", [signal.SIGINT, signal.SIGTERM, signal.SIGHUP])
+def test_a_signal(tmp_path: Path, number: signal.Signals) -> None:
+    """Nothing is left and nothing is printed, though it comes twice."""
+    with begun(tmp_path, COMMAND) as process:
+        assert process.stdout and process.stdout.readline() == "there\n"
+        process.send_signal(number)
+        process.send_signal(number)
+        assert process.communicate() == ("", "")
+    assert process.returncode == 128 + number
+    assert list(tmp_path.iterdir()) == []
+
+
+def test_a_signal_while_a_program_is_begun(tmp_path: Path) -> None:
+    """The program is ended all the same."""
+    program = tmp_path / "afdx"
+    program.write_text('#!/bin/sh\necho $$ >process\nkill -TERM $PPID\nexec sleep 60\n')
+    program.chmod(0o755)
+    with begun(tmp_path, RUNNING) as process:
+        assert process.communicate() == ("", "")
+    assert process.returncode == 128 + signal.SIGTERM
+    with pytest.raises(ProcessLookupError):
+        os.kill(int((tmp_path / "process").read_text()), 0)
