@@ -1,14 +1,13 @@
 """Asks the program about a table or a network, and keeps all that is so of it."""
 import re
-import tomllib
 from dataclasses import dataclass
 from pathlib import Path
 from typing import Any
 
-from afdx import files, printed
+from afdx import printed, toml
 from afdx.diff import rows
 from afdx.diff.facts import Facts, Place
-from afdx.failure import INPUT, LOAD, Failure
+from afdx.failure import LOAD, Failure
 from afdx.program import Answer, Program
 
 # lines of a network whose files were all read, but do not fit together
@@ -24,14 +23,6 @@ class Side:
 
     def is_network(self) -> bool:
         return "switch" in self.content or "wire" in self.content
-
-
-def content_of(command: str, path: Path) -> dict[str, Any]:
-    """Reads a file's TOML, as far as Python knows it: the program takes TOML 1.1, Python 1.0."""
-    try:
-        return tomllib.loads(files.get(command, path).decode("utf-8-sig"))
-    except (UnicodeDecodeError, tomllib.TOMLDecodeError) as error:
-        raise Failure(INPUT, f"{command}: not TOML 1.0: {error}, {path}") from error
 
 
 def refuse(program: Program, path: Path, answer: Answer) -> None:
@@ -83,7 +74,7 @@ def ask_network(program: Program, side: Side) -> None:
     side.facts |= rows.network_facts(side.content)
     for switch in side.content.get("switch", []):
         table = side.path.parent / switch["table"]
-        side.facts |= rows.table_facts(content_of(program.progress.command, table), switch["name"])
+        side.facts |= rows.table_facts(toml.read(program.progress.command, table), switch["name"])
         side.facts |= load_facts(program.answer("size", table), switch["name"])
     side.facts |= need_facts(program.ask("network", "jitter", side.path).said, side.facts)
     side.facts |= way_facts(check.said) | verdict_of(check)
@@ -91,7 +82,7 @@ def ask_network(program: Program, side: Side) -> None:
 
 def read(program: Program, path: Path) -> Side:
     """Answers all that is so of a table or a network file."""
-    side = Side(path, content_of(program.progress.command, path), {})
+    side = Side(path, toml.read(program.progress.command, path), {})
     if side.is_network():
         ask_network(program, side)
     else:
