@@ -9,7 +9,7 @@ cd "$room" || exit 1
 
 # copied FOLDER: a copy of what the demo reads, without what was built.
 copied() {
-    mkdir "$1" && tar -c -C "$top" --exclude=out crates crates.txt HANDLES demo end_to_end examples view | tar -x -C "$1"
+    mkdir "$1" && tar -c -C "$top" --exclude=out crates crates.txt HANDLES demo end_to_end examples python | tar -x -C "$1"
 }
 
 # shown NAME: the demo of this copy, and what it prints in NAME.txt.

@@ -2,7 +2,7 @@
 # The Python package: mypy --strict, flake8 and pytest, by Debian's own Python.
 . "$(dirname "$0")/common.sh"
 install mypy=mypy flake8=flake8 pytest-3=python3-pytest
-install_python hypothesis networkx openpyxl tomlkit
+install_python hypothesis jinja2 matplotlib networkx numpy openpyxl pandas tomlkit
 export PYTHONDONTWRITEBYTECODE=1
 export AFDX=${AFDX:-$top/crates/afdx/out/afdx}
 cd "$top/python" || exit 1

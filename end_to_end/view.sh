@@ -1,23 +1,24 @@
 #!/usr/bin/env bash
-# view/afdx-view: its page of the example network, of tables and captures that are refused or lose frames, and of a network of
-# 24 ports and 4096 links, opened in Debian's chromium; and README's picture of it.
+# python/bin/afdx-view: its page of the example network, of tables and captures that are refused or lose frames, and of a network
+# of 24 ports and 4096 links, opened in Debian's chromium; what ends it early; and README's picture.
 . "$(dirname "$0")/common.sh"
-install python3=python3 chromium=chromium chromedriver=chromium-driver
-install_python matplotlib pandas selenium
+install python3=python3 chromium=chromium chromedriver=chromium-driver pdftotext=poppler-utils
+install_python jinja2 matplotlib numpy pandas selenium
 export PYTHONDONTWRITEBYTECODE=1
+export SOURCE_DATE_EPOCH=1768471200
 export AFDX=${AFDX:-$top/crates/afdx/out/afdx}
-view=$top/view/afdx-view
+view=$top/python/bin/afdx-view
 network=$top/examples/network
 cd "$room" || exit 1
 
-# ends_with STATUS LINE ARGUMENT..: view ends so for these arguments, with this line, and there is no page and no other file.
+# ends_with STATUS LINE ARGUMENT..: view ends so for these arguments, with this last line, and there is no page and no other file.
 ends_with() {
     local wanted=$1 line=$2 status=0
     shift 2
     rm -rf made && mkdir made
-    "$view" "$@" >answer.txt 2>said.txt || status=$?
+    TMPDIR=$room/made "$view" "$@" >answer.txt 2>said.txt || status=$?
     echo "status $status: $(cat said.txt)"
-    [ "$status" -eq "$wanted" ] && [ "$(cat said.txt)" = "$line" ] && [ ! -s answer.txt ] && [ -z "$(ls -A made)" ]
+    [ "$status" -eq "$wanted" ] && [ "$(tail -n 1 said.txt)" = "$line" ] && [ ! -s answer.txt ] && [ -z "$(ls -A made)" ]
 }
 
 # makes PAGE ARGUMENT..: view makes this page of these arguments without a sound.
@@ -27,33 +28,84 @@ makes() {
     "$view" "$@" "$page" >answer.txt 2>said.txt && [ -s "$page" ] && ! cat answer.txt said.txt | grep .
 }
 
-# opens PAGE CHECK..: chromium opens it without complaint at 1280 and 400 pixels, and what view_page.py looks for is there.
+# opens PAGE CHECK..: chromium opens it without complaint, and what view_page.py looks for is there.
 opens() {
     /usr/bin/python3 "$top/end_to_end/view_page.py" "$@"
 }
 
-# says PAGE TEXT..: the verdict has each of these texts.
+# says KIND PAGE TEXT..: the verdict is of this kind and has each of these texts.
 says() {
-    local page=$1 text verdict
-    shift
-    verdict=$(grep -o '<p class="verdict.*' "$page" | sed 's|</p>.*||; s|<[^>]*>||g; s|\xc2\xa0| |g')
+    local kind=$1 page=$2 text verdict
+    shift 2
+    verdict=$(tr '\n' ' ' <"$page" | grep -o '<p class="verdict [^/]*</*[^p]*.*' | sed 's|</p>.*||; s|  *| |g')
     echo "$verdict"
+    grep -q "^<p class=\"verdict $kind\">" <<<"$verdict" || { echo "not $kind"; return 1; }
+    verdict=$(sed 's|<[^>]*>||g; s|^ ||' <<<"$verdict")
     for text in "$@"; do
         grep -qE "$text" <<<"$verdict" || { echo "no $text"; return 1; }
     done
 }
 
-# from_answers: of what the program answered before the same page is made, and no program is run.
+# from_answers: of what the program answered before the same page is made but for its origin, and no program is run.
 from_answers() {
-    "$AFDX" size "$network/table.toml" >answers/size.txt && "$AFDX" measure "$network/table.toml" "$network/in" >answers/measure.txt &&
-        "$AFDX" trace "$network/table.toml" "$network/in" answers || return 1
-    (export AFDX=none && makes answers.html "$network/table.toml" "$network/in" --answers answers) && cmp network.html answers.html
+    "$AFDX" size "$network/table.toml" >earlier/size.txt && "$AFDX" measure "$network/table.toml" "$network/in" >earlier/measure.txt &&
+        "$AFDX" trace "$network/table.toml" "$network/in" earlier || return 1
+    (export AFDX=none && makes answers.html "$network/table.toml" "$network/in" --answers earlier) &&
+        cmp <(sed '/id="origin"/,$d' network.html) <(sed '/id="origin"/,$d' answers.html)
+}
+
+# tells_its_origin PAGE TABLE IN: the page has the program's version, and the sums of it, of the table and of each capture.
+tells_its_origin() {
+    local file sum
+    grep -qF "<td>$("$AFDX" --version | head -n 1) · " "$1" || { echo "no version"; return 1; }
+    for file in "$(command -v "$AFDX")" "$2" "$3"/*; do
+        sum=$(sha256sum <"$file" | cut -d ' ' -f 1)
+        grep -q "<td>$sum" "$1" || { echo "no $sum of $file"; return 1; }
+    done
+    ! grep -n -e "$HOSTNAME" -e "$top" -e "$room" "$1"
 }
 
 # tells_progress: on a terminal, view says what it does, and leaves nothing of it.
 tells_progress() {
     script -qec "'$view' '$network/table.toml' '$network/in' terminal.html" terminal.txt >/dev/null && cat -v terminal.txt &&
         grep -q 'afdx-view: afdx trace, [0-9]* s so far' terminal.txt
+}
+
+# A program that has the signal SIGNAL sent to the view that runs it, while it traces or while the view draws. It keeps its process
+# in `child`.
+cat >signalling <<'END'
+#!/bin/sh
+echo $$ >"$ROOM/child"
+case "$1 $WHEN" in
+"trace tracing") kill -s "$SIGNAL" "$PPID"; exec sleep 60 ;;
+"measure drawing") "$PROGRAM" "$@"; (sleep 2; kill -s "$SIGNAL" "$PPID") >/dev/null 2>&1 & ;;
+*) exec "$PROGRAM" "$@" ;;
+esac
+END
+chmod +x signalling
+
+# is_ended_by SIGNAL WHEN STATUS TABLE IN: after the signal view ends without a word, and nothing of it is left.
+is_ended_by() {
+    local status=0
+    rm -rf made && mkdir made
+    ROOM=$room PROGRAM=$AFDX SIGNAL=$1 WHEN=$2 AFDX=$room/signalling TMPDIR=$room/made "$view" "$4" "$5" made/page.html \
+        >answer.txt 2>said.txt || status=$?
+    echo "status $status: $(cat said.txt)"
+    ls -A made
+    [ "$status" -eq "$3" ] && [ ! -s said.txt ] && [ -z "$(ls -A made)" ] && ! kill -0 "$(cat child)" 2>/dev/null
+}
+
+# keeps_below KILOBYTES ARGUMENT..: no more memory than this is taken by view, which runs no program for these arguments.
+keeps_below() {
+    local limit=$1
+    shift
+    /usr/bin/python3 - "$limit" "$view" "$@" <<'END'
+import resource, subprocess, sys
+subprocess.run(sys.argv[2:], check=True)
+most = resource.getrusage(resource.RUSAGE_CHILDREN).ru_maxrss
+print(f"{most} KB")
+sys.exit(most > int(sys.argv[1]))
+END
 }
 
 # below_20_megabytes PAGE
@@ -63,28 +115,37 @@ below_20_megabytes() {
 }
 
 sed 's/^mbit = .*/mbit = 10/; s/^buffer = .*/buffer = 1000/; s/^max_delay_us = .*/max_delay_us = 300/' "$network/table.toml" >tight.toml
-mkdir silent cut answers
+mkdir silent cut calm pipe earlier
 head -c 24 "$network/in/port-1.pcap" | tee silent/port-{1,2,3}.pcap >silent/port-4.pcap
 cp "$network"/in/* cut && head -c 5000 "$network/in/port-2.pcap" >cut/port-2.pcap
+cp "$network"/in/port-[123].pcap calm && cp silent/port-4.pcap calm
+cp "$network"/in/port-[234].pcap pipe && mkfifo pipe/port-1.pcap
 echo 'version = 4' >other.toml
 
 check "the example network" makes network.html "$network/table.toml" "$network/in"
-check "its verdict" says network.html '^Accepted\. ' '788 frames in, 958 copies out, 0 lost, 162 policed' \
-    'Link 401 babbled for (99|100) ms, from 80\.611 ms to 179\.773 ms: its excess was policed, 162 of its 198 frames' \
+check "its verdict" says policed network.html '^Accepted\. ' '788 frames in, 958 copies out, 0 lost, 162 policed' \
+    'Link 401 babbled for (99|100) ms, from 80\.611 ms \(2026-01-15 10:00:00\.080940000 UTC\) to 179\.773 ms' \
+    ': its excess was policed, 162 of its 198 frames' \
     'No other link came near its bound: the nearest, link 402 at port 2, took 33 % of it \(111,520 of 333,451 ns\)'
-check "its page in a browser" opens network.html "$network/table.toml" "$network/in"
+check "its page in a browser, and in print" opens network.html "$network/table.toml" "$network/in" --print
+check "its origin" tells_its_origin network.html "$network/table.toml" "$network/in"
 check "the same page again" makes again.html "$network/table.toml" "$network/in"
-check "is the same" cmp network.html again.html
+check "is the same but for its own name" diff <(sed 's/again\.html/network.html/' again.html) network.html
 check "so is that of earlier answers" from_answers
 check "answers that are not there" ends_with 5 "afdx-view: cannot read none/size.txt: No such file or directory" \
     "$network/table.toml" "$network/in" made/page.html --answers none
-rm answers/departures.csv && echo 'no,such,columns' >answers/arrivals.csv
-check "answers that are none" ends_with 5 "afdx-view: the files in answers are not what size, measure and trace answer" \
-    "$network/table.toml" "$network/in" made/page.html --answers answers
+echo 'no,such,columns' >earlier/arrivals.csv
+check "answers that are none" ends_with 5 "afdx-view: the files in earlier are not what size, measure and trace answer of $network/table.toml" \
+    "$network/table.toml" "$network/in" made/page.html --answers earlier
+check "no babbler" makes calm.html "$network/table.toml" calm
+check "nothing to warn of" says good calm.html '^Accepted\. ' ', 0 lost, 0 policed' 'No link came near its bound'
 check "tight ports, unchecked" makes tight.html tight.toml "$network/in" --unchecked
-check "are not accepted, and lose frames" says tight.html '^Not accepted: port [0-9]+ breaks L' ' [1-9][0-9]* lost' 'no bound is promised'
+check "are not accepted, and lose frames" says bad tight.html '^Not accepted: port [0-9]+ breaks L' ' [1-9][0-9]* lost' \
+    'no bound is promised'
 check "their page in a browser" opens tight.html tight.toml "$network/in" --unchecked
 check "no frames" makes silent.html "$network/table.toml" silent
+check "are said as that" says good silent.html '^Accepted\. No frame came in\. $'
+check "and not as 1970" test "$(grep -c 1970 silent.html)" -eq 0
 check "the page of no frames in a browser" opens silent.html "$network/table.toml" silent
 
 check "tight ports, checked" ends_with 4 "$("$AFDX" check tight.toml 2>&1)" tight.toml "$network/in" made/page.html
@@ -92,17 +153,35 @@ check "a table that is refused" ends_with 3 "afdx: table C6 Range, top, version"
 check "no table" ends_with 5 "afdx: device get none.toml" none.toml "$network/in" made/page.html
 check "no captures" ends_with 5 "afdx: device get none/port-1.pcap" "$network/table.toml" none made/page.html
 check "a capture that breaks off" ends_with 3 "$("$AFDX" measure "$network/table.toml" cut 2>&1)" "$network/table.toml" cut made/page.html
+check "a capture that is a pipe" ends_with 2 "afdx-view: pipe/port-1.pcap is not a file, and the program reads it more than once" \
+    "$network/table.toml" pipe made/page.html
+cp "$network/table.toml" table.html
+check "a page in its table's place" ends_with 2 "afdx-view: the page would replace table.html, of which it is made" \
+    table.html "$network/in" table.html
+check "leaves the table" cmp table.html "$network/table.toml"
+check "a name with a dash at its head" ends_with 2 "afdx-view: error: a name may not begin with a dash: write ./ before it" \
+    -- "$network/table.toml" "$network/in" -page.html
 check "no place for the page" ends_with 5 "afdx-view: cannot write none/page.html: No such file or directory" \
     "$network/table.toml" "$network/in" none/page.html
 mkdir folder.html
 check "a folder in its place" ends_with 5 "afdx-view: cannot write folder.html: Is a directory" "$network/table.toml" "$network/in" folder.html
 check "no program" env AFDX=none "$BASH" -c "! '$view' '$network/table.toml' '$network/in' none.html 2>said.txt &&
     grep -qx 'afdx-view: cannot run none: No such file or directory' said.txt && [ ! -e none.html ]"
+check "a Python without its modules" "$BASH" -c "! /usr/bin/python3 -S '$view' '$network/table.toml' '$network/in' none.html 2>said.txt &&
+    grep -q '^afdx-view: no jinja2, matplotlib, .*: install python3-jinja2 python3-matplotlib ' said.txt && [ ! -e none.html ]"
 check "a line that says how far it is" tells_progress
+check "Ctrl-C while the program runs" is_ended_by INT tracing 130 "$network/table.toml" "$network/in"
+check "SIGTERM while the program runs" is_ended_by TERM tracing 143 "$network/table.toml" "$network/in"
 
 python3 "$top/bench/network.py" big 1000000
-check "24 ports, 4096 links, a million frames" makes big.html big/table.toml big/in
+check "Ctrl-C while it draws" is_ended_by INT drawing 130 big/table.toml big/in
+check "SIGTERM while it draws" is_ended_by TERM drawing 143 big/table.toml big/in
+mkdir answers
+"$AFDX" size big/table.toml >answers/size.txt
+"$AFDX" measure big/table.toml big/in >answers/measure.txt
+check "answers of 24 ports, 4096 links, a million frames" "$AFDX" trace big/table.toml big/in answers
+check "their page, in memory for what is drawn" keeps_below 250000 big/table.toml big/in big.html --answers answers
 check "its page is below 20 MB" below_20_megabytes big.html
 check "its page in a browser, within 10 s" opens big.html big/table.toml big/in --seconds 10
-check "README's picture" "$top/view/readme-picture" --check
+check "README's picture" "$top/docs/use/network_picture.py" --check
 finish

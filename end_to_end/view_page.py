@@ -1,25 +1,32 @@
 #!/usr/bin/python3
-"""Opens a page of view/afdx-view in chromium and compares it with what the program said of the same run.
+"""Opens a page of afdx-view in chromium and compares it with what the program said of the same run.
 
-usage: view_page.py PAGE TABLE IN [--unchecked] [--seconds N]
+usage: view_page.py PAGE TABLE IN [--unchecked] [--seconds N] [--print]
 
-At 1280 and at 400 pixels: nothing is on the console, nothing else was loaded, nothing stands out at the side, each link and port
-that sent has a picture whose heading has its numbers and whose points are on it, each row leads to its picture, and the table sorts.
+At 1280, 800 and 400 pixels: nothing is on the console, nothing else was loaded, nothing stands out at the side, no text touches
+another, the verdict and the first columns of the links are there without scrolling, each link and port that sent has a picture
+whose heading has its numbers and whose points are on it, and each row leads to its picture. The table sorts. In the light and in
+the dark all texts can be read. With --print each row of each table is in the PDF, with all its cells.
 """
 import argparse
+import base64
 import os
 import random
 import re
 import subprocess
 import sys
 import time
+from collections import Counter
 
 from selenium import webdriver
 from selenium.webdriver.chrome.options import Options
 from selenium.webdriver.chrome.service import Service
 
-WIDTHS = (1280, 400)
-LOOKED_AT = 40  # pictures, drawn by chance where there are more
+WIDTHS = (1280, 800, 400)
+LOOKED_AT = 40  # pictures, drawn by chance if there are more
+COLOURED = 3000  # texts whose colours are looked at, the first ones
+FIRST_COLUMNS = {1280: 12, 800: 8, 400: 3}
+CONTRAST = 4.5  # the least of a text to its paper, by WCAG
 DELAYS = re.compile(r"link (\d+) out (\d+) sent (\d+) least (\S+) greatest (\S+) bound (\S+)")
 PICTURE = """
 const figure = document.getElementById(arguments[0]);
@@ -29,8 +36,34 @@ const place = figure.getBoundingClientRect(), drawing = figure.querySelector("sv
 return {text: figure.querySelector("figcaption").innerText, points: figure.querySelector("path").getAttribute("d").split("M").length - 1,
         width: drawing.width, height: drawing.height, left: place.left, right: place.right, link: !!document.querySelector(`a[href="#${arguments[0]}"]`)};
 """
-COLUMN = "return [...document.querySelectorAll('tbody tr')].map(row => row.cells[arguments[0]].textContent)"
-HEADING = "document.querySelectorAll('th button')[arguments[0]].click(); return document.querySelectorAll('th')[arguments[0]].ariaSort"
+COLUMN = "return [...document.querySelectorAll('.sorts tbody tr')].map(row => row.cells[arguments[0]].textContent)"
+HEADING = "document.querySelectorAll('.sorts th button')[arguments[0]].click(); return document.querySelectorAll('.sorts th')[arguments[0]].ariaSort"
+TABLES = "return [...document.querySelectorAll('table')].map(table => [...table.rows].map(row => [...row.cells].map(cell => cell.textContent.trim())))"
+# The places of the texts in each picture with axes that is shown, and of the two texts of each bar.
+TEXTS = """
+const place = (text, name) => { const box = text.getBoundingClientRect(); return [name, box.left, box.top, box.right, box.bottom]; };
+const shown = [...document.querySelectorAll("svg[role=img]")].filter(svg => svg.checkVisibility());
+const pictures = shown.map(svg => { svg.scrollIntoView(); return [...svg.querySelectorAll("text")].map(text => place(text, text.textContent)); });
+const bars = [...document.querySelectorAll(".bar")].map(bar => [...bar.querySelectorAll("b, span")].map(text => place(text, text.textContent)));
+return [...pictures, ...bars];
+"""
+TIGHT = "return [...document.querySelectorAll('td, th')].filter(cell => cell.scrollWidth > cell.clientWidth).map(cell => cell.textContent)"
+FIRST = """
+const table = document.querySelector(".sorts");
+table.scrollIntoView();
+const verdict = document.querySelector(".verdict").getBoundingClientRect();
+const right = [...table.rows[0].cells].slice(0, arguments[0]).map(cell => cell.getBoundingClientRect().right);
+table.parentNode.scrollLeft = 10000;
+const left = table.rows[1] ? table.rows[1].cells[0].getBoundingClientRect().left : 0;
+table.parentNode.scrollLeft = 0;
+return {verdict: [verdict.left, verdict.right], right: Math.max(...right), link: left};
+"""
+# The colours of texts and of the paper below each.
+COLOURS = """
+const paper = element => { const colour = getComputedStyle(element).backgroundColor; return element === document.documentElement || !colour.endsWith(", 0)") ? colour : paper(element.parentNode); };
+const ink = element => element.ownerSVGElement ? getComputedStyle(element).fill : getComputedStyle(element).color;
+return [...document.querySelectorAll("h1, h2, h3, p, b, a, td, th, figcaption, .bar span, svg[role=img] text")].slice(0, arguments[0]).map(text => [text.textContent.trim().slice(0, 40), ink(text), paper(text)]);
+"""
 faults = []
 
 
@@ -81,9 +114,60 @@ def check_sorting(page, rows):
         for turn, name in ((False, "ascending"), (True, "descending")):
             expect(f"column {column} says {name}", page.execute_script(HEADING, column) == name)
             cells = page.execute_script(COLUMN, column)
-            values = [float(cell.replace(",", "")) for cell in cells if cell != "-"]
-            expect(f"column {column} is {name}", values == sorted(values, reverse=turn) and "-" not in cells[:len(values)])
+            values = [float(cell.replace(",", "")) for cell in cells if cell.strip() != "-"]
+            expect(f"column {column} is {name}", values == sorted(values, reverse=turn) and "-" not in map(str.strip, cells[:len(values)]))
             expect(f"column {column} has a cell for each link and port", len(cells) == len(rows))
+
+
+def touching(texts):
+    """The first two texts of a group that share a place."""
+    for place, (name, left, top, right, bottom) in enumerate(texts):
+        for other, other_left, other_top, other_right, other_bottom in texts[:place]:
+            if left < other_right and other_left < right and top < other_bottom and other_top < bottom:
+                return f"{name!r} and {other!r}"
+    return None
+
+
+def check_places(page, width):
+    """Nothing touches or has to be looked for at the side."""
+    expect(f"nothing stands out at {width} px", page.execute_script("return document.documentElement.scrollWidth") <= width)
+    first = page.execute_script(FIRST, FIRST_COLUMNS[width])
+    expect(f"the verdict is in {width} px: {first}", first["verdict"][0] >= 0 and first["verdict"][1] <= width)
+    expect(f"so are the first columns: {first}", first["right"] <= width)
+    expect(f"the link stays where the table is scrolled: {first}", first["link"] >= 0)
+    for texts in page.execute_script(TEXTS):
+        expect(f"at {width} px {touching(texts)} touch", touching(texts) is None)
+    tight = page.execute_script(TIGHT)
+    expect(f"at {width} px each cell has room, not {tight[:3]}", not tight)
+
+
+def brightness(colour):
+    """The relative luminance of a colour that the browser names."""
+    parts = [int(part) / 255 for part in re.findall(r"\d+", colour)[:3]]
+    linear = [part / 12.92 if part <= 0.04045 else ((part + 0.055) / 1.055) ** 2.4 for part in parts]
+    return 0.2126 * linear[0] + 0.7152 * linear[1] + 0.0722 * linear[2]
+
+
+def check_colours(page, scheme):
+    """Each text stands out from its paper, which is as light or as dark as was asked for."""
+    page.execute_cdp_cmd("Emulation.setEmulatedMedia", {"features": [{"name": "prefers-color-scheme", "value": scheme}]})
+    for text, ink, paper in page.execute_script(COLOURS, COLOURED):
+        over, under = sorted((brightness(ink), brightness(paper)), reverse=True)
+        expect(f"{scheme}: {text!r} is {ink} on {paper}", (over + 0.05) / (under + 0.05) >= CONTRAST)
+        expect(f"{scheme}: the paper of {text!r} is {paper}", (brightness(paper) < 0.1) == (scheme == "dark"))
+
+
+def check_print(page):
+    """Each row of each table is in the PDF, cell by cell, as often as it is on the page."""
+    page.refresh()  # no heading has the mark of sorting
+    printed = base64.b64decode(page.execute_cdp_cmd("Page.printToPDF", {"preferCSSPageSize": True})["data"])
+    text = subprocess.run(["pdftotext", "-raw", "-", "-"], input=printed, capture_output=True, check=True).stdout.decode()
+    text = " ".join(text.split())
+    rows = Counter(" ".join(" ".join(row).split()) for table in page.execute_script(TABLES) for row in table)
+    print(f"{sum(rows.values())} rows of tables in a PDF of {len(printed)} bytes")
+    for row, many in rows.items():
+        found = len(re.findall(rf"(?<!\S){re.escape(row)}(?!\S)", text))
+        expect(f"printed {found} times, not {many}: {row}", found >= many)
 
 
 def check_page(page, options, rows, width):
@@ -98,12 +182,11 @@ def check_page(page, options, rows, width):
     print(f"{width} px: open after {waited:.1f} s, {took:.1f} s of work")
     expect(f"opens within {options.seconds} s, not {took:.1f}", took <= options.seconds)
     expect("loads nothing else", page.execute_script("return performance.getEntriesByType('resource').length") == 0)
-    expect(f"nothing stands out at {width} px", page.execute_script("return document.documentElement.scrollWidth") <= width)
     overviews = page.execute_script("return [...document.querySelectorAll('.wide, .narrow')].filter(x => x.offsetHeight > 100).length")
-    expect("one picture of the run", overviews == 1)
+    expect("one picture of the run, where frames came in", overviews == any(sent != "0" for _, _, sent, *_ in rows))
+    check_places(page, width)
     for row in rows if len(rows) <= LOOKED_AT else random.Random(1).sample(rows, LOOKED_AT):
         check_picture(page, row, width)
-    check_sorting(page, rows)
     console = page.get_log("browser")
     expect(f"an empty console, not {console}", not console)
 
@@ -114,11 +197,17 @@ def main():
         parser.add_argument(argument)
     parser.add_argument("--unchecked", action="store_true")
     parser.add_argument("--seconds", type=float, default=10)
+    parser.add_argument("--print", action="store_true")
     options = parser.parse_args()
     rows, page = measured(options), browser()
     try:
         for width in WIDTHS:
             check_page(page, options, rows, width)
+        check_sorting(page, rows)
+        for scheme in ("light", "dark"):
+            check_colours(page, scheme)
+        if options.print:
+            check_print(page)
     finally:
         page.quit()
     print(f"{len(rows)} links and ports")

@@ -7,6 +7,11 @@ PORT = re.compile(r"port (?P<port>\d+) rate (?P<rate>\d+) of (?P<rate_limit>\d+)
                   r"high (?:-|(?P<high>\d+) of (?P<high_limit>\d+)) "
                   r"low (?:-|(?P<low>none|\d+) of (?P<low_limit>\d+)) "
                   r"(?:fits|breaks (?P<breaks>.*))")
+# the delays of a link at one of its output ports, as `afdx measure` prints them
+DELAYS = re.compile(r"link (?P<link>\d+) out (?P<port>\d+) sent (?P<sent>\d+) "
+                    r"least (?P<least>-|\d+) greatest (?P<greatest>-|\d+) bound (?P<bound>-|\d+)")
+# the most that a port's buffer held, as `afdx measure` prints it
+OCCUPIED = re.compile(r"out (?P<port>\d+) occupied (?P<occupied>\d+) of (?P<limit>\d+) at (?P<at>-|\d+)")
 # the jitter that a row needs, as `afdx network jitter` prints it
 JITTER = re.compile(r"switch (?P<switch>\S+) link (?P<link>\d+) jitter_us (?P<jitter_us>\d+)")
 # the way of a link to one of its ends, as `afdx network check` prints it
@@ -17,3 +22,8 @@ WAY = re.compile(r"link (?P<link>\d+) from (?P<start>\S+) to (?P<end>\S+) ways (
 def lines_of(pattern: re.Pattern[str], text: str) -> list[dict[str, str]]:
     """Answers the words of each line of this form; a word that is not there is `-`."""
     return [match.groupdict("-") for match in map(pattern.fullmatch, text.splitlines()) if match]
+
+
+def number(word: str) -> int | None:
+    """Answers the number of a word, None of `-` and of `none`."""
+    return int(word) if word.isdigit() else None

@@ -55,7 +55,7 @@ class Program:
     def __init__(self, command: str) -> None:
         found = find_program()
         if not found:
-            raise Failure(DEVICE, f"{command}: no program afdx: build it by ./demo, put it on the path, "
+            raise Failure(DEVICE, f"{command}: no program afdx: build it by ./demo --proved, put it on the path, "
                                   "or name it in AFDX")
         self.file = found
         self.progress = Progress(command)

@@ -1,0 +1,55 @@
+#!/usr/bin/python3
+"""Makes README's picture of the example network, docs/use/network.svg, from a run; --check compares it with one instead.
+
+What is compared is what the picture shows: its words, and the points and lines to a point's width.
+"""
+import re
+import sys
+import xml.etree.ElementTree
+from pathlib import Path
+
+sys.dont_write_bytecode = True
+TOP = Path(__file__).resolve().parents[2]
+sys.path.insert(0, str(TOP / "python"))
+
+from afdx.program import Program  # noqa: E402
+from afdx.view import pictures  # noqa: E402
+from afdx.view.making import run_of, sized  # noqa: E402
+
+PICTURE = TOP / "docs" / "use" / "network.svg"
+NETWORK = TOP / "examples" / "network"
+WIDTH = 8.6  # inches
+
+
+def drawn():
+    program = Program("network_picture.py")
+    run = run_of(program, sized(program, str(NETWORK / "table.toml")), str(NETWORK / "in"))
+    return re.sub(r"[ \t]+$", "", pictures.saved(pictures.overview(run, WIDTH), False), flags=re.M)
+
+
+def shown(svg):
+    """Answers its words, and the numbers of its places and paths."""
+    words, numbers = [], []
+    for element in xml.etree.ElementTree.fromstring(svg).iter():
+        words += [element.text.strip()] if element.text and element.tag.endswith("}text") else []
+        numbers += [float(number) for key in ("x", "y", "d")
+                    for number in re.findall(r"-?\d+(?:\.\d+)?", element.get(key, ""))]
+    return words, numbers
+
+
+def same(one, other):
+    (words, numbers), (other_words, other_numbers) = shown(one), shown(other)
+    near = all(abs(left - right) <= 1 for left, right in zip(numbers, other_numbers))
+    return words == other_words and len(numbers) == len(other_numbers) and near
+
+
+def main(arguments):
+    svg = drawn()
+    if arguments != ["--check"]:
+        PICTURE.write_text(svg, encoding="utf-8")
+    elif not same(svg, PICTURE.read_text(encoding="utf-8")):
+        sys.exit(f"{PICTURE} shows another run: make it again by docs/use/network_picture.py")
+
+
+if __name__ == "__main__":
+    main(sys.argv[1:])

@@ -1,0 +1,47 @@
+"""Keeps of each link and each port that it leads to what became of its frames there."""
+from dataclasses import dataclass
+
+from afdx import printed
+from afdx.view.arrivals import Fates
+from afdx.view.table import Table
+
+
+@dataclass
+class Pair:
+    """A link at one of its output ports. Times are in ns."""
+    link: int
+    port: int
+    priority: str
+    passed: int
+    policed: int
+    sent: int
+    full: int  # copies that found a full buffer
+    least: int | None  # None where nothing was sent
+    greatest: int | None
+    bound: int | None  # None where none is promised
+    aged: int = 0  # copies discarded for their age
+
+    @property
+    def lost(self) -> int:
+        return self.full + self.aged
+
+    @property
+    def slack(self) -> int | None:
+        return None if self.bound is None or self.greatest is None else self.bound - self.greatest
+
+    @property
+    def share(self) -> float | None:
+        """Answers which part of its bound the greatest delay took."""
+        return None if self.bound is None or self.greatest is None else self.greatest / self.bound
+
+
+def pairs_of(measured: str, table: Table, fates: Fates) -> list[Pair]:
+    """Answers the lines `link` of `afdx measure`, with what the frames' fates say of each."""
+    pairs = []
+    for line in printed.lines_of(printed.DELAYS, measured):
+        link, port = int(line["link"]), int(line["port"])
+        least, greatest, bound = (printed.number(line[key]) for key in ("least", "greatest", "bound"))
+        pairs.append(Pair(link, port, table.links[link].priority, int(fates.by_link["passed"][link]),
+                          int(fates.by_link["policed"][link]), int(line["sent"]), fates.full[link, port],
+                          least, greatest, bound))
+    return pairs

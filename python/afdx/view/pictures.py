@@ -1,0 +1,164 @@
+"""Draws the pictures with axes, by matplotlib."""
+import io
+import re
+from collections.abc import Sequence
+from typing import Any
+
+import matplotlib
+from matplotlib.figure import Figure
+from matplotlib.ticker import EngFormatter, PercentFormatter
+
+from afdx.view.departures import PRIORITIES
+from afdx.view.greatest import Floats, Ints
+from afdx.view.run import Run
+
+# Of the palette of Okabe and Ito, whose colours all readers tell apart.
+COLOURS = {"high": "#0072B2", "low": "#E69F00"}
+PASSED, POLICED = "#0072B2", "#D55E00"
+INK, AXES, GRID = "#1c2024", "#5a6470", "#dfe3e8"
+MARKS = {"high": "o", "low": "D"}
+# What the page's style sets in place of a colour, so that the pictures follow it into the dark.
+VARIABLES = {PASSED: "high", COLOURS["low"]: "low", POLICED: "policed", INK: "ink", AXES: "soft", GRID: "line"}
+
+matplotlib.rcParams.update({
+    "svg.fonttype": "none", "svg.hashsalt": "afdx-view", "font.family": "sans-serif", "font.size": 11,
+    "axes.spines.top": False, "axes.spines.right": False, "axes.edgecolor": AXES, "axes.labelcolor": INK,
+    "text.color": INK, "xtick.color": AXES, "ytick.color": AXES, "legend.frameon": False})
+
+SECONDS = EngFormatter("s", sep=" ")
+
+
+def saved(figure: Any, transparent: bool) -> str:
+    text = io.StringIO()
+    figure.savefig(text, format="svg", metadata={"Date": None, "Creator": None}, transparent=transparent)
+    return text.getvalue()
+
+
+def svg_of(figure: Any, label: str) -> str:
+    """Answers the figure as an element of the page: as wide as its place, in the page's colours, without names that
+    another figure has too."""
+    svg = saved(figure, True)
+    svg = svg[svg.index("<svg"):]
+    svg = re.sub(r"<metadata>.*?</metadata>", "", svg, flags=re.S)
+    svg = re.sub(r' id="[A-Za-z.]+_?\d+_?"(?=>)', "", svg)
+    svg = re.sub(r' (?:width|height)="[\d.]+pt"', "", svg, count=2)
+    for colour, variable in VARIABLES.items():
+        svg = re.sub(f"{colour}(?![0-9a-f])", f"var(--{variable})", svg, flags=re.I)
+    return svg.replace("<svg", f'<svg role="img" aria-label="{label}"', 1)
+
+
+def plot(axes: Any, instants: Ints, values: Floats, priority: str) -> None:
+    axes.plot(instants / 1e9, values, MARKS[priority], color=COLOURS[priority], markersize=4, markeredgewidth=0,
+              label=priority)
+
+
+def head(axes: Any, title: str) -> None:
+    """Writes the title, and the legend below it, both at the left."""
+    axes.set_title(title, loc="left", fontsize=12, pad=22, fontweight="bold")
+    axes.legend(loc="lower left", bbox_to_anchor=(-0.01, 0.97), ncol=4, handletextpad=0.3, columnspacing=1,
+                handlelength=1.5, borderaxespad=0.2)
+
+
+def time_axis(axes: Any, run: Run) -> None:
+    axes.grid(axis="y", color=GRID, linewidth=0.8)
+    axes.set_axisbelow(True)
+    axes.xaxis.set_major_formatter(SECONDS)
+    axes.set_xlim(-0.01 * run.span / 1e9, 1.01 * run.span / 1e9)
+
+
+def policing(axes: Any, run: Run) -> None:
+    """Draws a row for each of the links with most policed frames, with its passed frames and its policed ones."""
+    links = run.policed.watched
+    for row, link in enumerate(links):
+        place = run.policed.links.index(link)
+        policed, passed = (kept.points(place)[0] / 1e9 for kept in (run.policed.early, run.policed.passed))
+        names = ("passed", "policed") if row == 0 else ("_", "_")
+        axes.plot(policed, [row + 0.14] * len(policed), "|", color=POLICED, markersize=13, markeredgewidth=1.6,
+                  label=names[1])
+        axes.plot(passed, [row - 0.18] * len(passed), "|", color=PASSED, markersize=7, markeredgewidth=1.6,
+                  label=names[0])
+    axes.set_yticks(range(len(links)), [f"link {link}" for link in links])
+    axes.set_ylim(len(links) - 0.4, -0.6)
+    head(axes, "Links that were policed")
+    axes.tick_params(labelbottom=False)
+    axes.grid(axis="y", visible=False)
+
+
+def shares(axes: Any, run: Run) -> None:
+    """Draws which part of its bound each copy took; if none is promised, its delay."""
+    scale = 1.0 if run.checked else 1e9
+    greatest = 0.0
+    for group, priority in enumerate(PRIORITIES):
+        instants, values = run.drawn.run.points(group)
+        greatest = max(greatest, values.max(initial=0) / scale)
+        plot(axes, instants, values / scale, priority)
+    if run.checked:
+        axes.axhline(1, color=INK, linewidth=1.4, linestyle=(0, (5, 3)), label="bound")
+        axes.yaxis.set_major_formatter(PercentFormatter(1, decimals=0))
+    else:
+        axes.yaxis.set_major_formatter(SECONDS)
+    axes.set_ylim(0, 1.05 if run.checked else 1.25 * max(greatest, 1e-9))
+    head(axes, "Delays, against their bounds" if run.checked else "Delays; no bound is promised")
+
+
+def panel(figure: Any, bottom: float, height: float) -> Any:
+    """Answers axes of this place and height in inches, almost as wide as the figure."""
+    width, high = figure.get_size_inches()
+    axes = figure.add_axes((0.85 / width, bottom / high, 1 - 1.2 / width, height / high))
+    axes.locator_params(axis="x", nbins=max(3, int(width * 0.8)))
+    return axes
+
+
+def shade(grid: Sequence[Any], ranges: Sequence[tuple[float, float]]) -> None:
+    """Shades the times at which links babbled."""
+    places = [(begin / 1e9, (end - begin) / 1e9) for begin, end in ranges]
+    for axes in grid:
+        axes.broken_barh(places, (0, 1), transform=axes.get_xaxis_transform(), color=POLICED, alpha=0.1, linewidth=0)
+
+
+def name_babbler(axes: Any, run: Run) -> None:
+    """Writes the babbler's name beside its only spell."""
+    link = run.policed.watched[0]
+    spell = run.policed.spells[link].spells[0]
+    axes.annotate(f"link {link} babbles", ((spell.begin + spell.end) / 2e9, 0.84 if run.checked else 0.97),
+                  xycoords=("data", "axes fraction"), ha="center", va="top")
+
+
+def overview(run: Run, width: float) -> Any:
+    """Draws the whole run: who was policed, and how near the bounds all came. Places and the width are in inches."""
+    links = run.policed.watched
+    rows = 0.33 * len(links) + 0.1
+    figure = Figure(figsize=(width, 2.75 + (rows + 0.6 if links else 0)))
+    below = panel(figure, 0.3, 1.9)
+    grid = [panel(figure, 2.85, rows), below] if links else [below]
+    for axes in grid:
+        time_axis(axes, run)
+    shade(grid, run.policed.cover.ranges())
+    if links:
+        policing(grid[0], run)
+    if sum(run.policed.spells[link].count for link in links) == 1:
+        name_babbler(below, run)
+    shares(below, run)
+    return figure
+
+
+def port_delays(run: Run, port: int) -> Any:
+    """Draws the delays of all that left a port, high and low, with their bounds."""
+    figure = Figure(figsize=(4.5, 2.7), layout="constrained")
+    axes = figure.subplots()
+    time_axis(axes, run)
+    axes.locator_params(axis="x", nbins=4)
+    bounds = {pair.priority: pair.bound for pair in run.pairs if pair.port == port}
+    for priority, colour in COLOURS.items():
+        instants, values = run.drawn.ports.points(run.drawn.port_group(port, priority))
+        if len(instants) == 0:
+            continue
+        plot(axes, instants, values / 1e9, priority)
+        bound = bounds[priority]
+        if bound is not None:
+            axes.axhline(bound / 1e9, color=colour, linewidth=1.6, linestyle=(0, (5, 3)),
+                         label=f"{priority}: bound {bound:,} ns")
+    axes.set_ylim(bottom=0)
+    axes.yaxis.set_major_formatter(SECONDS)
+    axes.legend(loc="lower left", bbox_to_anchor=(-0.02, 0.99), ncol=2, handletextpad=0.3, columnspacing=1)
+    return figure

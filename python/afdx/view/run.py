@@ -1,0 +1,75 @@
+"""Puts together what the page shows of a run."""
+from dataclasses import dataclass
+
+from afdx import printed
+from afdx.program import Progress
+from afdx.view import departures
+from afdx.view.answers import Answers
+from afdx.view.arrivals import Fates, Policed, read_fates, read_policed
+from afdx.view.departures import PRIORITIES, Drawn
+from afdx.view.greatest import Greatest
+from afdx.view.pairs import Pair, pairs_of
+from afdx.view.table import Table
+
+POINTS = 600_000  # of all strips together; so the page stays below 20 MB
+STRIPS = 20_000  # the most strips; those nearest to their bounds if there are more
+STRIP_PARTS = (24, 240)  # the least and the most parts of the time in a strip
+PORT_PARTS = 300  # of the picture of a port
+RUN_PARTS = 600  # of the picture of the run
+
+
+@dataclass
+class Run:
+    """Instants are ns after the first frame's stamp."""
+    checked: bool
+    needs: list[dict[str, str]]  # the lines of `size`
+    occupied: list[dict[str, str]]  # the lines `out` of `measure`
+    pairs: list[Pair]
+    fates: Fates
+    policed: Policed
+    drawn: Drawn
+    parts: int  # of the time in a strip
+
+    @property
+    def span(self) -> int:
+        return self.fates.span()
+
+    @property
+    def accepted(self) -> bool:
+        return all(need["breaks"] == "-" for need in self.needs)
+
+
+def shown_of(pairs: list[Pair], checked: bool) -> list[Pair]:
+    """Answers the pairs that have a picture: those that sent, or of very many those nearest to their bounds."""
+    sent = [pair for pair in pairs if pair.sent]
+    if len(sent) <= STRIPS:
+        return sent
+    nearest = sorted(sent, key=lambda pair: -((pair.share if checked else pair.greatest) or 0))[:STRIPS]
+    chosen = {id(pair) for pair in nearest}
+    return [pair for pair in sent if id(pair) in chosen]
+
+
+def drawn_of(pairs: list[Pair], shown: list[Pair], parts: int, span: int) -> Drawn:
+    """Answers room for the points."""
+    ports = {port: place for place, port in enumerate(sorted({pair.port for pair in pairs}))}
+    return Drawn(shown, Greatest(len(shown), parts, span), Greatest(len(ports) * len(PRIORITIES), PORT_PARTS, span),
+                 Greatest(len(PRIORITIES), RUN_PARTS, span), ports)
+
+
+def read(answers: Answers, table: Table, checked: bool, progress: Progress) -> Run:
+    """Reads a run. KeyError or ValueError is raised if the answers are not of this table."""
+    progress.say("reading")
+    fates = read_fates(answers.arrivals)
+    pairs = pairs_of(answers.measured, table, fates)
+    if checked and any(pair.bound is None for pair in pairs):
+        raise ValueError("no bound in the answers of a checked run")
+    shown = shown_of(pairs, checked)
+    least, most = STRIP_PARTS
+    parts = max(least, min(most, POINTS // max(1, len(shown) + len(fates.policed_links()))))
+    policed = read_policed(answers.arrivals, table, fates, parts)
+    drawn = drawn_of(pairs, shown, parts, fates.span())
+    if fates.first is not None:
+        columns = departures.columns_of(pairs, drawn, checked)
+        departures.read(answers.departures, drawn, columns, fates.first + table.latency)
+    return Run(checked, printed.lines_of(printed.PORT, answers.size),
+               printed.lines_of(printed.OCCUPIED, answers.measured), pairs, fates, policed, drawn, parts)

@@ -1,0 +1,135 @@
+"""What afdx-view refuses, and where its page says that it comes from."""
+import hashlib
+import os
+from pathlib import Path
+
+import pytest
+
+from afdx import modules
+from afdx.failure import DEVICE, USAGE, Failure
+from afdx.view import answers, command, making, provenance
+from tests import answered
+
+TABLE = """latency_us = 5
+[[port]]
+id = 1
+[[port]]
+id = 2
+[[link]]
+id = 10
+bag_ms = 1
+priority = "high"
+[[link]]
+id = 11
+bag_ms = 2
+priority = "low"
+"""
+
+
+@pytest.fixture
+def folder(tmp_path: Path, monkeypatch: pytest.MonkeyPatch) -> Path:
+    """Has a table, two captures and the answers to a run over them in the working folder."""
+    monkeypatch.chdir(tmp_path)
+    monkeypatch.setenv("SOURCE_DATE_EPOCH", "1768471200")
+    answered.put_answers(tmp_path)
+    (tmp_path / "table.toml").write_text(TABLE)
+    for port in (1, 2):
+        (tmp_path / f"port-{port}.pcap").write_bytes(bytes([port]))
+    return tmp_path
+
+
+def refused(*arguments: str) -> Failure:
+    with pytest.raises(Failure) as caught:
+        command.main(arguments)
+    return caught.value
+
+
+@pytest.mark.parametrize("arguments", [
+    ["table.toml", ".", "page.htm"], ["--", "-table.toml", ".", "page.html"], ["--", "table.toml", ".", "-page.html"],
+    ["--", "table.toml", "-in", "page.html"], ["table.toml", ".", "page.html", "--answers=-here"]])
+def test_names_that_are_refused(arguments: list[str], capsys: pytest.CaptureFixture[str]) -> None:
+    with pytest.raises(SystemExit) as ended:
+        command.main(arguments)
+    assert ended.value.code == USAGE
+    assert "afdx-view: error: " in capsys.readouterr().err
+
+
+def test_a_python_without_a_module(monkeypatch: pytest.MonkeyPatch) -> None:
+    monkeypatch.setattr(modules, "find_spec", lambda name: None if name in ("jinja2", "matplotlib") else name)
+    failure = refused("table.toml", ".", "page.html")
+    assert failure.status == DEVICE
+    assert "no jinja2, matplotlib in " in failure.lines[0]
+    assert "install python3-jinja2 python3-matplotlib " in failure.lines[0]
+
+
+@pytest.mark.parametrize("name", ["table.toml", "port-2.pcap", "departures.csv"])
+def test_a_page_that_would_replace_what_it_is_made_of(folder: Path, name: str) -> None:
+    os.link(folder / name, folder / "page.html")
+    failure = refused("table.toml", ".", "page.html", "--answers", ".")
+    assert failure.status == USAGE
+    assert failure.lines[0].startswith("afdx-view: the page would replace ")
+    assert (folder / "page.html").samefile(folder / name)
+
+
+def test_a_pipe(folder: Path) -> None:
+    os.mkfifo(folder / "pipe")
+    with pytest.raises(Failure) as caught:
+        answers.need_files("afdx-view", ["table.toml", "none", "pipe"])
+    assert caught.value.lines == ("afdx-view: pipe is not a file, and the program reads it more than once",)
+
+
+def test_answers_of_another_table(folder: Path) -> None:
+    (folder / "table.toml").write_text(TABLE.replace("id = 11", "id = 12"))
+    failure = refused("table.toml", ".", "page.html", "--answers", ".")
+    assert failure.status == DEVICE
+    assert failure.lines == (
+        "afdx-view: the files in . are not what size, measure and trace answer of table.toml",)
+
+
+def test_a_page_of_answers(folder: Path) -> None:
+    """It says what it was made of, and when, and nothing of the host."""
+    assert command.main(["table.toml", str(folder), str(folder / "page.html"), "--answers", "."]) == 0
+    page = (folder / "page.html").read_text()
+    assert "<td>afdx-view table.toml " + folder.name + " page.html --answers .\n" in page
+    assert "<td>2026-01-15 10:00:00 UTC\n" in page
+    for name in ("table.toml", "departures.csv"):
+        assert hashlib.sha256((folder / name).read_bytes()).hexdigest() in page
+    assert str(folder) not in page and os.uname().nodename not in page
+    assert "The program was not run for this page" in page
+
+
+def test_what_the_text_of_a_page_says(folder: Path) -> None:
+    making.make("afdx-view", command.options_of(["table.toml", ".", "page.html", "--answers", "."]))
+    page = " ".join((folder / "page.html").read_text().split())
+    assert '<p class="verdict bad"> <b>Not accepted</b>: port 2 breaks L2 L4. 7 frames in, 4 copies out,' in page
+    assert "<b>2 lost</b>, 2 policed." in page
+    assert "<b>Link 10 babbled in 2 spells</b> between 0.000 ms (2026-01-15 10:00:00.000000400 UTC) and" in page
+    assert "The buffer was fullest at 2.000 ms (2026-01-15 10:00:00.002000000 UTC)." in page
+
+
+def test_a_page_of_no_frames(folder: Path) -> None:
+    answered.put_answers(folder, measured=answered.MEASURED.replace("at 1768471200002000000", "at -"),
+                         arrivals=answered.ARRIVALS.splitlines()[0], departures=answered.DEPARTURES.splitlines()[0])
+    command.main(["table.toml", ".", "page.html", "--answers", "."])
+    page = (folder / "page.html").read_text()
+    assert "<b>No frame came in.</b>" in page
+    assert "1970" not in page
+
+
+def test_names_are_text_of_the_page(folder: Path) -> None:
+    name = "<b>&\udcff.toml"
+    (folder / "table.toml").rename(name)
+    command.main([name, ".", "page.html", "--answers", "."])
+    page = (folder / "page.html").read_text()
+    assert "<h1>&lt;b&gt;&amp;\ufffd.toml over .</h1>" in page
+
+
+@pytest.mark.parametrize("time", ["soon", "-99999999999999"])
+def test_a_time_that_is_none(folder: Path, monkeypatch: pytest.MonkeyPatch, time: str) -> None:
+    monkeypatch.setenv("SOURCE_DATE_EPOCH", time)
+    failure = refused("table.toml", ".", "page.html", "--answers", ".")
+    assert (failure.status, failure.lines) == (USAGE, (f"afdx-view: SOURCE_DATE_EPOCH is not a time: {time}",))
+
+
+def test_names_without_the_host() -> None:
+    assert [provenance.shown(name) for name in ("in/a", "/home/somebody/in", "./t.toml")] == ["in/a", "in", "./t.toml"]
