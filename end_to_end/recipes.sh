@@ -3,8 +3,8 @@
 # end_to_end/recordings.py makes for it, and print what the page has. What a recipe makes of a recording of the example
 # network comes out of the switch as the network's own captures do.
 . "$(dirname "$0")/common.sh"
-install python3=python3 editcap=wireshark-common mergecap=wireshark-common capinfos=wireshark-common \
-    reordercap=wireshark-common tshark=tshark
+install python3=python3 editcap=wireshark-common tshark=tshark
+install_python numpy zstandard tqdm
 export PYTHONDONTWRITEBYTECODE=1 LC_ALL=C
 afdx=${AFDX:-$top/crates/afdx/out/afdx}
 network=$top/examples/network
@@ -21,11 +21,11 @@ prints() {
 
 # prepared SECTION: its folder, with recordings.
 prepared() {
-    mkdir -p "work/$1/raw" "work/$1/in" "work/$1/out" && cp "$top/docs/use/restamp.py" "work/$1" &&
+    mkdir -p "work/$1/raw" "work/$1/in" "work/$1/out" &&
         python3 "$top/end_to_end/recordings.py" "$1" "work/$1"
 }
 
-mkdir bin plain && ln -s "$afdx" bin/afdx && PATH=$room/bin:$PATH
+mkdir bin plain && ln -s "$afdx" bin/afdx && PATH=$room/bin:$top/python/bin:$PATH
 python3 "$top/end_to_end/recordings.py" | sort >sections.txt
 
 check "the page's commands are found" python3 "$top/end_to_end/steps.py" "$top/docs/use/CAPTURES.md" steps
@@ -39,8 +39,5 @@ while read -r section; do
 done <sections.txt
 
 check "the example network" "$afdx" run "$network/table.toml" "$network/in" plain
-for out in pcapng_and_gzip/out several_interfaces_in_one_capture/out frames_out_of_order/out \
-    frames_with_their_check_sequence/out clocks_that_are_apart/out networks_a_and_b_in_one_capture/out-a; do
-    check "$out: the example network's" diff -r plain "work/$out"
-done
+check "clocks that are apart: the example network's" diff -r plain work/clocks_that_are_apart/out
 finish

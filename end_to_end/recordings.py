@@ -3,17 +3,13 @@
 
 usage: recordings.py                  prints the names of all
        recordings.py NAME FOLDER      makes this one: FOLDER/table.toml, and recordings under FOLDER/raw
-A name is a heading of the page, small, with _ for all but letters and digits. Most are the example network's captures,
-recorded as the recipe has it.
+A name is a heading of the page, small, with _ for all but letters and digits.
 """
-import gzip
 import os
 import random
 import shutil
 import struct
-import subprocess
 import sys
-import zlib
 
 import model
 
@@ -24,12 +20,8 @@ TICK = 80  # ns of a byte at 100 Mbit/s
 CONSTANT = bytes.fromhex("03000000")
 
 
-def network_capture(port):
-    return f"{NETWORK}/in/port-{port}.pcap"
-
-
 def network_records(port):
-    with open(network_capture(port), "rb") as file:
+    with open(f"{NETWORK}/in/port-{port}.pcap", "rb") as file:
         return model.records_of(file.read(), port)
 
 
@@ -64,72 +56,13 @@ def write_table(path, ports, links):
                        f"max_size = {size}\npriority = \"low\"\n\n")
 
 
-def of_network(change):
-    """The example network, each port's records changed."""
-
-    def make(folder):
-        shutil.copy(f"{NETWORK}/table.toml", folder)
-        for port in PORTS:
-            write(f"{folder}/raw/port-{port}.pcap", change(port, network_records(port)))
-
-    return make
-
-
-def unchanged(_, records):
-    return records
-
-
-def with_check_sequence(_, records):
-    return [model.Record(one.stamp, one.original + 4,
-                         one.data + (struct.pack("<I", zlib.crc32(one.data)) if one.original == len(one.data) else b""))
-            for one in records]
-
-
-def with_network_b(_, records):
-    """Each frame also as network B has it: its sender's interface in the last byte of the source, 7 us later."""
-    twins = [model.Record(one.stamp + 7_000, one.original, one.data[:11] + b"\x40" + one.data[12:]) for one in records]
-    return sorted(records + twins, key=lambda one: one.stamp)
-
-
-def two_exchanged(port, records):
-    if port == 2:
-        records[99], records[100] = records[100], records[99]
-    return records
-
-
-def late_at_port_2(port, records):
-    return [model.Record(one.stamp + (1_500_000 if port == 2 else 0), one.original, one.data) for one in records]
-
-
-def network_in_other_formats(folder):
-    of_network(unchanged)(folder)
-    for port in [1, 2]:
-        path = f"{folder}/raw/port-{port}.pcap"
-        subprocess.run(["editcap", "-F", "pcapng", network_capture(port), path], check=True)
-    with open(path, "rb") as file:
-        plain = file.read()
-    with gzip.open(path, "wb") as file:
-        file.write(plain)
-
-
-def network_in_one_file(folder):
-    shutil.copy(f"{NETWORK}/table.toml", folder)
-    subprocess.run(["mergecap", "-F", "pcapng", "-I", "none", "-w", f"{folder}/raw/tap.pcapng",
-                    *map(network_capture, PORTS)], check=True)
-
-
-def network_without_port_3(folder):
-    of_network(unchanged)(folder)
-    os.remove(f"{folder}/raw/port-3.pcap")
-
-
-def network_broken_off(folder):
-    of_network(unchanged)(folder)
-    os.truncate(f"{folder}/raw/port-2.pcap", 5000)
-
-
 def network_with_clocks_apart(folder):
-    of_network(late_at_port_2)(folder)
+    """The example network; port 2 has a recorder of its own, whose clock is ahead."""
+    shutil.copy(f"{NETWORK}/table.toml", folder)
+    for port in PORTS:
+        ahead = 1_500_000 if port == 2 else 0
+        write(f"{folder}/raw/port-{port}.pcap",
+              [model.Record(one.stamp + ahead, one.original, one.data) for one in network_records(port)])
     mark = frame(100, 200)
     write(f"{folder}/raw/mark-1.pcap", [record(BEGIN - 60 * model.SECOND, mark)])
     write(f"{folder}/raw/mark-2.pcap", [record(BEGIN - 60 * model.SECOND + 1_500_000, mark)])
@@ -173,14 +106,6 @@ def two_switches(folder):
 
 
 RECORDINGS = {
-    "look_first": of_network(unchanged),
-    "pcapng_and_gzip": network_in_other_formats,
-    "several_interfaces_in_one_capture": network_in_one_file,
-    "networks_a_and_b_in_one_capture": of_network(with_network_b),
-    "a_port_that_only_sends": network_without_port_3,
-    "frames_out_of_order": of_network(two_exchanged),
-    "a_recording_that_breaks_off": network_broken_off,
-    "frames_with_their_check_sequence": of_network(with_check_sequence),
     "clocks_that_are_apart": network_with_clocks_apart,
     "a_clock_that_drifts": one_link(20, [number * 999_950 for number in range(1000)]),
     "noise_on_the_stamps": one_link(0, noisy_stamps()),

@@ -1,0 +1,89 @@
+#!/usr/bin/env bash
+# python/bin/afdx-import and afdx-skew: the commands of docs/use/IMPORT.md on recordings of a run (recorded_network.py) print what
+# the page has, and find what was hidden in them, to the byte; what is refused changes nothing; memory does not grow.
+. "$(dirname "$0")/common.sh"
+install python3=python3 zstd=zstd
+install_python numpy zstandard tqdm
+export PYTHONDONTWRITEBYTECODE=1 LC_ALL=C
+afdx=${AFDX:-$top/crates/afdx/out/afdx}
+page=$top/docs/use/IMPORT.md
+cd "$room" || exit 1
+
+# prints SECTION/STEP: its commands print what the page has.
+prints() {
+    (cd work && bash -euo pipefail "$room/steps/$1.sh") >printed.txt 2>&1
+    is_printed "$room/steps/$1.txt" printed.txt
+}
+
+# finds NETWORK: the captures are those that came in, and the run's report and outputs those of the model of networks.
+finds() {
+    diff -r "work/in/$1" "work/truth/$1" && cmp "work/$1.txt" "work/sent/$1.txt" && diff -r "work/out/$1" "work/sent/$1"
+}
+
+# hidden: what the two networks do not share at the cockpit is what got lost.
+hidden() {
+    afdx-skew work/out/A work/out/B >skew.txt &&
+        awk '$1 == "cockpit/port-2" && ($11 || $15) { print $3, $11, $13, $15, $17 }' skew.txt | diff - <(printf '100 3 3 0 0\n403 0 0 1 1\n')
+}
+
+# changes_nothing STATUS LINE RULES: the import ends so, and all captures are as they were.
+changes_nothing() {
+    local status=0
+    cp -r work/in before
+    afdx-import "$3" work/raw work/in >answer.txt 2>said.txt || status=$?
+    echo "status $status: $(cat said.txt)"
+    [ "$status" -eq "$1" ] && [ ! -s answer.txt ] && [ "$(cat said.txt)" = "$2" ] && diff -r before work/in && rm -r before
+}
+
+# peak MEGABYTES: the most memory, in KiB, that the import of a recording of this size takes.
+peak() {
+    python3 - "$1" <<'END'
+import resource, struct, subprocess, sys
+stamp = 1_790_000_000_000_000_000
+with open("big/raw.pcap", "wb") as file:
+    file.write(bytes.fromhex("4d3cb2a1 02000400 00000000 00000000 00000400 01000000"))
+    for _ in range(int(sys.argv[1])):
+        for number in range(1000):
+            stamp += 90_000
+            file.write(struct.pack("<4I", *divmod(stamp, 10**9), 1032, 1032) + bytes([3, 0, 0, 0, 0, number % 9, 2, 0, 0, 0, 1, 32]).ljust(1032))
+subprocess.run(["afdx-import", "big/rules.toml", "big", "big/in"], check=True, stdout=subprocess.DEVNULL)
+print(resource.getrusage(resource.RUSAGE_CHILDREN).ru_maxrss)
+END
+}
+
+# memory_stays: twice the recording takes no more memory, but for a tenth.
+memory_stays() {
+    local less more
+    mkdir -p big && printf '[[source]]\nfile = "raw.pcap"\nto = "port-1"\n' >big/rules.toml
+    less=$(peak 100) && more=$(peak 200) && rm -r big
+    echo "$less KiB, $more KiB"
+    [ "$more" -lt $((less + less / 10)) ]
+}
+
+mkdir bin work && ln -s "$afdx" bin/afdx && PATH=$room/bin:$top/python/bin:$PATH
+cp "$top"/examples/aircraft/*.toml work
+sed -n '/^```toml$/,/^```$/ { /^```/! p }' "$page" >work/rules.toml
+
+check "the recordings" python3 "$top/end_to_end/recorded_network.py" work
+check "the page's commands are found" python3 "$top/end_to_end/steps.py" "$page" steps
+check "importing, 1: afdx-import rules.toml raw in" prints importing/1
+check "importing, 2: the runs" prints importing/2
+for network in A B; do
+    check "network $network: to the byte what came in, and what the model makes of it" finds "$network"
+done
+check "importing, 3: measuring" prints importing/3
+check "two clocks" prints two_clocks/1
+check "two networks" prints two_networks/1
+check "what got lost is found" hidden
+
+late="afdx-import: a frame of A/cockpit/port-3 is more than 0 ms late: 2026-09-21T14:13:20.352740730Z comes after 2026-09-21T14:13:20.368740614Z (cockpit.pcap.zst, record 784, offset 136506), cockpit.pcap.zst, record 793, offset 138114"
+sed '1i window_ms = 0' work/rules.toml >narrow.toml
+check "a window that is too narrow" changes_nothing 3 "$late" narrow.toml
+head -c 100000 /dev/zero | tr '\0' '\377' | cat work/raw/bay.pcap - >work/raw/faulty.pcap
+sed 's/bay.pcap/faulty.pcap/' work/rules.toml >faulty.toml
+check "a faulty recording" changes_nothing 3 "afdx-import: 4294967295 bytes captured, faulty.pcap, record 1245, offset 220819" faulty.toml
+printf '[[source]]\nfile = "*.pcapng.gz"\nport = 3\n' >wrong.toml
+check "faulty rules" changes_nothing 3 "afdx-import: source 1: unknown key port, wrong.toml
+afdx-import: source 1: needs either to or end_systems, wrong.toml" wrong.toml
+check "memory of twice the recording" memory_stays
+finish

@@ -1,0 +1,1 @@
+"""Makes the captures that afdx reads of recordings as they come, by rules."""

@@ -1,0 +1,80 @@
+"""Writes the captures of all ports to new files, and moves them onto their names when all are whole."""
+import errno
+import os
+import tempfile
+from collections.abc import Iterable
+from contextlib import ExitStack, suppress
+from pathlib import Path
+from types import TracebackType
+from typing import IO, Self
+
+from afdx.failure import failing
+from afdx.files import umask
+from afdx.recordings.pcap import WRITTEN
+
+
+class Captures:
+    """Are the new captures, by port. On leaving, those that were not put are removed, with folders made for them."""
+
+    def __init__(self, command: str, folder: Path, ports: Iterable[str]) -> None:
+        self.command = command
+        self.paths = {port: folder / f"{port}.pcap" for port in ports}
+        self.folders: list[Path] = []
+        self.files: dict[str, IO[bytes]] = {}
+
+    def __enter__(self) -> Self:
+        with ExitStack() as stack:
+            stack.callback(self.close)
+            for port in self.paths:
+                self.begin(port)
+            stack.pop_all()
+        return self
+
+    def __exit__(self, kind: type[BaseException] | None, error: BaseException | None,
+                 trace: TracebackType | None) -> None:
+        self.close()
+
+    def begin(self, port: str) -> None:
+        """Begins the new file of a port, without frames."""
+        path = self.paths[port]
+        try:
+            if path.is_dir():
+                raise IsADirectoryError(errno.EISDIR, os.strerror(errno.EISDIR))
+            for folder in [one for one in [*reversed(path.parent.parents), path.parent] if not one.exists()]:
+                folder.mkdir()
+                self.folders.append(folder)
+            self.files[port] = tempfile.NamedTemporaryFile(dir=path.parent, prefix=f".{path.name}.", delete=False)
+        except OSError as error:
+            raise failing(self.command, f"cannot write {path}", error) from error
+        self.write(port, WRITTEN)
+
+    def write(self, port: str, text: bytes | bytearray) -> None:
+        try:
+            self.files[port].write(text)
+        except OSError as error:
+            raise failing(self.command, f"cannot write {self.paths[port]}", error) from error
+
+    def put(self) -> None:
+        """Has the device take all files, then moves each onto its name, in order of the ports."""
+        for port, path in self.paths.items():
+            try:
+                self.files[port].flush()
+                os.fchmod(self.files[port].fileno(), 0o666 & ~umask())
+                os.fsync(self.files[port].fileno())
+            except OSError as error:
+                raise failing(self.command, f"cannot write {path}", error) from error
+        for port, path in self.paths.items():
+            try:
+                os.replace(self.files[port].name, path)
+            except OSError as error:
+                raise failing(self.command, f"cannot write {path}", error) from error
+
+    def close(self) -> None:
+        """Closes the new files, and removes those that have not been moved, and the folders that are empty then."""
+        for file in self.files.values():
+            with suppress(OSError):  # what could not be written is removed
+                file.close()
+            Path(file.name).unlink(missing_ok=True)
+        for folder in reversed(self.folders):
+            if not any(folder.iterdir()):
+                folder.rmdir()

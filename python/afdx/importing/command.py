@@ -1,0 +1,109 @@
+"""The command afdx-import."""
+import argparse
+import sys
+from collections.abc import Sequence
+from glob import glob
+from pathlib import Path
+
+from tqdm import tqdm  # type: ignore[import]
+
+from afdx.failure import DEVICE, INPUT, Failure, failing, say
+from afdx.importing.alignment import Alignment, Unaligned, aligned, sightings
+from afdx.importing.captures import Captures
+from afdx.importing.report import alignment_text, notes, port_line
+from afdx.importing.rules import Rules, RulesFault, rules_of
+from afdx.importing.running import Import
+from afdx.recordings.faults import RecordingFault
+
+COMMAND = "afdx-import"
+
+
+def options_of(arguments: Sequence[str]) -> argparse.Namespace:
+    parser = argparse.ArgumentParser(
+        prog=COMMAND, description="Makes the captures that afdx reads of recordings as they come.",
+        usage="%(prog)s [-h] RULES.toml RAW IN\n       %(prog)s --align A B")
+    parser.add_argument("rules", metavar="RULES.toml", type=Path, nargs="?",
+                        help="which frames of which recordings come to which port")
+    parser.add_argument("raw", metavar="RAW", type=Path, nargs="?", help="the folder of the recordings")
+    parser.add_argument("folder", metavar="IN", type=Path, nargs="?",
+                        help="the folder of the captures; it is made if it is not there")
+    parser.add_argument("--align", metavar=("A", "B"), type=Path, nargs=2,
+                        help="prints the rules that bring recording B to the clock of A, by the frames of both")
+    options = parser.parse_args(arguments)
+    if (options.align is None) == (options.folder is None) or options.align and options.rules:
+        parser.error("either RULES.toml, RAW and IN, or --align A B")
+    return options
+
+
+def rules_in(path: Path) -> Rules:
+    try:
+        return rules_of(path.read_bytes())
+    except OSError as error:
+        raise failing(COMMAND, f"cannot read {path}", error) from error
+    except RulesFault as fault:
+        raise Failure(INPUT, *(f"{COMMAND}: {what}, {path}" for what in fault.faults)) from fault
+
+
+def recordings_of(rules: Rules, raw: Path) -> list[list[Path]]:
+    """Answers the files of each source, by name."""
+    if not raw.is_dir():
+        raise Failure(DEVICE, f"{COMMAND}: no folder {raw}")
+    found = [[raw / name for name in sorted(glob(source.file, root_dir=raw)) if (raw / name).is_file()]
+             for source in rules.sources]
+    missing = [f"{COMMAND}: no recording {source.file}, source {number}, {raw}"
+               for number, (source, paths) in enumerate(zip(rules.sources, found), 1) if not paths]
+    if missing:
+        raise Failure(INPUT, *missing)
+    return found
+
+
+def refuse_replacing(captures: Captures, found: list[list[Path]]) -> None:
+    """Refuses to put a capture in the place of a recording."""
+    read = {path.resolve() for paths in found for path in paths}
+    for path in captures.paths.values():
+        if path.resolve() in read:
+            raise Failure(DEVICE, f"{COMMAND}: a recording would be replaced, {path}")
+
+
+def import_all(rules: Rules, raw: Path, folder: Path) -> Import:
+    """Makes all captures, or none."""
+    found = recordings_of(rules, raw)
+    captures = Captures(COMMAND, folder, rules.ports)
+    refuse_replacing(captures, found)
+    with captures:
+        try:
+            done = Import(rules, raw, found, captures.write)
+            size = sum(path.stat().st_size for path in done.readings)
+            with tqdm(total=size, unit="B", unit_scale=True, desc=COMMAND, leave=False, disable=None) as bar:
+                done.run(bar.update)
+        except OSError as error:
+            raise failing(COMMAND, f"cannot read {error.filename}", error) from error
+        if done.faults:
+            raise Failure(INPUT, *(f"{COMMAND}: {fault}" for fault in done.faults))
+        captures.put()
+    return done
+
+
+def align(paths: list[Path]) -> Alignment:
+    """Answers how the second recording comes to the clock of the first one."""
+    try:
+        return aligned(sightings(paths[0]), sightings(paths[1]))
+    except OSError as error:
+        raise failing(COMMAND, f"cannot read {error.filename}", error) from error
+    except RecordingFault as fault:
+        raise Failure(INPUT, f"{COMMAND}: {fault}") from fault
+    except Unaligned as what:
+        raise Failure(INPUT, f"{COMMAND}: {what}, {paths[0]} and {paths[1]}") from what
+
+
+def main(arguments: Sequence[str]) -> int:
+    """Runs the command; answers its exit status."""
+    options = options_of(arguments)
+    if options.align:
+        say(COMMAND, alignment_text(options.align[0], options.align[1], align(options.align)))
+        return 0
+    done = import_all(rules_in(options.rules), options.raw, options.folder)
+    for note in notes(done):
+        print(f"{COMMAND}: {note}", file=sys.stderr)
+    say(COMMAND, "".join(f"{port_line(name, port)}\n" for name, port in done.ports.items()))
+    return 0

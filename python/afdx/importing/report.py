@@ -1,0 +1,81 @@
+"""What is said of an import: a line for each port, and what a user should look at."""
+from collections.abc import Iterator
+from pathlib import Path
+
+import numpy as np
+
+from afdx.importing.alignment import Alignment
+from afdx.importing.instants import instant
+from afdx.importing.running import Import, Reading
+from afdx.importing.taking import Port, Taker
+from afdx.recordings.columns import SECOND
+
+MOST_NAMED = 8  # end systems that are named in a warning
+
+
+def port_line(name: str, port: Port) -> str:
+    """Answers the line of a port."""
+    some = "stripped" if port.stripped == port.frames else f"stripped-of-{port.stripped}"
+    fcs = some if port.stripped else "none"
+    first, last = (instant(port.first), instant(port.last)) if port.frames else ("-", "-")
+    return (f"{name} frames {port.frames} reordered {port.ordering.reordered} cut {port.cut} fcs {fcs} "
+            f"first {first} last {last}")
+
+
+def notes(done: Import) -> Iterator[str]:
+    """Answers what was found out of the recordings, and what may be wrong with them."""
+    for reading in done.readings.values():
+        if reading.recording.broken:
+            yield f"warning: breaks off; what was whole before is used, {reading.recording.broken}"
+        yield from check_sequence_notes(reading)
+        if reading.left:
+            yield left_note(reading)
+    for _, taker in done.takers:
+        if taker.source.interface is not None and not any(map(taker.is_asked, taker.recording.interfaces)):
+            yield interface_note(taker)
+    yield from port_notes(done.ports)
+
+
+def check_sequence_notes(reading: Reading) -> Iterator[str]:
+    """Answers of which interfaces check sequences were taken off, and where frames differ."""
+    for place, check in reading.checks.items():
+        if check.right:
+            warning = "" if check.right == check.looked else "warning: "
+            what = "taken off all" if check.are_there else "none taken off"
+            interface = reading.recording.interfaces[place].number
+            yield (f"{warning}{check.right} of {check.looked} frames looked at end with their check sequence, {what}, "
+                   f"{reading.recording.name}, interface {interface}")
+
+
+def left_note(reading: Reading) -> str:
+    """Answers which frames no source takes."""
+    named = " ".join(str(number) if number >= 0 else "none" for number in sorted(reading.left)[:MOST_NAMED])
+    more = " .." if len(reading.left) > MOST_NAMED else ""
+    return (f"{reading.left.total()} of {reading.frames} frames are taken by no source, end systems {named}{more}, "
+            f"{reading.recording.name}")
+
+
+def interface_note(taker: Taker) -> str:
+    """Answers that a source's interface is not there."""
+    there = ", ".join(f"{interface.number} {interface.name!r}" for interface in taker.recording.interfaces)
+    return f"warning: no interface {taker.source.interface!r}; there are: {there or 'none'}, {taker.recording.name}"
+
+
+def port_notes(ports: dict[str, Port]) -> Iterator[str]:
+    """Answers where networks are mixed, and where clocks may be apart."""
+    for name, port in ports.items():
+        if all(port.networks.values()):
+            counts = " and ".join(f"{count} of network {network}" for network, count in port.networks.items())
+            yield f"warning: frames of both networks: {counts}, {name}"
+    firsts = sorted((port.first, name) for name, port in ports.items() if port.frames)
+    if firsts and firsts[-1][0] - firsts[0][0] > SECOND:
+        apart = (firsts[-1][0] - firsts[0][0]) / SECOND
+        yield f"warning: the first frames lie {apart:.3f} s apart, {firsts[0][1]} and {firsts[-1][1]}"
+
+
+def alignment_text(first: Path, second: Path, found: Alignment) -> str:
+    """Answers the rules for the second recording, to be pasted, with what they rest on."""
+    least, low, high, greatest = (round(part) for part in np.percentile(found.residues, [0, 25, 75, 100]))
+    return (f"# {second} by the clock of {first}: {found.pairs} frames in both, over {found.seconds:.3f} s\n"
+            f"# beside this they differ by {least} to {greatest} ns, half of them by {low} to {high} ns\n"
+            f"offset_ns = {found.offset_ns}\ndrift_ppb = {found.drift_ppb}\n")

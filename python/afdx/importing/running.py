@@ -1,0 +1,107 @@
+"""Goes over all recordings once, those that began first before the others, and fills the ports."""
+import heapq
+from collections import Counter
+from collections.abc import Callable
+from functools import partial
+from pathlib import Path
+
+import numpy as np
+
+from afdx.importing.frames import CheckSequences, origins
+from afdx.importing.ordering import LONG_AGO, Ordering
+from afdx.importing.rules import Rules, Source
+from afdx.importing.taking import Port, Taker, corrected
+from afdx.recordings.faults import RecordingFault
+from afdx.recordings.reading import PIECE, Recording
+
+FIRST_LOOK = 64 * 1024  # bytes in which a recording's first record is looked for at a time
+
+
+def first_stamp(path: Path) -> int | None:
+    """Answers the stamp of a recording's first record; None if it has none, or a fault before it."""
+    batches = Recording(path, path.name, FIRST_LOOK).batches()
+    try:
+        return next((int(batch.stamp[0]) for batch in batches if len(batch.stamp)), None)
+    except RecordingFault:
+        return None
+
+
+class Reading:
+    """Is a recording that is being read, with what takes frames of it."""
+
+    def __init__(self, recording: Recording, begin: int | None) -> None:
+        self.recording = recording
+        self.takers: list[Taker] = []
+        self.checks: dict[int, CheckSequences] = {}
+        self.newest = begin  # stamp by the recorder's clock
+        self.frames = 0
+        self.left: Counter[int] = Counter()  # frames that no source takes, by their end system
+        self.batches = recording.batches()
+        self.ended = False
+
+    def step(self) -> None:
+        """Takes the next batch to its ports."""
+        batch = next(self.batches, None)
+        if batch is None:
+            self.ended = True
+        elif len(batch.stamp):
+            self.newest = max(self.newest or 0, int(batch.stamp.max()))
+            self.frames += len(batch.stamp)
+            is_left = np.full(len(batch.stamp), True)
+            for taken in (taken for taker in self.takers for taken in taker.take(batch)):
+                is_left[taken] = False
+            self.left.update(origins(batch, np.flatnonzero(is_left))[0].tolist())
+
+    def progress(self, taker: Taker) -> int:
+        """Answers how far the recording has come, by the clock that the taker's stamps have."""
+        if self.newest is None:
+            return LONG_AGO
+        return int(corrected(np.array([self.newest]), taker.source, taker.anchor)[0])
+
+
+class Import:
+    """Takes the frames of all recordings to their ports."""
+
+    def __init__(self, rules: Rules, raw: Path, found: list[list[Path]],
+                 write: Callable[[str, bytearray], None], piece: int = PIECE) -> None:
+        self.ports = {name: Port(Ordering(name, rules.window_ms, partial(write, name))) for name in rules.ports}
+        first = {path: first_stamp(path) for path in dict.fromkeys(path for paths in found for path in paths)}
+        self.readings = {path: Reading(Recording(path, str(path.relative_to(raw)), piece), begin)
+                         for path, begin in first.items()}
+        self.takers: list[tuple[Reading, Taker]] = []
+        for source, paths in zip(rules.sources, found):
+            anchor = min((begin for path in paths if (begin := first[path]) is not None), default=0)
+            for path in paths:
+                self.add(self.readings[path], source, anchor)
+        self.faults: list[RecordingFault] = []
+
+    def add(self, reading: Reading, source: Source, anchor: int) -> None:
+        taker = Taker(len(self.takers), source, anchor, reading.recording, reading.checks, self.ports)
+        reading.takers.append(taker)
+        self.takers.append((reading, taker))
+
+    def run(self, say: Callable[[int], None]) -> None:
+        """Reads all recordings; says of each step how many bytes were read. Faults are kept, one of each recording."""
+        readings = list(self.readings.values())
+        queue = [(self.key(reading), index) for index, reading in enumerate(readings)]
+        heapq.heapify(queue)
+        while queue:
+            _, index = heapq.heappop(queue)
+            reading, before = readings[index], readings[index].recording.read
+            self.step(reading)
+            say(reading.recording.read - before)
+            if not reading.ended:
+                heapq.heappush(queue, (self.key(reading), index))
+
+    def step(self, reading: Reading) -> None:
+        try:
+            reading.step()
+        except RecordingFault as fault:
+            self.faults.append(fault)
+            reading.ended = True
+        for port in dict.fromkeys(port for taker in reading.takers for port in taker.names):
+            self.ports[port].ordering.settle({taker.number: other.progress(taker) for other, taker in self.takers
+                                              if not other.ended and port in taker.names})
+
+    def key(self, reading: Reading) -> int:
+        return min((reading.progress(taker) for taker in reading.takers), default=LONG_AGO)

@@ -1,0 +1,46 @@
+"""What a reader hands on: many records at once, each field of theirs a column."""
+from dataclasses import dataclass
+from typing import Any
+
+import numpy as np
+import numpy.typing as npt
+
+Column = npt.NDArray[np.int64]
+
+SECOND = 1_000_000_000
+END_OF_STAMPS = 4_294_967_295 * SECOND  # afdx reads no stamp from here on
+ROOM = 16  # bytes before each frame's first one: enough for a record's header
+
+
+@dataclass(frozen=True)
+class Interface:
+    """A line that was recorded: its number in its section, its name if the recording has one, its link type."""
+    number: int
+    name: str
+    link_type: int
+
+
+@dataclass(frozen=True)
+class Batch:
+    """Records that lie whole in one piece of a recording."""
+    data: bytes
+    number: Column  # of the record, of the block in pcapng; from 1
+    offset: Column  # of the record in the recording, as it is when unpacked
+    start: Column  # of the frame's first byte in data
+    captured: Column
+    original: Column  # at least captured
+    stamp: Column  # ns
+    interface: Column  # its place among the reader's interfaces
+
+
+def at_any(data: bytes | bytearray, kind: str, begin: int = 0) -> npt.NDArray[Any]:
+    """Answers what of this kind lies at each place of data from `begin` on; neighbours overlap."""
+    size = np.dtype(kind).itemsize
+    found: npt.NDArray[Any] = np.ndarray((max(len(data) - begin - size + 1, 0),), kind, data, begin, (1,))
+    return found
+
+
+def words(data: bytes, at: Column, count: int, order: str) -> npt.NDArray[np.uint32]:
+    """Answers the words of 4 bytes from each of these places on, a row for each."""
+    picked = at_any(data, f"V{4 * count}")[at]
+    return picked.view(f"{order}u4").reshape(len(at), count).astype(np.uint32, copy=False)

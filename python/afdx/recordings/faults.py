@@ -1,0 +1,24 @@
+"""What may be wrong with a recording."""
+from dataclasses import dataclass
+
+
+@dataclass(frozen=True)
+class Place:
+    """A record, a block of pcapng, or a header, in a file; the offset is that in the recording when unpacked."""
+    file: str
+    what: str  # "record 17", "block 3", "header"
+    offset: int
+
+    def __str__(self) -> str:
+        return f"{self.file}, {self.what}, offset {self.offset}"
+
+
+class RecordingFault(Exception):
+    """Is raised for a recording that cannot be used, from its fault on."""
+
+    def __init__(self, what: str, place: Place) -> None:
+        super().__init__(f"{what}, {place}")
+
+
+class Damaged(Exception):
+    """Is raised for compressed bytes that cannot be unpacked."""

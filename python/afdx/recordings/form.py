@@ -1,0 +1,50 @@
+"""What all formats of recordings have in common."""
+from abc import ABC, abstractmethod
+from collections.abc import Iterator
+
+import numpy as np
+import numpy.typing as npt
+
+from afdx.recordings.columns import END_OF_STAMPS, Batch, Column, Interface
+from afdx.recordings.faults import Place, RecordingFault
+
+MOST_CAPTURED = 262_144
+
+
+class Form(ABC):
+    """Takes pieces of one recording, and answers the records that lie whole in them."""
+
+    unit: str  # what its records are counted by
+
+    def __init__(self, name: str) -> None:
+        self.name = name
+        self.interfaces: list[Interface] = []
+        self.count = 0  # of records that were read
+        self.offset = 0  # of the record after them
+        self.used = 0  # bytes of the last data that are not needed again
+
+    @property
+    def ends_within(self) -> bool:
+        """Whether the recording would break off here, though all bytes were used."""
+        return False
+
+    @abstractmethod
+    def batches(self, data: bytes) -> Iterator[Batch]:
+        """Answers the records that lie whole in data, which follows what was used before."""
+
+    def place(self, number: int, offset: int) -> Place:
+        return Place(self.name, f"{self.unit} {number}", offset)
+
+    def next_place(self) -> Place:
+        return self.place(self.count + 1, self.offset)
+
+    def refuse(self, faulty: npt.NDArray[np.bool_], number: Column, offset: Column, what: str, of: Column) -> None:
+        """Raises the fault of the first record that has it; `{}` in its text is the record's number in `of`."""
+        if faulty.any():
+            first = int(faulty.argmax())
+            raise RecordingFault(what.format(int(of[first])), self.place(int(number[first]), int(offset[first])))
+
+    def refuse_late(self, stamp: Column, number: Column, offset: Column) -> None:
+        """Refuses stamps that no capture can have."""
+        outside = (stamp < 0) | (stamp >= END_OF_STAMPS)
+        self.refuse(outside, number, offset, "a stamp before 1970 or after 2106", stamp)

@@ -1,0 +1,71 @@
+"""Reads pcap 2.4, of microseconds or nanoseconds, in either byte order, and writes what afdx reads."""
+import struct
+from collections.abc import Iterator
+from typing import Self
+
+import numpy as np
+import numpy.typing as npt
+
+from afdx.recordings.columns import SECOND, Batch, Column, Interface, words
+from afdx.recordings.faults import Place, RecordingFault
+from afdx.recordings.form import MOST_CAPTURED, Form
+from afdx.recordings.walking import RECORD, records_of
+
+HEADER = 24
+# the first four bytes: the byte order, and the nanoseconds of a unit of the fraction
+MAGICS = {
+    bytes.fromhex("a1b2c3d4"): (">", 1000),
+    bytes.fromhex("d4c3b2a1"): ("<", 1000),
+    bytes.fromhex("a1b23c4d"): (">", 1),
+    bytes.fromhex("4d3cb2a1"): ("<", 1),
+}
+LINK_TYPE = 0x03FF_FFFF  # the rest of its word may say how long a check sequence the frames have
+WRITTEN = struct.pack("<IHHiIII", 0xA1B23C4D, 2, 4, 0, 0, MOST_CAPTURED, 1)  # a capture without records
+
+
+class Pcap(Form):
+    """Reads the records of pcap."""
+
+    unit = "record"
+
+    def __init__(self, name: str, header: bytes) -> None:
+        super().__init__(name)
+        self.order, self.fraction = MAGICS[header[:4]]
+        major, minor, link_type = struct.unpack(f"{self.order}4xHH12xI", header)
+        if (major, minor) != (2, 4):
+            raise RecordingFault(f"pcap version {major}.{minor}", Place(name, "header", 4))
+        self.interfaces = [Interface(0, "", link_type & LINK_TYPE)]
+        self.offset = self.used = HEADER
+
+    @classmethod
+    def of(cls, begin: bytes, name: str) -> Self | None:
+        """Answers the reader of a recording that begins so, if it is pcap with a whole header."""
+        return cls(name, begin[:HEADER]) if begin[:4] in MAGICS and len(begin) >= HEADER else None
+
+    def batches(self, data: bytes) -> Iterator[Batch]:
+        at, after = records_of(data, self.order)
+        number, offset = self.count + 1 + np.arange(len(at)), self.offset + at
+        fields = words(data, at, 4, self.order).astype(np.int64)
+        self.refuse(fields[:, 2] > MOST_CAPTURED, number, offset, "{} bytes captured", fields[:, 2])
+        places, whole = at, len(at) - (after > len(data))
+        at, number, offset, fields = at[:whole], number[:whole], offset[:whole], fields[:whole]
+        nanos = fields[:, 1] * self.fraction
+        self.refuse(nanos >= SECOND, number, offset, "a fraction of {} ns", nanos)
+        stamp = fields[:, 0] * SECOND + nanos
+        self.refuse_late(stamp, number, offset)
+        captured = fields[:, 2]
+        self.count += whole
+        self.used = after if whole == len(places) else int(places[-1])
+        self.offset += self.used
+        yield Batch(data, number, offset, at + RECORD, captured, np.maximum(fields[:, 3], captured), stamp,
+                    np.zeros(whole, np.int64))
+
+
+def headers(stamp: Column, captured: Column, original: Column) -> npt.NDArray[np.void]:
+    """Answers the headers of records as afdx writes them."""
+    fields = np.empty((len(stamp), 4), "<u4")
+    fields[:, 0], fields[:, 1] = np.divmod(stamp, SECOND)
+    fields[:, 2] = captured
+    fields[:, 3] = original
+    made: npt.NDArray[np.void] = fields.view(f"V{RECORD}")[:, 0]
+    return made

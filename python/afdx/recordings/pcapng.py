@@ -1,0 +1,231 @@
+"""Reads pcapng: its packets with their interfaces; blocks that hold no packet are passed over."""
+import struct
+from collections.abc import Iterator
+from typing import Self
+
+import numpy as np
+import numpy.typing as npt
+
+from afdx.recordings.columns import SECOND, Batch, Column, Interface, words
+from afdx.recordings.faults import RecordingFault
+from afdx.recordings.form import MOST_CAPTURED, Form
+
+SECTION, INTERFACE, OLD_PACKET, SIMPLE, PACKET = 0x0A0D0D0A, 1, 2, 3, 6
+IN_TURN = {SECTION, INTERFACE, SIMPLE}  # blocks that are taken one by one
+READ = {SECTION, INTERFACE, OLD_PACKET, SIMPLE, PACKET}
+MAGIC = struct.pack("<I", SECTION)
+ORDERS = {bytes.fromhex("1a2b3c4d"): ">", bytes.fromhex("4d3c2b1a"): "<"}
+LEAST, MOST = 12, 1024 * 1024  # bytes of a block that is read; others may be longer
+BEFORE_FRAME, AROUND_FRAME = 28, 32  # bytes of a packet's block before its frame, and in all beside it
+NAME, RESOLUTION, SECONDS_LATER = 2, 9, 14  # options of an interface
+LAST_POWER_OF_TEN, LAST_POWER_OF_TWO = 19, 63  # of the resolutions whose seconds 64 bits hold
+
+
+class Clock:
+    """Is an interface's unit of time: a power of 10 or of 2 to a second; and the seconds to be added."""
+
+    def __init__(self, resolution: int = 6, seconds_later: int = 0) -> None:
+        self.power = resolution & 0x7F
+        self.binary = resolution >= 0x80
+        self.seconds_later = seconds_later
+
+    @property
+    def is_usable(self) -> bool:
+        most = LAST_POWER_OF_TWO if self.binary else LAST_POWER_OF_TEN
+        return self.power <= most and abs(self.seconds_later) < 2**33
+
+    def nanoseconds(self, units: npt.NDArray[np.uint64]) -> Column:
+        """Answers stamps in ns, rounded down; one that is too late for a capture is past all others."""
+        a_second = np.uint64((2 if self.binary else 10) ** self.power)
+        seconds, fraction = np.divmod(units, a_second)
+        seconds = np.minimum(seconds, np.uint64(2**33)).astype(np.int64) + self.seconds_later
+        return np.clip(seconds, -1, 2**32) * SECOND + self.nanos(fraction).astype(np.int64)
+
+    def nanos(self, fraction: npt.NDArray[np.uint64]) -> npt.NDArray[np.uint64]:
+        """Answers a fraction of a second in ns, rounded down, without passing 64 bits."""
+        if not self.binary:
+            finer = self.power - 9
+            return fraction // np.uint64(10 ** finer) if finer > 0 else fraction * np.uint64(10 ** -finer)
+        low = np.uint64(max(self.power - 34, 0))
+        high = np.uint64(min(self.power, 34))
+        whole = fraction >> low
+        part = ((fraction & ((np.uint64(1) << low) - np.uint64(1))) * np.uint64(SECOND)) >> low
+        return (whole * np.uint64(SECOND) + part) >> high
+
+
+class Pcapng(Form):
+    """Reads the blocks of pcapng."""
+
+    unit = "block"
+
+    def __init__(self, name: str) -> None:
+        super().__init__(name)
+        self.order = "<"
+        self.section = 0  # the place of the section's first interface
+        self.clocks: list[Clock] = []
+        self.long = 0  # length of a long block that is being passed over
+        self.passing = 0  # bytes of it until its length is there once more
+
+    @classmethod
+    def of(cls, begin: bytes, name: str) -> Self | None:
+        """Answers the reader of a recording that begins so, if it is pcapng."""
+        return cls(name) if begin[:4] == MAGIC else None
+
+    @property
+    def ends_within(self) -> bool:
+        return self.long > 0
+
+    def batches(self, data: bytes) -> Iterator[Batch]:
+        at = self.passed(data)
+        base = self.offset - (at or 0)
+        while at is not None:
+            places, at = walk(data, at, self.order)
+            if places:
+                yield self.packets(data, np.array(places, np.int64), base)
+            self.used, self.offset = at, base + at
+            at = self.in_turn(data, at)
+
+    def packets(self, data: bytes, at: Column, base: int) -> Batch:
+        """Answers the packets of these blocks."""
+        number, offset = self.count + 1 + np.arange(len(at)), base + at
+        head = words(data, at, 2, self.order).astype(np.int64)
+        kind, size = head[:, 0], head[:, 1]
+        again = words(data, at + size - 4, 1, self.order)[:, 0]
+        self.refuse(again != size, number, offset, "a block's length of {} bytes is not that at its end", size)
+        self.count += len(at)
+
+        mine = (kind == PACKET) | (kind == OLD_PACKET)
+        at, number, offset, kind, size = at[mine], number[mine], offset[mine], kind[mine], size[mine]
+        self.refuse((size < AROUND_FRAME) | (size > MOST), number, offset, "a packet's block of {} bytes", size)
+        fields = words(data, at, BEFORE_FRAME // 4, self.order).astype(np.int64)
+        captured = fields[:, 5]
+        self.refuse(captured > MOST_CAPTURED, number, offset, "{} bytes captured", captured)
+        self.refuse(captured > size - AROUND_FRAME, number, offset, "{} bytes captured, past the block's end", captured)
+        short = fields[:, 2] & 0xFFFF if self.order == "<" else fields[:, 2] >> 16
+        interface = self.section + np.where(kind == PACKET, fields[:, 2], short)
+        self.refuse(interface >= len(self.interfaces), number, offset, "interface {} is not declared", interface)
+        stamp = self.stamps(fields, interface)
+        self.refuse_late(stamp, number, offset)
+        original = np.maximum(fields[:, 6], captured)
+        return Batch(data, number, offset, at + BEFORE_FRAME, captured, original, stamp, interface)
+
+    def stamps(self, fields: Column, interface: Column) -> Column:
+        """Answers the packets' stamps, each by its interface's clock."""
+        units = (fields[:, 3].astype(np.uint64) << np.uint64(32)) | fields[:, 4].astype(np.uint64)
+        stamp = np.empty(len(units), np.int64)
+        for place in np.unique(interface):
+            its = interface == place
+            stamp[its] = self.clocks[place].nanoseconds(units[its])
+        return stamp
+
+    def in_turn(self, data: bytes, at: int) -> int | None:
+        """Takes the block at this place; answers where the next one begins, or None if more bytes are needed."""
+        if len(data) - at < LEAST:
+            return None
+        if data[at:at + 4] == MAGIC:
+            self.order = self.order_of(data[at + 8:at + 12])
+        kind: int
+        size: int
+        kind, size = struct.unpack_from(f"{self.order}II", data, at)
+        if size < LEAST or size % 4:
+            raise self.fault(f"a block's length of {size} bytes")
+        if kind not in READ:
+            self.pass_over(size, len(data) - at)
+            return None
+        if size > MOST:
+            raise self.fault(f"a block of {size} bytes")
+        if len(data) - at < size:
+            return None
+        self.take(kind, data[at:at + size])
+        self.count += 1
+        self.used, self.offset = at + size, self.offset + size
+        return at + size
+
+    def take(self, kind: int, block: bytes) -> None:
+        """Takes a section's or an interface's block."""
+        if struct.unpack(f"{self.order}I", block[-4:])[0] != len(block):
+            raise self.fault(f"a block's length of {len(block)} bytes is not that at its end")
+        if kind == SIMPLE:
+            raise self.fault("a simple packet block: its packet has no stamp")
+        if len(block) < (28 if kind == SECTION else 20):
+            raise self.fault(f"a block of {len(block)} bytes, too short for its kind")
+        if kind == INTERFACE:
+            self.add_interface(block)
+            return
+        self.section = len(self.interfaces)
+        major, = struct.unpack_from(f"{self.order}H", block, 12)
+        if major != 1:
+            raise self.fault(f"pcapng version {major}")
+
+    def add_interface(self, block: bytes) -> None:
+        link_type, = struct.unpack_from(f"{self.order}H", block, 8)
+        options = self.options(block[16:-4])
+        resolution, later = options.get(RESOLUTION, b"\6"), options.get(SECONDS_LATER, bytes(8))
+        if len(resolution) != 1 or len(later) != 8:
+            raise self.fault("an interface's option of a wrong length")
+        clock = Clock(resolution[0], struct.unpack(f"{self.order}q", later)[0])
+        if not clock.is_usable:
+            raise self.fault(f"an interface's clock of resolution {resolution[0]}, {clock.seconds_later} s later")
+        name = options.get(NAME, b"").rstrip(b"\0").decode("utf-8", "replace")
+        self.interfaces.append(Interface(len(self.interfaces) - self.section, name, link_type))
+        self.clocks.append(clock)
+
+    def options(self, text: bytes) -> dict[int, bytes]:
+        """Answers a block's options, of a repeated one the first."""
+        found: dict[int, bytes] = {}
+        at = 0
+        while at + 4 <= len(text):
+            code, length = struct.unpack_from(f"{self.order}HH", text, at)
+            if code == 0:
+                break
+            if at + 4 + length > len(text):
+                raise self.fault(f"option {code} of {length} bytes, past the block's end")
+            found.setdefault(code, text[at + 4:at + 4 + length])
+            at += 4 + length + -length % 4
+        return found
+
+    def order_of(self, magic: bytes) -> str:
+        if magic not in ORDERS:
+            raise self.fault(f"byte-order magic {magic.hex()}")
+        return ORDERS[magic]
+
+    def pass_over(self, size: int, there: int) -> None:
+        """Begins to pass over a block of which not all bytes are there."""
+        if there < size - 4:
+            self.long, self.passing = size, size - 4 - there
+            self.used += there
+
+    def passed(self, data: bytes) -> int | None:
+        """Goes on passing over a long block; answers where the next one begins, or None if more bytes are needed."""
+        self.used = min(self.passing, len(data))
+        self.passing -= self.used
+        if not self.long:
+            return 0
+        if self.passing or len(data) - self.used < 4:
+            return None
+        if struct.unpack_from(f"{self.order}I", data, self.used)[0] != self.long:
+            raise self.fault(f"a block's length of {self.long} bytes is not that at its end")
+        self.count += 1
+        self.offset += self.long
+        self.long = 0
+        self.used += 4
+        return self.used
+
+    def fault(self, what: str) -> RecordingFault:
+        return RecordingFault(what, self.next_place())
+
+
+def walk(data: bytes, at: int, order: str) -> tuple[list[int], int]:
+    """Answers where blocks begin that lie whole in data, up to one that is taken in turn or has a wrong length."""
+    head = struct.Struct(f"{order}II").unpack_from
+    end = len(data)
+    last = end - LEAST
+    places: list[int] = []
+    add = places.append
+    while at <= last:
+        kind, size = head(data, at)
+        if kind in IN_TURN or size < LEAST or size & 3 or at + size > end:
+            break
+        add(at)
+        at += size
+    return places, at

@@ -1,0 +1,145 @@
+"""Reads a file's bytes, unpacked where they are compressed by gzip, zstd or xz, in bounded memory."""
+import lzma
+import zlib
+from collections.abc import Callable
+from typing import BinaryIO, Protocol
+
+import zstandard
+
+from afdx.recordings.faults import Damaged
+
+PIECE = 64 * 1024  # compressed bytes that are read at once
+ZSTD_PIECE = 2 * 1024  # its library answers all that a piece unpacks to, which may be 30,000 times as much
+MEMORY = 256 * 1024 * 1024  # the most that unpacking may take
+
+
+class Unpacker(Protocol):
+    """Unpacks one member of a compressed file."""
+
+    @property
+    def eof(self) -> bool: ...
+
+    @property
+    def unused_data(self) -> bytes: ...
+
+    def unpack(self, packed: bytes, most: int) -> tuple[bytes, bytes]:
+        """Answers what was unpacked and what is left of the packed bytes."""
+
+
+class Gzip:
+    """Unpacks gzip."""
+
+    def __init__(self) -> None:
+        self.library = zlib.decompressobj(wbits=31)
+
+    @property
+    def eof(self) -> bool:
+        return self.library.eof
+
+    @property
+    def unused_data(self) -> bytes:
+        return self.library.unused_data
+
+    def unpack(self, packed: bytes, most: int) -> tuple[bytes, bytes]:
+        data = self.library.decompress(packed, most)
+        return data, b"" if self.library.eof else self.library.unconsumed_tail
+
+
+class Xz:
+    """Unpacks xz, whose library keeps what is left."""
+
+    def __init__(self) -> None:
+        self.library = lzma.LZMADecompressor(lzma.FORMAT_XZ, memlimit=MEMORY)
+
+    @property
+    def eof(self) -> bool:
+        return self.library.eof
+
+    @property
+    def unused_data(self) -> bytes:
+        return self.library.unused_data
+
+    def unpack(self, packed: bytes, most: int) -> tuple[bytes, bytes]:
+        return self.library.decompress(packed, most), b""
+
+
+class Zstd:
+    """Unpacks zstd, of small pieces."""
+
+    def __init__(self) -> None:
+        self.library = zstandard.ZstdDecompressor(max_window_size=MEMORY // 2).decompressobj()
+
+    @property
+    def eof(self) -> bool:
+        return bool(self.library.eof)
+
+    @property
+    def unused_data(self) -> bytes:
+        return bytes(self.library.unused_data)
+
+    def unpack(self, packed: bytes, most: int) -> tuple[bytes, bytes]:
+        return self.library.decompress(packed[:ZSTD_PIECE]), packed[ZSTD_PIECE:]
+
+
+FORMATS: list[tuple[bytes, Callable[[], Unpacker]]] = [
+    (bytes.fromhex("1f8b"), Gzip),
+    (bytes.fromhex("28b52ffd"), Zstd),
+    (bytes.fromhex("fd377a585a00"), Xz),
+]
+MAGIC = 6  # bytes of the longest magic
+
+
+class Unpacked:
+    """Is what a file has, unpacked. After its end `cut` says whether the file ends within compressed bytes."""
+
+    def __init__(self, file: BinaryIO) -> None:
+        self.file = file
+        self.cut = False
+        self.packed = file.read(MAGIC)
+        self.format = next((made for magic, made in FORMATS if self.packed.startswith(magic)), None)
+        self.member = self.format() if self.format else None
+        self.ended = False
+
+    def read(self, most: int) -> bytes:
+        """Answers the next bytes: as many as were asked for, fewer only at the end."""
+        if self.format is None:
+            begin, self.packed = self.packed, b""
+            return begin + self.file.read(most - len(begin))
+        parts: list[bytes] = []
+        missing = most
+        while missing > 0 and not self.ended:
+            parts.append(self.unpacked(missing))
+            missing -= len(parts[-1])
+        return b"".join(parts)
+
+    def unpacked(self, most: int) -> bytes:
+        """Answers some bytes, or none while more has to be read."""
+        assert self.member is not None
+        if self.member.eof:
+            self.next_member()
+            return b""
+        try:
+            data, self.packed = self.member.unpack(self.packed, most)
+        except (zlib.error, lzma.LZMAError, zstandard.ZstdError) as error:
+            raise Damaged(str(error)) from error
+        if not data and not self.packed and not self.member.eof:
+            self.packed = self.file.read(PIECE)
+            if not self.packed:
+                self.ended = self.cut = True
+        return data
+
+    def next_member(self) -> None:
+        """Begins the member after one that has ended; zeros may lie between them."""
+        assert self.format is not None and self.member is not None
+        rest = (self.member.unused_data + self.packed).lstrip(b"\0")
+        while len(rest) < MAGIC:
+            more = self.file.read(PIECE)
+            if not more:
+                break
+            rest = (rest + more).lstrip(b"\0")
+        magic = next(magic for magic, made in FORMATS if made is self.format)
+        self.ended = not rest or len(rest) < len(magic) and magic.startswith(rest)
+        self.cut = bool(rest) and self.ended
+        if not self.ended and not rest.startswith(magic):
+            raise Damaged("bytes after its end")
+        self.member, self.packed = self.format(), rest

@@ -1,0 +1,1 @@
+"""Compares what the two networks deliver of the same frames."""

@@ -1,0 +1,93 @@
+"""The command afdx-skew."""
+import argparse
+import heapq
+import sys
+from collections.abc import Iterator, Sequence
+from pathlib import Path
+
+from afdx.failure import INPUT, Failure, failing, say
+from afdx.recordings.faults import RecordingFault
+from afdx.recordings.reading import Recording
+from afdx.skew.copies import Copy, Link, Pairing, copy_of
+
+COMMAND = "afdx-skew"
+MILLISECOND = 1_000_000
+NAMES = ("a", "b")
+
+
+def options_of(arguments: Sequence[str]) -> argparse.Namespace:
+    parser = argparse.ArgumentParser(
+        prog=COMMAND, description="Prints, for each link and port, how far apart two networks deliver the same frames.")
+    parser.add_argument("a", metavar="A", type=Path,
+                        help="the folder of network A's outputs, as afdx run or network run puts them")
+    parser.add_argument("b", metavar="B", type=Path, help="the folder of network B's outputs")
+    parser.add_argument("--within-ms", type=int, default=20, metavar="MS",
+                        help="how far apart two copies of a frame may be (%(default)s)")
+    options = parser.parse_args(arguments)
+    if options.within_ms < 0:
+        parser.error("--within-ms is below 0")
+    return options
+
+
+def ports_of(folder: Path) -> set[str]:
+    """Answers the captures that lie in a folder and in those below it."""
+    if not folder.is_dir():
+        raise Failure(INPUT, f"{COMMAND}: no folder {folder}")
+    return {str(path.relative_to(folder).with_suffix("")) for path in folder.rglob("port-*.pcap")}
+
+
+def in_order(port: str) -> tuple[str, int, str]:
+    """Answers what ports are sorted by: their folder, then their number."""
+    folder, _, number = port.rpartition("-")
+    return folder, int(number) if number.isdecimal() else 0, number
+
+
+def copies_of(network: int, path: Path) -> Iterator[Copy]:
+    """Answers the frames of a capture; those without addresses are left out."""
+    recording = Recording(path, str(path))
+    for batch in recording.batches():
+        end = batch.start + batch.captured
+        for stamp, begin, after in zip(batch.stamp.tolist(), batch.start.tolist(), end.tolist()):
+            if copy := copy_of(stamp, network, batch.data[begin:after]):
+                yield copy
+    if recording.broken:
+        print(f"{COMMAND}: warning: breaks off; what was whole before is used, {recording.broken}", file=sys.stderr)
+
+
+def paired(port: str, folders: Sequence[Path], within_ms: int) -> dict[int, Link]:
+    """Answers the links of a port, by number."""
+    paths = [(network, folder / f"{port}.pcap") for network, folder in enumerate(folders)]
+    pairing = Pairing(within_ms * MILLISECOND)
+    both = (copies_of(network, path) for network, path in paths if path.exists())
+    for copy in heapq.merge(*both, key=lambda copy: copy.stamp):
+        pairing.add(copy)
+    pairing.give_up_before(None)
+    return dict(sorted(pairing.links.items()))
+
+
+def line(port: str, number: int, link: Link) -> str:
+    least, greatest = (link.least, link.greatest) if link.pairs else ("-", "-")
+    sides = " ".join(f"only-{name} {side.alone} run-{name} {side.longest}" for name, side in zip(NAMES, link.sides))
+    return f"{port} link {number} pairs {link.pairs} least {least} greatest {greatest} {sides}\n"
+
+
+def main(arguments: Sequence[str]) -> int:
+    """Runs the command; answers its exit status."""
+    options = options_of(arguments)
+    folders = [options.a, options.b]
+    ports = [ports_of(folder) for folder in folders]
+    if not ports[0] | ports[1]:
+        raise Failure(INPUT, f"{COMMAND}: no captures, {options.a} and {options.b}")
+    for folder, missing in zip(folders, (ports[1] - ports[0], ports[0] - ports[1])):
+        for port in sorted(missing, key=in_order):
+            print(f"{COMMAND}: warning: no capture {port}.pcap, {folder}", file=sys.stderr)
+    lines: list[str] = []
+    for port in sorted(ports[0] | ports[1], key=in_order):
+        try:
+            lines += [line(port, number, link) for number, link in paired(port, folders, options.within_ms).items()]
+        except RecordingFault as fault:
+            raise Failure(INPUT, f"{COMMAND}: {fault}") from fault
+        except OSError as error:
+            raise failing(COMMAND, f"cannot read {error.filename}", error) from error
+    say(COMMAND, "".join(lines))
+    return 0

@@ -1,0 +1,107 @@
+"""The offset and the drift between two recorders."""
+import random
+import struct
+import zlib
+from collections.abc import Callable
+from pathlib import Path
+
+import numpy as np
+import plain
+import pytest
+from plain import Record
+
+from afdx.failure import Failure
+from afdx.importing.alignment import MOST_KEPT, Sampler, aligned, sightings
+from afdx.importing.command import main
+
+SECOND = plain.SECOND
+AT = 1_768_471_200 * SECOND
+
+
+def frame(link: int, count: int, size: int = 60) -> bytes:
+    """A frame whose only change is its sequence number, 1 to 255, as an AFDX sender has it."""
+    return (bytes([3, 0, 0, 0, 0, link, 2, 0, 0, 0, 1, 32, 8, 0]) + bytes(size - 15)) + bytes([count % 255 + 1])
+
+
+def traffic(seconds: int, chance: random.Random) -> list[Record]:
+    """Ten links, of which each may send every 2 to 16 ms and mostly does, so that the same bytes come again."""
+    sent = []
+    for link in range(10):
+        gap, count = (2, 4, 8, 16)[link % 4] * 10**6, 0
+        for begin in range(chance.randrange(gap), seconds * SECOND, gap):
+            if chance.random() < 0.9:
+                sent.append(Record(AT + begin + chance.randrange(5000), frame(link, count)))
+                count += 1
+    return sorted(sent, key=lambda one: one.stamp)
+
+
+def other(records: list[Record], offset: int, ppb: int, late: Callable[[], int]) -> list[Record]:
+    """What another recorder has of the same frames, if by its clock they come so much later."""
+    return [Record(one.stamp + offset + (one.stamp - AT) * ppb // SECOND + late(), one.frame) for one in records]
+
+
+@pytest.mark.parametrize("seconds, offset, ppb, noise", [
+    (3, 37_200_000, 20_000, 0), (3, -1_500_000, 0, 1000), (30, 5 * SECOND, -50_000, 20_000),
+    (30, -86_400 * SECOND, 99_000, 100)])
+def test_offset_and_drift_are_found(tmp_path: Path, seconds: int, offset: int, ppb: int, noise: int) -> None:
+    """Every third frame is missing at the second recorder, every fifth at the first. A median of hundreds of frames is
+    far better than one of them: to a tenth of the noise."""
+    chance = random.Random(seconds + ppb)
+    sent = traffic(seconds, chance)
+    (tmp_path / "a").write_bytes(plain.pcap([one for number, one in enumerate(sent) if number % 5]))
+    both = [one for number, one in enumerate(sent) if number % 3]
+    seen = other(both, offset, ppb, lambda: chance.randrange(noise + 1))
+    (tmp_path / "b").write_bytes(plain.pcap(sorted(seen, key=lambda one: one.stamp)))
+    found = aligned(sightings(tmp_path / "a"), sightings(tmp_path / "b"))
+    for one in seen[0], seen[-1]:
+        true = AT + (one.stamp - offset - AT) * SECOND // (SECOND + ppb)
+        moved = one.stamp + found.offset_ns + (one.stamp - seen[0].stamp) * found.drift_ppb // SECOND
+        assert abs(moved - (true - noise // 2)) <= 20 + noise // 10
+    assert found.pairs > 0.99 * sum(1 for number in range(len(sent)) if number % 3 and number % 5)
+    assert abs(-found.drift_ppb - ppb) <= 3 + noise // 10 // seconds + ppb * ppb // SECOND
+
+
+def test_one_mark(tmp_path: Path, capsys: pytest.CaptureFixture[str]) -> None:
+    """A single frame in both tells the offset alone."""
+    (tmp_path / "a").write_bytes(plain.pcap([Record(AT, frame(1, 1)), Record(AT + 5, frame(2, 1))]))
+    (tmp_path / "b").write_bytes(plain.pcapng([Record(AT + 1_500_000, frame(1, 1))], ["x"]))
+    assert main(["--align", str(tmp_path / "a"), str(tmp_path / "b")]) == 0
+    assert capsys.readouterr().out.splitlines() == [
+        f"# {tmp_path}/b by the clock of {tmp_path}/a: 1 frames in both, over 0.000 s",
+        "# beside this they differ by 0 to 0 ns, half of them by 0 to 0 ns", "offset_ns = -1500000", "drift_ppb = 0"]
+
+
+def test_check_sequences_are_left_out(tmp_path: Path) -> None:
+    sent = traffic(1, random.Random(1))
+    checked = [Record(one.stamp, one.frame + struct.pack("<I", zlib.crc32(one.frame))) for one in sent]
+    (tmp_path / "a").write_bytes(plain.pcap(checked))
+    (tmp_path / "b").write_bytes(plain.pcap(other(sent, 1000, 0, lambda: 0)))
+    found = aligned(sightings(tmp_path / "a"), sightings(tmp_path / "b"))
+    assert (found.offset_ns, found.drift_ppb, found.pairs) == (-1000, 0, len(sent))
+
+
+SAME = [Record(AT + number * 10**7, frame(1, 1)) for number in range(100)]
+
+
+@pytest.mark.parametrize("a, b, said", [
+    ([], [Record(AT, frame(1, 1))], "no frames, {}/a"),
+    ([Record(AT, frame(1, 1))], [Record(AT, frame(1, 2))], "no frame is in both recordings"),
+    (SAME, SAME, "the same frames come again and again: more than one offset fits")])
+def test_what_cannot_be_aligned(tmp_path: Path, a: list[Record], b: list[Record], said: str) -> None:
+    (tmp_path / "a").write_bytes(plain.pcap(a))
+    (tmp_path / "b").write_bytes(plain.pcap(b))
+    with pytest.raises(Failure) as caught:
+        main(["--align", str(tmp_path / "a"), str(tmp_path / "b")])
+    assert caught.value.lines == (f"afdx-import: {said.format(tmp_path)}, {tmp_path}/a and {tmp_path}/b",)
+
+
+def test_a_bounded_part_of_many_frames_is_kept() -> None:
+    """The same part of both recordings: what has low keys."""
+    samplers = Sampler(), Sampler()
+    numbers = np.random.default_rng(1).integers(0, 2**63, 3 * MOST_KEPT).astype(np.uint64) << np.uint64(1)
+    for sampler, keys in zip(samplers, (numbers, numbers[::-1])):
+        for part in np.array_split(keys, 7):
+            sampler.add(part, np.zeros(len(part), np.int64))
+        assert MOST_KEPT // 4 < sampler.count <= MOST_KEPT
+    kept = [set(np.concatenate(sampler.keys).tolist()) for sampler in samplers]
+    assert kept[0] == kept[1]

@@ -1,0 +1,399 @@
+"""What the command afdx-import makes of recordings: numbers by hand, and a plain model of random ones."""
+import gzip
+import shutil
+import struct
+import zlib
+from dataclasses import dataclass, replace
+from pathlib import Path
+from unittest.mock import patch
+
+import plain
+import pytest
+from hypothesis import HealthCheck, given, settings
+from hypothesis import strategies as some
+from plain import Faulty, Record
+
+from afdx.failure import Failure
+from afdx.importing import ordering
+from afdx.importing.command import main
+from afdx.importing.rules import rules_of
+from afdx.importing.running import Import
+
+SECOND = plain.SECOND
+AT = 1_768_471_200 * SECOND
+
+
+def frame(link: int = 201, end_system: int = 1, network: int = 0x20, size: int = 60, fill: int = 0x55) -> bytes:
+    head = struct.pack(">4sH3sHBH", b"\3\0\0\0", link, b"\2\0\0", end_system, network, 0x800)
+    return head + bytes([fill]) * (size - len(head))
+
+
+def checked(data: bytes) -> bytes:
+    return data + struct.pack("<I", zlib.crc32(data))
+
+
+@dataclass
+class Folder:
+    """Is a folder with rules, recordings and what is made of them."""
+    path: Path
+    capsys: pytest.CaptureFixture[str]
+
+    def run(self, rules: str, **recordings: bytes) -> tuple[int, list[str], list[str]]:
+        """Imports; answers the status and the lines of standard output and standard error."""
+        (self.path / "raw").mkdir(exist_ok=True)
+        for name, text in recordings.items():
+            (self.path / "raw" / name.replace("_", ".")).write_bytes(text)
+        (self.path / "rules.toml").write_text(rules)
+        self.capsys.readouterr()
+        try:
+            status, lines = main([str(self.path / name) for name in ("rules.toml", "raw", "in")]), []
+        except Failure as failure:
+            status, lines = failure.status, list(failure.lines)
+        said = self.capsys.readouterr()
+        return status, said.out.splitlines(), [*said.err.splitlines(), *lines]
+
+    def captures(self) -> dict[str, bytes]:
+        made = self.path / "in"
+        return {str(path.relative_to(made)): path.read_bytes() for path in made.rglob("*") if path.is_file()}
+
+
+@pytest.fixture
+def folder(tmp_path: Path, capsys: pytest.CaptureFixture[str]) -> Folder:
+    return Folder(tmp_path, capsys)
+
+
+ONE = '[[source]]\nfile = "a.pcap"\nto = "port-1"\n'
+TWO = '[[source]]\nfile = "b.pcap"\nto = "port-2"\n'
+
+
+def test_one_recording(folder: Folder) -> None:
+    """In microseconds, big-endian, one frame cut, two frames exchanged: a line, and the capture to the byte."""
+    first, second, third = frame(fill=1), frame(fill=2, size=64), frame(fill=3)
+    records = [Record(AT + 3000, second, 99), Record(AT + 1000, first), Record(AT + 9000, third)]
+    recording = plain.pcap(records, ">", 10**6)
+    assert folder.run(ONE, a_pcap=recording) == (0, [
+        "port-1 frames 3 reordered 1 cut 1 fcs none "
+        "first 2026-01-15T10:00:00.000001000Z last 2026-01-15T10:00:00.000009000Z"], [])
+    assert folder.captures() == {"port-1.pcap": b"".join([
+        bytes.fromhex("4d3cb2a1 0200 0400 00000000 00000000 00000400 01000000"),
+        bytes.fromhex("a0ba6869 e8030000 3c000000 3c000000"), first,
+        bytes.fromhex("a0ba6869 b80b0000 40000000 63000000"), second,
+        bytes.fromhex("a0ba6869 28230000 3c000000 3c000000"), third])}
+
+
+A = [Record(AT, frame(1, 9)), Record(AT + 1000, frame(2, 10, 0x40), 0, 1), Record(AT + 2000, frame(3, 10), 0, 1),
+     Record(AT + 3000, frame(4, 77)), Record(AT + 4000, frame()[:11])]
+
+
+@pytest.mark.parametrize("keys, taken", [
+    ('to = "port-1"', {"port-1": [0, 1, 2, 3, 4]}),
+    ('to = "port-1"\ninterface = "right"', {"port-1": [1, 2]}),
+    ('to = "SW1/port-1"\ninterface = 0', {"SW1/port-1": [0, 3, 4]}),
+    ('to = "port-1"\nnetwork = "A"', {"port-1": [0, 2, 3]}),
+    ('to = "port-1"\nnetwork = "B"', {"port-1": [1]}),
+    ('end_systems = { 9 = "port-1", 10 = "A/SW2/port-24", 11 = "port-2" }',
+     {"port-1": [0], "A/SW2/port-24": [1, 2], "port-2": []}),
+    ('end_systems = { 9 = "port-1", 10 = "port-1" }\nnetwork = "A"', {"port-1": [0, 2]}),
+])
+def test_which_frames(folder: Folder, keys: str, taken: dict[str, list[int]]) -> None:
+    recording = plain.pcapng(A, ["left", "right"])
+    status, lines, _ = folder.run(f'silent = ["port-7"]\n[[source]]\nfile = "a*.pcapng"\n{keys}\n', a_pcapng=recording)
+    taken["port-7"] = []
+    assert status == 0
+    assert folder.captures() == {f"{port}.pcap": plain.capture([A[index] for index in indices])
+                                 for port, indices in taken.items()}
+    assert {line.split()[0]: int(line.split()[2]) for line in lines} == {port: len(got) for port, got in taken.items()}
+
+
+def test_frames_that_no_source_takes_are_said(folder: Folder) -> None:
+    status, _, said = folder.run('[[source]]\nfile = "a.pcap"\nend_systems = { 9 = "port-1" }\n', a_pcap=plain.pcap(A))
+    assert (status, said) == (0, ["afdx-import: 4 of 5 frames are taken by no source, end systems none 10 77, a.pcap"])
+
+
+def test_an_interface_that_is_not_there_is_said(folder: Folder) -> None:
+    status, _, said = folder.run(ONE + 'interface = "up"\n', a_pcap=plain.pcapng(A, ["left", "right"]))
+    assert (status, said) == (0, ["afdx-import: 5 of 5 frames are taken by no source, end systems none 9 10 77, a.pcap",
+                                  "afdx-import: warning: no interface 'up'; there are: 0 'left', 1 'right', a.pcap"])
+
+
+WITH = [Record(AT, checked(frame(fill=1))), Record(AT + 1, checked(frame(fill=2))[:40], 64),
+        Record(AT + 2, checked(frame(fill=3))[:62], 64)]
+WITHOUT = [Record(AT, frame(fill=1)), Record(AT + 1, frame(fill=2)[:40], 60), Record(AT + 2, frame(fill=3)[:60], 60)]
+TAKEN_OFF = "afdx-import: 1 of 1 frames looked at end with their check sequence, taken off all, a.pcap, interface 0"
+
+
+@pytest.mark.parametrize("fcs, got, word, said", [
+    ("true", WITHOUT, "stripped", []), ("false", WITH, "none", []), ('"auto"', WITHOUT, "stripped", [TAKEN_OFF])])
+def test_check_sequences(folder: Folder, fcs: str, got: list[Record], word: str, said: list[str]) -> None:
+    status, lines, notes = folder.run(f"{ONE}fcs = {fcs}\n", a_pcap=plain.pcap(WITH))
+    assert (status, notes) == (0, said)
+    assert folder.captures() == {"port-1.pcap": plain.capture(got)}
+    assert f" fcs {word} " in lines[0]
+
+
+def test_check_sequences_of_some_frames(folder: Folder) -> None:
+    """Of each interface what most of its first frames have is done to all, and said."""
+    left = [Record(AT + number, frame(fill=number)) for number in range(5)]
+    right = [Record(AT + number, data, interface=1)
+             for number, data in enumerate([bytes(64), checked(frame(fill=1)), checked(frame(fill=2))])]
+    status, lines, said = folder.run(ONE, a_pcap=plain.pcapng(left + right, ["left", "right"]))
+    assert (status, said) == (0, ["afdx-import: warning: 2 of 3 frames looked at end with their check sequence, "
+                                  "taken off all, a.pcap, interface 1"])
+    assert " fcs stripped-of-3 " in lines[0]
+
+
+@pytest.mark.parametrize("keys, moved", [
+    ("offset_ns = -37200000", [-37_200_000, -37_200_000 + SECOND]),
+    ("drift_ppb = 50003", [0, SECOND + 50_003]),
+    ("drift_ppb = -20000", [0, SECOND - 20_000]),
+    ('stamps = "start"\nmbit = 100', [64 * 80, SECOND + 64 * 80]),
+    ('stamps = "start"\nmbit = 10\nfcs = true', [60 * 800, SECOND + 60 * 800]),
+    ('stamps = "start"\nmbit = 1000\noffset_ns = 7\ndrift_ppb = 1', [64 * 8 + 7, SECOND + 64 * 8 + 8]),
+    ('stamps = "end"\nmbit = 1000', [0, SECOND])])
+def test_stamps(folder: Folder, keys: str, moved: list[int]) -> None:
+    assert folder.run(ONE + keys, a_pcap=plain.pcap([Record(AT, frame()), Record(AT + SECOND, frame())]))[0] == 0
+    assert [one.stamp - AT for one in plain.read(folder.captures()["port-1.pcap"])[0]] == moved
+
+
+def test_drift_counts_from_the_first_recording_of_a_source(folder: Folder) -> None:
+    """Rotated files: the second one's clock has drifted on; the names are not in order of time."""
+    rules = '[[source]]\nfile = "a*.pcap"\nto = "port-1"\ndrift_ppb = 1000\n'
+    early, late = Record(AT, frame(1)), Record(AT + 2 * SECOND, frame(2))
+    assert folder.run(rules, a9_pcap=plain.pcap([early]), a10_pcap=plain.pcap([late]))[0] == 0
+    assert folder.captures() == {"port-1.pcap": plain.capture([early, replace(late, stamp=late.stamp + 2000)])}
+
+
+def test_warnings(folder: Folder) -> None:
+    mixed = [Record(AT, frame(network=0x20)), Record(AT, frame(network=0x40)), Record(AT, frame())]
+    late = [Record(AT + SECOND + 1, frame())]
+    status, lines, said = folder.run(ONE + TWO, a_pcap=plain.pcap(mixed)[:-1], b_pcap=plain.pcap(late))
+    assert (status, said) == (0, [
+        "afdx-import: warning: breaks off; what was whole before is used, a.pcap, record 3, offset 176",
+        "afdx-import: warning: frames of both networks: 1 of network A and 1 of network B, port-1",
+        "afdx-import: warning: the first frames lie 1.000 s apart, port-1 and port-2"])
+    assert [line.split()[:3] for line in lines] == [["port-1", "frames", "2"], ["port-2", "frames", "1"]]
+    assert folder.run(ONE + TWO, b_pcap=plain.pcap([Record(AT + SECOND, frame())]))[2] == said[:2]
+
+
+@pytest.mark.parametrize("text", [
+    b"", b"\xd4\xc3", plain.capture([])[:23], gzip.compress(plain.capture([]))[:5], plain.capture([])])
+def test_nothing_was_recorded(folder: Folder, text: bytes) -> None:
+    status, lines, said = folder.run(ONE, a_pcap=text)
+    assert (status, lines) == (0, ["port-1 frames 0 reordered 0 cut 0 fcs none first - last -"])
+    assert folder.captures() == {"port-1.pcap": plain.capture([])}
+    assert said == ([] if text == plain.capture([]) else [
+        "afdx-import: warning: breaks off; what was whole before is used, a.pcap, header, offset 0"])
+
+
+def test_late_by_the_window_and_later(folder: Folder) -> None:
+    late = [Record(AT + 30_000_000, frame(1)), Record(AT + 29_000_000, frame(2)), Record(AT + 10_000_000, frame(3))]
+    assert folder.run("window_ms = 20\n" + ONE, a_pcap=plain.pcap(late))[0] == 0
+    assert folder.captures() == {"port-1.pcap": plain.capture(late[::-1])}
+    before = folder.captures()
+    assert folder.run("window_ms = 19\n" + ONE, a_pcap=plain.pcap(late)) == (3, [], [
+        "afdx-import: a frame of port-1 is more than 19 ms late: 2026-01-15T10:00:00.010000000Z comes after "
+        "2026-01-15T10:00:00.030000000Z (a.pcap, record 1, offset 24), a.pcap, record 3, offset 176"])
+    assert folder.captures() == before
+
+
+def test_each_faulty_recording_is_named_and_nothing_is_put(folder: Folder) -> None:
+    broken = plain.pcap([Record(AT, frame())]) + struct.pack("<4I", 1, 10**9, 0, 0)
+    rules = '[[source]]\nfile = "*.pcap"\nto = "SW1/port-1"\n'
+    assert folder.run(rules, a_pcap=broken, b_pcap=b"no recording", c_pcap=plain.pcap(A)) == (
+        3, [], ["afdx-import: a fraction of 1000000000 ns, a.pcap, record 2, offset 100",
+                "afdx-import: neither pcap nor pcapng, b.pcap, header, offset 0"])
+    assert sorted(path.name for path in folder.path.iterdir()) == ["raw", "rules.toml"]
+
+
+@pytest.mark.parametrize("rules, status, said", [
+    ("", 3, ["top: no source, {}/rules.toml"]),
+    ("[[source]]", 3,
+     ["source 1: file is missing, {}/rules.toml", "source 1: needs either to or end_systems, {}/rules.toml"]),
+    ("window_ms = true\nwindow = 3\n" + ONE, 3,
+     ["top: unknown key window, {}/rules.toml", "top: window_ms has to be a whole number, 0 to 60000, {}/rules.toml"]),
+    (ONE + 'interface = -1\nfcs = 1\nstamps = "start"\n' + TWO + "mbit = 33\n", 3,
+     ["source 1: interface has to be a name or a number, {}/rules.toml",
+      'source 1: fcs has to be true, false or "auto", {}/rules.toml',
+      "source 1: mbit is missing, by which stamps of the frames' starts are moved, {}/rules.toml",
+      "source 2: mbit has to be 10, 100 or 1000, {}/rules.toml"]),
+    ('[[source]]\nfile = "../a.pcap"\nto = "../port-1"\n', 3,
+     ["source 1: file has to be the name of a file in RAW, or a pattern of names, {}/rules.toml",
+      'source 1: to has to be a port, as "port-1" or "SW1/port-1", {}/rules.toml']),
+    ("source = [", 3, ["no TOML: Invalid value (at end of document), {}/rules.toml"]),
+    (TWO, 3, ["no recording b.pcap, source 1, {}/raw"]),
+    (ONE.replace("a.pcap", "."), 3, ["no recording ., source 1, {}/raw"]),
+    (ONE.replace("port-1", "port-25"), 3,
+     ['source 1: to has to be a port, as "port-1" or "SW1/port-1", {}/rules.toml']),
+    (ONE + "drift_ppb = 100000000\n" + "offset_ns = 4294967295000000000\n", 3,
+     ["a stamp that the rules move before 1970 or after 2106, a.pcap, record 1, offset 24"]),
+])
+def test_rules_that_cannot_be_followed(folder: Folder, rules: str, status: int, said: list[str]) -> None:
+    lines = [f"afdx-import: {line.format(folder.path)}" for line in said]
+    assert folder.run(rules, a_pcap=plain.pcap(A)) == (status, [], lines)
+    assert folder.captures() == {}
+
+
+def test_a_recording_is_not_replaced(folder: Folder) -> None:
+    (folder.path / "in").symlink_to(folder.path / "raw")
+    text = plain.pcap(A)
+    assert folder.run('[[source]]\nfile = "*.pcap"\nto = "port-1"\n', **{"port-1_pcap": text}) == (
+        5, [], [f"afdx-import: a recording would be replaced, {folder.path}/in/port-1.pcap"])
+    assert folder.captures() == {"port-1.pcap": text}
+
+
+def test_link_types(folder: Folder) -> None:
+    """Of another link type are refused only the interfaces that are asked for; bits of a check sequence are none."""
+    assert folder.run(ONE, a_pcap=plain.pcap(A, link_type=0x2400_0001))[0] == 0
+    assert folder.run(ONE, a_pcap=plain.pcap(A, link_type=113)) == (
+        3, [], ["afdx-import: link type 113, not Ethernet, a.pcap, record 1, offset 24"])
+    mixed = plain.section() + plain.interface(name="usb", link_type=220) + plain.interface(name="port 1")
+    mixed += b"".join(plain.packet(Record(AT, frame(), interface=number)) for number in (0, 1))
+    assert folder.run(ONE, a_pcap=mixed)[0] == 3
+    assert folder.run(ONE + 'interface = "port 1"\n', a_pcap=mixed)[0] == 0
+
+
+@some.composite
+def recordings(draw: some.DrawFn) -> list[Record]:
+    """Draws a recording whose stamps fall by at most 20 ms."""
+    records, newest = [], AT
+    for _ in range(draw(some.integers(0, 30))):
+        newest += draw(some.integers(0, 10**7))
+        size = draw(some.sampled_from([11, 14, 60, 76, 300, 1514]))
+        network = draw(some.sampled_from([0x20, 0x40]))
+        data = frame(draw(some.integers(0, 2)), draw(some.integers(7, 12)), network, 1514)[:size]
+        stamp, original = newest - draw(some.integers(0, 2 * 10**7)), draw(some.sampled_from([0, 1600]))
+        records.append(Record(stamp, data, original, draw(some.integers(0, 1))))
+    return records
+
+
+@dataclass
+class Asked:
+    """Is a source of the rules, and the plain model of what it takes."""
+    of: list[int]  # recordings
+    interface: int | None
+    network: str | None
+    ports: dict[int, str] | str
+    offset: int
+
+    def rule(self) -> str:
+        names = {(0,): "0.pcapng", (1,): "1.pcapng", (0, 1): "*.pcapng"}
+        ports = f'to = "{self.ports}"'
+        if isinstance(self.ports, dict):
+            pairs = ", ".join(f'{number} = "{port}"' for number, port in self.ports.items())
+            ports = f"end_systems = {{ {pairs} }}"
+        return "\n".join(["[[source]]", f'file = "{names[tuple(self.of)]}"', f"offset_ns = {self.offset}", ports,
+                          "" if self.interface is None else f"interface = {self.interface}",
+                          "" if self.network is None else f'network = "{self.network}"', ""])
+
+    def port(self, one: Record) -> str | None:
+        """The port to which a frame comes."""
+        if self.interface not in (None, one.interface):
+            return None
+        if self.network and one.frame[11:12] != {"A": b"\x20", "B": b"\x40"}[self.network]:
+            return None
+        if isinstance(self.ports, str):
+            return self.ports
+        return self.ports.get(one.frame[9] << 8 | one.frame[10]) if len(one.frame) >= 12 else None
+
+
+PORTS = some.sampled_from(["port-1", "port-2", "SW1/port-1"])
+ASKED = some.builds(Asked, some.sampled_from([[0], [1], [0, 1]]), some.sampled_from([None, 0, 1]),
+                    some.sampled_from([None, "A", "B"]),
+                    PORTS | some.dictionaries(some.integers(7, 12), PORTS, min_size=1), some.integers(-10**8, 10**8))
+
+
+@given(some.lists(recordings(), min_size=2, max_size=2), some.lists(ASKED, min_size=1, max_size=4),
+       some.sampled_from([0, 2000, 2**24]), some.sampled_from([100, 2000, 2**20]))
+def test_random_recordings(tmp_path_factory: pytest.TempPathFactory, recorded: list[list[Record]], asked: list[Asked],
+                           most: int, piece: int) -> None:
+    """Each port gets the frames that a plain model gives it, in order of their stamps. If few may wait, a late one may
+    be refused, but none is lost or out of order."""
+    raw = tmp_path_factory.getbasetemp()
+    wanted: dict[str, list[Record]] = {}
+    for number, records in enumerate(recorded):
+        (raw / f"{number}.pcapng").write_bytes(plain.pcapng(records, ["left", "right"]))
+        for one, source in ((one, source) for source in asked if number in source.of for one in records):
+            if port := source.port(one):
+                moved = Record(one.stamp + source.offset, one.frame, one.length)
+                wanted.setdefault(port, []).append(moved)
+    rules = rules_of("".join(source.rule() for source in asked).encode())
+    got: dict[str, bytearray] = {port: bytearray() for port in rules.ports}
+    found = [sorted(raw.glob(source.file)) for source in rules.sources]
+    with patch.object(ordering, "MOST_WAITING", most), patch.object(ordering, "LEAST_WRITTEN", 0):
+        done = Import(rules, raw, found, lambda port, text: got[port].extend(text), piece)
+        done.run(lambda _: None)
+    assert not done.faults or most < 2**24 and all("late" in str(fault) for fault in done.faults)
+    for port, text in got.items():
+        records, _ = plain.read(plain.capture([]) + text)
+        assert [one.stamp for one in records] == sorted(one.stamp for one in records)
+        assert done.faults or sorted(records, key=repr) == sorted(wanted.get(port, []), key=repr)
+
+
+SAMPLE = [Record(AT + number * 10**6, frame(number, 9 + number % 2, size=60 + number), interface=number % 2)
+          for number in range(6)]
+PCAPNG = plain.pcapng(SAMPLE, ["left", "right"])
+SAMPLES = [plain.pcap(SAMPLE), plain.pcap(SAMPLE, ">", 10**6), PCAPNG, plain.pcapng(SAMPLE, ["", "x"], ">")]
+CHANGES = some.lists(some.tuples(some.integers(0, 10**6), some.binary(min_size=1, max_size=4)), max_size=3)
+MUTATED = '[[source]]\nfile = "m.pcap"\nend_systems = { 9 = "port-1", 10 = "port-2" }\nfcs = false\n'
+
+
+def imported_plainly(text: bytes) -> dict[str, bytes] | None:
+    """Answers the captures of a plain model for the rules of mutated recordings; None if they have to be refused."""
+    try:
+        records, _ = plain.read(text)
+    except Faulty:
+        return None
+    ports: dict[str, list[Record]] = {"port-1.pcap": [], "port-2.pcap": []}
+    for one in records:
+        number = int.from_bytes(one.frame[9:11], "big") if len(one.frame) >= 12 else 0
+        if number in (9, 10):
+            ports[f"port-{number - 8}.pcap"].append(one)
+    for got in ports.values():
+        stamps = [one.stamp for one in got]
+        if any(max(stamps[:index]) - stamp > SECOND for index, stamp in enumerate(stamps) if index):
+            return None
+    return {port: plain.capture(sorted(got, key=lambda one: one.stamp)) for port, got in ports.items()}
+
+
+@settings(suppress_health_check=[HealthCheck.function_scoped_fixture])
+@given(text=some.sampled_from(SAMPLES), changes=CHANGES, cut=some.integers(0, 10**6))
+def test_mutated_recordings(folder: Folder, text: bytes, changes: list[tuple[int, bytes]], cut: int) -> None:
+    """A mutated recording is refused and nothing is put, or what is put is what a plain model makes of it."""
+    shutil.rmtree(folder.path / "in", ignore_errors=True)
+    changed = bytearray(text)
+    for at, by in changes:
+        changed[at % len(text):at % len(text) + len(by)] = by
+    changed = changed[:len(text) - (cut % len(text) if cut % 2 else 0)]
+    wanted = imported_plainly(bytes(changed))
+    status, _, said = folder.run(MUTATED, m_pcap=bytes(changed))
+    assert (status, folder.captures()) == ((3, {}) if wanted is None else (0, wanted))
+    assert all(line.startswith("afdx-import: ") for line in said)
+
+
+@settings(suppress_health_check=[HealthCheck.function_scoped_fixture])
+@given(at=some.integers(0, 10**6), by=some.binary(min_size=1, max_size=2))
+def test_mutated_compressed_recordings(folder: Folder, at: int, by: bytes) -> None:
+    """The check of gzip finds what was changed: it is refused, or the bytes are those of the recording."""
+    shutil.rmtree(folder.path / "in", ignore_errors=True)
+    changed = bytearray(gzip.compress(PCAPNG, mtime=0))
+    changed[at % len(changed):at % len(changed) + len(by)] = by
+    status, _, _ = folder.run(MUTATED, m_pcap=bytes(changed))
+    assert (status, folder.captures()) in [(3, {}), (0, imported_plainly(PCAPNG))]
+
+
+def test_late_by_less_than_the_window_where_too_many_wait(folder: Folder) -> None:
+    """Nothing that was written is passed by a frame before it: it is refused, with both records."""
+    records = [Record(AT + number, frame(fill=number)) for number in range(1, 40)] + [Record(AT, frame())]
+    with patch.object(ordering, "MOST_WAITING", 1000), patch.object(Import.__init__, "__defaults__", (1000,)):
+        assert folder.run(ONE, a_pcap=plain.pcap(records)) == (3, [], [
+            "afdx-import: a frame of port-1 is late, and later ones no longer wait: 2026-01-15T10:00:00.000000000Z "
+            "comes after 2026-01-15T10:00:00.000000026Z (a.pcap, record 26, offset 1924), "
+            "a.pcap, record 40, offset 2988"])
+    assert folder.captures() == {}
+
+
+def test_a_folder_in_the_place_of_a_capture(folder: Folder) -> None:
+    (folder.path / "in" / "port-2.pcap").mkdir(parents=True)
+    status, lines, said = folder.run(ONE + TWO, a_pcap=plain.pcap(A), b_pcap=plain.pcap(A))
+    assert (status, lines, said) == (5, [], [f"afdx-import: cannot write {folder.path}/in/port-2.pcap: Is a directory"])
+    assert folder.captures() == {}

@@ -1,0 +1,73 @@
+"""How far apart two networks deliver the same frames."""
+from pathlib import Path
+
+import plain
+import pytest
+from plain import Record
+
+from afdx.failure import Failure
+from afdx.skew.command import main
+
+AT = 1_768_471_200 * plain.SECOND
+MS = 10**6
+
+
+def frame(link: int, count: int, network: int) -> bytes:
+    return bytes([3, 0, 0, 0, 0, link, 2, 0, 0, 0, 1, network, 8, 0]) + bytes([count]) * 46
+
+
+def put(folder: Path, name: str, network: int, sent: list[tuple[int, int, int]]) -> None:
+    """A capture of (stamp in us, link, count)."""
+    (folder / name).parent.mkdir(parents=True, exist_ok=True)
+    records = [Record(AT + stamp * 1000, frame(link, count, network)) for stamp, link, count in sent]
+    (folder / name).write_bytes(plain.capture(records))
+
+
+def run(folder: Path, *more: str) -> int:
+    return main([str(folder / "a"), str(folder / "b"), *more])
+
+
+def test_pairs_and_frames_of_one_network(tmp_path: Path, capsys: pytest.CaptureFixture[str]) -> None:
+    """Link 1 lacks three frames on B, two of them in a row, and one on A; of link 2 the same bytes come again."""
+    put(tmp_path / "a", "SW1/port-2.pcap", 0x20,
+        [(0, 1, 1), (5, 2, 9), (1000, 1, 2), (2000, 1, 3), (3000, 1, 4), (4000, 1, 5), (50_005, 2, 9), (60_000, 1, 7)])
+    put(tmp_path / "b", "SW1/port-2.pcap", 0x40,
+        [(15, 2, 9), (30, 1, 1), (2990, 1, 4), (5000, 1, 6), (50_000, 2, 9)])
+    assert run(tmp_path) == 0
+    assert capsys.readouterr() == (
+        "SW1/port-2 link 1 pairs 2 least -10000 greatest 30000 only-a 4 run-a 2 only-b 1 run-b 1\n"
+        "SW1/port-2 link 2 pairs 2 least -5000 greatest 10000 only-a 0 run-a 0 only-b 0 run-b 0\n", "")
+
+
+def test_how_far_copies_may_be_apart(tmp_path: Path, capsys: pytest.CaptureFixture[str]) -> None:
+    put(tmp_path / "a", "port-1.pcap", 0x20, [(0, 1, 1)])
+    put(tmp_path / "b", "port-1.pcap", 0x40, [(20_000, 1, 1)])
+    assert run(tmp_path) == 0
+    assert run(tmp_path, "--within-ms", "19") == 0
+    assert capsys.readouterr().out.splitlines() == [
+        "port-1 link 1 pairs 1 least 20000000 greatest 20000000 only-a 0 run-a 0 only-b 0 run-b 0",
+        "port-1 link 1 pairs 0 least - greatest - only-a 1 run-a 1 only-b 1 run-b 1"]
+
+
+def test_a_port_of_one_network(tmp_path: Path, capsys: pytest.CaptureFixture[str]) -> None:
+    put(tmp_path / "a", "port-10.pcap", 0x20, [(0, 1, 1)])
+    put(tmp_path / "a", "port-9.pcap", 0x20, [])
+    put(tmp_path / "b", "port-9.pcap", 0x40, [(0, 2, 1), (1, 2, 2)])
+    assert run(tmp_path) == 0
+    assert capsys.readouterr() == (
+        "port-9 link 2 pairs 0 least - greatest - only-a 0 run-a 0 only-b 2 run-b 2\n"
+        "port-10 link 1 pairs 0 least - greatest - only-a 1 run-a 1 only-b 0 run-b 0\n",
+        f"afdx-skew: warning: no capture port-10.pcap, {tmp_path}/b\n")
+
+
+def test_faults(tmp_path: Path, capsys: pytest.CaptureFixture[str]) -> None:
+    put(tmp_path / "a", "port-1.pcap", 0x20, [(0, 1, 1)])
+    with pytest.raises(Failure) as caught:
+        run(tmp_path)
+    assert (caught.value.status, caught.value.lines) == (3, (f"afdx-skew: no folder {tmp_path}/b",))
+    (tmp_path / "b").mkdir()
+    (tmp_path / "b" / "port-1.pcap").write_bytes(b"no capture")
+    with pytest.raises(Failure) as caught:
+        run(tmp_path)
+    assert caught.value.lines == (f"afdx-skew: neither pcap nor pcapng, {tmp_path}/b/port-1.pcap, header, offset 0",)
+    assert capsys.readouterr().out == ""
