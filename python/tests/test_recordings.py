@@ -156,7 +156,7 @@ def plainly(text: bytes) -> tuple[list[Record], bool] | None:
 
 def sample(order: str) -> tuple[bytes, bytes]:
     records = [Record(AT + number * 10**8, FRAME[:12] + bytes([number]) * (number * 5 % 30), 90, number % 2)
-               for number in range(6)]
+               for number in range(4)]
     text = section(order, option(order, 1, b"of a test")) + interface(order, "port 1") + interface(order, "port 2", 6)
     for number, one in enumerate(records):
         text += packet(one, order, one.stamp // (1, 1000)[one.interface], option(order, 1, b"c" * number))
