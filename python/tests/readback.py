@@ -1,9 +1,8 @@
 """What the package reads of a recording, as plain records."""
 from pathlib import Path
 
-from plain import Record
-
 from afdx.recordings.reading import Recording
+from tests.plain import Record
 
 
 def read(path: Path, piece: int = 4096) -> tuple[list[Record], Recording]:

@@ -6,13 +6,13 @@ from collections.abc import Callable
 from pathlib import Path
 
 import numpy as np
-import plain
 import pytest
-from plain import Record
 
 from afdx.failure import Failure
 from afdx.importing.alignment import MOST_KEPT, Sampler, aligned, sightings
 from afdx.importing.command import main
+from tests import plain
+from tests.plain import Record
 
 SECOND = plain.SECOND
 AT = 1_768_471_200 * SECOND

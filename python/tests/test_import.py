@@ -7,17 +7,17 @@ from dataclasses import dataclass, replace
 from pathlib import Path
 from unittest.mock import patch
 
-import plain
 import pytest
 from hypothesis import HealthCheck, given, settings
 from hypothesis import strategies as some
-from plain import Faulty, Record
 
 from afdx.failure import Failure
 from afdx.importing import ordering
 from afdx.importing.command import main
 from afdx.importing.rules import rules_of
 from afdx.importing.running import Import
+from tests import plain
+from tests.plain import Faulty, Record
 
 SECOND = plain.SECOND
 AT = 1_768_471_200 * SECOND

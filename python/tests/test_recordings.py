@@ -4,16 +4,15 @@ import lzma
 import struct
 from pathlib import Path
 
-import plain
 import pytest
-import readback
 import zstandard
 from hypothesis import given
 from hypothesis import strategies as some
-from plain import Faulty, Record, block, interface, option, packet, section
 
 from afdx.recordings.faults import RecordingFault
 from afdx.recordings.reading import Recording
+from tests import plain, readback
+from tests.plain import Faulty, Record, block, interface, option, packet, section
 
 AT = 1_768_471_200 * plain.SECOND
 FRAME = bytes.fromhex("0300000000c9020000000120") + bytes(48)

@@ -1,12 +1,12 @@
 """How far apart two networks deliver the same frames."""
 from pathlib import Path
 
-import plain
 import pytest
-from plain import Record
 
 from afdx.failure import Failure
 from afdx.skew.command import main
+from tests import plain
+from tests.plain import Record
 
 AT = 1_768_471_200 * plain.SECOND
 MS = 10**6

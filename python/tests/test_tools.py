@@ -3,10 +3,10 @@ import random
 import subprocess
 from pathlib import Path
 
-import plain
 import pytest
-import readback
-from plain import Record
+
+from tests import plain, readback
+from tests.plain import Record
 
 SECOND = plain.SECOND
 
