@@ -1,5 +1,5 @@
 -- What the files of a run lead to, read in pieces or whole.
-use Rattle.std.proofs.Common.{◌≡◌, ℕ, zero, suc, ◌+◌, ◌<◌, get_or, Bool, List, [], ◌∷◌, map, length, take, drop, ◌++◌, slice_get, Option, Some, None, Ok, Err, refl, sym, ap, subst, ◌∙◌, inl, inr}
+use Rattle.std.proofs.Common.{◌≡◌, ℕ, zero, suc, ◌+◌, ◌<◌, get_or, Bool, List, [], ◌∷◌, map, length, take, drop, ◌++◌, slice_get, Option, Some, None, Ok, Err, refl, sym, ap, subst, ◌∙◌, inl, inr, arith, Vec}
 use Rattle.std.proofs.Common.{Result}
 use Rattle.std.specs.Prelude.{IfSome, MatchResult}
 use Rattle.std.proofs.lemmas.List.{length-map, length-append, map-append, take_more}
@@ -10,7 +10,7 @@ use Rattle.afdx_table.specs.Content.{Content}
 use Rattle.afdx_table.specs.WellFormed.{TablesAreWellFormed}
 use Rattle.afdx_count.specs.Tally.{Tally}
 use Rattle.afdx_count.specs.Report.{report_of}
-use Rattle.afdx_session.specs.Texts.{Text, AreOfPorts}
+use Rattle.afdx_session.specs.Texts.{Text, AreOfPorts, texts_of}
 use Rattle.afdx_session.specs.declared.plan.Plan.{Plan}
 use Rattle.afdx_session.specs.Outcome.{table_in}
 use Rattle.afdx_session.specs.Headline.{AcceptedRunsIsolate}
@@ -28,6 +28,15 @@ use Rattle.afdx_serve.specs.Inner.Leading.{IsPlanOf, FailsToReadPlan, AreOpened,
 use Rattle.afdx_serve.proofs.FileLemmas.{KeepsFiles-trans, ShowsAll-before, IsOpened-before}
 use Rattle.afdx_serve.proofs.PutLemmas.{have_bytes, written_back}
 use Rattle.afdx_serve.proofs.RunLemmas.{leads_to, same_names, not_gathered, not_led}
+
+-- there are as many captures as ports
+pub as_many_captures : {Z : Type 0} (t : Content) (captures : List (ℕ × Vec ℕ Z)) → AreOfPorts t (texts_of captures) → length captures ≡ length t.ports
+as_many_captures t captures ports =
+    let a = length-map {B = Text} captures (λ pair. (pair.0, pair.1.items)) in
+    let b = length-map (texts_of captures) (λ (text : Text). text.0) in
+    let same = ap length ports in
+    let d = length-map t.ports (λ (p : PortRow). p.id) in
+    omega (arith, a, b, same, d)
 
 -- ---- readers
 
