@@ -1,5 +1,6 @@
 -- Networks that differ in their jitters alone have the same rows, but for their jitters.
-use Rattle.std.proofs.Common.{◌≡◌, ℕ, zero, suc, ◌≤◌, ◌==◌, Bool, true, false, cond, List, [], ◌∷◌, map, find, slice_get, Option, Some, None, option_map, option_and_then, refl, ap, sym, ◌∙◌, arith, subst}
+use Rattle.std.proofs.Common.{◌≡◌, ℕ, zero, suc, ◌≤◌, ◌==◌, Bool, true, false, cond, List, [], ◌∷◌, map, find, slice_get, Option, Some}
+use Rattle.std.proofs.Common.{None, option_map, option_and_then, refl, ap, sym, ◌∙◌, arith, subst}
 use Rattle.std.specs.Prelude.{All, Contains}
 use Rattle.std.specs.List.{AllZip}
 use Rattle.std.proofs.lemmas.List.Elements.{All-contains}
@@ -123,7 +124,7 @@ known links net formed r among =
 abbrev pub Below : Network → Network → Type 0
 Below net other = (switch id : ℕ) (r s : Row) → row_at net switch id ≡ Some r → row_at other switch id ≡ Some s → r.link.jitter ≤ s.link.jitter
 
-contains_tail : {X : Type 0} (xs : List X) (x y : X) → Contains xs x → Contains (y ∷ xs) x
+pub contains_tail : {X : Type 0} (xs : List X) (x y : X) → Contains xs x → Contains (y ∷ xs) x
 contains_tail xs x y among = let within = among.1 in (suc among.0, omega (arith, within), among.2)
 
 zipped : (ls ms : List Link) → map bare_link ms ≡ map bare_link ls → ((l m : Link) → Contains ls l → Contains ms m → bare_link m ≡ bare_link l → l.jitter ≤ m.jitter) → AllZip Grows ls ms

@@ -1,5 +1,6 @@
 -- Rows whose jitters are given one after another: what each has then.
-use Rattle.std.proofs.Common.{◌≡◌, ℕ, zero, suc, ◌*◌, ◌<◌, ◌≤◌, ◌==◌, ◌⊎◌, inl, inr, Bool, true, false, cond, nat_le, nat_lt, List, [], ◌∷◌, map, find, length, get_or, slice_get, slice_set, Option, Some, None}
+use Rattle.std.proofs.Common.{◌≡◌, ℕ, zero, suc, ◌*◌, ◌<◌, ◌≤◌, ◌==◌, ◌⊎◌, inl, inr, Bool, true, false, cond, nat_le, nat_lt, List, []}
+use Rattle.std.proofs.Common.{◌∷◌, map, find, length, get_or, slice_get, slice_set, Option, Some, None}
 use Rattle.std.proofs.Common.{refl, ap, sym, ◌∙◌, arith, subst}
 use Rattle.std.specs.Prelude.{position}
 use Rattle.std.specs.List.{AllByRecursion, position_or_len}
@@ -153,7 +154,8 @@ given_says places n net switch id r is = by (nat_le n.need 10000) refl (slice_ge
 
   -- in the table
   in_table : nat_le n.need 10000 ≡ true → (t : Content) → slice_get net.tables n.switch ≡ Some t → n.switch ≡ switch → (o : Option ℕ) → link_place t n.link ≡ o
-      → link_row (option_map_or (λ place. record t { links = with_jitter place (n.need * 1000) t.links }) o t) id ≡ Some r.link → (same_number : Bool) → (n.link == id) ≡ same_number → Says n net switch id r
+      → link_row (option_map_or (λ place. record t { links = with_jitter place (n.need * 1000) t.links }) o t) id ≡ Some r.link
+      → (same_number : Bool) → (n.link == id) ≡ same_number → Says n net switch id r
   in_table few t t_is same None o_is l_is true number =
       let numbers = eqb-true n.link id number in
       absurd (none_some (subst (λ (k : ℕ). link_row t k ≡ None) numbers (places.none t n.link o_is)) l_is) where

@@ -1,5 +1,6 @@
 -- What a row needs grows with the jitters of a network.
-use Rattle.std.proofs.Common.{◌≡◌, ℕ, zero, suc, ◌+◌, ◌-◌, ◌*◌, ◌/◌, ◌%◌, ◌≤◌, ◌<◌, Bool, true, false, cond, nat_le, List, [], ◌∷◌, length, slice_get, Option, Some, None, option_map, option_and_then, refl, ap, sym, ◌∙◌, arith, subst}
+use Rattle.std.proofs.Common.{◌≡◌, ℕ, zero, suc, ◌+◌, ◌-◌, ◌*◌, ◌/◌, ◌%◌, ◌≤◌, ◌<◌, Bool, true, false, cond, nat_le, List, [], ◌∷◌, length, slice_get}
+use Rattle.std.proofs.Common.{Option, Some, None, option_map, option_and_then, refl, ap, sym, ◌∙◌, arith, subst}
 use Rattle.std.specs.Prelude.{All}
 use Rattle.std.proofs.lemmas.Bool.Decides.{nat_tests}
 use Rattle.std.proofs.lemmas.Option.{same_Some}
@@ -121,9 +122,11 @@ compare net other set (suc n) switch id r s r_is pair (b ∷ more) d way are few
           → Compared n (way_within n net c after') first are.3 after'
 
       -- where the bound in this network is known
-      bounded : (c : Row) (t : Content) (x : ℕ) → way_within (suc n) net r after ≡ option_and_then (λ (hop : Delays). way_within n net c (joined hop after)) (hop_on net c b.wire.from.port b.wire.delay)
+      bounded : (c : Row) (t : Content) (x : ℕ)
+          → way_within (suc n) net r after ≡ option_and_then (λ (hop : Delays). way_within n net c (joined hop after)) (hop_on net c b.wire.from.port b.wire.delay)
           → hop_on net c b.wire.from.port b.wire.delay ≡ option_map (λ (m : ℕ). hop_of are.1.speed t.latency m b.wire.delay) (within_reason x)
-          → Hops d are.3 are.1.speed t.latency b.wire.delay x are.2 → ((after' : Delays) → Compared n (way_within n net c after') first are.3 after') → Compared (suc n) (way_within (suc n) net r after) first d after
+          → Hops d are.3 are.1.speed t.latency b.wire.delay x are.2 → ((after' : Delays) → Compared n (way_within n net c after') first are.3 after')
+          → Compared (suc n) (way_within (suc n) net r after) first d after
       bounded c t x way_is hop_is hops further = by (nat_le x 1000000000000) refl where
         by : (reason : Bool) → nat_le x 1000000000000 ≡ reason → Compared (suc n) (way_within (suc n) net r after) first d after
         by true reason =

@@ -310,7 +310,8 @@ are_needs laws net turn needs past formed turn_formed so_far rows past_is h = re
       let asked = asks laws net formed fits lines other suffices in
       let grow = growing net other turn asked so_far.alike turn_formed (so_far.below fits lines other suffices) in
       let there : Both turn other = record { links = laws.links; differs = grow.differs; here = turn_formed; there = suffices.well_formed } in
-      (past_is ∙ ap past_of rows ∙ none_past (needing (later turn) (rows_of turn)) (few_later net other turn asked grow), row_by_row turn other there (λ r s. r.link.jitter ≤ s.link.jitter) grow.below);
+      let none = none_past (needing (later turn) (rows_of turn)) (few_later net other turn asked grow) in
+      (past_is ∙ ap past_of rows ∙ none, row_by_row turn other there (λ r s. r.link.jitter ≤ s.link.jitter) grow.below);
 } where
   all_where : (o : Option Short) → o ≡ None → (is_some o || list_all is_met needs) ≡ true → list_all is_met needs ≡ true
   all_where None none met = met

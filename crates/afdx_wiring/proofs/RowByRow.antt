@@ -11,7 +11,7 @@ use Rattle.afdx_table.specs.WellFormed.{IsWellFormed}
 use Rattle.afdx_table.specs.Inner.Found.{LinksAreFound}
 use Rattle.afdx_wiring.specs.Net.{Network, Row, row_in, rows_in, rows_from, rows_of, row_at}
 use Rattle.afdx_wiring.specs.Needs.{bare_link, bare, DiffersInJitters}
-use Rattle.afdx_wiring.proofs.Alike.{found, known, first_same, rest_same}
+use Rattle.afdx_wiring.proofs.Alike.{found, known, first_same, rest_same, contains_tail}
 
 -- of one switch and one number
 abbrev pub AreOne : Row → Row → Type 0
@@ -37,9 +37,6 @@ ones_from n (t ∷ ts) (u ∷ us) same =
     zip_append AreOne (rows_in n t.links) (rows_in n u.links) (rows_from (n + 1) ts) (rows_from (n + 1) us)
     (ones_in n t.links u.links (ap (λ (c : Content). c.links) (first_same bare t u ts us same)))
     (ones_from (n + 1) ts us (rest_same bare t u ts us same))
-
-contains_tail : {X : Type 0} (xs : List X) (x y : X) → Contains xs x → Contains (y ∷ xs) x
-contains_tail xs x y among = let within = among.1 in (suc among.0, omega (arith, within), among.2)
 
 narrowed : (R S : Row → Row → Type 0) (xs ys : List Row) → ((x y : Row) → Contains xs x → Contains ys y → R x y → S x y) → AllZip R xs ys → AllZip S xs ys
 narrowed R S [] [] each all = tt

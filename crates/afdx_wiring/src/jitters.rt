@@ -148,10 +148,11 @@ impl Network {
         Network::new(layout, tables)
     }
 
-    /// The jitters that the rows need, from the sources' own: all rows begin with the jitter of their source, and each turn
-    /// gives them what they need then, until each row has what it needs or one needs more than a table can have. It is asked of
-    /// a network that fits, whose links ask for no more than their lines; where no way with bounds of at most a thousand seconds
-    /// leads to a row, it needs a thousand seconds. `Memory` is the one refusal.
+    /// Finds the least jitters that are enough, with the sources' own: all rows begin with the jitter of their source, and each
+    /// turn gives them what they need then, until each row has what it needs or one needs more than a table can have; then no
+    /// jitters are enough. It is asked of a network that fits, whose links ask for no more than their lines: of another one
+    /// nothing is said of least jitters, and a row to which no way with bounds of at most a thousand seconds leads needs a
+    /// thousand seconds. `Memory` is the one refusal.
     ///
     /// O(r s w) for each turn, for r rows, at most s switches on a way, and w wires.
     pub fn jitters(self, alloc: Global) -> Result<Needs, NetworkFault>
