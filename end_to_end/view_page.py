@@ -78,7 +78,9 @@ def browser():
     for argument in ("--headless=new", "--no-sandbox", "--disable-gpu", "--disable-dev-shm-usage"):
         options.add_argument(argument)
     options.set_capability("goog:loggingPrefs", {"browser": "ALL"})
-    return webdriver.Chrome(service=Service("/usr/bin/chromedriver"), options=options)
+    page = webdriver.Chrome(service=Service("/usr/bin/chromedriver"), options=options)
+    page.set_script_timeout(600)  # on a busy machine too
+    return page
 
 
 def measured(options):

@@ -7,6 +7,8 @@ from pathlib import Path
 
 import pytest
 
+from afdx import signals
+
 COMMAND = """
 import sys, tempfile, time
 from afdx.failure import Failure, run
@@ -38,10 +40,16 @@ sys.exit(run(lambda arguments: len(Program("command").ask("check").said)))
 """
 
 
+def take_signals() -> None:
+    """Has signals not ignored, as they are in a process in the background."""
+    for number in signals.ENDING:
+        signal.signal(number, signal.SIG_DFL)
+
+
 def begun(folder: Path, command: str, *arguments: str) -> "subprocess.Popen[str]":
     environment = {"PYTHONPATH": str(Path(__file__).parents[1]), "AFDX": "./afdx", "PATH": os.environ["PATH"]}
     return subprocess.Popen([sys.executable, "-c", command, *arguments], cwd=folder, stdout=subprocess.PIPE,
-                            stderr=subprocess.PIPE, text=True, env=environment)
+                            stderr=subprocess.PIPE, text=True, env=environment, preexec_fn=take_signals)
 
 
 def test_a_failure(tmp_path: Path) -> None:
