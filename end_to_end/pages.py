@@ -16,7 +16,7 @@ from fnmatch import fnmatch
 from pathlib import Path
 
 TOP = Path(__file__).resolve().parents[1]
-FOLDERS = ("bench/", "crates/", "docs/", "end_to_end/", "examples/", "python/", ".ci/")
+FOLDERS = ("bench/", "crates/", "docs/", "end_to_end/", "examples/", "python/", "release/", ".ci/")
 ENDINGS = (".md", ".py", ".sh", ".rt", ".antt", ".edit", ".c")
 
 

@@ -1,0 +1,159 @@
+#!/usr/bin/env bash
+# ./package, in copies of the repository that have commits of their own: what it makes and refuses; the program where there is the C
+# library alone; man pages beside the help; completions in real shells. ./package --try, which takes long, is not run here.
+. "$(dirname "$0")/common.sh"
+install git=git python3=python3 objdump=binutils dpkg-deb=dpkg lintian=lintian man=man-db mandoc=mandoc zsh=zsh fish=fish mypy=mypy \
+    flake8=flake8 shellcheck=shellcheck
+export PYTHONDONTWRITEBYTECODE=1 LC_ALL=C.UTF-8
+afdx=${AFDX:-$top/crates/afdx/out/afdx}
+cd "$room" || exit 1
+
+# committed FOLDER: a copy of what ./package reads, as a commit of a day that is past.
+committed() {
+    mkdir "$1" && tar -c -C "$top" --exclude=out --exclude=.git --exclude=crates . | tar -x -C "$1" && (cd "$1" && git init -q . &&
+        git add . && GIT_COMMITTER_DATE='2024-02-29T12:00:00Z' git -c user.name=Packager -c user.email=packager@afdx.test commit -q -m Files)
+}
+
+# with_program FOLDER: the program where a build puts it.
+with_program() {
+    mkdir -p "$1/crates/afdx/out" && cp "$afdx" "$1/crates/afdx/out/afdx"
+}
+
+# makes_again: in another folder, by somebody with other habits, at another time.
+makes_again() {
+    git clone -q one two && with_program two && find two -path two/.git -prune -o -exec touch -d 2020-02-02 '{}' + &&
+        (umask 077 && TZ=Asia/Tokyo LC_ALL=C two/package) && diff -r one/out/dist two/out/dist
+}
+
+# refuses LINE ARGUMENT..: nothing is made.
+refuses() {
+    local line=$1 status=0
+    shift
+    rm -rf two/out && two/package "$@" >answer.txt 2>said.txt || status=$?
+    cat said.txt
+    [ "$status" -eq 2 ] && [ "$(cat said.txt)" = "$line" ] && [ ! -s answer.txt ] && [ ! -e two/out ]
+}
+
+has_sums() {
+    (cd one/out/dist && sha256sum -c SHA256SUMS && [ "$(ls | wc -l)" -eq 3 ] && [ "$(wc -l <SHA256SUMS)" -eq 2 ])
+}
+
+# is_the_program FILE..: each is the program, byte for byte.
+is_the_program() {
+    local file
+    for file in "$@"; do
+        cmp "$afdx" "$file" || return 1
+    done
+}
+
+# says_what_it_needs: the .deb depends on the C library whose symbols the program has, and ./package says so.
+says_what_it_needs() {
+    local glibc
+    glibc=$(objdump -T "$afdx" | grep -o 'GLIBC_[0-9.]*' | sort -uV | tail -n 1)
+    glibc=${glibc#GLIBC_}
+    dpkg-deb -f "$deb" Depends && [ "$(dpkg-deb -f "$deb" Depends)" = "libc6 (>= $glibc), python3 (>= 3.11)" ] &&
+        grep -q " needs glibc $glibc or later and no other library:$" made.txt
+}
+
+# without_anything ARGUMENT..: the .deb's program in a folder that has the C library and its loader beside it, and no more.
+without_anything() {
+    local way=(chroot)
+    [ "$(id -u)" -eq 0 ] || way=(unshare --map-root-user chroot)
+    "${way[@]}" installed /usr/bin/afdx "$@"
+}
+
+# first_run: README's first two commands, in such a folder, print and put what they do here.
+first_run() {
+    local network=examples/network
+    grep -qxF "cp -r /usr/share/doc/afdx/examples . && afdx check $network/table.toml" "$top/README.md" &&
+        grep -qxF "mkdir out && afdx run $network/table.toml $network/in out" "$top/README.md" || return 1
+    cp -r installed/usr/share/doc/afdx/examples installed && mkdir installed/out out &&
+        without_anything check "$network/table.toml" >there.txt && without_anything run "$network/table.toml" "$network/in" out >>there.txt &&
+        "$afdx" check "$top/$network/table.toml" >here.txt && "$afdx" run "$top/$network/table.toml" "$top/$network/in" out >>here.txt &&
+        diff there.txt here.txt && diff -r installed/out out
+}
+
+# commands_help BIN: each command of a folder prints its help, with no other on the path but Debian's.
+commands_help() {
+    local command
+    for command in "$1"/*; do
+        env -i PATH="$1:/usr/bin:/bin" "${command##*/}" --help || return 1
+    done
+}
+
+# silent COMMAND..: succeeds and says nothing.
+silent() {
+    local status=0
+    "$@" >said.txt 2>&1 || status=$?
+    cat said.txt
+    [ "$status" -eq 0 ] && [ ! -s said.txt ]
+}
+
+shown_by_man() {
+    find "$pages" -name '*.1' -exec man --warnings -E UTF-8 -l -Tutf8 -Z '{}' + >/dev/null
+}
+
+# stub NAME: a command that writes its words down, without a slash at their ends.
+stub() {
+    cat >"stubs/$1" <<'END'
+#!/bin/sh
+printf '%s ' "${0##*/}" "$@" | sed 's|/ | |g' >words.new && mv words.new words
+END
+    chmod +x "stubs/$1"
+}
+
+# completes SHELL
+completes() {
+    (cd typing && PATH=$room/stubs:$PATH python3 "$top/end_to_end/completing.py" "$1" "../$unpacked/share" cases.txt)
+}
+
+check "types" mypy --strict --cache-dir="$room/mypy" --python-executable=/usr/bin/python3 "$top/release/write.py" "$top/release/modules.py"
+check "style" flake8 --max-line-length=120 "$top/release"
+check "style of the scripts" shellcheck -S warning -x -P "$top" "$top/package" "$top/release/installed.sh"
+check "a copy of the files" committed one
+with_program one
+(cd one && ./package) >made.txt 2>&1
+cat made.txt
+number=$("$afdx" --version | sed -n '1s/^afdx //p')
+unpacked=afdx-$number-x86_64-linux
+deb=one/out/dist/afdx_${number}_amd64.deb
+check "checksums of both packages, and no other file" has_sums
+check "the same bytes again" makes_again
+check "another argument" refuses "usage: ./package [--try]" --sign
+echo >>two/LICENSE
+check "files that are not the commit's" refuses "package: there are changes that are not committed"
+rm two/crates/afdx/out/afdx
+check "no program" refuses "package: no crates/afdx/out/afdx: ./test proves, builds and tests it"
+
+tar -x -z -f "one/out/dist/$unpacked.tar.gz" && dpkg-deb -x "$deb" installed || exit 1
+pages=$unpacked/share/man/man1
+mkdir -p installed/lib/x86_64-linux-gnu installed/lib64 stubs typing/{inner,older,outer}
+cp -L /lib/x86_64-linux-gnu/libc.so.6 installed/lib/x86_64-linux-gnu && cp -L /lib64/ld-linux-x86-64.so.2 installed/lib64
+check "both have the program" is_the_program "$unpacked/bin/afdx" installed/usr/bin/afdx
+check "lintian finds no error" lintian --fail-on error "$deb"
+check "what the program needs" says_what_it_needs
+check "README's first run, beside the C library alone" first_run
+check "each command where it is unpacked" commands_help "$PWD/$unpacked/bin"
+
+check "the man pages have no fault for mandoc" silent mandoc -T lint -W style "$pages"/*.1
+check "nor for man" silent shown_by_man
+check "and all words of the help" python3 "$top/end_to_end/manuals.py" "$unpacked/bin" "$pages"
+
+for command in "$unpacked"/bin/*; do
+    stub "${command##*/}"
+done
+touch typing/{table.toml,inns.txt,olds.txt}
+cat >typing/cases.txt <<'END'
+afdx mea<TAB> | afdx measure
+afdx netw<TAB> jit<TAB> | afdx network jitter
+afdx run --un<TAB> tab<TAB> inn<TAB> out<TAB> | afdx run --unchecked table.toml inner outer
+afdx alone --id 10 --jit<TAB> | afdx alone --id 10 --jitter
+afdx --vers<TAB> | afdx --version
+END
+[ ! -e stubs/afdx-view ] || cat >>typing/cases.txt <<'END'
+afdx-view --ans<TAB> old<TAB> tab<TAB> | afdx-view --answers older table.toml
+END
+for shell in bash zsh fish; do
+    check "what $shell completes" completes "$shell"
+done
+finish
