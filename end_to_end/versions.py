@@ -12,10 +12,7 @@ from pathlib import Path
 
 TOP = Path(__file__).resolve().parents[1]
 CODE = "crates/afdx_arguments/src/command.rt"
-PLACES = (  # a file, and how the number stands in it
-    ("crates/afdx_serve_tests/src/arguments.rt", r'const VERSION: &str = "afdx {}\n'),
-    ("python/afdx/__init__.py", '__version__ = "{}"'),
-)
+PLACES = (("python/afdx/__init__.py", '__version__ = "{}"'),)  # a file, and how the number stands in it
 RELEASE = re.compile(r"^## \[(\d\S*)\] - \d{4}-\d{2}-\d{2}$", re.MULTILINE)
 
 
