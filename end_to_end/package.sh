@@ -62,7 +62,7 @@ without_anything() {
     "${way[@]}" installed /usr/bin/afdx "$@"
 }
 
-# first_run: README's first two commands, in such a folder, print and put what they do here.
+# first_run: README's first run from a package, in such a folder, prints and puts what it does here.
 first_run() {
     local network=examples/network
     grep -qxF "cp -r /usr/share/doc/afdx/examples . && afdx check $network/table.toml" "$top/README.md" &&
