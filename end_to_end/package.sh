@@ -46,13 +46,13 @@ is_the_program() {
     done
 }
 
-# says_what_it_needs: the .deb depends on the C library whose symbols the program has, and ./package says so.
+# says_what_it_needs: the .deb depends on the C library whose symbols the program has, and ./package and INSTALL say so.
 says_what_it_needs() {
     local glibc
     glibc=$(objdump -T "$afdx" | grep -o 'GLIBC_[0-9.]*' | sort -uV | tail -n 1)
     glibc=${glibc#GLIBC_}
     dpkg-deb -f "$deb" Depends && [ "$(dpkg-deb -f "$deb" Depends)" = "libc6 (>= $glibc), python3 (>= 3.11)" ] &&
-        grep -q " needs glibc $glibc or later and no other library:$" made.txt
+        grep -q " needs glibc $glibc or later and no other library:$" made.txt && grep -q "glibc $glibc or later" "$top/docs/use/INSTALL.md"
 }
 
 # without_anything ARGUMENT..: the .deb's program in a folder that has the C library and its loader beside it, and no more.
@@ -149,8 +149,6 @@ afdx netw<TAB> jit<TAB> | afdx network jitter
 afdx run --un<TAB> tab<TAB> inn<TAB> out<TAB> | afdx run --unchecked table.toml inner outer
 afdx alone --id 10 --jit<TAB> | afdx alone --id 10 --jitter
 afdx --vers<TAB> | afdx --version
-END
-[ ! -e stubs/afdx-view ] || cat >>typing/cases.txt <<'END'
 afdx-view --ans<TAB> old<TAB> tab<TAB> | afdx-view --answers older table.toml
 END
 for shell in bash zsh fish; do

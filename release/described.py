@@ -22,7 +22,7 @@ class Row:
     @property
     def names(self) -> list[str]:
         """The names of an option, the short one first."""
-        return re.findall(r"(?:(?<=^)|(?<=, ))-{1,2}[\w-]+", self.head)
+        return re.findall(r"(?:^|, )(-{1,2}[\w-]+)", self.head)
 
     @property
     def values(self) -> list[str]:

@@ -1,12 +1,13 @@
 #!/usr/bin/env bash
 # What ./package --try does in a fresh Debian, as root, in a copy of the commit's files beside which the .deb lies: installs it, and
-# runs the end-to-end scripts that take a program, by the installed one. The Python commands are the installed ones too.
+# runs the end-to-end scripts that take a program, by the installed one. The Python commands are the installed ones too. Left out are
+# demo.sh, which needs the kit, and package.sh, which makes packages.
 set -u
 shopt -s nullglob
 cd "$(dirname "$0")/.." || exit 1
 export DEBIAN_FRONTEND=noninteractive AFDX=/usr/bin/afdx
 
-apt-get install -qy ./*.deb >/dev/null || { echo "cannot install the .deb"; exit 1; }
+apt-get install -qy --install-recommends ./*.deb >/dev/null || { echo "cannot install the .deb"; exit 1; }
 rm -r python/afdx
 ln -s /usr/share/afdx/afdx python/afdx
 for command in python/bin/*; do
@@ -14,7 +15,7 @@ for command in python/bin/*; do
 done
 
 failed=0
-mapfile -t scripts < <(grep -l '{AFDX:-' end_to_end/*.sh | grep -v /package.sh)
+mapfile -t scripts < <(grep -l '{AFDX:-' end_to_end/*.sh | grep -v -e /demo.sh -e /package.sh)
 for script in "${scripts[@]}"; do
     began=$SECONDS
     bash "$script" >said.txt 2>&1 || { failed=$((failed + 1)); grep -v '^ok ' said.txt; }
