@@ -1,32 +1,43 @@
 """Puts whole files: under a name is what was there or the whole new text, never a part of it."""
+from __future__ import annotations  # the workers of a campaign get `put_by` by value, without the names of types
+
 import os
-import tempfile
+import secrets
+from collections.abc import Callable
 from pathlib import Path
+from typing import BinaryIO
 
 from afdx.failure import failing
 
 
-def umask() -> int:
-    """Answers the process's mask of rights, which can only be read by setting it."""
-    mask = os.umask(0)
-    os.umask(mask)
-    return mask
+def begin(path: Path) -> BinaryIO:
+    """Opens a new file beside a name, for what is moved onto the name once it is whole."""
+    return open(path.with_name(f".{path.name}.{secrets.token_hex(4)}"), "xb")
+
+
+def put_by(path: Path, write: Callable[[BinaryIO], object]) -> None:
+    """Has a new file written beside the name, has the device take it, and moves it onto the name.
+
+    What fails has the name in its OSError.
+    """
+    try:
+        with begin(path) as file:
+            try:
+                write(file)
+                file.flush()
+                os.fsync(file.fileno())
+                os.replace(file.name, path)
+            except BaseException:
+                os.unlink(file.name)
+                raise
+    except OSError as error:
+        raise OSError(error.errno, error.strerror, str(path)) from error
 
 
 def put(command: str, path: Path, text: bytes) -> None:
-    """Writes a new file beside the name, has the device take it, and moves it onto the name."""
+    """Puts a text under a name."""
     try:
-        with tempfile.NamedTemporaryFile(dir=path.parent, prefix=f".{path.name}.", delete=False) as file:
-            new = Path(file.name)
-            try:
-                file.write(text)
-                file.flush()
-                os.fchmod(file.fileno(), 0o666 & ~umask())
-                os.fsync(file.fileno())
-                os.replace(new, path)
-            except BaseException:
-                new.unlink()
-                raise
+        put_by(path, lambda file: file.write(text))
     except OSError as error:
         raise failing(command, f"cannot write {path}", error) from error
 

@@ -1,15 +1,14 @@
 """Writes the captures of all ports to new files, and moves them onto their names when all are whole."""
 import errno
 import os
-import tempfile
 from collections.abc import Iterable
 from contextlib import ExitStack, suppress
 from pathlib import Path
 from types import TracebackType
-from typing import IO, Self
+from typing import BinaryIO, Self
 
+from afdx import files
 from afdx.failure import failing
-from afdx.files import umask
 from afdx.recordings.pcap import WRITTEN
 
 
@@ -20,7 +19,7 @@ class Captures:
         self.command = command
         self.paths = {port: folder / f"{port}.pcap" for port in ports}
         self.folders: list[Path] = []
-        self.files: dict[str, IO[bytes]] = {}
+        self.files: dict[str, BinaryIO] = {}
 
     def __enter__(self) -> Self:
         with ExitStack() as stack:
@@ -43,7 +42,7 @@ class Captures:
             for folder in [one for one in [*reversed(path.parent.parents), path.parent] if not one.exists()]:
                 folder.mkdir()
                 self.folders.append(folder)
-            self.files[port] = tempfile.NamedTemporaryFile(dir=path.parent, prefix=f".{path.name}.", delete=False)
+            self.files[port] = files.begin(path)
         except OSError as error:
             raise failing(self.command, f"cannot write {path}", error) from error
         self.write(port, WRITTEN)
@@ -59,7 +58,6 @@ class Captures:
         for port, path in self.paths.items():
             try:
                 self.files[port].flush()
-                os.fchmod(self.files[port].fileno(), 0o666 & ~umask())
                 os.fsync(self.files[port].fileno())
             except OSError as error:
                 raise failing(self.command, f"cannot write {path}", error) from error
