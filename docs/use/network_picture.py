@@ -12,6 +12,7 @@ sys.dont_write_bytecode = True
 TOP = Path(__file__).resolve().parents[2]
 sys.path.insert(0, str(TOP / "python"))
 
+from afdx.pages.drawing import saved  # noqa: E402
 from afdx.program import Program  # noqa: E402
 from afdx.view import pictures  # noqa: E402
 from afdx.view.making import run_of, sized  # noqa: E402
@@ -24,7 +25,7 @@ WIDTH = 8.6  # inches
 def drawn():
     program = Program("network_picture.py")
     run = run_of(program, sized(program, str(NETWORK / "table.toml")), str(NETWORK / "in"))
-    return re.sub(r"[ \t]+$", "", pictures.saved(pictures.overview(run, WIDTH), False), flags=re.M)
+    return re.sub(r"[ \t]+$", "", saved(pictures.overview(run, WIDTH), False), flags=re.M)
 
 
 def shown(svg):

@@ -2,8 +2,8 @@
 from dataclasses import dataclass
 
 from afdx import printed
+from afdx.pages.words import percent
 from afdx.view.departures import PRIORITIES
-from afdx.view.words import percent
 
 
 @dataclass(frozen=True)

@@ -2,12 +2,15 @@
 from collections.abc import Iterator
 from dataclasses import dataclass
 from functools import partial
+from pathlib import Path
 
 from markupsafe import Markup
 
 from afdx import printed
+from afdx.pages import templates, words
+from afdx.pages.drawing import svg_of
 from afdx.program import Progress
-from afdx.view import pictures, templates, words
+from afdx.view import pictures
 from afdx.view.bars import Bar, bars_of
 from afdx.view.pairs import Pair
 from afdx.view.provenance import Provenance
@@ -67,7 +70,7 @@ def port_delays(run: Run, progress: Progress) -> Iterator[PortDelays]:
     places = {id(pair): place for place, pair in enumerate(run.drawn.shown)}
     for port in sorted({pair.port for pair in run.drawn.shown}):
         progress.say(f"pictures of port {port}")
-        picture = Markup(pictures.svg_of(pictures.port_delays(run, port), f"Delays of all that left port {port}"))
+        picture = Markup(svg_of(pictures.port_delays(run, port), f"Delays of all that left port {port}"))
         own = [pair for pair in run.drawn.shown if pair.port == port]
         scale = max(pair.greatest or 0 for pair in own)
         strips = [(pair, strip(*run.drawn.links.points(places[id(pair)]), pair.bound or scale, run.span))
@@ -83,13 +86,13 @@ def both(first: int, ns: int) -> str:
 def overviews(run: Run, progress: Progress) -> list[Markup]:
     """Makes the first picture, for wide and for narrow places."""
     progress.say("pictures of the run")
-    return [Markup(pictures.svg_of(pictures.overview(run, width), "The run at a glance")) for width in (WIDE, NARROW)]
+    return [Markup(svg_of(pictures.overview(run, width), "The run at a glance")) for width in (WIDE, NARROW)]
 
 
 def page(run: Run, title: str, provenance: Provenance, progress: Progress) -> str:
     first = run.fates.first
     overview = [] if first is None else overviews(run, progress)
-    template = templates.environment().get_template("page.html")
+    template = templates.environment(Path(__file__).resolve().parent).get_template("page.html")
     text = template.render(
         title=title, run=run, first=first, verdict=verdict_of(run), both=partial(both, first or 0), overview=overview,
         port_cards=port_cards(run), policed_cards=policed_cards(run), port_delays=port_delays(run, progress),

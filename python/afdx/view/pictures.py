@@ -1,50 +1,18 @@
 """Draws the pictures with axes, by matplotlib."""
-import io
-import re
 from collections.abc import Sequence
 from typing import Any
 
-import matplotlib
 from matplotlib.figure import Figure
 from matplotlib.ticker import EngFormatter, PercentFormatter
 
+from afdx.pages.drawing import COLOURS, INK, PASSED, POLICED, head, rule
 from afdx.view.departures import PRIORITIES
 from afdx.view.greatest import Floats, Ints
 from afdx.view.run import Run
 
-# Of the palette of Okabe and Ito, whose colours all readers tell apart.
-COLOURS = {"high": "#0072B2", "low": "#E69F00"}
-PASSED, POLICED = "#0072B2", "#D55E00"
-INK, AXES, GRID = "#1c2024", "#5a6470", "#dfe3e8"
 MARKS = {"high": "o", "low": "D"}
-# What the page's style sets in place of a colour, so that the pictures follow it into the dark.
-VARIABLES = {PASSED: "high", COLOURS["low"]: "low", POLICED: "policed", INK: "ink", AXES: "soft", GRID: "line"}
-
-matplotlib.rcParams.update({
-    "svg.fonttype": "none", "svg.hashsalt": "afdx-view", "font.family": "sans-serif", "font.size": 11,
-    "axes.spines.top": False, "axes.spines.right": False, "axes.edgecolor": AXES, "axes.labelcolor": INK,
-    "text.color": INK, "xtick.color": AXES, "ytick.color": AXES, "legend.frameon": False})
 
 SECONDS = EngFormatter("s", sep=" ")
-
-
-def saved(figure: Any, transparent: bool) -> str:
-    text = io.StringIO()
-    figure.savefig(text, format="svg", metadata={"Date": None, "Creator": None}, transparent=transparent)
-    return text.getvalue()
-
-
-def svg_of(figure: Any, label: str) -> str:
-    """Answers the figure as an element of the page: as wide as its place, in the page's colours, without names that
-    another figure has too."""
-    svg = saved(figure, True)
-    svg = svg[svg.index("<svg"):]
-    svg = re.sub(r"<metadata>.*?</metadata>", "", svg, flags=re.S)
-    svg = re.sub(r' id="[A-Za-z.]+_?\d+_?"(?=>)', "", svg)
-    svg = re.sub(r' (?:width|height)="[\d.]+pt"', "", svg, count=2)
-    for colour, variable in VARIABLES.items():
-        svg = re.sub(f"{colour}(?![0-9a-f])", f"var(--{variable})", svg, flags=re.I)
-    return svg.replace("<svg", f'<svg role="img" aria-label="{label}"', 1)
 
 
 def plot(axes: Any, instants: Ints, values: Floats, priority: str) -> None:
@@ -52,16 +20,8 @@ def plot(axes: Any, instants: Ints, values: Floats, priority: str) -> None:
               label=priority)
 
 
-def head(axes: Any, title: str) -> None:
-    """Writes the title, and the legend below it, both at the left."""
-    axes.set_title(title, loc="left", fontsize=12, pad=22, fontweight="bold")
-    axes.legend(loc="lower left", bbox_to_anchor=(-0.01, 0.97), ncol=4, handletextpad=0.3, columnspacing=1,
-                handlelength=1.5, borderaxespad=0.2)
-
-
 def time_axis(axes: Any, run: Run) -> None:
-    axes.grid(axis="y", color=GRID, linewidth=0.8)
-    axes.set_axisbelow(True)
+    rule(axes)
     axes.xaxis.set_major_formatter(SECONDS)
     axes.set_xlim(-0.01 * run.span / 1e9, 1.01 * run.span / 1e9)
 

@@ -9,8 +9,8 @@ from dataclasses import dataclass
 from pathlib import Path
 
 from afdx.failure import USAGE, Failure, failing
+from afdx.pages import words
 from afdx.program import Program
-from afdx.view import words
 
 
 @dataclass(frozen=True)

@@ -1,7 +1,7 @@
 """Numbers and instants as the page writes them."""
 import pytest
 
-from afdx.view import words
+from afdx.pages import words
 
 
 @pytest.mark.parametrize("ns, text", [
