@@ -50,10 +50,10 @@ def find_program() -> str | None:
 
 
 class Program:
-    """The program afdx, run for a command."""
+    """The program afdx, run for a command: that of a file if one is named."""
 
-    def __init__(self, command: str) -> None:
-        found = find_program()
+    def __init__(self, command: str, file: str | None = None) -> None:
+        found = file or find_program()
         if not found:
             raise Failure(DEVICE, f"{command}: no program afdx: build it by ./demo --proved, put it on the path, "
                                   "or name it in AFDX")

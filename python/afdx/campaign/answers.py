@@ -1,0 +1,47 @@
+"""Finds the answers of a campaign in its folder."""
+import hashlib
+import json
+from collections.abc import Iterable, Iterator
+from pathlib import Path
+from typing import Any
+
+from afdx.campaign.worker.task import Task
+from afdx.campaign.worker.work import answer_at
+
+ENDING = ".json.gz"
+
+
+def keys_there(root: Path) -> set[str]:
+    """Answers the keys of all answers that are there."""
+    return {path.name.removesuffix(ENDING) for path in root.glob(f"answers/*/*{ENDING}")}
+
+
+def left_of(root: Path, tasks: list[Task]) -> list[int]:
+    """Answers the numbers of the tasks that have no answer."""
+    there = keys_there(root)
+    return [number for number, task in enumerate(tasks) if task.key not in there]
+
+
+def answered(root: Path, tasks: Iterable[Task]) -> Iterator[tuple[Task, dict[str, Any]]]:
+    """Answers the tasks that have an answer, each with it."""
+    there = keys_there(root)
+    for task in tasks:
+        if task.key in there:
+            yield task, answer_at(task.answer)
+
+
+def digest(root: Path, tasks: list[Task]) -> str:
+    """Answers one hash of all that the answers say, whoever found them, in whatever order and at whatever cost."""
+    digest = hashlib.sha256()
+    for task, answer in sorted(answered(root, tasks), key=lambda pair: pair[0].key):
+        said = [answer[name] for name in ("key", "recording", "table", "status", "fault", "line", "text", "begin")]
+        digest.update(json.dumps(said).encode())
+    return digest.hexdigest()
+
+
+def forget(root: Path, tasks: list[Task], status: int) -> int:
+    """Removes the answers of this status; answers how many they were."""
+    found = [task for task, answer in answered(root, tasks) if answer["status"] == status]
+    for task in found:
+        task.answer.unlink(missing_ok=True)
+    return len(found)

@@ -1,0 +1,120 @@
+"""Lists the tasks of a campaign: each recording under each table."""
+import glob
+import json
+import os
+import shutil
+from dataclasses import asdict, replace
+from pathlib import Path
+
+from afdx import toml
+from afdx.campaign.failures import COMMAND, failure, file_failure
+from afdx.campaign.settings import Campaign, Configured
+from afdx.campaign.worker.files import put_text
+from afdx.campaign.worker.task import Recording, Table, Task, identity_of, table_identity, task_of
+from afdx.campaign.worker.work import program_identity
+from afdx.failure import DEVICE, INPUT, LOAD
+from afdx.program import Program
+
+LEAST_MEMORY = 64 << 20  # bytes that a task takes of any recording
+
+
+def tasks_of(campaign: Campaign) -> list[Task]:
+    """Lists the tasks. Tables are asked for first: one that is refused ends it before a recording is touched."""
+    program = shutil.which(campaign.program)
+    if program is None:
+        raise failure(DEVICE, f"cannot run {campaign.program}: no such program")
+    try:
+        identity = program_identity(program)
+        tables = [(checked(program, table), table) for table in campaign.tables]
+        folders = folders_of(campaign.recordings)
+        return [Task(
+            root=str(campaign.root), program=os.path.abspath(program), program_identity=identity, recording=recording,
+            table=table, ask=campaign.ask, keep=campaign.keep, scratch=campaign.scratch, tries=campaign.limits.tries,
+            timeout=campaign.limits.timeout, memory=int(campaign.limits.memory * recording.size) + LEAST_MEMORY)
+            for table, configured in tables
+            for recording in recordings_of(folders, captures_of(configured), campaign.by_content)]
+    except OSError as error:
+        raise file_failure(f"read {error.filename}", error) from error
+
+
+def checked(program: str, configured: Configured) -> Table:
+    """Answers the table, if afdx accepts it, or at least reads it if it is run unchecked."""
+    path = str(configured.file)
+    command = ["network", "check"] if configured.network else ["size" if configured.unchecked else "check"]
+    answer = Program(COMMAND, program).ask(*command, path)
+    if answer.status:
+        status = DEVICE if answer.line.startswith("afdx: device") else LOAD
+        raise failure(status, f"table {configured.name}: {answer.line}")
+    if not configured.network:
+        return Table(configured.name, (path,), (), configured.unchecked, table_identity((path,)))
+    switches = toml.read(COMMAND, configured.file).get("switch", [])
+    files = (path, *(str(configured.file.parent / switch["table"]) for switch in switches))
+    return Table(configured.name, files, tuple(switch["name"] for switch in switches), False, table_identity(files))
+
+
+def captures_of(configured: Configured) -> tuple[str, ...]:
+    """Answers the captures that a table or a network reads, below the folder of a recording."""
+    top = toml.read(COMMAND, configured.file)
+    if not configured.network:
+        return tuple(f"port-{port['id']}.pcap" for port in top["port"])
+    wired = {wire["to"] for wire in top.get("wire", [])}
+    return tuple(
+        f"{switch['name']}/port-{port['id']}.pcap" for switch in top.get("switch", [])
+        for port in toml.read(COMMAND, configured.file.parent / switch["table"])["port"]
+        if f"{switch['name']}.{port['id']}" not in wired)
+
+
+def folders_of(patterns: tuple[str, ...]) -> dict[str, str]:
+    """Finds the folders of recordings by name, which is the path below the part of the pattern without wildcards."""
+    folders: dict[str, str] = {}
+    for pattern in patterns:
+        found = sorted(path for path in glob.glob(pattern) if os.path.isdir(path))
+        if not found:
+            raise failure(INPUT, f"no folder is {pattern}")
+        for path in found:
+            name = os.path.relpath(path, above(pattern))
+            if not name.isprintable():
+                raise failure(INPUT, f"a recording's name cannot be printed: {name!r}")
+            if folders.setdefault(name, path) != path:
+                raise failure(INPUT, f"two recordings are called {name}: {folders[name]} and {path}")
+    return folders
+
+
+def above(pattern: str) -> str:
+    """Answers the folder above the first wildcard of a pattern, or above a folder that has none."""
+    parts = Path(pattern).parts
+    plain = next((number for number, part in enumerate(parts) if glob.has_magic(part)), len(parts) - 1)
+    return str(Path(*parts[:plain]))
+
+
+def recordings_of(folders: dict[str, str], files: tuple[str, ...], by_content: bool) -> list[Recording]:
+    """Answers the recordings as they are now."""
+    return [Recording(name, folder, files, size_of(folder, files), by_content,
+                      identity_of(name, folder, files, by_content)) for name, folder in folders.items()]
+
+
+def size_of(folder: str, files: tuple[str, ...]) -> int:
+    """Answers the bytes of the captures that are there."""
+    paths = [os.path.join(folder, file) for file in files]
+    return sum(os.path.getsize(path) for path in paths if os.path.exists(path))
+
+
+def plan_file(root: Path) -> Path:
+    """Answers the list of the tasks as `run` made it last."""
+    return root / "tasks.jsonl"
+
+
+def put_plan(root: Path, tasks: list[Task]) -> None:
+    """Puts the list of tasks."""
+    put_text(plan_file(root), "".join(f"{json.dumps(asdict(task))}\n" for task in tasks))
+
+
+def get_plan(root: Path) -> list[Task]:
+    """Gets the list of tasks."""
+    try:
+        with open(plan_file(root), encoding="utf-8", errors="surrogateescape") as file:
+            return [replace(task_of(json.loads(line)), root=str(root)) for line in file]
+    except FileNotFoundError as error:
+        raise failure(DEVICE, f"no tasks in {root}: `afdx-campaign run` lists them") from error
+    except OSError as error:
+        raise file_failure(f"read {plan_file(root)}", error) from error

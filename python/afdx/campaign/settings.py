@@ -1,0 +1,162 @@
+"""Reads the campaign file, CAMPAIGN.toml."""
+import tempfile
+from collections.abc import Mapping
+from dataclasses import dataclass
+from pathlib import Path
+from typing import Any, TypeVar
+
+from afdx import toml
+from afdx.campaign.failures import COMMAND, failure
+from afdx.campaign.worker.questions import ASKS, KEEPS
+from afdx.failure import INPUT
+from afdx.program import find_program
+
+IDENTITIES = ("stat", "content")
+REQUIRED = object()
+NAME = set("ABCDEFGHIJKLMNOPQRSTUVWXYZabcdefghijklmnopqrstuvwxyz0123456789-_.")
+
+Kind = TypeVar("Kind")
+
+
+@dataclass(frozen=True)
+class Configured:
+    """A [[table]] or a [[network]]."""
+    name: str
+    file: Path
+    network: bool
+    unchecked: bool
+
+
+@dataclass(frozen=True)
+class Limits:
+    """What a task may take."""
+    tries: int
+    timeout: float  # seconds of a child
+    memory: float  # times the bytes of the recording
+    patience: float  # seconds that an engine may be away
+
+
+@dataclass(frozen=True)
+class Campaign:
+    """What a campaign file says, with its paths made absolute."""
+    file: Path
+    program: str
+    recordings: tuple[str, ...]  # patterns of folders
+    root: Path
+    ask: str
+    keep: str
+    by_content: bool
+    scratch: str
+    tables: tuple[Configured, ...]
+    limits: Limits
+
+
+class Fault(Exception):
+    """What is wrong with a campaign file, and where."""
+
+
+class Section:
+    """A table of the file, whose keys are taken one by one; what is left is unknown."""
+
+    def __init__(self, values: Mapping[str, Any], place: str) -> None:
+        self.values, self.place = dict(values), place
+
+    def fail(self, what: str) -> Fault:
+        """Makes the fault of this place."""
+        return Fault(f"{what}, {self.place}")
+
+    def take(self, key: str, kind: type[Kind], default: object = REQUIRED) -> Kind:
+        """Takes the value of a key; a whole number is taken for a fraction."""
+        value = self.values.pop(key, default)
+        if value is REQUIRED:
+            raise self.fail(f"no key {key}")
+        if kind is float and type(value) is int:
+            value = float(value)
+        if type(value) is not kind:
+            raise self.fail(f"{key} is no {kind.__name__}")
+        return value
+
+    def take_one_of(self, key: str, words: tuple[str, ...]) -> str:
+        """Takes one of these words, the first by default."""
+        word = self.take(key, str, words[0])
+        if word not in words:
+            raise self.fail(f"{key} is none of {', '.join(words)}")
+        return word
+
+    def take_above_zero(self, key: str, kind: type[Kind], default: Kind) -> Kind:
+        """Takes a number above 0."""
+        number = self.take(key, kind, default)
+        if not number > 0:  # type: ignore[operator]
+            raise self.fail(f"{key} is not above 0")
+        return number
+
+    def take_sections(self, key: str) -> "list[Section]":
+        """Takes the sections [[key]]."""
+        rows = self.take(key, list, [])
+        if not all(isinstance(row, dict) for row in rows):
+            raise self.fail(f"{key} is no [[{key}]]")
+        return [Section(row, f"[[{key}]] {number}") for number, row in enumerate(rows, 1)]
+
+    def end(self) -> None:
+        """Refuses keys that are left."""
+        for key in self.values:
+            raise self.fail(f"unknown key {key}")
+
+
+def read_campaign(path: Path) -> Campaign:
+    """Reads a campaign file; its paths are beside it unless they begin with /."""
+    try:
+        return campaign_of(Section(toml.read(COMMAND, path), "top"), path.resolve())
+    except Fault as fault:
+        raise failure(INPUT, f"{path}: {fault}") from fault
+
+
+def campaign_of(top: Section, path: Path) -> Campaign:
+    """Answers what the sections of the file say."""
+    folder = path.parent
+    program = top.take("program", str, find_program() or "")
+    if not program:
+        raise top.fail("no key program, and no program afdx is on the path")
+    recordings = top.take("recordings", list)
+    if not recordings or not all(isinstance(pattern, str) for pattern in recordings):
+        raise top.fail("recordings is no list of patterns")
+    campaign = Campaign(
+        file=path, program=str(folder / program) if "/" in program else program,
+        recordings=tuple(str(folder / pattern) for pattern in recordings), root=folder / top.take("root", str),
+        ask=top.take_one_of("ask", ASKS), keep=top.take_one_of("keep", KEEPS),
+        by_content=top.take_one_of("identity", IDENTITIES) == "content",
+        scratch=str(folder / top.take("scratch", str, tempfile.gettempdir())),
+        tables=tables_of(top, folder), limits=limits_of(top))
+    top.end()
+    if campaign.ask == "survey" and campaign.keep != "none":
+        raise top.fail("keep needs ask = \"run\" or \"trace\": a survey puts nothing")
+    if campaign.ask != "run" and any(table.network for table in campaign.tables):
+        raise top.fail("of a [[network]] only ask = \"run\" is answered")
+    return campaign
+
+
+def tables_of(top: Section, folder: Path) -> tuple[Configured, ...]:
+    """Answers the tables and networks, whose names are different."""
+    found = [(section, kind == "network") for kind in ("table", "network") for section in top.take_sections(kind)]
+    tables: list[Configured] = []
+    for section, network in found:
+        name, file = section.take("name", str), folder / section.take("file", str)
+        unchecked = False if network else section.take("unchecked", bool, False)
+        section.end()
+        if not name or not set(name) <= NAME or name.startswith("."):
+            raise section.fail("name has other signs than letters, digits, - _ and .")
+        if name in [table.name for table in tables]:
+            raise section.fail(f"name {name} is taken")
+        tables.append(Configured(name, file, network, unchecked))
+    if not tables:
+        raise top.fail("no [[table]] and no [[network]]")
+    return tuple(tables)
+
+
+def limits_of(top: Section) -> Limits:
+    """Answers the limits, each with a default."""
+    section = Section(top.take("limits", dict, {}), "[limits]")
+    limits = Limits(section.take_above_zero("tries", int, 3), section.take_above_zero("timeout_s", float, 36000.0),
+                    section.take_above_zero("memory", float, 4.0), section.take_above_zero("patience_s", float, 60.0))
+    section.end()
+    return limits

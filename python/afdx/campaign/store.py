@@ -1,0 +1,139 @@
+"""Keeps the store: SQLite, made of the answers alone by one writer, so that it can be removed and made again."""
+import contextlib
+import sqlite3
+from collections.abc import Iterator, Sequence
+from pathlib import Path
+from typing import Any
+
+from afdx.campaign.answers import keys_there
+from afdx.campaign.failures import failure
+from afdx.campaign.lines import PORT, rows_of
+from afdx.campaign.worker.files import locked
+from afdx.campaign.worker.task import Task
+from afdx.campaign.worker.work import answer_at
+from afdx.failure import DEVICE
+
+VERSION = 1  # of the schema; a store of another one is made again
+BATCH = 200  # runs of a transaction
+QUOTED = ", ".join(f'"{name}" integer' for name in PORT)
+SCHEMA = f"""
+create table if not exists tables (id integer primary key, name text not null unique, unchecked integer not null);
+create table if not exists runs (
+    id integer primary key, key text not null unique, recording text not null,
+    "table" integer not null references tables, begin integer, size integer not null, status integer not null,
+    seconds real, processor real, memory integer, tries integer, host text, at real);
+create unique index if not exists runs_of_tables on runs ("table", recording);
+create table if not exists links (
+    run integer not null, switch text not null, link integer not null, passed integer not null,
+    policed integer not null, primary key (run, switch, link)) without rowid;
+create index if not exists policed_links on links (run) where policed > 0;
+create table if not exists ports (
+    run integer not null, switch text not null, port integer not null, {QUOTED},
+    primary key (run, switch, port)) without rowid;
+create table if not exists delays (
+    run integer not null, switch text not null, link integer not null, port integer not null, sent integer not null,
+    least integer, greatest integer, bound integer, primary key (run, switch, link, port)) without rowid;
+create table if not exists spells (
+    run integer not null, switch text not null, link integer not null, begin integer not null, end integer not null,
+    frames integer not null, least_early integer not null, greatest_early integer not null,
+    primary key (run, switch, link, begin)) without rowid;
+create table if not exists faults (
+    run integer primary key, status integer not null, fault text not null, line text not null);
+"""
+OF_RUNS = ("links", "ports", "delays", "spells", "faults")
+
+
+def store_file(root: Path) -> Path:
+    """Answers the file of the store."""
+    return root / "store.sqlite"
+
+
+@contextlib.contextmanager
+def collected(root: Path, tasks: list[Task]) -> Iterator[sqlite3.Connection]:
+    """Opens the store with all answers to these tasks, and no others. One writer at a time."""
+    with locked(root):
+        try:
+            base = opened(store_file(root))
+            collect(base, root, tasks)
+        except sqlite3.OperationalError as error:
+            raise failure(DEVICE, f"cannot write {store_file(root)}: {error}") from error
+        with contextlib.closing(base):
+            yield base
+
+
+def opened(path: Path) -> sqlite3.Connection:
+    """Opens the store; what is none, or one of another version, is removed first."""
+    with contextlib.suppress(sqlite3.DatabaseError):
+        base = sqlite3.connect(path)
+        if base.execute("pragma user_version").fetchone()[0] in (0, VERSION):
+            return prepared(base)
+        base.close()
+    for ending in ("", "-wal", "-shm"):
+        Path(f"{path}{ending}").unlink(missing_ok=True)
+    return prepared(sqlite3.connect(path))
+
+
+def prepared(base: sqlite3.Connection) -> sqlite3.Connection:
+    """Makes the tables that are not there. What a loss of power takes is made again: nothing waits for the disk."""
+    base.executescript(f"pragma journal_mode = wal; pragma synchronous = off; pragma cache_size = -200000; {SCHEMA}"
+                       f"pragma user_version = {VERSION};")
+    return base
+
+
+def collect(base: sqlite3.Connection, root: Path, tasks: list[Task]) -> None:
+    """Adds the answers that are new, and removes the runs that no task asks for or whose answer was forgotten."""
+    there = keys_there(root)
+    wanted = {task.key: task for task in tasks if task.key in there}
+    tables = name_tables(base, tasks)
+    stored = dict(base.execute("select key, id from runs"))
+    remove(base, [number for key, number in stored.items() if key not in wanted])
+    for number, key in enumerate(key for key in wanted if key not in stored):
+        add(base, wanted[key], tables[wanted[key].table.name], answer_at(wanted[key].answer))
+        if number % BATCH == BATCH - 1:
+            base.commit()
+    base.execute("analyze")
+    base.commit()
+
+
+def remove(base: sqlite3.Connection, numbers: list[int]) -> None:
+    """Removes runs."""
+    rows = [(number,) for number in numbers]
+    for table in OF_RUNS:
+        base.executemany(f"delete from {table} where run = ?", rows)
+    base.executemany("delete from runs where id = ?", rows)
+
+
+def name_tables(base: sqlite3.Connection, tasks: list[Task]) -> dict[str, int]:
+    """Answers the numbers of the tables, which are in the order of the campaign file."""
+    names = {task.table.name: task.table.unchecked for task in tasks}
+    stored = [name for name, in base.execute("select name from tables order by id")]
+    if stored != list(names):
+        remove(base, [number for number, in base.execute("select id from runs")])
+        base.execute("delete from tables")
+        base.executemany("insert into tables (name, unchecked) values (?, ?)", names.items())
+    return dict(base.execute("select name, id from tables"))
+
+
+def add(base: sqlite3.Connection, task: Task, table: int, answer: dict[str, Any]) -> None:
+    """Adds an answer."""
+    how = answer["how"]
+    run = base.execute(
+        'insert into runs (key, recording, "table", begin, size, status, seconds, processor, memory, tries, host, at) '
+        "values (?, ?, ?, ?, ?, ?, ?, ?, ?, ?, ?, ?)",
+        (task.key, task.recording.name, table, answer["begin"], task.recording.size, answer["status"], how["seconds"],
+         how["processor"], how["memory"], how["tries"], how["host"], how["at"])).lastrowid
+    if answer["status"]:
+        base.execute("insert into faults values (?, ?, ?, ?)", (run, answer["status"], answer["fault"], answer["line"]))
+    rows = rows_of(answer["text"], bool(task.table.switches))
+    ports = [(*place, *values) for place, values in rows.ports.items()]
+    insert(base, "links", run, rows.links)
+    insert(base, "delays", run, rows.delays)
+    insert(base, "spells", run, rows.spells)
+    insert(base, "ports", run, ports)
+
+
+def insert(base: sqlite3.Connection, table: str, run: int | None, rows: Sequence[tuple[Any, ...]]) -> None:
+    """Adds rows of a run."""
+    if rows:
+        places = ", ".join("?" * (1 + len(rows[0])))
+        base.executemany(f"insert into {table} values ({places})", ((run, *row) for row in rows))

@@ -1,0 +1,63 @@
+"""Puts files, and makes folders for temporary files that a kill does not leave for ever."""
+from __future__ import annotations
+
+import contextlib
+import fcntl
+import os
+import shutil
+import tempfile
+from collections.abc import Callable, Iterator
+from pathlib import Path
+from typing import BinaryIO
+
+from afdx.files import put_by
+
+SCRATCH = "afdx-campaign-"
+
+
+def put(path: Path, write: Callable[[BinaryIO], object]) -> None:
+    """Puts a whole file, in folders that are made if they are not there."""
+    path.parent.mkdir(parents=True, exist_ok=True)
+    put_by(path, write)
+
+
+def put_text(path: Path, text: str) -> None:
+    """Puts a text."""
+    put(path, lambda file: file.write(text.encode("utf-8", "surrogateescape")))
+
+
+def put_copy(source: Path, path: Path) -> None:
+    """Puts a copy of a file."""
+    with open(source, "rb") as read:
+        put(path, lambda file: shutil.copyfileobj(read, file, 1 << 20))
+
+
+@contextlib.contextmanager
+def locked(folder: str | Path, how: int = fcntl.LOCK_EX) -> Iterator[None]:
+    """Holds the lock of a folder; it is let go when the process ends, however that comes."""
+    lock = os.open(folder, os.O_RDONLY | os.O_DIRECTORY)
+    try:
+        fcntl.flock(lock, how)
+        yield
+    finally:
+        os.close(lock)
+
+
+@contextlib.contextmanager
+def scratch_folder(parent: str) -> Iterator[Path]:
+    """Makes a folder for temporary files, whose lock its maker holds, and removes those whose maker is gone."""
+    os.makedirs(parent, exist_ok=True)
+    with contextlib.ExitStack() as stack:
+        with locked(parent):
+            sweep(parent)
+            made = Path(tempfile.mkdtemp(prefix=SCRATCH, dir=parent))
+            stack.callback(shutil.rmtree, made, ignore_errors=True)
+            stack.enter_context(locked(made))
+        yield made
+
+
+def sweep(parent: str) -> None:
+    """Removes the folders whose lock nobody holds."""
+    for left in Path(parent).glob(f"{SCRATCH}*"):
+        with contextlib.suppress(OSError), locked(left, fcntl.LOCK_EX | fcntl.LOCK_NB):
+            shutil.rmtree(left, ignore_errors=True)

@@ -1,0 +1,55 @@
+"""Asks the questions that there are of a recording; each is answered by lines that afdx prints."""
+from __future__ import annotations
+
+import os
+import shutil
+from pathlib import Path
+
+from afdx.campaign.worker.files import put_copy
+from afdx.campaign.worker.program import Program, Said
+from afdx.campaign.worker.survey import polices, survey
+from afdx.campaign.worker.task import Task
+
+ASKS = ("survey", "run", "trace")
+KEEPS = ("none", "policed", "all")
+
+
+def ask(task: Task, program: Program, scratch: Path) -> Said:
+    """Answers the question of a task; outputs that are to be kept are put."""
+    table, folder = task.table.files[0], task.recording.folder
+    options = ("--unchecked",) if task.table.unchecked else ()
+    if task.table.switches:
+        return run(task, program, scratch, ("network", "run", table, folder), ())
+    if task.ask == "run":
+        return run(task, program, scratch, ("run", table, folder), options)
+    said = survey(program, table, folder, options, scratch)
+    if task.ask == "survey" or said.status:
+        return said
+    traced = run(task, program, scratch, ("trace", table, folder), options, polices(said.text))
+    return traced if traced.status else said
+
+
+def run(task: Task, program: Program, scratch: Path, arguments: tuple[str, ...], options: tuple[str, ...],
+        policed: bool | None = None) -> Said:
+    """Runs a command that puts files, and keeps these if the task asks for it."""
+    out = scratch / "kept"
+    for switch in task.table.switches or (".",):
+        (out / switch).mkdir(parents=True)
+    said = program(*arguments, str(out), *options)
+    if said.status == 0 and wanted(task.keep, polices(said.text) if policed is None else policed):
+        keep(out, Path(task.root, "kept", task.table.name, task.recording.name))
+    shutil.rmtree(out)
+    return said
+
+
+def wanted(keeps: str, policed: bool) -> bool:
+    """Answers whether the outputs of a recording are kept."""
+    return keeps == "all" or keeps == "policed" and policed
+
+
+def keep(out: Path, place: Path) -> None:
+    """Puts all files of a folder into another one, each whole."""
+    for folder, _, names in os.walk(out):
+        for name in names:
+            source = Path(folder, name)
+            put_copy(source, place / source.relative_to(out))

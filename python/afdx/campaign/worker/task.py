@@ -1,0 +1,98 @@
+"""Has the tasks of a campaign: each is a pure function of its recording, its table, its program and its question."""
+from __future__ import annotations
+
+import hashlib
+import json
+import os
+from dataclasses import dataclass
+from pathlib import Path
+from typing import Any
+
+FORM = 1  # of an answer; another form makes other keys
+PIECE = 1 << 20
+
+
+@dataclass(frozen=True)
+class Recording:
+    """Captures of the same time: port-K.pcap in a folder, or SWITCH/port-K.pcap of a network."""
+    name: str
+    folder: str
+    files: tuple[str, ...]  # below the folder
+    size: int  # bytes of all files
+    by_content: bool
+    identity: str
+
+
+@dataclass(frozen=True)
+class Table:
+    """A configuration table, or a network file with the tables that it names."""
+    name: str
+    files: tuple[str, ...]  # the table, or the network file and then its tables
+    switches: tuple[str, ...]  # of a network; none of a table
+    unchecked: bool
+    identity: str
+
+
+@dataclass(frozen=True)
+class Task:
+    """One question about one recording under one table."""
+    root: str
+    program: str
+    program_identity: str
+    recording: Recording
+    table: Table
+    ask: str  # survey, run or trace
+    keep: str  # which outputs are kept: none, policed or all
+    scratch: str  # the folder for temporary files
+    tries: int
+    timeout: float  # seconds that a child of the task may take
+    memory: int  # bytes that it is expected to take
+
+    @property
+    def key(self) -> str:
+        """Answers the name of the answer: all that the answer is a function of, and nothing else."""
+        parts = [FORM, self.program_identity, self.recording.identity, self.table.identity, self.table.unchecked,
+                 self.ask, self.keep]
+        return hashlib.sha256(json.dumps(parts).encode()).hexdigest()
+
+    @property
+    def answer(self) -> Path:
+        """Answers the file of the answer."""
+        return Path(self.root, "answers", self.key[:2], f"{self.key}.json.gz")
+
+
+def task_of(fields: dict[str, Any]) -> Task:
+    """Answers the task of an object of JSON."""
+    fields = dict(fields)
+    for name, kind in (("recording", Recording), ("table", Table)):
+        values = {key: tuple(value) if isinstance(value, list) else value for key, value in fields[name].items()}
+        fields[name] = kind(**values)
+    return Task(**fields)
+
+
+def content_of(path: str | Path) -> str:
+    """Hashes a file's bytes."""
+    digest = hashlib.sha256()
+    with open(path, "rb") as file:
+        while piece := file.read(PIECE):
+            digest.update(piece)
+    return digest.hexdigest()
+
+
+def identity_of(name: str, folder: str, files: tuple[str, ...], by_content: bool) -> str:
+    """Hashes a recording's name, and of each file size and time of change, or its bytes, or that it is missing."""
+    digest = hashlib.sha256(name.encode("utf-8", "surrogateescape"))
+    for file in files:
+        path = os.path.join(folder, file)
+        try:
+            status = os.stat(path)
+            said = content_of(path) if by_content else f"{status.st_size} {status.st_mtime_ns}"
+        except FileNotFoundError:
+            said = "missing"
+        digest.update(f"\n{file} {said}".encode())
+    return digest.hexdigest()
+
+
+def table_identity(files: tuple[str, ...]) -> str:
+    """Hashes the bytes of the files of a table or a network, in order."""
+    return hashlib.sha256("\n".join(map(content_of, files)).encode()).hexdigest()

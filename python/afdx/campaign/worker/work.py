@@ -1,0 +1,136 @@
+"""Does a task: asks its question and puts the answer."""
+from __future__ import annotations
+
+import gzip
+import json
+import os
+import socket
+import time
+from dataclasses import dataclass
+from pathlib import Path
+from typing import Any
+
+from afdx.campaign.worker.files import put, scratch_folder
+from afdx.campaign.worker.program import TIMED_OUT, Program, Said
+from afdx.campaign.worker.questions import ask
+from afdx.campaign.worker.stamps import first_stamp
+from afdx.campaign.worker.task import FORM, Task, content_of, identity_of, table_identity
+
+DEVICE = 5  # the program's status if a file or memory fails
+CHANGED = 75
+LOST = 137  # as of a process that was killed
+AGAIN = ("device", "memory", "timeout", "signal", "program")  # faults of which another try may rid the task
+
+PROGRAMS: dict[tuple[str, int, int], str] = {}  # the hash of each, by size and time of change
+
+
+@dataclass(frozen=True)
+class Outcome:
+    """What became of a try. Without an answer the task has to be tried again."""
+    status: int
+    answered: bool
+
+
+class Refused(Exception):
+    """A fault of a task before or after its question is asked."""
+
+    def __init__(self, fault: str, status: int, line: str) -> None:
+        super().__init__(line)
+        self.fault, self.status, self.line = fault, status, line
+
+
+def work(task: Task, attempt: int) -> Outcome:
+    """Does a task unless its answer is there. A fault that may pass is an answer in the last try alone."""
+    if task.answer.exists():
+        return Outcome(status_of(task.answer), True)
+    program = Program(task.program, task.timeout, address_space(task.memory))
+    try:
+        said = asked(task, program)
+        fault = fault_of(said)
+    except Refused as refused:
+        fault, said = refused.fault, Said(refused.status, "", refused.line)
+    if fault in AGAIN and attempt < task.tries:
+        return Outcome(said.status, False)
+    put_answer(task, said, fault, dict(vars(program.used), tries=attempt))
+    return Outcome(said.status, True)
+
+
+def work_hard(task: Task) -> Outcome:
+    """Does a task in as many tries as it has."""
+    for attempt in range(1, task.tries):
+        outcome = work(task, attempt)
+        if outcome.answered:
+            return outcome
+        time.sleep(min(30.0, 0.1 * 2 ** attempt))
+    return work(task, task.tries)
+
+
+def asked(task: Task, program: Program) -> Said:
+    """Asks of a recording that is whole and stays as it is, as program and table do that the plan has."""
+    recording = task.recording
+    missing = [file for file in recording.files if not os.path.isfile(os.path.join(recording.folder, file))]
+    if missing:
+        raise Refused("missing", DEVICE, f"no {', '.join(missing)} in {recording.folder}")
+    with scratch_folder(task.scratch) as scratch:
+        said = ask(task, program, scratch)
+    if identity_of(recording.name, recording.folder, recording.files, recording.by_content) != recording.identity:
+        raise Refused("changed", CHANGED, f"the recording {recording.folder} changed since it was listed")
+    try:
+        changed = [what for what, now, planned in (
+            ("program", program_identity(task.program), task.program_identity),
+            ("table", table_identity(task.table.files), task.table.identity)) if now != planned]
+    except OSError as error:
+        raise Refused("program", DEVICE, f"cannot read {error.filename}: {error.strerror}") from error
+    if changed:
+        raise Refused("changed", CHANGED, f"the {' and the '.join(changed)} changed since the tasks were listed")
+    return said
+
+
+def fault_of(said: Said) -> str:
+    """Answers the kind of a fault; empty if there is none."""
+    kinds = {0: "", 3: "capture", DEVICE: "memory" if said.line == "afdx: memory" else "device", TIMED_OUT: "timeout",
+             126: "program", 127: "program"}
+    return kinds.get(said.status, "signal" if said.status > 128 else "refused")
+
+
+def address_space(memory: int) -> int:
+    """Answers the most address space of a child of so much expected memory: it is more than what is touched."""
+    return 2 * memory + (256 << 20)
+
+
+def program_identity(path: str) -> str:
+    """Answers the hash of the program, taken once as long as the file has the same size and time of change."""
+    status = os.stat(path)
+    version = (path, status.st_size, status.st_mtime_ns)
+    if version not in PROGRAMS:
+        PROGRAMS[version] = content_of(path)
+    return PROGRAMS[version]
+
+
+def put_answer(task: Task, said: Said, fault: str, used: dict[str, Any]) -> None:
+    """Puts an answer: what it is a function of the task, and under `how` who found it and at what cost."""
+    recording, table = task.recording, task.table
+    answer = {
+        "form": FORM, "key": task.key, "recording": recording.name, "size": recording.size, "table": table.name,
+        "ask": task.ask, "status": said.status, "fault": fault, "line": said.line, "text": said.text,
+        "begin": first_stamp(os.path.join(recording.folder, file) for file in recording.files),
+        "how": dict(used, host=socket.gethostname(), at=time.time())}
+    text = json.dumps(answer, separators=(",", ":")).encode()
+    put(task.answer, lambda file: file.write(gzip.compress(text, 6, mtime=0)))
+
+
+def put_lost(task: Task, line: str) -> None:
+    """Puts the fault of a task that ended each worker which tried it."""
+    put_answer(task, Said(LOST, "", line), "lost", {"seconds": 0.0, "processor": 0.0, "memory": 0, "tries": task.tries})
+
+
+def answer_at(path: Path) -> dict[str, Any]:
+    """Reads an answer."""
+    with gzip.open(path) as file:
+        answer: dict[str, Any] = json.load(file)
+    return answer
+
+
+def status_of(path: Path) -> int:
+    """Answers the status of an answer."""
+    return int(answer_at(path)["status"])

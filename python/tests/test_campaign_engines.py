@@ -1,0 +1,85 @@
+"""How engines hand tasks on."""
+import subprocess
+import sys
+import threading
+import time
+from dataclasses import asdict, replace
+from pathlib import Path
+
+import cloudpickle
+import pytest
+
+from afdx import files
+from afdx.campaign import worker
+from afdx.campaign.engines import Options, dask, local, slurm
+from afdx.campaign.worker.task import Task
+from afdx.campaign.worker.work import Outcome, answer_at, work_hard
+from tests.campaign_samples import PATIENCE, await_number, campaign, ends, task
+
+COMMAND = str(Path(__file__).parents[1] / "bin" / "afdx-campaign")
+
+
+def test_the_code_of_a_worker_goes_along_by_value(tmp_path: Path) -> None:
+    """A Python that knows nothing of this package answers as this one does."""
+    for module in (worker, files, dask):
+        cloudpickle.register_pickle_by_value(module)
+    here = task(tmp_path, root=str(tmp_path / "here"))
+    away = replace(here, root=str(tmp_path / "away"))
+    work_hard(here)
+    (tmp_path / "code").write_bytes(cloudpickle.dumps((dask.tried, asdict(away), 1)))
+    code = "import pickle, sys; do, *words = pickle.load(open(sys.argv[1], 'rb')); print(do(*words))"
+    said = subprocess.run([sys.executable, "-c", code, str(tmp_path / "code")], cwd="/", capture_output=True, text=True,
+                          check=True)
+    assert said.stdout == "(0, True)\n"
+    ours, theirs = answer_at(here.answer), answer_at(away.answer)
+    assert ours.pop("how").keys() == theirs.pop("how").keys()
+    assert ours == theirs
+
+
+def test_jobs_have_all_tasks_once_and_no_more_bytes_than_a_job_may(tmp_path: Path) -> None:
+    made = task(tmp_path)
+    sizes = [1, slurm.JOB_BYTES, 5, 5, slurm.JOB_BYTES - 5, slurm.JOB_BYTES + 1, 3] + [1] * 200
+    tasks = [replace(made, recording=replace(made.recording, size=size)) for size in sizes]
+    jobs = slurm.chunks(tasks, range(len(tasks)), 2)
+    assert [number for job in jobs for number in job] == list(range(len(tasks)))
+    assert all(len(job) == 1 or sum(sizes[number] for number in job) <= slurm.JOB_BYTES for job in jobs)
+    assert max(map(len, jobs)) == slurm.JOB_TASKS
+
+
+@pytest.mark.parametrize("need, most", [(33, 3), (34, 2), (50, 2), (51, 1), (1000, 1)])
+def test_tasks_share_the_memory_there_is(tmp_path: Path, monkeypatch: pytest.MonkeyPatch, need: int, most: int) -> None:
+    """By three threads and 100 bytes; a task that needs more runs alone."""
+    running: set[str] = set()
+    seen: list[int] = []
+    full = threading.Event()
+
+    def work(asked: Task) -> Outcome:
+        running.add(asked.recording.name)
+        seen.append(len(running))
+        if len(running) >= most:
+            full.set()
+        full.wait(PATIENCE)
+        time.sleep(0.05)  # so that one too many would begin
+        running.remove(asked.recording.name)
+        return Outcome(0, True)
+
+    tasks = [replace(task(tmp_path, name=f"r{number}"), memory=need) for number in range(6)]
+    monkeypatch.setattr(local, "work_hard", work)
+    monkeypatch.setattr("os.sysconf", {"SC_PAGE_SIZE": 1, "SC_PHYS_PAGES": 125}.get)
+    local.run(tasks, range(6), Options(tmp_path, "local", 3, 1.0, lambda *_: None))
+    assert len(seen) == 6
+    assert max(seen) == most
+
+
+def test_an_interrupt_ends_the_driver_and_its_children_at_once(tmp_path: Path) -> None:
+    file = campaign(tmp_path)
+    for name in ("monday", "tuesday"):
+        (tmp_path / f"flights/{name}/run1/act").write_text(f'echo $$ >"{tmp_path}/{name}"; exec sleep 1000')
+    driver = subprocess.Popen([sys.executable, COMMAND, "run", str(file)], stderr=subprocess.PIPE, text=True)
+    pids = [await_number(tmp_path / name) for name in ("monday", "tuesday")]
+    driver.terminate()
+    assert driver.communicate(timeout=PATIENCE)[1].endswith(
+        "afdx-campaign: interrupted; what is answered is kept, the same command goes on\n")
+    assert driver.returncode == 6
+    assert all(map(ends, pids))
+    assert not list(tmp_path.glob("campaign/answers/*/*"))

@@ -1,0 +1,107 @@
+"""The campaign file, and the tasks that it makes."""
+import os
+from pathlib import Path
+
+import pytest
+
+from afdx.campaign.command import main
+from afdx.campaign.plan import tasks_of
+from afdx.campaign.settings import read_campaign
+from afdx.failure import Failure
+from tests.campaign_samples import GOOD, PORTS, campaign
+
+REFUSED = [
+    (GOOD + "x = 1\n", "unknown key x, [[table]] 1"),
+    ("x = 1\n" + GOOD, "unknown key x, top"),
+    (GOOD.replace('root = "campaign"\n', ""), "no key root, top"),
+    (GOOD.replace('"campaign"', "3"), "root is no str, top"),
+    (GOOD.replace("[[table]]", "[table]"), "table is no list, top"),
+    (GOOD.partition("[[table]]")[0], "no [[table]] and no [[network]], top"),
+    (GOOD + '[[table]]\nname = "one"\nfile = "two.toml"\n', "name one is taken, [[table]] 2"),
+    (GOOD.replace('"one"', '"../one"'), "name has other signs than letters, digits, - _ and ., [[table]] 1"),
+    ('ask = "all"\n' + GOOD, "ask is none of survey, run, trace, top"),
+    ('keep = "all"\n' + GOOD, 'keep needs ask = "run" or "trace": a survey puts nothing, top'),
+    (GOOD.replace("[[table]]", "[[network]]"), 'of a [[network]] only ask = "run" is answered, top'),
+    (GOOD + "[limits]\ntries = 0\n", "tries is not above 0, [limits]"),
+    (GOOD + "[limits]\nmemory = -1.5\n", "memory is not above 0, [limits]"),
+    (GOOD.replace('["flights/*/run*"]', "[]"), "recordings is no list of patterns, top")]
+
+
+@pytest.mark.parametrize("text, line", REFUSED)
+def test_refused_files(tmp_path: Path, text: str, line: str) -> None:
+    file = campaign(tmp_path, text)
+    with pytest.raises(Failure) as failure:
+        read_campaign(file)
+    assert failure.value.lines == (f"afdx-campaign: {file}: {line}",)
+    assert failure.value.status == 3
+
+
+def test_recordings_are_named_below_the_first_wildcard(tmp_path: Path) -> None:
+    tasks = tasks_of(read_campaign(campaign(tmp_path)))
+    assert [task.recording.name for task in tasks] == ["monday/run1", "tuesday/run1"]
+    assert tasks[0].recording.files == ("port-1.pcap", "port-7.pcap")
+    assert tasks[0].memory == 4 * 48 + (64 << 20)
+
+
+def test_the_key_is_of_what_the_answer_is_a_function_of(tmp_path: Path) -> None:
+    file = campaign(tmp_path)
+
+    def keys() -> list[str]:
+        return [task.key for task in tasks_of(read_campaign(file))]
+
+    first = keys()
+    assert len(set(first)) == 2 and keys() == first
+    file.write_text(GOOD + '[limits]\ntries = 9\ntimeout_s = 1\nmemory = 9\n')
+    assert keys() == first
+    os.utime(tmp_path / "flights/monday/run1/port-7.pcap", ns=(1, 1))
+    second = keys()
+    assert second[0] != first[0] and second[1] == first[1]
+    (tmp_path / "one.toml").write_text(PORTS + "# changed\n")
+    assert not set(keys()) & set(second)
+    file.write_text('identity = "content"\n' + GOOD)
+    third = keys()
+    os.utime(tmp_path / "flights/monday/run1/port-7.pcap", ns=(2, 2))
+    assert keys() == third
+    (tmp_path / "afdx").write_text("#!/bin/sh\n# another program\n")
+    assert not set(keys()) & set(third)
+
+
+def test_of_a_network_the_captures_of_end_systems_are_read(tmp_path: Path) -> None:
+    text = GOOD.replace("[[table]]", "[[network]]").replace("one.toml", "net.toml")
+    file = campaign(tmp_path, 'ask = "run"\n' + text)
+    (tmp_path / "net.toml").write_text('[[switch]]\nname = "A"\ntable = "one.toml"\n[[switch]]\nname = "B"\n'
+                                       'table = "one.toml"\n[[wire]]\nfrom = "A.7"\nto = "B.1"\n')
+    (tmp_path / "afdx").write_text("#!/bin/sh\n[ \"$1 $2\" = 'network check' ]\n")
+    task = tasks_of(read_campaign(file))[0]
+    assert task.recording.files == ("A/port-1.pcap", "A/port-7.pcap", "B/port-7.pcap")
+    assert task.table.switches == ("A", "B")
+
+
+@pytest.mark.parametrize("pattern, status, line", [
+    ("nowhere/*", 3, "no folder is {room}/nowhere/*"),
+    ('flights/*/run1", "other/*/run1', 3,
+     "two recordings are called monday/run1: {room}/flights/monday/run1 and {room}/other/monday/run1"),
+    ("odd/*", 3, "a recording's name cannot be printed: 'a\\udcff'")])
+def test_patterns_that_name_nothing_or_twice(tmp_path: Path, pattern: str, status: int, line: str) -> None:
+    file = campaign(tmp_path, GOOD.replace("flights/*/run*", pattern))
+    (tmp_path / "other/monday/run1").mkdir(parents=True)
+    os.makedirs(os.fsencode(tmp_path) + b"/odd/a\xff")
+    with pytest.raises(Failure) as failure:
+        tasks_of(read_campaign(file))
+    assert (failure.value.status, failure.value.lines) == (status, (f"afdx-campaign: {line.format(room=tmp_path)}",))
+
+
+def test_a_refused_table_ends_it_before_a_recording_is_looked_at(tmp_path: Path) -> None:
+    file = campaign(tmp_path, GOOD.replace("flights/*/run*", "nowhere/*"))
+    (tmp_path / "afdx").write_text("#!/bin/sh\necho 'afdx: load L1 Rate, port 1, need 2, limit 1' >&2; exit 4\n")
+    with pytest.raises(Failure) as failure:
+        main(["run", str(file)])
+    assert failure.value.status == 4
+    assert failure.value.lines == ("afdx-campaign: table one: afdx: load L1 Rate, port 1, need 2, limit 1",)
+
+
+@pytest.mark.parametrize("engine", ["dask", "local:4", "tcp://127.0.0.1", "udp://127.0.0.1:1"])
+def test_unknown_engines(tmp_path: Path, engine: str) -> None:
+    with pytest.raises(Failure) as failure:
+        main(["run", str(campaign(tmp_path)), "--engine", engine])
+    assert failure.value.status == 2

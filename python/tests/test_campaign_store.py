@@ -1,0 +1,182 @@
+"""The store and its questions, against pandas over stores that are drawn by chance."""
+import gzip
+import json
+import random
+import sqlite3
+from pathlib import Path
+from typing import Any
+
+import pandas
+import pytest
+
+from afdx.campaign.answers import forget
+from afdx.campaign.findings import LOST_NAMES, QUESTIONS
+from afdx.campaign.lines import rows_of
+from afdx.campaign.store import collected, store_file
+from afdx.campaign.worker.task import Table, Task
+from tests.campaign_samples import task
+
+Rows = list[dict[str, Any]]
+
+
+def put(asked: Task, status: int, text: str, begin: int) -> None:
+    """Puts an answer by hand."""
+    how = {"seconds": 1.0, "processor": 0.5, "memory": 10, "tries": 1, "host": "h", "at": 0.0}
+    answer = {"status": status, "fault": "capture" if status else "", "line": "line" if status else "", "text": text,
+              "begin": begin, "how": how}
+    asked.answer.parent.mkdir(parents=True, exist_ok=True)
+    asked.answer.write_bytes(gzip.compress(json.dumps(answer).encode()))
+
+
+def drawn(chance: random.Random, about: dict[str, Any], begin: int, found: dict[str, Rows]) -> str:
+    """Draws the lines of a run, and adds its rows by kind."""
+    lines = []
+    for port in (1, 2):
+        words = [chance.choice((0, 0, 0, chance.randrange(50))) for _ in range(9)]
+        names = ("seen", "cut", "short", "long", "foreign", "no-link", "wrong-port", "too-big", "clean")
+        lines.append(f"in {port} " + " ".join(f"{name} {word}" for name, word in zip(names, words)))
+        row = about | {name.replace("-", "_"): word for name, word in zip(names, words)}
+        lost = [chance.choice((0, 0, chance.randrange(9))) for _ in range(4)]
+        for priority, (full, aged) in (("high", lost[:2]), ("low", lost[2:])):
+            lines.append(f"out {port} {priority} offered 99 full {full} aged {aged} sent {99 - full - aged}")
+        lines.append(f"out {port} occupied 7 of 9 at {begin}")
+        found["ports"].append(row | {"full": lost[0] + lost[2], "aged": lost[1] + lost[3]})
+    for link in range(10, 14):
+        policed = chance.choice((0, 0, chance.randrange(1, 30)))
+        lines.append(f"link {link} passed {link} policed {policed}")
+        spells = sorted(chance.sample(range(begin, begin + 1000), chance.randrange(3))) if policed else []
+        lines += [f"link {link} policed 2 from {at} to {at + 5} early 1 to 3" for at in spells]
+        if policed:
+            row = about | {"link": link, "policed": policed}
+            found["babblers"] += [row | {"begin": at} for at in spells] or [row | {"begin": None}]
+        for port in (1, 2):
+            sent = chance.randrange(3)
+            greatest = chance.randrange(100, 1000)
+            lines.append(f"link {link} out {port} sent {sent} least {100 if sent else '-'} "
+                         f"greatest {greatest if sent else '-'} bound {1000 + port}")
+            if sent:
+                found["delays"].append(about | {"link": link, "port": port, "sent": sent, "greatest": greatest,
+                                                "bound": 1000 + port})
+    return "\n".join(lines)
+
+
+@pytest.fixture(params=range(4))
+def campaign(request: pytest.FixtureRequest, tmp_path: Path) -> tuple[Path, list[Task], dict[str, pandas.DataFrame]]:
+    """Makes a campaign of two tables, with missing answers and faults; answers it with what is in the others."""
+    chance = random.Random(request.param)
+    found: dict[str, Rows] = {"ports": [], "babblers": [], "delays": [], "faults": []}
+    tasks = []
+    for place, name in enumerate(("before", "after")):
+        for number in range(12):
+            recording = f"r{number}"
+            asked = task(tmp_path / name, name=recording, root=str(tmp_path / "root"),
+                         table=Table(name, (), (), False, name))
+            tasks.append(asked)
+            about = {"table": name, "recording": recording}
+            kind = chance.choice(("answer", "answer", "answer", "fault", "missing"))
+            if kind == "answer":
+                put(asked, 0, drawn(chance, about, 1000 * number, found), 1000 * number)
+            elif kind == "fault":
+                put(asked, 3, "", 1000 * number)
+                found["faults"].append(about)
+    return tmp_path / "root", tasks, {name: pandas.DataFrame(rows) for name, rows in found.items()}
+
+
+def asked_of(base: sqlite3.Connection, name: str) -> pandas.DataFrame:
+    """Asks a question."""
+    question = next(question for question in QUESTIONS if question.name == name)
+    return pandas.DataFrame(question.ask(base), columns=list(question.heads))
+
+
+Campaign = tuple[Path, list[Task], dict[str, pandas.DataFrame]]
+
+
+def test_questions_against_pandas(campaign: Campaign) -> None:
+    root, tasks, found = campaign
+    with collected(root, tasks) as base:
+        check_worst(asked_of(base, "worst"), found["delays"])
+        check_slack(asked_of(base, "slack"), found["delays"])
+        check_compare(asked_of(base, "compare"), found["delays"])
+        check_lost(asked_of(base, "lost"), found["ports"])
+        columns = ["table", "link", "recording", "policed", "begin"]
+        assert rows(asked_of(base, "babblers")[columns]) == rows(found["babblers"][columns])
+        faults = asked_of(base, "faults")
+        assert rows(faults[["table", "recording"]]) == rows(found["faults"])
+        assert set(faults["status"]) <= {3} and set(faults["line"]) <= {"line"}
+
+
+def rows(frame: pandas.DataFrame) -> list[tuple[Any, ...]]:
+    """Answers the rows in an order of their own; a gap is none."""
+    return sorted(map(tuple, frame.astype(object).where(frame.notna(), None).values.tolist()), key=repr)
+
+
+def check_worst(said: pandas.DataFrame, delays: pandas.DataFrame) -> None:
+    """Compares the greatest delay of each link and port, and a recording that has it."""
+    key = ["table", "link", "port"]
+    wanted = delays.groupby(key).agg({"sent": "sum", "greatest": "max", "bound": "max"}).reset_index()
+    assert rows(said[[*key, "sent", "greatest", "bound"]]) == rows(wanted)
+    has = said.merge(delays, on=[*key, "recording", "greatest"])
+    assert len(has) == len(said)
+    assert (said["share"] == said["greatest"] / said["bound"]).all()
+
+
+def check_slack(said: pandas.DataFrame, delays: pandas.DataFrame) -> None:
+    """Compares how many greatest delays took which part of their bounds."""
+    percent = 100 * delays["greatest"] / delays["bound"]
+    wanted = delays.assign(from_percent=(percent // 2 * 2).astype(int)).groupby(["table", "from_percent"]).size()
+    assert rows(said[["table", "from_percent", "links_and_ports"]]) == rows(wanted.reset_index())
+
+
+def check_compare(said: pandas.DataFrame, delays: pandas.DataFrame) -> None:
+    """Compares one table against the other, over the recordings that both have."""
+    key = ["link", "port", "recording"]
+    before, after = (delays[delays["table"] == name].set_index(key) for name in ("before", "after"))
+    both = before.join(after, how="inner", lsuffix="_before", rsuffix="_after").reset_index()
+    both["greater_in"] = both["greatest_after"] > both["greatest_before"]
+    both["less_in"] = both["greatest_after"] < both["greatest_before"]
+    wanted = both.groupby(["link", "port"]).agg(
+        recordings=("recording", "size"), greatest_before=("greatest_before", "max"),
+        greatest_after=("greatest_after", "max"), greater_in=("greater_in", "sum"), less_in=("less_in", "sum"))
+    assert rows(said[["link", "port", *wanted.columns]]) == rows(wanted.reset_index())
+    assert (said["change"] == said["greatest_after"] - said["greatest_before"]).all()
+
+
+def check_lost(said: pandas.DataFrame, ports: pandas.DataFrame) -> None:
+    """Compares what was lost or filtered in each recording."""
+    sums = ports.groupby(["table", "recording"])[list(LOST_NAMES)].sum().reset_index()
+    assert rows(said) == rows(sums[sums[list(LOST_NAMES)].sum(axis=1) > 0])
+
+
+def test_the_store_is_of_the_answers_alone(campaign: Campaign) -> None:
+    root, tasks, _ = campaign
+    half = [asked for place, asked in enumerate(tasks) if place % 2]
+    with collected(root, half):
+        pass
+    with collected(root, tasks) as base:
+        grown = contents(base)
+    store_file(root).unlink()
+    with collected(root, tasks) as base:
+        assert contents(base) == grown
+    store_file(root).write_bytes(b"no store at all" * 100)
+    with collected(root, tasks) as base:
+        assert contents(base) == grown
+    assert forget(root, tasks, 3) == sum(1 for table, *_, status in grown if table == "runs" and status == 3)
+    with collected(root, tasks) as base:
+        assert base.execute("select count(*) from faults").fetchone() == (0,)
+
+
+def contents(base: sqlite3.Connection) -> list[tuple[Any, ...]]:
+    """All rows, with the names of runs for their numbers."""
+    found: list[tuple[Any, ...]] = []
+    for table in ("links", "ports", "delays", "spells", "faults"):
+        found += [(table, *row) for row in base.execute(
+            f'select "table", recording, {table}.* from {table} join runs on runs.id = run')]
+    found = [(*row[:3], *row[4:]) for row in found]  # without the number of the run
+    found += [("runs", *row) for row in base.execute('select "table", recording, begin, status from runs')]
+    return sorted(found, key=repr)
+
+
+def test_lines_of_a_network_name_their_switch() -> None:
+    read = rows_of("link link 10 passed 3 policed 1\nB out 2 high offered 4 full 1 aged 0 sent 3", True)
+    assert read.links == [("link", 10, 3, 1)]
+    assert read.ports[("B", 2)][9:13] == [4, 1, 0, 3]

@@ -1,0 +1,166 @@
+"""What a worker answers, over a stand-in for afdx."""
+import os
+import signal
+import subprocess
+import sys
+from pathlib import Path
+
+import pytest
+
+from afdx.campaign.worker.files import scratch_folder
+from afdx.campaign.worker.program import Program
+from afdx.campaign.worker.stamps import first_stamp
+from afdx.campaign.worker.survey import gaps_of, spells_of
+from afdx.campaign.worker.work import answer_at, work, work_hard
+from tests.campaign_samples import PATIENCE, QUIET, await_number, ends, task
+
+POLICED = QUIET.replace("policed 0", "policed 2") + """
+[ "$command" != trace ] || cat >"$out/arrivals.csv" <<END
+frame,port,record,stamp,link,size,fate,early,full
+0,1,1,1000,10,64,passed,,
+1,1,2,2000,10,64,policed,500,
+2,1,3,2500,10,64,policed,700,
+END
+"""
+FAULTS = [
+    ("echo afdx: capture P3 Magic, port 1 >&2; exit 3", "capture", 3, "afdx: capture P3 Magic, port 1", 1),
+    ("echo afdx: device get x >&2; exit 5", "device", 5, "afdx: device get x", 2),
+    ("echo afdx: memory >&2; exit 5", "memory", 5, "afdx: memory", 2),
+    ("kill -KILL $$", "signal", 137, "", 2),
+    ("exec sleep 1000", "timeout", 124, "", 2),
+    ("exit 4", "refused", 4, "", 1)]
+
+
+@pytest.mark.parametrize("act, fault, status, line, tries", FAULTS)
+def test_faults_are_answers(tmp_path: Path, act: str, fault: str, status: int, line: str, tries: int) -> None:
+    asked = task(tmp_path, act, timeout=0.5 if fault == "timeout" else PATIENCE)
+    assert work_hard(asked).status == status
+    answer = answer_at(asked.answer)
+    assert (answer["fault"], answer["status"], answer["line"], answer["how"]["tries"]) == (fault, status, line, tries)
+    assert list((tmp_path / "scratch").iterdir()) == []
+
+
+def test_a_fault_that_passes_is_none(tmp_path: Path) -> None:
+    asked = task(tmp_path, f'[ -e "$folder/tried" ] || {{ : >"$folder/tried"; kill -KILL $$; }}\n{QUIET}')
+    assert not work(asked, 1).answered
+    assert not asked.answer.exists()
+    assert work(asked, 2).status == 0
+
+
+def test_survey_has_report_delays_and_spells(tmp_path: Path) -> None:
+    asked = task(tmp_path, POLICED)
+    assert work_hard(asked).status == 0
+    assert answer_at(asked.answer)["text"].splitlines() == [
+        "in 1 seen 4 cut 0 short 1 long 0 foreign 0 no-link 0 wrong-port 0 too-big 0 clean 3",
+        "link 10 passed 3 policed 2",
+        "link 10 out 2 sent 3 least 100 greatest 200 bound 1000",
+        "link 10 policed 2 from 2000 to 2500 early 500 to 700"]
+
+
+def test_an_answer_is_given_once(tmp_path: Path) -> None:
+    asked = task(tmp_path, f'echo >>"$folder/calls"\n{QUIET}')
+    work_hard(asked)
+    put = asked.answer.stat()
+    work_hard(asked)
+    assert Path(asked.recording.folder, "calls").read_text().count("\n") == 2
+    assert asked.answer.stat() == put
+
+
+@pytest.mark.parametrize("act, fault", [
+    (f'touch -d 2001-01-01 "$folder/port-2.pcap"\n{QUIET}', "changed"),
+    (f'echo >>"$0"\n{QUIET}', "changed"),
+    (f'echo >>"$2"\n{QUIET}', "changed")])
+def test_what_changes_while_it_is_read_is_a_fault(tmp_path: Path, act: str, fault: str) -> None:
+    asked = task(tmp_path, act)
+    assert work_hard(asked).status == 75
+    assert answer_at(asked.answer)["fault"] == fault
+
+
+def test_a_missing_capture_is_a_fault(tmp_path: Path) -> None:
+    asked = task(tmp_path)
+    Path(asked.recording.folder, "port-2.pcap").unlink()
+    work_hard(asked)
+    answer = answer_at(asked.answer)
+    assert (answer["fault"], answer["line"]) == ("missing", f"no port-2.pcap in {asked.recording.folder}")
+
+
+def test_children_have_the_limits_of_the_task(tmp_path: Path) -> None:
+    asked = task(tmp_path, "echo $(ulimit -v) $(ulimit -c) >&2; exit 3", memory=100 << 20)
+    work_hard(asked)
+    assert answer_at(asked.answer)["line"] == f"{(2 * 100 + 256) << 10} 0"
+
+
+@pytest.mark.parametrize("keep, policed, kept", [
+    ("none", 2, False), ("policed", 0, False), ("policed", 2, True), ("all", 0, True)])
+def test_outputs_are_kept(tmp_path: Path, keep: str, policed: int, kept: bool) -> None:
+    act = f'echo "link 10 passed 3 policed {policed}"; echo text >"$out/port-1.pcap"'
+    asked = task(tmp_path, act, ask="run", keep=keep)
+    work_hard(asked)
+    assert (tmp_path / "campaign/kept/t/r1/port-1.pcap").exists() == kept
+
+
+def test_spells_end_after_a_gap_of_the_link(tmp_path: Path) -> None:
+    gap = 4_000_000
+    rows = [(100, 7, 5), (100 + gap, 7, 9), (100 + 2 * gap, 7, 2), (101 + 3 * gap, 7, 4), (50, 3, 1)]
+    lines = [f"0,1,1,{stamp},{link},64,policed,{early}," for stamp, link, early in rows]
+    (tmp_path / "arrivals.csv").write_text("\n".join(["frame,..", "0,1,1,60,3,64,passed,,", *lines]))
+    (tmp_path / "table.toml").write_text("[[link]]\nid = 3\nbag_ms = 1\n[[link]]\nid = 7\nbag_ms = 4\n")
+    gaps = gaps_of(str(tmp_path / "table.toml"))
+    assert [spell.line() for spell in spells_of(tmp_path / "arrivals.csv", gaps)] == [
+        "link 3 policed 1 from 50 to 50 early 1 to 1\n",
+        f"link 7 policed 3 from 100 to {100 + 2 * gap} early 2 to 9\n",
+        f"link 7 policed 1 from {101 + 3 * gap} to {101 + 3 * gap} early 4 to 4\n"]
+
+
+def test_first_stamps_in_either_order_and_both_parts(tmp_path: Path) -> None:
+    heads = {"little-nano": "4d3cb2a1", "big-nano": "a1b23c4d", "little-micro": "d4c3b2a1", "big-micro": "a1b2c3d4"}
+    stamps = {"little-nano": (5, 7), "big-nano": (5, 6), "little-micro": (6, 1), "big-micro": (7, 1)}
+    paths = []
+    for name, magic in heads.items():
+        order = "little" if name.startswith("little") else "big"
+        words = b"".join(word.to_bytes(4, order) for word in stamps[name])  # type: ignore[arg-type]
+        paths.append(tmp_path / name)
+        paths[-1].write_bytes(bytes.fromhex(magic) + bytes(20) + words + bytes(8))
+    (tmp_path / "empty").write_bytes(bytes.fromhex("d4c3b2a1") + bytes(20))
+    assert [first_stamp([str(path)]) for path in paths] == [5_000_000_007, 5_000_000_006, 6_000_001_000, 7_000_001_000]
+    assert first_stamp([str(path) for path in (*paths, tmp_path / "empty", tmp_path / "none")]) == 5_000_000_006
+
+
+def started(code: str, *arguments: str) -> subprocess.Popen[str]:
+    """Starts a process that runs this code."""
+    path = {"PYTHONPATH": str(Path(__file__).parents[1]), "PATH": os.environ["PATH"]}
+    return subprocess.Popen([sys.executable, "-c", code, *arguments], stdout=subprocess.PIPE, text=True, env=path)
+
+
+def test_a_killed_maker_leaves_no_scratch_folder_for_long(tmp_path: Path) -> None:
+    maker = started("import sys, time; from afdx.campaign.worker.files import scratch_folder\n"
+                    "with scratch_folder(sys.argv[1]) as made: print(made, flush=True); time.sleep(999)", str(tmp_path))
+    assert maker.stdout is not None
+    left = Path(maker.stdout.readline().strip())
+    with scratch_folder(str(tmp_path)):
+        assert left.exists()
+    maker.kill()
+    maker.wait()
+    with scratch_folder(str(tmp_path)):
+        assert not left.exists()
+    maker.stdout.close()
+
+
+def test_a_child_dies_with_its_worker(tmp_path: Path) -> None:
+    script = tmp_path / "afdx"
+    script.write_text("#!/bin/sh\necho $$ >\"$1\"\nexec sleep 1000\n")
+    script.chmod(0o755)
+    worker = started("import sys; from afdx.campaign.worker.program import Program\n"
+                     "Program(sys.argv[1], 1000.0, 1 << 30)(sys.argv[2])", str(script), str(tmp_path / "pid"))
+    child = await_number(tmp_path / "pid")
+    worker.send_signal(signal.SIGKILL)
+    worker.wait()
+    assert worker.stdout is not None
+    worker.stdout.close()
+    assert ends(child)
+
+
+def test_a_child_of_a_missing_program(tmp_path: Path) -> None:
+    said = Program(str(tmp_path / "none"), PATIENCE, 1 << 30)("run")
+    assert said.status == 127
+    assert "No such file" in said.line
