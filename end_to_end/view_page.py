@@ -72,6 +72,12 @@ def expect(what, holds):
         faults.append(what)
 
 
+def end():
+    """Says what was not as expected, and ends."""
+    print("\n".join(faults[:20]))
+    sys.exit(bool(faults))
+
+
 def browser():
     options = Options()
     options.binary_location = "/usr/bin/chromium"
@@ -132,7 +138,6 @@ def touching(texts):
 
 def check_places(page, width):
     """Nothing touches or has to be looked for at the side."""
-    expect(f"nothing stands out at {width} px", page.execute_script("return document.documentElement.scrollWidth") <= width)
     first = page.execute_script(FIRST, FIRST_COLUMNS[width])
     expect(f"the verdict is in {width} px: {first}", first["verdict"][0] >= 0 and first["verdict"][1] <= width)
     expect(f"so are the first columns: {first}", first["right"] <= width)
@@ -172,18 +177,24 @@ def check_print(page):
         expect(f"printed {found} times, not {many}: {row}", found >= many)
 
 
-def check_page(page, options, rows, width):
+def open_page(page, path, seconds, width):
+    """Opens a page of this width within some seconds; it is whole, and nothing of it stands out."""
     page.execute_cdp_cmd("Emulation.setDeviceMetricsOverride", {"width": width, "height": 900, "deviceScaleFactor": 1, "mobile": False})
     page.execute_cdp_cmd("Performance.enable", {"timeDomain": "threadTicks"})
     began = time.monotonic()
-    page.get("file://" + os.path.abspath(options.page))
+    page.get("file://" + os.path.abspath(path))
     waited = time.monotonic() - began
     # what the browser's own thread worked, so that a busy machine does not count
     metrics = page.execute_cdp_cmd("Performance.getMetrics", {})["metrics"]
     took = next(metric["value"] for metric in metrics if metric["name"] == "TaskDuration")
     print(f"{width} px: open after {waited:.1f} s, {took:.1f} s of work")
-    expect(f"opens within {options.seconds} s, not {took:.1f}", took <= options.seconds)
+    expect(f"opens within {seconds} s, not {took:.1f}", took <= seconds)
     expect("loads nothing else", page.execute_script("return performance.getEntriesByType('resource').length") == 0)
+    expect(f"nothing stands out at {width} px", page.execute_script("return document.documentElement.scrollWidth") <= width)
+
+
+def check_page(page, options, rows, width):
+    open_page(page, options.page, options.seconds, width)
     overviews = page.execute_script("return [...document.querySelectorAll('.wide, .narrow')].filter(x => x.offsetHeight > 100).length")
     expect("one picture of the run, where frames came in", overviews == any(sent != "0" for _, _, sent, *_ in rows))
     check_places(page, width)
@@ -213,8 +224,7 @@ def main():
     finally:
         page.quit()
     print(f"{len(rows)} links and ports")
-    print("\n".join(faults[:20]))
-    sys.exit(bool(faults))
+    end()
 
 
 if __name__ == "__main__":

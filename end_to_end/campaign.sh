@@ -1,0 +1,136 @@
+#!/usr/bin/env bash
+# python/bin/afdx-campaign: the same answers by local threads, by a Dask scheduler with workers over loopback and by Slurm, if
+# slurmctld is installed, though what takes part is killed on the way; what was planted in the recordings is found; a full disk;
+# and the page in Debian's chromium.
+. "$(dirname "$0")/common.sh"
+install python3=python3 chromium=chromium chromedriver=chromium-driver unshare=util-linux script=bsdutils
+install_python distributed jinja2 matplotlib numpy psutil selenium
+export PYTHONDONTWRITEBYTECODE=1 LC_ALL=C.UTF-8
+export AFDX=${AFDX:-$top/crates/afdx/out/afdx}
+campaign=$top/python/bin/afdx-campaign
+made=engines/local/killed # the campaign whose answers are looked at
+cd "$room" || exit 1
+
+# engine NAME: campaigns by this engine, with kills.
+engine() {
+    /usr/bin/python3 "$top/end_to_end/campaign_engines.py" "$1" recordings "engines/$1"
+}
+
+# campaign NAME LINE..: NAME.toml of the program that the other campaigns have, with these lines before its tables.
+campaign() {
+    local name=$1
+    shift
+    {
+        printf '%s\n' "program = \"$room/engines/local/afdx\"" "root = \"$name\"" "scratch = \"$room/scratch\"" "$@"
+        printf '%s\n' '[[table]]' 'name = "before"' "file = \"$room/recordings/before.toml\""
+    } >"$name.toml"
+}
+
+# ends_so STATUS LINE ARGUMENT..: afdx-campaign ends with this status and this last line.
+ends_so() {
+    local wanted=$1 line=$2 status=0
+    shift 2
+    "$campaign" "$@" >answer.txt 2>said.txt || status=$?
+    echo "status $status: $(cat said.txt answer.txt)"
+    [ "$status" -eq "$wanted" ] && [ "$(tail -n 1 said.txt)" = "$line" ]
+}
+
+# column FILE NUMBER: that column of a CSV without its heading, each word once.
+column() {
+    tail -n +2 "$1" | cut -d, -f"$2" | sort -u | xargs
+}
+
+# is TEXT TEXT
+is() {
+    echo "$1"
+    [ "$1" = "$2" ]
+}
+
+# page_says TEXT..: the page's text has each of these.
+page_says() {
+    local text
+    for text in "$@"; do
+        sed 's|<[^>]*>||g' "$made/campaign.html" | grep -F "$text" || { echo "no $text"; return 1; }
+    done
+}
+
+# compares: of two tables over the same recordings, one is compared with the other on the page.
+compares() {
+    campaign both "recordings = [\"$room/recordings/recordings/*\"]"
+    printf '%s\n' '[[table]]' 'name = "after"' "file = \"$room/recordings/after.toml\"" >>both.toml
+    cp -r "$made" both
+    rm both/store.sqlite
+    "$campaign" run both.toml
+    [ $? -eq 1 ] && [ "$(column both/csv/compare.csv 1)$(column both/csv/compare.csv 2)" = beforeafter ] &&
+        /usr/bin/python3 "$top/end_to_end/campaign_page.py" both
+}
+
+# asks_anew: a recording that changed is answered anew and nothing else; of a status that is forgotten, its tasks alone.
+asks_anew() {
+    campaign anew 'recordings = ["few/*"]'
+    mkdir few && cp -r recordings/recordings/r001[4-7] few && "$campaign" run anew.toml
+    touch few/r0015/port-3.pcap && "$campaign" run anew.toml --dry | grep -F '4 tasks, 3 answered, 1 left' || return 1
+    "$campaign" run anew.toml
+    "$campaign" again anew.toml --status 3 | grep -Fx '1 answers of status 3 forgotten' || return 1
+    "$campaign" status anew.toml | grep '^4 tasks, 3 answered, 0 of them faults, 1 left'
+}
+
+# full_disk: a root without room ends it with status 5 and a line; with room the same command goes on, to the same answers.
+full_disk() {
+    local as_root=()
+    [ "$(id -u)" -eq 0 ] || as_root=(sudo env "PATH=$PATH" "AFDX=$AFDX" PYTHONDONTWRITEBYTECODE=1)
+    campaign disk "recordings = [\"$room/recordings/recordings/*\"]"
+    mkdir disk
+    "${as_root[@]}" unshare -m bash -c "
+        mount -t tmpfs -o size=150k none disk
+        '$campaign' run disk.toml 2>full.txt; echo \"status \$?\" >>full.txt
+        find disk -name '*.json.gz' | wc -l >>full.txt
+        mount -o remount,size=100m disk
+        '$campaign' run disk.toml; echo \"status \$?\" >>full.txt
+        '$campaign' status disk.toml --digest >digest.txt"
+    cat full.txt digest.txt
+    [ "$(sed -n 2p full.txt)" = "status 5" ] && [ "$(sed -n 4p full.txt)" = "status 1" ] && [ "$(sed -n 3p full.txt)" -gt 0 ] &&
+        head -n 1 full.txt | grep -q '^afdx-campaign: cannot read or write .*/disk/.*: No space left on device$' &&
+        [ "$(tail -n 1 digest.txt)" = "$(cat engines/digest)" ]
+}
+
+# tells_progress: a line on a terminal, of which nothing stays.
+tells_progress() {
+    campaign terminal "recordings = [\"$room/recordings/recordings/r000*\"]"
+    script -qec "'$campaign' run terminal.toml -j 1" terminal.txt >/dev/null && cat -v terminal.txt &&
+        grep -q 'afdx-campaign: done [0-9]*, left [0-9]*, failed 0, [0-9.]* MB/s, .* to go' terminal.txt && [ ! -e terminal/campaign.log ]
+}
+
+check "recordings" /usr/bin/python3 "$top/end_to_end/campaign_recordings.py" recordings 45 40
+check "local threads, killed" engine local
+check "Dask, killed" engine dask
+if command -v slurmctld >/dev/null; then
+    check "Slurm, killed" engine slurm
+else
+    echo "skipped Slurm: slurmctld is not installed"
+fi
+
+check "the recordings that are bad" is "$(tail -n +2 $made/csv/faults.csv)" "before,r0017,3,capture,1,\"afdx: capture P11 CutData, port 2, record $(
+    sed -n 's/.*r0017.*record \([0-9]*\).*/\1/p' $made/csv/faults.csv)\"
+before,r0033,3,capture,1,\"afdx: capture P3 Magic, port 2\"
+before,r0044,5,missing,1,no port-5.pcap in $room/recordings/recordings/r0044"
+check "those in which a link babbles" is "$(column $made/csv/babblers.csv 4)" "r0011 r0036"
+check "the step, by the clearest link" is "$(sed -n 2p $made/csv/trends.csv | cut -d, -f6)" r0027
+check "are on the page" page_says '42 of 45 tasks are answered, 3 are faults' '2 links were policed, in 2 recordings' 'from r0027 on'
+check "the page in a browser" /usr/bin/python3 "$top/end_to_end/campaign_page.py" "$made"
+check "two tables, and their page in a browser" compares
+check "what changed is asked anew" asks_anew
+check "a full disk" full_disk
+check "a line that says how far it is" tells_progress
+
+campaign refused "recordings = [\"$room/recordings/recordings/*\"]"
+sed 's/^mbit = .*/mbit = 10/' recordings/before.toml >slow.toml
+sed -i "s|^file = .*|file = \"slow.toml\"|" refused.toml
+check "a table that is refused" ends_so 4 "afdx-campaign: table before: $("$AFDX" check slow.toml 2>&1)" run refused.toml
+check "no program" ends_so 5 "afdx-campaign: cannot run $room/none: no such program" run <(sed "s|^program = .*|program = \"$room/none\"|" refused.toml)
+check "no campaign file" ends_so 5 "afdx-campaign: cannot read none.toml: No such file or directory" run none.toml
+check "a campaign that was not run" ends_so 5 "afdx-campaign: no tasks in $room/refused: \`afdx-campaign run\` lists them" status refused.toml
+check "a Python without its modules" "$BASH" -c "! /usr/bin/python3 -S '$campaign' run refused.toml 2>said.txt &&
+    grep -q '^afdx-campaign: no jinja2, matplotlib, numpy in .*: install python3-jinja2 python3-matplotlib python3-numpy ' said.txt"
+check "no such engine" ends_so 2 "afdx-campaign: engine ssh is none of local, tcp://HOST:PORT, tls://HOST:PORT, slurm[:PARTITION]" run refused.toml --engine ssh
+finish

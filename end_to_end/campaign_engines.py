@@ -1,0 +1,362 @@
+#!/usr/bin/python3
+"""Runs one campaign by each engine, kills by their process ids what takes part in it, and compares the answers.
+
+usage: campaign_engines.py local|dask|slurm RECORDINGS ROOM    in RECORDINGS what campaign_recordings.py wrote
+
+Each campaign has to end with one answer for each task, of the digest that is in ROOT/digest, if it is there, and else is put there.
+All processes have ended when this ends, and all traffic is on loopback.
+"""
+import contextlib
+import os
+import signal
+import socket
+import subprocess
+import sys
+import time
+from pathlib import Path
+
+import psutil
+
+CAMPAIGN = Path(__file__).resolve().parents[1] / "python" / "bin" / "afdx-campaign"
+PATIENCE = 600  # seconds for what has to come, on a busy machine too
+PAUSE = 0.1  # seconds between looks
+WORKERS = 4
+FAULTS, GONE = 1, 6  # statuses of afdx-campaign
+TEXT = """program = "{program}"
+recordings = ["{recordings}/recordings/*"]
+root = "{root}"
+scratch = "{room}/scratch"
+[[table]]
+name = "before"
+file = "{recordings}/before.toml"
+[limits]
+patience_s = {patience}
+"""
+
+
+class Room:
+    """A folder in which campaigns are run, and the processes that were started there."""
+
+    def __init__(self, recordings, room):
+        self.recordings, self.folder = Path(recordings).resolve(), Path(room).resolve()
+        self.folder.mkdir(parents=True, exist_ok=True)
+        self.environment = dict(os.environ)
+        self.started = []
+
+    def campaign(self, name, patience=PATIENCE):
+        """A campaign over all recordings, by a program that waits a little, so that there is something to kill."""
+        program = self.folder / "afdx"
+        if not program.exists():
+            program.write_text(f'#!/bin/sh\nsleep 0.1\nexec {os.environ["AFDX"]} "$@"\n')
+            program.chmod(0o755)
+        file = self.folder / f"{name}.toml"
+        file.write_text(TEXT.format(program=program, recordings=self.recordings, root=self.folder / name, room=self.folder,
+                                    patience=patience))
+        return Campaign(self, file, self.folder / name)
+
+    def start(self, *command):
+        """Starts a process; what it says goes to a log file."""
+        with open(self.folder / "log", "a", encoding="utf-8") as log:
+            process = subprocess.Popen([str(word) for word in command], stdin=subprocess.DEVNULL, stdout=log, stderr=log,
+                                       env=self.environment, start_new_session=True)
+        self.started.append(psutil.Process(process.pid))
+        return process
+
+    def processes(self):
+        """All that runs here, whoever started it: each process has a file of the folder open, if only for what it says."""
+        found = []
+        for process in psutil.process_iter():
+            with contextlib.suppress(psutil.Error):
+                if any(Path(file.path).is_relative_to(self.folder) for file in process.open_files()):
+                    found.append(process)
+        return found
+
+    def end(self):
+        """Ends all that was started here, with its children, and answers what had outlived a process that was killed."""
+        for process in self.started:
+            kill(process)
+        left = self.processes()
+        for process in left:
+            kill(process)
+        return left
+
+
+class Campaign:
+    """A campaign file and its root."""
+
+    def __init__(self, room, file, root):
+        self.room, self.file, self.root = room, file, root
+
+    def answers(self):
+        """The files of the answers."""
+        return list(self.root.glob("answers/*/*.json.gz"))
+
+    def run(self, *options):
+        """Starts a driver."""
+        return self.room.start("/usr/bin/python3", CAMPAIGN, "run", self.file, *options)
+
+    def await_answers(self, more, driver):
+        """Waits for some answers more, while the driver goes on."""
+        wanted = len(self.answers()) + more
+        await_that(lambda: len(self.answers()) >= wanted or driver.poll() is not None, f"{wanted} answers")
+        expect(f"the driver goes on, with {len(self.answers())} answers", driver.poll() is None)
+
+    def ends(self, driver, status, what):
+        """Waits for the driver's end, which has this status."""
+        await_that(lambda: driver.poll() is not None, f"the end of the driver, {what}")
+        expect(f"{what}: status {driver.returncode}, {len(self.answers())} answers", driver.returncode == status)
+
+    def is_whole(self, what):
+        """Each task has its answer once, and the answers are those of all other engines."""
+        said = subprocess.run([CAMPAIGN, "status", self.file, "--digest"], capture_output=True, text=True, check=True).stdout
+        tasks = len(list((self.room.recordings / "recordings").iterdir()))
+        expect(f"{what}: {said.splitlines()[0]}", said.startswith(f"{tasks} tasks, {tasks} answered, ") and len(self.answers()) == tasks)
+        expect(f"{what}: no part of an answer", not list(self.root.glob("answers/*/.*")))
+        digest = self.room.folder.parent / "digest"
+        if not digest.exists():
+            digest.write_text(said.splitlines()[1])
+        expect(f"{what}: {said.splitlines()[1]}", digest.read_text() == said.splitlines()[1])
+
+
+def expect(what, holds):
+    """Says what is so, and ends if it is not."""
+    print(f"{time.monotonic() - BEGAN:6.1f} s  {'' if holds else 'NOT '}{what}", flush=True)
+    if not holds:
+        sys.exit(1)
+
+
+def await_that(holds, what):
+    """Waits until it is so."""
+    deadline = time.monotonic() + PATIENCE
+    while not holds():
+        if time.monotonic() > deadline:
+            expect(what, False)
+        time.sleep(PAUSE)
+
+
+def kill(process, number=signal.SIGKILL):
+    """Ends a process and its children, and waits for their end."""
+    with contextlib.suppress(psutil.NoSuchProcess):
+        ended = [process, *process.children(recursive=True)]
+        for one in ended:
+            with contextlib.suppress(psutil.NoSuchProcess):
+                one.send_signal(number)
+        psutil.wait_procs(ended, PATIENCE)
+
+
+def kill_alone(process):
+    """Kills a process and leaves its children."""
+    process = psutil.Process(process.pid)
+    process.kill()
+    with contextlib.suppress(psutil.NoSuchProcess):
+        process.wait(PATIENCE)
+
+
+def some_child(process, name):
+    """Waits for a child of a child with this name, and answers it."""
+    found = []
+
+    def there():
+        with contextlib.suppress(psutil.NoSuchProcess):
+            found[:] = [child for child in psutil.Process(process.pid).children(recursive=True) if name in " ".join(child.cmdline())]
+        return found
+
+    await_that(there, f"a process {name}")
+    return found[0]
+
+
+def children_end(children, what):
+    """Waits for the end of processes whose parent was killed."""
+    def ended(child):
+        try:
+            return child.status() == psutil.STATUS_ZOMBIE
+        except psutil.NoSuchProcess:
+            return True
+
+    await_that(lambda: all(map(ended, children)), f"the end of what {what} had started")
+
+
+def free_port():
+    """A port of loopback on which nobody listens."""
+    with socket.socket() as listening:
+        listening.bind(("127.0.0.1", 0))
+        return listening.getsockname()[1]
+
+
+# --- Local threads ---
+
+
+def local(room):
+    plain = room.campaign("plain")
+    plain.ends(plain.run("-j", 4), FAULTS, "local threads")
+    plain.is_whole("local threads")
+    killed = room.campaign("killed")
+    driver = killed.run("-j", 4)
+    killed.await_answers(5, driver)
+    some_child(driver, "before.toml").kill()
+    killed.await_answers(5, driver)
+    children = psutil.Process(driver.pid).children(recursive=True)
+    kill_alone(driver)
+    children_end(children, "the driver")
+    driver = killed.run("-j", 4)
+    killed.await_answers(5, driver)
+    driver.send_signal(signal.SIGTERM)
+    killed.ends(driver, GONE, "an interrupt")
+    drivers = [killed.run("-j", 2), killed.run("-j", 2)]
+    for one in drivers:
+        killed.ends(one, FAULTS, "two drivers at once")
+    killed.is_whole("after a child, the driver and an interrupt")
+
+
+# --- Dask ---
+
+
+class Cluster:
+    """A scheduler and workers over loopback, each a process of its own; a worker has a nanny, which starts it again."""
+
+    def __init__(self, room):
+        self.room, self.port = room, free_port()
+        self.address = f"tcp://127.0.0.1:{self.port}"
+        self.scheduler, self.nannies = None, []
+        self.start()
+
+    def start(self):
+        """Starts the scheduler, and workers."""
+        self.scheduler = self.room.start("dask-scheduler", "--host", "127.0.0.1", "--port", self.port, "--dashboard-address", "127.0.0.1:0")
+        await_that(self.listens, "the scheduler")
+        self.nannies = [
+            self.room.start("dask-worker", self.address, "--host", "127.0.0.1", "--nthreads", 1, "--no-dashboard", "--resources", "MEM=2e9",
+                            "--local-directory", self.room.folder / "workers") for _ in range(WORKERS)]
+
+    def listens(self):
+        """Whether the scheduler takes connections."""
+        with socket.socket() as client:
+            return client.connect_ex(("127.0.0.1", self.port)) == 0
+
+
+def dask(room):
+    cluster = Cluster(room)
+    killed = room.campaign("killed")
+    driver = killed.run("--engine", cluster.address)
+    killed.await_answers(5, driver)
+    kill_alone(some_child(cluster.nannies[0], "spawn_main"))
+    killed.await_answers(5, driver)
+    kill(psutil.Process(cluster.nannies[1].pid))
+    killed.await_answers(5, driver)
+    kill_alone(driver)
+    driver = killed.run("--engine", cluster.address)
+    killed.await_answers(5, driver)
+    kill_alone(cluster.scheduler)
+    expect("a worker, a nanny with its worker, the driver and the scheduler are killed", True)
+    cluster.start()
+    killed.ends(driver, FAULTS, "Dask")
+    killed.is_whole("Dask, after a worker, a nanny, the driver and the scheduler")
+    gone = room.campaign("gone", patience=20)
+    driver = gone.run("--engine", cluster.address)
+    gone.await_answers(5, driver)
+    kill_alone(cluster.scheduler)
+    gone.ends(driver, GONE, "a scheduler that is gone")
+    gone.ends(gone.run("-j", 4), FAULTS, "what is left by local threads")
+    gone.is_whole("Dask, then local threads")
+
+
+# --- Slurm ---
+
+
+CONFIGURATION = """ClusterName=test
+SlurmctldHost={host}(127.0.0.1)
+SlurmUser=root
+SlurmdUser=root
+AuthInfo=socket={folder}/munge/socket
+StateSaveLocation={folder}/state
+SlurmdSpoolDir={folder}/spool
+SlurmctldPidFile={folder}/slurmctld.pid
+SlurmdPidFile={folder}/slurmd.pid
+SlurmctldPort={controller}
+SlurmdPort={node}
+CommunicationParameters=NoCtldInAddrAny,NoInAddrAny
+ProctrackType=proctrack/linuxproc
+TaskPlugin=task/none
+SelectType=select/cons_tres
+SelectTypeParameters=CR_Core_Memory
+SchedulerParameters=sched_min_interval=100000,batch_sched_delay=1
+MpiDefault=none
+KillWait=5
+NodeName={host} NodeAddr=127.0.0.1 CPUs=4 RealMemory=4000 State=UNKNOWN
+PartitionName=test Nodes={host} Default=YES MaxTime=INFINITE State=UP
+"""
+
+
+class Slurm:
+    """munged, slurmctld and slurmd over loopback, with a configuration of their own."""
+
+    def __init__(self, room):
+        self.room, self.folder = room, room.folder / "slurm"
+        for name in ("state", "spool", "munge"):
+            (self.folder / name).mkdir(parents=True)
+        configuration = self.folder / "slurm.conf"
+        configuration.write_text(CONFIGURATION.format(
+            host=socket.gethostname().partition(".")[0], folder=self.folder, controller=free_port(), node=free_port()))
+        room.environment["SLURM_CONF"] = str(configuration)
+        key = self.folder / "munge" / "key"
+        key.write_bytes(os.urandom(1024))
+        key.chmod(0o400)
+        options = [f"--{name}={self.folder}/munge/{name.partition('-')[0]}" for name in ("socket", "pid-file", "log-file", "seed-file")]
+        self.room.start("munged", "--foreground", "--force", f"--key-file={key}", *options)
+        await_that((self.folder / "munge" / "socket").exists, "munged")
+        self.controller = room.start("slurmctld", "-D", "-c")
+        self.node = room.start("slurmd", "-D", "-c")
+        await_that(self.is_idle, "an idle node")
+
+    def is_idle(self):
+        """Whether the node is ready for jobs."""
+        said = subprocess.run(["sinfo", "--noheader", "--format=%T"], capture_output=True, text=True, env=self.room.environment, check=False)
+        return said.stdout.strip() == "idle"
+
+
+def kills_job(room):
+    """Kills a job, if one is there."""
+    for process in psutil.process_iter():
+        with contextlib.suppress(psutil.Error):
+            words = process.cmdline()
+            if "afdx.campaign.worker" in words and any(word.startswith(f"{room.folder}/") for word in words):
+                process.kill()
+                return True
+    return False
+
+
+def slurm(room):
+    manager = Slurm(room)
+    killed = room.campaign("killed")
+    driver = killed.run("--engine", "slurm", "-j", 4)
+    killed.await_answers(3, driver)
+    await_that(lambda: kills_job(room), "a job")
+    killed.await_answers(5, driver)
+    kill_alone(driver)
+    driver = killed.run("--engine", "slurm:test", "-j", 4)
+    killed.ends(driver, FAULTS, "Slurm")
+    killed.is_whole("Slurm, after a job and the driver")
+    gone = room.campaign("gone", patience=10)
+    driver = gone.run("--engine", "slurm", "-j", 4)
+    gone.await_answers(5, driver)
+    kill_alone(manager.controller)
+    gone.ends(driver, GONE, "a slurmctld that is gone")
+    for process in room.processes():  # a slurmstepd waits for its slurmctld
+        kill(process)
+    gone.ends(gone.run("-j", 4), FAULTS, "what is left by local threads")
+    gone.is_whole("Slurm, then local threads")
+
+
+def main(engine, recordings, room):
+    there = Room(recordings, room)
+    try:
+        {"local": local, "dask": dask, "slurm": slurm}[engine](there)
+    finally:
+        left = there.end()
+    expect(f"no process is left, not {[process.pid for process in left]}", not left)
+
+
+BEGAN = time.monotonic()
+
+if __name__ == "__main__":
+    main(*sys.argv[1:])
