@@ -1,6 +1,5 @@
 """Ends a command after a signal, so that what it began is removed on the way out."""
 import signal
-import sys
 from collections.abc import Iterator
 from contextlib import contextmanager
 from dataclasses import dataclass
@@ -26,7 +25,7 @@ def end(number: int, _: FrameType | None = None) -> None:
         return
     for ending in ENDING:
         signal.signal(ending, signal.SIG_IGN)
-    sys.exit(128 + number)
+    raise SystemExit(128 + number)  # not sys.exit, whose exception pandas cannot raise again while it reads
 
 
 def end_by_signals() -> None:

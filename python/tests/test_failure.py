@@ -39,6 +39,22 @@ subprocess.Popen = Slow
 sys.exit(run(lambda arguments: len(Program("command").ask("check").said)))
 """
 
+# a command whose signal comes while pandas reads
+READING = """
+import os, signal, sys
+import pandas
+from afdx.failure import run
+
+class Source:
+    def read(self, size=-1):
+        os.kill(os.getpid(), signal.SIGTERM)
+
+    def __iter__(self):
+        return iter(())
+
+sys.exit(run(lambda arguments: len(pandas.read_csv(Source()))))
+"""
+
 
 def take_signals() -> None:
     """Has signals not ignored, as they are in a process in the background."""
@@ -68,6 +84,12 @@ def test_a_signal(tmp_path: Path, number: signal.Signals) -> None:
         assert process.communicate() == ("", "")
     assert process.returncode == 128 + number
     assert list(tmp_path.iterdir()) == []
+
+
+def test_a_signal_while_pandas_reads(tmp_path: Path) -> None:
+    with begun(tmp_path, READING) as process:
+        assert process.communicate() == ("", "")
+    assert process.returncode == 128 + signal.SIGTERM
 
 
 def test_a_signal_while_a_program_is_begun(tmp_path: Path) -> None:
