@@ -73,4 +73,6 @@ check "of two faults the lowest port's is named, though the other is met first" 
     names_fault "afdx: capture P11 CutData, port 1, record 524" cut
 cp in/port-1.pcap cut
 check "and the other port's, where it is the only one" names_fault "afdx: capture P11 CutData, port 2, record 1" cut
+rm -rf in cut
+check "a run in pieces of twice as many frames takes no more memory" python3 "$top/bench/memory.py" "$afdx"
 finish
