@@ -12,9 +12,9 @@ copied() {
     mkdir "$1" && tar -c -C "$top" --exclude=out crates crates.txt HANDLES demo end_to_end examples python | tar -x -C "$1"
 }
 
-# shown NAME: the demo of this copy, and what it prints in NAME.txt.
+# shown NAME: the demo of this copy, as if all were made at one time, and what it prints in NAME.txt.
 shown() {
-    "$1/demo" >"$1.txt" 2>&1
+    SOURCE_DATE_EPOCH=0 "$1/demo" >"$1.txt" 2>&1
 }
 
 # by_rt FOLDER ARGUMENT..: the demo with an rt in the place of the kit's, which notes how it was called and has the program built.
