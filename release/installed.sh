@@ -7,6 +7,7 @@ shopt -s nullglob
 cd "$(dirname "$0")/.." || exit 1
 export DEBIAN_FRONTEND=noninteractive AFDX=/usr/bin/afdx
 
+[ -e /etc/hosts ] || echo 127.0.0.1 localhost >/etc/hosts  # each Debian that was installed has it, and chromedriver needs it
 apt-get install -qy --install-recommends ./*.deb >/dev/null || { echo "cannot install the .deb"; exit 1; }
 rm -r python/afdx
 ln -s /usr/share/afdx/afdx python/afdx
