@@ -9,7 +9,7 @@ from tests import worked_lists
 
 GOOD = {"id": "20", "name": "heading", "from": "A1", "to": "B1", "bag_ms": "8", "jitter_us": "0", "max_size": "100",
         "udp_payload": "", "priority": "high", "police": "", "via": ""}
-END = {"name": "D1", "switch": "A", "port": "3", "mbit": "100", "buffer": "", "max_delay_us": ""}
+END = {"name": "gyro", "switch": "A", "port": "3", "mbit": "100", "buffer": "", "max_delay_us": ""}
 WIRE = {"switch_a": "A", "port_a": "11", "switch_b": "B", "port_b": "11", "mbit": "10", "delay_ns": "", "buffer": "",
         "max_delay_us": ""}
 BAD_LINKS = [
@@ -19,9 +19,9 @@ BAD_LINKS = [
     ("id", "65536", "not from 0 to 65535"),
     ("name", "a\u0007b", "has a character that cannot be printed"),
     ("from", "", "empty"),
-    ("from", "D1", "no such end system"),
+    ("from", "gyro", "no such end system"),
     ("to", "", "empty"),
-    ("to", "B1|D1", "no such end system as D1"),
+    ("to", "B1|gyro", "no such end system as gyro"),
     ("to", "B1||C1", "an empty name between two separators"),
     ("to", "B1,B1", "has B1 twice"),
     ("to", "B1|A1", "A1 would send to itself"),
@@ -130,7 +130,7 @@ def test_a_payload_of_another_size(tmp_path: Path) -> None:
 
 
 def test_a_cell_past_the_heading(tmp_path: Path) -> None:
-    paths = worked_lists.write(tmp_path, ends=worked_lists.ENDS + "D1,A,3,100,spare\n")
+    paths = worked_lists.write(tmp_path, ends=worked_lists.ENDS + "gyro,A,3,100,spare\n")
     assert refusal(paths).lines == (line("more cells than the heading has", paths[1], 7, "5", "spare"),)
 
 
