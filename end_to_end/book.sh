@@ -1,8 +1,8 @@
 #!/usr/bin/env bash
 # The pages against the repository: the quotes of docs/trust are what their sources have, and its counts of definitions are right; all
 # that the contracts of `run`, `Session` and `serve` rest on is quoted; the maps of crates are those of crates.txt; numbers that stand
-# in the code and on a page are the same, and so is the version; each wrong body can be applied and PROOFS names it; and no page names a
-# file or a section that is not there.
+# in the code and on a page are the same, and so is the version; each wrong body can be applied and PROOFS names it; the contracts that
+# pages claim are there, and say what they said; and no page names a file or a section that is not there.
 . "$(dirname "$0")/common.sh"
 install python3=python3
 export PYTHONDONTWRITEBYTECODE=1 LC_ALL=C.UTF-8
@@ -13,6 +13,45 @@ check "the maps of crates are those of crates.txt, and each crate's proofs have 
 check "numbers on the pages are the constants of the code" python3 end_to_end/constants.py
 check "the version is that of the code" python3 end_to_end/versions.py
 check "each wrong body can be applied, and PROOFS names it" python3 end_to_end/edits.py
+
+# --- claims of contracts ---
+
+# turned FILE OLD NEW LINE: with this text of the file turned, in a copy, claims.py fails and says so.
+turned() {
+    local status=0
+    sed -i "s/$2/$3/" "$room/tree/$1"
+    diff "$1" "$room/tree/$1"
+    python3 "$room/tree/end_to_end/claims.py" >"$room/answer.txt" || status=$?
+    cat "$room/answer.txt" && cp "$1" "$room/tree/$1" && [ "$status" -eq 1 ] && grep -qF -- "$4" "$room/answer.txt"
+}
+
+# renewed: with a clause turned the list is written anew, and then nothing is wrong.
+renewed() {
+    sed -i 's/ensures known { IfSome/ensures known { true ≡ true → IfSome/' "$room/tree/$session"
+    ! python3 "$room/tree/end_to_end/claims.py" && python3 "$room/tree/end_to_end/claims.py" --renew &&
+        python3 "$room/tree/end_to_end/claims.py" && ! diff docs/trust/claims.txt "$room/tree/docs/trust/claims.txt"
+}
+
+session=crates/afdx_session/src/session.rt
+headline=crates/afdx_session/specs/Headline.antt
+mkdir "$room/tree"
+tar -c --exclude=out ./*.md bench/*.md crates docs end_to_end/*.py examples/*.md | tar -x -C "$room/tree"
+check "what pages claim is in the contracts, and is what it was" python3 end_to_end/claims.py
+check "a clause with another name" turned $session 'ensures known' 'ensures there' 'Session::take has no clause known'
+check "a weaker clause" turned crates/afdx_session/src/whole.rt 'ensures isolated { ' '&true ≡ false → ' \
+    'afdx_session run, isolated: is not what it was when its claims were read (README.md, '
+check "a call that requires more" turned $session '  ensures known' '  requires any { true ≡ true }\n&' \
+    'afdx_session Session::take, requires any: is claimed, and not in the list'
+check "a weaker law" turned $headline '^AcceptedRunsIsolate = ' '&(no : true ≡ false) → ' \
+    'afdx_session laws::accepted_runs_isolate, ensures: is not what it was when its claims were read'
+check "a function that is gone" turned $session 'fn waits_for' 'fn waits_on' 'there is no contract Session::waits_for'
+check "a definition that is gone" turned $headline LosesNone LosesFew 'there is no definition'
+check "a claim that is gone" turned docs/trust/PROOFS.md 'take_into, waits_for' 'take_into' 'Session::waits_for, some: no page claims it any more'
+check "a contract without its form" turned docs/trust/PROOFS.md 'Session::finish_into' 'finish_into' 'is in a column of contracts, and no claim'
+check "a list that is renewed" renewed
+
+# --- files and sections ---
+
 while read -r page; do
     check "$page names files that are there" python3 end_to_end/pages.py "$page"
 done < <(find . \( -name out -o -name .git \) -prune -o -name '*.md' -print | sed 's|^\./||' | sort)
