@@ -42,8 +42,10 @@ check "a weaker clause" turned crates/afdx_session/src/whole.rt 'ensures isolate
     'afdx_session run, isolated: is not what it was when its claims were read (README.md, '
 check "a call that requires more" turned $session '  ensures known' '  requires any { true ≡ true }\n&' \
     'afdx_session Session::take, requires any: is claimed, and not in the list'
-check "a weaker law" turned $headline '^AcceptedRunsIsolate = ' '&(no : true ≡ false) → ' \
+check "a weaker statement of a law" turned $headline '^AcceptedRunsIsolate = ' '&(no : true ≡ false) → ' \
     'afdx_session laws::accepted_runs_isolate, ensures: is not what it was when its claims were read'
+check "a weaker definition, which no page quotes" turned crates/afdx_account/specs/Level.antt '^PassesWhatConforms .* = ' \
+    '&(no : true ≡ false) → ' 'afdx_account Meter::offer, conforming: is not what it was when its claims were read'
 check "a function that is gone" turned $session 'fn waits_for' 'fn waits_on' 'there is no contract Session::waits_for'
 check "a definition that is gone" turned $headline LosesNone LosesFew 'there is no definition'
 check "a claim that is gone" turned docs/trust/PROOFS.md 'take_into, waits_for' 'take_into' 'Session::waits_for, some: no page claims it any more'

@@ -15,8 +15,8 @@ A claim is in backticks, and names what stands in a source:
     impl Model for Port, invariant  what an `impl` says; without a name all that it says
 
 The crate of any other name is the only one that has it, or that of the heading above; else it stands before the name.
-The list has of each clause the first 12 hex digits of the SHA-256 of its text, white space apart, with the statement
-that it names if it is a law's. What a function requires is listed with it: who requires more promises less.
+The list has of each clause the first 12 hex digits of the SHA-256 of its text, white space apart, and of that of the
+definitions that it names and no page quotes. What a function requires is listed too: who requires more promises less.
 """
 
 import argparse

@@ -18,7 +18,8 @@ ITEM = re.compile(
 SIGNATURE = re.compile(r"(?:[^{};\[]|\[[^\]]*\])*?(?=\n\s*(?:requires|ensures) |\{|;)")
 CLAUSE = re.compile(r"\s*(?P<kind>requires|ensures)(?: (?P<name>\w+))? \{")
 USE = re.compile(r"^ *(?:ghost )?use Rattle\.(\w+)\.specs\.([\w.]+)\.\{([^}]*)\}", re.M)
-DEFINITION = r"^ *(?:(?:abbrev|unfoldable|opaque) )?(?:pub )?(?:(?:record|data) )?({name})(?= (?:.* )?:)"
+WORD = re.compile(r"[\w']+")
+DEFINITION = r"^ *(?:(?:abbrev|unfoldable|opaque) )?(?:pub )?(?:(?:record|data) )?([\w']+)(?= (?:.* )?:)"
 
 
 @dataclass
@@ -97,33 +98,48 @@ def contracts_in(path: Path) -> Iterator[Contract]:
             yield from [one] if owner or path.stem == "laws" else [one, replace(one, name=mark["function"])]
 
 
-def statement(path: Path, name: str) -> str:
-    """Reads the text of a definition, without its comments."""
-    begins = re.compile(DEFINITION.format(name=name), re.M)
-    parts = re.split(r"\n\s*\n(?=\S)", re.sub(r"--.*", "", path.read_text(encoding="utf-8")))
-    return next((words(part) for part in parts if begins.search(part)), "")
+@cache
+def defined_in(path: Path) -> dict[str, str]:
+    """Reads the definitions of a file of `specs/`, by their names, without comments."""
+    text = re.sub(r"--.*", "", path.read_text(encoding="utf-8"))
+    parts = re.split(r"\n\s*\n(?=\S)", text)
+    heads = [(re.search(DEFINITION, part, re.M), part) for part in parts]
+    return {head[1]: words(part) for head, part in heads if head}
 
 
-def statements(laws: Path) -> dict[str, str]:
-    """Reads the statements that the laws of a source name."""
+@cache
+def quoted() -> set[tuple[str, str]]:
+    """Lists the definitions that a page quotes, each with its file."""
+    pages = "".join(path.read_text(encoding="utf-8") for path in TOP.glob("docs/trust/*.md"))
+    marks = re.findall(r"^<!-- quote (\S+) (.*?) -->$", pages, re.M)
+    return {(path, name) for path, names in marks for name in names.split()}
+
+
+def brought_by(source: Path) -> dict[str, str]:
+    """Reads the definitions that a source brings and no page quotes."""
     found: dict[str, str] = {}
-    for crate, module, names in USE.findall(laws.read_text(encoding="utf-8")):
+    for crate, module, names in USE.findall(source.read_text(encoding="utf-8")):
         path = TOP / "crates" / crate / "specs" / f"{module.replace('.', '/')}.antt"
-        found |= {name: statement(path, name) for name in names.split(", ") if path.is_file()}
+        for original, _, other in [name.partition(" as ") for name in names.split(", ") if path.is_file()]:
+            if (str(path.relative_to(TOP)), original) not in quoted():
+                found[other or original] = defined_in(path).get(original, "")
     return found
+
+
+def with_named(clause: str, definitions_by_name: dict[str, str]) -> str:
+    named = [word for word in dict.fromkeys(WORD.findall(clause)) if word in definitions_by_name]
+    return " ".join([clause, *(definitions_by_name[word] for word in named)])
 
 
 @cache
 def contracts() -> dict[str, list[Contract]]:
-    """Reads all contracts, by what they are called. A law's clause is followed by the statement that it names."""
+    """Reads all contracts. Behind the text of a clause is that of the definitions that it names and no page quotes."""
     found: dict[str, list[Contract]] = {}
     for path in sources("src/**/*.rt"):
-        said = statements(path) if path.stem == "laws" else {}
-        for one in contracts_in(path):
-            for name, text in one.clauses.items():
-                one.clauses[name] = " ".join([text, *(said[word] for word in text.split() if word in said)])
-            if one.clauses:
-                found.setdefault(one.name, []).append(one)
+        brought = brought_by(path)
+        for one in [one for one in contracts_in(path) if one.clauses]:
+            clauses = {name: with_named(clause, brought) for name, clause in one.clauses.items()}
+            found.setdefault(one.name, []).append(replace(one, clauses=clauses))
     return found
 
 
@@ -133,7 +149,7 @@ def definitions() -> set[str]:
     found: set[str] = set()
     for path in sources("specs/**/*.antt"):
         text = path.read_text(encoding="utf-8")
-        found |= set(re.findall(DEFINITION.format(name=r"\w+"), text, re.M))
+        found |= set(re.findall(DEFINITION, text, re.M))
         found |= {name for _, _, names in USE.findall(text) for name in names.split(", ")}
     for path in sources("src/**/*.rt"):
         text = path.read_text(encoding="utf-8")
