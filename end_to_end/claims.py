@@ -65,7 +65,8 @@ def is_claim(text: str) -> bool:
         return False
     if mark["item"]:
         return bool(mark["clauses"]) or text.startswith("impl ")
-    return "::" in text and not (TOP / "crates" / (mark["crate"] or "") / "src" / f"{mark['names']}.rt").is_file()
+    module = TOP / "crates" / (mark["crate"] or "") / "src" / f"{mark['names']}.rt"
+    return "::" in text and (mark["names"] in contracts() or not module.is_file())
 
 
 def cells(line: str) -> list[str]:

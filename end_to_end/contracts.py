@@ -10,7 +10,7 @@ TOP = Path(__file__).resolve().parents[1]
 
 ITEM = re.compile(
     r"^(?P<end>\})"
-    r"|^(?:pub(?:\(crate\))? )?(?P<kind>impl|trait|struct)\b(?P<head>[^{;]*)\{"
+    r"|^(?:pub(?:\(crate\))? )?(?:unsafe )?(?P<kind>impl|trait|struct)\b(?P<head>[^{;]*)\{"
     r"|^(?: {4})?(?P<public>pub )?(?:pub\(crate\) )?fn (?P<function>\w+)"
     r"|^ {4}ghost (?P<ghost>\w+)",
     re.M,
