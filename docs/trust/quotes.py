@@ -43,6 +43,7 @@ ROOTS = [
     ("afdx_network", "ways_deliver"),
     ("afdx_network", "ways_are_there"),
     ("afdx_network", "network_runs_deliver"),
+    ("afdx_network", "printed_delays_are_kept"),
     ("afdx_network", "others_change_nothing_in_networks"),
     ("afdx_network", "lesser_ways_deliver"),
     ("afdx_serve", "serve"),

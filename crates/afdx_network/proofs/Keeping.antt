@@ -1,13 +1,13 @@
 -- Sites stay those of the network's switches, whatever comes over the wires and whatever runs.
-use Rattle.std.proofs.Common.{◌≡◌, ◌⊎◌, ℕ, List, [], ◌∷◌, slice_get, Option, Some, None, Ok, Err, ◌==◌, Bool, true, is_some, get_or, set, refl, ap, sym, ◌∙◌, inl, inr, subst}
-use Rattle.std.specs.Prelude.{Contains, slice_set, All, Vec, Result, IfErr, IsErr, IsErrAnd}
+use Rattle.std.proofs.Common.{◌≡◌, ◌⊎◌, ℕ, List, [], ◌∷◌, slice_get, Option, Some, None, Ok, Err, ◌==◌, Bool, true, false, is_some, get_or, set, refl, ap, sym, ◌∙◌, inl, inr, subst}
+use Rattle.std.specs.Prelude.{Contains, slice_set, All, Vec, Result, IfErr, IsErr, IsErrAnd, IsSome}
 use Rattle.std.specs.List.{position}
 use Rattle.std.proofs.Math.ListN.{length-set}
 use Rattle.std.proofs.lemmas.List.{map-set}
 use Rattle.std.proofs.lemmas.List.Quantifiers.{position-Some}
 use Rattle.std.proofs.lemmas.Option.{slice_get-map, slice_get-get_or, same_Some}
 use Rattle.std.proofs.lemmas.List.Elements.{All-contains}
-use Rattle.std.proofs.lemmas.Bool.{eqb-true}
+use Rattle.std.proofs.lemmas.Bool.{eqb-true, false≢true}
 use Rattle.afdx_pcap.specs.declared.fault.PcapFault.{PcapFault}
 use Rattle.afdx_pcap.specs.Record.{Record}
 use Rattle.afdx_pcap.specs.Capture.{IsCapture}
@@ -25,7 +25,7 @@ use Rattle.afdx_wiring.specs.declared.layout.Wire.{Wire}
 use Rattle.afdx_wiring.specs.Net.{Network, wire_to}
 use Rattle.afdx_network.specs.Runs.{Given}
 use Rattle.afdx_network.specs.Given.{AreSound, IsWired, IsWireFault, fault_of}
-use Rattle.afdx_network.specs.Inner.Sites.{Site, ComesIn, LeadsTo, IsSite, AreSites, IsPutIn, RunsOver, IsBrought, Agrees}
+use Rattle.afdx_network.specs.Inner.Sites.{Site, ComesIn, LeadsTo, IsSite, AreSites, IsPutIn, RunsOver, came_at, IsBrought, Agrees}
 use Rattle.afdx_network.proofs.Found.{all_at, contains_head, contains_tail}
 use Rattle.afdx_network.proofs.Places.{members, got_set, map_stays}
 
@@ -64,19 +64,27 @@ is_put_in {Z = Z} port texts place text old new is before after forgotten =
 pub runs_already : (t : Content) (s : Site) → is_some s.outcome ≡ true → RunsOver t s s
 runs_already t s ran = by s.outcome refl ran where
   by : (o : Option Results) → s.outcome ≡ o → is_some o ≡ true → RunsOver t s s
-  by (Some r) is some = record { came = refl; results = r; outcome = is; led = inl is }
+  by (Some r) is some = record { came = refl; results = r; outcome = is; led = inl is; stays = λ ran. refl }
   by None is some = absurd cc
 
-pub runs_now : AcceptedRunsIsolate → (t copied : Content) (texts : List Text) (old new : Site) (results : Results) → IsWellFormed t → IsAccepted t → copied ≡ t → texts ≡ old.came
-    → new.came ≡ old.came → new.outcome ≡ Some results → IsOutcome copied texts results → RunsOver t old new
-runs_now isolate t copied texts old new results formed accepted same before came outcome led =
-    let is : IsOutcome t old.came results = subst (λ (ts : List Text). IsOutcome t ts results) before (subst (λ (c : Content). IsOutcome c texts results) same led) in
-    record { came = came; results = results; outcome = outcome; led = inr (record { outcome = is; isolated = isolate t old.came results formed accepted is }) }
+has_run : {P : Type 0} (o : Option Results) → is_some o ≡ false → IsSome o → P
+has_run None never ran = absurd (false≢true ran)
+has_run (Some r) never ran = absurd cc
 
-pub do_agree : (sites : List Site) (w : Wire) (there : Site) (came text : List ℕ) → slice_get sites w.to.switch ≡ Some there → Contains there.came (w.to.port, came) → came ≡ text
-    → IsBrought sites w text → Agrees sites w
-do_agree sites w there came text at among same brought =
-    record { there = there; text = text; there_is = at; comes = subst (λ (bytes : List ℕ). Contains there.came (w.to.port, bytes)) same among; brought = brought }
+pub runs_now : AcceptedRunsIsolate → (t copied : Content) (texts : List Text) (old new : Site) (results : Results) → IsWellFormed t → IsAccepted t → copied ≡ t → texts ≡ old.came
+    → new.came ≡ old.came → new.outcome ≡ Some results → is_some old.outcome ≡ false → IsOutcome copied texts results → RunsOver t old new
+runs_now isolate t copied texts old new results formed accepted same before came outcome never led =
+    let is : IsOutcome t old.came results = subst (λ (ts : List Text). IsOutcome t ts results) before (subst (λ (c : Content). IsOutcome c texts results) same led) in
+    record {
+      came = came;
+      results = results;
+      outcome = outcome;
+      led = inr (record { outcome = is; isolated = isolate t old.came results formed accepted is });
+      stays = has_run old.outcome never;
+    }
+
+pub do_agree : (sites : List Site) (w : Wire) (came text : List ℕ) → came_at sites w.to ≡ Some came → came ≡ text → IsBrought sites w text → Agrees sites w
+do_agree sites w came text is same brought = record { text = text; comes = is ∙ ap (λ (bytes : List ℕ). Some bytes) same; brought = brought }
 
 -- ---- a text is put in
 

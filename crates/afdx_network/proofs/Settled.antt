@@ -1,5 +1,5 @@
 -- Where each switch has run over what came in, and each wire brings what came in at its end, that is a run of the network.
-use Rattle.std.proofs.Common.{◌≡◌, ℕ, zero, suc, List, [], ◌∷◌, length, map, slice_get, Option, Some, None, option_map, refl, ap, sym, ◌∙◌, subst, arith}
+use Rattle.std.proofs.Common.{◌≡◌, ℕ, zero, suc, List, [], ◌∷◌, length, map, slice_get, Option, Some, None, option_map, option_and_then, refl, ap, sym, ◌∙◌, subst, arith}
 use Rattle.std.specs.Prelude.{All, Contains}
 use Rattle.std.proofs.lemmas.List.Elements.{All-contains}
 use Rattle.std.proofs.lemmas.Option.{slice_get-map, same_Some}
@@ -11,8 +11,9 @@ use Rattle.afdx_wiring.specs.declared.layout.Wire.{Wire}
 use Rattle.afdx_wiring.specs.declared.layout.End.{End}
 use Rattle.afdx_wiring.specs.Net.{Network, wire_to}
 use Rattle.afdx_network.specs.Runs.{Given, Brings, IsGiven, AreRuns, IsRunOf}
-use Rattle.afdx_network.specs.Inner.Sites.{Site, LeadsTo, AreSites, Agrees}
+use Rattle.afdx_network.specs.Inner.Sites.{Site, LeadsTo, AreSites, text_at, left_at, came_at, left_over, Agrees}
 use Rattle.afdx_network.proofs.Rest.{rest_is_agreement}
+use Rattle.afdx_network.proofs.TextsAt.{text_among}
 
 abbrev pub cames : List Site → List (List Text)
 cames sites = map (λ s. s.came) sites
@@ -57,19 +58,51 @@ result_there (u ∷ sites) [] n s r led at is = absurd cc
 result_there (u ∷ sites) (one ∷ left) zero s r led at is = cc
 result_there (u ∷ sites) (one ∷ left) (suc n) s r led at is = result_there sites left n s r (cc) at is
 
+-- what came in at an end, and what left at a wire's start
+record CameThere (sites : List Site) (e : End) (text : List ℕ) : Type 0 where
+  pub site : Site
+  pub at : slice_get sites e.switch ≡ Some site
+  pub among : Contains site.came (e.port, text)
+
+came_there : (sites : List Site) (e : End) (text : List ℕ) → came_at sites e ≡ Some text → CameThere sites e text
+came_there sites e text is = by (slice_get sites e.switch) refl is where
+  by : (o : Option Site) → slice_get sites e.switch ≡ o → option_and_then (λ (s : Site). text_at e.port s.came) o ≡ Some text → CameThere sites e text
+  by None at none = absurd cc
+  by (Some s) at some = record { site = s; at = at; among = text_among s.came e.port text some }
+
+record LeftThere (sites : List Site) (w : Wire) (bytes : List ℕ) : Type 0 where
+  pub site : Site
+  pub results : Results
+  pub at : slice_get sites w.from.switch ≡ Some site
+  pub ran : site.outcome ≡ Some results
+  pub written : Contains results.captures (w.from.port, bytes)
+
+left_there : (sites : List Site) (w : Wire) (bytes : List ℕ) → left_over sites w ≡ Some bytes → LeftThere sites w bytes
+left_there sites w bytes is = by (slice_get sites w.from.switch) refl is where
+  ran : (s : Site) → slice_get sites w.from.switch ≡ Some s → (o : Option Results) → s.outcome ≡ o → option_and_then (λ (r : Results). text_at w.from.port r.captures) o ≡ Some bytes
+      → LeftThere sites w bytes
+  ran s at None has none = absurd cc
+  ran s at (Some results) has some = record { site = s; results = results; at = at; ran = has; written = text_among results.captures w.from.port bytes some }
+
+  by : (o : Option Site) → slice_get sites w.from.switch ≡ o → option_and_then (λ (s : Site). left_at w.from.port s) o ≡ Some bytes → LeftThere sites w bytes
+  by None at none = absurd cc
+  by (Some s) at some = ran s at s.outcome refl some
+
 brings : (sites : List Site) (left : List Results) (w : Wire) → HaveLed sites left → Agrees sites w → Brings left (cames sites) w
 brings sites left w led agrees =
     let over = agrees.brought in
+    let start = left_there sites w over.bytes over.left in
+    let end = came_there sites w.to agrees.text agrees.comes in
     record {
-      here = over.left.results;
-      there = agrees.there.came;
+      here = start.results;
+      there = end.site.came;
       bytes = over.bytes;
       records = over.records;
-      here_is = result_there sites left w.from.switch over.here over.left.results led over.here_is over.left.ran;
-      there_is = rw (slice_get-map, agrees.there_is);
-      written = over.left.written;
+      here_is = result_there sites left w.from.switch start.site start.results led start.at start.ran;
+      there_is = rw (slice_get-map, end.at);
+      written = start.written;
       read = over.read;
-      comes = subst (λ (text : List ℕ). Contains agrees.there.came (w.to.port, text)) over.text_is agrees.comes;
+      comes = subst (λ (text : List ℕ). Contains end.site.came (w.to.port, text)) over.text_is end.among;
     }
 
 given_there : (net : Network) (given : Given) (sites : List Site) → AreSites net given sites → (e : End) (texts : List Text) (text : Text)

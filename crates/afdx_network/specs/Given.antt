@@ -42,6 +42,16 @@ pub record AreGiven (net : Network) (given : Given) : Type 0 where
 abbrev pub AreSound : Given → Type 0
 AreSound given = All (All IsSound) given
 
+-- ---- orders
+
+-- the wires have an order: each switch has one of 64 places in it, and each wire goes to a later place than it comes from; and no two go
+-- to one port
+pub record HasOrder (net : Network) : Type 0 where
+  pub place : ℕ → ℕ
+  pub few : (switch : ℕ) → place switch < 64
+  pub rises : All (λ w. place w.from.switch < place w.to.switch) net.layout.wires
+  pub one_each : All (λ w. wire_to net w.to ≡ Some w) net.layout.wires
+
 -- ---- refusals
 
 -- the first switch for which something else is given; the one after the last, where more is given
@@ -63,12 +73,12 @@ pub record IsWired (net : Network) (switch port : ℕ) : Type 0 where
   pub wire_is : wire_to net (record { switch = switch; port = port }) ≡ Some wire
 
 -- why there is no run: what is given is not for the ports without a wire; a given text is no capture, or all are and what comes over
--- a wire is none; the wires do not agree. Memory may run out at any time after the first
+-- a wire is none; the wires have no order, and do not agree. Memory may run out at any time after the first
 abbrev pub IsRefusal : Network → Given → NetworkRunFault → Type 0
 IsRefusal net given fault.Memory = AreGiven net given
 IsRefusal net given (fault.WrongPorts switch) = IsFirstUngiven net given switch
 IsRefusal net given (fault.Capture switch port why) = AreGiven net given × (IsFirstUnsound given switch port why ⊎ (AreSound given × IsWired net switch port))
-IsRefusal net given fault.Unsettled = AreGiven net given × AreSound given
+IsRefusal net given fault.Unsettled = AreGiven net given × AreSound given × (HasOrder net → ⊥)
 
 -- ---- refusals on the way
 

@@ -1,9 +1,10 @@
 //! What is given for a run: the captures of the ports to which no wire goes.
 
-ghost use Rattle.std.specs.Prelude.{◌≡◌, ℕ, All, IfErr, IfOk, OnOk, IsTrue, ◌↔◌};
+ghost use Rattle.std.specs.Prelude.{◌≡◌, ℕ, All, IfErr, IfOk, Ok, OnOk, IsTrue, ◌↔◌};
 ghost use Rattle.afdx_session.specs.Texts.{texts_of};
 ghost use Rattle.afdx_session.specs.Reading.{IsSound};
 ghost use Rattle.afdx_wiring.specs.Net.{wire_to};
+ghost use Rattle.afdx_wiring.specs.Order.{lost_port};
 ghost use Rattle.afdx_network.specs.declared.fault.NetworkRunFault.TheVariants.{WrongPorts};
 ghost use Rattle.afdx_network.specs.Given.{given_of, is_open, AreOpen, IsGivenAt, AreGiven, AreSound, IsFirstUngiven, IsGivenFault, IsTextFault};
 ghost use Rattle.afdx_network.specs.Inner.Sites.{ComesIn};
@@ -52,6 +53,7 @@ fn is_given(network: &Network, given: &[Texts], switch: usize) -> bool
 pub(crate) fn check_ports(network: &Network, given: &[Texts]) -> Result<(), NetworkRunFault>
     ensures ok { OnOk result (AreGiven network.now (given_of given.now)) }
     ensures err { IfErr result (λ fault. (switch : ℕ) × (fault ≡ WrongPorts switch) × IsFirstUngiven network.now (given_of given.now) switch) }
+    ensures ports { lost_port network.now.tables network.now.layout.wires ≡ Ok tt }
 {
     let switches = network.tables().len();
     for switch in 0..switches {

@@ -1,11 +1,13 @@
 //! Rounds over the switches of a network.
 
-ghost use Rattle.std.specs.Prelude.{◌≡◌, All, IfErr, IfOk, IfSome, IsTrue, Some, map, true};
+ghost use Rattle.std.specs.Prelude.{◌≡◌, ◌==◌, ◌+◌, ◌<◌, ℕ, All, IfErr, IfOk, IsTrue, MatchOption, None, Ok, Some, length, map, true};
+ghost use Rattle.std.specs.List.{list_any};
 ghost use Rattle.afdx_table.specs.WellFormed.{IsWellFormed};
 ghost use Rattle.afdx_network.specs.Runs.{Given};
 ghost use Rattle.afdx_wiring.specs.Net.{Network as Net};
-ghost use Rattle.afdx_network.specs.Given.{given_of, AreGiven, AreSound, IsWired, IsWireFault};
-ghost use Rattle.afdx_network.specs.Inner.Sites.{AreSites, IsBrought, Agrees, HasRun};
+ghost use Rattle.afdx_wiring.specs.Order.{lost_port};
+ghost use Rattle.afdx_network.specs.Given.{given_of, AreGiven, AreSound, HasOrder, IsWired, IsWireFault};
+ghost use Rattle.afdx_network.specs.Inner.Sites.{AreSites, AreSettled, Agrees, HasRun, IsBrought, Puts, Receives, Steps, left_over};
 
 use crate::carrying::carry;
 use crate::fault::NetworkRunFault;
@@ -39,7 +41,7 @@ pub(crate) fn sites_of(
 
 /// What a wire brings to its end, where its switch has run.
 fn brought(alloc: Global, sites: &[Site], wire: &Wire) -> Result<Option<Vec<u8>>, PcapFault>
-    ensures { IfOk result (λ found. IfSome found (λ text. IsBrought sites.now wire.now text.items)) }
+    ensures { IfOk result (λ found. MatchOption found (left_over sites.now wire.now ≡ None) (λ text. IsBrought sites.now wire.now text.items)) }
 {
     let Some(site) = sites.get(wire.from.switch) else {
         return Ok(None);
@@ -52,7 +54,8 @@ fn brought(alloc: Global, sites: &[Site], wire: &Wire) -> Result<Option<Vec<u8>>
 
 /// Puts what a wire brings, where it brings something, in at a port.
 fn put_in(sites: &mut [Site], switch: usize, port: u8, brought: Option<Vec<u8>>)
-    ensures { (network : Net) (given : Given) → IsWired network switch port → AreSites network given sites.old → AreSites network given sites.new }
+    ensures kept { (network : Net) (given : Given) → IsWired network switch port → AreSites network given sites.old → AreSites network given sites.new }
+    ensures puts { MatchOption brought (sites.new ≡ sites.old) (λ text. Puts switch port text.items sites.old sites.new) }
 {
     let Some(text) = brought else {
         return;
@@ -73,7 +76,9 @@ fn receive(
     ensures kept { (given : Given) → AreSites network.now given sites.old → AreSites network.now given sites.new }
     ensures err { IfErr result (IsWireFault network.now) }
     ensures well_formed { IsWellFormed table.now }
+    ensures receives { IfOk result (λ _. Receives network.now switch (map (λ p. p.id) table.now.ports) sites.old sites.new) }
 {
+    each_file_has_one_reading();
     for row in table.ports() {
         let port = row.id;
         let Some(wire) = network.wire_to(End { switch, port }) else {
@@ -97,6 +102,7 @@ fn step(
 ) -> Result<(), NetworkRunFault>
     ensures kept { (given : Given) → AreSites network.now given sites.old → AreSites network.now given sites.new }
     ensures err { (given : Given) → AreSites network.now given sites.old → AreSound given → IfErr result (IsWireFault network.now) }
+    ensures steps { (given : Given) → AreSites network.now given sites.old → IfOk result (λ _. Steps network.now switch sites.old sites.new) }
 {
     each_file_has_one_reading();
     let network = network.network();
@@ -122,6 +128,9 @@ pub(crate) fn round(
 ) -> Result<(), NetworkRunFault>
     ensures kept { (given : Given) → AreSites network.now given sites.old → AreSites network.now given sites.new }
     ensures err { (given : Given) → AreSites network.now given sites.old → AreSound given → IfErr result (IsWireFault network.now) }
+    ensures settles { (given : Given) → AreSites network.now given sites.old → (o : HasOrder network.now) → lost_port network.now.tables network.now.layout.wires ≡ Ok tt
+        → ((n : ℕ) → n < length network.now.tables → list_any (λ m. m == n) order.now ≡ true) → (k : ℕ) → AreSettled network.now o.place k sites.old
+        → IfOk result (λ _. AreSettled network.now o.place (k + 1) sites.new) }
 {
     for switch in order {
         step(alloc, network, sites, *switch)?;
@@ -131,8 +140,10 @@ pub(crate) fn round(
 
 /// Whether what a wire brings is what came in at its end.
 fn agrees(alloc: Global, sites: &[Site], wire: &Wire) -> Result<bool, PcapFault>
-    ensures { IfOk result (λ agrees. IsTrue agrees → Agrees sites.now wire.now) }
+    ensures agrees { IfOk result (λ agrees. IsTrue agrees → Agrees sites.now wire.now) }
+    ensures all { IfOk result (λ agrees. Agrees sites.now wire.now → IsTrue agrees) }
 {
+    each_file_has_one_reading();
     let Some(text) = brought(alloc, sites, wire)? else {
         return Ok(false);
     };
@@ -153,6 +164,7 @@ pub(crate) fn rests(
 ) -> Result<bool, NetworkRunFault>
     ensures ok { IfOk result (λ rests. IsTrue rests → All HasRun sites.now × All (Agrees sites.now) network.now.layout.wires) }
     ensures err { IfErr result (IsWireFault network.now) }
+    ensures all { IfOk result (λ rests. All HasRun sites.now → All (Agrees sites.now) network.now.layout.wires → IsTrue rests) }
 {
     let wires = network.layout().wires.as_slice();
     for wire in wires {

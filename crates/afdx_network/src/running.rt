@@ -30,7 +30,7 @@ const MAX_ROUNDS: usize = 64;
 /// - `WrongPorts` of the first switch for which something else is given, in file order.
 /// - `Capture` of the first given text that is no capture, by switch and then by port, with its first fault; else of what
 ///   comes over a wire and cannot be read, in the order in which the switches run.
-/// - `Unsettled` where the wires do not agree after 64 rounds.
+/// - `Unsettled` where the wires do not agree after 64 rounds, which they do where they have an order.
 ///
 /// `Memory` where memory ran out, before anything that comes after `WrongPorts`.
 ///
@@ -49,7 +49,7 @@ pub fn run(
     check_captures(alloc, &given)?;
     let order = order_of(alloc, wiring)?;
     let mut sites = sites_of(alloc, wiring, given)?;
-    for _ in 0..MAX_ROUNDS {
+    for _round in 0..MAX_ROUNDS {
         round(alloc, network, &mut sites, &order)?;
         if rests(alloc, wiring, &sites)? {
             return Ok(outcomes_of(alloc, sites)?);

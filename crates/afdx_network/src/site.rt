@@ -1,11 +1,11 @@
 //! A switch of a network on its way to rest: what came in there, and what that led to.
 
-ghost use Rattle.std.specs.Prelude.{◌≡◌, ◌==◌, ◌⊎◌, None, IfErr, IfSome, OnOk, Contains, is_some, position};
+ghost use Rattle.std.specs.Prelude.{◌≡◌, ◌==◌, ◌⊎◌, None, IfErr, OnOk, is_some, option_copied, position};
 ghost use Rattle.afdx_table.specs.WellFormed.{IsWellFormed};
 ghost use Rattle.afdx_load.specs.Accepted.{IsAccepted};
 ghost use Rattle.afdx_session.specs.Outcome.{IsRefusal};
 ghost use Rattle.afdx_session.specs.Texts.{AreOfPorts, texts_of};
-ghost use Rattle.afdx_network.specs.Inner.Sites.{HasLeft, IsPutIn, RunsOver};
+ghost use Rattle.afdx_network.specs.Inner.Sites.{text_at, left_at, IsPutIn, Takes, RunsOver};
 
 use afdx_session::laws::accepted_runs_isolate;
 use afdx_session::{Outcome, Plan, RunFault};
@@ -34,7 +34,7 @@ impl Model for Site {
 
 /// The capture of a port.
 fn text_at(texts: &[(u8, Vec<u8>)], port: u8) -> Option<&[u8]>
-    ensures { IfSome result (λ bytes. Contains (texts_of texts.now) (port, bytes.now)) }
+    ensures { option_copied result ≡ text_at port (texts_of texts.now) }
 {
     for text in texts {
         if text.0 == port {
@@ -64,7 +64,7 @@ impl Site {
 
     /// The capture that came in at a port.
     pub(crate) fn came(&self, port: u8) -> Option<&[u8]>
-        ensures { IfSome result (λ bytes. Contains self.now.came (port, bytes.now)) }
+        ensures { option_copied result ≡ text_at port self.now.came }
     {
         text_at(&self.came, port)
     }
@@ -78,7 +78,7 @@ impl Site {
 
     /// The capture that left a port, where it has run.
     pub(crate) fn left(&self, port: u8) -> Option<&[u8]>
-        ensures { IfSome result (λ bytes. HasLeft port bytes.now self.now) }
+        ensures { option_copied result ≡ left_at port self.now }
     {
         match &self.outcome {
             Some(outcome) => text_at(&outcome.captures, port),
@@ -95,7 +95,8 @@ impl Site {
 
     /// Puts another capture in at a port; where it is another one, the run is forgotten.
     pub(crate) fn take(&mut self, port: u8, text: Vec<u8>)
-        ensures { (self.new ≡ self.old) ⊎ IsPutIn port text.items self.old self.new }
+        ensures kept { (self.new ≡ self.old) ⊎ IsPutIn port text.items self.old self.new }
+        ensures takes { Takes port text.items self.old self.new }
     {
         let Some(place) = place_of(&self.came, port) else {
             return;

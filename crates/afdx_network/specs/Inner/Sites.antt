@@ -1,5 +1,5 @@
 -- A network on its way to rest: what came in at each switch, and what that led to, where the switch has run over it.
-use Rattle.std.specs.Prelude.{◌≡◌, ◌⊎◌, ℕ, List, length, map, slice_get, slice_set, Option, Some, None, IsSome, Contains}
+use Rattle.std.specs.Prelude.{◌≡◌, ◌==◌, ◌⊎◌, ◌<◌, ℕ, List, length, map, find, slice_get, slice_set, Option, Some, None, option_map, option_and_then, IsSome, Contains}
 use Rattle.afdx_pcap.specs.Record.{Record}
 use Rattle.afdx_pcap.specs.Text.{capture_text}
 use Rattle.afdx_pcap.specs.Capture.{IsCapture}
@@ -7,6 +7,7 @@ use Rattle.afdx_table.specs.Content.{Content}
 use Rattle.afdx_session.specs.Texts.{Text, AreOfPorts}
 use Rattle.afdx_session.specs.Outcome.{Results, IsOutcome}
 use Rattle.afdx_session.specs.Headline.{IsIsolated}
+use Rattle.afdx_wiring.specs.declared.layout.End.{End}
 use Rattle.afdx_wiring.specs.declared.layout.Wire.{Wire}
 use Rattle.afdx_wiring.specs.Net.{Network, wire_to}
 use Rattle.afdx_network.specs.Way.{delayed}
@@ -39,13 +40,28 @@ pub record AreSites (net : Network) (given : Given) (sites : List Site) : Type 0
   pub each : (switch : ℕ) (s : Site) → slice_get sites switch ≡ Some s → IsSite net given switch s
   pub all : length sites ≡ length net.tables
 
--- ---- what calls do
+-- ---- texts
 
--- it has run, and these bytes have left the port
-pub record HasLeft (port : ℕ) (bytes : List ℕ) (s : Site) : Type 0 where
-  pub results : Results
-  pub ran : s.outcome ≡ Some results
-  pub written : Contains results.captures (port, bytes)
+-- the capture of a port: the first of that number
+abbrev pub text_at : ℕ → List Text → Option (List ℕ)
+text_at port texts = option_map (λ text. text.1) (find (λ text. text.0 == port) texts)
+
+-- what left a port, where the switch has run
+abbrev pub left_at : ℕ → Site → Option (List ℕ)
+left_at port s = option_and_then (λ results. text_at port results.captures) s.outcome
+
+abbrev pub end_at : ℕ → ℕ → End
+end_at switch port = record { switch = switch; port = port }
+
+-- what came in at a port
+abbrev pub came_at : List Site → End → Option (List ℕ)
+came_at sites e = option_and_then (λ s. text_at e.port s.came) (slice_get sites e.switch)
+
+-- what left at the start of a wire
+abbrev pub left_over : List Site → Wire → Option (List ℕ)
+left_over sites w = option_and_then (λ s. left_at w.from.port s) (slice_get sites w.from.switch)
+
+-- ---- what calls do
 
 -- another text is put in at a port, and the run is forgotten
 pub record IsPutIn (port : ℕ) (text : List ℕ) (old new : Site) : Type 0 where
@@ -55,32 +71,68 @@ pub record IsPutIn (port : ℕ) (text : List ℕ) (old new : Site) : Type 0 wher
   pub came : new.came ≡ slice_set old.came place (port, text)
   pub forgotten : new.outcome ≡ None
 
+-- a text is put in at a port, where it is another one than before; the other ports keep theirs
+pub record Takes (port : ℕ) (text : List ℕ) (old new : Site) : Type 0 where
+  pub same : text_at port old.came ≡ Some text → new ≡ old
+  pub there : IsSome (text_at port old.came) → text_at port new.came ≡ Some text
+  pub others : (p : ℕ) → (p ≡ port → ⊥) → text_at p new.came ≡ text_at p old.came
+
+-- and so at a port of one of the switches
+pub record Puts (switch port : ℕ) (text : List ℕ) (old new : List Site) : Type 0 where
+  pub others : (n : ℕ) → (n ≡ switch → ⊥) → slice_get new n ≡ slice_get old n
+  pub there : IsSome (came_at old (end_at switch port)) → came_at new (end_at switch port) ≡ Some text
+  pub other_ports : (p : ℕ) → (p ≡ port → ⊥) → came_at new (end_at switch p) ≡ came_at old (end_at switch p)
+  pub quiet : came_at old (end_at switch port) ≡ Some text → new ≡ old
+
 -- it has run over what came, now or before
 pub record RunsOver (t : Content) (old new : Site) : Type 0 where
   pub came : new.came ≡ old.came
   pub results : Results
   pub outcome : new.outcome ≡ Some results
   pub led : (old.outcome ≡ Some results) ⊎ LeadsTo t old.came results
+  pub stays : IsSome old.outcome → new ≡ old
 
 -- ---- wires
 
 -- the text that a wire brings to its end: what left at its start, as it is read, so much later
 pub record IsBrought (sites : List Site) (w : Wire) (text : List ℕ) : Type 0 where
-  pub here : Site
   pub bytes : List ℕ
   pub records : List Record
-  pub here_is : slice_get sites w.from.switch ≡ Some here
-  pub left : HasLeft w.from.port bytes here
+  pub left : left_over sites w ≡ Some bytes
   pub read : IsCapture bytes records
   pub text_is : text ≡ capture_text (map (delayed w.delay) records)
 
 -- what came in at its end is that
 pub record Agrees (sites : List Site) (w : Wire) : Type 0 where
-  pub there : Site
   pub text : List ℕ
-  pub there_is : slice_get sites w.to.switch ≡ Some there
-  pub comes : Contains there.came (w.to.port, text)
+  pub comes : came_at sites w.to ≡ Some text
   pub brought : IsBrought sites w text
 
 abbrev pub HasRun : Site → Type 0
 HasRun s = IsSome s.outcome
+
+-- ---- switches that are settled
+
+-- the switch has run over what the wires bring to it
+pub record IsSettled (net : Network) (sites : List Site) (n : ℕ) : Type 0 where
+  pub ran : (s : Site) → slice_get sites n ≡ Some s → HasRun s
+  pub wires : (w : Wire) → Contains net.layout.wires w → w.to.switch ≡ n → Agrees sites w
+
+-- what the wires bring is put in at these ports of a switch
+pub record Receives (net : Network) (switch : ℕ) (ports : List ℕ) (old new : List Site) : Type 0 where
+  pub others : (n : ℕ) → (n ≡ switch → ⊥) → slice_get new n ≡ slice_get old n
+  pub same_ports : (p : ℕ) → IsSome (came_at old (end_at switch p)) → IsSome (came_at new (end_at switch p))
+  pub brings : (w : Wire) → w.to.switch ≡ switch → (w.from.switch ≡ switch → ⊥) → wire_to net w.to ≡ Some w → Contains ports w.to.port
+      → IsSome (came_at old w.to) → IsSome (left_over old w) → Agrees new w
+  pub quiet : ((w : Wire) → w.to.switch ≡ switch → wire_to net w.to ≡ Some w → Agrees old w) → new ≡ old
+
+-- and the switch runs. Where it is settled, nothing changes; it is settled then, where each switch before it has run
+pub record Steps (net : Network) (switch : ℕ) (old new : List Site) : Type 0 where
+  pub others : (n : ℕ) → (n ≡ switch → ⊥) → slice_get new n ≡ slice_get old n
+  pub quiet : IsSettled net old switch → new ≡ old
+  pub settles : ((w : Wire) → Contains net.layout.wires w → w.to.switch ≡ switch
+      → (w.from.switch ≡ switch → ⊥) × (wire_to net w.to ≡ Some w) × IsSome (came_at old w.to) × IsSome (left_over old w)) → IsSettled net new switch
+
+-- all switches are settled that have a place below this one
+abbrev pub AreSettled : (net : Network) → (place : ℕ → ℕ) → ℕ → List Site → Type 0
+AreSettled net place k sites = (n : ℕ) → n < length net.tables → place n < k → IsSettled net sites n

@@ -1,6 +1,30 @@
 use Rattle.std.proofs.Common.{◌∙◌, sym, ap, option_copied}
+use Rattle.afdx_network.proofs.Settling.{receives_none}
+use Rattle.afdx_network.proofs.Receiving.{next_open, next_wired, received}
 use Rattle.afdx_network.proofs.rounds.receive.Goals as goal
 
+pub loop-row-init : goal.loop-row-init
+loop-row-init c = record { rows = c.ports-row-items.ensures.ports; kept = λ given are. are; receives = receives_none c.args.network.now c.args.switch c.args.sites.now }
+
+pub loop-row-preserved-in_default : goal.loop-row-preserved-in_default
+loop-row-preserved-in_default c = record {
+  rows = c.loop-row.invariant.rows;
+  kept = c.loop-row.invariant.kept;
+  receives = next_open c.args.network.now c.args.switch c.ports-row-items.result.now c.loop-row.row-index _ c.args.sites.now c.loop-row.sites c.loop-row-test.true c.loop-row.invariant.receives
+      (sym c.wire_to.ensures ∙ ap option_copied c.in_default.is);
+}
+
 pub loop-row-preserved : goal.loop-row-preserved
-loop-row-preserved c = λ given are.
-    c.put_in.ensures c.args.network.now given (record { wire = c.in-Some.wire.now; wire_is = sym c.wire_to.ensures ∙ ap option_copied c.in-Some.is }) (c.loop-row.invariant given are)
+loop-row-preserved c =
+    let wire = sym c.wire_to.ensures ∙ ap option_copied c.in-Some.is in
+    record {
+      rows = c.loop-row.invariant.rows;
+      kept = λ given are. c.put_in.ensures.kept c.args.network.now given (record { wire = c.in-Some.wire.now; wire_is = wire }) (c.loop-row.invariant.kept given are);
+      receives = next_wired c.args.network.now c.args.switch c.ports-row-items.result.now c.loop-row.row-index _ c.args.sites.now c.loop-row.sites c.loop-row-test.true c.loop-row.invariant.receives
+          c.each_file_has_one_reading.ensures.one_list c.in-Some.wire.now wire c.put_in.new.sites c.in-Ok.text (rw c.in-Ok.is at c.brought.ensures) c.put_in.ensures.puts;
+    }
+
+pub returns-clause-receives : goal.returns-clause-receives
+returns-clause-receives c =
+    received c.args.network.now c.args.switch c.ports-row-items.result.now c.args.table.now.ports c.loop-row.row-index c.args.sites.now c.loop-row.sites c.loop-row.invariant.rows c.loop-row-test.false
+    c.loop-row.invariant.receives

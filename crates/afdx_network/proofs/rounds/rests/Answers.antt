@@ -20,7 +20,7 @@ returns-in-Err c =
     let i = c.loop-wire.wire-index in
     let within : i < length wires = search rules in
     let same = c.as_slice-wires.ensures.value ∙ ap (λ (l : Layout). l.wires) (c.behind-network.view_is ∙ c.layout.ensures.layout) in
-    record { ok = tt; err = ends_are_wired net i _ (ap (λ (ws : List Wire). slice_get ws i) (sym same) ∙ slice_get-get_or wires i no_wire within) }
+    record { ok = tt; err = ends_are_wired net i _ (ap (λ (ws : List Wire). slice_get ws i) (sym same) ∙ slice_get-get_or wires i no_wire within); all = tt }
 
 pub loop-wire-preserved : goal.loop-wire-preserved
 loop-wire-preserved c =
@@ -28,7 +28,7 @@ loop-wire-preserved c =
     let i = c.loop-wire.wire-index in
     let within : i < length wires = search rules in
     let yes : c.in-Ok-true.field-0 ≡ true = search rules in
-    one_more_has (Agrees c.args.sites.now) wires i no_wire within c.loop-wire.invariant ((rw c.in-Ok-true.is at c.agrees.ensures) yes)
+    one_more_has (Agrees c.args.sites.now) wires i no_wire within c.loop-wire.invariant ((rw c.in-Ok-true.is at c.agrees.ensures.agrees) yes)
 
 pub returns-clause-ok : goal.returns-clause-ok
 returns-clause-ok c = λ yes.

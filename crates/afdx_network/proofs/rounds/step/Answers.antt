@@ -1,9 +1,12 @@
-use Rattle.std.proofs.Common.{◌∙◌, ◌<◌, sym, ap, option_copied, slice_get, slice_index_or, length, rules}
+use Rattle.std.proofs.Common.{◌∙◌, ◌<◌, sym, ap, option_copied, slice_get, slice_index_or, length, map, rules}
 use Rattle.std.proofs.lemmas.Option.{slice_get-get_or}
+use Rattle.afdx_table.specs.declared.rows.PortRow.{PortRow}
 use Rattle.afdx_load.specs.Accepted.{IsAccepted}
 use Rattle.afdx_wiring.specs.Net.{Network}
 use Rattle.afdx_network.proofs.Found.{all_at}
 use Rattle.afdx_network.proofs.Keeping.{wire_fault}
+use Rattle.afdx_network.proofs.Settling.{steps_on}
+use Rattle.afdx_network.proofs.InOrder.{covered, no_switch, has_site}
 use Rattle.afdx_network.proofs.Stepping.{runs_in, stays_in}
 use Rattle.afdx_network.proofs.rounds.step.Goals as goal
 
@@ -15,6 +18,31 @@ run-requires-clause-accepted c =
     let net = c.args.network.now in
     let at = ap (λ (n : Network). slice_get n.tables c.args.switch) (sym c.network-network.ensures.network) ∙ sym c.table.ensures ∙ ap option_copied c.in-Some.is in
     all_at IsAccepted net.tables c.args.switch c.in-Some.table.now c.network-network.ensures.accepted at
+
+pub returns-in_default-clause-steps : goal.returns-in_default-clause-steps
+returns-in_default-clause-steps c = λ given are.
+    let net = c.args.network.now in
+    let none = ap (λ (n : Network). slice_get n.tables c.args.switch) (sym c.network-network.ensures.network) ∙ sym c.table.ensures ∙ ap option_copied c.in_default.is in
+    no_switch net given c.args.switch c.args.sites.now are none
+
+pub returns-then-switch-sites-clause-steps : goal.returns-then-switch-sites-clause-steps
+returns-then-switch-sites-clause-steps c = λ given are.
+    let net = c.args.network.now in
+    let table = ap (λ (n : Network). slice_get n.tables c.args.switch) (sym c.network-network.ensures.network) ∙ sym c.table.ensures ∙ ap option_copied c.in-Some.is in
+    let kept = (rw c.network-network.ensures.network at c.receive.ensures.kept) given are in
+    absurd (has_site net given c.args.switch c.in-Some.table.now c.receive.new.sites kept table c.if-switch-sites.true)
+
+pub returns-in-Ok-clause-steps : goal.returns-in-Ok-clause-steps
+returns-in-Ok-clause-steps c = λ given are.
+    let net = c.args.network.now in
+    let table = ap (λ (n : Network). slice_get n.tables c.args.switch) (sym c.network-network.ensures.network) ∙ sym c.table.ensures ∙ ap option_copied c.in-Some.is in
+    let sites = c.receive.new.sites in
+    let read = c.index-sites-switch.result in
+    let within : c.args.switch < length sites = search rules in
+    let over = rw c.in-Ok.is at c.run.ensures.ok in
+    steps_on net c.args.switch (map (λ (p : PortRow). p.id) c.in-Some.table.now.ports) c.args.sites.now sites c.in-Some.table.now (slice_index_or sites c.args.switch read) c.run.new.self
+    (rw c.network-network.ensures.network at c.in_ok-receive.ensures.receives) (slice_get-get_or sites c.args.switch read within) over
+    (covered net given c.args.sites.now c.args.switch c.in-Some.table.now are table)
 
 pub returns-in-Ok-clause-kept : goal.returns-in-Ok-clause-kept
 returns-in-Ok-clause-kept c = λ given are.

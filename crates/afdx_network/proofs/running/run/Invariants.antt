@@ -1,6 +1,11 @@
-use Rattle.afdx_network.specs.Given.{given_of}
-use Rattle.afdx_network.specs.Inner.Sites.{AreSites}
+use Rattle.std.proofs.Common.{◌≡◌, ◌<◌, Ok}
+use Rattle.afdx_wiring.specs.Order.{lost_port}
+use Rattle.afdx_network.specs.Given.{given_of, HasOrder}
+use Rattle.afdx_network.specs.Inner.Sites.{AreSites, AreSettled}
 use Rattle.afdx_network.proofs.running.run.Given as goal
 
-abbrev pub invariant-loop : goal.invariant-loop
-invariant-loop l = AreSites l.wiring (given_of l.fn.given.items) l.sites.items
+abbrev pub invariant-loop-round : goal.invariant-loop-round
+invariant-loop-round l = record {
+  are : AreSites l.wiring (given_of l.fn.given.items) l.sites.items;
+  settled : (o : HasOrder l.wiring) → lost_port l.wiring.tables l.wiring.layout.wires ≡ Ok tt → AreSettled l.wiring o.place l._round l.sites.items × (l._round < 64);
+}
