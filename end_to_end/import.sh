@@ -74,6 +74,7 @@ done
 check "importing, 3: measuring" prints importing/3
 check "two clocks" prints two_clocks/1
 check "two networks" prints two_networks/1
+check "two networks, frame by frame" prints two_networks/2
 check "what got lost is found" hidden
 
 late="afdx-import: a frame of A/cockpit/port-3 is more than 0 ms late: 2026-09-21T14:13:20.352740730Z comes after 2026-09-21T14:13:20.368740614Z (cockpit.pcap.zst, record 784, offset 136506), cockpit.pcap.zst, record 793, offset 138114"
