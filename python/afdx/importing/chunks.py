@@ -89,7 +89,7 @@ def joined_by_length(data: bytes | memoryview, begin: Column, length: Column, le
     """Answers the same; there are these lengths."""
     if len(lengths) == 1:
         return at_any(data, f"V{lengths[0]}")[begin].view(np.uint8).data
-    text = memoryview(bytearray(int(length.sum())))
+    text = np.empty(int(length.sum()), np.uint8).data
     at = np.cumsum(length) - length
     for size in lengths:
         some = np.flatnonzero(length == size)
