@@ -55,7 +55,7 @@ END
 memory_stays() {
     local less more
     mkdir -p big && printf '[[source]]\nfile = "raw.pcap"\nto = "port-1"\n' >big/rules.toml
-    less=$(peak 100) && more=$(peak 200) && rm -r big
+    less=$(peak 200) && more=$(peak 400) && rm -r big
     echo "$less KiB, $more KiB"
     [ "$more" -lt $((less + less / 10)) ]
 }
