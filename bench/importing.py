@@ -56,7 +56,7 @@ def row(room, name, keys, path, runs):
 def main():
     megabytes, runs = (int(word) for word in [*sys.argv[1:], *["1000", "5"][len(sys.argv) - 1:]])
     with tempfile.TemporaryDirectory() as room:
-        for sizes, kind in ((SIZES, "mixed sizes"), ([60], "64 bytes")):
+        for sizes, kind in ((SIZES, "mixed sizes"), ([60], "64 bytes"), (range(60, 101), "64 to 104 bytes")):
             path = f"{room}/raw.pcap"
             write_recording(path, megabytes, sizes)
             for keys, name in ((ONE_PORT, "one port"), (MIRROR, "a mirror of ten ports")):

@@ -55,7 +55,7 @@ END
 memory_stays() {
     local less more
     mkdir -p big && printf '[[source]]\nfile = "raw.pcap"\nto = "port-1"\n' >big/rules.toml
-    less=$(peak 100) && more=$(peak 200) && rm -r big
+    less=$(peak 200) && more=$(peak 400) && rm -r big
     echo "$less KiB, $more KiB"
     [ "$more" -lt $((less + less / 10)) ]
 }
@@ -74,6 +74,7 @@ done
 check "importing, 3: measuring" prints importing/3
 check "two clocks" prints two_clocks/1
 check "two networks" prints two_networks/1
+check "two networks, frame by frame" prints two_networks/2
 check "what got lost is found" hidden
 
 late="afdx-import: a frame of A/cockpit/port-3 is more than 0 ms late: 2026-09-21T14:13:20.352740730Z comes after 2026-09-21T14:13:20.368740614Z (cockpit.pcap.zst, record 784, offset 136506), cockpit.pcap.zst, record 793, offset 138114"

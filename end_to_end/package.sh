@@ -81,6 +81,14 @@ commands_help() {
     done
 }
 
+# commands_ask_theirs BIN..: a command of each folder asks the program that lies beside it, though none is on the path.
+commands_ask_theirs() {
+    local bin
+    for bin in "$@"; do
+        silent env -i PATH=/usr/bin:/bin "$bin/afdx-diff" "$top"/examples/network/{table,table}.toml || return 1
+    done
+}
+
 # silent COMMAND..: succeeds and says nothing.
 silent() {
     local status=0
@@ -134,6 +142,7 @@ check "lintian finds no error" lintian --fail-on error "$deb"
 check "what the program needs" says_what_it_needs
 check "README's first run, beside the C library alone" first_run
 check "each command where it is unpacked" commands_help "$PWD/$unpacked/bin"
+check "a command of each asks its own program" commands_ask_theirs "$unpacked/bin" installed/usr/bin
 
 check "the man pages have no fault for mandoc" silent mandoc -T lint -W style "$pages"/*.1
 check "nor for man" silent shown_by_man

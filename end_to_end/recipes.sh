@@ -3,7 +3,7 @@
 # end_to_end/recordings.py makes for it, and print what the page has. What a recipe makes of a recording of the example
 # network comes out of the switch as the network's own captures do.
 . "$(dirname "$0")/common.sh"
-install python3=python3 editcap=wireshark-common tshark=tshark
+install python3=python3 tshark=tshark
 install_python numpy zstandard tqdm
 export PYTHONDONTWRITEBYTECODE=1 LC_ALL=C
 afdx=${AFDX:-$top/crates/afdx/out/afdx}

@@ -94,23 +94,11 @@ def stamps_of_starts(folder):
     write(f"{folder}/raw/port-2.pcap", [])
 
 
-def two_switches(folder):
-    """Link 10 sends each millisecond; link 20 sends a long frame just before each second one of it."""
-    write_table(f"{folder}/first/table.toml", [1, 2, 3], [(10, 1, 3, 0, 500), (20, 2, 3, 0, 1518)])
-    write_table(f"{folder}/second/table.toml", [1, 2], [(10, 1, 2, 0, 500), (20, 1, 2, 0, 1518)])
-    write(f"{folder}/first/in/port-1.pcap", [record(BEGIN + at * 1_000_000, frame(10, 500)) for at in range(100)])
-    write(f"{folder}/first/in/port-2.pcap",
-          [record(BEGIN + at * 1_000_000 - 10_000, frame(20, 1518)) for at in range(1, 100, 2)])
-    write(f"{folder}/first/in/port-3.pcap", [])
-    write(f"{folder}/second/in/port-2.pcap", [])
-
-
 RECORDINGS = {
     "clocks_that_are_apart": network_with_clocks_apart,
     "a_clock_that_drifts": one_link(20, [number * 999_950 for number in range(1000)]),
     "noise_on_the_stamps": one_link(0, noisy_stamps()),
     "stamps_of_the_frame_s_start": stamps_of_starts,
-    "from_one_switch_into_the_next": two_switches,
 }
 
 if __name__ == "__main__":

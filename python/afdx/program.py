@@ -11,7 +11,7 @@ from pathlib import Path
 from afdx import signals
 from afdx.failure import DEVICE, Failure, failing
 
-BUILT = Path(__file__).resolve().parents[2] / "crates" / "afdx" / "out" / "afdx"
+PACKAGE = Path(__file__).resolve().parent
 TURN = 0.5  # seconds between two words on the terminal
 
 
@@ -42,11 +42,21 @@ class Answer:
     line: str  # on standard error, without its line feed
 
 
+def beside(package: Path) -> list[Path]:
+    """Answers where the program is if it came with this package: in its repository, in the folder of the .tar.gz, or
+    installed by the .deb."""
+    tree = package.parents[1]
+    installed = [tree.parent / "bin" / "afdx"] if tree.name == "share" else []
+    return [tree / "crates" / "afdx" / "out" / "afdx", tree / "bin" / "afdx", *installed]
+
+
 def find_program() -> str | None:
-    """Finds the program: what AFDX in the environment names, else this repository's own build, else the path's."""
+    """Finds the program, the first of these that is there: what AFDX in the environment names; the repository's own
+    build, crates/afdx/out/afdx, where these commands are in a repository; where they came in a package the program of
+    this package, bin/afdx of the .tar.gz, /usr/bin/afdx of the .deb; afdx on the path."""
     if named := os.environ.get("AFDX"):
         return named
-    return str(BUILT) if os.access(BUILT, os.X_OK) else shutil.which("afdx")
+    return next((str(file) for file in beside(PACKAGE) if os.access(file, os.X_OK)), None) or shutil.which("afdx")
 
 
 class Program:

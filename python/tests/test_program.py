@@ -10,23 +10,37 @@ from afdx.program import Answer, Program, Progress
 
 
 def script(path: Path, text: str) -> Path:
-    path.parent.mkdir(exist_ok=True)
+    path.parent.mkdir(parents=True, exist_ok=True)
     path.write_text(f"#!/bin/sh\n{text}\n", encoding="utf-8")
     path.chmod(0o755)
     return path
 
 
-def test_what_is_named_comes_first_then_what_was_built(tmp_path: Path, monkeypatch: pytest.MonkeyPatch) -> None:
-    on_path, built = script(tmp_path / "bin" / "afdx", ":"), script(tmp_path / "out" / "afdx", ":")
-    monkeypatch.setenv("PATH", str(on_path.parent))
-    monkeypatch.setattr(program, "BUILT", built)
-    monkeypatch.setenv("AFDX", "named")
-    assert program.find_program() == "named"
-    monkeypatch.delenv("AFDX")
-    assert program.find_program() == str(built)
-    built.unlink()
-    assert program.find_program() == str(on_path)
-    on_path.unlink()
+@pytest.mark.parametrize("package, there, named, found", [
+    ("clone/python/afdx", ["clone/crates/afdx/out/afdx", "clone/bin/afdx", "path/afdx"], "mine", "mine"),
+    ("clone/python/afdx", ["clone/crates/afdx/out/afdx", "path/afdx"], "", "{}/clone/crates/afdx/out/afdx"),
+    ("afdx-1.0/python/afdx", ["afdx-1.0/bin/afdx", "bin/afdx", "path/afdx"], "", "{}/afdx-1.0/bin/afdx"),
+    ("usr/share/afdx/afdx", ["usr/bin/afdx", "path/afdx"], "", "{}/usr/bin/afdx"),
+    ("clone/python/afdx", ["bin/afdx", "path/afdx"], "", "{}/path/afdx"),
+    ("clone/python/afdx", ["path/afdx"], "", "{}/path/afdx"),
+    ("usr/share/afdx/afdx", [], "", None),
+])
+def test_where_it_is_found(tmp_path: Path, monkeypatch: pytest.MonkeyPatch, package: str, there: list[str], named: str,
+                           found: str | None) -> None:
+    """What is named comes first, then what came with the commands: built in the repository, of the .tar.gz or of the
+    .deb; then what is on the path."""
+    for place in there:
+        script(tmp_path / place, ":")
+    monkeypatch.setenv("AFDX", named)
+    monkeypatch.setenv("PATH", str(tmp_path / "path"))
+    monkeypatch.setattr(program, "PACKAGE", tmp_path / package)
+    assert program.find_program() == (found and found.format(tmp_path))
+
+
+def test_it_is_not_there(tmp_path: Path, monkeypatch: pytest.MonkeyPatch) -> None:
+    monkeypatch.delenv("AFDX", raising=False)
+    monkeypatch.setenv("PATH", str(tmp_path))
+    monkeypatch.setattr(program, "PACKAGE", tmp_path / "python" / "afdx")
     with pytest.raises(Failure, match="^command: no program afdx: ") as ended:
         Program("command")
     assert ended.value.status == DEVICE

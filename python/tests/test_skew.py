@@ -39,6 +39,18 @@ def test_pairs_and_frames_of_one_network(tmp_path: Path, capsys: pytest.CaptureF
         "SW1/port-2 link 2 pairs 2 least -5000 greatest 10000 only-a 0 run-a 0 only-b 0 run-b 0\n", "")
 
 
+def test_each_frame_that_is_odd(tmp_path: Path, capsys: pytest.CaptureFixture[str]) -> None:
+    put(tmp_path / "a", "port-1.pcap", 0x20, [(0, 1, 1), (10, 2, 2), (500, 1, 3), (900, 1, 5), (1300, 1, 6)])
+    put(tmp_path / "b", "port-1.pcap", 0x40, [(400, 1, 1), (800, 1, 4), (899, 1, 6), (901, 1, 3), (1301, 1, 5)])
+    assert run(tmp_path, "--apart-us", "400") == 0
+    assert capsys.readouterr().out.splitlines()[2:] == [
+        "port-1 link 2 only-a at 2026-01-15T10:00:00.000010000Z",
+        "port-1 link 1 apart 401000 at 2026-01-15T10:00:00.000500000Z",
+        "port-1 link 1 only-b at 2026-01-15T10:00:00.000800000Z",
+        "port-1 link 1 apart 401000 at 2026-01-15T10:00:00.000900000Z",
+        "port-1 link 1 apart -401000 at 2026-01-15T10:00:00.001300000Z"]
+
+
 def test_how_far_copies_may_be_apart(tmp_path: Path, capsys: pytest.CaptureFixture[str]) -> None:
     put(tmp_path / "a", "port-1.pcap", 0x20, [(0, 1, 1)])
     put(tmp_path / "b", "port-1.pcap", 0x40, [(20_000, 1, 1)])

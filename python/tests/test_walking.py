@@ -5,7 +5,7 @@ import struct
 import pytest
 
 from afdx.recordings import walking
-from afdx.recordings.walking import in_lanes, one_by_one, records_of
+from afdx.recordings.walking import RECORD, in_lanes, of_one_length, one_by_one, records_of
 
 
 def piece(order: str, seed: int, misleading: bool) -> bytes:
@@ -30,3 +30,24 @@ def test_lanes(order: str, misleading: bool) -> None:
         in_a_lane, end = in_lanes(data, order)
         assert in_a_lane.tolist() == places.tolist()[:len(in_a_lane)]
         assert misleading or end > len(data) - 2 * walking.LANE
+
+
+@pytest.mark.parametrize("order", "<>")
+@pytest.mark.parametrize("count, other, cut, found", [
+    (100, None, 0, 100), (100, None, 59, 100), (100, None, 61, 99), (100, None, 76 * 37, 0), (10, None, 0, 0),
+    (100, 3, 0, 0), (100, 80, 0, 0), (100, 99, 0, 0)])
+def test_records_of_one_length(order: str, count: int, other: int | None, cut: int, found: int) -> None:
+    """They are answered if they are many, and one of another length is not among them; the last one may be cut."""
+    sizes = [61 if number == other else 60 for number in range(count)]
+    text = b"".join([struct.pack(f"{order}4I", 7, 0, size, size).ljust(RECORD + size, b"\x07") for size in sizes])
+    data = text[:len(text) - cut]
+    places, after = of_one_length(data, order)
+    assert (places.tolist(), after) == (one_by_one(data, order, 0) if found else ([], 0))
+    assert len(places) == found
+    assert (records_of(data, order)[0].tolist(), records_of(data, order)[1]) == one_by_one(data, order, 0)
+
+
+@pytest.mark.parametrize("size", [0, 1, 15, 16, 17, 75, 76, 77])
+def test_few_bytes(size: int) -> None:
+    data = (struct.pack("<4I", 7, 0, 60, 60) + bytes(61))[:size]
+    assert (records_of(data, "<")[0].tolist(), records_of(data, "<")[1]) == one_by_one(data, "<", 0)

@@ -47,7 +47,7 @@ class Captures:
             raise failing(self.command, f"cannot write {path}", error) from error
         self.write(port, WRITTEN)
 
-    def write(self, port: str, text: bytes | bytearray) -> None:
+    def write(self, port: str, text: bytes | memoryview) -> None:
         try:
             self.files[port].write(text)
         except OSError as error:

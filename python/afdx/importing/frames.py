@@ -1,25 +1,37 @@
 """What is looked at in frames: their sender, their network, their check sequence."""
 import zlib
+from dataclasses import dataclass
 
 import numpy as np
 import numpy.typing as npt
 
 from afdx.recordings.columns import Batch, Column, at_any
 
+Numbers = npt.NDArray[np.int32]
+
 CHECK_SEQUENCE = 4
-SENDER = 9  # place in a frame of the end system's number, two bytes, before that of the network
-ADDRESSES = 12  # bytes of both addresses
+ADDRESSES = 12  # bytes of both addresses: the last three are the end system's number and the network
 NONE = -1  # what a frame too short for its addresses has in their place
 SHORTEST = 18  # bytes of a frame of which a check sequence is looked for
 
 
-def origins(batch: Batch, mine: Column) -> tuple[Column, Column]:
-    """Answers the number of each of these frames' end system and the byte of its network; NONE of both if it was
-    captured without its addresses."""
-    start = np.minimum(batch.start[mine] + SENDER, len(batch.data) - 3)
-    last = at_any(batch.data, "V3")[start].view(np.uint8).reshape(len(mine), 3).astype(np.int64)
-    last[batch.captured[mine] < ADDRESSES] = NONE
-    return last[:, 0] << 8 | last[:, 1], last[:, 2]
+@dataclass(frozen=True)
+class Senders:
+    """Says where each frame of a batch is from; NONE if it was captured without its addresses."""
+    end_system: Numbers
+    network: Numbers  # its byte
+
+
+def senders(batch: Batch) -> Senders:
+    """Answers the senders of a batch's frames."""
+    start = np.minimum(batch.start, len(batch.data) - ADDRESSES)
+    last = at_any(batch.data, "<u4", ADDRESSES - 4)[start]
+    end_system = (last >> 8).astype(np.uint16).byteswap().astype(np.int32)
+    network = (last >> 24).astype(np.int32)
+    short = batch.captured < ADDRESSES
+    if short.any():
+        end_system[short] = network[short] = NONE
+    return Senders(end_system, network)
 
 
 def is_checked(frame: bytes) -> bool:
@@ -40,8 +52,10 @@ class CheckSequences:
 
     def look(self, batch: Batch, mine: Column) -> bool:
         """Looks at whole frames of these records; answers whether check sequences are there."""
-        whole = mine[(batch.captured[mine] == batch.original[mine]) & (batch.captured[mine] >= SHORTEST)]
-        some = whole[:self.FIRST if self.are_there is None else self.LATER]
+        most = self.FIRST if self.are_there is None else self.LATER
+        some = whole(batch, mine[:2 * most])[:most]
+        if len(some) < most:
+            some = whole(batch, mine)[:most]
         begins, ends = batch.start[some], batch.start[some] + batch.captured[some]
         frames = [batch.data[begin:end] for begin, end in zip(begins.tolist(), ends.tolist())]
         self.looked += len(frames)
@@ -51,7 +65,16 @@ class CheckSequences:
         return self.are_there is True
 
 
+def whole(batch: Batch, mine: Column) -> Column:
+    """Answers those of these records whose frames are whole, and long enough for a check sequence."""
+    captured = batch.captured[mine]
+    found: Column = mine[(captured == batch.original[mine]) & (captured >= SHORTEST)]
+    return found
+
+
 def without_check_sequence(captured: Column, original: Column, has: npt.NDArray[np.bool_]) -> tuple[Column, Column]:
     """Answers the lengths of frames of which some have a check sequence that is taken off."""
+    if not has.any():
+        return captured, original
     original = np.where(has, np.maximum(original - CHECK_SEQUENCE, 0), original)
     return np.minimum(captured, original), original

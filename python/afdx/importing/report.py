@@ -5,6 +5,7 @@ from pathlib import Path
 import numpy as np
 
 from afdx.importing.alignment import Alignment
+from afdx.importing.frames import NONE
 from afdx.importing.instants import instant
 from afdx.importing.running import Import, Reading
 from afdx.importing.taking import Port, Taker
@@ -28,7 +29,7 @@ def notes(done: Import) -> Iterator[str]:
         if reading.recording.broken:
             yield f"warning: breaks off; what was whole before is used, {reading.recording.broken}"
         yield from check_sequence_notes(reading)
-        if reading.left:
+        if reading.left.any():
             yield left_note(reading)
     for _, taker in done.takers:
         if taker.source.interface is not None and not any(map(taker.is_asked, taker.recording.interfaces)):
@@ -49,9 +50,10 @@ def check_sequence_notes(reading: Reading) -> Iterator[str]:
 
 def left_note(reading: Reading) -> str:
     """Answers which frames no source takes."""
-    named = " ".join(str(number) if number >= 0 else "none" for number in sorted(reading.left)[:MOST_NAMED])
-    more = " .." if len(reading.left) > MOST_NAMED else ""
-    return (f"{reading.left.total()} of {reading.frames} frames are taken by no source, end systems {named}{more}, "
+    senders = (np.flatnonzero(reading.left) + NONE).tolist()
+    named = " ".join(str(number) if number >= 0 else "none" for number in senders[:MOST_NAMED])
+    more = " .." if len(senders) > MOST_NAMED else ""
+    return (f"{reading.left.sum()} of {reading.frames} frames are taken by no source, end systems {named}{more}, "
             f"{reading.recording.name}")
 
 

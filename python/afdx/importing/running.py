@@ -1,16 +1,15 @@
 """Goes over all recordings once, those that began first before the others, and fills the ports."""
 import heapq
-from collections import Counter
 from collections.abc import Callable
 from functools import partial
 from pathlib import Path
 
 import numpy as np
 
-from afdx.importing.frames import CheckSequences, origins
+from afdx.importing.frames import NONE, CheckSequences, senders
 from afdx.importing.ordering import LONG_AGO, Ordering
 from afdx.importing.rules import Rules, Source
-from afdx.importing.taking import Port, Taker, corrected
+from afdx.importing.taking import END_SYSTEMS, Port, Taker, corrected
 from afdx.recordings.faults import RecordingFault
 from afdx.recordings.reading import PIECE, Recording
 
@@ -35,7 +34,7 @@ class Reading:
         self.checks: dict[int, CheckSequences] = {}
         self.newest = begin  # stamp by the recorder's clock
         self.frames = 0
-        self.left: Counter[int] = Counter()  # frames that no source takes, by their end system
+        self.left = np.zeros(END_SYSTEMS - NONE, np.int64)  # frames that no source takes, by their end system
         self.batches = recording.batches()
         self.ended = False
 
@@ -47,23 +46,24 @@ class Reading:
         elif len(batch.stamp):
             self.newest = max(self.newest or 0, int(batch.stamp.max()))
             self.frames += len(batch.stamp)
+            of = senders(batch)
             is_left = np.full(len(batch.stamp), True)
-            for taken in (taken for taker in self.takers for taken in taker.take(batch)):
-                is_left[taken] = False
-            self.left.update(origins(batch, np.flatnonzero(is_left))[0].tolist())
+            for taker in self.takers:
+                is_left[taker.take(batch, of)] = False
+            self.left += np.bincount(of.end_system[is_left] - NONE, minlength=len(self.left))
 
     def progress(self, taker: Taker) -> int:
         """Answers how far the recording has come, by the clock that the taker's stamps have."""
         if self.newest is None:
             return LONG_AGO
-        return int(corrected(np.array([self.newest]), taker.source, taker.anchor)[0])
+        return int(corrected(np.array(self.newest), taker.source, taker.anchor))
 
 
 class Import:
     """Takes the frames of all recordings to their ports."""
 
     def __init__(self, rules: Rules, raw: Path, found: list[list[Path]],
-                 write: Callable[[str, bytearray], None], piece: int = PIECE) -> None:
+                 write: Callable[[str, memoryview], None], piece: int = PIECE) -> None:
         self.ports = {name: Port(Ordering(name, rules.window_ms, partial(write, name))) for name in rules.ports}
         first = {path: first_stamp(path) for path in dict.fromkeys(path for paths in found for path in paths)}
         self.readings = {path: Reading(Recording(path, str(path.relative_to(raw)), piece), begin)

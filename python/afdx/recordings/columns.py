@@ -1,11 +1,12 @@
 """What a reader hands on: many records at once, each field of theirs a column."""
 from dataclasses import dataclass
-from typing import Any
+from typing import Any, TypeVar
 
 import numpy as np
 import numpy.typing as npt
 
 Column = npt.NDArray[np.int64]
+Number = TypeVar("Number", bound=np.generic)
 
 SECOND = 1_000_000_000
 END_OF_STAMPS = 4_294_967_295 * SECOND  # afdx reads no stamp from here on
@@ -33,7 +34,7 @@ class Batch:
     interface: Column  # its place among the reader's interfaces
 
 
-def at_any(data: bytes | bytearray, kind: str, begin: int = 0) -> npt.NDArray[Any]:
+def at_any(data: bytes | memoryview, kind: str, begin: int = 0) -> npt.NDArray[Any]:
     """Answers what of this kind lies at each place of data from `begin` on; neighbours overlap."""
     size = np.dtype(kind).itemsize
     found: npt.NDArray[Any] = np.ndarray((max(len(data) - begin - size + 1, 0),), kind, data, begin, (1,))
@@ -44,3 +45,8 @@ def words(data: bytes, at: Column, count: int, order: str) -> npt.NDArray[np.uin
     """Answers the words of 4 bytes from each of these places on, a row for each."""
     picked = at_any(data, f"V{4 * count}")[at]
     return picked.view(f"{order}u4").reshape(len(at), count).astype(np.uint32, copy=False)
+
+
+def picked(column: npt.NDArray[Number], ascending: Column) -> npt.NDArray[Number]:
+    """Answers what a column has at these places, which ascend: the column itself if they are all."""
+    return column if len(ascending) == len(column) else column.take(ascending)

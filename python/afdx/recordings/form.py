@@ -1,6 +1,7 @@
 """What all formats of recordings have in common."""
 from abc import ABC, abstractmethod
 from collections.abc import Iterator
+from typing import Any
 
 import numpy as np
 import numpy.typing as npt
@@ -38,7 +39,8 @@ class Form(ABC):
     def next_place(self) -> Place:
         return self.place(self.count + 1, self.offset)
 
-    def refuse(self, faulty: npt.NDArray[np.bool_], number: Column, offset: Column, what: str, of: Column) -> None:
+    def refuse(self, faulty: npt.NDArray[np.bool_], number: Column, offset: Column, what: str,
+               of: npt.NDArray[np.integer[Any]]) -> None:
         """Raises the fault of the first record that has it; `{}` in its text is the record's number in `of`."""
         if faulty.any():
             first = int(faulty.argmax())

@@ -54,7 +54,7 @@ class Recording:
     def longer(self, unpacked: Unpacked, rest: bytes) -> bytes:
         """Answers the rest of a piece with the next piece at its end."""
         try:
-            return rest + unpacked.read(self.piece)
+            return unpacked.read(self.piece, rest)
         except Damaged as damaged:
             raise RecordingFault(f"damaged compressed bytes ({damaged})", self.next_place()) from damaged
 

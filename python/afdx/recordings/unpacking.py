@@ -1,5 +1,6 @@
 """Reads a file's bytes, unpacked where they are compressed by gzip, zstd or xz, in bounded memory."""
 import lzma
+import os
 import zlib
 from collections.abc import Callable
 from typing import BinaryIO, Protocol
@@ -100,12 +101,16 @@ class Unpacked:
         self.member = self.format() if self.format else None
         self.ended = False
 
-    def read(self, most: int) -> bytes:
-        """Answers the next bytes: as many as were asked for, fewer only at the end."""
+    def read(self, most: int, rest: bytes) -> bytes:
+        """Answers the rest of what was read last, and the next bytes: as many as were asked for, fewer only at the
+        end."""
         if self.format is None:
-            begin, self.packed = self.packed, b""
-            return begin + self.file.read(most - len(begin))
-        parts: list[bytes] = []
+            before, self.packed = rest or self.packed, b""
+            if self.file.seekable():  # to read them again takes less than to join them
+                self.file.seek(-len(before), os.SEEK_CUR)
+                return self.file.read(len(rest) + most)
+            return before + self.file.read(most)
+        parts = [rest]
         missing = most
         while missing > 0 and not self.ended:
             parts.append(self.unpacked(missing))

@@ -10,13 +10,26 @@ LANE = 16 * 1024  # bytes after which a record is guessed from which to go on to
 LEAST_LANES = 16
 AT_ONCE = 8  # steps before it is looked whether all lanes have come to their end
 LAST_SECOND = 2**32 - 1
+MANY = 64  # records of one length that are worth a look whether all are
 
 
 def records_of(data: bytes, order: str) -> tuple[Column, int]:
     """Answers where the records begin whose headers are there, and where the one after them would."""
-    places, at = in_lanes(data, order)
+    places, at = of_one_length(data, order)
+    if not len(places):
+        places, at = in_lanes(data, order)
     found, at = one_by_one(data, order, at)
     return np.concatenate((places, np.array(found, np.int64))), at
+
+
+def of_one_length(data: bytes, order: str) -> tuple[Column, int]:
+    """Answers the records if they are many and all of one length, otherwise none."""
+    if len(data) >= RECORD:
+        size = RECORD + struct.unpack_from(f"{order}I", data, 8)[0]
+        lengths = at_any(data, f"{order}u4", 8)[:len(data) - RECORD + 1:size]
+        if len(lengths) >= MANY and (lengths[:MANY] == lengths[0]).all() and (lengths == lengths[0]).all():
+            return np.arange(0, len(lengths) * size, size), len(lengths) * size
+    return np.empty(0, np.int64), 0
 
 
 def one_by_one(data: bytes, order: str, at: int) -> tuple[list[int], int]:
@@ -39,37 +52,40 @@ def in_lanes(data: bytes, order: str) -> tuple[Column, int]:
         return np.empty(0, np.int64), 0
     lengths = at_any(data, f"{order}u4", 8)  # of a record at each place
     at, end = begins[:-1], begins[1:]
+    past, header = begins[-1:] + 1, np.array([RECORD])
     steps: list[Column] = []
     while len(steps) % AT_ONCE or (at < end).any():
         steps.append(at)
-        at = np.minimum(at + lengths[at] + RECORD, begins[-1])
-    walked = np.array(steps).T
-    places: Column = walked[walked < end[:, None]]
-    joins = np.append(places[1:], begins[-1]) == places + RECORD + lengths[places]
-    return (places, int(begins[-1])) if joins.all() else (np.empty(0, np.int64), 0)
+        after = at + lengths[at]
+        after += header
+        at = np.minimum(after, past, out=after)
+    walked = np.array([*steps, at])
+    is_within = walked < end
+    joins = walked[is_within.sum(axis=0), np.arange(len(end))] == end
+    return (walked.T[is_within.T], int(begins[-1])) if joins.all() else (np.empty(0, np.int64), 0)
 
 
 def guesses(data: bytes, order: str) -> Column:
     """Answers the first record and then one that seems to begin in each lane, as long as there is one."""
+    header = struct.Struct(f"{order}4I")
     found = [0]
     for lane in range(LANE, len(data) - LANE, LANE):
-        second = struct.unpack_from(f"{order}I", data, found[-1])[0]
-        guess = guessed(data, order, lane, second) or guessed(data, order, lane, second + 1)
+        second = header.unpack_from(data, found[-1])[0]
+        guess = guessed(data, header, lane, second) or guessed(data, header, lane, second + 1)
         if guess is None:
             break
         found.append(guess)
     return np.array(found)
 
 
-def guessed(data: bytes, order: str, lane: int, second: int) -> int | None:
+def guessed(data: bytes, header: struct.Struct, lane: int, second: int) -> int | None:
     """Answers where a record of this second seems to begin in a lane: its lengths and the next record's second fit."""
-    header, next_second = struct.Struct(f"{order}4I"), struct.Struct(f"{order}I")
-    if second >= LAST_SECOND:
+    if second > LAST_SECOND:
         return None
-    at = data.find(next_second.pack(second), lane, lane + LANE)
+    at = data.find(header.pack(second, 0, 0, 0)[:4], lane, lane + LANE)
     if at < 0:
         return None
     _, _, captured, original = header.unpack_from(data, at)
     after = at + RECORD + captured
-    fits = captured <= original and after + 4 <= len(data)
-    return at if fits and next_second.unpack_from(data, after)[0] - second in (0, 1) else None
+    fits = captured <= original and after + RECORD <= len(data)
+    return at if fits and header.unpack_from(data, after)[0] - second in (0, 1) else None

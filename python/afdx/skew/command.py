@@ -6,12 +6,13 @@ from collections.abc import Iterator, Sequence
 from pathlib import Path
 
 from afdx.failure import INPUT, Failure, failing, say
+from afdx.importing.instants import instant
 from afdx.recordings.faults import RecordingFault
 from afdx.recordings.reading import Recording
-from afdx.skew.copies import Copy, Link, Pairing, copy_of
+from afdx.skew.copies import Copy, Link, Odd, Pairing, copy_of
 
 COMMAND = "afdx-skew"
-MILLISECOND = 1_000_000
+MILLISECOND, MICROSECOND = 1_000_000, 1_000
 NAMES = ("a", "b")
 
 
@@ -23,9 +24,13 @@ def options_of(arguments: Sequence[str]) -> argparse.Namespace:
     parser.add_argument("b", metavar="B", type=Path, help="the folder of network B's outputs")
     parser.add_argument("--within-ms", type=int, default=20, metavar="MS",
                         help="how far apart two copies of a frame may be (%(default)s)")
+    parser.add_argument("--apart-us", type=int, metavar="US",
+                        help="also prints each frame whose copies lie further apart, and each that one side lacks")
     options = parser.parse_args(arguments)
     if options.within_ms < 0:
         parser.error("--within-ms is below 0")
+    if options.apart_us is not None and options.apart_us < 0:
+        parser.error("--apart-us is below 0")
     return options
 
 
@@ -54,15 +59,27 @@ def copies_of(network: int, path: Path) -> Iterator[Copy]:
         print(f"{COMMAND}: warning: breaks off; what was whole before is used, {recording.broken}", file=sys.stderr)
 
 
-def paired(port: str, folders: Sequence[Path], within_ms: int) -> dict[int, Link]:
-    """Answers the links of a port, by number."""
+def paired(port: str, folders: Sequence[Path], options: argparse.Namespace) -> Pairing:
+    """Pairs the frames of a port."""
     paths = [(network, folder / f"{port}.pcap") for network, folder in enumerate(folders)]
-    pairing = Pairing(within_ms * MILLISECOND)
+    apart_us: int | None = options.apart_us
+    pairing = Pairing(options.within_ms * MILLISECOND, None if apart_us is None else apart_us * MICROSECOND)
     both = (copies_of(network, path) for network, path in paths if path.exists())
     for copy in heapq.merge(*both, key=lambda copy: copy.stamp):
         pairing.add(copy)
     pairing.give_up_before(None)
-    return dict(sorted(pairing.links.items()))
+    return pairing
+
+
+def odd_line(port: str, odd: Odd) -> str:
+    what = f"apart {odd.difference}" if odd.network is None else f"only-{NAMES[odd.network]}"
+    return f"{port} link {odd.link} {what} at {instant(odd.stamp)}\n"
+
+
+def lines_of(port: str, pairing: Pairing) -> list[str]:
+    """Answers a port's lines: for each link, and for each frame that is odd."""
+    return [*(line(port, number, link) for number, link in sorted(pairing.links.items())),
+            *(odd_line(port, odd) for odd in sorted(pairing.odd, key=lambda odd: (odd.stamp, odd.link)))]
 
 
 def line(port: str, number: int, link: Link) -> str:
@@ -84,7 +101,7 @@ def main(arguments: Sequence[str]) -> int:
     lines: list[str] = []
     for port in sorted(ports[0] | ports[1], key=in_order):
         try:
-            lines += [line(port, number, link) for number, link in paired(port, folders, options.within_ms).items()]
+            lines += lines_of(port, paired(port, folders, options))
         except RecordingFault as fault:
             raise Failure(INPUT, f"{COMMAND}: {fault}") from fault
         except OSError as error:

@@ -49,6 +49,15 @@ class Link:
         self.pairs += 1
 
 
+@dataclass(frozen=True)
+class Odd:
+    """Is a frame that one network alone delivered, or that both did too far apart."""
+    stamp: int  # of the first network's copy, if it has one
+    link: int
+    network: int | None  # the one that delivered it; None if both did
+    difference: int = 0  # ns
+
+
 def copy_of(stamp: int, network: int, frame: bytes) -> Copy | None:
     """Answers the copy that a frame is; None if it has no addresses."""
     if len(frame) < ADDRESSES:
@@ -59,8 +68,10 @@ def copy_of(stamp: int, network: int, frame: bytes) -> Copy | None:
 class Pairing:
     """Pairs copies as they come. A copy waits for the other network's for so long."""
 
-    def __init__(self, most_ns: int) -> None:
+    def __init__(self, most_ns: int, most_apart: int | None = None) -> None:
         self.most_ns = most_ns
+        self.most_apart = most_apart  # ns from which on pairs are odd; if it is None nothing is noted
+        self.odd: list[Odd] = []
         self.links: dict[int, Link] = {}
         self.waiting: dict[tuple[int, bytes], deque[Copy]] = {}  # by the network and the frame
         self.by_age: deque[Copy] = deque()
@@ -72,12 +83,20 @@ class Pairing:
         link.sides[copy.network].undecided.append(copy)
         if other := self.oldest_waiting(1 - copy.network, copy.frame):
             other.is_paired = copy.is_paired = True
-            link.add_pair(copy.stamp - other.stamp if copy.network else other.stamp - copy.stamp)
+            first, second = (other, copy) if copy.network else (copy, other)
+            self.pair(link, first, second)
         else:
             self.waiting.setdefault((copy.network, copy.frame), deque()).append(copy)
             self.by_age.append(copy)
         for side in link.sides:
             side.settle()
+
+    def pair(self, link: Link, first: Copy, second: Copy) -> None:
+        """Counts a pair, and notes it if its copies lie too far apart."""
+        difference = second.stamp - first.stamp
+        link.add_pair(difference)
+        if self.most_apart is not None and abs(difference) > self.most_apart:
+            self.odd.append(Odd(first.stamp, first.link, None, difference))
 
     def oldest_waiting(self, network: int, frame: bytes) -> Copy | None:
         """Takes the oldest copy of a frame that waits, if there is one."""
@@ -95,5 +114,7 @@ class Pairing:
             copy = self.by_age.popleft()
             if copy.is_paired is None:
                 copy.is_paired = False
+                if self.most_apart is not None:
+                    self.odd.append(Odd(copy.stamp, copy.link, copy.network))
                 self.oldest_waiting(copy.network, copy.frame)
                 self.links[copy.link].sides[copy.network].settle()
