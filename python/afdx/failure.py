@@ -43,7 +43,12 @@ def run(main: Callable[[Sequence[str]], int]) -> int:
     try:
         return main(sys.argv[1:])
     except Failure as failure:
-        with contextlib.suppress(OSError):  # nobody reads them any more
-            sys.stderr.buffer.write(os.fsencode("".join(f"{line}\n" for line in failure.lines)))
-            sys.stderr.buffer.flush()
+        tell(failure)
         return failure.status
+
+
+def tell(failure: Failure) -> None:
+    """Writes the lines of a failure on standard error."""
+    with contextlib.suppress(OSError):  # nobody reads them any more
+        sys.stderr.buffer.write(os.fsencode("".join(f"{line}\n" for line in failure.lines)))
+        sys.stderr.buffer.flush()

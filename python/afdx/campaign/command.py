@@ -1,20 +1,20 @@
 """The command afdx-campaign."""
 import argparse
 import os
-import sys
 import time
 from collections.abc import Sequence
 from pathlib import Path
+from typing import NoReturn
 
 from afdx import modules
 from afdx.campaign.answers import answered, digest, forget, left_of
 from afdx.campaign.engines import Options, engine_of
-from afdx.campaign.failures import COMMAND, INTERRUPTED, gone
+from afdx.campaign.failures import COMMAND, gone
 from afdx.campaign.plan import get_plan, put_plan, tasks_of
 from afdx.campaign.progress import Progress, speed
 from afdx.campaign.settings import Campaign, read_campaign
 from afdx.campaign.worker.task import Task
-from afdx.failure import failing
+from afdx.failure import Failure, failing, tell
 
 DONE, FAULTS = 0, 1
 RECENT = 300  # seconds whose answers say how fast it is
@@ -28,10 +28,23 @@ def main(arguments: Sequence[str]) -> int:
         status: int = options.do(read_campaign(options.campaign), options)
         return status
     except OSError as error:
-        raise failing(COMMAND, f"cannot read or write {error.filename}", error) from error
+        raise failure_of(error) from error
     except SystemExit:  # by a signal
-        print(*gone("interrupted").lines, file=sys.stderr, flush=True)
-        os._exit(INTERRUPTED)  # at once, as after a kill: threads end, and with them the children that they wait for
+        end_at_once(gone("interrupted"))
+
+
+def failure_of(error: Failure | OSError) -> Failure:
+    """Answers the failure that an error is told as."""
+    return error if isinstance(error, Failure) else failing(COMMAND, f"cannot read or write {error.filename}", error)
+
+
+def end_at_once(failure: Failure) -> NoReturn:
+    """Tells of a failure and ends as a kill does, with all threads and the children that they wait for.
+
+    An interpreter that ends in good order beside threads that work crashes now and then.
+    """
+    tell(failure)
+    os._exit(failure.status)
 
 
 def options_of(arguments: Sequence[str]) -> argparse.Namespace:
@@ -80,12 +93,12 @@ def run(campaign: Campaign, options: argparse.Namespace) -> int:
         print(f"{len(tasks)} tasks, {len(tasks) - len(left)} answered, {len(left)} left, of {size / 1e6:,.1f} MB")
         return DONE
     put_plan(campaign.root, tasks)
-    progress = Progress(campaign.root / "campaign.log", tasks, left)
     try:
-        engine(tasks, left, Options(campaign.root, options.engine, options.jobs, campaign.limits.patience,
-                                    progress.note))
-    finally:
-        progress.end()
+        with Progress(campaign.root / "campaign.log", tasks, left) as progress:
+            engine(tasks, left, Options(campaign.root, options.engine, options.jobs, campaign.limits.patience,
+                                        progress.note))
+    except (Failure, OSError) as error:  # an engine's threads may be at work
+        end_at_once(failure_of(error))
     return report(campaign, tasks)
 
 

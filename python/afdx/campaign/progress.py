@@ -3,6 +3,7 @@ import contextlib
 import time
 from collections.abc import Sequence
 from pathlib import Path
+from typing import Self
 
 from afdx import program
 from afdx.campaign.failures import COMMAND
@@ -24,6 +25,9 @@ class Progress:
         self.bytes_done = 0
         self.bytes_left = sum(tasks[number].recording.size for number in left)
         self.began = self.said = time.monotonic()
+
+    def __enter__(self) -> Self:
+        return self
 
     def note(self, task: Task | None, outcome: Outcome | None) -> None:
         """Notes an answer; without one it only says how far it is, if it is time for that."""
@@ -52,7 +56,7 @@ class Progress:
             with contextlib.suppress(OSError), open(self.log, "a", encoding="utf-8") as file:  # answers matter more
                 file.write(f"{time.strftime('%Y-%m-%d %H:%M:%S')} {self.line()}\n")
 
-    def end(self) -> None:
+    def __exit__(self, *error: object) -> None:
         """Says it for the last time; of the line on a terminal nothing stays."""
         self.terminal.clear()
         if not self.terminal.shown:
