@@ -11,5 +11,5 @@ def read(command: str, path: Path) -> dict[str, Any]:
     """Answers the content of a file."""
     try:
         return tomllib.loads(files.get(command, path).decode("utf-8-sig"))
-    except (UnicodeDecodeError, tomllib.TOMLDecodeError) as error:
+    except (ValueError, RecursionError) as error:  # also of a number or a nesting that Python has no room for
         raise Failure(INPUT, f"{command}: not TOML 1.0: {error}, {path}") from error

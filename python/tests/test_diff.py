@@ -163,6 +163,8 @@ def test_separated_values_say_the_same(tmp_path: Path, capfdbinary: pytest.Captu
 @pytest.mark.parametrize("name, text, status, line", [
     ("none.toml", None, DEVICE, "cannot read {}: No such file or directory"),
     ("bad.toml", "[[port]\n", INPUT, "not TOML 1.0: "),
+    ("bad.toml", f"version = {'1' * 5000}\n", INPUT, "not TOML 1.0: "),
+    ("bad.toml", f"version = {'[' * 5000}\n", INPUT, "not TOML 1.0: "),
     ("bad.toml", "[[port]]\nid = 25\n", INPUT, "table C6 Range, port 1, id, {}"),
     ("bad.toml", NETWORK.replace("B.1", "C.1"), INPUT, "network G3 NoSuchSwitch, wire 1, {}"),
     ("bad.toml", NETWORK, USAGE, "a table and a network file, ")])
