@@ -122,8 +122,11 @@ def test_first_stamps_in_either_order_and_both_parts(tmp_path: Path) -> None:
         paths.append(tmp_path / name)
         paths[-1].write_bytes(bytes.fromhex(magic) + bytes(20) + words + bytes(8))
     (tmp_path / "empty").write_bytes(bytes.fromhex("d4c3b2a1") + bytes(20))
+    (tmp_path / "zero").write_bytes(bytes.fromhex("d4c3b2a1") + bytes(36))
     assert [first_stamp([str(path)]) for path in paths] == [5_000_000_007, 5_000_000_006, 6_000_001_000, 7_000_001_000]
     assert first_stamp([str(path) for path in (*paths, tmp_path / "empty", tmp_path / "none")]) == 5_000_000_006
+    assert first_stamp([str(path) for path in (*paths, tmp_path / "zero")]) == 0
+    assert first_stamp([str(tmp_path / "empty"), str(tmp_path / "none")]) is None
 
 
 def started(code: str, *arguments: str) -> subprocess.Popen[str]:

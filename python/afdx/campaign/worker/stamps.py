@@ -12,7 +12,7 @@ MAGICS = {  # byte order, and ns in a part of the stamp's fraction
 
 def first_stamp(paths: Iterable[str]) -> int | None:
     """Answers the least of the first stamps, in ns; none if no capture has one."""
-    return min(filter(None, map(stamp_of, paths)), default=None)
+    return min((stamp for stamp in map(stamp_of, paths) if stamp is not None), default=None)
 
 
 def stamp_of(path: str) -> int | None:
