@@ -91,13 +91,17 @@ def test_patterns_that_name_nothing_or_twice(tmp_path: Path, pattern: str, statu
     assert (failure.value.status, failure.value.lines) == (status, (f"afdx-campaign: {line.format(room=tmp_path)}",))
 
 
-def test_a_refused_table_ends_it_before_a_recording_is_looked_at(tmp_path: Path) -> None:
+@pytest.mark.parametrize("line, ends, status", [
+    ("afdx: load L1 Rate, port 1, need 2, limit 1", "exit 4", 4), ("afdx: table C2 Toml", "exit 3", 4),
+    ("afdx: device get one.toml", "exit 5", 5), ("afdx: memory", "exit 5", 5), ("", "kill -KILL $$", 5)])
+def test_a_refused_table_ends_it_before_a_recording_is_looked_at(tmp_path: Path, line: str, ends: str,
+                                                                 status: int) -> None:
     file = campaign(tmp_path, GOOD.replace("flights/*/run*", "nowhere/*"))
-    (tmp_path / "afdx").write_text("#!/bin/sh\necho 'afdx: load L1 Rate, port 1, need 2, limit 1' >&2; exit 4\n")
+    (tmp_path / "afdx").write_text(f"#!/bin/sh\necho '{line}' >&2; {ends}\n")
     with pytest.raises(Failure) as failure:
         main(["run", str(file)])
-    assert failure.value.status == 4
-    assert failure.value.lines == ("afdx-campaign: table one: afdx: load L1 Rate, port 1, need 2, limit 1",)
+    assert failure.value.status == status
+    assert failure.value.lines == (f"afdx-campaign: table one: {line}",)
 
 
 @pytest.mark.parametrize("engine", ["dask", "local:4", "tcp://127.0.0.1", "udp://127.0.0.1:1"])

@@ -43,7 +43,7 @@ def checked(program: str, configured: Configured) -> Table:
     command = ["network", "check"] if configured.network else ["size" if configured.unchecked else "check"]
     answer = Program(COMMAND, program).ask(*command, path)
     if answer.status:
-        status = DEVICE if answer.line.startswith("afdx: device") else LOAD
+        status = LOAD if answer.status in (INPUT, LOAD) else DEVICE  # out of memory and killed, too
         raise failure(status, f"table {configured.name}: {answer.line}")
     if not configured.network:
         return Table(configured.name, (path,), (), configured.unchecked, table_identity((path,)))
