@@ -44,8 +44,7 @@ class Progress:
 
     def line(self) -> str:
         """Answers how far it is."""
-        seconds = max(time.monotonic() - self.began, 1e-3)
-        rate = speed(self.bytes_done, self.bytes_left, seconds)
+        rate = speed(self.bytes_done, self.bytes_left, time.monotonic() - self.began)
         return f"done {self.done}, left {self.left}, failed {self.failed}, {rate}"
 
     def say(self) -> None:
@@ -64,8 +63,11 @@ class Progress:
 
 
 def speed(done: int, left: int, seconds: float) -> str:
-    """Writes the rate at which recordings were read, and the time that the rest takes at it."""
-    rate = done / seconds
+    """Writes the rate at which recordings were read, and the time that the rest takes at it.
+
+    By the clock of another machine no time may have passed, or less than none.
+    """
+    rate = done / max(seconds, 1e-3)
     return f"{rate / 1e6:.1f} MB/s, {lasting(left / rate) if rate else '-'} to go"
 
 
