@@ -106,10 +106,8 @@ class Unpacked:
         end."""
         if self.format is None:
             before, self.packed = rest or self.packed, b""
-            if self.file.seekable():  # to read them again takes less than to join them
-                self.file.seek(-len(before), os.SEEK_CUR)
-                return self.file.read(len(rest) + most)
-            return before + self.file.read(most)
+            self.file.seek(-len(before), os.SEEK_CUR)  # to read them again takes less than to join them
+            return self.file.read(len(rest) + most)
         parts = [rest]
         missing = most
         while missing > 0 and not self.ended:
