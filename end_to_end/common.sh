@@ -129,6 +129,16 @@ ends() {
     [ "$status" -eq "$wanted" ] && [ ! -s answer.txt ] && [ "$(cat said.txt)" = "$line" ]
 }
 
+# table_ports ID..: the [[port]] of a table for each of these, with a buffer and an age that hardly anything reaches.
+table_ports() {
+    printf '[[port]]\nid = %s\nmbit = 100\nbuffer = 100000\nmax_delay_us = 500000\n\n' "$@"
+}
+
+# table_link ID FROM TO MAX_SIZE PRIORITY: a [[link]] of a table, of one frame each millisecond.
+table_link() {
+    printf '[[link]]\nid = %s\nfrom = %s\nto = [%s]\nbag_ms = 1\njitter_us = 0\nmax_size = %s\npriority = "%s"\n' "$@"
+}
+
 # third_version TABLE LATENCY_US: the table in version 3, with this latency.
 third_version() {
     echo "version = 3"

@@ -235,37 +235,7 @@ each_kill() {
     [ "$number" -gt 10 ] && are_there 2
 }
 
-cat >table.toml <<'END'
-[[port]]
-id = 1
-mbit = 100
-buffer = 100000
-max_delay_us = 500000
-
-[[port]]
-id = 2
-mbit = 100
-buffer = 100000
-max_delay_us = 500000
-
-[[link]]
-id = 10
-from = 1
-to = [2]
-bag_ms = 1
-jitter_us = 0
-max_size = 1000
-priority = "low"
-
-[[link]]
-id = 20
-from = 2
-to = [1]
-bag_ms = 1
-jitter_us = 0
-max_size = 1000
-priority = "low"
-END
+{ table_ports 1 2 && table_link 10 1 2 1000 low && table_link 20 2 1 1000 low; } >table.toml
 mkdir old_in older given newer
 frames old_in/port-1.pcap 0.001000000:10:900 0.003000000:10:900
 frames old_in/port-2.pcap 0.000000000:20:200

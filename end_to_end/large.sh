@@ -8,37 +8,7 @@ export PYTHONDONTWRITEBYTECODE=1
 afdx=${AFDX:-$top/crates/afdx/out/afdx}
 cd "$room" || exit 1
 
-cat >table.toml <<'END'
-[[port]]
-id = 1
-mbit = 100
-buffer = 100000
-max_delay_us = 500000
-
-[[port]]
-id = 2
-mbit = 100
-buffer = 100000
-max_delay_us = 500000
-
-[[link]]
-id = 10
-from = 1
-to = [2]
-bag_ms = 1
-jitter_us = 0
-max_size = 1518
-priority = "low"
-
-[[link]]
-id = 11
-from = 2
-to = [1]
-bag_ms = 1
-jitter_us = 0
-max_size = 200
-priority = "high"
-END
+{ table_ports 1 2 && table_link 10 1 2 1518 low && table_link 11 2 1 200 high; } >table.toml
 mkdir -p small middle in out wanted cut
 frames small/port-1.pcap 0.000000000:10:1518 0.000999999:10:1518 0.001000000:10:1518 0.003000000:10:64
 frames small/port-2.pcap 0.000000000:11:64 0.002000000:11:200 0.004000000:11:100 2.000000000:11:64

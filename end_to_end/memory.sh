@@ -18,28 +18,7 @@ refuses() {
     tail -n 1 "$room/said"
 }
 
-cat >table.toml <<'END'
-[[port]]
-id = 1
-mbit = 100
-buffer = 100000
-max_delay_us = 500000
-
-[[port]]
-id = 2
-mbit = 100
-buffer = 100000
-max_delay_us = 500000
-
-[[link]]
-id = 10
-from = 1
-to = [2]
-bag_ms = 1
-jitter_us = 0
-max_size = 1518
-priority = "low"
-END
+{ table_ports 1 2 && table_link 10 1 2 1518 low; } >table.toml
 sed 's/to = .*/to = [1]/' table.toml >own.toml
 sed 's/bag_ms = .*/bag_ms = 3/' table.toml >bag.toml
 sed 's/id = 10/id = 10\ncolor = 1/' table.toml >color.toml

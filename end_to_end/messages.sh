@@ -59,7 +59,7 @@ patch() {
 
 # link ID PRIORITY: a further link like the table's.
 link() {
-    printf '\n[[link]]\nid = %s\nfrom = 1\nto = [2]\nbag_ms = 1\njitter_us = 0\nmax_size = 1518\npriority = "%s"\n' "$@"
+    echo && table_link "$1" 1 2 1518 "$2"
 }
 
 # lines_are_the_pages: the lines that were provoked, with their status, are those of the page; network.sh provokes those of
@@ -74,9 +74,7 @@ report_is_the_pages() {
     "$afdx" run lossy.toml in out --unchecked >report.txt && sed -n '/^## The report/,$ { /^```text/,/^```$/ { /^```/! p } }' "$page" | diff - report.txt
 }
 
-for port in 1 2; do
-    printf '[[port]]\nid = %s\nmbit = 100\nbuffer = 100000\nmax_delay_us = 500000\n\n' "$port"
-done >table.toml
+table_ports 1 2 >table.toml
 link 10 low >>table.toml
 mkdir in out
 frames good.pcap 0.000000000:10:64 0.001000000:10:64
@@ -98,9 +96,7 @@ refuses_table "C10 NoSuchPort, link 1" 's/from = .*/from = 3/'
 refuses_table "C11 ToEmpty, link 1" 's/to = .*/to = []/'
 refuses_table "C12 ToTwice, link 1" 's/to = .*/to = [2, 2]/'
 refuses_table "C13 ToOwnPort, link 1" 's/to = .*/to = [1]/'
-for port in $(seq 3 25); do
-    printf '[[port]]\nid = %s\nmbit = 100\nbuffer = 100000\nmax_delay_us = 500000\n\n' "$port"
-done >ports.toml
+table_ports {3..25} >ports.toml
 refuses_table "C14 TooMany, port" '$r ports.toml'
 
 : >in/port-1.pcap
