@@ -27,7 +27,7 @@ HOUR = 3600 * 10**9
 
 
 def lines(chance, begin, links):
-    """What afdx would say of a recording."""
+    """Makes up what afdx would say of a recording."""
     said = []
     for port in range(1, PORTS + 1):
         said.append(f"in {port} seen 9000 cut 0 short 0 long 0 foreign 0 no-link 0 wrong-port 0 too-big 0 clean 9000")
@@ -43,7 +43,7 @@ def lines(chance, begin, links):
 
 
 def tasks_of(root, recordings):
-    """The tasks of a campaign that nobody has to run."""
+    """Makes up the tasks of a campaign that nobody has to run."""
     tables = [Table(name, (), (), False, name) for name in ("before", "after")]
     names = [f"r{number:05}" for number in range(recordings)]
     return [Task(str(root), "", "program", Recording(name, "", (), 10**9, False, name), table, "survey", "none", "", 1, 1.0, 1)

@@ -44,7 +44,7 @@ class Room:
         self.started = []
 
     def campaign(self, name, patience=PATIENCE):
-        """A campaign over all recordings, by a program that waits a little, so that there is something to kill."""
+        """Writes a campaign over all recordings, by a program that waits a little, so that there is something to kill."""
         program = self.folder / "afdx"
         if not program.exists():
             program.write_text(f'#!/bin/sh\nsleep 0.1\nexec {os.environ["AFDX"]} "$@"\n')
@@ -63,7 +63,7 @@ class Room:
         return process
 
     def processes(self):
-        """All that runs here, whoever started it: each process has a file of the folder open, if only for what it says."""
+        """Finds all that runs here, whoever started it: each process has a file of the folder open, if only for what it says."""
         found = []
         for process in psutil.process_iter():
             with contextlib.suppress(psutil.Error):
@@ -88,7 +88,7 @@ class Campaign:
         self.room, self.file, self.root = room, file, root
 
     def answers(self):
-        """The files of the answers."""
+        """Lists the files of the answers."""
         return list(self.root.glob("answers/*/*.json.gz"))
 
     def run(self, *options):
@@ -107,7 +107,7 @@ class Campaign:
         expect(f"{what}: status {driver.returncode}, {len(self.answers())} answers", driver.returncode == status)
 
     def is_whole(self, what):
-        """Each task has its answer once, and the answers are those of all other engines."""
+        """Expects that each task has its answer once, and that the answers are those of all other engines."""
         said = subprocess.run([CAMPAIGN, "status", self.file, "--digest"], capture_output=True, text=True, check=True).stdout
         tasks = len(list((self.room.recordings / "recordings").iterdir()))
         expect(f"{what}: {said.splitlines()[0]}", said.startswith(f"{tasks} tasks, {tasks} answered, ") and len(self.answers()) == tasks)
@@ -176,7 +176,7 @@ def children_end(children, what):
 
 
 def free_port():
-    """A port of loopback on which nobody listens."""
+    """Finds a port of loopback on which nobody listens."""
     with socket.socket() as listening:
         listening.bind(("127.0.0.1", 0))
         return listening.getsockname()[1]
@@ -229,7 +229,7 @@ class Cluster:
                             "--local-directory", self.room.folder / "workers") for _ in range(WORKERS)]
 
     def listens(self):
-        """Whether the scheduler takes connections."""
+        """Says whether the scheduler takes connections."""
         with socket.socket() as client:
             return client.connect_ex(("127.0.0.1", self.port)) == 0
 
@@ -309,7 +309,7 @@ class Slurm:
         await_that(self.is_idle, "an idle node")
 
     def is_idle(self):
-        """Whether the node is ready for jobs."""
+        """Says whether the node is ready for jobs."""
         said = subprocess.run(["sinfo", "--noheader", "--format=%T"], capture_output=True, text=True, env=self.room.environment, check=False)
         return said.stdout.strip() == "idle"
 

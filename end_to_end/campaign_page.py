@@ -25,7 +25,7 @@ SORTED = """const heads = document.querySelectorAll("table")[arguments[0]].tHead
 
 
 def check_tables(page, root):
-    """Each table's rows are those of the CSV to which it leads."""
+    """Expects that each table's rows are those of the CSV to which it leads; lists these files."""
     tables = page.execute_script(TABLES)
     for link, rows in tables:
         with open(root / link, encoding="utf-8", newline="") as file:

@@ -19,7 +19,7 @@ MILLISECOND = 10**6
 
 
 def links():
-    """The links, as dictionaries of their keys in a table."""
+    """Draws the links, as dictionaries of their keys in a table."""
     chance = numpy.random.default_rng(7)
     rows = []
     for number in range(LINKS):
@@ -33,25 +33,25 @@ def links():
 
 
 def changed(row):
-    """A link under the other table: some have a smaller greatest size, those from port 1 low priority."""
+    """Gives a link under the other table: some have a smaller greatest size, those from port 1 low priority."""
     size = min(row["max_size"], 400) if row["id"] % 10 == 3 else row["max_size"]
     return row | {"max_size": size, "priority": "low" if row["from"] == 1 else row["priority"]}
 
 
 def section(row):
-    """A [[link]] of a table."""
+    """Writes a [[link]] of a table."""
     lines = (f'{key} = "{value}"\n' if isinstance(value, str) else f"{key} = {value}\n" for key, value in row.items())
     return "[[link]]\n" + "".join(lines) + "\n"
 
 
 def table(rows):
-    """The text of a table."""
+    """Writes the text of a table."""
     ports = "".join(f"[[port]]\nid = {port}\nmbit = 100\nbuffer = 262144\nmax_delay_us = 20000\n\n" for port in range(1, PORTS + 1))
     return ports + "".join(map(section, rows))
 
 
 def traffic(chance, row, length, babbles, larger):
-    """Stamps and sizes of a link's frames."""
+    """Draws stamps and sizes of a link's frames."""
     bag = row["bag_ms"] * MILLISECOND
     stamps = numpy.arange(int(chance.integers(bag)), length, bag, dtype=numpy.int64)
     stamps = stamps + chance.integers(0, 100_000, len(stamps))
@@ -66,7 +66,7 @@ def traffic(chance, row, length, babbles, larger):
 
 
 def capture(stamps, numbers, sizes):
-    """A capture of frames of these links, which are bytes of 0 after their headers."""
+    """Makes a capture of frames of these links, which are bytes of 0 after their headers."""
     lengths = sizes - 4
     places = 24 + numpy.concatenate([[0], numpy.cumsum(lengths + 16)])
     out = numpy.zeros(int(places[-1]), dtype=numpy.uint8)
@@ -81,7 +81,7 @@ def capture(stamps, numbers, sizes):
 
 
 def on_a_line(begin, frames):
-    """The frames of a port in their order, each stamped at its end on a line of 100 Mbit/s on which none overlaps another."""
+    """Puts the frames of a port in their order, each stamped at its end on a line of 100 Mbit/s on which none overlaps another."""
     stamps, numbers, sizes = (numpy.concatenate(column) for column in zip(*frames))
     order = numpy.argsort(stamps, kind="stable")
     stamps, numbers, sizes = stamps[order], numbers[order], sizes[order]
@@ -91,7 +91,7 @@ def on_a_line(begin, frames):
 
 
 def spoilt(number, port, text):
-    """What is written of a capture; nothing if it is missing."""
+    """Gives what is written of a capture; nothing if it is missing."""
     if number % 250 == 17 and port == 2:
         return text[:-7]
     if number % 500 == 33 and port == 2:

@@ -59,7 +59,7 @@ class Claim:
 
 
 def is_claim(text: str) -> bool:
-    """Whether this is a claim by its form, and not the name of a module."""
+    """Says whether this is a claim by its form, and not the name of a module."""
     mark = CLAIM.fullmatch(text)
     if not mark:
         return False

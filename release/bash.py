@@ -1,4 +1,4 @@
-"""What bash completes."""
+"""Writes what bash completes."""
 
 import shlex
 from collections.abc import Iterator
@@ -38,7 +38,7 @@ ANSWERS = {"files": "compopt -o default", "folders": "compopt -o dirnames"}
 
 
 def walk(program: Command) -> Iterator[str]:
-    """What a word before the cursor leads to: another command, or values of an option."""
+    """Says what a word before the cursor leads to: another command, or values of an option."""
     for step in steps(program):
         yield f"        {shlex.quote(f'{step.above.name}:{step.word}')}) command={shlex.quote(step.below.name)} ;;"
     for option in awaiting(program):
@@ -50,7 +50,7 @@ def one_of(words: list[str]) -> str:
 
 
 def answers(command: Command) -> Iterator[str]:
-    """What may come in a command: its own commands, its options, its arguments by their place."""
+    """Says what may come in a command: its own commands, its options, its arguments by their place."""
     found = {"options": one_of([name for row in command.options for name in row.names])}
     if command.rows:
         found["0"] = one_of([row.head for row in command.rows])

@@ -21,12 +21,12 @@ class Row:
 
     @property
     def names(self) -> list[str]:
-        """The names of an option, the short one first."""
+        """Answers the names of an option, the short one first."""
         return re.findall(r"(?:^|, )(-{1,2}[\w-]+)", self.head)
 
     @property
     def values(self) -> list[str]:
-        """What the help calls the values of an argument or an option."""
+        """Answers what the help calls the values of an argument or an option."""
         last = self.head.split(", ")[-1]
         return [value.strip("<>") for value in last.split() if not value.startswith("-")]
 
@@ -45,11 +45,11 @@ class Command:
 
     @property
     def page(self) -> str:
-        """The name of its man page."""
+        """Answers the name of its man page."""
         return self.name.replace(" ", "-")
 
     def whole(self) -> Iterator["Command"]:
-        """It, and all commands below it."""
+        """Goes through it and all commands below it."""
         yield self
         for command in self.commands:
             yield from command.whole()

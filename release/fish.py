@@ -1,4 +1,4 @@
-"""What fish completes."""
+"""Writes what fish completes."""
 
 import re
 from collections.abc import Iterator
@@ -39,7 +39,7 @@ def quoted(text: str) -> str:
 
 
 def walk(program: Command) -> Iterator[str]:
-    """What a word before the cursor leads to: another command, or values of an option."""
+    """Says what a word before the cursor leads to: another command, or values of an option."""
     for step in steps(program):
         yield f"            case {quoted(f'{step.above.name}:{step.word}')}"
         yield f"                set command {quoted(step.below.name)}"
@@ -49,13 +49,13 @@ def walk(program: Command) -> Iterator[str]:
 
 
 def option(row: Row) -> str:
-    """An option and what follows it. fish knows of one value alone; of two, the second is not completed."""
+    """Writes an option and what follows it. fish knows of one value alone; of two, the second is not completed."""
     names = [f"--long-option {name[2:]}" if name[1] == "-" else f"--short-option {name[1:]}" for name in row.names]
     return " ".join([*names, *(VALUES[kind] for kind in kinds(row)[:1])])
 
 
 def rules(command: Command, here: str) -> Iterator[tuple[str, str, str]]:
-    """What may come in a command: under which condition, what, and what the help says of it."""
+    """Says what may come in a command: under which condition, what, and what the help says of it."""
     for row in command.rows:
         yield f"test {here} = '{command.name}:0'", f"--arguments {row.head}", row.words
     for row in command.options:

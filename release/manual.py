@@ -1,4 +1,4 @@
-"""Man pages of what the help says, in the macros of man(7)."""
+"""Makes man pages of what the help says, in the macros of man(7)."""
 
 import re
 import textwrap

@@ -1,4 +1,4 @@
-"""What may stand where on a command line: of a described program, for the scripts of all shells."""
+"""Says what may stand where on a command line: of a described program, for the scripts of all shells."""
 
 import re
 from collections.abc import Iterator

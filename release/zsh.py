@@ -1,4 +1,4 @@
-"""What zsh completes."""
+"""Writes what zsh completes."""
 
 import re
 import shlex
@@ -29,7 +29,7 @@ def options(command: Command) -> Iterator[str]:
 
 
 def arguments(command: Command) -> Iterator[str]:
-    """What is no option: the commands below with what each does, or the arguments."""
+    """Writes what is no option: the commands below with what each does, or the arguments."""
     for place in places(command):
         yield f"{place.number + 1}:{escaped(place.value)}:{ACTIONS[place.kind]}"
     if command.rows:

@@ -1,4 +1,4 @@
-"""How a command ends early: lines on standard error and an exit status, never a traceback."""
+"""Ends a command early: lines on standard error and an exit status, never a traceback."""
 import contextlib
 import os
 import sys

@@ -1,4 +1,4 @@
-"""The command afdx-campaign."""
+"""Runs the command afdx-campaign."""
 import argparse
 import os
 import time

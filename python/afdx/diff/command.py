@@ -1,4 +1,4 @@
-"""The command afdx-diff."""
+"""Runs the command afdx-diff."""
 import argparse
 from collections.abc import Sequence
 from pathlib import Path

@@ -1,4 +1,4 @@
-"""The command afdx-icd."""
+"""Runs the command afdx-icd."""
 import argparse
 from collections.abc import Sequence
 from pathlib import Path

@@ -1,4 +1,4 @@
-"""Records as a capture has them: copied out of a batch, cut apart, put in order."""
+"""Copies records out of a batch as a capture has them, cuts them apart and puts them in order."""
 from collections.abc import Callable
 from dataclasses import dataclass
 

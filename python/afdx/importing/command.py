@@ -1,4 +1,4 @@
-"""The command afdx-import."""
+"""Runs the command afdx-import."""
 import argparse
 import sys
 from collections.abc import Sequence

@@ -1,4 +1,4 @@
-"""What is looked at in frames: their sender, their network, their check sequence."""
+"""Looks at frames: at their sender, their network and their check sequence."""
 import zlib
 from dataclasses import dataclass
 
@@ -35,7 +35,7 @@ def senders(batch: Batch) -> Senders:
 
 
 def is_checked(frame: bytes) -> bool:
-    """Whether the last four bytes are the check sequence of those before."""
+    """Answers whether the last four bytes are the check sequence of those before."""
     return zlib.crc32(frame[:-CHECK_SEQUENCE]) == int.from_bytes(frame[-CHECK_SEQUENCE:], "little")
 
 

@@ -1,4 +1,4 @@
-"""What is said of an import: a line for each port, and what a user should look at."""
+"""Says what came of an import: a line for each port, and what a user should look at."""
 from collections.abc import Iterator
 from pathlib import Path
 

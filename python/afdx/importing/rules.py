@@ -30,7 +30,7 @@ class Source:
 
     @property
     def tick(self) -> int:
-        """By how many ns a stamp is made later for each byte of its frame."""
+        """Answers by how many ns a stamp is made later for each byte of its frame."""
         return 8000 // self.mbit if self.stamps == "start" and self.mbit else 0
 
     @property
@@ -47,7 +47,7 @@ class Rules:
 
     @property
     def ports(self) -> list[str]:
-        """All ports that get a capture, by folder and number."""
+        """Answers all ports that get a capture, by folder and number."""
         named = {port for source in self.sources for port in source.ports} | set(self.silent)
         return sorted(named, key=lambda port: (port.rpartition("/")[0], int(port.rpartition("-")[2])))
 

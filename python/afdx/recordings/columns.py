@@ -1,4 +1,4 @@
-"""What a reader hands on: many records at once, each field of theirs a column."""
+"""Has what a reader hands on: many records at once, each field of theirs a column."""
 from dataclasses import dataclass
 from typing import Any, TypeVar
 

@@ -1,4 +1,4 @@
-"""What may be wrong with a recording."""
+"""Says what is wrong with a recording, and where."""
 from dataclasses import dataclass
 
 

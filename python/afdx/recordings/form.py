@@ -1,4 +1,4 @@
-"""What all formats of recordings have in common."""
+"""Has what all formats of recordings have in common."""
 from abc import ABC, abstractmethod
 from collections.abc import Iterator
 from typing import Any
@@ -26,7 +26,7 @@ class Form(ABC):
 
     @property
     def ends_within(self) -> bool:
-        """Whether the recording would break off here, though all bytes were used."""
+        """Answers whether the recording would break off here, though all bytes were used."""
         return False
 
     @abstractmethod

@@ -1,4 +1,4 @@
-"""The command afdx-skew."""
+"""Runs the command afdx-skew."""
 import argparse
 import heapq
 import sys

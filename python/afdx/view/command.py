@@ -1,4 +1,4 @@
-"""The command afdx-view."""
+"""Runs the command afdx-view."""
 import argparse
 from collections.abc import Sequence
 
