@@ -23,4 +23,4 @@ for script in "${scripts[@]}"; do
     echo "$script: $(tail -n 1 said.txt) ($((SECONDS - began)) s)"
 done
 echo "$failed scripts failed"
-[ "$failed" -eq 0 ]
+[ "$failed" -eq 0 ] && [ "${#scripts[@]}" -gt 0 ]
