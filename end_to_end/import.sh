@@ -11,8 +11,10 @@ cd "$room" || exit 1
 
 # prints SECTION/STEP: its commands print what the page has.
 prints() {
-    (cd work && bash -euo pipefail "$room/steps/$1.sh") >printed.txt 2>&1
-    is_printed "$room/steps/$1.txt" printed.txt
+    local status=0
+    (cd work && bash -euo pipefail "$room/steps/$1.sh") >printed.txt 2>&1 || status=$?
+    echo "status $status"
+    [ "$status" -eq 0 ] && is_printed "$room/steps/$1.txt" printed.txt
 }
 
 # finds NETWORK: the captures are those that came in, and the run's report and outputs those of the model of networks.
