@@ -9,14 +9,6 @@ afdx=${AFDX:-$top/crates/afdx/out/afdx}
 page=$top/docs/use/IMPORT.md
 cd "$room" || exit 1
 
-# prints SECTION/STEP: its commands print what the page has.
-prints() {
-    local status=0
-    (cd work && bash -euo pipefail "$room/steps/$1.sh") >printed.txt 2>&1 || status=$?
-    echo "status $status"
-    [ "$status" -eq 0 ] && is_printed "$room/steps/$1.txt" printed.txt
-}
-
 # finds NETWORK: the captures are those that came in, and the run's report and outputs those of the model of networks.
 finds() {
     diff -r "work/in/$1" "work/truth/$1" && cmp "work/$1.txt" "work/sent/$1.txt" && diff -r "work/out/$1" "work/sent/$1"
@@ -53,13 +45,13 @@ print(resource.getrusage(resource.RUSAGE_CHILDREN).ru_maxrss)
 END
 }
 
-# memory_stays: twice the recording takes no more memory, but for a tenth.
+# memory_stays: twice the recording takes no more memory, but for two of the pieces of 4 MiB in which it is read.
 memory_stays() {
     local less more
     mkdir -p big && printf '[[source]]\nfile = "raw.pcap"\nto = "port-1"\n' >big/rules.toml
     less=$(peak 200) && more=$(peak 400) && rm -r big
     echo "$less KiB, $more KiB"
-    [ "$more" -lt $((less + less / 10)) ]
+    [ "$more" -lt $((less + 8192)) ]
 }
 
 mkdir bin work && ln -s "$afdx" bin/afdx && PATH=$room/bin:$top/python/bin:$PATH
@@ -68,15 +60,15 @@ sed -n '/^```toml$/,/^```$/ { /^```/! p }' "$page" >work/rules.toml
 
 check "the recordings" python3 "$top/end_to_end/recorded_network.py" work
 check "the page's commands are found" python3 "$top/end_to_end/steps.py" "$page" steps
-check "importing, 1: afdx-import rules.toml raw in" prints importing/1
-check "importing, 2: the runs" prints importing/2
+check "importing, 1: afdx-import rules.toml raw in" step_prints importing/1
+check "importing, 2: the runs" step_prints importing/2
 for network in A B; do
     check "network $network: to the byte what came in, and what the model makes of it" finds "$network"
 done
-check "importing, 3: measuring" prints importing/3
-check "two clocks" prints two_clocks/1
-check "two networks" prints two_networks/1
-check "two networks, frame by frame" prints two_networks/2
+check "importing, 3: measuring" step_prints importing/3
+check "two clocks" step_prints two_clocks/1
+check "two networks" step_prints two_networks/1
+check "two networks, frame by frame" step_prints two_networks/2
 check "what got lost is found" hidden
 
 late="afdx-import: a frame of A/cockpit/port-3 is more than 0 ms late: 2026-09-21T14:13:20.352740730Z comes after 2026-09-21T14:13:20.368740614Z (cockpit.pcap.zst, record 784, offset 136506), cockpit.pcap.zst, record 793, offset 138114"
