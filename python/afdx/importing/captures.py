@@ -1,8 +1,8 @@
 """Writes the captures of all ports to new files, and moves them onto their names when all are whole."""
 import errno
 import os
-from collections.abc import Iterable
-from contextlib import ExitStack, suppress
+from collections.abc import Iterable, Iterator
+from contextlib import ExitStack, contextmanager, suppress
 from pathlib import Path
 from types import TracebackType
 from typing import BinaryIO, Self
@@ -36,36 +36,36 @@ class Captures:
     def begin(self, port: str) -> None:
         """Begins the new file of a port, without frames."""
         path = self.paths[port]
-        try:
+        with self.writing(port):
             if path.is_dir():
                 raise IsADirectoryError(errno.EISDIR, os.strerror(errno.EISDIR))
             for folder in [one for one in [*reversed(path.parent.parents), path.parent] if not one.exists()]:
                 folder.mkdir()
                 self.folders.append(folder)
             self.files[port] = files.begin(path)
-        except OSError as error:
-            raise failing(self.command, f"cannot write {path}", error) from error
         self.write(port, WRITTEN)
 
-    def write(self, port: str, text: bytes | memoryview) -> None:
+    @contextmanager
+    def writing(self, port: str) -> Iterator[None]:
+        """Says of what fails in the context that the port's capture cannot be written."""
         try:
-            self.files[port].write(text)
+            yield
         except OSError as error:
             raise failing(self.command, f"cannot write {self.paths[port]}", error) from error
 
+    def write(self, port: str, text: bytes | memoryview) -> None:
+        with self.writing(port):
+            self.files[port].write(text)
+
     def put(self) -> None:
         """Has the device take all files, then moves each onto its name, in order of the ports."""
-        for port, path in self.paths.items():
-            try:
-                self.files[port].flush()
-                os.fsync(self.files[port].fileno())
-            except OSError as error:
-                raise failing(self.command, f"cannot write {path}", error) from error
-        for port, path in self.paths.items():
-            try:
-                os.replace(self.files[port].name, path)
-            except OSError as error:
-                raise failing(self.command, f"cannot write {path}", error) from error
+        for port, file in self.files.items():
+            with self.writing(port):
+                file.flush()
+                os.fsync(file.fileno())
+        for port, file in self.files.items():
+            with self.writing(port):
+                os.replace(file.name, self.paths[port])
 
     def close(self) -> None:
         """Closes the new files, and removes those that have not been moved, and the folders that are empty then."""

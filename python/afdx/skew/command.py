@@ -88,23 +88,31 @@ def line(port: str, number: int, link: Link) -> str:
     return f"{port} link {number} pairs {link.pairs} least {least} greatest {greatest} {sides}\n"
 
 
+def warn_of(missing: set[str], folder: Path) -> None:
+    """Says which captures a folder lacks that the other one has."""
+    for port in sorted(missing, key=in_order):
+        print(f"{COMMAND}: warning: no capture {port}.pcap, {folder}", file=sys.stderr)
+
+
+def compared(port: str, folders: Sequence[Path], options: argparse.Namespace) -> list[str]:
+    """Compares what both networks delivered at a port."""
+    try:
+        return lines_of(port, paired(port, folders, options))
+    except RecordingFault as fault:
+        raise Failure(INPUT, f"{COMMAND}: {fault}") from fault
+    except OSError as error:
+        raise failing(COMMAND, f"cannot read {error.filename}", error) from error
+
+
 def main(arguments: Sequence[str]) -> int:
     """Runs the command; answers its exit status."""
     options = options_of(arguments)
     folders = [options.a, options.b]
-    ports = [ports_of(folder) for folder in folders]
-    if not ports[0] | ports[1]:
+    first, second = map(ports_of, folders)
+    if not first | second:
         raise Failure(INPUT, f"{COMMAND}: no captures, {options.a} and {options.b}")
-    for folder, missing in zip(folders, (ports[1] - ports[0], ports[0] - ports[1])):
-        for port in sorted(missing, key=in_order):
-            print(f"{COMMAND}: warning: no capture {port}.pcap, {folder}", file=sys.stderr)
-    lines: list[str] = []
-    for port in sorted(ports[0] | ports[1], key=in_order):
-        try:
-            lines += lines_of(port, paired(port, folders, options))
-        except RecordingFault as fault:
-            raise Failure(INPUT, f"{COMMAND}: {fault}") from fault
-        except OSError as error:
-            raise failing(COMMAND, f"cannot read {error.filename}", error) from error
-    say(COMMAND, "".join(lines))
+    warn_of(second - first, options.a)
+    warn_of(first - second, options.b)
+    ports = sorted(first | second, key=in_order)
+    say(COMMAND, "".join(text for port in ports for text in compared(port, folders, options)))
     return 0
