@@ -1,4 +1,4 @@
-"""Has what a reader hands on: many records at once, each field of theirs a column."""
+"""Holds what a reader hands on: many records at once, each field of theirs a column."""
 from dataclasses import dataclass
 from typing import Any, TypeVar
 

@@ -1,4 +1,4 @@
-"""Has what all formats of recordings have in common."""
+"""Defines what all formats of recordings have in common."""
 from abc import ABC, abstractmethod
 from collections.abc import Iterator
 from typing import Any
