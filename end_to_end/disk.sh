@@ -1,9 +1,10 @@
 #!/usr/bin/env bash
 # What is there where the outside fails: full, small and read-only file systems, links, what is no file, closed streams, calls
-# of the system that fail one after the other, and a program that is ended at any of them. Each name has the capture of an
-# older run or the whole new one, the status and the line say which, and no other file changes.
+# of the system that fail one after the other, a program that is ended at any of them, other runs and other users. Each name has the
+# capture of an older run or the whole new one, the status and the line say which, and no other file changes: what fails before the
+# first file is moved moves none.
 . "$(dirname "$0")/common.sh"
-install text2pcap=wireshark-common python3=python3 cc=gcc unshare=util-linux
+install text2pcap=wireshark-common python3=python3 cc=gcc unshare=util-linux setpriv=util-linux
 export PYTHONDONTWRITEBYTECODE=1
 afdx=${AFDX:-$top/crates/afdx/out/afdx}
 as_root=()
@@ -112,10 +113,9 @@ limited() { # limited ARGUMENT..: no file may grow past 8 KiB
     (trap '' XFSZ && ulimit -f 8 && "$@")
 }
 
-# limit_ends: the same, where the system ends the program: no capture was moved, and what was written so far is beside the names.
-limit_ends() {
-    again && run_over in out bash -c 'ulimit -c 0 -f 8 && exec "$@"' - && [ "$(cat status.txt)" -eq 153 ] &&
-        rm out/port-1.pcap.new-0 out/port-2.pcap.new-0 && are_there 0
+# limit_is_kept: the same, where the system would end a program that writes more.
+limit_is_kept() {
+    leaves 5 "$put_2" 0 bash -c 'ulimit -c 0 -f 8 && exec "$@"' -
 }
 
 redirected() { # redirected REDIRECTION ARGUMENT..
@@ -131,12 +131,12 @@ preloaded() { # preloaded VARIABLE=VALUE ARGUMENT..: see failing.c
     env "$1" CALLS="$PWD/calls.txt" LD_PRELOAD="$PWD/failing.so" "${@:2}"
 }
 
-# new_ones: how many captures the line says are those of this run.
+# new_ones CALL: how many captures the line says are those of this run, where this call failed.
 new_ones() {
-    case $(cat said.txt) in
-        "afdx: device put out/port-1.pcap") echo 0 ;;
-        "afdx: device put out/port-2.pcap") echo 1 ;;
-        "afdx: device write" | "") echo 2 ;;
+    case "$1 $(cat said.txt)" in
+        "rename afdx: device put out/port-2.pcap") echo 1 ;;
+        *" afdx: device put out/port-"[12].pcap) echo 0 ;;
+        *" afdx: device write" | "$1 ") echo 2 ;;
         *) echo "no such line" ;;
     esac
 }
@@ -148,7 +148,7 @@ each_fails() {
     for number in $(seq 20); do
         again && run_over in out preloaded "FAIL=$1:$number"
         [ -s said.txt ] && lines=$((lines + 1))
-        [ "$(cat status.txt)" -eq "$([ -s said.txt ] && echo 5 || echo 0)" ] && are_there "$(new_ones)" || return 1
+        [ "$(cat status.txt)" -eq "$([ -s said.txt ] && echo 5 || echo 0)" ] && are_there "$(new_ones "$1")" || return 1
         [ "$(grep -c "^$1" calls.txt)" -lt "$number" ] && break
     done
     [ "$number" -gt 2 ] && [ "$lines" -eq "$2" ]
@@ -164,13 +164,15 @@ filled() {
 }
 
 # put_fails CALL NUMBER NAMES ARGUMENT..: afdx with these arguments puts files of these names, and this call fails for the file of
-# this number, from 0 on. The line names it; the files before it are those in WHOLE, and the others the older ones.
+# this number, from 0 on. The line names it; where it could not be moved, the files before it are those in WHOLE, and all others are
+# the older ones.
 put_fails() {
-    local call=$1 number=$2 names name
+    local call=$1 number=$2 names name moved=0
     read -ra names <<<"$3"
     shift 3
     filled "${names[@]}" && rm -rf wanted && cp -r out wanted
-    for name in "${names[@]:0:number}"; do
+    [ "$call" = rename ] && moved=$number
+    for name in "${names[@]:0:moved}"; do
         cp "whole/$name" "wanted/$name"
     done
     preloaded "FAIL=$call:$((number + 1))" "$afdx" "$@" >answer.txt 2>said.txt
@@ -216,10 +218,10 @@ interrupted() {
 }
 
 # each_kill: the program is ended at each call in turn. The captures that were moved are those of this run; what is left
-# beside them is in no one's way, and stays where the next run is done.
+# beside them is in no one's way, and is removed by the next run.
 each_kill() {
     local number moved
-    for number in $(seq 40); do
+    for number in $(seq 60); do
         again && run_over in out preloaded "KILL=$number"
         moved=$(head -n "$((number - 1))" calls.txt | grep -c rename)
         [ "$(cat status.txt)" -eq 0 ] && break
@@ -227,12 +229,84 @@ each_kill() {
         find out -name '*.new-*' -exec mv {} left \;
         echo "call $number, $(tail -1 calls.txt): $moved new, left beside: $(ls left)"
         [ "$(cat status.txt)" -eq 137 ] && are_there "$moved" || return 1
-        cp -a left/. out && run_over in out && said 0 "" && rm -rf found && mkdir found || return 1
-        find out -name '*.new-*' -exec mv {} found \;
-        diff -r left found && are_there 2 || return 1
+        cp -a left/. out && run_over in out && said 0 "" && are_there 2 || return 1
     done
     echo "$((number - 1)) calls"
     [ "$number" -gt 10 ] && are_there 2
+}
+
+# --- Other runs ---
+
+# another_puts: while another run has the lock of OUT, nothing is put there; a run into another folder is not held up.
+another_puts() {
+    leaves 5 "$put_1" 0 flock out && mkdir -p other && run_over in other flock out && said 0 "" && are_there 2 other
+}
+
+# another_writes: a new file that another run has is left to it, and so is what is no file.
+another_writes() {
+    again && echo its >out/port-1.pcap.new-0 && mkdir out/port-2.pcap.new-0 && run_over in out flock out/port-1.pcap.new-0 && said 0 "" &&
+        [ "$(cat out/port-1.pcap.new-0)" = its ] && rm -r out/port-1.pcap.new-0 out/port-2.pcap.new-0 && are_there 2
+}
+
+# two_runs: two runs into one folder at once, 20 times. In the end all captures are of one that was done, and one that was not says so.
+two_runs() {
+    local number first second
+    for number in $(seq 20); do
+        again
+        "$afdx" run table.toml in out >/dev/null 2>first.txt &
+        "$afdx" run table.toml old_in out >/dev/null 2>second.txt
+        second=$?
+        wait $!
+        first=$?
+        echo "$number: $first $(cat first.txt), $second $(cat second.txt)"
+        case "$first $second" in
+            "0 0") diff -r newer out || diff -r older out || return 1 ;;
+            "0 5") diff -r newer out && [ "$(cat second.txt)" = "$put_1" ] || return 1 ;;
+            "5 0") diff -r older out && [ "$(cat first.txt)" = "$put_1" ] || return 1 ;;
+            *) return 1 ;;
+        esac
+    done
+}
+
+# --- Other users ---
+
+# as_other ARGUMENT..: as a user who owns nothing of this.
+as_other() {
+    "${as_root[@]}" setpriv --reuid=65534 --regid=65534 --clear-groups "$@"
+}
+
+# opened_to_all: another user may reach all of this, read what came in, and make files in OUT.
+opened_to_all() {
+    again && chmod a+x "$room" && chmod -R a+rX table.toml in && chmod a+rwx out && cp "$afdx" other_afdx && chmod a+rx other_afdx
+}
+
+# not_anothers: a capture that another user may not write is not replaced, though its folder is open to all.
+not_anothers() {
+    opened_to_all && chmod 644 out/* && as_other ./other_afdx run table.toml in out >answer.txt 2>said.txt
+    echo $? >status.txt
+    rm other_afdx
+    said 5 "$put_1" && are_there 0
+}
+
+# keeps_mode MODE: a capture that is replaced keeps its mode.
+keeps_mode() {
+    again && chmod "$1" out/port-1.pcap && run_over in out && said 0 "" && [ "$(stat -c %a out/port-1.pcap)" = "$1" ] && are_there 2
+}
+
+# keeps_owner: root leaves a capture to its owner.
+keeps_owner() {
+    again && "${as_root[@]}" chown 65534:65534 out/port-2.pcap && run_over in out "${as_root[@]}" && said 0 "" &&
+        [ "$(stat -c %u:%g out/port-2.pcap)" = 65534:65534 ] && are_there 2
+}
+
+# out_of_a_network_is_in: a folder in OUT is that of IN, with a recording of a port with a wire; nothing is put, into no other one either.
+out_of_a_network_is_in() {
+    rm -rf came left came_before left_before && cp -r "$aircraft/in" came && echo recording >came/bay/port-1.pcap &&
+        mkdir -p left/cabin left/cockpit && ln -s ../came/bay left/bay && cp -a came came_before && cp -a left left_before
+    "$afdx" network run "$aircraft/network.toml" came left >answer.txt 2>said.txt
+    echo $? >status.txt
+    cat said.txt
+    said 5 "afdx: device put left/bay/port-2.pcap" && [ ! -s answer.txt ] && diff -r came_before came && diff -r left_before left
 }
 
 { table_ports 1 2 && table_link 10 1 2 1000 low && table_link 20 2 1 1000 low; } >table.toml
@@ -258,31 +332,37 @@ check "IN is a link to OUT" keeps alias out 0 "$put_1" ln -s out alias
 check "a link from OUT into IN" keeps in out 0 "$put_1" ln -sf ../in/port-1.pcap out/port-1.pcap
 check "a link from IN into OUT" keeps in out 0 "$put_1" ln -sf ../out/port-1.pcap in/port-1.pcap
 check "a hard link from OUT into IN" keeps in out 0 "$put_1" ln -f in/port-1.pcap out/port-1.pcap
-check "a hard link to another port's capture" keeps in out 1 "$put_2" ln -f in/port-1.pcap out/port-2.pcap
+check "a hard link to another port's capture" keeps in out 0 "$put_2" ln -f in/port-1.pcap out/port-2.pcap
 check "a hard link to the table" keeps in out 0 "$put_1" ln -f table.toml out/port-1.pcap
 check "a link to a file that was not got is replaced" through_a_link ../elsewhere.pcap
 check "so is a link to nothing" through_a_link ../nothing.pcap
 check "a capture with a fault" with_a_fault
 check "a FIFO in OUT" keeps in out 0 "$put_1" instead mkfifo out/port-1.pcap
 check "a FIFO in IN is read" from_a_fifo
-check "a folder in a capture's place in OUT" keeps in out 1 "$put_2" instead mkdir out/port-2.pcap
+check "a folder in a capture's place in OUT" keeps in out 0 "$put_2" instead mkdir out/port-2.pcap
 check "a folder in a capture's place in IN" keeps in out 0 "afdx: device get in/port-2.pcap" instead mkdir in/port-2.pcap
 check "a file in the place of OUT" keeps in out 0 "$put_1" instead touch out
 check "a capture that may not be written" keeps in out 0 "$put_1" chmod a-w out/port-1.pcap
+check "OUT of a network is IN" out_of_a_network_is_in
+check "a capture that another user may not write" not_anothers
+for mode in 600 640 666; do
+    check "a capture of mode $mode keeps it" keeps_mode "$mode"
+done
+check "a capture of another user stays its own" keeps_owner
 check "OUT is empty" ends 2 "afdx: usage" /dev/null run table.toml none ""
 check "IN is empty" ends 2 "afdx: usage" /dev/null run table.toml "" none
 
 check "a read-only file system" mounted 0 "$put_1" "mount --bind out out && mount -o remount,bind,ro out"
 check "a file system without room for the first capture" mounted 0 "$put_1" "$(small 8)"
-check "a file system without room for the second" mounted 1 "$put_2" "$(small 12)"
-check "a limit of a file's size" leaves 5 "$put_2" 1 limited
-check "the limit ends the program" limit_ends
+check "a file system without room for the second" mounted 0 "$put_2" "$(small 12)"
+check "a limit of a file's size" leaves 5 "$put_2" 0 limited
+check "a limit that would end the program" limit_is_kept
 check "standard output is full" leaves 5 "afdx: device write" 2 redirected ">/dev/full"
 check "standard output is closed" leaves 5 "afdx: device write" 2 redirected ">&-"
 check "standard input and error are closed" leaves 0 "" 2 redirected "<&- 2>&-"
 check "all three are closed" leaves 5 "" 2 redirected "<&- >&- 2>&-"
 
-check "each open fails in turn" each_fails open 2
+check "each open fails in turn" each_fails open 6
 check "each write fails in turn" each_fails write 6
 check "each sync fails in turn" each_fails fsync 2
 check "each rename fails in turn" each_fails rename 2
@@ -297,4 +377,8 @@ check "each read of alone is interrupted" interrupted "afdx: device read" alone 
 check "each read of check is interrupted" interrupted "afdx: device get table.toml" check table.toml
 check "each read of run is interrupted" interrupted "afdx: device get table.toml" run table.toml in out
 check "the program is ended at each call in turn" each_kill
+check "another run puts into OUT" another_puts
+check "another run has the new file" another_writes
+check "two runs at once" two_runs
+check "a stack of 128 KiB" leaves 0 "" 2 bash -c 'ulimit -s 128 && exec "$@"' -
 finish

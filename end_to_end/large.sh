@@ -1,7 +1,6 @@
 #!/usr/bin/env bash
-# Captures of 128 MiB and more in all, which a run reads in pieces as it does small ones, and some of 26 MB, which it reads whole: what
-# goes out is what goes out without the frames that make them large, in a fraction of their memory; and if they have faults, the one
-# of the lowest port is named, and nothing is put.
+# Captures of 26 MB, 136 MB and 1.2 GB: what goes out is what goes out without the frames that make them large, in a fraction of their memory;
+# and if they have faults, the one of the lowest port is named, and nothing is put, also if the memory is less than the capture.
 . "$(dirname "$0")/common.sh"
 install text2pcap=wireshark-common python3=python3
 export PYTHONDONTWRITEBYTECODE=1
@@ -35,7 +34,7 @@ names_fault() {
 
 check "a run over small captures" "$afdx" run table.toml small wanted
 check "captures of 26 MB" eval 'cp small/* middle && enlarge middle/port-1.pcap 100 && "$afdx" run table.toml middle out && diff -r wanted out'
-check "the captures are made large" eval 'cp small/* in && enlarge in/port-1.pcap 520 && [ "$(stat -c %s in/port-1.pcap)" -ge 134217728 ]'
+check "the captures are made large" eval 'cp small/* in && enlarge in/port-1.pcap 520 && [ "$(stat -c %s in/port-1.pcap)" -ge 130000000 ]'
 check "a run over large captures takes less than 40 MB" runs_in 40 in
 check "it puts what goes out without those frames" diff -r wanted out
 cp in/port-1.pcap cut && truncate -s -1 cut/port-1.pcap && head -c 99 small/port-2.pcap >cut/port-2.pcap
@@ -43,6 +42,8 @@ check "of two faults the lowest port's is named, though the other is met first" 
     names_fault "afdx: capture P11 CutData, port 1, record 524" cut
 cp in/port-1.pcap cut
 check "and the other port's, where it is the only one" names_fault "afdx: capture P11 CutData, port 2, record 1" cut
+mkdir long && cp small/* long && enlarge long/port-1.pcap 4600 && truncate -s -5 long/port-1.pcap
+check "the fault at the end of 1.2 GB is named in 300 MB" eval '(ulimit -v 307200; names_fault "afdx: capture P11 CutData, port 1, record 4604" long)'
 rm -rf in cut
 check "a run in pieces of twice as many frames takes no more memory" python3 "$top/bench/memory.py" "$afdx"
 finish

@@ -12,10 +12,10 @@ refused() {
     ends "$1" "$2" /dev/null "${@:3}" && [ -z "$(ls out)" ]
 }
 
-# fails_in_the_second: where the second capture cannot be written, the first one is there and no report is printed.
+# fails_in_the_second: where the second capture cannot be put, the first one is not put either and no report is printed.
 fails_in_the_second() {
     rm -rf out && mkdir -p out/port-2.pcap
-    ends 5 "afdx: device put out/port-2.pcap" /dev/null run table.toml in out --unchecked && [ -s out/port-1.pcap ]
+    ends 5 "afdx: device put out/port-2.pcap" /dev/null run table.toml in out --unchecked && [ "$(ls out)" = port-2.pcap ]
 }
 
 # fills_the_disk: where the report cannot be written, the captures are there.

@@ -24,7 +24,7 @@ fn arguments(rt: &HostRuntime) -> Result<Vec<String>, Failure> {
 
 fn main(rt: HostRuntime) -> ExitCode {
     let mut err = rt.stderr();
-    let status = match arguments(&rt) {
+    let ending = match arguments(&rt) {
         Ok(arguments) => serve(
             rt.alloc(),
             &arguments,
@@ -35,5 +35,5 @@ fn main(rt: HostRuntime) -> ExitCode {
         ),
         Err(failure) => report(rt.alloc(), &failure, &mut err),
     };
-    ExitCode::from(status)
+    ExitCode::from(ending.status)
 }

@@ -1,5 +1,5 @@
 -- A folder's files, where it shows them, and its failures.
-use Rattle.std.specs.Prelude.{◌≡◌, ◌⊎◌, ◌+◌, ◌-◌, ◌^◌, min, ℕ, List, ◌∷◌, false, Option, Some, None, Result, MatchResult, map, ⊤, if◌then◌else◌}
+use Rattle.std.specs.Prelude.{◌≡◌, ◌⊎◌, ◌+◌, ◌-◌, ◌^◌, min, ℕ, zero, suc, List, ◌∷◌, false, Option, Some, None, Result, MatchResult, map, ⊤, if◌then◌else◌}
 use Rattle.std.specs.Str.{bytes_eq}
 use Rattle.afdx_devices.specs.declared.folder.FolderFault.{FolderFault}
 use Rattle.afdx_devices.specs.declared.folder.FolderFault.TheVariants.{Memory, Device}
@@ -57,16 +57,27 @@ PutsFiles None new names all = ⊤
 PutsFiles (Some f) None names all = ⊥
 PutsFiles (Some f) (Some g) names all = (q : List ℕ) → g q ≡ with_files f names all q
 
--- ---- failures
+-- ---- failures, and new files that the device has
 
--- how often a folder failed, as far as a count of 64 bits goes, and the name that the last failure was for
+-- how often a folder failed, and how many new files its device has taken, as far as counts of 64 bits go; and the name that the
+-- last failure was for
 pub record DeviceLog : Type 0 where
   pub count : ℕ
   pub last : Option (List ℕ)
+  pub settled : ℕ
 
 -- one more failure, for this name
 abbrev pub one_more : List ℕ → DeviceLog → DeviceLog
-one_more name before = record { count = min (before.count + 1) (2 ^ 64 - 1); last = Some name }
+one_more name before = record { count = min (before.count + 1) (2 ^ 64 - 1); last = Some name; settled = before.settled }
+
+-- one more new file that the device has taken
+abbrev pub one_settled : DeviceLog → DeviceLog
+one_settled before = record { count = before.count; last = before.last; settled = min (before.settled + 1) (2 ^ 64 - 1) }
+
+-- so many more
+abbrev pub settled_after : ℕ → DeviceLog → DeviceLog
+settled_after zero before = before
+settled_after (suc n) before = one_settled (settled_after n before)
 
 -- a fault of the device is counted and its name is kept, and nothing else is
 abbrev pub IsCause : FolderFault → List ℕ → DeviceLog → DeviceLog → Type 0
@@ -74,3 +85,7 @@ IsCause fault name before now = ((fault ≡ Memory) × (now ≡ before)) ⊎ ((f
 
 abbrev pub HasCause : {T : Type 0} → List ℕ → DeviceLog → DeviceLog → Result T FolderFault → Type 0
 HasCause name before now r = MatchResult r (λ _. now ≡ before) (λ fault. IsCause fault name before now)
+
+-- a new file that was taken is counted; where it was not, the fault is
+abbrev pub HasSettled : {T : Type 0} → List ℕ → DeviceLog → DeviceLog → Result T FolderFault → Type 0
+HasSettled name before now r = MatchResult r (λ _. now ≡ one_settled before) (λ fault. IsCause fault name before now)

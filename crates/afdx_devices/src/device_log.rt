@@ -1,18 +1,20 @@
-//! A folder's failures.
+//! A folder's failures, and how many new files its device has.
 
 ghost use Rattle.std.specs.Prelude.{◌≡◌, None, option_map, string_bytes};
-ghost use Rattle.afdx_devices.specs.Files.{IsCause};
+ghost use Rattle.afdx_devices.specs.Files.{IsCause, one_settled};
 
 use crate::folder::FolderFault;
 use std::alloc::Allocator;
 use std::marker::Model;
 
-/// How often a folder failed, as far as 64 bits go, and the name that the last failure was for.
+/// How often a folder failed, and how many new files its device has taken, as far as 64 bits go; and the name that the last failure
+/// was for.
 #[derive(Debug, Drop)]
 pub struct DeviceLog<A: Allocator> {
     alloc: A,
     count: u64,
     last: Option<String<A>>,
+    settled: u64,
 }
 
 impl<A: Allocator> Model for DeviceLog<A> {
@@ -21,18 +23,19 @@ impl<A: Allocator> Model for DeviceLog<A> {
 
     ghost Value = { Seen };
 
-    ghost view = { λ log. record { count = log.count; last = option_map string_bytes log.last } };
+    ghost view = { λ log. record { count = log.count; last = option_map string_bytes log.last; settled = log.settled } };
 }
 
 impl<A: Allocator + Copy> DeviceLog<A> {
-    /// No failure so far. O(1).
+    /// No failure and no new file so far. O(1).
     pub fn new(alloc: A) -> DeviceLog<A>
-        ensures { result ≡ record { count = 0; last = None } }
+        ensures { result ≡ record { count = 0; last = None; settled = 0 } }
     {
         DeviceLog {
             alloc,
             count: 0,
             last: None,
+            settled: 0,
         }
     }
 
@@ -47,6 +50,13 @@ impl<A: Allocator + Copy> DeviceLog<A> {
         self.count = self.count.saturating_add(1);
         self.last = Some(name);
         FolderFault::Device
+    }
+
+    /// Counts a new file that the device has taken. O(1).
+    pub fn note_settled(&mut self)
+        ensures { self.new ≡ one_settled self.old }
+    {
+        self.settled = self.settled.saturating_add(1);
     }
 
     /// The count of failures, which stays at its greatest value. O(1).

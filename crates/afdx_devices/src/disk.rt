@@ -2,7 +2,9 @@
 
 ghost use Rattle.std.specs.Prelude.{◌≡◌, None};
 
+use crate::claims::{Claim, Claims};
 use crate::device_log::DeviceLog;
+use crate::file_id::FileId;
 use crate::folder::{Folder, FolderFault};
 use crate::input::read_to_end;
 use crate::new_file::NewFile;
@@ -10,51 +12,61 @@ use crate::output::WriteFault;
 use crate::whole_file::WholeFile;
 use std::alloc::{AllocError, Allocator};
 use std::fs;
-use std::fs::{Metadata, OpenFile};
+use std::fs::{File, OpenFile, OpenOptions};
 use std::io::ErrorKind;
-use std::os::unix::fs::MetadataExt;
 use std::rt::Files;
-
-/// Which file of the system it is, by whatever name or link: the number of its device, and its own there.
-#[derive(Clone, Copy, PartialEq, Eq)]
-struct FileId {
-    device: u64,
-    number: u64,
-}
-
-impl FileId {
-    fn of(metadata: &Metadata) -> FileId {
-        FileId {
-            device: metadata.dev(),
-            number: metadata.ino(),
-        }
-    }
-}
 
 /// The files of the system, by their paths. It does not show their bytes.
 ///
 /// A put never harms a file: it replaces a file as a whole or leaves it as it is, and it fails where the name leads to a
 /// file that was got, to one that may not be written, or to what is no file. No new file is made beside such a name; that it
-/// is none is asked once more before the move.
+/// is none is asked once more when the new file is settled. From then on until the last of the settled files is put or let go this
+/// run has the locks of their folders; where another one has one of these, the new file is not settled.
 #[derive(Drop)]
 pub struct Disk<'a, R: Files, A: Allocator> {
     rt: &'a R,
     alloc: A,
     got: Vec<FileId, A>,
+    claims: Claims<A>,
     log: DeviceLog<A>,
 }
 
 impl<'a, R: Files, A: Allocator + Copy> Disk<'a, R, A> {
     /// The files of this system, of which none was got and which has not failed so far. O(1).
     pub fn new(alloc: A, rt: &'a R) -> Disk<'a, R, A>
-        ensures { result.log ≡ record { count = 0; last = None } }
+        ensures { result.log ≡ record { count = 0; last = None; settled = 0 } }
     {
         Disk {
             rt,
             alloc,
             got: Vec::new(alloc),
+            claims: Claims::new(alloc),
             log: DeviceLog::new(alloc),
         }
+    }
+}
+
+impl<R: Files<File = File>, A: Allocator + Copy> Disk<'_, R, A> {
+    /// A new file that the device has taken; or none, and it is removed, where something of it failed, it may not be put, or another
+    /// run puts into its folder. What killed runs have left beside its name is removed.
+    fn settled(&mut self, new: WholeFile<A>, name: &str) -> Result<Option<WholeFile<A>>, AllocError>
+        ensures { self.new.log ≡ self.old.log }
+    {
+        let claim = match self.claims.take(self.rt, name) {
+            Ok(claim) => claim,
+            Err(refused) => {
+                new.remove(self.rt);
+                return Err(refused);
+            }
+        };
+        if claim == Claim::Other || !may_be_put(self.rt, name, &self.got) {
+            new.remove(self.rt);
+            return Ok(None);
+        }
+        if claim == Claim::Own {
+            new.remove_others(self.rt, self.alloc, name);
+        }
+        Ok(new.settle(self.rt).ok())
     }
 }
 
@@ -74,37 +86,38 @@ fn read_file<R: Files, A: Allocator + Copy>(
     Ok((FileId::of(&metadata), bytes))
 }
 
-/// The regular file under a name, and which it is. What is not there, is none or cannot be opened is none; a pipe is not touched.
-fn open_file<R: Files>(rt: &R, name: &str) -> Option<(FileId, R::File)> {
-    let Ok(there) = fs::metadata(rt, name) else {
-        return None;
-    };
-    if !there.is_file() {
-        return None;
-    }
+/// The file under a name, and which it is. What is not there, is a folder or cannot be opened is a fault.
+fn open_file<R: Files>(rt: &R, name: &str) -> Result<(FileId, R::File), FolderFault> {
     let Ok(file) = fs::open(rt, name) else {
-        return None;
+        return Err(FolderFault::Device);
     };
     match file.metadata() {
-        Ok(metadata) if metadata.is_file() => Some((FileId::of(&metadata), file)),
-        _ => None,
+        Ok(metadata) if !metadata.is_dir() => Ok((FileId::of(&metadata), file)),
+        _ => Err(FolderFault::Device),
     }
 }
 
-/// Whether a name may be put: nothing is there, or a file that may be written and is none of these.
+/// Whether this process may write a file; nothing is written.
+fn may_be_written<R: Files>(rt: &R, name: &str) -> bool {
+    OpenOptions::new().write(true).open(rt, name).is_ok()
+}
+
+/// Whether a name may be put: nothing is there, or a file that is none of these, whose mode lets somebody write it and which this
+/// process may write.
 fn may_be_put<R: Files>(rt: &R, name: &str, got: &[FileId]) -> bool {
     match fs::metadata(rt, name) {
         Ok(metadata) => {
             metadata.is_file()
                 && !metadata.permissions().readonly()
                 && !got.contains(&FileId::of(&metadata))
+                && may_be_written(rt, name)
         }
         Err(e) => e.kind() == ErrorKind::NotFound,
     }
 }
 
-impl<R: Files, A: Allocator + Copy> Folder for Disk<'_, R, A> {
-    type New = WholeFile<R, A>;
+impl<R: Files<File = File>, A: Allocator + Copy> Folder for Disk<'_, R, A> {
+    type New = WholeFile<A>;
 
     type Opened = R::File;
 
@@ -125,19 +138,19 @@ impl<R: Files, A: Allocator + Copy> Folder for Disk<'_, R, A> {
         }
     }
 
-    fn length(&self, name: &str) -> Option<u64> {
-        match fs::metadata(self.rt, name) {
-            Ok(metadata) if metadata.is_file() => Some(metadata.len()),
-            _ => None,
+    fn open(&mut self, name: &str) -> Result<R::File, FolderFault> {
+        match open_file(self.rt, name) {
+            Ok((id, file)) => {
+                self.got.push(id)?;
+                Ok(file)
+            }
+            Err(FolderFault::Memory) => Err(FolderFault::Memory),
+            Err(FolderFault::Device) => Err(self.log.note(name)),
         }
     }
 
-    fn open(&mut self, name: &str) -> Result<Option<R::File>, AllocError> {
-        let Some((id, file)) = open_file(self.rt, name) else {
-            return Ok(None);
-        };
-        self.got.push(id)?;
-        Ok(Some(file))
+    fn note_unread(&mut self, name: &str) -> FolderFault {
+        self.log.note(name)
     }
 
     fn put<B: Allocator + Copy>(
@@ -151,23 +164,50 @@ impl<R: Files, A: Allocator + Copy> Folder for Disk<'_, R, A> {
         self.put_new(new, name)
     }
 
-    fn begin(&mut self, name: &str) -> Result<WholeFile<R, A>, AllocError> {
+    fn begin(&mut self, name: &str) -> Result<WholeFile<A>, AllocError> {
         if !may_be_put(self.rt, name, &self.got) {
             return Ok(WholeFile::failed());
         }
         WholeFile::beside(self.rt, self.alloc, name)
     }
 
-    fn put_new(&mut self, new: WholeFile<R, A>, name: &str) -> Result<(), FolderFault> {
-        let may_be = may_be_put(self.rt, name, &self.got);
-        match new.put(self.rt, name, may_be) {
+    fn settle(&mut self, new: WholeFile<A>, name: &str) -> Result<WholeFile<A>, FolderFault> {
+        match self.settled(new, name)? {
+            Some(new) => {
+                self.claims.wait();
+                self.log.note_settled();
+                Ok(new)
+            }
+            None => {
+                self.claims.end();
+                Err(self.log.note(name))
+            }
+        }
+    }
+
+    fn put_new(&mut self, new: WholeFile<A>, name: &str) -> Result<(), FolderFault> {
+        let is_settled = new.is_settled();
+        let put = if is_settled || may_be_put(self.rt, name, &self.got) {
+            new.put(self.rt, name)
+        } else {
+            new.remove(self.rt);
+            Err(WriteFault)
+        };
+        if is_settled {
+            self.claims.done();
+        }
+        match put {
             Ok(()) => Ok(()),
             Err(WriteFault) => Err(self.log.note(name)),
         }
     }
 
-    fn abandon(&mut self, new: WholeFile<R, A>) {
+    fn abandon(&mut self, new: WholeFile<A>) {
+        let is_settled = new.is_settled();
         new.remove(self.rt);
+        if is_settled {
+            self.claims.done();
+        }
     }
 
     fn failures(&self) -> u64 {

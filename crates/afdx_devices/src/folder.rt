@@ -1,7 +1,7 @@
 //! A folder of files.
 
 ghost use Rattle.std.specs.Prelude.{◌≡◌, [], Option, Some, None, IfOk, IfSome, OnOk};
-ghost use Rattle.afdx_devices.specs.Files.{Files, DeviceLog, Shows, IsOpened, KeepsFiles, PutsFile, KeepsOthers, HasCause};
+ghost use Rattle.afdx_devices.specs.Files.{Files, DeviceLog, Shows, IsOpened, KeepsFiles, PutsFile, KeepsOthers, IsCause, HasCause, HasSettled};
 
 use crate::input::InputFault;
 use crate::new_file::NewFile;
@@ -53,7 +53,8 @@ impl From<InputFault> for FolderFault {
     }
 }
 
-/// A folder, by the bytes that are under each name. It counts its failures, and keeps the name of the last one.
+/// A folder, by the bytes that are under each name. It counts its failures and the new files that its device has taken, and keeps
+/// the name of the last failure.
 pub trait Folder {
     /// A file that is written in parts, before it is put.
     type New: NewFile + Drop;
@@ -63,7 +64,8 @@ pub trait Folder {
 
     /// The files, where it shows them.
     ghost files: { Self → Option Files } = { λ _. None };
-    /// How often it has failed, as far as 64 bits go, and the name that the last of these calls was for.
+    /// How often it has failed and how many new files it has settled, as far as 64 bits go; and the name that the last call that
+    /// failed was for.
     ghost failed: { Self → DeviceLog };
 
     /// The bytes that are under a name.
@@ -78,18 +80,22 @@ pub trait Folder {
         ensures same { KeepsFiles (files self.old) (files self.new) }
         ensures cause { HasCause name.now (failed self.old) (failed self.new) result };
 
-    /// How many bytes the file under a name has, where it is known before the file is read. It is for speed alone, so that no
-    /// contract speaks of it. O(name).
-    fn length(&self, name: &str) -> Option<u64>;
-
-    /// The file under a name, to be read in pieces, where it is one that can be got afterwards as well; none where it is not there,
-    /// is no such file (as a pipe is none) or was not opened. No failure is counted. An error is out of memory.
+    /// The file under a name, to be read in pieces, once. A pipe is opened as well, which waits for whoever writes into it.
+    ///
+    /// # Errors
+    ///
+    /// `Memory` where memory ran out; `Device`, counted, where it was not opened; a file that is not there is such a failure.
     ///
     /// O(name).
-    fn open(&mut self, name: &str) -> Result<Option<Self::Opened>, AllocError>
-        ensures bytes { IfOk result (λ found. IfSome found (λ file. IsOpened (files self.old) name.now (Self.Opened.remaining file))) }
+    fn open(&mut self, name: &str) -> Result<Self::Opened, FolderFault>
+        ensures bytes { IfOk result (λ file. IsOpened (files self.old) name.now (Self.Opened.remaining file)) }
         ensures same { KeepsFiles (files self.old) (files self.new) }
-        ensures failed { failed self.new ≡ failed self.old };
+        ensures cause { HasCause name.now (failed self.old) (failed self.new) result };
+
+    /// Counts that what was opened under a name could not be read, and gives it as a fault. O(name).
+    fn note_unread(&mut self, name: &str) -> FolderFault
+        ensures same { KeepsFiles (files self.old) (files self.new) }
+        ensures cause { IsCause result name.now (failed self.old) (failed self.new) };
 
     /// Puts bytes under a name, in place of what is there. After an error nothing is said of what is there.
     ///
@@ -109,13 +115,27 @@ pub trait Folder {
         ensures cause { HasCause name.now (failed self.old) (failed self.new) result };
 
     /// A new file of no bytes, to be put under a name. Nothing else changes, and a failure of the device is answered when it is
-    /// put. An error is out of memory.
+    /// settled or put. An error is out of memory.
     ///
     /// O(name).
     fn begin(&mut self, name: &str) -> Result<Self::New, AllocError>
         ensures bytes { IfOk result (λ new. IfSome (files self.old) (λ _. Self.New.contents new ≡ Some [])) }
         ensures same { KeepsFiles (files self.old) (files self.new) }
         ensures failed { failed self.new ≡ failed self.old };
+
+    /// Has the device take a new file that is to be put under the name that it was begun for, and says what has failed of it so far.
+    /// Nothing that is under a name changes. After an error the new file is gone.
+    ///
+    /// # Errors
+    ///
+    /// `Memory` where memory ran out; `Device`, counted, where the device failed since the file was begun, or it is known that the
+    /// file cannot be put.
+    ///
+    /// O(bytes).
+    fn settle(&mut self, new: Self::New, name: &str) -> Result<Self::New, FolderFault>
+        ensures bytes { IfOk result (λ settled. Self.New.contents settled ≡ Self.New.contents new) }
+        ensures same { KeepsFiles (files self.old) (files self.new) }
+        ensures cause { HasSettled name.now (failed self.old) (failed self.new) result };
 
     /// Puts a new file under the name that it was begun for, in place of what is there. After an error it is gone, and nothing
     /// is said of what is there.

@@ -1,15 +1,18 @@
 //! Readers, writers and folders of files, with what is known of them where they fail.
 //!
 //! [`read_to_end`] and [`write_bytes`] make a bounded number of calls and try none again. A [`Folder`] names which file it
-//! failed for at last; [`Disk`] is the one of real files. A file is put as a whole, or as a [`NewFile`] that was written in parts.
+//! failed for at last; [`Disk`] is the one of real files. A file is put as a whole, as a [`NewFile`] that was written in parts.
 #![tactic(auto)]
 
+mod claims;
 mod device_log;
 mod disk;
+mod file_id;
 mod folder;
 mod input;
 mod new_file;
 mod output;
+mod size_limit;
 mod whole_file;
 
 pub use device_log::DeviceLog;

@@ -1,27 +1,52 @@
 //! A file that is put as a whole or not at all.
 
+use crate::file_id::is_under;
 use crate::folder::FolderFault;
 use crate::new_file::NewFile;
 use crate::output::{WriteFault, write_bytes};
+use crate::size_limit::greatest_size;
 use std::alloc::{AllocError, Allocator};
 use std::fs;
-use std::fs::{File, OpenFile};
+use std::fs::{File, Metadata, OpenFile, TryLockError};
 use std::io::ErrorKind;
+use std::os::unix::fs::{MetadataExt, lchown};
 use std::rt::Files;
 
 /// How many names are tried for a new file (profile).
 const NAMES: u8 = 100;
 
+/// The name of a new file beside this name.
+fn name_beside<A: Allocator + Copy>(
+    alloc: A,
+    name: &str,
+    number: u8,
+) -> Result<String<A>, AllocError> {
+    format!(in alloc; "{name}.new-{number}")
+}
+
+/// Takes the lock of a new file, by which others know that it is in use. False where it was taken for one of a killed run before.
+fn hold<R: Files<File = File>>(rt: &R, file: &File, beside: &str) -> bool {
+    match file.try_lock() {
+        Ok(()) => is_under(rt, file, beside),
+        Err(TryLockError::WouldBlock) => false,
+        Err(TryLockError::Error(_)) => true,
+    }
+}
+
 /// Makes a new file beside this name, and gives its name: `.new-0`, or the next number of which there is no file, is added.
-fn create_beside<R: Files, A: Allocator + Copy>(
+fn create_beside<R: Files<File = File>, A: Allocator + Copy>(
     rt: &R,
     alloc: A,
     name: &str,
-) -> Result<(R::File, String<A>), FolderFault> {
+) -> Result<(File, String<A>), FolderFault> {
     for number in 0..NAMES {
-        let beside = format!(in alloc; "{name}.new-{number}")?;
+        let beside = name_beside(alloc, name, number)?;
         match File::create_new(rt, beside.as_str()) {
-            Ok(file) => return Ok((file, beside)),
+            Ok(file) => {
+                if hold(rt, &file, &beside) {
+                    return Ok((file, beside));
+                }
+            }
             Err(e) if e.kind() == ErrorKind::AlreadyExists => {}
             Err(_) => return Err(FolderFault::Device),
         }
@@ -29,19 +54,57 @@ fn create_beside<R: Files, A: Allocator + Copy>(
     Err(FolderFault::Device)
 }
 
-/// Waits until the device has what was written, and moves the file onto a name.
-fn finish<R: Files>(rt: &R, file: &R::File, beside: &str, name: &str) -> Result<(), WriteFault> {
-    if file.sync_all().is_err() || fs::rename(rt, beside, name).is_err() {
-        return Err(WriteFault);
+/// Removes a file if no run holds it, and says whether there was one. What is no file, and a link, stay.
+fn remove_left<R: Files<File = File>>(rt: &R, beside: &str) -> bool {
+    let Ok(there) = fs::symlink_metadata(rt, beside) else {
+        return false;
+    };
+    if !there.is_file() {
+        return true;
     }
-    Ok(())
+    if let Ok(file) = File::open(rt, beside) {
+        // The lock is held until the file is removed: its maker may not have taken it yet.
+        if file.try_lock().is_ok() && is_under(rt, &file, beside) {
+            let _ = fs::remove_file(rt, beside);
+        }
+    }
+    true
 }
 
-/// A file that was made, and its name.
+/// Gives a new file the mode, the group and the owner of the one that it is to replace, as far as the system lets it.
+fn keep_attributes<R: Files<File = File>>(rt: &R, file: &File, beside: &str, older: &Metadata) {
+    let _ = lchown(rt, beside, None, Some(older.gid()));
+    let _ = lchown(rt, beside, Some(older.uid()), None);
+    let _ = file.set_permissions(older.permissions());
+}
+
+/// A file that was made, its name, and how many more bytes it may have. It is open until the device has taken it.
 #[derive(Drop)]
-struct Made<R: Files, A: Allocator> {
-    file: R::File,
+struct Made<A: Allocator> {
+    file: Option<File>,
     beside: String<A>,
+    room: u64,
+}
+
+impl<A: Allocator> Made<A> {
+    fn append(&mut self, bytes: &[u8]) -> Result<(), WriteFault> {
+        let Some(room) = self.room.checked_sub(bytes.len() as u64) else {
+            return Err(WriteFault);
+        };
+        self.room = room;
+        match &mut self.file {
+            Some(file) => write_bytes(file, bytes),
+            None => Err(WriteFault),
+        }
+    }
+
+    /// Waits until the device has what was written, and closes the file.
+    fn settle(&mut self) -> Result<(), WriteFault> {
+        match self.file.take() {
+            Some(file) => file.sync_all().map_err(|_| WriteFault),
+            None => Ok(()),
+        }
+    }
 }
 
 /// A new file beside the name onto which it is moved at the end, or that one of these steps failed. It does not show its bytes.
@@ -49,14 +112,14 @@ struct Made<R: Files, A: Allocator> {
 /// Where a step fails, what is under the name is as it was, and the new file is removed where that can be done. One that is
 /// dropped, and neither put nor removed, stays.
 #[derive(Drop)]
-pub struct WholeFile<R: Files, A: Allocator> {
-    made: Option<Made<R, A>>,
+pub struct WholeFile<A: Allocator> {
+    made: Option<Made<A>>,
     has_failed: bool,
 }
 
-impl<R: Files, A: Allocator + Copy> WholeFile<R, A> {
+impl<A: Allocator + Copy> WholeFile<A> {
     /// That it could not be made.
-    pub(crate) fn failed() -> WholeFile<R, A> {
+    pub(crate) fn failed() -> WholeFile<A> {
         WholeFile {
             made: None,
             has_failed: true,
@@ -64,45 +127,97 @@ impl<R: Files, A: Allocator + Copy> WholeFile<R, A> {
     }
 
     /// A file of no bytes beside this name, whose folder is not made; or that it could not be made.
-    pub(crate) fn beside(rt: &R, alloc: A, name: &str) -> Result<WholeFile<R, A>, AllocError> {
+    pub(crate) fn beside<R: Files<File = File>>(
+        rt: &R,
+        alloc: A,
+        name: &str,
+    ) -> Result<WholeFile<A>, AllocError> {
+        let room = greatest_size(rt, alloc)?;
         match create_beside(rt, alloc, name) {
-            Ok((file, beside)) => Ok(WholeFile {
-                made: Some(Made { file, beside }),
-                has_failed: false,
-            }),
+            Ok((file, beside)) => {
+                if let Ok(older) = fs::symlink_metadata(rt, name) {
+                    if older.is_file() {
+                        keep_attributes(rt, &file, &beside, &older);
+                    }
+                }
+                Ok(WholeFile {
+                    made: Some(Made {
+                        file: Some(file),
+                        beside,
+                        room,
+                    }),
+                    has_failed: false,
+                })
+            }
             Err(FolderFault::Memory) => Err(AllocError),
             Err(FolderFault::Device) => Ok(WholeFile::failed()),
         }
     }
 
-    /// Moves it onto a name once the device has its bytes, if it may be put there.
-    pub(crate) fn put(self, rt: &R, name: &str, may_be: bool) -> Result<(), WriteFault> {
-        let WholeFile { made, has_failed } = self;
-        let Some(made) = made else {
-            return Err(WriteFault);
-        };
-        if may_be && !has_failed && finish(rt, &made.file, &made.beside, name).is_ok() {
-            return Ok(());
+    /// Whether the device has taken it.
+    pub(crate) fn is_settled(&self) -> bool {
+        match &self.made {
+            Some(made) => made.file.is_none(),
+            None => false,
         }
-        let _ = fs::remove_file(rt, made.beside.as_str());
+    }
+
+    /// Has the device take its bytes; where that fails, or something failed before, it is removed.
+    pub(crate) fn settle<R: Files<File = File>>(
+        mut self,
+        rt: &R,
+    ) -> Result<WholeFile<A>, WriteFault> {
+        if let Some(made) = &mut self.made {
+            if !self.has_failed && made.settle().is_ok() {
+                return Ok(self);
+            }
+        }
+        self.remove(rt);
+        Err(WriteFault)
+    }
+
+    /// Removes the files beside this name that killed runs have left, its own not.
+    pub(crate) fn remove_others<R: Files<File = File>>(&self, rt: &R, alloc: A, name: &str) {
+        let Some(made) = &self.made else {
+            return;
+        };
+        for number in 0..NAMES {
+            let Ok(beside) = name_beside(alloc, name, number) else {
+                return;
+            };
+            if beside != made.beside && !remove_left(rt, &beside) {
+                return;
+            }
+        }
+    }
+
+    /// Moves it onto a name once the device has its bytes; where that fails it is removed.
+    pub(crate) fn put<R: Files<File = File>>(self, rt: &R, name: &str) -> Result<(), WriteFault> {
+        let settled = self.settle(rt)?;
+        if let Some(made) = &settled.made {
+            if fs::rename(rt, made.beside.as_str(), name).is_ok() {
+                return Ok(());
+            }
+        }
+        settled.remove(rt);
         Err(WriteFault)
     }
 
     /// Removes it.
-    pub(crate) fn remove(self, rt: &R) {
+    pub(crate) fn remove<R: Files<File = File>>(self, rt: &R) {
         if let Some(made) = self.made {
             let _ = fs::remove_file(rt, made.beside.as_str());
         }
     }
 }
 
-impl<R: Files, A: Allocator> NewFile for WholeFile<R, A> {
+impl<A: Allocator> NewFile for WholeFile<A> {
     fn append(&mut self, bytes: &[u8]) -> Result<(), AllocError> {
         if self.has_failed {
             return Ok(());
         }
         if let Some(made) = &mut self.made {
-            self.has_failed = write_bytes(&mut made.file, bytes).is_err();
+            self.has_failed = made.append(bytes).is_err();
         }
         Ok(())
     }

@@ -1,16 +1,15 @@
 -- Which failure is reported.
-use Rattle.std.proofs.Common.{◌≡◌, ℕ, List, Option, Result, Ok, Err, Global, String, string_bytes, refl, subst, ◌∙◌, inl, inr}
+use Rattle.std.proofs.Common.{◌≡◌, ℕ, Bool, List, Option, Result, Ok, Err, Global, String, string_bytes, refl, subst, ◌∙◌, inl, inr}
 use Rattle.std.specs.Prelude.{IfOk, MatchResult}
 use Rattle.afdx_failures.specs.declared.failure.Failure.{Failure}
 use Rattle.afdx_failures.specs.declared.failure.Failure.TheVariants.{Memory}
-use Rattle.afdx_failures.specs.Reporting.{IsMade, ReportsAs, line_of, memory_line, status_of}
-use Rattle.afdx_devices.specs.Output.{AppendsPrefix}
+use Rattle.afdx_failures.specs.Reporting.{IsMade, ReportsAs, IsTold, line_of, memory_line, status_of}
 
 -- of a failure with a line that is made: the failure, or memory
-pub made : {E : Type 0} (f : Failure) (line : Result (String Global) E) (status result : ℕ) (old new : Option (List ℕ)) → IsMade f
+pub made : {E : Type 0} (f : Failure) (line : Result (String Global) E) (status result : ℕ) (told : Bool) (old new : Option (List ℕ)) → IsMade f
     → IfOk line (λ text. string_bytes text ≡ line_of f) → status ≡ status_of f
-    → MatchResult line (λ text. (result ≡ status) × AppendsPrefix old new (string_bytes text)) (λ _. (result ≡ 5) × AppendsPrefix old new memory_line)
-    → (reported : Failure) × ReportsAs f reported × (result ≡ status_of reported) × AppendsPrefix old new (line_of reported)
-made f (Ok text) status result old new is_made is_line is_status h =
-    (f, inl refl, h.0 ∙ is_status, subst (λ (bytes : List ℕ). AppendsPrefix old new bytes) is_line h.1)
-made f (Err e) status result old new is_made is_line is_status h = (Memory, inr (is_made, refl), h.0, h.1)
+    → MatchResult line (λ text. (result ≡ status) × IsTold told old new (string_bytes text)) (λ _. (result ≡ 5) × IsTold told old new memory_line)
+    → (reported : Failure) × ReportsAs f reported × (result ≡ status_of reported) × IsTold told old new (line_of reported)
+made f (Ok text) status result told old new is_made is_line is_status h =
+    (f, inl refl, h.0 ∙ is_status, subst (λ (bytes : List ℕ). IsTold told old new bytes) is_line h.1)
+made f (Err e) status result told old new is_made is_line is_status h = (Memory, inr (is_made, refl), h.0, h.1)

@@ -1,8 +1,10 @@
 -- The line and the status of any failure (profile).
-use Rattle.std.specs.Prelude.{◌≡◌, ◌⊎◌, ℕ, codes, List, ◌++◌, Some, None, string_bytes}
+use Rattle.std.specs.Prelude.{◌≡◌, ◌⊎◌, ℕ, Bool, true, false, codes, List, ◌++◌, Option, Some, None, string_bytes}
+use Rattle.std.specs.Io.KnownBytes.{Appends}
 use Rattle.afdx_failures.specs.declared.failure.Failure.{Failure}
 use Rattle.afdx_failures.specs.declared.failure.Failure.TheVariants as failure
 use Rattle.afdx_wiring.specs.Lines.{as_line}
+use Rattle.afdx_devices.specs.Output.{AppendsPrefix}
 use Rattle.afdx_lines.specs.Lines.{memory_text, table_line, capture_line, load_line, network_failure_line, network_status}
 
 abbrev pub memory_line : List ℕ
@@ -41,3 +43,8 @@ IsMade _ = Unit {0}
 -- the failure that is reported: this one; or memory, where that ran out for its line
 abbrev pub ReportsAs : Failure → Failure → Type 0
 ReportsAs f reported = (reported ≡ f) ⊎ (IsMade f × (reported ≡ failure.Memory))
+
+-- the line was written whole; or that is not said, and some prefix of it was
+abbrev pub IsTold : Bool → Option (List ℕ) → Option (List ℕ) → List ℕ → Type 0
+IsTold true old new line = Appends old new line
+IsTold false old new line = AppendsPrefix old new line

@@ -1,10 +1,10 @@
 //! Why a command was not served, and what is reported of it.
 //!
-//! [`report`] writes the line of a [`Failure`] and gives its status.
+//! [`report`] writes the line of a [`Failure`] and gives its status, and whether the line went out whole.
 #![tactic(auto)]
 
 mod failure;
 mod reporting;
 
 pub use failure::Failure;
-pub use reporting::report;
+pub use reporting::{Ending, report};

@@ -2,9 +2,8 @@
 
 ghost use Rattle.std.specs.Prelude.{◌≡◌, ◌≤◌, ◌++◌, codes, string_bytes, IfOk, MatchResult};
 ghost use Rattle.afdx_failures.specs.declared.failure.Failure.{Failure as Failing};
-ghost use Rattle.afdx_failures.specs.Reporting.{line_of, memory_line, status_of, ReportsAs};
+ghost use Rattle.afdx_failures.specs.Reporting.{line_of, memory_line, status_of, ReportsAs, IsTold};
 ghost use Rattle.afdx_wiring.specs.Lines.{as_line};
-ghost use Rattle.afdx_devices.specs.Output.{AppendsPrefix};
 
 use crate::failure::Failure;
 use afdx_devices::write_bytes;
@@ -12,20 +11,27 @@ use afdx_lines::{capture_line, load_line, network_failure_line, network_status, 
 use std::alloc::{AllocError, Global};
 use std::io::Write;
 
+/// How the program ends: its status, and whether the line of its failure went out whole, if it has one.
+#[derive(Clone, Copy, Debug, PartialEq, Eq)]
+pub struct Ending {
+    pub status: u8,
+    pub is_told: bool,
+}
+
 /// Writes a line, as far as the writer takes it, and gives the status.
-fn write_line<E: Write>(err: &mut E, line: &str, status: u8) -> u8
-    ensures status { result ≡ status }
-    ensures line { AppendsPrefix (E.contents err.old) (E.contents err.new) line.now }
+fn write_line<E: Write>(err: &mut E, line: &str, status: u8) -> Ending
+    ensures status { result.status ≡ status }
+    ensures line { IsTold result.is_told (E.contents err.old) (E.contents err.new) line.now }
 {
-    let _ = write_bytes(err, line.as_bytes());
-    status
+    let is_told = write_bytes(err, line.as_bytes()).is_ok();
+    Ending { status, is_told }
 }
 
 /// Writes a line that was made, and gives the status; where memory ran out for it, that of memory.
-fn write_made<E: Write>(err: &mut E, line: Result<String, AllocError>, status: u8) -> u8
+fn write_made<E: Write>(err: &mut E, line: Result<String, AllocError>, status: u8) -> Ending
     ensures { MatchResult line
-        (λ text. (result ≡ status) × AppendsPrefix (E.contents err.old) (E.contents err.new) (string_bytes text))
-        (λ _. (result ≡ 5) × AppendsPrefix (E.contents err.old) (E.contents err.new) memory_line) }
+        (λ text. (result.status ≡ status) × IsTold result.is_told (E.contents err.old) (E.contents err.new) (string_bytes text))
+        (λ _. (result.status ≡ 5) × IsTold result.is_told (E.contents err.old) (E.contents err.new) memory_line) }
 {
     match line {
         Ok(text) => write_line(err, &text, status),
@@ -47,13 +53,13 @@ fn device_line(alloc: Global, call: &str, name: &str) -> Result<String, AllocErr
 
 /// Writes the line of a failure, as far as the writer takes it, and gives the failure's status: 2 for refused arguments,
 /// 3 for a refused table, network or capture, 4 for a refused load or jitter or a network that does not come to rest, 5 for a
-/// device or memory.
+/// device or memory. It also says whether the writer took the whole line.
 ///
 /// Only a line with a number or a name takes memory. Where that is refused, memory is the failure. O(line).
-pub fn report<E: Write>(alloc: Global, failure: &Failure, err: &mut E) -> u8
-    ensures reported { (reported : Failing) × ReportsAs failure.now reported × (result ≡ status_of reported)
-        × AppendsPrefix (E.contents err.old) (E.contents err.new) (line_of reported) }
-    ensures failed { 2 ≤ result }
+pub fn report<E: Write>(alloc: Global, failure: &Failure, err: &mut E) -> Ending
+    ensures reported { (reported : Failing) × ReportsAs failure.now reported × (result.status ≡ status_of reported)
+        × IsTold result.is_told (E.contents err.old) (E.contents err.new) (line_of reported) }
+    ensures failed { 2 ≤ result.status }
 {
     match failure {
         Failure::Usage => write_line(err, "afdx: usage\n", 2),

@@ -1,6 +1,7 @@
 //! What the program answers to its arguments, over a folder in memory.
 
 use crate::MemoryFolder;
+use afdx_failures::Ending;
 use afdx_serve::serve;
 use std::alloc::{AllocError, Allocator, Global};
 
@@ -36,15 +37,16 @@ pub fn split(alloc: Global, line: &str) -> Result<Vec<String>, AllocError> {
 /// What the program answers.
 #[derive(Drop)]
 pub struct Served {
-    pub status: u8,
+    pub ending: Ending,
     pub out: Vec<u8>,
     pub err: Vec<u8>,
 }
 
 impl Served {
-    /// Whether it is this status, with this on standard output and that on standard error.
+    /// Whether it is this status, with this on standard output and that on standard error, which took the whole line if there is one.
     pub fn is(&self, status: u8, out: &[u8], err: &[u8]) -> bool {
-        self.status == status && self.out.as_slice() == out && self.err.as_slice() == err
+        let is_ended = self.ending.status == status && self.ending.is_told;
+        is_ended && self.out.as_slice() == out && self.err.as_slice() == err
     }
 }
 
@@ -58,8 +60,8 @@ pub fn answer_over<A: Allocator + Copy>(
     let arguments = split(alloc, line)?;
     let mut out = Vec::new(alloc);
     let mut err = Vec::new(alloc);
-    let status = serve(alloc, &arguments, &mut input, &mut out, &mut err, folder);
-    Ok(Served { status, out, err })
+    let ending = serve(alloc, &arguments, &mut input, &mut out, &mut err, folder);
+    Ok(Served { ending, out, err })
 }
 
 /// A status, and what is on standard output and on standard error.

@@ -8,5 +8,5 @@ mod memory_folder;
 mod one_frame;
 
 pub use commands::{Said, Served, answer_over, answers, folder_of, split};
-pub use memory_folder::{MemoryFolder, OpenedFile, Opening};
+pub use memory_folder::{MemoryFolder, OpenedFile};
 pub use one_frame::{Broken, CHECKED, LINK_10, OneFrame, REPORT, RUN, captured};

@@ -19,17 +19,6 @@ struct File<A: Allocator> {
     bytes: Vec<u8, A>,
 }
 
-/// What it opens.
-#[derive(Clone, Copy, Debug, PartialEq, Eq)]
-pub enum Opening {
-    /// No file.
-    None,
-    /// Each file that is there.
-    Files,
-    /// Each file that is there, and then every read fails.
-    Failing,
-}
-
 /// A copy of a file's bytes, to be read in pieces.
 #[derive(Drop)]
 pub struct OpenedFile<A: Allocator> {
@@ -48,16 +37,18 @@ impl<A: Allocator> Read for OpenedFile<A> {
     }
 }
 
-/// The files, the one that was put last first, and how many new ones were neither put nor let go. Of the calls that get or put,
-/// the one of number `failing`, from 1, fails so; 0 is none.
+/// The files, the one that was put last first, and how many new ones were neither put nor let go. Of the calls that get, open or put,
+/// the one of number `failing`, from 1, fails so, and of those that settle a new file the one of number `failing_settle`; 0 is none.
 #[derive(Debug, Drop)]
 pub struct MemoryFolder<A: Allocator> {
     alloc: A,
     files: Vec<File<A>, A>,
     begun: usize,
-    opening: Opening,
+    fails_to_read: bool,
     calls: u64,
     failing: u64,
+    settles: u64,
+    failing_settle: u64,
     fault: FolderFault,
     log: DeviceLog<A>,
 }
@@ -74,22 +65,30 @@ impl<A: Allocator + Copy> MemoryFolder<A> {
             alloc,
             files: Vec::new(alloc),
             begun: 0,
-            opening: Opening::None,
+            fails_to_read: false,
             calls: 0,
             failing,
+            settles: 0,
+            failing_settle: 0,
             fault,
             log: DeviceLog::new(alloc),
         }
     }
 
-    /// From now on it opens these.
-    pub fn open_as(&mut self, opening: Opening) {
-        self.opening = opening;
+    /// From now on no file that it opens can be read.
+    pub fn fail_to_read(&mut self) {
+        self.fails_to_read = true;
     }
 
     /// From now on the call of this number, from 1, fails so.
     pub fn fail_at(&mut self, failing: u64, fault: FolderFault) {
         self.failing = failing;
+        self.fault = fault;
+    }
+
+    /// From now on the new file of this number, from 1, fails so when it is settled.
+    pub fn fail_to_settle(&mut self, failing: u64, fault: FolderFault) {
+        self.failing_settle = failing;
         self.fault = fault;
     }
 
@@ -119,7 +118,7 @@ impl<A: Allocator + Copy> MemoryFolder<A> {
         self.files.len().saturating_add(self.begun)
     }
 
-    /// How many calls it was given.
+    /// How many calls that get or put it was given.
     pub fn calls(&self) -> u64 {
         self.calls
     }
@@ -183,24 +182,22 @@ impl<B: Allocator + Copy> Folder for MemoryFolder<B> {
         }
     }
 
-    /// So many where files are opened that the captures of a run are large.
-    fn length(&self, _name: &str) -> Option<u64> {
-        match self.opening {
-            Opening::None => None,
-            Opening::Files | Opening::Failing => Some(1_000_000_000),
-        }
+    fn open(&mut self, name: &str) -> Result<OpenedFile<B>, FolderFault> {
+        call(self, name)?;
+        let Some(file) = find_file(&self.files, name) else {
+            return Err(self.log.note(name));
+        };
+        let Ok(bytes) = Vec::from_slice(self.alloc, &file.bytes) else {
+            return Err(FolderFault::Memory);
+        };
+        Ok(OpenedFile {
+            left: Cursor::new(bytes),
+            fails: self.fails_to_read,
+        })
     }
 
-    fn open(&mut self, name: &str) -> Result<Option<OpenedFile<B>>, AllocError> {
-        if self.opening == Opening::None {
-            return Ok(None);
-        }
-        let Some(file) = find_file(&self.files, name) else {
-            return Ok(None);
-        };
-        let left = Cursor::new(Vec::from_slice(self.alloc, &file.bytes)?);
-        let fails = self.opening == Opening::Failing;
-        Ok(Some(OpenedFile { left, fails }))
+    fn note_unread(&mut self, name: &str) -> FolderFault {
+        self.log.note(name)
     }
 
     fn put<A: Allocator + Copy>(
@@ -222,6 +219,19 @@ impl<B: Allocator + Copy> Folder for MemoryFolder<B> {
         let bytes = Vec::with_capacity(self.alloc, 24)?;
         self.begun = self.begun.saturating_add(1);
         Ok(MemoryFile { bytes })
+    }
+
+    fn settle(&mut self, new: MemoryFile<B>, name: &str) -> Result<MemoryFile<B>, FolderFault> {
+        self.settles = self.settles.saturating_add(1);
+        if self.settles != self.failing_settle {
+            self.log.note_settled();
+            return Ok(new);
+        }
+        self.begun = self.begun.saturating_sub(1);
+        match self.fault {
+            FolderFault::Memory => Err(FolderFault::Memory),
+            FolderFault::Device => Err(self.log.note(name)),
+        }
     }
 
     fn put_new(&mut self, new: MemoryFile<B>, name: &str) -> Result<(), FolderFault> {

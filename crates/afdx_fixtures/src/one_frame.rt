@@ -95,6 +95,22 @@ impl OneFrame {
         self.folder(0, FolderFault::Device)
     }
 
+    /// Whether the program, over a folder that fails to settle the new file of this number, has status 5 and this line, for this name,
+    /// and left what was there: it put no file, and no new one is left.
+    pub fn stops_settling(
+        &self,
+        arguments: &str,
+        number: u64,
+        fault: FolderFault,
+        (name, line): (Option<&str>, &str),
+    ) -> Result<bool, AllocError> {
+        let mut folder = self.sound()?;
+        folder.fail_to_settle(number, fault);
+        let is_said = answers(self.alloc, arguments, &mut folder, (5, "", line))?;
+        let is_left = folder.calls() == 3 && folder.holds(&self.files(), 3);
+        Ok(is_said && is_left && folder.last_failure() == name)
+    }
+
     /// Whether the program, over a folder one of whose calls fails, has status 5 and this line, made no call after that one, and left
     /// the first so many of these files and no others.
     pub fn stops(

@@ -2,8 +2,8 @@
 //! of memory is made once more, and in a run.
 
 use crate::allocations::{Calls, Memory, count, made_again, refuse};
-use afdx_devices::{Folder, FolderFault};
-use afdx_fixtures::{MemoryFolder, OneFrame, Opening, REPORT, RUN, answer_over};
+use afdx_devices::{Folder, FolderFault, NewFile};
+use afdx_fixtures::{MemoryFolder, OneFrame, REPORT, RUN, answer_over};
 use std::alloc::Global;
 use std::io::Print;
 use std::process::Abort;
@@ -39,14 +39,21 @@ const CALLS: &[Call] = &[
 /// The name of no file.
 const NONE: &str = "in/port-3.pcap";
 
-/// Puts a file; none where the folder is out of memory.
-fn put<'a>(
+/// Puts a new file of these bytes.
+fn put_bytes<'a>(
     folder: &mut MemoryFolder<&'a Memory>,
-    memory: &'a Memory,
     name: &str,
     bytes: &[u8],
-) -> Option<bool> {
-    match folder.put(memory, name, bytes) {
+) -> Result<(), FolderFault> {
+    let mut new = folder.begin(name)?;
+    new.append(bytes)?;
+    let settled = folder.settle(new, name)?;
+    folder.put_new(settled, name)
+}
+
+/// Puts a file; none where the folder is out of memory.
+fn put<'a>(folder: &mut MemoryFolder<&'a Memory>, name: &str, bytes: &[u8]) -> Option<bool> {
+    match put_bytes(folder, name, bytes) {
         Ok(()) => Some(true),
         Err(FolderFault::Memory) => None,
         Err(FolderFault::Device) => Some(false),
@@ -85,7 +92,7 @@ fn made<'a>(
 ) -> Option<bool> {
     match call {
         Call::Put(place) => match files.get(place) {
-            Some((name, bytes)) => put(folder, memory, name, bytes),
+            Some((name, bytes)) => put(folder, name, bytes),
             None => Some(false),
         },
         Call::Get(place) => match files.get(place) {
@@ -143,12 +150,11 @@ fn files_put_and_got(rt: HostRuntime) -> Result<(), Fail> {
     refuse(&rt, alloc, "Folder in memory", &Calling { run: &run }, 18)
 }
 
-/// The run of one frame, over a folder that opens these.
+/// The run of one frame.
 #[derive(Clone, Copy)]
 struct Running<'a> {
     alloc: Global,
     run: &'a OneFrame,
-    opening: Opening,
 }
 
 impl Calls for Running<'_> {
@@ -157,7 +163,6 @@ impl Calls for Running<'_> {
         let Ok(()) = self.run.add_to(&mut folder) else {
             return Ok(None);
         };
-        folder.open_as(self.opening);
         let got = answer_over(self.alloc, RUN, b"", &mut folder)?;
         let files = self.run.files();
         if got.is(0, REPORT.as_bytes(), b"") {
@@ -170,26 +175,12 @@ impl Calls for Running<'_> {
     }
 }
 
-/// Refuses each allocation of the run of one frame in turn, over a folder that opens these.
-fn refuse_running<R: Abort + Print>(
-    rt: &R,
-    alloc: Global,
-    opening: Opening,
-    least: u64,
-) -> Result<(), Fail> {
-    let run = OneFrame::new(alloc)?;
-    let running = Running {
-        alloc,
-        run: &run,
-        opening,
-    };
-    refuse(rt, alloc, "Run over a folder in memory", &running, least)
-}
-
-/// One allocation at least for the name and for the bytes of each file that is there, for each new file that is begun, for the bytes
-/// of the frame that leaves, and for the name of each file that is put; and for each capture that is opened.
+/// One allocation at least for the name and for the bytes of each file that is there, for each capture that is opened, for each new
+/// file that is begun, for the bytes of the frame that leaves, and for the name of each file that is put.
 #[test]
 fn new_files_are_put_or_let_go(rt: HostRuntime) -> Result<(), Fail> {
-    refuse_running(&rt, rt.alloc(), Opening::None, 11)?;
-    refuse_running(&rt, rt.alloc(), Opening::Files, 13)
+    let alloc = rt.alloc();
+    let run = OneFrame::new(alloc)?;
+    let running = Running { alloc, run: &run };
+    refuse(&rt, alloc, "Run over a folder in memory", &running, 13)
 }

@@ -8,9 +8,10 @@ use crate::texts::Frame::Small;
 use crate::texts::Text::Frames;
 use crate::texts::{EMPTY, NOTHING, Text, captures};
 use afdx_pcap::PcapFault;
-use afdx_samples::MemoryFile;
-use afdx_session::{RunFault, run_into};
+use afdx_samples::{HEADER, MemoryFile};
+use afdx_session::{SourceFault, run_from};
 use std::alloc::{AllocError, Global};
+use std::io::Cursor;
 use std::test::*;
 
 /// What each file has before a run.
@@ -49,26 +50,46 @@ fn have_outputs(files: &[MemoryFile<Global>], whole: &Reported) -> bool {
     true
 }
 
-/// The report of a run whose outputs go to these files.
+/// A reader of each of these captures.
+fn readers_of(alloc: Global, captures: &[(u8, Vec<u8>)]) -> Result<Vec<Cursor<Vec<u8>>>, AllocError>
+    ensures { IfOk result (λ readers. length readers.items ≡ length captures.now) }
+{
+    let mut readers = Vec::new(alloc);
+    for capture in captures {
+        let bytes = Vec::from_slice(alloc, &capture.1)?;
+        readers.push(Cursor::new(bytes))?;
+    }
+    Ok(readers)
+}
+
+/// The report of a run over readers of these captures, whose outputs go to these files, or why there is none.
 fn report_into(
     alloc: Global,
     setting: Setting,
     captures: &[(u8, Vec<u8>)],
     files: &mut [MemoryFile<Global>],
-) -> Result<String, Fail>
+) -> Result<Result<String, SourceFault>, Fail>
     requires { length files.old ≡ length captures.now }
 {
-    let counts = run_into(alloc, plan(alloc, setting)?, captures, files)?;
-    let report = counts.report(alloc)?;
-    Ok(report)
+    let plan = plan(alloc, setting)?;
+    let mut readers = readers_of(alloc, captures)?;
+    if plan.table().ports().len() != readers.len() {
+        return Ok(Err(SourceFault::Read(readers.len())));
+    }
+    match run_from(alloc, plan, &mut readers, files) {
+        Ok(counts) => Ok(Ok(counts.report(alloc)?)),
+        Err(fault) => Ok(Err(fault)),
+    }
 }
 
-/// Whether a run whose outputs go to files has the same outputs and counts as one that answers them.
+/// Whether a run over readers, whose outputs go to files, has the same outputs and counts as one over whole captures.
 fn agrees(alloc: Global, setting: Setting, captures: &[(u8, Vec<u8>)]) -> Result<bool, Fail> {
     let whole = whole(alloc, setting, captures)?;
     let mut files = files_for(alloc, captures)?;
-    let report = report_into(alloc, setting, captures, &mut files)?;
-    Ok(report.as_str() == whole.report.as_str() && have_outputs(&files, &whole))
+    match report_into(alloc, setting, captures, &mut files)? {
+        Ok(report) => Ok(report.as_str() == whole.report.as_str() && have_outputs(&files, &whole)),
+        Err(_) => Ok(false),
+    }
 }
 
 /// The same with these texts of the ports from 1 on.
@@ -103,28 +124,52 @@ fn outputs_in_parts(rt: HostRuntime) -> Result<(), Fail> {
     Ok(())
 }
 
-/// Whether a run whose outputs would go to files has this fault.
-fn is_refused(alloc: Global, came: &[Text], fault: RunFault) -> Result<bool, Fail> {
+/// Whether a run over readers of these texts, of the ports from 1 on, has this fault.
+fn is_refused(
+    alloc: Global,
+    setting: Setting,
+    came: &[Text],
+    fault: SourceFault,
+) -> Result<bool, Fail> {
     let captures = captures(alloc, came)?;
     let mut files = files_for(alloc, &captures)?;
-    let found = run_into(alloc, plan(alloc, SINGLE)?, &captures, &mut files).err();
-    Ok(found == Some(fault))
+    Ok(report_into(alloc, setting, &captures, &mut files)?.err() == Some(fault))
 }
 
-/// Runs that are refused.
-const REFUSED: &[(&[Text], RunFault)] = &[
-    (&[NOTHING], RunFault::WrongPorts),
-    (&[EMPTY, NOTHING], RunFault::Capture(2, PcapFault::NoHeader)),
+/// A frame's record of four bytes, of which one is there.
+const CUT: Text = Text::Parts(&[&HEADER, &[0; 8], &[4, 0, 0, 0, 4, 0, 0, 0], &[1]]);
+
+/// Texts of which some are no captures, and the fault that is answered: that of the lowest port, whichever was met first.
+const REFUSED: &[(Setting, &[Text], SourceFault)] = &[
     (
+        SINGLE,
+        &[EMPTY, NOTHING],
+        SourceFault::Capture(2, PcapFault::NoHeader),
+    ),
+    (
+        SINGLE,
         &[Text::Steady, NOTHING],
-        RunFault::Capture(2, PcapFault::NoHeader),
+        SourceFault::Capture(2, PcapFault::NoHeader),
+    ),
+    (
+        DOUBLE,
+        &[CUT, NOTHING, EMPTY],
+        SourceFault::Capture(1, PcapFault::CutData(1)),
+    ),
+    (
+        DOUBLE,
+        &[EMPTY, Text::Babble, NOTHING],
+        SourceFault::Capture(3, PcapFault::NoHeader),
     ),
 ];
 
 #[test]
 fn refused_runs_into_files(rt: HostRuntime) -> Result<(), Fail> {
-    for (came, fault) in REFUSED {
-        assert!(rt; is_refused(rt.alloc(), came, *fault)?, "{fault:?}");
+    for (setting, came, fault) in REFUSED {
+        assert!(rt;
+            is_refused(rt.alloc(), *setting, came, *fault)?,
+            "{fault:?}"
+        );
     }
     Ok(())
 }

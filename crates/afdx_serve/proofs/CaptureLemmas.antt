@@ -1,5 +1,5 @@
 -- Captures that were got, and files that were put or not.
-use Rattle.std.proofs.Common.{◌≡◌, ℕ, ◌+◌, ◌<◌, List, [], ◌∷◌, ◌++◌, map, length, take, Option, Some, Result, Ok, Err, refl, sym, ap, subst, ◌∙◌, get_or, slice_get}
+use Rattle.std.proofs.Common.{◌≡◌, ℕ, ◌+◌, ◌<◌, List, [], ◌∷◌, ◌++◌, map, length, take, Option, Some, Result, Ok, Err, string_bytes, inl, inr, sym, ap, subst, ◌∙◌, get_or, slice_get}
 use Rattle.std.proofs.Common.{Vec}
 use Rattle.std.specs.Prelude.{option_map, MatchResult}
 use Rattle.std.proofs.lemmas.List.{map-append, take_more, take-map}
@@ -10,9 +10,10 @@ use Rattle.afdx_session.specs.Texts.{Text, texts_of}
 use Rattle.afdx_table.specs.Content.{Content}
 use Rattle.afdx_failures.specs.declared.failure.Failure.{Failure}
 use Rattle.afdx_failures.specs.declared.failure.Failure.TheVariants as failure
-use Rattle.afdx_devices.specs.Files.{Files, Shows, ShowsAll, KeepsFiles, KeepsOthers, PutsFile, PutsFiles, DeviceLog, one_more}
-use Rattle.afdx_serve.specs.Runs.{capture_name, names_in, bytes_of_captures, GetsUpTo, port_names, StopsAt, FailsToGet, FailsToGetAll, FailsToPutOne, FailsToPut}
-use Rattle.afdx_serve.proofs.FileLemmas.{KeepsFiles-trans, Shows-before, PutsFiles-before, ShowsAll-before, ShowsAll-push, PutsFiles-nil, one_put, two_put}
+use Rattle.afdx_devices.specs.Files.{Files, Shows, ShowsAll, KeepsFiles, KeepsOthers, PutsFiles, DeviceLog, one_more, settled_after}
+use Rattle.afdx_serve.specs.Runs.{capture_name, names_in, bytes_of_captures, GetsUpTo, port_names, StopsAt, StopsSettling, EndsAt, FailsToGet, FailsToGetAll, FailsToPutOne, FailsToPut}
+use Rattle.afdx_serve.specs.Inner.Outputs.{FailsToSettle, FailsToMove}
+use Rattle.afdx_serve.proofs.FileLemmas.{KeepsFiles-trans, Shows-before, PutsFiles-before, ShowsAll-before, ShowsAll-push}
 
 -- one more capture was got
 pub one_more_got : (a b : Option Files) (path : List ℕ) (captures : List Text) (c : Text) → KeepsFiles a b → ShowsAll a (names_in path captures) (bytes_of_captures captures)
@@ -20,14 +21,6 @@ pub one_more_got : (a b : Option Files) (path : List ℕ) (captures : List Text)
 one_more_got a b path captures c keeps before one =
     let more = ShowsAll-push a (names_in path captures) (bytes_of_captures captures) (capture_name path c.0) c.1 before (Shows-before a b _ _ keeps one) in
     rw (map-append (λ (x : Text). capture_name path x.0) captures (c ∷ []), map-append (λ (x : Text). x.1) captures (c ∷ [])) more
-
--- ---- the first or the second of two files
-
-pub stops_first : (a b : Option Files) (n m x y : List ℕ) → KeepsOthers a b n → StopsAt n (n ∷ m ∷ []) (x ∷ y ∷ []) a b
-stops_first a b n m x y others = record { place = 0; before = a; is_there = refl; earlier = PutsFiles-nil a; others = others }
-
-pub stops_second : (a b c : Option Files) (n m x y : List ℕ) → PutsFile a b n x → KeepsOthers b c m → StopsAt m (n ∷ m ∷ []) (x ∷ y ∷ []) a c
-stops_second a b c n m x y first others = record { place = 1; before = b; is_there = refl; earlier = one_put a b n x first; others = others }
 
 -- ---- failures
 
@@ -47,44 +40,73 @@ not_got (failure.Network r) files path name t first before after same fails upto
 not_got failure.Read files path name t first before after same fails upto = absurd fails
 not_got failure.Write files path name t first before after same fails upto = absurd fails
 
--- a file was not put
-pub not_put : (f : Failure) (name : List ℕ) (names all : List (List ℕ)) (old new : Option Files) (first before after : DeviceLog) → before ≡ first → FailsToPutOne f name before after
-    → StopsAt name names all old new → FailsToPut f names all old new first after
-not_put (failure.Put s) name names all old new first before after same fails stops =
+-- a new file was not taken by the device
+pub not_settled : (f : Failure) (name : List ℕ) (names : List (List ℕ)) (i : ℕ) (first before after : DeviceLog) → slice_get names i ≡ Some name → before ≡ settled_after i first
+    → FailsToPutOne f name before after → FailsToSettle f names first after
+not_settled (failure.Put s) name names i first before after is same fails =
+    subst (λ (n : List ℕ). StopsSettling n names first after) (sym fails.0) (i, is, fails.1 ∙ ap (one_more name) same)
+not_settled failure.Memory name names i first before after is same fails = tt
+not_settled failure.Usage name names i first before after is same fails = absurd fails
+not_settled (failure.Table r) name names i first before after is same fails = absurd fails
+not_settled (failure.Capture r) name names i first before after is same fails = absurd fails
+not_settled (failure.PortCapture p r) name names i first before after is same fails = absurd fails
+not_settled (failure.Get s) name names i first before after is same fails = absurd fails
+not_settled (failure.Load r) name names i first before after is same fails = absurd fails
+not_settled (failure.Network r) name names i first before after is same fails = absurd fails
+not_settled failure.Read name names i first before after is same fails = absurd fails
+not_settled failure.Write name names i first before after is same fails = absurd fails
+
+-- so none was put
+pub none_put : (f : Failure) (names all : List (List ℕ)) (old new : Option Files) (before after : DeviceLog) → KeepsFiles old new → FailsToSettle f names before after
+    → FailsToPut f names all old new before after
+none_put (failure.Put s) names all old new before after keeps fails = inl (fails, keeps)
+none_put failure.Memory names all old new before after keeps fails = inl keeps
+none_put failure.Usage names all old new before after keeps fails = absurd fails
+none_put (failure.Table r) names all old new before after keeps fails = absurd fails
+none_put (failure.Capture r) names all old new before after keeps fails = absurd fails
+none_put (failure.PortCapture p r) names all old new before after keeps fails = absurd fails
+none_put (failure.Get s) names all old new before after keeps fails = absurd fails
+none_put (failure.Load r) names all old new before after keeps fails = absurd fails
+none_put (failure.Network r) names all old new before after keeps fails = absurd fails
+none_put failure.Read names all old new before after keeps fails = absurd fails
+none_put failure.Write names all old new before after keeps fails = absurd fails
+
+-- a new file that the device has taken was not put
+pub not_moved : (f : Failure) (name : List ℕ) (names all : List (List ℕ)) (old new : Option Files) (first before after : DeviceLog) → before ≡ first → FailsToPutOne f name before after
+    → StopsAt name names all old new → FailsToMove f names all old new first after
+not_moved (failure.Put s) name names all old new first before after same fails stops =
     subst (λ (n : List ℕ). StopsAt n names all old new × (after ≡ one_more n first)) (sym fails.0) (stops, fails.1 ∙ ap (one_more name) same)
-not_put failure.Memory name names all old new first before after same fails stops = (name, stops)
-not_put failure.Usage name names all old new first before after same fails stops = absurd fails
-not_put (failure.Table r) name names all old new first before after same fails stops = absurd fails
-not_put (failure.Capture r) name names all old new first before after same fails stops = absurd fails
-not_put (failure.PortCapture p r) name names all old new first before after same fails stops = absurd fails
-not_put (failure.Get s) name names all old new first before after same fails stops = absurd fails
-not_put (failure.Load r) name names all old new first before after same fails stops = absurd fails
-not_put (failure.Network r) name names all old new first before after same fails stops = absurd fails
-not_put failure.Read name names all old new first before after same fails stops = absurd fails
-not_put failure.Write name names all old new first before after same fails stops = absurd fails
+not_moved failure.Memory name names all old new first before after same fails stops = (name, stops)
+not_moved failure.Usage name names all old new first before after same fails stops = absurd fails
+not_moved (failure.Table r) name names all old new first before after same fails stops = absurd fails
+not_moved (failure.Capture r) name names all old new first before after same fails stops = absurd fails
+not_moved (failure.PortCapture p r) name names all old new first before after same fails stops = absurd fails
+not_moved (failure.Get s) name names all old new first before after same fails stops = absurd fails
+not_moved (failure.Load r) name names all old new first before after same fails stops = absurd fails
+not_moved (failure.Network r) name names all old new first before after same fails stops = absurd fails
+not_moved failure.Read name names all old new first before after same fails stops = absurd fails
+not_moved failure.Write name names all old new first before after same fails stops = absurd fails
 
--- the first of two files was not put
-pub first_not_put : (f : Failure) (a b : Option Files) (n m x y : List ℕ) (names texts : List (List ℕ)) (before after : DeviceLog) → n ∷ m ∷ [] ≡ names → x ∷ y ∷ [] ≡ texts
-    → KeepsOthers a b n → FailsToPutOne f n before after → FailsToPut f names texts a b before after
-first_not_put f a b n m x y names texts before after named reported others fails =
-    subst (λ (ns : List (List ℕ)). FailsToPut f ns texts a b before after) named
-    (subst (λ (ts : List (List ℕ)). FailsToPut f (n ∷ m ∷ []) ts a b before after) reported
-    (not_put f n (n ∷ m ∷ []) (x ∷ y ∷ []) a b before before after refl fails (stops_first a b n m x y others)))
+-- all new files were taken, and then put or not
+module _ (names all : List (List ℕ)) (old new : Option Files) (first before after : DeviceLog) (taken : before ≡ settled_after (length names) first) where
+  not_all_moved : (f : Failure) → FailsToMove f names all old new before after → FailsToPut f names all old new first after
+  not_all_moved (failure.Put s) fails = inr (fails.0, fails.1 ∙ ap (one_more (string_bytes s)) taken)
+  not_all_moved failure.Memory fails = inr fails
+  not_all_moved failure.Usage fails = absurd fails
+  not_all_moved (failure.Table r) fails = absurd fails
+  not_all_moved (failure.Capture r) fails = absurd fails
+  not_all_moved (failure.PortCapture p r) fails = absurd fails
+  not_all_moved (failure.Get s) fails = absurd fails
+  not_all_moved (failure.Load r) fails = absurd fails
+  not_all_moved (failure.Network r) fails = absurd fails
+  not_all_moved failure.Read fails = absurd fails
+  not_all_moved failure.Write fails = absurd fails
 
--- the first was put, and then the second, or not
-pub second_put : {T : Type 0} (r : Result T Failure) (a b c : Option Files) (n m x y : List ℕ) (names texts : List (List ℕ)) (first before after : DeviceLog) → before ≡ first
-    → n ∷ m ∷ [] ≡ names → x ∷ y ∷ [] ≡ texts → PutsFile a b n x → KeepsOthers b c m
-    → MatchResult r (λ _. PutsFile b c m y × (after ≡ before)) (λ f. FailsToPutOne f m before after)
-    → MatchResult r (λ _. PutsFiles a c names texts × (after ≡ first)) (λ f. FailsToPut f names texts a c first after)
-second_put (Ok u) a b c n m x y names texts first before after same named reported put others h = (
-  subst (λ (ns : List (List ℕ)). PutsFiles a c ns texts) named
-      (subst (λ (ts : List (List ℕ)). PutsFiles a c (n ∷ m ∷ []) ts) reported (two_put a b c n m x y put h.0)),
-  h.1 ∙ same,
-)
-second_put (Err f) a b c n m x y names texts first before after same named reported put others h =
-    subst (λ (ns : List (List ℕ)). FailsToPut f ns texts a c first after) named
-    (subst (λ (ts : List (List ℕ)). FailsToPut f (n ∷ m ∷ []) ts a c first after) reported
-    (not_put f m (n ∷ m ∷ []) (x ∷ y ∷ []) a c first before after same h (stops_second a b c n m x y put others)))
+  pub moved : {T : Type 0} (r : Result T Failure)
+      → MatchResult r (λ _. PutsFiles old new names all × (after ≡ before)) (λ f. FailsToMove f names all old new before after)
+      → MatchResult r (λ _. PutsFiles old new names all × (after ≡ settled_after (length names) first)) (λ f. FailsToPut f names all old new first after)
+  moved (Ok x) h = (h.0, h.1 ∙ taken)
+  moved (Err f) h = not_all_moved f h
 
 -- ---- the loops over captures
 
@@ -137,3 +159,10 @@ stops_at f names all i d a b c lt before others = record { place = i; before = b
 
 pub StopsAt-before : (name : List ℕ) (names all : List (List ℕ)) (a b c : Option Files) → KeepsFiles a b → StopsAt name names all b c → StopsAt name names all a c
 StopsAt-before name names all a b c keeps s = record { place = s.place; before = s.before; is_there = s.is_there; earlier = PutsFiles-before a b s.before _ _ keeps s.earlier; others = s.others }
+
+pub EndsAt-before : (name : List ℕ) (names all : List (List ℕ)) (a b c : Option Files) (first before after : DeviceLog) → KeepsFiles a b → before ≡ first → EndsAt name names all b c before after
+    → EndsAt name names all a c first after
+EndsAt-before name names all a b c first before after keeps same (inl h) =
+    inl ((h.0.0, h.0.1, h.0.2 ∙ ap (λ (l : DeviceLog). one_more name (settled_after h.0.0 l)) same), KeepsFiles-trans a b c keeps h.1)
+EndsAt-before name names all a b c first before after keeps same (inr h) =
+    inr (StopsAt-before name names all a b c keeps h.0, h.1 ∙ ap (λ (l : DeviceLog). one_more name (settled_after (length names) l)) same)

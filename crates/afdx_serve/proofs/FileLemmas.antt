@@ -1,7 +1,6 @@
 -- Files that stay, files that were got, and files that are put in order.
-use Rattle.std.proofs.Common.{◌≡◌, ℕ, ◌+◌, ◌<◌, List, [], ◌∷◌, ◌++◌, map, length, take, Option, Some, None, refl, sym, ap, subst, ◌∙◌, arith, get_or}
-use Rattle.std.proofs.Common.{min}
-use Rattle.std.proofs.lemmas.List.{map-append, take_more, take-map, length-map, length-take}
+use Rattle.std.proofs.Common.{◌≡◌, ℕ, List, [], ◌∷◌, ◌++◌, map, length, Option, Some, None, refl, sym, ap, subst, ◌∙◌, arith}
+use Rattle.std.proofs.lemmas.List.{map-append}
 use Rattle.afdx_devices.specs.Files.{Files, with_file, with_files, Shows, ShowsAll, IsOpened, KeepsFiles, PutsFile, PutsFiles}
 
 -- ---- files that stay
@@ -66,32 +65,3 @@ one_more_put (Some f) (Some g) (Some h) ns bs n x e p r = λ q.
 pub PutsFiles-nil : (a : Option Files) → PutsFiles a a [] []
 PutsFiles-nil None = tt
 PutsFiles-nil (Some f) = λ q. refl
-
--- ---- two files that are put
-
-pub one_put : (a b : Option Files) (n x : List ℕ) → PutsFile a b n x → PutsFiles a b (n ∷ []) (x ∷ [])
-one_put None b n x put = tt
-one_put (Some f) None n x put = put
-one_put (Some f) (Some g) n x put = put
-
-pub two_put : (a b c : Option Files) (n m x y : List ℕ) → PutsFile a b n x → PutsFile b c m y → PutsFiles a c (n ∷ m ∷ []) (x ∷ y ∷ [])
-two_put a b c n m x y first second = one_more_put a b c (n ∷ []) (x ∷ []) m y refl (one_put a b n x first) second
-
--- ---- many files that are put
-
--- one more of them was put
-pub one_more_file : {X Y : Type 0} (f : X → List ℕ) (g : Y → List ℕ) (names : List X) (all : List Y) (i : ℕ) (d : X) (e : Y) (a b c : Option Files) → length names ≡ length all → i < length names
-    → PutsFiles a b (take i (map f names)) (take i (map g all)) → PutsFile b c (f (get_or names i d)) (g (get_or all i e)) → PutsFiles a c (take (i + 1) (map f names)) (take (i + 1) (map g all))
-one_more_file f g names all i d e a b c same lt before one =
-    let shorter : i < length all = omega (arith, same, lt) in
-    let name : take (i + 1) (map f names) ≡ take i (map f names) ++ f (get_or names i d) ∷ [] = more f names i d lt in
-    let text : take (i + 1) (map g all) ≡ take i (map g all) ++ g (get_or all i e) ∷ [] = more g all i e shorter in
-    rw (name, text) (one_more_put a b c _ _ _ _ (lengths f g names all i same) before one)
-  where
-    more : {T : Type 0} (h : T → List ℕ) (xs : List T) (j : ℕ) (z : T) → j < length xs → take (j + 1) (map h xs) ≡ take j (map h xs) ++ h (get_or xs j z) ∷ []
-    more h xs j z within =
-        take-map h (j + 1) xs ∙ ap (map h) (take_more xs j z within) ∙ map-append h (take j xs) (get_or xs j z ∷ []) ∙ ap (λ (l : List (List ℕ)). l ++ h (get_or xs j z) ∷ []) (sym (take-map h j xs))
-
-    lengths : {S T : Type 0} (h : S → List ℕ) (k : T → List ℕ) (xs : List S) (ys : List T) (j : ℕ) → length xs ≡ length ys → length (take j (map h xs)) ≡ length (take j (map k ys))
-    lengths h k xs ys j e1 =
-        length-take j (map h xs) ∙ ap (min j) (length-map xs h ∙ e1 ∙ sym (length-map ys k)) ∙ sym (length-take j (map k ys))

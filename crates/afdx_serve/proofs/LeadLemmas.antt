@@ -1,9 +1,10 @@
 -- What the files of a run lead to, read in pieces or whole.
 use Rattle.std.proofs.Common.{◌≡◌, ℕ, zero, suc, ◌+◌, ◌<◌, get_or, Bool, List, [], ◌∷◌, map, length, take, drop, ◌++◌, slice_get, Option, Some, None, Ok, Err, refl, sym, ap, subst, ◌∙◌, inl, inr, arith, Vec}
-use Rattle.std.proofs.Common.{Result}
-use Rattle.std.specs.Prelude.{IfSome, MatchResult}
-use Rattle.std.proofs.lemmas.List.{length-map, length-append, map-append, take_more}
-use Rattle.std.proofs.lemmas.Option.{same_Some}
+use Rattle.std.proofs.Common.{string_bytes}
+use Rattle.std.specs.Prelude.{IfSome, option_map}
+use Rattle.afdx_pcap.specs.declared.fault.PcapFault.{PcapFault}
+use Rattle.std.proofs.lemmas.List.{length-map, length-append, map-append, take_more, take-map, take-take}
+use Rattle.std.proofs.lemmas.Option.{same_Some, slice_get-map, slice_get-get_or}
 use Rattle.std.proofs.lemmas.Simd.{map-map}
 use Rattle.afdx_table.specs.declared.rows.PortRow.{PortRow}
 use Rattle.afdx_table.specs.Content.{Content}
@@ -14,7 +15,7 @@ use Rattle.afdx_session.specs.Texts.{Text, AreOfPorts, texts_of}
 use Rattle.afdx_session.specs.declared.plan.Plan.{Plan}
 use Rattle.afdx_session.specs.Outcome.{table_in}
 use Rattle.afdx_session.specs.Headline.{AcceptedRunsIsolate}
-use Rattle.afdx_session.specs.Sources.{AreRead}
+use Rattle.afdx_session.specs.Sources.{AreRead, HasFirstFault}
 use Rattle.afdx_session.specs.Written.{IsWritten}
 use Rattle.afdx_arguments.specs.declared.request.Paths.{Paths}
 use Rattle.afdx_arguments.specs.declared.request.Inputs.{Inputs}
@@ -22,21 +23,14 @@ use Rattle.afdx_failures.specs.declared.failure.Failure.{Failure}
 use Rattle.afdx_failures.specs.declared.failure.Failure.TheVariants as failure
 use Rattle.afdx_devices.specs.Files.{Files, DeviceLog, Shows, ShowsAll, IsOpened, KeepsFiles}
 use Rattle.afdx_devices.specs.Input.{AreGiven}
-use Rattle.afdx_serve.specs.Runs.{capture_name, names_in, port_names, bytes_of_captures, inputs_of, HasPlan, HasCaptures, FailsToGather}
+use Rattle.afdx_serve.specs.Runs.{capture_name, names_in, port_names, bytes_of_captures, inputs_of, HasPlan, HasCaptures, FailsToGet, FailsToGetAll, FailsToGather}
 use Rattle.afdx_serve.specs.Inner.Outputs.{AreEmpty, HaveBytes}
-use Rattle.afdx_serve.specs.Inner.Leading.{IsPlanOf, FailsToReadPlan, AreOpened, IsInFiles, FailsToLeadWhole, IsLed}
-use Rattle.afdx_serve.proofs.FileLemmas.{KeepsFiles-trans, ShowsAll-before, IsOpened-before}
+use Rattle.afdx_serve.specs.Inner.Leading.{IsPlanOf, FailsToReadPlan, AreOpened, IsInFiles, FailsToLeadFrom, IsLed}
+use Rattle.afdx_serve.specs.Inner.OpenPorts.{GetsNamed, FailsToGetNamed}
+use Rattle.afdx_serve.proofs.FileLemmas.{KeepsFiles-refl, KeepsFiles-trans, ShowsAll-before, IsOpened-before}
+use Rattle.afdx_serve.proofs.GivenLemmas.{not_got_named}
 use Rattle.afdx_serve.proofs.PutLemmas.{have_bytes, written_back}
 use Rattle.afdx_serve.proofs.RunLemmas.{leads_to, same_names, not_gathered, not_led}
-
--- there are as many captures as ports
-pub as_many_captures : {Z : Type 0} (t : Content) (captures : List (ℕ × Vec ℕ Z)) → AreOfPorts t (texts_of captures) → length captures ≡ length t.ports
-as_many_captures t captures ports =
-    let a = length-map {B = Text} captures (λ pair. (pair.0, pair.1.items)) in
-    let b = length-map (texts_of captures) (λ (text : Text). text.0) in
-    let same = ap length ports in
-    let d = length-map t.ports (λ (p : PortRow). p.id) in
-    omega (arith, a, b, same, d)
 
 -- ---- readers
 
@@ -144,13 +138,6 @@ have_before contents (Some f) (Some g) files all keeps have = have
 pub has_plan : (inputs : Inputs) (files : Option Files) (text : List ℕ) (plan : Plan) → Shows files inputs.table.now text → IsPlanOf text inputs.unchecked plan → HasPlan files inputs (table_in plan)
 has_plan inputs files text plan shows is = ((text, shows, is.is_table), is.accepted)
 
--- two plans that are read of one text are over one table
-pub same_table : (text : List ℕ) (unchecked : Bool) (first second : Plan) → IsPlanOf text unchecked first → IsPlanOf text unchecked second → table_in first ≡ table_in second
-same_table text unchecked first second one two =
-    let a = one.is_table in
-    let b = two.is_table in
-    cc
-
 -- there is no plan, so that the files lead to nothing
 pub not_planned : (f : Failure) (inputs : Inputs) (files : Option Files) (text : List ℕ) (before after : DeviceLog) → Shows files inputs.table.now text → after ≡ before
     → FailsToReadPlan f text inputs.unchecked → FailsToGather f inputs files before after
@@ -184,12 +171,12 @@ led formed isolate contents paths a b text plan captures names files report show
       reported = in_them.reported;
     }
 
--- the captures were not got whole, or lead to nothing
-pub not_led_whole : (inputs : Inputs) (a b : Option Files) (text : List ℕ) (plan : Plan) (first before after : DeviceLog) → Shows a inputs.table.now text → IsPlanOf text inputs.unchecked plan
-    → KeepsFiles a b → before ≡ first → (f : Failure) → FailsToLeadWhole f b inputs.input.now (table_in plan) before after → FailsToGather f inputs a first after
-not_led_whole inputs a b text plan first before after shows is keeps same f (inl h) =
+-- the captures were not got, or lead to nothing
+pub not_led_from : (inputs : Inputs) (a b : Option Files) (text : List ℕ) (plan : Plan) (first before after : DeviceLog) → Shows a inputs.table.now text → IsPlanOf text inputs.unchecked plan
+    → KeepsFiles a b → before ≡ first → (f : Failure) → FailsToLeadFrom f b inputs.input.now (table_in plan) before after → FailsToGather f inputs a first after
+not_led_from inputs a b text plan first before after shows is keeps same f (inl h) =
     not_gathered inputs a b (table_in plan) first before after (has_plan inputs a text plan shows is) keeps same f h
-not_led_whole inputs a b text plan first before after shows is keeps same f (inr h) =
+not_led_from inputs a b text plan first before after shows is keeps same f (inr h) =
     not_led inputs a plan h.0 first after
     (record { has_plan = has_plan inputs a text plan shows is; cleared = is.cleared; has_captures = (h.1.0, ShowsAll-before a b _ _ keeps h.1.1) })
     (h.3 ∙ same) f h.2
@@ -197,42 +184,87 @@ not_led_whole inputs a b text plan first before after shows is keeps same f (inr
 captures_before : (a b : Option Files) (path : List ℕ) (t : Content) (texts : List Text) → KeepsFiles a b → HasCaptures b path t texts → HasCaptures a path t texts
 captures_before a b path t texts keeps has = (has.0, ShowsAll-before a b _ _ keeps has.1)
 
--- what captures lead to that were got whole is what the files lead to
-pub whole_led : TablesAreWellFormed → AcceptedRunsIsolate → {N X : Type 0} (contents : N → Option (List ℕ)) (files : X → List N) (report : X → List ℕ) (paths : Paths) (a b : Option Files)
-    (text : List ℕ) (plan : Plan) (names : List (List ℕ)) (first before after : DeviceLog) (r : Result X Failure) → Shows a paths.table.now text → IsPlanOf text paths.unchecked plan
-    → names ≡ port_names paths.output.now (table_in plan) → KeepsFiles a b → before ≡ first
-    → MatchResult r
-    (λ x. ((texts : List Text) × HasCaptures b paths.input.now (table_in plan) texts × IsInFiles contents b (table_in plan) texts (files x) (report x)) × (after ≡ before))
-    (λ f. FailsToLeadWhole f b paths.input.now (table_in plan) before after)
-    → MatchResult r (λ x. IsLed contents paths a (files x) names (report x) × (after ≡ first)) (λ f. FailsToGather f (inputs_of paths) a first after)
-whole_led formed isolate contents files report paths a b text plan names first before after (Ok x) shows is named keeps same h = (
-  led formed isolate contents paths a b text plan h.0.0 names (files x) (report x) shows is (captures_before a b paths.input.now (table_in plan) h.0.0 keeps h.0.1) named keeps h.0.2,
-  h.1 ∙ same,
-)
-whole_led formed isolate contents files report paths a b text plan names first before after (Err f) shows is named keeps same h =
-    not_led_whole (inputs_of paths) a b text plan first before after shows is keeps same f h
+-- ---- names that were opened
 
-opened_before : {R : Type 0} (remaining : R → Option (List ℕ)) (a b : Option Files) (names : List (List ℕ)) (readers : List R) → KeepsFiles a b → AreOpened remaining b names readers
-    → AreOpened remaining a names readers
-opened_before remaining a b names readers keeps opened = record {
-  many = opened.many;
-  each = λ place reader name is_reader is_name. IsOpened-before a b name (remaining reader) keeps (opened.each place reader name is_reader is_name);
-}
+-- what is under the names before one was there
+pub opened_shown : {R : Type 0} (remaining : R → Option (List ℕ)) (files : Option Files) (names : List (List ℕ)) (readers : List R) (place : ℕ) → AreOpened remaining files names readers
+    → (got : List (List ℕ)) × ShowsAll files (take place names) got
+opened_shown remaining None names readers place opened = ([], tt)
+opened_shown {R} remaining (Some f) names readers place opened = by names readers place opened.many opened.each where
+  by : (names : List (List ℕ)) (readers : List R) (place : ℕ) → length readers ≡ length names
+      → ((k : ℕ) (reader : R) (name : List ℕ) → slice_get readers k ≡ Some reader → slice_get names k ≡ Some name → IsOpened (Some f) name (remaining reader))
+      → (got : List (List ℕ)) × (map f (take place names) ≡ map (λ (bytes : List ℕ). Some bytes) got)
+  by [] readers zero many each = ([], refl)
+  by [] readers (suc place) many each = ([], refl)
+  by (n ∷ names) [] place many each = absurd cc
+  by (n ∷ names) (r ∷ readers) zero many each = ([], refl)
+  by (n ∷ names) (r ∷ readers) (suc place) many each =
+      let fewer : length readers ≡ length names = cc in
+      let here = each zero r n refl refl in
+      let on = by names readers place fewer (λ k. each (suc k)) in
+      (here.0 ∷ on.0, ap (λ (o : Option (List ℕ)). o ∷ map f (take place names)) here.1 ∙ ap (λ (os : List (Option (List ℕ))). Some here.0 ∷ os) on.1)
 
--- so is what opened captures lead to
-pub opened_led : TablesAreWellFormed → AcceptedRunsIsolate → {N R : Type 0} (contents : N → Option (List ℕ)) (remaining : R → Option (List ℕ)) (paths : Paths) (a b c : Option Files) (text : List ℕ)
-    (plan : Plan) (sources names : List (List ℕ)) (readers : List R) (texts : List Text) (files : List N) (report : List ℕ) → Shows a paths.table.now text → IsPlanOf text paths.unchecked plan
-    → sources ≡ port_names paths.input.now (table_in plan) → names ≡ port_names paths.output.now (table_in plan) → KeepsFiles a b → KeepsFiles b c → AreOpened remaining b sources readers
-    → AreRead remaining readers texts → IsInFiles contents c (table_in plan) texts files report → IsLed contents paths a files names report
-opened_led formed isolate contents remaining paths a b c text plan sources names readers texts files report shows is from named first second opened read in_them =
-    led formed isolate contents paths a c text plan texts names files report shows is
-    (opened_are_captures remaining a paths.input.now (table_in plan) sources readers texts from (opened_before remaining a b sources readers first opened) read in_them.outcome.ports) named
-    (KeepsFiles-trans a b c first second) in_them
+-- the next of these names was not opened
+pub next_unopened : {X : Type 0} (str : X → List ℕ) {R : Type 0} (remaining : R → Option (List ℕ)) (files : Option Files) (names : List X) (i : ℕ) (d : X) (name : List ℕ) (readers : List R)
+    → i < length names → AreOpened remaining files (map str (take i names)) readers → name ≡ str (get_or names i d) → GetsNamed name files (map str names)
+next_unopened str remaining files names i d name readers lt opened is =
+    let got = opened_shown remaining files (map str (take i names)) readers i opened in
+    let same : take i (map str (take i names)) ≡ take i (map str names) = ap (take i) (sym (take-map str i names)) ∙ take-take i i (map str names) (omega (arith)) in
+    record {
+      place = i;
+      got = got.0;
+      is_there = slice_get-map str names i ∙ ap (option_map str) (slice_get-get_or names i d lt) ∙ ap (λ (n : List ℕ). Some n) (sym is);
+      earlier = subst (λ ns. ShowsAll files ns got.0) same got.1;
+    }
+
+-- one of the names of a table's captures was not got
+pub named_capture : (f : Failure) (files : Option Files) (path : List ℕ) (t : Content) (names : List (List ℕ)) (before after : DeviceLog) → names ≡ port_names path t
+    → FailsToGetNamed f files names before after → FailsToGetAll f files path t before after
+named_capture (failure.Get s) files path t names before after named fails =
+    let at = subst (λ ns. GetsNamed (string_bytes s) files ns) named fails.0 in
+    (record { place = at.place; got = at.got; is_there = at.is_there; earlier = at.earlier }, fails.1)
+named_capture failure.Memory files path t names before after named fails = tt
+named_capture failure.Usage files path t names before after named fails = absurd fails
+named_capture (failure.Table r) files path t names before after named fails = absurd fails
+named_capture (failure.Capture r) files path t names before after named fails = absurd fails
+named_capture (failure.PortCapture p r) files path t names before after named fails = absurd fails
+named_capture (failure.Put s) files path t names before after named fails = absurd fails
+named_capture (failure.Load r) files path t names before after named fails = absurd fails
+named_capture (failure.Network r) files path t names before after named fails = absurd fails
+named_capture failure.Read files path t names before after named fails = absurd fails
+named_capture failure.Write files path t names before after named fails = absurd fails
+
+-- that at a place was opened, and could not be read
+pub unread_capture : {X : Type 0} (str : X → List ℕ) {R : Type 0} (remaining : R → Option (List ℕ)) (f : Failure) (files : Option Files) (path : List ℕ) (t : Content) (names : List X)
+    (place : ℕ) (d : X) (readers : List R) (first before after : DeviceLog) → map str names ≡ port_names path t → AreOpened remaining files (map str names) readers → place < length names
+    → before ≡ first → FailsToGet f (str (get_or names place d)) before after → FailsToGetAll f files path t first after
+unread_capture str remaining f files path t names place d readers first before after named opened lt same fails =
+    let got = opened_shown remaining files (map str names) readers place opened in
+    let at : GetsNamed (str (get_or names place d)) files (map str names) = record {
+      place = place;
+      got = got.0;
+      is_there = slice_get-map str names place ∙ ap (option_map str) (slice_get-get_or names place d lt);
+      earlier = got.1;
+    } in
+    named_capture f files path t (map str names) first after named (not_got_named f files (str (get_or names place d)) (map str names) first before after same fails at)
+
+-- what was read of opened captures has a fault
+pub capture_fault : {R : Type 0} (remaining : R → Option (List ℕ)) (files : Option Files) (path : List ℕ) (t : Content) (names : List (List ℕ)) (readers : List R) (port : ℕ) (why : PcapFault)
+    (before after : DeviceLog) → names ≡ port_names path t → AreOpened remaining files names readers → HasFirstFault remaining t readers port why → after ≡ before
+    → FailsToLeadFrom (failure.PortCapture port why) files path t before after
+capture_fault remaining files path t names readers port why before after named opened has same =
+    inr (has.texts, opened_are_captures remaining files path t names readers has.texts named opened has.read has.ports, has.first, same)
+
+-- what the captures of a folder lead to, which were opened after new files were begun, is what the files lead to
+pub folder_led : TablesAreWellFormed → AcceptedRunsIsolate → {N : Type 0} (contents : N → Option (List ℕ)) (paths : Paths) (first a b : Option Files) (text : List ℕ) (plan : Plan)
+    (captures : List Text) (begun new : List N) (len : ℕ) (counts : Tally) (names : List (List ℕ)) (report : List ℕ) → Shows first paths.table.now text → IsPlanOf text paths.unchecked plan
+    → names ≡ port_names paths.output.now (table_in plan) → KeepsFiles first a → KeepsFiles a b → AreEmpty contents a begun → len ≡ length new → HasCaptures b paths.input.now (table_in plan) captures
+    → IsWritten contents (table_in plan) captures begun new counts → report ≡ report_of counts → IsLed contents paths first (take len (new ++ drop (length new) begun)) names report
+folder_led formed isolate contents paths first a b text plan captures begun new len counts names report shows is named keeps more empty long has written reported =
+    led formed isolate contents paths first a text plan captures names (take len (new ++ drop (length new) begun)) report shows is
+    (captures_before first b paths.input.now (table_in plan) captures (KeepsFiles-trans first a b keeps more) has) named keeps
+    (in_files contents a a (table_in plan) captures begun new len counts report (KeepsFiles-refl a) empty long written reported)
 
 -- there are as many names as ports
 pub as_many : {X : Type 0} (str : X → List ℕ) (path : List ℕ) (t : Content) (names : List X) → map str names ≡ port_names path t → length names ≡ length t.ports
 as_many str path t names named = sym (length-map names str) ∙ ap length named ∙ length-map t.ports (λ (p : PortRow). capture_name path p.id)
-
--- what holds of what is there
-pub some_has : {X : Type 0} (P : X → Type 0) (o : Option X) (x : X) → o ≡ Some x → IfSome o P → P x
-some_has P o x is h = subst (λ (k : Option _). IfSome k P) is h

@@ -4,6 +4,7 @@ use Rattle.std.specs.Prelude.{◌⊎◌}
 use Rattle.afdx_wiring.specs.declared.fault.NetworkFault.{NetworkFault}
 use Rattle.afdx_wiring.specs.declared.fault.NetworkFault.TheVariants as fault
 use Rattle.afdx_ways.specs.Lines.{Names}
+use Rattle.afdx_arguments.specs.declared.request.NetworkPaths.{NetworkPaths}
 use Rattle.afdx_arguments.specs.declared.request.NetworkRequest.{NetworkRequest}
 use Rattle.afdx_arguments.specs.declared.request.NetworkRequest.TheVariants as ask
 use Rattle.afdx_lines.specs.declared.network_failure.NetworkFailure.{NetworkFailure}
@@ -14,6 +15,7 @@ use Rattle.afdx_failures.specs.Inner.Failures.{wiring_failure}
 use Rattle.afdx_devices.specs.Files.{Files, DeviceLog, KeepsFiles}
 use Rattle.afdx_failures.specs.Reporting.{IsMade}
 use Rattle.afdx_serve.specs.Networks.{IsRefused, FailsToGetNetwork}
+use Rattle.afdx_serve.specs.NetworkRuns.{StopsNetwork, EndsNetwork}
 use Rattle.afdx_serve.specs.Serving.{World, WritesNothing, FailsToPerformNetwork}
 
 -- ---- a network that is not got, or is refused
@@ -75,6 +77,14 @@ never_usage (ask.Run paths) old new h = elim h.0.0 [
   ]
 ]
 
+-- of a name that failed: no file has changed, or those before a name were put
+network_ended : (name : List ℕ) (paths : NetworkPaths) (a c : Option Files) (before after : DeviceLog) → EndsNetwork name paths a c before after
+    → KeepsFiles a c ⊎ ((n : List ℕ) × StopsNetwork n paths a c)
+network_ended name paths a c before after h = elim h.3 [
+  | inl kept ↦ inl kept.1
+  | inr stops ↦ inr (name, (h.0, h.1, h.2, stops.0))
+]
+
 -- a failure with a line that is made leaves what may be there where memory ran out
 pub spares : (f : Failure) (r : NetworkRequest) (old new : World) → IsMade f → FailsToPerformNetwork f r old new
     → (WritesNothing old new × KeepsFiles old.files new.files) ⊎ FailsToPerformNetwork failure.Memory r old new
@@ -103,7 +113,7 @@ spares (failure.Capture e) (ask.Run paths) old new made h = inl (h.1, h.0.1)
 spares (failure.PortCapture p e) (ask.Run paths) old new made h = inl (h.1, h.0.1)
 spares (failure.Network e) (ask.Run paths) old new made h = inl (h.1, h.0.1)
 spares (failure.Get name) (ask.Run paths) old new made h = inl (h.1, h.0.1)
-spares (failure.Put name) (ask.Run paths) old new made h = inr (inr (_, h.0.0), h.1)
+spares (failure.Put name) (ask.Run paths) old new made h = inr (network_ended _ paths _ _ _ _ h.0, h.1)
 
 -- ---- the failures of refusals
 

@@ -7,7 +7,7 @@ use Rattle.std.proofs.lemmas.List.{length-take, take_more}
 use Rattle.std.proofs.lemmas.Option.{same_Some, slice_get-get_or, slice_get_within, get_or_from_slice_get}
 use Rattle.afdx_session.specs.Texts.{Text}
 use Rattle.afdx_session.specs.Written.{AreAppended}
-use Rattle.afdx_devices.specs.Files.{Files, KeepsFiles, PutsFile, PutsFiles}
+use Rattle.afdx_devices.specs.Files.{Files, KeepsFiles, PutsFile, PutsFiles, DeviceLog, one_settled, settled_after}
 use Rattle.afdx_serve.specs.Runs.{bytes_of_captures}
 use Rattle.afdx_serve.specs.Inner.Outputs.{AreEmpty, HaveBytes}
 use Rattle.afdx_serve.proofs.FileLemmas.{one_more_put}
@@ -57,6 +57,53 @@ have_bytes contents (Some f) (Some g) old new texts keeps empty appended = λ pl
     let text = text_of texts place bytes is_bytes in
     let grown = subst (λ (k : Option (List ℕ)). Appends k (contents n) text.0.1) (empty place was was_is) (appended.1 place was n text.0 was_is is_new text.1) in
     to_none (contents n) bytes (subst (Appends (Some []) (contents n)) text.2 grown)
+
+-- a new file that was begun has the text that was appended to it, also once the device has taken it
+pub has_text : (a : Option Files) (begun appended settled : Option (List ℕ)) (text : List ℕ) → IfSome a (λ _. begun ≡ Some []) → Appends begun appended text → settled ≡ appended
+    → IfSome a (λ _. settled ≡ Some text)
+has_text None begun appended settled text empty grown same = tt
+has_text (Some f) begun appended settled text empty grown same = same ∙ to_none appended text (subst (λ (k : Option (List ℕ)). Appends k appended text) empty grown)
+
+-- ---- the device takes them
+
+-- so many, and one more
+pub one_more_settled : (i : ℕ) (first before after : DeviceLog) → before ≡ settled_after i first → after ≡ one_settled before → after ≡ settled_after (i + 1) first
+one_more_settled i first before after was one =
+    let more : i + 1 ≡ suc i = omega arith in
+    one ∙ ap one_settled was ∙ ap (λ (n : ℕ). settled_after n first) (sym more)
+
+-- what holds of each place of a list and of the one after it
+pushed_at : {N : Type 0} (P : ℕ → N → Type 0) (files : List N) (new : N) → ((place : ℕ) (n : N) → slice_get files place ≡ Some n → P place n) → P (length files) new → (place : ℕ) (n : N)
+    → slice_get (files ++ new ∷ []) place ≡ Some n
+    → P place n
+pushed_at P [] new was one zero n is = subst (P zero) (same_Some new n is) one
+pushed_at P [] new was one (suc place) n is = absurd cc
+pushed_at P (x ∷ files) new was one zero n is = was zero n is
+pushed_at P (x ∷ files) new was one (suc place) n is = pushed_at (λ k m. P (suc k) m) files new (λ k m at. was (suc k) m at) one place n is
+
+-- none has other bytes
+pub none_have : {N : Type 0} (contents : N → Option (List ℕ)) (a : Option Files) (all : List (List ℕ)) → HaveBytes contents a [] all
+none_have contents None all = tt
+none_have contents (Some f) all = λ place n bytes is_new is_bytes. absurd (nowhere place n is_new) where
+  nowhere : {N : Type 0} (place : ℕ) (n : N) → slice_get [] place ≡ Some n → ⊥
+  nowhere place n is = absurd cc
+
+-- one more, of the new files of a run, was taken as it was
+pub taken_push : {N : Type 0} (contents : N → Option (List ℕ)) (a : Option Files) (files settled : List N) (new taken : N) (all : List (List ℕ)) → HaveBytes contents a files all
+    → HaveBytes contents a settled all → slice_get files (length settled) ≡ Some new → contents taken ≡ contents new → HaveBytes contents a (settled ++ taken ∷ []) all
+taken_push contents None files settled new taken all has was is same = tt
+taken_push contents (Some f) files settled new taken all has was is same = λ place n bytes is_new is_bytes.
+    pushed_at (λ (k : ℕ) m. (b : List ℕ) → slice_get all k ≡ Some b → contents m ≡ Some b) settled taken (λ k m at b there. was k m b at there) (λ b there. same ∙ has (length settled) new b is there)
+    place n is_new bytes is_bytes
+
+-- one more, of a text, was taken
+pub text_push : {N : Type 0} (contents : N → Option (List ℕ)) (a b : Option Files) (settled : List N) (taken : N) (all : List (List ℕ)) (text : List ℕ) → KeepsFiles a b
+    → HaveBytes contents a settled all → slice_get all (length settled) ≡ Some text → IfSome b (λ _. contents taken ≡ Some text) → HaveBytes contents a (settled ++ taken ∷ []) all
+text_push contents None b settled taken all text keeps was is has = tt
+text_push contents (Some f) None settled taken all text keeps was is has = absurd keeps
+text_push contents (Some f) (Some g) settled taken all text keeps was is has = λ place n bytes is_new is_bytes.
+    pushed_at (λ (k : ℕ) m. (x : List ℕ) → slice_get all k ≡ Some x → contents m ≡ Some x) settled taken (λ k m at x there. was k m x at there) (λ x there. has ∙ sym is ∙ there)
+    place n is_new bytes is_bytes
 
 -- ---- they are put
 

@@ -1,6 +1,6 @@
 -- What a run did, and why it was not done.
 use Rattle.std.proofs.Common.{◌≡◌, ℕ, Bool, true, false, not, List, Option, Result, Ok, Err, sym, ap, subst, ◌∙◌, inl, inr}
-use Rattle.std.specs.Prelude.{MatchResult}
+use Rattle.std.specs.Prelude.{◌⊎◌, MatchResult}
 use Rattle.std.proofs.Common.{map, length, String, Global}
 use Rattle.std.specs.Prelude.{string_bytes}
 use Rattle.std.proofs.lemmas.List.{length-map}
@@ -20,22 +20,24 @@ use Rattle.afdx_arguments.specs.declared.request.Paths.{Paths}
 use Rattle.afdx_arguments.specs.declared.request.Inputs.{Inputs}
 use Rattle.afdx_failures.specs.declared.failure.Failure.{Failure}
 use Rattle.afdx_failures.specs.declared.failure.Failure.TheVariants as failure
-use Rattle.afdx_devices.specs.Files.{Files, DeviceLog, KeepsFiles, PutsFiles, one_more}
+use Rattle.afdx_devices.specs.Files.{Files, DeviceLog, KeepsFiles, PutsFiles, one_more, settled_after}
 use Rattle.afdx_serve.specs.Measures.{IsMeasured, MeasuresTo}
-use Rattle.afdx_serve.specs.Runs.{inputs_of, IsRunOf, LeadsTo, names_in, bytes_of_captures, StopsAt, StopsRun, FailsToPut, FailsToEnd, FailsToRun, HasPlan, FailsToGetAll, FailsToGather, FailsToLead}
+use Rattle.afdx_serve.specs.Runs.{inputs_of, IsRunOf, LeadsTo, names_in, bytes_of_captures, StopsAt, EndsAt, StopsRun, EndsRun, FailsToPut, FailsToEnd, FailsToRun, HasPlan, FailsToGetAll, FailsToGather, FailsToLead}
 use Rattle.afdx_serve.specs.Runs.{capture_name}
-use Rattle.afdx_serve.specs.Traces.{trace_names, trace_texts, IsTraceIn, PutsTrace, StopsTrace, FailsToTrace}
+use Rattle.afdx_serve.specs.Traces.{trace_names, trace_texts, IsTraceIn, PutsTrace, StopsTrace, EndsTrace, FailsToTrace}
 use Rattle.std.specs.Io.KnownBytes.{Keeps}
 use Rattle.afdx_serve.specs.Serving.{world, PutsResults, FailsToRunAll}
-use Rattle.afdx_serve.proofs.CaptureLemmas.{StopsAt-before, GetsUpTo-before}
-use Rattle.afdx_serve.proofs.FileLemmas.{PutsFiles-before}
+use Rattle.afdx_serve.proofs.CaptureLemmas.{StopsAt-before, EndsAt-before, GetsUpTo-before}
+use Rattle.afdx_serve.proofs.FileLemmas.{KeepsFiles-trans, PutsFiles-before}
 
 -- what was led to was not all put
 module _ (paths : Paths) (names all : List (List ℕ)) (a b c : Option Files) (first before after : DeviceLog) (keeps : KeepsFiles a b) (same : before ≡ first)
+    (Ends : List ℕ → Type 0) (ends : (name : List ℕ) → EndsAt name names all a c first after → Ends name)
     (Stops : List ℕ → Type 0) (stops : (name : List ℕ) → StopsAt name names all a c → Stops name) where
-  pub not_all_put : (f : Failure) → FailsToPut f names all b c before after → FailsToEnd Stops f paths a c first after
-  not_all_put (failure.Put name) h = (stops (string_bytes name) (StopsAt-before _ _ _ a b c keeps h.0), h.1 ∙ ap (one_more (string_bytes name)) same)
-  not_all_put failure.Memory h = inr (h.0, stops h.0 (StopsAt-before _ _ _ a b c keeps h.1))
+  pub not_all_put : (f : Failure) → FailsToPut f names all b c before after → FailsToEnd Ends Stops f paths a c first after
+  not_all_put (failure.Put name) h = ends (string_bytes name) (EndsAt-before (string_bytes name) names all a b c first before after keeps same h)
+  not_all_put failure.Memory (inl kept) = inl (KeepsFiles-trans a b c keeps kept)
+  not_all_put failure.Memory (inr h) = inr (h.0, stops h.0 (StopsAt-before _ _ _ a b c keeps h.1))
   not_all_put failure.Usage h = absurd h
   not_all_put (failure.Table r) h = absurd h
   not_all_put (failure.Capture r) h = absurd h
@@ -50,8 +52,12 @@ module _ (paths : Paths) (results : Results) (a b c : Option Files) (first befor
   stopped : (name : List ℕ) → StopsAt name (names_in paths.output.now results.captures) (bytes_of_captures results.captures) a c → StopsRun name paths a c
   stopped name stops = (results, leads, stops)
 
+  ended : (name : List ℕ) → EndsAt name (names_in paths.output.now results.captures) (bytes_of_captures results.captures) a c first after → EndsRun name paths a c first after
+  ended name ends = (results, leads, ends)
+
   not_put_run : (f : Failure) → FailsToPut f (names_in paths.output.now results.captures) (bytes_of_captures results.captures) b c before after → FailsToRun f paths a c first after
-  not_put_run = not_all_put paths (names_in paths.output.now results.captures) (bytes_of_captures results.captures) a b c first before after keeps same (λ name. StopsRun name paths a c) stopped
+  not_put_run = not_all_put paths (names_in paths.output.now results.captures) (bytes_of_captures results.captures) a b c first before after keeps same
+      (λ name. EndsRun name paths a c first after) ended (λ name. StopsRun name paths a c) stopped
 
   -- what was led to was not all put, and nothing was written
   pub not_all : (f : Failure) (w v : Option (List ℕ)) → Keeps w v → FailsToPut f (names_in paths.output.now results.captures) (bytes_of_captures results.captures) b c before after
@@ -69,9 +75,23 @@ module _ (paths : Paths) (results : Results) (a b c : Option Files) (first befor
   not_all failure.Write w v none h = absurd h
 
   -- what was led to was put
-  pub all_put : PutsFiles b c (names_in paths.output.now results.captures) (bytes_of_captures results.captures) → after ≡ before → (w v : Option (List ℕ))
+  pub all_put : PutsFiles b c (names_in paths.output.now results.captures) (bytes_of_captures results.captures)
+      → after ≡ settled_after (length (names_in paths.output.now results.captures)) before → (w v : Option (List ℕ))
       → PutsResults paths (world w a first) (world v c after) results
-  all_put put count w v = (leads, PutsFiles-before a b c _ _ keeps put, count ∙ same)
+  all_put put count w v = (leads, PutsFiles-before a b c _ _ keeps put, count ∙ ap (settled_after (length (names_in paths.output.now results.captures))) same)
+
+-- of a name that failed: no file has changed, or those before a name were put
+pub run_ended : (name : List ℕ) (paths : Paths) (a c : Option Files) (before after : DeviceLog) → EndsRun name paths a c before after → KeepsFiles a c ⊎ ((n : List ℕ) × StopsRun n paths a c)
+run_ended name paths a c before after h = elim h.2 [
+  | inl kept ↦ inl kept.1
+  | inr stops ↦ inr (name, (h.0, h.1, stops.0))
+]
+
+pub trace_ended : (name : List ℕ) (paths : Paths) (a c : Option Files) (before after : DeviceLog) → EndsTrace name paths a c before after → KeepsFiles a c ⊎ ((n : List ℕ) × StopsTrace n paths a c)
+trace_ended name paths a c before after h = elim h.2 [
+  | inl kept ↦ inl kept.1
+  | inr stops ↦ inr (name, (h.0, h.1, stops.0))
+]
 
 -- ---- what a run is made of
 
@@ -123,9 +143,9 @@ module _ (paths : Paths) (a : Option Files) (plan : Plan) (captures : List Text)
   abbrev pub IsReported : List (List ℕ) → Type 0
   IsReported texts = (s : State) × IsDoneOf (is_cleared plan) (table_in plan) captures s × (is_cleared plan ≡ true → IsIsolatedRun s.run) × (texts ≡ trace_texts s.run)
 
-  pub traced : (r : Result (List (List ℕ)) Failure) → MatchResult r IsReported (λ f. FailsToLead f (table_in plan) captures)
-      → MatchResult r (λ texts. IsTraceIn paths a texts × (after ≡ before)) (λ f. FailsToGather f (inputs_of paths) a before after)
-  traced = leads_as (inputs_of paths) a plan captures before after of count IsReported (IsTraceIn paths a)
+  pub traced : {X : Type 0} (seen : X → List (List ℕ)) (r : Result X Failure) → MatchResult r (λ texts. IsReported (seen texts)) (λ f. FailsToLead f (table_in plan) captures)
+      → MatchResult r (λ texts. IsTraceIn paths a (seen texts) × (after ≡ before)) (λ f. FailsToGather f (inputs_of paths) a before after)
+  traced seen = leads_as (inputs_of paths) a plan captures before after of count (λ texts. IsReported (seen texts)) (λ texts. IsTraceIn paths a (seen texts))
       (λ texts h. (
         h.0,
         record {
@@ -145,15 +165,18 @@ module _ (paths : Paths) (texts : List (List ℕ)) (a b c : Option Files) (first
   names = trace_names paths.output.now
 
   pub not_traced : (f : Failure) → FailsToPut f names texts b c before after → FailsToTrace f paths a c first after
-  not_traced = not_all_put paths names texts a b c first before after keeps same (λ name. StopsTrace name paths a c)
+  not_traced = not_all_put paths names texts a b c first before after keeps same
+      (λ name. EndsTrace name paths a c first after)
+      (λ name ends. (is.0, is.1, subst (λ (all : List (List ℕ)). EndsAt name names all a c first after) is.2 ends))
+      (λ name. StopsTrace name paths a c)
       (λ name stops. (is.0, is.1, subst (λ (all : List (List ℕ)). StopsAt name names all a c) is.2 stops))
 
   pub all_traced : PutsFiles b c names texts → PutsTrace paths a c
   all_traced put = (is.0, is.1, subst (λ (all : List (List ℕ)). PutsFiles a c names all) is.2 (PutsFiles-before a b c _ _ keeps put))
 
-  pub traced_all : {T : Type 0} (r : Result T Failure) → MatchResult r (λ _. PutsFiles b c names texts × (after ≡ before)) (λ f. FailsToPut f names texts b c before after)
-      → MatchResult r (λ _. PutsTrace paths a c × (after ≡ first)) (λ f. FailsToTrace f paths a c first after)
-  traced_all (Ok x) h = (all_traced h.0, h.1 ∙ same)
+  pub traced_all : {T : Type 0} (r : Result T Failure) → MatchResult r (λ _. PutsFiles b c names texts × (after ≡ settled_after (length names) before)) (λ f. FailsToPut f names texts b c before after)
+      → MatchResult r (λ _. PutsTrace paths a c × (after ≡ settled_after 2 first)) (λ f. FailsToTrace f paths a c first after)
+  traced_all (Ok x) h = (all_traced h.0, h.1 ∙ ap (settled_after 2) same)
   traced_all (Err f) h = not_traced f h
 
 -- the files lead to nothing, and nothing was put or written

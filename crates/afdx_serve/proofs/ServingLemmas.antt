@@ -10,6 +10,7 @@ use Rattle.afdx_failures.specs.declared.failure.Failure.TheVariants as failure
 use Rattle.afdx_failures.specs.Reporting.{ReportsAs, IsMade}
 use Rattle.afdx_serve.specs.Serving.{World, Performs, FailsToPerform, FailsToPerformNetwork, Serves, Fails, RunsOut}
 use Rattle.afdx_serve.proofs.NetworkLemmas.{never_usage, spares}
+use Rattle.afdx_serve.proofs.RunLemmas.{run_ended, trace_ended}
 
 module _ (arguments : List (List ℕ)) (input : Option (List ℕ)) (old new : World) where
   fails : (r : Request) → Asks arguments r → (f : Failure) → FailsToPerform f r input old new → Fails f arguments input old new
@@ -88,8 +89,8 @@ module _ (arguments : List (List ℕ)) (input : Option (List ℕ)) (old new : Wo
   runs_out (failure.Put name) (request.Check path) made asks h = absurd h
   runs_out (failure.Put name) (request.Size path) made asks h = absurd h
   runs_out (failure.Put name) (request.Measure inputs) made asks h = absurd h.0
-  runs_out (failure.Put name) (request.Run paths) made asks h = inr (request.Run paths, asks, (inr (_, h.0.0), h.1))
-  runs_out (failure.Put name) (request.Trace paths) made asks h = inr (request.Trace paths, asks, (inr (_, h.0.0), h.1))
+  runs_out (failure.Put name) (request.Run paths) made asks h = inr (request.Run paths, asks, (run_ended _ paths _ _ _ _ h.0, h.1))
+  runs_out (failure.Put name) (request.Trace paths) made asks h = inr (request.Trace paths, asks, (trace_ended _ paths _ _ _ _ h.0, h.1))
   runs_out (failure.Put name) (request.Network r) made asks h = network_runs_out (failure.Put name) r made asks h
   runs_out (failure.Network e) (request.Alone link) made asks h = absurd h.0
   runs_out (failure.Network e) (request.Check path) made asks h = absurd h

@@ -16,7 +16,7 @@ use Rattle.afdx_lines.specs.declared.network_failure.NetworkFailure.TheVariants 
 use Rattle.afdx_failures.specs.declared.failure.Failure.{Failure}
 use Rattle.afdx_failures.specs.declared.failure.Failure.TheVariants as failure
 use Rattle.afdx_devices.specs.Files.{Files, ShowsAll, KeepsFiles, DeviceLog, one_more}
-use Rattle.afdx_serve.specs.Runs.{capture_name, names_in, bytes_of_captures, report_in, StopsAt}
+use Rattle.afdx_serve.specs.Runs.{capture_name, names_in, bytes_of_captures, report_in, StopsAt, EndsAt}
 use Rattle.afdx_serve.specs.Networks.{names_of, HasNetwork, FailsToGetNetwork, FailsToAcceptNetwork}
 
 -- ---- names
@@ -97,8 +97,14 @@ StopsNetwork name paths old new =
     (net : Network) × (left : List Results) × LeadsToNetwork paths old net left
     × StopsAt name (names_at paths.output.now (names_of net.layout.switches) (captures_of left)) (bytes_at (captures_of left)) old new
 
+-- this name failed
+abbrev pub EndsNetwork : List ℕ → NetworkPaths → Option Files → Option Files → DeviceLog → DeviceLog → Type 0
+EndsNetwork name paths old new before after =
+    (net : Network) × (left : List Results) × LeadsToNetwork paths old net left
+    × EndsAt name (names_at paths.output.now (names_of net.layout.switches) (captures_of left)) (bytes_at (captures_of left)) old new before after
+
 -- they were not put
 abbrev pub FailsToPutNetwork : Failure → NetworkPaths → Option Files → Option Files → DeviceLog → DeviceLog → Type 0
-FailsToPutNetwork (failure.Put name) paths old new before after = StopsNetwork (string_bytes name) paths old new × (after ≡ one_more (string_bytes name) before)
+FailsToPutNetwork (failure.Put name) paths old new before after = EndsNetwork (string_bytes name) paths old new before after
 FailsToPutNetwork failure.Memory paths old new before after = KeepsFiles old new ⊎ ((name : List ℕ) × StopsNetwork name paths old new)
 FailsToPutNetwork f paths old new before after = FailsToLeadNetwork f paths old before after × KeepsFiles old new

@@ -1,5 +1,5 @@
 -- What a run does to a folder.
-use Rattle.std.specs.Prelude.{Bool, false, not, ◌≡◌, ◌⊎◌, ℕ, codes, List, ◌++◌, map, take, slice_get, Option, Some, Ok, Err, string_bytes}
+use Rattle.std.specs.Prelude.{Bool, false, not, ◌≡◌, ◌⊎◌, ℕ, codes, List, ◌++◌, map, length, take, slice_get, Option, Some, Ok, Err, string_bytes}
 use Rattle.std.specs.Fmt.{decimal}
 use Rattle.afdx_table.specs.declared.fault.TableFault.{TableFault}
 use Rattle.afdx_table.specs.Content.{Content}
@@ -15,7 +15,7 @@ use Rattle.afdx_arguments.specs.declared.request.Paths.{Paths}
 use Rattle.afdx_arguments.specs.declared.request.Inputs.{Inputs}
 use Rattle.afdx_failures.specs.declared.failure.Failure.{Failure}
 use Rattle.afdx_failures.specs.declared.failure.Failure.TheVariants as failure
-use Rattle.afdx_devices.specs.Files.{Files, Shows, ShowsAll, KeepsFiles, KeepsOthers, PutsFiles, DeviceLog, one_more}
+use Rattle.afdx_devices.specs.Files.{Files, Shows, ShowsAll, KeepsFiles, KeepsOthers, PutsFiles, DeviceLog, one_more, settled_after}
 
 -- ---- names
 
@@ -92,6 +92,17 @@ pub record StopsAt (name : List ℕ) (names all : List (List ℕ)) (old new : Op
   pub earlier : PutsFiles old before (take place names) (take place all)
   pub others : KeepsOthers before new name
 
+-- the device has not taken the new file of this name, but those of the names before it
+abbrev pub StopsSettling : List ℕ → List (List ℕ) → DeviceLog → DeviceLog → Type 0
+StopsSettling name names before after = (place : ℕ) × (slice_get names place ≡ Some name) × (after ≡ one_more name (settled_after place before))
+
+-- this name failed: the device has not taken its new file, and no file has changed; or the device has taken the new files of all
+-- names, and the files before it were put
+abbrev pub EndsAt : List ℕ → List (List ℕ) → List (List ℕ) → Option Files → Option Files → DeviceLog → DeviceLog → Type 0
+EndsAt name names all old new before after =
+    (StopsSettling name names before after × KeepsFiles old new)
+    ⊎ (StopsAt name names all old new × (after ≡ one_more name (settled_after (length names) before)))
+
 -- ---- why something was not done, and the failures before and after
 
 -- a file was not got
@@ -144,8 +155,8 @@ FailsToPutOne _ path before after = ⊥
 
 -- not all was put
 abbrev pub FailsToPut : Failure → List (List ℕ) → List (List ℕ) → Option Files → Option Files → DeviceLog → DeviceLog → Type 0
-FailsToPut (failure.Put name) names all old new before after = StopsAt (string_bytes name) names all old new × (after ≡ one_more (string_bytes name) before)
-FailsToPut failure.Memory names all old new before after = (name : List ℕ) × StopsAt name names all old new
+FailsToPut (failure.Put name) names all old new before after = EndsAt (string_bytes name) names all old new before after
+FailsToPut failure.Memory names all old new before after = KeepsFiles old new ⊎ ((name : List ℕ) × StopsAt name names all old new)
 FailsToPut _ names all old new before after = ⊥
 
 -- ---- a whole run
@@ -155,12 +166,19 @@ abbrev pub StopsRun : List ℕ → Paths → Option Files → Option Files → T
 StopsRun name paths old new =
     (results : Results) × LeadsTo paths old results × StopsAt name (names_in paths.output.now results.captures) (bytes_of_captures results.captures) old new
 
--- what the files of a run lead to was not put, where `Stops` says of a name that the files before it were
-abbrev pub FailsToEnd : (List ℕ → Type 0) → Failure → Paths → Option Files → Option Files → DeviceLog → DeviceLog → Type 0
-FailsToEnd Stops (failure.Put name) paths old new before after = Stops (string_bytes name) × (after ≡ one_more (string_bytes name) before)
-FailsToEnd Stops failure.Memory paths old new before after = KeepsFiles old new ⊎ ((name : List ℕ) × Stops name)
-FailsToEnd Stops f paths old new before after = FailsToGather f (inputs_of paths) old before after × KeepsFiles old new
+-- the files lead to results, and this name failed
+abbrev pub EndsRun : List ℕ → Paths → Option Files → Option Files → DeviceLog → DeviceLog → Type 0
+EndsRun name paths old new before after =
+    (results : Results) × LeadsTo paths old results
+    × EndsAt name (names_in paths.output.now results.captures) (bytes_of_captures results.captures) old new before after
+
+-- what the files of a run lead to was not put, where `Ends` says of a name that it failed, and `Stops` that the files before it were put
+abbrev pub FailsToEnd : (List ℕ → Type 0) → (List ℕ → Type 0) → Failure → Paths → Option Files → Option Files → DeviceLog → DeviceLog → Type 0
+FailsToEnd Ends Stops (failure.Put name) paths old new before after = Ends (string_bytes name)
+FailsToEnd Ends Stops failure.Memory paths old new before after = KeepsFiles old new ⊎ ((name : List ℕ) × Stops name)
+FailsToEnd Ends Stops f paths old new before after = FailsToGather f (inputs_of paths) old before after × KeepsFiles old new
 
 -- the results of a run were not put
 abbrev pub FailsToRun : Failure → Paths → Option Files → Option Files → DeviceLog → DeviceLog → Type 0
-FailsToRun f paths old new before after = FailsToEnd (λ name. StopsRun name paths old new) f paths old new before after
+FailsToRun f paths old new before after =
+    FailsToEnd (λ name. EndsRun name paths old new before after) (λ name. StopsRun name paths old new) f paths old new before after

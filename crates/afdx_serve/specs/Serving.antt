@@ -1,5 +1,5 @@
 -- What serving arguments does: to what a reader gives, and to what a writer and a folder hold before and after.
-use Rattle.std.specs.Prelude.{string_bytes, Some, None, ◌≡◌, ◌⊎◌, ℕ, List, Option}
+use Rattle.std.specs.Prelude.{string_bytes, length, Some, None, ◌≡◌, ◌⊎◌, ℕ, List, Option}
 use Rattle.std.specs.Io.KnownBytes.{Appends, Keeps}
 use Rattle.afdx_pcap.specs.Fault.{IsFault}
 use Rattle.afdx_arguments.specs.declared.alone.Alone.{Alone}
@@ -26,7 +26,7 @@ use Rattle.afdx_serve.specs.Networks.{names_of, HasNetwork, IsRefused, FailsToGe
 use Rattle.afdx_serve.specs.NetworkChecks.{IsNetworkCheck}
 use Rattle.afdx_serve.specs.NetworkJitters.{JittersAre, FailsToFit}
 use Rattle.afdx_serve.specs.NetworkRuns.{LeadsToNetwork, FailsToPutNetwork, names_at, bytes_at, captures_of, reports_of}
-use Rattle.afdx_devices.specs.Files.{Files, DeviceLog, KeepsFiles, PutsFiles, one_more}
+use Rattle.afdx_devices.specs.Files.{Files, DeviceLog, KeepsFiles, PutsFiles, one_more, settled_after}
 use Rattle.afdx_session.specs.Outcome.{Results}
 use Rattle.afdx_devices.specs.Input.{AreGiven}
 use Rattle.afdx_devices.specs.Output.{AppendsPrefix}
@@ -40,7 +40,7 @@ pub record World : Type 0 where
   pub written : Option (List ℕ)
   -- what the folder holds
   pub files : Option Files
-  -- how often the folder failed, and for which name at last
+  -- how often the folder failed, for which name at last, and how many new files its device has taken
   pub failed : DeviceLog
 
 abbrev pub world : Option (List ℕ) → Option Files → DeviceLog → World
@@ -164,7 +164,7 @@ abbrev pub PutsNetwork : NetworkPaths → World → World → Network → List R
 PutsNetwork paths old new net left =
     LeadsToNetwork paths old.files net left
     × PutsFiles old.files new.files (names_at paths.output.now (names_of net.layout.switches) (captures_of left)) (bytes_at (captures_of left))
-    × (new.failed ≡ old.failed)
+    × (new.failed ≡ settled_after (length (names_at paths.output.now (names_of net.layout.switches) (captures_of left))) old.failed)
 
 abbrev pub RunsNetwork : NetworkPaths → World → World → Type 0
 RunsNetwork paths old new =
@@ -193,7 +193,8 @@ FailsToPerformNetwork f (ask.Run paths) old new = FailsToRunNetwork f paths old 
 -- the files lead to results, which were put
 abbrev pub PutsResults : Paths → World → World → Results → Type 0
 PutsResults paths old new results =
-    LeadsTo paths old.files results × PutsFiles old.files new.files (names_in paths.output.now results.captures) (bytes_of_captures results.captures) × (new.failed ≡ old.failed)
+    LeadsTo paths old.files results × PutsFiles old.files new.files (names_in paths.output.now results.captures) (bytes_of_captures results.captures)
+    × (new.failed ≡ settled_after (length (names_in paths.output.now results.captures)) old.failed)
 
 -- and their report was written
 abbrev pub Runs : Paths → World → World → Type 0
@@ -217,7 +218,7 @@ FailsToMeasure f inputs old new = FailsToGather f inputs old.files old.failed ne
 
 -- what is reported of each frame and copy was put; nothing was written
 abbrev pub Traces : Paths → World → World → Type 0
-Traces paths old new = PutsTrace paths old.files new.files × (new.failed ≡ old.failed) × WritesNothing old new
+Traces paths old new = PutsTrace paths old.files new.files × (new.failed ≡ settled_after 2 old.failed) × WritesNothing old new
 
 -- why it was not, and what was done
 abbrev pub FailsToTraceAll : Failure → Paths → World → World → Type 0

@@ -10,7 +10,7 @@ use Rattle.afdx_session.specs.Outcome.{IsDoneOf}
 use Rattle.afdx_arguments.specs.declared.request.Paths.{Paths}
 use Rattle.afdx_failures.specs.declared.failure.Failure.{Failure}
 use Rattle.afdx_devices.specs.Files.{Files, PutsFiles, DeviceLog}
-use Rattle.afdx_serve.specs.Runs.{inputs_of, HasPlan, HasCaptures, StopsAt, FailsToEnd}
+use Rattle.afdx_serve.specs.Runs.{inputs_of, HasPlan, HasCaptures, StopsAt, EndsAt, FailsToEnd}
 
 -- profile: the names of the two files in a folder, in the order in which they are put
 abbrev pub arrivals_name : List ℕ → List ℕ
@@ -47,6 +47,12 @@ PutsTrace paths old new = (s : State) × TracesTo paths old s × PutsFiles old n
 abbrev pub StopsTrace : List ℕ → Paths → Option Files → Option Files → Type 0
 StopsTrace name paths old new = (s : State) × TracesTo paths old s × StopsAt name (trace_names paths.output.now) (trace_texts s.run) old new
 
+-- this name failed
+abbrev pub EndsTrace : List ℕ → Paths → Option Files → Option Files → DeviceLog → DeviceLog → Type 0
+EndsTrace name paths old new before after =
+    (s : State) × TracesTo paths old s × EndsAt name (trace_names paths.output.now) (trace_texts s.run) old new before after
+
 -- they were not put
 abbrev pub FailsToTrace : Failure → Paths → Option Files → Option Files → DeviceLog → DeviceLog → Type 0
-FailsToTrace f paths old new before after = FailsToEnd (λ name. StopsTrace name paths old new) f paths old new before after
+FailsToTrace f paths old new before after =
+    FailsToEnd (λ name. EndsTrace name paths old new before after) (λ name. StopsTrace name paths old new) f paths old new before after

@@ -1,6 +1,6 @@
 //! What a run is made of: its plan, and the captures of its ports.
 
-ghost use Rattle.std.specs.Prelude.{◌≡◌, false, not, MatchResult};
+ghost use Rattle.std.specs.Prelude.{◌≡◌, ℕ, List, false, not, MatchResult};
 ghost use Rattle.afdx_load.specs.Accepted.{IsAccepted};
 ghost use Rattle.afdx_session.specs.Texts.{texts_of};
 ghost use Rattle.afdx_session.specs.Outcome.{table_in, is_cleared};
@@ -47,28 +47,27 @@ fn plan(table: Table, unchecked: bool) -> Result<Plan, Failure>
 /// # Errors
 ///
 /// `Table`, `Load`; `Memory` where memory ran out. O(text).
-pub(crate) fn read_plan(alloc: Global, text: &[u8], unchecked: bool) -> Result<Plan, Failure>
+fn read_plan(alloc: Global, text: &[u8], unchecked: bool) -> Result<Plan, Failure>
     ensures { MatchResult result (λ plan. IsPlanOf text.now unchecked plan) (λ f. FailsToReadPlan f text.now unchecked) }
 {
     let table = afdx_table::read(alloc, text)?;
     plan(table, unchecked)
 }
 
-/// The text of a run's table, which is leaked, and the plan that is read of it.
+/// The plan of a run. The text of its table is leaked.
 pub(crate) fn get_plan<F: Folder>(
     alloc: Global,
     inputs: &Inputs<'_>,
     folder: &mut F,
-) -> Result<(&'static [u8], Plan), Failure>
+) -> Result<Plan, Failure>
     ensures got { MatchResult result
-        (λ both. Shows (F.files folder.old) inputs.now.table.now both.0.now × IsPlanOf both.0.now inputs.now.unchecked both.1
+        (λ plan. ((text : List ℕ) × Shows (F.files folder.old) inputs.now.table.now text × IsPlanOf text inputs.now.unchecked plan)
         × (F.failed folder.new ≡ F.failed folder.old))
         (λ f. FailsToGather f inputs.now (F.files folder.old) (F.failed folder.old) (F.failed folder.new)) }
     ensures same { KeepsFiles (F.files folder.old) (F.files folder.new) }
 {
     let text = get_text(alloc, folder, inputs.table)?;
-    let plan = read_plan(alloc, text, inputs.unchecked)?;
-    Ok((text, plan))
+    read_plan(alloc, text, inputs.unchecked)
 }
 
 /// The plan and the captures of the table's ports, by rising number, from the files of a run.
@@ -82,7 +81,7 @@ pub(crate) fn gather<F: Folder>(
         (λ f. FailsToGather f inputs.now (F.files folder.old) (F.failed folder.old) (F.failed folder.new)) }
     ensures same { KeepsFiles (F.files folder.old) (F.files folder.new) }
 {
-    let (_, plan) = get_plan(alloc, inputs, folder)?;
+    let plan = get_plan(alloc, inputs, folder)?;
     let captures = get_captures(alloc, folder, inputs.input, plan.table())?;
     Ok((plan, captures))
 }

@@ -1,16 +1,17 @@
 //! What is got from a folder.
 
-ghost use Rattle.std.specs.Prelude.{◌≡◌, map, string_bytes, IfOk, IfSome, MatchResult};
+ghost use Rattle.std.specs.Prelude.{◌≡◌, map, string_bytes, MatchResult};
 ghost use Rattle.afdx_session.specs.Texts.{texts_of};
-ghost use Rattle.afdx_devices.specs.Files.{Shows, KeepsFiles};
+ghost use Rattle.afdx_devices.specs.Files.{Shows, KeepsFiles, DeviceLog, IsCause};
 ghost use Rattle.afdx_serve.specs.Runs.{HasTable, HasCaptures, FailsToGet, FailsToGetAll, FailsToRead};
 ghost use Rattle.afdx_serve.specs.Inner.Leading.{AreOpened};
+ghost use Rattle.afdx_serve.specs.Inner.OpenPorts.{FailsToGetNamed};
 
 use crate::names::capture_name;
 use afdx_devices::{Folder, FolderFault};
 use afdx_failures::Failure;
 use afdx_table::Table;
-use std::alloc::{AllocError, Global};
+use std::alloc::Global;
 
 /// The bytes of a file.
 pub(crate) fn get<F: Folder>(alloc: Global, folder: &mut F, name: &str) -> Result<Vec<u8>, Failure>
@@ -21,11 +22,7 @@ pub(crate) fn get<F: Folder>(alloc: Global, folder: &mut F, name: &str) -> Resul
 {
     match folder.get(alloc, name) {
         Ok(bytes) => Ok(bytes),
-        Err(FolderFault::Memory) => Err(Failure::Memory),
-        Err(FolderFault::Device) => match String::from_str(alloc, name) {
-            Ok(name) => Err(Failure::Get(name)),
-            Err(_) => Err(Failure::Memory),
-        },
+        Err(fault) => Err(get_failure(alloc, name, fault)),
     }
 }
 
@@ -83,46 +80,40 @@ pub(crate) fn get_captures<F: Folder>(
     Ok(captures)
 }
 
-/// Captures of fewer bytes in all are read in pieces (profile): whole, they would take memory that so short a run does not touch.
-const SMALL: u64 = 16_777_216;
-
-/// From so many bytes on captures are read in pieces (profile): whole, they would take their own length in memory.
-const LARGE: u64 = 134_217_728;
-
-/// Whether the files under these names are to be read in pieces, by the bytes that they have in all. Of so many as lie in between,
-/// frames that wait for long take less time where they lie in whole captures. O(names).
-fn go_in_pieces<F: Folder>(folder: &F, names: &[String]) -> bool {
-    let mut total = 0u64;
-    for name in names {
-        match folder.length(name) {
-            Some(length) => total = total.saturating_add(length),
-            None => return false,
-        }
+/// The failure of what was not got under this name, for a fault of the folder.
+pub(crate) fn get_failure(alloc: Global, name: &str, fault: FolderFault) -> Failure
+    ensures { (before : DeviceLog) (after : DeviceLog) → IsCause fault name.now before after → FailsToGet result name.now before after }
+{
+    match fault {
+        FolderFault::Memory => Failure::Memory,
+        FolderFault::Device => match String::from_str(alloc, name) {
+            Ok(name) => Failure::Get(name),
+            Err(_) => Failure::Memory,
+        },
     }
-    total < SMALL || total >= LARGE
 }
 
-/// The files under these names, opened to be read in pieces; none where they are to be read whole, or one of them was not opened. An
-/// error is out of memory.
+/// The files under these names, opened to be read in pieces.
+///
+/// # Errors
+///
+/// `Get` of the first that was not opened; `Memory` where memory ran out.
 pub(crate) fn open_all<F: Folder>(
     alloc: Global,
     folder: &mut F,
     names: &[String],
-) -> Result<Option<Vec<F::Opened>>, AllocError>
-    ensures opened { IfOk result (λ found. IfSome found
-        (λ opened. AreOpened F.Opened.remaining (F.files folder.old) (map string_bytes names.now) opened.items)) }
+) -> Result<Vec<F::Opened>, Failure>
+    ensures opened { MatchResult result
+        (λ opened. AreOpened F.Opened.remaining (F.files folder.old) (map string_bytes names.now) opened.items × (F.failed folder.new ≡ F.failed folder.old))
+        (λ f. FailsToGetNamed f (F.files folder.old) (map string_bytes names.now) (F.failed folder.old) (F.failed folder.new)) }
     ensures same { KeepsFiles (F.files folder.old) (F.files folder.new) }
-    ensures failed { F.failed folder.new ≡ F.failed folder.old }
 {
-    if !go_in_pieces(folder, names) {
-        return Ok(None);
-    }
     let mut opened = Vec::with_capacity(alloc, names.len())?;
     for name in names {
-        let Some(file) = folder.open(name)? else {
-            return Ok(None);
-        };
-        opened.push_reserved(file);
+        match folder.open(name) {
+            Ok(file) => opened.push_reserved(file),
+            Err(fault) => return Err(get_failure(alloc, name, fault)),
+        }
     }
-    Ok(Some(opened))
+    Ok(opened)
 }

@@ -1,22 +1,22 @@
 //! The command `network run`.
 
-ghost use Rattle.std.specs.Prelude.{◌≡◌, List, length, map, filter, string_bytes, IfOk, MatchResult};
+ghost use Rattle.std.specs.Prelude.{◌≡◌, ◌++◌, List, length, map, filter, string_bytes, IfOk, OnOk, MatchResult};
 ghost use Rattle.afdx_session.specs.Texts.{Text, texts_of};
 ghost use Rattle.afdx_network.specs.Given.{given_of, is_open, AreGiven};
 ghost use Rattle.afdx_network.specs.Runs.{IsRunOf};
-ghost use Rattle.afdx_devices.specs.Files.{KeepsFiles, PutsFiles};
-ghost use Rattle.afdx_serve.specs.Runs.{capture_name, bytes_of_captures, FailsToPut};
+ghost use Rattle.afdx_devices.specs.Files.{KeepsFiles};
+ghost use Rattle.afdx_serve.specs.Runs.{capture_name, bytes_of_captures};
 ghost use Rattle.afdx_serve.specs.Networks.{names_of};
-ghost use Rattle.afdx_serve.specs.NetworkRuns.{switch_folder, bytes_at, captures_of, reports_of, HasGiven, FailsToGetGiven};
+ghost use Rattle.afdx_serve.specs.NetworkRuns.{switch_folder, names_at, bytes_at, captures_of, reports_of, HasGiven, FailsToGetGiven};
 ghost use Rattle.afdx_serve.specs.Inner.OpenPorts.{HasOpen, FailsToGetNamed};
-ghost use Rattle.afdx_serve.specs.Inner.NetworkRunning.{names_by, held_names, AreAsMany, IsRunFailure, FailsToLeadGiven};
+ghost use Rattle.afdx_serve.specs.Inner.NetworkRunning.{IsRunFailure, FailsToLeadGiven};
 ghost use Rattle.afdx_serve.specs.Serving.{world, RunsNetwork, FailsToRunNetwork};
 
 use crate::get::get;
 use crate::names::{capture_name, names_in};
 use crate::network_check::accept;
 use crate::network_get::{get_network, names_of};
-use crate::put::put;
+use crate::outputs::put_texts;
 use afdx_arguments::NetworkPaths;
 use afdx_devices::{Folder, write_bytes};
 use afdx_failures::Failure;
@@ -146,64 +146,45 @@ fn reports(
     Ok(text)
 }
 
-/// The names of the captures of each switch, in its folder.
+/// The names of the captures of all switches, each in its switch's folder.
 fn output_names(
     alloc: Global,
     path: &str,
     names: &[String],
     outcomes: &[Outcome<Global>],
-) -> Result<Vec<Vec<String>>, AllocError>
+) -> Result<Vec<String>, AllocError>
     requires { length names.now ≡ length outcomes.now }
-    ensures { IfOk result (λ all. map (λ own. map string_bytes own.items) all.items
-        ≡ names_by path.now (map string_bytes names.now) (captures_of outcomes.now)) }
+    ensures { IfOk result (λ all. map string_bytes all.items ≡ names_at path.now (map string_bytes names.now) (captures_of outcomes.now)) }
 {
     let mut all = Vec::new(alloc);
     for (switch, outcome) in outcomes.iter().enumerate() {
         let switch_path = switch_folder(alloc, path, name_of(names, switch))?;
-        all.push(names_in(alloc, &switch_path, &outcome.captures)?)?;
+        let mut own = names_in(alloc, &switch_path, &outcome.captures)?;
+        all.append(&mut own)?;
     }
     Ok(all)
 }
 
-/// Puts the captures of a switch under these names, in order.
-fn put_captures<F: Folder>(
-    alloc: Global,
-    folder: &mut F,
-    names: &[String],
-    captures: &[(u8, Vec<u8>)],
-) -> Result<(), Failure>
-    requires { length names.now ≡ length captures.now }
-    ensures { MatchResult result
-        (λ _. PutsFiles (F.files folder.old) (F.files folder.new) (map string_bytes names.now) (bytes_of_captures (texts_of captures.now))
-        × (F.failed folder.new ≡ F.failed folder.old))
-        (λ f. FailsToPut f (map string_bytes names.now) (bytes_of_captures (texts_of captures.now))
-        (F.files folder.old) (F.files folder.new) (F.failed folder.old) (F.failed folder.new)) }
+/// Adds the texts of captures to others.
+fn push_texts(texts: &mut Vec<Vec<u8>>, captures: Texts) -> Result<(), AllocError>
+    ensures { OnOk result (map (λ text. text.items) texts.new.items ≡ map (λ text. text.items) texts.old.items ++ bytes_of_captures (texts_of captures.items)) }
 {
-    for place in 0..names.len() {
-        put(alloc, folder, &names[place], &captures[place].1)?;
+    for capture in captures {
+        let (_port, text) = capture;
+        texts.push(text)?;
     }
     Ok(())
 }
 
-/// Puts the captures of all switches under these names, in order.
-fn put_all<F: Folder>(
-    alloc: Global,
-    folder: &mut F,
-    names: &[Vec<String>],
-    outcomes: &[Outcome<Global>],
-) -> Result<(), Failure>
-    requires { AreAsMany names.now (captures_of outcomes.now) }
-    ensures { MatchResult result
-        (λ _. PutsFiles (F.files folder.old) (F.files folder.new) (held_names names.now) (bytes_at (captures_of outcomes.now))
-        × (F.failed folder.new ≡ F.failed folder.old))
-        (λ f. FailsToPut f (held_names names.now) (bytes_at (captures_of outcomes.now))
-        (F.files folder.old) (F.files folder.new) (F.failed folder.old) (F.failed folder.new)) }
+/// The texts of the captures of all switches.
+fn output_texts(alloc: Global, outcomes: Vec<Outcome<Global>>) -> Result<Vec<Vec<u8>>, AllocError>
+    ensures { IfOk result (λ texts. map (λ text. text.items) texts.items ≡ bytes_at (captures_of outcomes.items)) }
 {
-    for place in 0..names.len() {
-        let outcome = &outcomes[place];
-        put_captures(alloc, folder, &names[place], &outcome.captures)?;
+    let mut texts = Vec::new(alloc);
+    for outcome in outcomes {
+        push_texts(&mut texts, outcome.captures)?;
     }
-    Ok(())
+    Ok(texts)
 }
 
 /// Runs the network of a file over the captures of a folder, puts what leaves each switch into another, and writes the
@@ -211,8 +192,8 @@ fn put_all<F: Folder>(
 ///
 /// IN/A has the captures of the ports of switch A to which no wire goes; those of all its ports are put into OUT/A, which has
 /// to be there. The network is accepted before a capture is got, and all captures are got before the first switch runs. All
-/// names and reports are made before the first put. After a put that failed the files before it are there, and no later one is
-/// put.
+/// names and reports are made before the first put, and the device has all files by then: where it fails to take one, none is put.
+/// After a put that failed the files before it are there, and no later one is put.
 ///
 /// # Errors
 ///
@@ -242,7 +223,8 @@ pub(crate) fn network_run<O: Write, F: Folder>(
     let outcomes = lead(alloc, &names, &cleared, given)?;
     let files = output_names(alloc, paths.output, &names, &outcomes)?;
     let text = reports(alloc, &names, &outcomes)?;
-    put_all(alloc, folder, &files, &outcomes)?;
+    let texts = output_texts(alloc, outcomes)?;
+    put_texts(alloc, folder, &files, &texts)?;
     write_bytes(out, &text)?;
     Ok(())
 }

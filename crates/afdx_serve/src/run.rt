@@ -15,11 +15,11 @@ use std::io::Write;
 
 /// Runs the switch over the captures of a folder, puts what they lead to into another, and writes the report.
 ///
-/// The table is got first and, unless the run is unchecked, its load checked. Then the captures of its ports, where they are large, are
-/// opened, and read in pieces while the switch runs. Where they are not, or one is not opened or comes to a fault, each is got whole
-/// instead, by rising number, so that the failure is the first in this order. What they lead to goes to new files; then these are put
-/// in the same order, and then the report is written. All names and the report's text are made before the first put. After a put that
-/// failed the files before it are there, and no later one is put. New files that are not put are let go.
+/// The table is got first and, unless the run is unchecked, its load checked. Then a new file is begun for each output, and the captures
+/// of its ports are opened, by rising number, and read once, in pieces, while the switch runs. Where one cannot be read or has a fault,
+/// the others are read on to their ends, so that the failure is the first in this order. What they lead to goes to the new files; then
+/// these are put in the same order, and then the report is written. All names and the report's text are made before the first put. After
+/// a put that failed the files before it are there, and no later one is put. New files that are not put are let go.
 ///
 /// # Errors
 ///
@@ -39,9 +39,9 @@ pub(crate) fn run<O: Write, F: Folder>(
         (λ f. FailsToRunAll f paths.now
         (world (O.contents out.old) (F.files folder.old) (F.failed folder.old)) (world (O.contents out.new) (F.files folder.new) (F.failed folder.new))) }
 {
-    let (text, plan) = get_plan(alloc, &inputs_of(paths), folder)?;
+    let plan = get_plan(alloc, &inputs_of(paths), folder)?;
     let names = port_names(alloc, paths.output, plan.table().ports())?;
-    let (files, report) = lead(alloc, folder, paths, text, plan, &names)?;
+    let (files, report) = lead(alloc, folder, paths, plan, &names)?;
     put_all(alloc, folder, &names, files)?;
     write_bytes(out, report.as_bytes())?;
     Ok(())

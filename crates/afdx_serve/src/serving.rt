@@ -3,8 +3,7 @@
 ghost use Rattle.std.specs.Prelude.{◌≡◌, ◌≢◌, map, string_bytes, MatchResult};
 ghost use Rattle.std.specs.Io.KnownBytes.{Keeps};
 ghost use Rattle.afdx_failures.specs.declared.failure.Failure.{Failure as Failing};
-ghost use Rattle.afdx_failures.specs.Reporting.{line_of, status_of};
-ghost use Rattle.afdx_devices.specs.Output.{AppendsPrefix};
+ghost use Rattle.afdx_failures.specs.Reporting.{line_of, status_of, IsTold};
 ghost use Rattle.afdx_serve.specs.Serving.{world, Answers, FailsToAnswer, Performs, FailsToPerform, Serves, Fails};
 
 use crate::check::check;
@@ -16,7 +15,7 @@ use crate::trace::trace;
 use afdx_alone::read_alone;
 use afdx_arguments::{Alone, NoRequest, Request, parse};
 use afdx_devices::{Folder, write_bytes};
-use afdx_failures::{Failure, report};
+use afdx_failures::{Ending, Failure, report};
 use std::alloc::Global;
 use std::io::{Read, Write};
 
@@ -88,7 +87,7 @@ fn serve_arguments<R: Read, O: Write, F: Folder>(
     }
 }
 
-/// Serves what the arguments ask for, of which the first is the program's name, and gives the status: 0 done,
+/// Serves what the arguments ask for, of which the first is the program's name, and gives how it ended. The status is 0 done,
 /// 2 refused arguments, 3 a refused table, network or capture, 4 a refused load or jitter or a network that does not come to rest,
 /// 5 memory or a device.
 ///
@@ -99,12 +98,12 @@ fn serve_arguments<R: Read, O: Write, F: Folder>(
 /// puts OUT/arrivals.csv and OUT/departures.csv in place of the captures, and writes nothing; `afdx network check NET` and
 /// `afdx network jitter NET` get NET and the tables that it names and write their lines; `afdx network run NET IN OUT` gets
 /// IN/A/port-1.pcap and so on for each switch A, puts OUT/A/port-1.pcap and so on and writes the reports; `--help` and
-/// `--version` write the text of `clap` on `out`. On another status than 0 one line goes to `err`, and a fault in writing it
-/// changes nothing. What is met before the answer is written leaves `out` as it was; where writing fails, a prefix of the
-/// answer was written.
+/// `--version` write the text of `clap` on `out`. On another status than 0 one line goes to `err`: whole, or it is said that it was
+/// not taken, and a prefix of it is there; a fault in writing it changes nothing else. What is met before the answer is written
+/// leaves `out` as it was; where writing fails, a prefix of the answer was written.
 ///
 /// No contract knows why a reader, a writer or a folder fails, or whether memory is left: that 5 comes only then, and
-/// that `err` holds its whole line where it takes it, is shown by tests.
+/// that it is said only of an `err` that fails that it has not taken its line, is shown by tests.
 ///
 /// O(arguments, input and files) beside the switch's own work, with at most 16,777,216 reads of `input`.
 pub fn serve<R: Read, O: Write, E: Write, F: Folder>(
@@ -114,18 +113,21 @@ pub fn serve<R: Read, O: Write, E: Write, F: Folder>(
     out: &mut O,
     err: &mut E,
     folder: &mut F,
-) -> u8
-    ensures served { result ≡ 0
+) -> Ending
+    ensures served { result.status ≡ 0
         → Serves (map string_bytes arguments.now) (R.remaining input.old)
         (world (O.contents out.old) (F.files folder.old) (F.failed folder.old)) (world (O.contents out.new) (F.files folder.new) (F.failed folder.new))
         × Keeps (E.contents err.old) (E.contents err.new) }
-    ensures failed { result ≢ 0 → (f : Failing) × (result ≡ status_of f)
+    ensures failed { result.status ≢ 0 → (f : Failing) × (result.status ≡ status_of f)
         × Fails f (map string_bytes arguments.now) (R.remaining input.old)
         (world (O.contents out.old) (F.files folder.old) (F.failed folder.old)) (world (O.contents out.new) (F.files folder.new) (F.failed folder.new))
-        × AppendsPrefix (E.contents err.old) (E.contents err.new) (line_of f) }
+        × IsTold result.is_told (E.contents err.old) (E.contents err.new) (line_of f) }
 {
     match serve_arguments(alloc, arguments, input, out, folder) {
-        Ok(()) => 0,
+        Ok(()) => Ending {
+            status: 0,
+            is_told: true,
+        },
         Err(failure) => report(alloc, &failure, err),
     }
 }

@@ -3,7 +3,7 @@
 
 use afdx_devices::FolderFault;
 use afdx_fixtures::{
-    Broken, CHECKED, MemoryFolder, OneFrame, Opening, REPORT, RUN, answers, captured, folder_of,
+    Broken, CHECKED, MemoryFolder, OneFrame, REPORT, RUN, answers, captured, folder_of,
 };
 use afdx_samples::{capture, single};
 use std::alloc::{AllocError, Global};
@@ -197,41 +197,78 @@ fn failing_folder(rt: HostRuntime) {
     }
 }
 
-/// Whether the run of one frame, over a folder that opens these, is done after so many calls.
-fn is_done_opening(
-    alloc: Global,
-    arguments: &str,
-    opening: Opening,
-    calls: u64,
-) -> Result<bool, AllocError> {
-    let run = OneFrame::new(alloc)?;
-    let mut folder = run.sound()?;
-    folder.open_as(opening);
-    let is_said = answers(alloc, arguments, &mut folder, (0, REPORT, ""))?;
-    let is_left = folder.holds(&run.files(), 5);
-    Ok(is_said && is_left && folder.calls() == calls)
-}
-
-/// Whether it is so with and without a check.
-fn both_are_done_opening(alloc: Global, opening: Opening, calls: u64) -> Result<bool, AllocError> {
-    let checked = is_done_opening(alloc, CHECKED, opening, calls)?;
-    let unchecked = is_done_opening(alloc, RUN, opening, calls)?;
-    Ok(checked && unchecked)
-}
-
-/// What the folder opens, and how many calls it is given: captures that are opened are not got, unless a read fails.
-const OPENINGS: &[(Opening, u64)] = &[
-    (Opening::None, 5),
-    (Opening::Files, 3),
-    (Opening::Failing, 5),
+/// The arguments, which of the two new files the device does not take, and its name.
+const SETTLING: &[(&str, u64, &str)] = &[
+    (CHECKED, 1, "out/port-1.pcap"),
+    (CHECKED, 2, "out/port-2.pcap"),
+    (RUN, 1, "out/port-1.pcap"),
+    (RUN, 2, "out/port-2.pcap"),
+    (TRACE, 1, "out/arrivals.csv"),
+    (TRACE, 2, "out/departures.csv"),
 ];
 
+/// Whether a command then names it and leaves all files as they were, and does so where memory runs out there.
+fn stops_settling(
+    alloc: Global,
+    arguments: &str,
+    number: u64,
+    name: &str,
+) -> Result<bool, AllocError> {
+    let run = OneFrame::new(alloc)?;
+    let line = format!(in alloc; "afdx: device put {name}\n")?;
+    let by_device = (Some(name), line.as_str());
+    let by_memory = (None, "afdx: memory\n");
+    let is_device = run.stops_settling(arguments, number, FolderFault::Device, by_device)?;
+    let is_memory = run.stops_settling(arguments, number, FolderFault::Memory, by_memory)?;
+    Ok(is_device && is_memory)
+}
+
+/// A failure that is known before the first file is moved moves none.
 #[test]
-fn runs_in_pieces(rt: HostRuntime) {
-    for (opening, calls) in OPENINGS {
+fn failing_to_settle(rt: HostRuntime) {
+    for (arguments, number, name) in SETTLING {
         assert!(rt;
-            both_are_done_opening(rt.alloc(), *opening, *calls) == Ok(true),
-            "{calls} calls"
+            stops_settling(rt.alloc(), arguments, *number, name) == Ok(true),
+            "{arguments} {name}"
+        );
+    }
+}
+
+/// Whether the run of one frame is done by five calls of the folder: the table is got, two captures are opened, and two are put.
+fn is_done_once(alloc: Global, arguments: &str) -> Result<bool, AllocError> {
+    let run = OneFrame::new(alloc)?;
+    let mut folder = run.sound()?;
+    let is_said = answers(alloc, arguments, &mut folder, (0, REPORT, ""))?;
+    Ok(is_said && folder.holds(&run.files(), 5) && folder.calls() == 5)
+}
+
+#[test]
+fn opens_each_capture_once(rt: HostRuntime) {
+    for arguments in [CHECKED, RUN] {
+        assert!(rt;
+            is_done_once(rt.alloc(), arguments) == Ok(true),
+            "{arguments}"
+        );
+    }
+}
+
+/// Whether a run names the first capture, where none that is opened can be read.
+fn names_the_first(alloc: Global, arguments: &str) -> Result<bool, AllocError> {
+    let run = OneFrame::new(alloc)?;
+    let mut folder = run.sound()?;
+    folder.fail_to_read();
+    let files = folder.count();
+    let line = "afdx: device get in/port-1.pcap\n";
+    let is_said = answers(alloc, arguments, &mut folder, (5, "", line))?;
+    Ok(is_said && folder.count() == files)
+}
+
+#[test]
+fn says_which_capture_cannot_be_read(rt: HostRuntime) {
+    for arguments in [CHECKED, RUN] {
+        assert!(rt;
+            names_the_first(rt.alloc(), arguments) == Ok(true),
+            "{arguments}"
         );
     }
 }
@@ -265,7 +302,6 @@ fn opened(alloc: Global, first: Left, second: Left) -> Result<MemoryFolder<Globa
     let mut folder = folder_of(alloc, &table, &[])?;
     add_left(alloc, &mut folder, "in/port-1.pcap", first)?;
     add_left(alloc, &mut folder, "in/port-2.pcap", second)?;
-    folder.open_as(Opening::Files);
     Ok(folder)
 }
 

@@ -48,6 +48,39 @@ const FAILING: &[(u64, &str, bool)] = &[
     (9, "afdx: device put out/B/port-1.pcap\n", true),
 ];
 
+/// Whether the run fails with this line where the device does not take the new file of this number, and has put none.
+fn fails_to_settle(alloc: Global, number: u64, line: &str) -> Result<bool, AllocError> {
+    let mut folder = MemoryFolder::new(alloc);
+    add_network(alloc, &mut folder)?;
+    add_captures(alloc, &mut folder)?;
+    let files = folder.count();
+    folder.fail_to_settle(number, FolderFault::Device);
+    let is_said = answers(
+        alloc,
+        "afdx network run n in out",
+        &mut folder,
+        (5, "", line),
+    )?;
+    Ok(is_said && folder.calls() == 6 && folder.count() == files)
+}
+
+/// The new file that the device does not take, and the line.
+const SETTLING: &[(u64, &str)] = &[
+    (1, "afdx: device put out/A/port-1.pcap\n"),
+    (3, "afdx: device put out/B/port-1.pcap\n"),
+    (4, "afdx: device put out/B/port-2.pcap\n"),
+];
+
+#[test]
+fn failing_to_settle_in_a_network(rt: HostRuntime) {
+    for (number, line) in SETTLING {
+        assert!(rt;
+            fails_to_settle(rt.alloc(), *number, line) == Ok(true),
+            "{line}"
+        );
+    }
+}
+
 #[test]
 fn failing_folder_of_a_network(rt: HostRuntime) {
     for (call, line, is_put) in FAILING {

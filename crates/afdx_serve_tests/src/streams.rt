@@ -2,6 +2,7 @@
 //! a writer takes.
 
 use crate::devices::{Interrupted, Sink, Source};
+use afdx_failures::Ending;
 use afdx_fixtures::{CHECKED, LINK_10, MemoryFolder, OneFrame, RUN, answer_over, split};
 use afdx_samples::{capture, large};
 use afdx_serve::serve;
@@ -59,7 +60,7 @@ const OUT_WRITERS: &[OutWriter] = &[
     (1, 24, None, Some(23)),
 ];
 
-/// The status and what is on standard error.
+/// How it ended, and what is on standard error.
 fn served<R: Read>(
     alloc: Global,
     line: &str,
@@ -67,11 +68,11 @@ fn served<R: Read>(
     out: &mut Sink,
     folder: &mut MemoryFolder<Global>,
     writer: LineWriter,
-) -> Result<(u8, Vec<u8>), AllocError> {
+) -> Result<(Ending, Vec<u8>), AllocError> {
     let arguments = split(alloc, line)?;
     let mut err = Sink::new(alloc, writer.0, writer.1, BROKEN);
-    let status = serve(alloc, &arguments, input, out, &mut err, folder);
-    Ok((status, err.bytes))
+    let ending = serve(alloc, &arguments, input, out, &mut err, folder);
+    Ok((ending, err.bytes))
 }
 
 /// What a writer for the line holds then.
@@ -79,11 +80,19 @@ fn reported(line: &'static str, writer: LineWriter) -> &'static [u8] {
     if writer.2 { line.as_bytes() } else { b"" }
 }
 
-/// What is to be seen of a command: its status, what standard output took, what a writer for the line took, and how many files of
+/// How a command ends over a writer for the line: that took the line, if there is one.
+fn ending(status: u8, writer: LineWriter) -> Ending {
+    Ending {
+        status,
+        is_told: status == 0 || writer.2,
+    }
+}
+
+/// What is to be seen of a command: how it ends, what standard output took, what a writer for the line took, and how many files of
 /// the run of one frame are there.
 #[derive(Clone, Copy)]
 struct Wanted<'a> {
-    status: u8,
+    ending: Ending,
     out: Option<&'a [u8]>,
     err: &'a [u8],
     files: usize,
@@ -91,8 +100,8 @@ struct Wanted<'a> {
 
 impl Wanted<'_> {
     /// Whether that is to be seen.
-    fn is_seen(&self, got: &(u8, Vec<u8>), out: &Sink) -> bool {
-        got.0 == self.status
+    fn is_seen(&self, got: &(Ending, Vec<u8>), out: &Sink) -> bool {
+        got.0 == self.ending
             && Some(out.bytes.as_slice()) == self.out
             && got.1.as_slice() == self.err
     }
@@ -135,7 +144,7 @@ fn is_written(
         Some(count) => (5, count, "afdx: device write\n"),
     };
     let wanted = Wanted {
-        status,
+        ending: ending(status, writer),
         out: whole.get(..count),
         err: reported(said, writer),
         files,
@@ -202,7 +211,7 @@ fn is_read(
         (5, 0, "afdx: device read\n")
     };
     let wanted = Wanted {
-        status,
+        ending: ending(status, writer),
         out: run.came().get(..count),
         err: reported(said, writer),
         files: 3,
@@ -242,7 +251,7 @@ fn reads_nothing(alloc: Global, line: &str, files: usize) -> Result<bool, AllocE
     let run = OneFrame::new(alloc)?;
     let whole = written(&run, alloc, line)?;
     let wanted = Wanted {
-        status: 0,
+        ending: ending(0, SOUND_WRITER),
         out: Some(&whole),
         err: b"",
         files,
@@ -265,7 +274,7 @@ fn reads_for_alone_only(rt: HostRuntime) -> Result<(), Fail> {
 fn gives_up(alloc: Global) -> Result<bool, AllocError> {
     let run = OneFrame::new(alloc)?;
     let wanted = Wanted {
-        status: 5,
+        ending: ending(5, SOUND_WRITER),
         out: Some(b""),
         err: b"afdx: device read\n",
         files: 3,
@@ -317,7 +326,7 @@ fn is_in_turns(
     let writer = SOUND_WRITER;
     let got = served(alloc, LINK_10, &mut reader, &mut out, &mut folder, writer)?;
     let is_written = Some(out.bytes.as_slice()) == input.get(..written);
-    Ok(is_written && got.0 == status && out.calls == calls)
+    Ok(is_written && got.0.status == status && out.calls == calls)
 }
 
 /// The writer takes 65,536 bytes at a time, and the answer has more.

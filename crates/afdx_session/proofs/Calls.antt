@@ -1,5 +1,5 @@
 -- A call that has read on: what is settled goes to the switch, the switch comes to the frontier, and what has left goes out.
-use Rattle.std.proofs.Common.{◌≡◌, ℕ, ◌-◌, ◌<◌, ◌≤◌, Bool, true, false, List, ◌++◌, length, take, set, get_or, slice_get, Option, Some, ap, sym, ◌∙◌, subst}
+use Rattle.std.proofs.Common.{◌≡◌, ℕ, ◌-◌, ◌<◌, ◌≤◌, Bool, true, false, List, ◌++◌, length, take, set, get_or, slice_get, Option, Some, refl, ap, sym, ◌∙◌, subst}
 use Rattle.std.specs.List.{AllByRecursion}
 use Rattle.std.specs.Option.{option_map}
 use Rattle.std.specs.Prelude.{Result, Ok, Err, is_err, OnOk, IfErr}
@@ -18,13 +18,14 @@ use Rattle.afdx_pcap.specs.Reading.{IsSound}
 use Rattle.afdx_session.specs.declared.lane.Lane.{Lane}
 use Rattle.afdx_session.specs.declared.machine.Machine.{Machine}
 use Rattle.afdx_session.specs.declared.plan.RunFault.{RunFault}
+use Rattle.afdx_session.specs.declared.plan.RunFault.TheVariants as run
 use Rattle.afdx_session.specs.Reading.{IsFaultAt}
 use Rattle.afdx_session.specs.Inner.Settled.{IsGiven, HandsOut}
 use Rattle.afdx_session.specs.Session.{IsSoundSoFar}
 use Rattle.afdx_session.specs.Lanes.{IsPieceFault}
 use Rattle.afdx_session.specs.Inner.Lanes.{limit_at, IsStill, Adds, HasReadAll, NoneGoes}
 use Rattle.afdx_session.specs.Inner.Kept.{AreOfTable, come_to, AreOut, Every, IsGoing, HasCome, IsRunning, AreTouched, AreGrown, IsOfSameTable, IsMarked}
-use Rattle.afdx_session.specs.Inner.View.{IsReady, IsOpenAt, AreHalfDone, AreSettledLanes, IsFed, IsEnded, IsNotFed, IsNotEnded, intakes_of}
+use Rattle.afdx_session.specs.Inner.View.{IsReady, IsOpenAt, AreHalfDone, AreSettledLanes, IsFed, IsEnded, IsNotFed, IsNotEnded, OthersStay, intakes_of}
 use Rattle.afdx_session.proofs.Going.{reads_on}
 use Rattle.afdx_session.proofs.Given.{comes_on, no_going_back}
 use Rattle.afdx_session.proofs.Numbered.{all_slice_get}
@@ -173,6 +174,14 @@ not_ended begun lanes b k old new fault all at still undone bytes touched why = 
   half = half_touched lanes (set lanes k new) b (half_ended lanes k old new at still undone bytes) touched;
   why = subst (λ (xs : List ℕ). IsFaultAt xs old.port fault) (sym (marked_bytes begun old (marked_at begun lanes k old all at))) why;
 }
+
+-- and no other lane has changed
+pub others_stay : {Z : Type 0} (lanes : List (Lane Z)) (k : ℕ) (new : Lane Z) (fault : RunFault) → OthersStay lanes (set lanes k new) k fault
+others_stay lanes k new run.Memory = tt
+others_stay lanes k new (run.Capture port why) = (new, refl)
+others_stay lanes k new run.WrongPorts = tt
+others_stay lanes k new run.Closed = tt
+others_stay lanes k new run.Failed = tt
 
 -- a piece came, and the call has answered Ok
 pub is_fed : {Z : Type 0} (begun : Bool) (lanes b c : List (Lane Z)) (k : ℕ) (old new : Lane Z) (piece : List ℕ) → AllByRecursion (IsMarked begun) lanes → slice_get lanes k ≡ Some old

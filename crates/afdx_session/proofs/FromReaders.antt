@@ -1,6 +1,6 @@
 -- Captures that are read in pieces: one more read, and then what has gone out is taken.
 use Rattle.std.proofs.Common.{◌≡◌, ◌≢◌, ◌⊎◌, ℕ, zero, suc, ◌+◌, ◌<◌, ◌≤◌, ◌==◌, nat_lt, Bool, true, false, cond, not, List, [], ◌∷◌, ◌++◌, map, length, take, drop, set, get_or}
-use Rattle.std.proofs.Common.{slice_get, Option, Some, None, IfSome}
+use Rattle.std.proofs.Common.{slice_get, Option, Some, None, IfSome, Vec}
 use Rattle.std.proofs.Common.{refl, ap, sym, ◌∙◌, arith, subst, inl, inr, length-set}
 use Rattle.std.specs.Prelude.{find}
 use Rattle.std.specs.List.{AllByRecursion, position, position_or_len}
@@ -18,20 +18,23 @@ use Rattle.afdx_count.specs.Tally.{Tally}
 use Rattle.afdx_devices.specs.Input.{AreGiven}
 use Rattle.afdx_session.specs.declared.plan.RunFault.{RunFault}
 use Rattle.afdx_session.specs.declared.plan.RunFault.TheVariants as run
-use Rattle.afdx_session.specs.declared.sources.SourceFault.{SourceFault}
 use Rattle.afdx_session.specs.Texts.{Text}
 use Rattle.afdx_session.specs.Reading.{IsFirstFault, IsReadFault, IsFaultAt}
 use Rattle.afdx_session.specs.Lanes.{IsPieceFault}
 use Rattle.afdx_session.specs.Session.{Intake, Seen, fresh_intake, fresh_session, HasGoneOut, intake_bytes, taken_in, fed_bytes, taken_of, refusal_at, refusal, changed, fed, closed_intake, took}
 use Rattle.afdx_session.specs.Session.{after_feed, after_close, after_take, IsRefused}
 use Rattle.afdx_session.specs.Finish.{text_in, texts_in}
-use Rattle.afdx_session.specs.Sources.{AreRead, GivesFault, IsSourceFault}
+use Rattle.afdx_session.specs.Sources.{AreRead, IsSourceFault}
 use Rattle.afdx_session.specs.Into.{HasTaken, HaveTaken, IsFinishedInto, IsNotFinishedInto}
 use Rattle.afdx_session.specs.Outcome.{IsOutcome}
 use Rattle.afdx_session.specs.Written.{IsWritten}
 use Rattle.afdx_session.specs.Inner.Pieces.{GoesOnTo, CallsGoOn, NothingWasTaken, TakenStays, TakesJoin}
 use Rattle.afdx_session.specs.Inner.Sources.{IsOfBytes, source_fault, IsReadUpTo, AreReadUpTo, AreAtEnd, IsOfTable, GoesOnUntaken, ReadsOn, HasSameBytes, HaveSameBytes, TakesParts}
-use Rattle.afdx_session.specs.Inner.Sources.{GoesOnReading, IsFaultSince}
+use Rattle.afdx_session.specs.Inner.Sources.{GoesOnReading, IsNextAt}
+use Rattle.afdx_session.specs.declared.lane.Lane.{Lane}
+use Rattle.afdx_session.specs.declared.stop.Stop.{Stop}
+use Rattle.afdx_session.specs.declared.stop.Stop.TheVariants as stop
+use Rattle.afdx_session.specs.Inner.Stop.{IsLeftAt, AreLeft, IsStoppedBy, IsKnown, IsOn, AreStoppedAt, IsStop, stop_of, IsStopSince}
 use Rattle.afdx_session.proofs.Handing.{its_place}
 use Rattle.afdx_session.proofs.Into.{row_found}
 use Rattle.afdx_session.proofs.Numbered.{all_slice_get, set_same}
@@ -315,6 +318,12 @@ reader_at v numbers readers port place d of are long at =
     let many = as_many v numbers readers of are long in
     record { own = own; at = slice_get-get_or readers place d (subst (λ n. place < n) (sym many) (slice_get_within v.intakes place own.intake own.at)); many = many }
 
+pub place_within : {R : Type 0} (v : Seen) (numbers : List ℕ) (readers : List R) (port place : ℕ) → IsOfTable v.table v → numbers ≡ map (λ (p : PortRow). p.id) v.table.ports
+    → length readers ≡ length numbers → position (is_port port) numbers ≡ Some place → place < length readers
+place_within v numbers readers port place of are long at =
+    let own = place_in v numbers port place of are at in
+    subst (λ n. place < n) (sym (as_many v numbers readers of are long)) (slice_get_within v.intakes place own.intake own.at)
+
 -- a read with room that gave nothing found the end
 pub end_found : (a b : Option (List ℕ)) (n room : ℕ) (buf : List ℕ) → Consumes a b (take n buf) × (n ≡ 0 → 0 < length buf → IsAtEnd b) → n ≡ 0 → length buf ≡ room → 0 < room
     → Consumes a b [] × IsAtEnd b
@@ -413,52 +422,113 @@ ended_at_end remaining v first readers many ended was k r is =
     let f = at_place first k (omega (arith, lt, long)) in
     (was.each k i.0 f.0 r i.1 f.1 is).ended (all_slice_get (λ (x : Intake). x.closed ≡ true) v.intakes k i.0 ended i.1)
 
--- ---- faults
+-- ---- where a run stops
 
--- whatever else it gives, all that a reader gives has the fault
-early_all : ((bytes more : List ℕ) (fault : PcapFault) → IsEarlyFault bytes fault → IsEarlyFault (bytes ++ more) fault) → (a b : Option (List ℕ)) (bytes : List ℕ) (why : PcapFault)
-    → Consumes a b bytes → IsEarlyFault bytes why → IfSome a (λ all. IsFault all why)
-early_all law None b bytes why gives early = tt
-early_all law (Some xs) None bytes why gives early = absurd gives
-early_all law (Some xs) (Some ys) bytes why gives early = subst (λ zs. IsFault zs why) (sym gives) (law bytes ys why early).0
+ports_of_texts : (intakes : List Intake) → map (λ (text : Text). text.0) (map text_in intakes) ≡ ports_in intakes
+ports_of_texts [] = refl
+ports_of_texts (i ∷ intakes) = ap (λ ns. i.port ∷ ns) (ports_of_texts intakes)
 
-gives_fault : {R : Type 0} (remaining : R → Option (List ℕ)) (v : Seen) (first : List R) (port other place : ℕ) (own : IsIntakeAt v.intakes port place) (f : R) (why : PcapFault)
-    → IsOfTable v.table v → slice_get first place ≡ Some f → other ≡ port → IfSome (remaining f) (λ bytes. IsFault bytes why) → GivesFault remaining v.table first other why
-gives_fault remaining v first port other place own f why of is_f same has =
-    let row = row_of_intake v.intakes v.table.ports place own.intake of.ports own.at in
-    record { place = place; row = row.0; reader = f; row_is = row.1; port_is = row.2 ∙ own.port_is ∙ sym same; reader_is = is_f; has = has }
+-- what came at a place
+came_at : (intakes : List Intake) (k : ℕ) (text : Text) → slice_get (map text_in intakes) k ≡ Some text → (i : Intake) × (slice_get intakes k ≡ Some i) × (text_in i ≡ text)
+came_at intakes k text at = mapped_from text_in intakes k text at
 
-pub piece_fault : {R : Type 0} → ((bytes more : List ℕ) (fault : PcapFault) → IsEarlyFault bytes fault → IsEarlyFault (bytes ++ more) fault)
-    → (remaining : R → Option (List ℕ)) (v : Seen) (readers : List R) (port place : ℕ) (piece : List ℕ) (r s : R) (fault : RunFault) → IsOfTable v.table v
-    → IsReaderAt v readers port place r → Consumes (remaining r) (remaining s) piece → IsPieceFault (fed_bytes v port ++ piece) port fault
-    → IsFaultSince remaining v readers (source_fault fault)
-piece_fault law remaining v readers port place piece r s run.Memory of there gives why first was = tt
-piece_fault law remaining v readers port place piece r s (run.Capture other why) of there gives is first was =
+-- a call at a place stopped it, after these bytes came there
+stopped : {R Z : Type 0} (remaining : R → Option (List ℕ)) (v w : Seen) (first readers : List R) (port place : ℕ) (j : Intake) (s : R) (why : PcapFault) (lanes : List (Lane Z))
+    → IsOfTable v.table v → IsOfTable v.table w → (own : IsIntakeAt v.intakes port place) → length readers ≡ length v.intakes → w.intakes ≡ set v.intakes place j
+    → length readers ≡ length first → AreReadUpTo remaining w first (set readers place s) → AreLeft v port lanes → IsKnown (remaining s) j.bytes why
+    → AreStoppedAt remaining v.table first (set readers place s) place why lanes
+stopped {R} {Z} remaining v w first readers port place j s why lanes of of_w own many changes as_many was left known = record {
+  came = texts_in w;
+  ports = ports_of_texts w.intakes ∙ of_w.ports;
+  lane_ports = left.ports ∙ of.ports ∙ sym of_w.ports ∙ sym (ports_of_texts w.intakes);
+  many = length-set readers place s ∙ long_now;
+  long = sym as_many ∙ long_now;
+  within = subst (λ n. place < n) (sym many ∙ long_now) (slice_get_within v.intakes place own.intake own.at);
+  gave = λ k f r text is_f is_r is_text. gave k f r text is_f is_r (came_at w.intakes k text is_text);
+  here = λ r text is_r is_text. here r text is_r (came_at w.intakes place text is_text);
+  before = λ k r l lt is_r is_l. before k r l lt is_r is_l;
+  bytes = λ k l text lt is_l is_text. bytes k l text lt is_l (came_at w.intakes k text is_text);
+} where
+  long_now : length readers ≡ length (texts_in w)
+  long_now = many ∙ sym (length-set v.intakes place j) ∙ ap length (sym changes) ∙ sym (length-map w.intakes text_in)
+
+  gave : (k : ℕ) (f r : R) (text : Text) → slice_get first k ≡ Some f → slice_get (set readers place s) k ≡ Some r → (i : Intake) × (slice_get w.intakes k ≡ Some i) × (text_in i ≡ text)
+      → Consumes (remaining f) (remaining r) text.1
+  gave k f r text is_f is_r from = subst (λ (x : Text). Consumes (remaining f) (remaining r) x.1) from.2 (was.each k from.0 f r from.1 is_f is_r).bytes
+
+  here : (r : R) (text : Text) → slice_get (set readers place s) place ≡ Some r → (i : Intake) × (slice_get w.intakes place ≡ Some i) × (text_in i ≡ text) → IsKnown (remaining r) text.1 why
+  here r text is_r from = by (at_set readers place place s r is_r) (at_set v.intakes place place j from.0 (ap (λ is. slice_get is place) (sym changes) ∙ from.1)) where
+    by : ((place ≡ place) × (r ≡ s)) ⊎ ((place ≢ place) × (slice_get readers place ≡ Some r))
+        → ((place ≡ place) × (from.0 ≡ j)) ⊎ ((place ≢ place) × (slice_get v.intakes place ≡ Some from.0)) → IsKnown (remaining r) text.1 why
+    by (inr other) two = absurd (other.0 refl)
+    by (inl one) (inr other) = absurd (other.0 refl)
+    by (inl one) (inl two) =
+        subst (λ (x : Text). IsKnown (remaining r) x.1 why) from.2
+        (subst (λ (x : Intake). IsKnown (remaining r) x.bytes why) (sym two.1) (subst (λ (x : R). IsKnown (remaining x) j.bytes why) (sym one.1) known))
+
+  -- the intake before the place is as it was
+  same_before : (k : ℕ) (i : Intake) → k < place → slice_get w.intakes k ≡ Some i → slice_get v.intakes k ≡ Some i
+  same_before k i lt is = by (at_set v.intakes place k j i (ap (λ xs. slice_get xs k) (sym changes) ∙ is)) where
+    by : ((k ≡ place) × (i ≡ j)) ⊎ ((k ≢ place) × (slice_get v.intakes k ≡ Some i)) → slice_get v.intakes k ≡ Some i
+    by (inl one) = let same = one.0 in absurd (omega (arith, lt, same))
+    by (inr other) = other.1
+
+  left_at : (k : ℕ) (i : Intake) (l : Lane Z) → k < place → slice_get w.intakes k ≡ Some i → slice_get lanes k ≡ Some l → IsLeftAt i l
+  left_at k i l lt is is_l =
+      let at = same_before k i lt is in
+      left.others k i l at is_l (λ same. let here = one_place v k place i own.intake of at own.at (same ∙ sym own.port_is) in absurd (omega (arith, lt, here)))
+
+  before : (k : ℕ) (r : R) (l : Lane Z) → k < place → slice_get (set readers place s) k ≡ Some r → slice_get lanes k ≡ Some l → IsOn (remaining r) l
+  before k r l lt is_r is_l =
+      let within = slice_get_within v.intakes place own.intake own.at in
+      let long = ap length changes ∙ length-set v.intakes place j in
+      let i = at_place w.intakes k (omega (arith, lt, within, long)) in
+      let f = at_place first k (omega (arith, lt, within, many, as_many)) in
+      let is_left = left_at k i.0 l lt i.1 is_l in
+      record { may = is_left.may; ended = λ closed. (was.each k i.0 f.0 r i.1 f.1 is_r).ended (sym is_left.closed ∙ closed) }
+
+  bytes : (k : ℕ) (l : Lane Z) (text : Text) → k < place → slice_get lanes k ≡ Some l → (i : Intake) × (slice_get w.intakes k ≡ Some i) × (text_in i ≡ text) → l.reader.bytes ≡ text.1
+  bytes k l text lt is_l from = (left_at k from.0 l lt from.1 is_l).bytes ∙ ap (λ (x : Text). x.1) from.2
+
+-- a piece has a fault
+pub stops_at_piece : {R Z : Type 0} → CallsGoOn → (remaining : R → Option (List ℕ)) (v : Seen) (readers : List R) (port place : ℕ) (piece : List ℕ) (r s : R) (fault : RunFault)
+    (lanes : Vec (Lane Z) Z) → IsOfTable v.table v → refusal v port ≡ None → IsReaderAt v readers port place r → Consumes (remaining r) (remaining s) piece
+    → IsStoppedBy v port fault lanes.items (IsPieceFault (fed_bytes v port ++ piece) port fault) → IsStopSince remaining v readers (set readers place s) (stop_of place fault lanes)
+stops_at_piece calls remaining v readers port place piece r s run.Memory lanes of may there gives is first was = tt
+stops_at_piece calls remaining v readers port place piece r s (run.Capture at why) lanes of may there gives is first was =
+    stopped remaining v (after_feed v port piece) first readers port place (fed piece there.own.intake) s why lanes.items of (of_feed v.table v port piece of) there.own there.many
+    (there.own.changed_is (fed piece)) was.many ((reads_piece calls remaining v (after_feed v port piece) readers port place piece r s of may there gives refl).read first was) is.1
+    (inl (subst (λ xs. IsEarlyFault (xs ++ piece) why) (ap intake_bytes there.own.found) is.0.1))
+stops_at_piece calls remaining v readers port place piece r s run.WrongPorts lanes of may there gives is first was = absurd is
+stops_at_piece calls remaining v readers port place piece r s run.Closed lanes of may there gives is first was = absurd is
+stops_at_piece calls remaining v readers port place piece r s run.Failed lanes of may there gives is first was = absurd is
+
+-- a capture that ended has one
+pub stops_at_end : {R Z : Type 0} → CallsGoOn → (remaining : R → Option (List ℕ)) (v : Seen) (readers : List R) (port place : ℕ) (r s : R) (fault : RunFault)
+    (lanes : Vec (Lane Z) Z) → IsOfTable v.table v → IsReaderAt v readers port place r → Consumes (remaining r) (remaining s) [] → IsAtEnd (remaining s)
+    → IsStoppedBy v port fault lanes.items (IsFaultAt (fed_bytes v port) port fault) → IsStopSince remaining v readers (set readers place s) (stop_of place fault lanes)
+stops_at_end calls remaining v readers port place r s run.Memory lanes of there gives end is first was = tt
+stops_at_end calls remaining v readers port place r s (run.Capture at why) lanes of there gives end is first was =
+    stopped remaining v (after_close v port) first readers port place (closed_intake there.own.intake) s why lanes.items of (of_close v.table v port of) there.own there.many
+    (there.own.changed_is closed_intake) was.many ((reads_end calls remaining v (after_close v port) readers port place r s of there gives end refl).read first was) is.1
+    (inr (subst (λ xs. IsFault xs why) (ap intake_bytes there.own.found) is.0.1, end))
+stops_at_end calls remaining v readers port place r s run.WrongPorts lanes of there gives end is first was = absurd is
+stops_at_end calls remaining v readers port place r s run.Closed lanes of there gives end is first was = absurd is
+stops_at_end calls remaining v readers port place r s run.Failed lanes of there gives end is first was = absurd is
+
+-- the reader at a place failed
+pub stops_unread : {R : Type 0} (Z : Type 0) (remaining : R → Option (List ℕ)) (v : Seen) (readers : List R) (port place : ℕ) (r s : R) → IsReaderAt v readers port place r
+    → IsStopSince {Z = Z} remaining v readers (set readers place s) (stop.Read place)
+stops_unread Z remaining v readers port place r s there first was =
     let lt = slice_get_within readers place r there.at in
     let long = was.many in
-    let f = at_place first place (omega (arith, lt, long)) in
-    let read = was.each place there.own.intake f.0 r there.own.at f.1 there.at in
-    let both = Consumes-trans (remaining f.0) (remaining r) (remaining s) there.own.intake.bytes piece read.bytes gives in
-    let early = subst (λ xs. IsEarlyFault (xs ++ piece) why) (ap intake_bytes there.own.found) is.1 in
-    gives_fault remaining v first port other place there.own f.0 why of f.1 is.0 (early_all law (remaining f.0) (remaining s) (there.own.intake.bytes ++ piece) why both early)
-piece_fault law remaining v readers port place piece r s run.WrongPorts of there gives why first was = absurd why
-piece_fault law remaining v readers port place piece r s run.Closed of there gives why first was = absurd why
-piece_fault law remaining v readers port place piece r s run.Failed of there gives why first was = absurd why
+    (omega (arith, lt, long), length-set readers place s ∙ was.many)
 
-pub end_fault : {R : Type 0} (remaining : R → Option (List ℕ)) (v : Seen) (readers : List R) (port place : ℕ) (r s : R) (fault : RunFault)
-    → IsOfTable v.table v → IsReaderAt v readers port place r → Consumes (remaining r) (remaining s) [] → IsAtEnd (remaining s) → IsFaultAt (fed_bytes v port) port fault
-    → IsFaultSince remaining v readers (source_fault fault)
-end_fault remaining v readers port place r s run.Memory of there gives end why first was = tt
-end_fault remaining v readers port place r s (run.Capture other why) of there gives end is first was =
-    let lt = slice_get_within readers place r there.at in
-    let long = was.many in
-    let f = at_place first place (omega (arith, lt, long)) in
-    let read = nothing_read remaining there.own.intake f.0 r s gives (was.each place there.own.intake f.0 r there.own.at f.1 there.at) in
-    let own = subst (λ xs. IsFault xs why) (ap intake_bytes there.own.found) is.1 in
-    gives_fault remaining v first port other place there.own f.0 why of f.1 is.0 (Consumes-whole (remaining f.0) (remaining s) there.own.intake.bytes (λ bytes. IsFault bytes why) read end own)
-end_fault remaining v readers port place r s run.WrongPorts of there gives end why first was = absurd why
-end_fault remaining v readers port place r s run.Closed of there gives end why first was = absurd why
-end_fault remaining v readers port place r s run.Failed of there gives end why first was = absurd why
+-- after some reads
+pub stop_since : {R F Z : Type 0} (remaining : R → Option (List ℕ)) (contents : F → Option (List ℕ)) (v mid : Seen) (readers now last : List R) (files written : List F) (why : Stop Z)
+    → GoesOnReading remaining contents v readers files mid now written → IsStopSince remaining mid now last why → IsStopSince remaining v readers last why
+stop_since remaining contents v mid readers now last files written why was is first read =
+    subst (λ (c : Content). IsStop remaining c first last why) was.of.table (is first (was.read first read))
 
 -- ---- what has gone out is taken
 
@@ -610,11 +680,25 @@ pub reads_none : {R F : Type 0} (remaining : R → Option (List ℕ)) (contents 
     → GoesOnReading remaining contents v readers files v readers files
 reads_none remaining contents v readers files of = record { of = of; many = refl; long = refl; read = λ first read. read; taken = λ start have. have }
 
--- a fault after some reads
-pub fault_since : {R F : Type 0} (remaining : R → Option (List ℕ)) (contents : F → Option (List ℕ)) (v mid : Seen) (readers now : List R) (files written : List F) (why : SourceFault)
-    → GoesOnReading remaining contents v readers files mid now written → IsFaultSince remaining mid now why → IsFaultSince remaining v readers why
-fault_since remaining contents v mid readers now files written why was is first read =
-    subst (λ (c : Content). IsSourceFault remaining c first why) was.of.table (is first (was.read first read))
+-- the next capture is that of one of the readers
+pub next_within : {R F : Type 0} (remaining : R → Option (List ℕ)) (contents : F → Option (List ℕ)) (v mid : Seen) (readers now : List R) (files written : List F) (numbers : List ℕ)
+    (place port : ℕ) → numbers ≡ map (λ (p : PortRow). p.id) v.table.ports → length readers ≡ length numbers → GoesOnReading remaining contents v readers files mid now written
+    → IsNextAt mid numbers place port → (first : List R) → AreReadUpTo remaining v first readers → (place < length first) × (length now ≡ length first)
+next_within remaining contents v mid readers now files written numbers place port are long was next first read =
+    (subst (λ n. place < n) up.many lt, up.many) where
+      up : AreReadUpTo remaining mid first now
+      up = was.read first read
+
+      of : IsOfTable mid.table mid
+      of = record {
+        table = refl;
+        rises = subst (λ (c : Content). Rises c.ports) (sym was.of.table) was.of.rises;
+        ports = was.of.ports ∙ ap (λ (c : Content). map (λ (q : PortRow). q.id) c.ports) (sym was.of.table);
+        none_failed = was.of.none_failed;
+      }
+
+      lt : place < length now
+      lt = place_within mid numbers now port place of (are ∙ ap (λ (c : Content). map (λ (q : PortRow). q.id) c.ports) (sym was.of.table)) (was.many ∙ long) next.place_is
 
 -- ---- at first
 
@@ -665,33 +749,12 @@ all_read remaining t v first now of long was end = record {
       subst (λ (x : Text). AreGiven (remaining r) x.1) from.2 (Consumes-whole (remaining r) (remaining s.0) from.0.bytes (λ all. from.0.bytes ≡ all) read.bytes (end place s.0 s.1) refl);
 }
 
+-- the fault of the first of them that is no capture
 pub last_fault : {R : Type 0} (remaining : R → Option (List ℕ)) (t : Content) (v : Seen) (first now : List R) (fault : RunFault) → IsOfTable t v → length first ≡ length t.ports
     → AreReadUpTo remaining v first now → AreAtEnd remaining now → IsReadFault (texts_in v) fault → IsSourceFault remaining t first (source_fault fault)
 last_fault remaining t v first now run.Memory of long was end is = tt
-last_fault {R} remaining t v first now (run.Capture port why) of long was end is =
-    let at = first_at (texts_in v) is in
-    let from = mapped_from text_in v.intakes at.0 at.1 at.2 in
-    let row = row_of_intake v.intakes t.ports at.0 from.0 of.ports from.1 in
-    let lt = slice_get_within t.ports at.0 row.0 row.1 in
-    let f = at_place first at.0 (omega (arith, lt, long)) in
-    let given = (all_read remaining t v first now of long was end).each at.0 f.0 at.1 f.1 at.2 in
-    record {
-      place = at.0;
-      row = row.0;
-      reader = f.0;
-      row_is = row.1;
-      port_is = row.2 ∙ ap (λ (x : Text). x.0) from.2 ∙ at.3;
-      reader_is = f.1;
-      has = given_has (remaining f.0) at.1.1 given at.4;
-    } where
-      first_at : (texts : List Text) → IsFirstFault texts port why → (k : ℕ) × (text : Text) × (slice_get texts k ≡ Some text) × (text.0 ≡ port) × IsFault text.1 why
-      first_at [] is = absurd is
-      first_at (text ∷ texts) (inl here) = (0, text, refl, here.0, here.1)
-      first_at (text ∷ texts) (inr later) = let at = first_at texts later.1 in (suc at.0, at.1, at.2, at.3, at.4)
-
-      given_has : (a : Option (List ℕ)) (bytes : List ℕ) → AreGiven a bytes → IsFault bytes why → IfSome a (λ all. IsFault all why)
-      given_has None bytes given has = tt
-      given_has (Some all) bytes given has = subst (λ xs. IsFault xs why) given has
+last_fault remaining t v first now (run.Capture port why) of long was end is =
+    record { texts = texts_in v; ports = ports_of_texts v.intakes ∙ of.ports; read = all_read remaining t v first now of long was end; first = is }
 last_fault remaining t v first now run.WrongPorts of long was end is = absurd is
 last_fault remaining t v first now run.Closed of long was end is = absurd is
 last_fault remaining t v first now run.Failed of long was end is = absurd is

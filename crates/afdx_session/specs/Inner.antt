@@ -10,4 +10,5 @@ pub mod Replay
 pub mod Rest
 pub mod Settled
 pub mod Sources
+pub mod Stop
 pub mod View

@@ -15,6 +15,7 @@ ghost use Rattle.afdx_session.specs.Inner.Files.{HandsOver};
 ghost use Rattle.std.specs.Io.KnownBytes.{Appends};
 ghost use Rattle.afdx_session.specs.Reading.{IsFaultAt};
 ghost use Rattle.afdx_session.specs.Inner.View.{IsFreshLane, AreFreshLanes, IsSettledLane, IsTaken, IsOpenAt, intakes_of};
+ghost use Rattle.afdx_session.specs.Inner.Stop.{MayReadOn, IsSkimmed, IsEndOf};
 ghost use Rattle.afdx_session.specs.Session.{refusal_at};
 
 use crate::plan::RunFault;
@@ -164,6 +165,35 @@ impl<'a, A: Allocator + Copy> Lane<'a, A> {
     {
         self.reader.close();
         self.read_on()
+    }
+
+    /// The next piece comes, and its records go nowhere: its fault, if it has one.
+    pub(crate) fn skim(&mut self, piece: &[u8]) -> Result<Option<PcapFault>, AllocError>
+        requires still_open { self.old.reader.closed ≡ false }
+        requires may { MayReadOn self.old }
+        ensures { IfOk result (λ found. IsSkimmed self.old self.new piece.now found) }
+    {
+        match self.feed(piece) {
+            Ok(()) => {
+                self.waiting.clear();
+                self.undone = 0;
+                Ok(None)
+            }
+            Err(RunFault::Capture(_, why)) => Ok(Some(why)),
+            Err(_) => Err(AllocError),
+        }
+    }
+
+    /// The capture ends: its fault, if it has one.
+    pub(crate) fn end(&mut self) -> Result<Option<PcapFault>, AllocError>
+        requires { MayReadOn self.old }
+        ensures { IfOk result (λ found. IsEndOf self.old.reader.bytes found) }
+    {
+        match self.close() {
+            Ok(()) => Ok(None),
+            Err(RunFault::Capture(_, why)) => Ok(Some(why)),
+            Err(_) => Err(AllocError),
+        }
     }
 
     /// The whole capture comes, and stays where it is; its first record is read. O(1).

@@ -3,8 +3,8 @@
 //! [`run`] reads the captures, merges their records by stamp and then by port number, puts them through the
 //! switch and writes what each port sends. Contracts see its answer as a function of the bytes that came in:
 //! each capture that goes out is the one text of the frames that the definitions of the crates below let
-//! leave at its port. [`run_into`] makes the same run, whose outputs go to files in parts while it goes on; [`run_from`] makes it over
-//! readers of the captures, by a [`Session`], which takes captures in pieces.
+//! leave at its port. [`run_from`] makes the same run over readers, each read once, whose outputs go to files in parts while it
+//! goes on, by a [`Session`], which takes captures in pieces.
 //! [`finished`] answers the switch itself, for what is asked of it beside that.
 #![tactic(auto)]
 
@@ -17,9 +17,10 @@ mod plan;
 mod rest;
 mod session;
 mod sources;
+mod stop;
 mod whole;
 
 pub use plan::{Outcome, Plan, RunFault};
 pub use session::Session;
 pub use sources::{SourceFault, run_from};
-pub use whole::{finished, run, run_into};
+pub use whole::{finished, run};

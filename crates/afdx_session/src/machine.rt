@@ -13,9 +13,9 @@ ghost use Rattle.afdx_count.specs.Tally.{noted, fresh, ended_tally};
 ghost use Rattle.afdx_session.specs.Inner.Kept.{AreOfTable, AreTouched, IsOfSameTable, IsGoing, IsRunning, come_to};
 ghost use Rattle.afdx_session.specs.Inner.Lanes.{limit_at, heads_of, NoneGoes, IsLimit};
 ghost use Rattle.afdx_session.specs.Inner.Lent.{texts_over, taken_by, left_in, IsOneFault, IsCarrying, CarriesOn, HandsOn, HaveGone};
-ghost use Rattle.afdx_session.specs.Inner.Files.{PutsOut, Proceeds, HasWritten, HasEndedInto};
+ghost use Rattle.afdx_session.specs.Inner.Files.{PutsOut, Proceeds, HasEndedInto};
 ghost use Rattle.std.specs.List.{AllByRecursion};
-ghost use Rattle.afdx_session.specs.Inner.View.{IsRound, IsReady, IsOpenAt, IsFed, IsNotFed, IsEnded, IsNotEnded, AreSettledLanes, AreFreshLanes, AreHalfDone, AreEndedLanes, AreLent, texts_at};
+ghost use Rattle.afdx_session.specs.Inner.View.{IsRound, IsReady, IsOpenAt, IsFed, IsNotFed, IsEnded, IsNotEnded, OthersStay, AreSettledLanes, AreFreshLanes, AreHalfDone, AreEndedLanes, AreLent, texts_at};
 ghost use Rattle.afdx_session.specs.Texts.{texts_of, AreOfPorts};
 ghost use Rattle.afdx_session.specs.Reading.{IsReadFault};
 
@@ -243,6 +243,7 @@ impl<'a, A: Allocator + Copy> Machine<'a, A> {
         ensures same { IsOfSameTable self.old.switch self.new.switch }
         ensures ok { OnOk result (IsReady self.new true × IsFed self.old.lanes.items self.new.lanes.items place piece.now) }
         ensures err { IfErr result (λ fault. IsNotFed self.old.lanes.items self.new.lanes.items place piece.now fault) }
+        ensures others { IfErr result (λ fault. OthersStay self.old.lanes.items self.new.lanes.items place fault) }
     {
         by_stamp_is_ordered();
         merged_is_a_merge();
@@ -262,6 +263,7 @@ impl<'a, A: Allocator + Copy> Machine<'a, A> {
         ensures same { IsOfSameTable self.old.switch self.new.switch }
         ensures ok { OnOk result (IsReady self.new true × IsEnded self.old.lanes.items self.new.lanes.items place) }
         ensures err { IfErr result (λ fault. IsNotEnded self.old.lanes.items self.new.lanes.items place fault) }
+        ensures others { IfErr result (λ fault. OthersStay self.old.lanes.items self.new.lanes.items place fault) }
     {
         by_stamp_is_ordered();
         merged_is_a_merge();
@@ -437,21 +439,6 @@ impl<'a, A: Allocator + Copy> Machine<'a, A> {
         Ok(())
     }
 
-    /// All records go to the switch, by stamp and then by port, and what leaves goes to the files in parts.
-    fn carry_into<F: NewFile>(&mut self, files: &mut [F]) -> Result<(), RunFault>
-        requires carrying { IsCarrying self.old }
-        requires files { length files.old ≡ length self.old.lanes.items }
-        ensures ok { OnOk result (Proceeds F.contents self.old files.old self.new files.new
-            × AllByRecursion (λ l. l.ended ≡ true) self.new.lanes.items) }
-        ensures err { IfErr result (λ fault. IsOneFault (texts_over self.old.lanes.items) fault) }
-    {
-        while self.carry_some()? {
-            self.put_out(files)?;
-        }
-        self.run_out(files)?;
-        Ok(())
-    }
-
     /// The captures of all ports come whole, and all their records go to the switch, unless one has a fault.
     fn lend_and_carry(
         &mut self,
@@ -493,52 +480,6 @@ impl<'a, A: Allocator + Copy> Machine<'a, A> {
         ensures err { IfErr result (λ fault. IsReadFault (texts_of captures.now) fault) }
     {
         match self.lend_and_carry(alloc, captures, frames) {
-            Ok(()) => Ok(()),
-            Err(fault) => Err(first_fault(alloc, captures, fault)),
-        }
-    }
-
-    /// The captures of all ports come whole, and all their records go to the switch; what leaves goes to the files, unless
-    /// a capture has a fault.
-    fn lend_and_write<F: NewFile>(
-        &mut self,
-        alloc: A,
-        captures: &'a [(u8, Vec<u8, A>)],
-        files: &mut [F],
-    ) -> Result<(), RunFault>
-        requires of { AreOfTable self.old.switch.run.table self.old.lanes.items }
-        requires ports { AreOfPorts self.old.switch.run.table (texts_of captures.now) }
-        requires handed { length self.old.switch.run.handed ≡ length self.old.switch.run.table.ports }
-        requires fresh { AreFreshLanes self.old.switch.run.table.ports self.old.lanes.items }
-        requires going { IsGoing self.old.switch.run.table self.old.lanes.items self.old.switch self.old.counts }
-        requires files { length files.old ≡ length captures.now }
-        ensures ok { OnOk result (IsOfSameTable self.old.switch self.new.switch × HasWritten F.contents (texts_of captures.now) self.new files.old files.new) }
-        ensures err { IfErr result (λ fault. IsOneFault (texts_of captures.now) fault) }
-    {
-        self.lend_all(alloc, captures)?;
-        self.carry_into(files)
-    }
-
-    /// The captures of all ports come whole, and stay where they are; all their records go to the switch, and what leaves
-    /// goes to the files.
-    ///
-    /// Of several faults that of the lowest port is answered.
-    pub(crate) fn pass_into<F: NewFile>(
-        &mut self,
-        alloc: A,
-        captures: &'a [(u8, Vec<u8, A>)],
-        files: &mut [F],
-    ) -> Result<(), RunFault>
-        requires of { AreOfTable self.old.switch.run.table self.old.lanes.items }
-        requires ports { AreOfPorts self.old.switch.run.table (texts_of captures.now) }
-        requires handed { length self.old.switch.run.handed ≡ length self.old.switch.run.table.ports }
-        requires fresh { AreFreshLanes self.old.switch.run.table.ports self.old.lanes.items }
-        requires going { IsGoing self.old.switch.run.table self.old.lanes.items self.old.switch self.old.counts }
-        requires files { length files.old ≡ length captures.now }
-        ensures ok { OnOk result (IsOfSameTable self.old.switch self.new.switch × HasWritten F.contents (texts_of captures.now) self.new files.old files.new) }
-        ensures err { IfErr result (λ fault. IsReadFault (texts_of captures.now) fault) }
-    {
-        match self.lend_and_write(alloc, captures, files) {
             Ok(()) => Ok(()),
             Err(fault) => Err(first_fault(alloc, captures, fault)),
         }
@@ -618,6 +559,14 @@ impl<'a, A: Allocator + Copy> Machine<'a, A> {
         self.give_settled()?;
         self.run_out(files)?;
         Ok(())
+    }
+
+    /// What there is of each port.
+    pub(crate) fn into_lanes(self) -> Vec<Lane<'a, A>, A>
+        ensures { result ≡ self.entry.lanes }
+    {
+        let Machine { lanes, .. } = self;
+        lanes
     }
 
     /// The switch carries out all that is left, and all counts.

@@ -1,20 +1,21 @@
 //! A run whose captures are read in pieces.
 
-ghost use Rattle.std.specs.Prelude.{◌≡◌, ◌<◌, ◌==◌, List, length, map, position, None, IfOk, IfErr, OnOk};
+ghost use Rattle.std.specs.Prelude.{◌≡◌, ◌<◌, ◌==◌, List, length, map, position, true, IfOk, IfErr, OnOk, IfSome, IfNone};
+ghost use Rattle.std.specs.List.{AllByRecursion};
 ghost use Rattle.afdx_session.specs.Outcome.{table_in};
 ghost use Rattle.afdx_session.specs.Texts.{Text};
-ghost use Rattle.afdx_session.specs.Session.{refusal};
 ghost use Rattle.afdx_session.specs.Sources.{AreRead, IsSourceFault};
 ghost use Rattle.afdx_session.specs.Written.{IsWritten};
-ghost use Rattle.afdx_session.specs.Inner.Sources.{IsOfBytes, source_fault, IsOfTable, AreReadUpTo, AreAtEnd, ReadsOn, TakesParts, GoesOnReading, IsFaultSince};
+ghost use Rattle.afdx_session.specs.Inner.Sources.{IsOfBytes, source_fault, IsOfTable, IsNextAt, AreReadUpTo, AreAtEnd, ReadsOn, TakesParts, GoesOnReading};
+ghost use Rattle.afdx_session.specs.Inner.Stop.{IsStopSince};
 
 use crate::laws::takes_join_to_the_output;
 use crate::plan::{Plan, RunFault};
 use crate::session::Session;
+use crate::stop::{Stop, stop_of};
 use afdx_count::Counts;
-use afdx_devices::{NewFile, TURNS};
+use afdx_devices::NewFile;
 use afdx_pcap::PcapFault;
-use afdx_pcap::laws::early_faults_stay;
 use afdx_table::PortRow;
 use std::alloc::{AllocError, Allocator};
 use std::io::{ErrorKind, Read};
@@ -29,10 +30,10 @@ pub enum SourceFault {
     /// Out of memory.
     #[error("Memory")]
     Memory,
-    /// A reader failed, or all turns were used up.
+    /// The reader at this place failed; those before it were read to their ends.
     #[error("Read")]
-    Read,
-    /// The port's text is no capture, and this is its first fault. It is the one that was met first: a lower port's may have one too.
+    Read(usize),
+    /// The port's text is no capture, and this is its first fault. All were read, and those of the lower ports are captures.
     #[error("Capture")]
     Capture(u8, PcapFault),
 }
@@ -77,50 +78,63 @@ fn place_of(numbers: &[u8], port: u8) -> Option<usize>
     numbers.iter().position(|number| *number == port)
 }
 
-/// One more read of the capture that holds back the output: what it gives goes to the session. Whether any is still to be made;
-/// at the end of the last capture that has not ended, which the session is to end itself, none is.
-fn read_on<A: Allocator + Copy, R: Read>(
-    session: &mut Session<A>,
-    ports: &[u8],
-    port: u8,
-    readers: &mut [R],
-    piece: &mut [u8],
-) -> Result<bool, SourceFault>
-    requires of { IsOfTable session.old.table session.old }
-    requires ports { ports.now ≡ map (λ p. p.id) session.old.table.ports }
-    requires still_open { refusal session.old port ≡ None }
-    requires readers { length readers.old ≡ length ports.now }
-    requires room { 0 < length piece.old }
-    ensures room { length piece.new ≡ length piece.old }
-    ensures ok { IfOk result (λ more. ReadsOn R.remaining session.old readers.old more session.new readers.new) }
-    ensures err { IfErr result (λ fault. IsFaultSince R.remaining session.old readers.old fault) }
+/// The place and the port of the capture that holds back the output; none where all have ended. O(ports).
+fn next_place<A: Allocator + Copy>(session: &Session<A>, ports: &[u8]) -> Option<(usize, u8)>
+    requires of { IsOfTable session.now.table session.now }
+    requires ports { ports.now ≡ map (λ p. p.id) session.now.table.ports }
+    ensures some { IfSome result (λ next. IsNextAt session.now ports.now next.0 next.1) }
+    ensures none { IfNone result (AllByRecursion (λ i. i.closed ≡ true) session.now.intakes) }
 {
-    early_faults_stay();
-    takes_join_to_the_output();
+    let Some(port) = session.waits_for() else {
+        return None;
+    };
     let Some(place) = place_of(ports, port) else {
         unreachable!();
     };
+    Some((place, port))
+}
+
+/// One more read of the capture at a place, which holds back the output: what it gives goes to the session. Whether any is still to be
+/// made; at the end of the last capture that has not ended, which the session is to end itself, none is.
+fn read_on<A: Allocator + Copy, R: Read>(
+    session: Session<A>,
+    ports: &[u8],
+    place: usize,
+    port: u8,
+    readers: &mut [R],
+    piece: &mut [u8],
+) -> Result<(Session<A>, bool), Stop<A>>
+    requires of { IsOfTable session.table session }
+    requires ports { ports.now ≡ map (λ p. p.id) session.table.ports }
+    requires next { IsNextAt session ports.now place port }
+    requires readers { length readers.old ≡ length ports.now }
+    requires room { 0 < length piece.old }
+    ensures room { length piece.new ≡ length piece.old }
+    ensures ok { IfOk result (λ both. ReadsOn R.remaining session readers.old both.1 both.0 readers.new) }
+    ensures err { IfErr result (λ why. IsStopSince R.remaining session readers.old readers.new why) }
+{
+    takes_join_to_the_output();
     match readers[place].read(piece) {
         Ok(0) => {
             if session.is_last(port) {
-                return Ok(false);
+                return Ok((session, false));
             }
-            if let Err(fault) = session.close(port) {
-                return Err(source_fault(fault));
-            }
-        }
-        Ok(count) => {
-            if let Err(fault) = session.feed(port, &piece[..count]) {
-                return Err(source_fault(fault));
+            match session.close_on(port) {
+                Ok(session) => Ok((session, true)),
+                Err((fault, lanes)) => Err(stop_of(place, fault, lanes)),
             }
         }
+        Ok(count) => match session.feed_on(port, &piece[..count]) {
+            Ok(session) => Ok((session, true)),
+            Err((fault, lanes)) => Err(stop_of(place, fault, lanes)),
+        },
         Err(e) => {
             if e.kind() != ErrorKind::Interrupted {
-                return Err(SourceFault::Read);
+                return Err(Stop::Read(place));
             }
+            Ok((session, true))
         }
     }
-    Ok(true)
 }
 
 /// What has gone out for the port at a place and was not taken goes to its file; nothing where there is no such place.
@@ -151,46 +165,57 @@ fn place_after(place: usize, count: usize) -> usize {
 /// All captures are read to their ends, and but for the last they have ended. What has gone out goes to the files, of one port after
 /// each read in turn, so that a part is some pieces long.
 fn read_all<A: Allocator + Copy, R: Read, F: NewFile>(
-    session: &mut Session<A>,
+    start: Session<A>,
     ports: &[u8],
     readers: &mut [R],
     files: &mut [F],
     piece: &mut [u8],
-) -> Result<(), SourceFault>
-    requires of { IsOfTable session.old.table session.old }
-    requires ports { ports.now ≡ map (λ p. p.id) session.old.table.ports }
+) -> Result<Session<A>, Stop<A>>
+    requires of { IsOfTable start.table start }
+    requires ports { ports.now ≡ map (λ p. p.id) start.table.ports }
     requires readers { length readers.old ≡ length ports.now }
     requires files { length files.old ≡ length ports.now }
     requires room { 0 < length piece.old }
-    ensures ok { OnOk result (GoesOnReading R.remaining F.contents session.old readers.old files.old session.new readers.new files.new
-        × ((first : List R) → AreReadUpTo R.remaining session.old first readers.old → AreAtEnd R.remaining readers.new)) }
-    ensures err { IfErr result (λ fault. IsFaultSince R.remaining session.old readers.old fault) }
+    ensures room { length piece.new ≡ length piece.old }
+    ensures ok { IfOk result (λ session. GoesOnReading R.remaining F.contents start readers.old files.old session readers.new files.new
+        × ((first : List R) → AreReadUpTo R.remaining start first readers.old → AreAtEnd R.remaining readers.new)) }
+    ensures err { IfErr result (λ why. IsStopSince R.remaining start readers.old readers.new why) }
 {
     takes_join_to_the_output();
+    let mut session = start;
     let mut place = 0;
-    for _turn in 0..TURNS {
-        let Some(port) = session.waits_for() else {
-            return Ok(());
+    for _turn in 0..u64::MAX {
+        let Some((next, port)) = next_place(&session, ports) else {
+            return Ok(session);
         };
-        if !read_on(session, ports, port, readers, piece)? {
-            return Ok(());
+        let more;
+        (session, more) = read_on(session, ports, next, port, readers, piece)?;
+        if !more {
+            return Ok(session);
         }
-        take_at(session, ports, files, place)?;
+        if take_at(&mut session, ports, files, place).is_err() {
+            return Err(Stop::Memory);
+        }
         place = place_after(place, ports.len());
     }
-    Err(SourceFault::Read)
+    match next_place(&session, ports) {
+        Some((next, _)) => Err(Stop::Read(next)),
+        None => Ok(session),
+    }
 }
 
-/// The run of [`run_into`](crate::run_into) over captures that readers give, of the table's ports by rising number. Of each capture
-/// no more is kept than a piece and those that records which wait came in.
+/// The run of [`run`](crate::run) over captures that readers give, of the table's ports by rising number, whose outputs go to the files
+/// of the ports, in parts while it goes on. It answers the counts. Of each capture no more is kept than a piece and those that records
+/// which wait came in.
 ///
-/// Of the captures that have not ended, the one whose last record is the earliest is read next, by at most 16,777,216 reads in all,
-/// of at most 16,384 bytes (profile).
+/// Of the captures that have not ended, the one whose last record is the earliest is read next, by at most 16,384 bytes (profile).
 ///
 /// # Errors
 ///
-/// What is met first: `Read` where a read fails or all reads are used up; `Capture` with a port whose text is no capture and its
-/// first fault, which need not be the lowest such port; `Memory` where memory ran out. Nothing is said then of what the files have.
+/// `Memory` where memory ran out. Else, where a read fails or a capture has a fault, the other captures are read on to their ends, by
+/// rising port, and this is answered: `Read` with the place of the first reader that fails; else `Capture` with the lowest port whose
+/// text is no capture, and its first fault. No capture is read twice. Nothing is said then of what the files have, of which some
+/// may have parts of an output. A file that fails is no error here: it answers when it is settled.
 ///
 /// A frame's bytes are copied when they come, and when it goes out, once for each port that sends it. O(links + ports), O(1)
 /// for each record, O(ports) for each read, and O(bytes), beside the switch's own work.
@@ -207,14 +232,16 @@ pub fn run_from<A: Allocator + Copy, R: Read, F: NewFile>(
     ensures err { IfErr result (λ fault. IsSourceFault R.remaining (table_in plan) readers.old fault) }
 {
     takes_join_to_the_output();
-    early_faults_stay();
     let ports = numbers_of(alloc, plan.table().ports())?;
     let mut piece = vec![in alloc; 0u8; PIECE]?;
-    let mut session = match Session::new(alloc, plan) {
+    let session = match Session::new(alloc, plan) {
         Ok(session) => session,
         Err(fault) => return Err(source_fault(fault)),
     };
-    read_all(&mut session, &ports, readers, files, &mut piece)?;
+    let session = match read_all(session, &ports, readers, files, &mut piece) {
+        Ok(session) => session,
+        Err(stop) => return Err(stop.first_failure(readers, &mut piece)),
+    };
     match session.finish_into(files) {
         Ok(counts) => Ok(counts),
         Err(fault) => Err(source_fault(fault)),

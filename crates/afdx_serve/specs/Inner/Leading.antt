@@ -45,9 +45,9 @@ pub record IsInFiles {N : Type 0} (contents : N → Option (List ℕ)) (shown : 
   pub have : HaveBytes contents shown files (bytes_of_captures results.captures)
   pub reported : report ≡ report_in results
 
--- captures that were got whole were not, or lead to nothing
-abbrev pub FailsToLeadWhole : Failure → Option Files → List ℕ → Content → DeviceLog → DeviceLog → Type 0
-FailsToLeadWhole f files path t before after =
+-- captures were not got, or lead to nothing
+abbrev pub FailsToLeadFrom : Failure → Option Files → List ℕ → Content → DeviceLog → DeviceLog → Type 0
+FailsToLeadFrom f files path t before after =
     FailsToGetAll f files path t before after ⊎ ((texts : List Text) × HasCaptures files path t texts × FailsToLead f t texts × (after ≡ before))
 
 -- what the files of a run lead to is in these new files, which are to be put under these names, and this is the report

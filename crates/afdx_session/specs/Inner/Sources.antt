@@ -1,5 +1,5 @@
 -- A run whose captures are read in pieces, between two reads.
-use Rattle.std.specs.Prelude.{ℕ, ◌≡◌, Bool, true, false, List, length, map, slice_get, Option, Some}
+use Rattle.std.specs.Prelude.{ℕ, ◌≡◌, ◌==◌, Bool, true, false, List, length, map, position, slice_get, Option, Some, None}
 use Rattle.std.specs.Io.KnownBytes.{Consumes, IsAtEnd}
 use Rattle.afdx_table.specs.Content.{Content}
 use Rattle.afdx_table.specs.WellFormed.{Rises}
@@ -7,8 +7,7 @@ use Rattle.afdx_session.specs.declared.plan.RunFault.{RunFault}
 use Rattle.afdx_session.specs.declared.plan.RunFault.TheVariants as run
 use Rattle.afdx_session.specs.declared.sources.SourceFault.{SourceFault}
 use Rattle.afdx_session.specs.declared.sources.SourceFault.TheVariants as fault
-use Rattle.afdx_session.specs.Session.{Intake, Seen, taken_of}
-use Rattle.afdx_session.specs.Sources.{IsSourceFault}
+use Rattle.afdx_session.specs.Session.{Intake, Seen, taken_of, refusal}
 use Rattle.afdx_session.specs.Into.{HaveTaken}
 use Rattle.afdx_session.specs.Inner.Pieces.{GoesOnTo}
 
@@ -44,6 +43,11 @@ abbrev pub AreAtEnd : {R : Type 0} → (R → Option (List ℕ)) → List R → 
 AreAtEnd {R} remaining readers = (place : ℕ) (r : R) → slice_get readers place ≡ Some r → IsAtEnd (remaining r)
 
 -- ---- how a session goes on
+
+-- the capture of this port, whose number is at this place, may go on
+pub record IsNextAt (v : Seen) (numbers : List ℕ) (place port : ℕ) : Type 0 where
+  pub place_is : position (λ n. n == port) numbers ≡ Some place
+  pub may : refusal v port ≡ None
 
 -- it is of this table, and none of its calls has failed
 pub record IsOfTable (t : Content) (v : Seen) : Type 0 where
@@ -89,7 +93,3 @@ pub record GoesOnReading {R F : Type 0} (remaining : R → Option (List ℕ)) (c
   pub long : length written ≡ length files
   pub read : (first : List R) → AreReadUpTo remaining v first readers → AreReadUpTo remaining later first now
   pub taken : (start : List F) → HaveTaken contents v start files → HaveTaken contents later start written
-
--- whatever the readers gave before: this is why there is no outcome
-abbrev pub IsFaultSince : {R : Type 0} → (R → Option (List ℕ)) → Seen → List R → SourceFault → Type 0
-IsFaultSince {R} remaining v readers why = (first : List R) → AreReadUpTo remaining v first readers → IsSourceFault remaining v.table first why

@@ -12,6 +12,7 @@ use Rattle.afdx_core.specs.Merge.{merged}
 use Rattle.afdx_session.specs.declared.lane.Lane.{Lane}
 use Rattle.afdx_session.specs.declared.machine.Machine.{Machine}
 use Rattle.afdx_session.specs.declared.plan.RunFault.{RunFault}
+use Rattle.afdx_session.specs.declared.plan.RunFault.TheVariants as run
 use Rattle.afdx_session.specs.Reading.{IsFaultAt, IsSound}
 use Rattle.afdx_session.specs.Texts.{Text, AreOfPorts}
 use Rattle.afdx_session.specs.Finish.{text_in}
@@ -137,6 +138,11 @@ pub record IsNotEnded {Z : Type 0} (old new : List (Lane Z)) (place : ℕ) (faul
   pub at : slice_get old place ≡ Some lane
   pub half : AreHalfDone old new
   pub why : IsFaultAt (intake_of lane).bytes lane.port fault
+
+-- and where its capture has a fault, no other lane has changed
+abbrev pub OthersStay : {Z : Type 0} → List (Lane Z) → List (Lane Z) → ℕ → RunFault → Type 0
+OthersStay {Z} old new place (run.Capture port why) = (lane : Lane Z) × (new ≡ set old place lane)
+OthersStay old new place _ = Unit {0}
 
 -- the first record that waits went from the lane at a place
 pub record HasGone {Z : Type 0} (old new : List (Lane Z)) (place : ℕ) : Type 0 where

@@ -16,24 +16,24 @@ pub returns-in-Memory-clause-reported : goal.returns-in-Memory-clause-reported
 returns-in-Memory-clause-reported g c = rw c.in-Memory.is (failure.Memory, inl refl, c.write_line-in-Memory.ensures.status, c.write_line-in-Memory.ensures.line)
 
 pub returns-in-Table-clause-reported : goal.returns-in-Table-clause-reported
-returns-in-Table-clause-reported g c = rw c.in-Table.is (made (failure.Table c.in-Table.refusal) _ _ _ _ _ tt c.table_line.ensures refl c.write_made.ensures)
+returns-in-Table-clause-reported g c = rw c.in-Table.is (made (failure.Table c.in-Table.refusal) _ _ _ _ _ _ tt c.table_line.ensures refl c.write_made.ensures)
 
 pub returns-in-Capture-clause-reported : goal.returns-in-Capture-clause-reported
-returns-in-Capture-clause-reported g c = rw c.in-Capture.is (made (failure.Capture c.in-Capture.fault) _ _ _ _ _ tt c.capture_line.ensures refl c.write_made-in-Capture.ensures)
+returns-in-Capture-clause-reported g c = rw c.in-Capture.is (made (failure.Capture c.in-Capture.fault) _ _ _ _ _ _ tt c.capture_line.ensures refl c.write_made-in-Capture.ensures)
 
 pub returns-in-PortCapture-clause-reported : goal.returns-in-PortCapture-clause-reported
-returns-in-PortCapture-clause-reported g c = rw c.in-PortCapture.is (made (failure.PortCapture c.in-PortCapture.port c.in-PortCapture.fault) _ _ _ _ _ tt c.capture_line-in-PortCapture.ensures refl
+returns-in-PortCapture-clause-reported g c = rw c.in-PortCapture.is (made (failure.PortCapture c.in-PortCapture.port c.in-PortCapture.fault) _ _ _ _ _ _ tt c.capture_line-in-PortCapture.ensures refl
     c.write_made-in-PortCapture.ensures)
 
 pub returns-in-Get-clause-reported : goal.returns-in-Get-clause-reported
-returns-in-Get-clause-reported g c = rw c.in-Get.is (made (failure.Get c.in-Get.name) _ _ _ _ _ tt (rw c.deref.ensures at c.device_line.ensures) refl c.write_made-in-Get.ensures)
+returns-in-Get-clause-reported g c = rw c.in-Get.is (made (failure.Get c.in-Get.name) _ _ _ _ _ _ tt (rw c.deref.ensures at c.device_line.ensures) refl c.write_made-in-Get.ensures)
 
 pub returns-in-Put-clause-reported : goal.returns-in-Put-clause-reported
-returns-in-Put-clause-reported g c = rw c.in-Put.is (made (failure.Put c.in-Put.name) _ _ _ _ _ tt (rw c.deref-in-Put.ensures at c.device_line-in-Put.ensures) refl c.write_made-in-Put.ensures)
+returns-in-Put-clause-reported g c = rw c.in-Put.is (made (failure.Put c.in-Put.name) _ _ _ _ _ _ tt (rw c.deref-in-Put.ensures at c.device_line-in-Put.ensures) refl c.write_made-in-Put.ensures)
 
 pub returns-in-Load-clause-reported : goal.returns-in-Load-clause-reported
-returns-in-Load-clause-reported g c = rw c.in-Load.is (made (failure.Load c.in-Load.fault) _ _ _ _ _ tt c.load_line.ensures refl c.write_made-in-Load.ensures)
+returns-in-Load-clause-reported g c = rw c.in-Load.is (made (failure.Load c.in-Load.fault) _ _ _ _ _ _ tt c.load_line.ensures refl c.write_made-in-Load.ensures)
 
 pub returns-in-Network-clause-reported : goal.returns-in-Network-clause-reported
-returns-in-Network-clause-reported g c = rw c.in-Network.is (made (failure.Network c.in-Network.refusal) _ _ _ _ _ tt c.network_failure_line.ensures c.network_status.ensures
+returns-in-Network-clause-reported g c = rw c.in-Network.is (made (failure.Network c.in-Network.refusal) _ _ _ _ _ _ tt c.network_failure_line.ensures c.network_status.ensures
     c.write_made-in-Network.ensures)

@@ -14,7 +14,7 @@ returns-in_err-captures-clause-got g c =
     let got = c.in_ok-plan.ensures.got in
     let fails = rw c.table.ensures.table at c.in_err-captures.ensures.got in
     of_error _ _ _ c.in_err-captures.field-0.0 c.from_residual-in_err-captures.ensures
-    (not_gathered inputs files _ (table_in plan) _ _ _ (has_plan inputs files _ plan got.0 got.1) c.in_ok-plan.ensures.same got.2 c.in_err-captures.field-0.0 fails)
+    (not_gathered inputs files _ (table_in plan) _ _ _ (has_plan inputs files _ plan got.0.1 got.0.2) c.in_ok-plan.ensures.same got.1 c.in_err-captures.field-0.0 fails)
 
 pub returns-clause-got : goal.returns-clause-got
 returns-clause-got g c =
@@ -23,6 +23,6 @@ returns-clause-got g c =
     let plan = c.in_ok-plan.plan in
     let got = c.in_ok-plan.ensures.got in
     let has = rw c.table.ensures.table at c.in_ok-captures.ensures.got.0 in (
-      record { has_plan = has_plan inputs files _ plan got.0 got.1; cleared = got.1.cleared; has_captures = (has.0, ShowsAll-before files _ _ _ c.in_ok-plan.ensures.same has.1) },
-      c.in_ok-captures.ensures.got.1 ∙ got.2,
+      record { has_plan = has_plan inputs files _ plan got.0.1 got.0.2; cleared = got.0.2.cleared; has_captures = (has.0, ShowsAll-before files _ _ _ c.in_ok-plan.ensures.same has.1) },
+      c.in_ok-captures.ensures.got.1 ∙ got.1,
     )

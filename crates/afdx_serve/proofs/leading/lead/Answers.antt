@@ -1,38 +1,28 @@
-use Rattle.std.proofs.Common.{◌≡◌, ◌∙◌, map, String, Global, string_bytes}
+use Rattle.std.proofs.Common.{◌∙◌, map, sym, subst, string_bytes}
 use Rattle.afdx_session.specs.Outcome.{table_in}
-use Rattle.afdx_serve.specs.Runs.{port_names}
+use Rattle.afdx_serve.specs.Runs.{inputs_of, FailsToGather}
 use Rattle.afdx_serve.proofs.FileLemmas.{KeepsFiles-trans}
-use Rattle.afdx_serve.proofs.LeadLemmas.{as_many, opened_led, same_table, some_has, whole_led}
+use Rattle.afdx_serve.proofs.LeadLemmas.{folder_led, not_led_from}
 use Rattle.afdx_serve.proofs.leading.lead.Goals as goal
 
-pub returns-in_default-clause-led : goal.returns-in_default-clause-led
-returns-in_default-clause-led g c = λ first keeps shows.
-    whole_led c.tables_are_well_formed.ensures c.accepted_runs_isolate.ensures g.F.New.NewFile.contents (λ both. both.0.items) (λ both. string_bytes both.1) c.args.paths.now first _
-    c.args.text.now c.args.plan _ _ _ _ c.lead_whole.result shows c.requires.plan c.requires.names (KeepsFiles-trans _ _ _ keeps c.in_ok-opened.ensures.same) c.in_ok-opened.ensures.failed
-    c.lead_whole.ensures.led
-
-pub returns-in-Some-2-clause-led : goal.returns-in-Some-2-clause-led
-returns-in-Some-2-clause-led g c = λ first keeps shows.
-    let str : String Global → _ = λ s. string_bytes s in
-    let opened = some_has _ _ _ c.in-Some.is c.in_ok-opened.ensures.opened in
-    let is = some_has _ _ _ c.in-Some-2.is c.in_ok-led.ensures.led in
-    let from : map str c.in_ok-sources.sources.items ≡ port_names c.args.paths.now.input.now (table_in c.args.plan) = rw (c.ports.ensures.ports, c.table.ensures.table) at c.in_ok-sources.ensures in (
-      opened_led c.tables_are_well_formed.ensures c.accepted_runs_isolate.ensures g.F.New.NewFile.contents g.F.Opened.Read.remaining c.args.paths.now first _ _ c.args.text.now c.args.plan
-          (map str c.in_ok-sources.sources.items) _ c.in-Some.opened.items is.0 _ _ shows c.requires.plan from c.requires.names keeps c.in_ok-opened.ensures.same
-          (rw c.deref.ensures.value at opened) is.1 is.2,
-      c.in_ok-led.ensures.failed ∙ c.in_ok-opened.ensures.failed,
+pub returns-in-Ok-clause-led : goal.returns-in-Ok-clause-led
+returns-in-Ok-clause-led g c = λ first text keeps shows is.
+    let led = c.in-Ok.ensures.led in
+    let long = sym c.deref_mut.ensures.len ∙ sym led.0.3.appended.0 in
+    let written = rw c.deref_mut.ensures.value at led.0.3 in (
+      folder_led c.tables_are_well_formed.ensures c.accepted_runs_isolate.ensures g.F.New.NewFile.contents c.args.paths.now first _ _ text c.args.plan led.0.1 c.in_ok-files.files.items
+          c.report_of_folder.new.files c.in_ok-files.files.len led.0.0 (map string_bytes c.args.names.now) (string_bytes c.in-Ok.report) shows is c.requires.names keeps c.in_ok-files.ensures.same
+          c.in_ok-files.ensures.empty long led.0.2 written led.0.4,
+      led.1 ∙ c.in_ok-files.ensures.failed,
     )
 
-pub lead_whole-requires-2 : goal.lead_whole-requires-2
-lead_whole-requires-2 g c =
-    let str : String Global → _ = λ s. string_bytes s in
-    let same = same_table _ _ c.args.plan c.in_ok-plan.plan c.requires.plan c.in_ok-plan.ensures in
-    as_many str c.args.paths.now.output.now (table_in c.in_ok-plan.plan) c.args.names.now (rw same at c.requires.names)
+pub returns-in-Err-clause-led : goal.returns-in-Err-clause-led
+returns-in-Err-clause-led g c = λ first text keeps shows is.
+    let inputs = inputs_of c.args.paths.now in
+    let log = g.F.Folder.failed c.args.folder.now in
+    subst (λ now. FailsToGather c.in-Err.failure inputs first log now) (sym c.abandon_all.ensures.failed)
+    (not_led_from inputs first (g.F.Folder.files c.begin_all.new.folder) text c.args.plan log (g.F.Folder.failed c.begin_all.new.folder) (g.F.Folder.failed c.report_of_folder.new.folder) shows is
+    (KeepsFiles-trans first _ _ keeps c.in_ok-files.ensures.same) c.in_ok-files.ensures.failed c.in-Err.failure c.in-Err.ensures.led)
 
-pub returns-clause-led : goal.returns-clause-led
-returns-clause-led g c = λ first keeps shows.
-    let same = same_table _ _ c.args.plan c.in_ok-plan.plan c.requires.plan c.in_ok-plan.ensures in
-    whole_led c.tables_are_well_formed.ensures c.accepted_runs_isolate.ensures g.F.New.NewFile.contents (λ both. both.0.items) (λ both. string_bytes both.1) c.args.paths.now first _
-    c.args.text.now c.in_ok-plan.plan _ _ _ _ c.lead_whole-2.result shows c.in_ok-plan.ensures (rw same at c.requires.names)
-    (KeepsFiles-trans _ _ _ (KeepsFiles-trans _ _ _ keeps c.in_ok-opened.ensures.same) c.in_ok-led.ensures.same) (c.in_ok-led.ensures.failed ∙ c.in_ok-opened.ensures.failed)
-    c.lead_whole-2.ensures.led
+pub returns-in-Err-clause-same : goal.returns-in-Err-clause-same
+returns-in-Err-clause-same g c = KeepsFiles-trans _ _ _ (KeepsFiles-trans _ _ _ c.in_ok-files.ensures.same c.in-Err.ensures.same) c.abandon_all.ensures.same

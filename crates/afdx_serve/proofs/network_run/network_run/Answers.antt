@@ -1,4 +1,4 @@
-use Rattle.std.proofs.Common.{rules, ◌≡◌, ◌∙◌, List, None, String, Global, length, map, string_bytes, inl, inr, refl, sym, ap}
+use Rattle.std.proofs.Common.{rules, ◌≡◌, ◌∙◌, ℕ, List, None, String, Vec, Global, length, map, string_bytes, inl, inr, sym, ap}
 use Rattle.std.proofs.KnownBytes.{Keeps-refl}
 use Rattle.std.proofs.lemmas.List.{length-map}
 use Rattle.afdx_session.specs.Outcome.{Results}
@@ -9,7 +9,6 @@ use Rattle.afdx_serve.proofs.FileLemmas.{KeepsFiles-trans}
 use Rattle.afdx_failures.specs.declared.failure.Failure.TheVariants.{Memory, Write}
 use Rattle.afdx_serve.specs.Networks.{names_of}
 use Rattle.afdx_serve.specs.NetworkRuns.{names_at, captures_of, reports_of}
-use Rattle.afdx_serve.specs.Inner.NetworkRunning.{held_names, AreAsMany}
 use Rattle.afdx_serve.specs.Serving.{world, PutsNetwork}
 use Rattle.afdx_serve.proofs.NetworkRunLemmas.{IsLed, is_led, files_named, no_run, not_given, not_led, not_put_network, puts_network}
 use Rattle.afdx_serve.proofs.network_run.network_run.Given.{Over}
@@ -29,29 +28,26 @@ led g c =
     c.in_ok-outcomes.outcomes.items _
     got.got.0 accepted.0 c.network-2.ensures.network accepted.1 got.same given.got.0.0 given.got.0.1 c.in_ok-outcomes.ensures named
 
--- its captures have names, as many of each switch
+-- its captures have names
 files_are : (g : Over) (c : After-deref-8 g)
     → IsLed c.args.paths.now (g.F.Folder.files c.args.folder.now) c.in_ok-network.network (map string_bytes c.in_ok-names.names.items) c.in_ok-outcomes.outcomes.items
-    → (held_names c.in_ok-files.files.items ≡ names_at c.args.paths.now.output.now (names_of c.in_ok-network.network.layout.switches) (captures_of c.in_ok-outcomes.outcomes.items))
-    × AreAsMany c.in_ok-files.files.items (captures_of c.in_ok-outcomes.outcomes.items)
+    → map string_bytes c.in_ok-files.files.items ≡ names_at c.args.paths.now.output.now (names_of c.in_ok-network.network.layout.switches) (captures_of c.in_ok-outcomes.outcomes.items)
 files_are g c l =
     let out = c.args.paths.now.output.now in
     let left = c.in_ok-outcomes.outcomes.items in
-    let by = rw (c.deref-5.ensures.value, c.deref-6.ensures.value) at c.in_ok-files.ensures in
-    let files = files_named out (map string_bytes c.in_ok-names.names.items) left c.in_ok-files.files.items l.count by in
-    (files.0 ∙ ap (λ (all : Names). names_at out all (captures_of left)) l.named, files.1)
+    rw (c.deref-5.ensures.value, c.deref-6.ensures.value) at c.in_ok-files.ensures ∙ ap (λ (all : Names). names_at out all (captures_of left)) l.named
 
 -- all of them were put
 puts : (g : Over) (c : After-deref-11 g)
     → IsLed c.args.paths.now (g.F.Folder.files c.args.folder.now) c.in_ok-network.network (map string_bytes c.in_ok-names.names.items) c.in_ok-outcomes.outcomes.items
-    → held_names c.in_ok-files.files.items ≡ names_at c.args.paths.now.output.now (names_of c.in_ok-network.network.layout.switches) (captures_of c.in_ok-outcomes.outcomes.items)
+    → map string_bytes c.in_ok-files.files.items ≡ names_at c.args.paths.now.output.now (names_of c.in_ok-network.network.layout.switches) (captures_of c.in_ok-outcomes.outcomes.items)
     → PutsNetwork c.args.paths.now (world None (g.F.Folder.files c.args.folder.now) (g.F.Folder.failed c.args.folder.now))
-    (world None (g.F.Folder.files c.put_all.new.folder) (g.F.Folder.failed c.put_all.new.folder)) c.in_ok-network.network c.in_ok-outcomes.outcomes.items
+    (world None (g.F.Folder.files c.put_texts.new.folder) (g.F.Folder.failed c.put_texts.new.folder)) c.in_ok-network.network c.in_ok-outcomes.outcomes.items
 puts g c l names =
     let got = c.in_ok-network.ensures in
     let given = c.in_ok-given.ensures in
-    let done = rw (c.deref-9.ensures.value, c.deref-10.ensures.value) at c.in_ok-put_all.ensures in
-    puts_network c.args.paths.now c.in_ok-network.network c.in_ok-outcomes.outcomes.items _ _ _ _ _ _ _ _ l.leads names refl (KeepsFiles-trans _ _ _ got.same given.same)
+    let done = rw (c.deref-9.ensures.value, c.deref-10.ensures.value) at c.in_ok-put_texts.ensures in
+    puts_network c.args.paths.now c.in_ok-network.network c.in_ok-outcomes.outcomes.items _ _ _ _ _ _ _ _ l.leads names c.in_ok-texts.ensures (KeepsFiles-trans _ _ _ got.same given.same)
     (given.got.1 ∙ got.got.1) done.0 done.1 None None
 
 -- and these are the reports
@@ -116,31 +112,40 @@ returns-in_err-text g c =
     let got = c.in_ok-network.ensures in
     of_error _ _ _ Memory c.from_residual-in_err-text.ensures (inl (KeepsFiles-trans _ _ _ got.same c.in_ok-given.ensures.same), Keeps-refl _)
 
-pub put_all-requires : goal.put_all-requires
-put_all-requires g c =
-    let p = goal.at.put_all-requires g c in
-    rw (c.deref-9.ensures.value, c.deref-10.ensures.value) (files_are g p.After-deref-8 (led g p.After-deref-6)).1
+pub returns-in_err-texts : goal.returns-in_err-texts
+returns-in_err-texts g c =
+    let got = c.in_ok-network.ensures in
+    of_error _ _ _ Memory c.from_residual-in_err-texts.ensures (inl (KeepsFiles-trans _ _ _ got.same c.in_ok-given.ensures.same), Keeps-refl _)
 
-pub returns-in_err-put_all : goal.returns-in_err-put_all
-returns-in_err-put_all g c =
-    let p = goal.at.returns-in_err-put_all g c in
+pub put_texts-requires : goal.put_texts-requires
+put_texts-requires g c =
+    let p = goal.at.put_texts-requires g c in
+    let l = led g p.After-deref-6 in
+    let as_many = files_named c.args.paths.now.output.now (names_of c.in_ok-network.network.layout.switches) c.in_ok-outcomes.outcomes.items _ _
+    (ap (λ (all : Names). length all) (sym l.named) ∙ l.count) (files_are g p.After-deref-8 l) c.in_ok-texts.ensures in
+    rw (c.deref-9.ensures.value, c.deref-10.ensures.value)
+    (sym (length-map c.in_ok-texts.texts.items (λ (text : Vec ℕ Global). text.items)) ∙ as_many ∙ length-map c.in_ok-files.files.items (λ (s : String Global). string_bytes s))
+
+pub returns-in_err-put_texts : goal.returns-in_err-put_texts
+returns-in_err-put_texts g c =
+    let p = goal.at.returns-in_err-put_texts g c in
     let l = led g p.After-deref-6 in
     let got = c.in_ok-network.ensures in
     let given = c.in_ok-given.ensures in
-    let fails = rw (c.deref-9.ensures.value, c.deref-10.ensures.value) at c.in_err-put_all.ensures in
-    of_error _ _ _ c.in_err-put_all.field-0.0 c.from_residual-in_err-put_all.ensures
-    (not_put_network c.args.paths.now c.in_ok-network.network c.in_ok-outcomes.outcomes.items _ _ _ _ _ _ _ _ l.leads (files_are g p.After-deref-8 l).0 refl
-    (KeepsFiles-trans _ _ _ got.same given.same) (given.got.1 ∙ got.got.1) c.in_err-put_all.field-0.0 _ _ (Keeps-refl _) fails)
+    let fails = rw (c.deref-9.ensures.value, c.deref-10.ensures.value) at c.in_err-put_texts.ensures in
+    of_error _ _ _ c.in_err-put_texts.field-0.0 c.from_residual-in_err-put_texts.ensures
+    (not_put_network c.args.paths.now c.in_ok-network.network c.in_ok-outcomes.outcomes.items _ _ _ _ _ _ _ _ l.leads (files_are g p.After-deref-8 l) c.in_ok-texts.ensures
+    (KeepsFiles-trans _ _ _ got.same given.same) (given.got.1 ∙ got.got.1) c.in_err-put_texts.field-0.0 _ _ (Keeps-refl _) fails)
 
 pub returns-in_err-write_bytes : goal.returns-in_err-write_bytes
 returns-in_err-write_bytes g c =
     let p = goal.at.returns-in_err-write_bytes g c in
     let l = led g p.After-deref-6 in
     of_error _ _ _ Write c.from_residual-in_err-write_bytes.ensures
-    (c.in_ok-network.network, c.in_ok-outcomes.outcomes.items, puts g p.After-deref-11 l (files_are g p.After-deref-8 l).0, rw (text_is g p.After-deref-11 l) at c.in_err-write_bytes.ensures.prefix)
+    (c.in_ok-network.network, c.in_ok-outcomes.outcomes.items, puts g p.After-deref-11 l (files_are g p.After-deref-8 l), rw (text_is g p.After-deref-11 l) at c.in_err-write_bytes.ensures.prefix)
 
 pub returns : goal.returns
 returns g c =
     let p = goal.at.returns g c in
     let l = led g p.After-deref-6 in
-    (c.in_ok-network.network, c.in_ok-outcomes.outcomes.items, puts g p.After-deref-11 l (files_are g p.After-deref-8 l).0, rw (text_is g p.After-deref-11 l) at c.in_ok-write_bytes.ensures.all)
+    (c.in_ok-network.network, c.in_ok-outcomes.outcomes.items, puts g p.After-deref-11 l (files_are g p.After-deref-8 l), rw (text_is g p.After-deref-11 l) at c.in_ok-write_bytes.ensures.all)

@@ -1,31 +1,20 @@
-use Rattle.std.proofs.Common.{rules, ◌≡◌, ◌∙◌, ◌<◌, ◌∷◌, ◌++◌, String, Global, Some, length, map, string_bytes, sym, ap, arith}
-use Rattle.std.specs.Prelude.{option_to_list}
-use Rattle.std.specs.Vec.Iter.{into_iter_items}
+use Rattle.std.proofs.Common.{◌∙◌, String, Global, map, string_bytes, sym, ap}
 use Rattle.std.proofs.lemmas.List.{length-map}
-use Rattle.afdx_serve.proofs.CaptureLemmas.{mapped}
-use Rattle.afdx_serve.proofs.PutLemmas.{next_left, put_next}
+use Rattle.afdx_devices.specs.Files.{settled_after}
+use Rattle.afdx_serve.proofs.CaptureLemmas.{none_put, moved}
+use Rattle.afdx_serve.proofs.Errors.{of_error}
+use Rattle.afdx_serve.proofs.FileLemmas.{KeepsFiles-trans}
 use Rattle.afdx_serve.proofs.outputs.put_all.Goals as goal
 
-pub loop-name-preserved : goal.loop-name-preserved
-loop-name-preserved g c =
-    let i = c.loop-name.name-index in
-    let names = c.args.names.now in
-    let was = c.loop-name.invariant in
-    let lt : i < length names = search rules in
-    let left : into_iter_items c.loop-name.files ≡ c.unwrap-new.result ∷ into_iter_items c.next.new.self =
-    c.next.ensures.items ∙ ap (λ o. option_to_list o ++ into_iter_items c.next.new.self) c.unwrap-new.ensures in
-    let next = next_left c.args.files.items i c.unwrap-new.result (into_iter_items c.next.new.self) (sym was.left ∙ left) in
+pub returns-in_err-settled : goal.returns-in_err-settled
+returns-in_err-settled g c = λ first all keeps many has.
+    of_error _ _ _ c.in_err-settled.field-0.0 c.from_residual.ensures
+    (none_put c.in_err-settled.field-0.0 _ all first _ _ _ (KeepsFiles-trans _ _ _ keeps c.in_err-settled.ensures.same) (c.in_err-settled.ensures.settled first all has))
+
+pub returns : goal.returns
+returns g c = λ first all keeps many has.
     let str : String Global → _ = λ s. string_bytes s in
-    record {
-      left = sym next.1;
-      count =
-          let count = was.count in
-          let fewer = c.next.ensures.len in
-          let one = ap (λ o. length (option_to_list o)) c.unwrap-new.ensures in
-          let more = ap length left in
-          omega (arith, count, fewer, one, more);
-      put = λ first all keeps many has. put_next g.F.New.NewFile.contents first _ _ c.args.files.items (map str names) all i c.unwrap-new.result c.deref.result.now next.0
-          (mapped str names i c.name-item.result lt ∙ ap (λ n. Some n) (ap str (sym c.name-item.is) ∙ sym c.deref.ensures)) (many ∙ sym (length-map names str)) has
-          (was.put first all keeps many has) c.in_default.ensures.put.0;
-      failed = c.in_default.ensures.put.1 ∙ was.failed;
-    }
+    let names = c.args.names.now in
+    let settled = c.in_ok-settled.ensures.settled first all has in
+    let taken = settled.1 ∙ ap (λ n. settled_after n (g.F.Folder.failed c.args.folder.now)) (sym (length-map names str)) in
+    moved (map str names) all first _ _ _ _ taken c.move_all.result (c.move_all.ensures first all (KeepsFiles-trans _ _ _ keeps c.in_ok-settled.ensures.same) many settled.0)

@@ -1,3 +1,4 @@
+use Rattle.std.proofs.Common.{ℕ, Vec, Global, map}
 use Rattle.afdx_session.specs.Texts.{texts_of}
 use Rattle.afdx_serve.proofs.Errors.{of_error}
 use Rattle.afdx_serve.proofs.RunLemmas.{traced}
@@ -15,4 +16,5 @@ pub returns-clause-led : goal.returns-clause-led
 returns-clause-led g c =
     let of = rw c.inputs_of.ensures at c.in_ok-plan.ensures.got in
     let reported = rw c.deref.ensures.value at c.of_captures.ensures in
-    traced c.args.paths.now (g.F.Folder.files c.args.folder.now) c.in_ok-plan.plan (texts_of c.in_ok-plan.captures.items) _ _ of.0 of.1 c.of_captures.result reported
+    traced c.args.paths.now (g.F.Folder.files c.args.folder.now) c.in_ok-plan.plan (texts_of c.in_ok-plan.captures.items) _ _ of.0 of.1
+    (λ (texts : Vec (Vec ℕ Global) Global). map (λ (text : Vec ℕ Global). text.items) texts.items) c.of_captures.result reported

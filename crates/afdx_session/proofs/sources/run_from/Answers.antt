@@ -7,9 +7,9 @@ use Rattle.afdx_session.specs.Outcome.{table_in, is_cleared}
 use Rattle.afdx_session.specs.Session.{Seen}
 use Rattle.afdx_session.specs.Finish.{texts_in}
 use Rattle.afdx_session.specs.Sources.{IsSourceFault}
-use Rattle.afdx_session.specs.Inner.Sources.{IsOfTable, IsFaultSince}
+use Rattle.afdx_session.specs.Inner.Sources.{IsOfTable}
+use Rattle.afdx_session.specs.Inner.Stop.{IsStopSince}
 use Rattle.afdx_session.proofs.FromReaders.{of_fresh, of_read, read_fresh, runs_from, not_finished, fault_from}
-use Rattle.afdx_session.proofs.Sessions.{of_error}
 use Rattle.afdx_session.proofs.sources.run_from.Goals as goal
 
 pub read_all-requires-clause-of : goal.read_all-requires-clause-of
@@ -32,37 +32,43 @@ read_all-requires-clause-files g c =
     let numbers = c.deref.ensures.value ∙ c.in_ok-ports.ensures ∙ ap (λ (ps : List PortRow). map (λ p. p.id) ps) rows in
     c.requires.files ∙ sym (length-map t.ports (λ (p : PortRow). p.id)) ∙ ap length (sym numbers)
 
-pub returns-in_err-read_all-clause-err : goal.returns-in_err-read_all-clause-err
-returns-in_err-read_all-clause-err g c =
+pub first_failure-requires-clause-stopped : goal.first_failure-requires-clause-stopped
+first_failure-requires-clause-stopped g c =
     let t = table_in c.args.plan in
     let rem = g.R.Read.remaining in
     let readers = c.args.readers.now in
-    let fault = c.in_err-read_all.field-0.0 in
-    let since = subst (λ (w : Seen). IsFaultSince rem w readers fault) c.in-Ok.ensures.ok c.in_err-read_all.ensures.err in
-    of_error (IsSourceFault rem t readers) c.from_residual-in_err-read_all.result fault c.from_residual-in_err-read_all.ensures
-    (since readers (read_fresh rem (is_cleared c.args.plan) t readers))
+    let since = subst (λ (w : Seen). IsStopSince rem w readers c.read_all.new.readers c.in-Err-read_all.stop) c.in-Ok.ensures.ok c.in-Err-read_all.ensures.err in
+    (t, readers, since readers (read_fresh rem (is_cleared c.args.plan) t readers))
+
+pub returns-in-Err-read_all-clause-err : goal.returns-in-Err-read_all-clause-err
+returns-in-Err-read_all-clause-err g c =
+    let t = table_in c.args.plan in
+    let rem = g.R.Read.remaining in
+    let readers = c.args.readers.now in
+    let since = subst (λ (w : Seen). IsStopSince rem w readers c.read_all.new.readers c.in-Err-read_all.stop) c.in-Ok.ensures.ok c.in-Err-read_all.ensures.err in
+    c.first_failure.ensures t readers (since readers (read_fresh rem (is_cleared c.args.plan) t readers))
 
 pub returns-in-Ok-finish_into-clause-ok : goal.returns-in-Ok-finish_into-clause-ok
 returns-in-Ok-finish_into-clause-ok g c =
     let t = table_in c.args.plan in
     let formed = subst IsWellFormed c.table.ensures.table c.ports.ensures.well_formed in
-    let all = c.in_ok-read_all.ensures.ok in
-    runs_from c.takes_join_to_the_output.ensures.none g.R.Read.remaining g.F.NewFile.contents (is_cleared c.args.plan) t c.in-Ok.session c.read_all.new.session c.args.readers.now
+    let all = c.in-Ok-read_all.ensures.ok in
+    runs_from c.takes_join_to_the_output.ensures.none g.R.Read.remaining g.F.NewFile.contents (is_cleared c.args.plan) t c.in-Ok.session c.in-Ok-read_all.session c.args.readers.now
     c.read_all.new.readers c.args.files.now c.read_all.new.files c.finish_into.new.files c.in-Ok-finish_into.counts formed.ports_rise c.in-Ok.ensures.ok c.requires.readers all.0 all.1
     c.in-Ok-finish_into.ensures.ok
 
 pub source_fault-requires-in-Err-finish_into : goal.source_fault-requires-in-Err-finish_into
 source_fault-requires-in-Err-finish_into g c =
-    let later = c.read_all.new.session in
+    let later = c.in-Ok-read_all.session in
     let fault = c.in-Err-finish_into.fault in
-    of_read (texts_in later) fault (not_finished c.in-Ok.session.table later fault c.in_ok-read_all.ensures.ok.0.of c.in-Err-finish_into.ensures.err)
+    of_read (texts_in later) fault (not_finished c.in-Ok.session.table later fault c.in-Ok-read_all.ensures.ok.0.of c.in-Err-finish_into.ensures.err)
 
 pub returns-clause-err : goal.returns-clause-err
 returns-clause-err g c =
     let t = table_in c.args.plan in
     let formed = subst IsWellFormed c.table.ensures.table c.ports.ensures.well_formed in
-    let all = c.in_ok-read_all.ensures.ok in
+    let all = c.in-Ok-read_all.ensures.ok in
     subst (IsSourceFault g.R.Read.remaining t c.args.readers.now) (sym c.source_fault-in-Err-finish_into.ensures)
-    (fault_from c.takes_join_to_the_output.ensures.none g.R.Read.remaining g.F.NewFile.contents (is_cleared c.args.plan) t c.in-Ok.session c.read_all.new.session c.args.readers.now
+    (fault_from c.takes_join_to_the_output.ensures.none g.R.Read.remaining g.F.NewFile.contents (is_cleared c.args.plan) t c.in-Ok.session c.in-Ok-read_all.session c.args.readers.now
     c.read_all.new.readers c.args.files.now c.read_all.new.files c.in-Err-finish_into.fault formed.ports_rise c.in-Ok.ensures.ok c.requires.readers all.0 all.1
     c.in-Err-finish_into.ensures.err)

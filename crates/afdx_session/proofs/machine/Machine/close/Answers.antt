@@ -2,7 +2,7 @@ use Rattle.std.proofs.Common.{rules, set}
 use Rattle.afdx_session.specs.declared.plan.RunFault.TheVariants as run
 use Rattle.afdx_session.proofs.Closing.{no_fault}
 use Rattle.afdx_session.proofs.Intakes.{all_touched_none}
-use Rattle.afdx_session.proofs.Calls.{reads_open, half_ended, not_ended, capture_ended, half_of_table, lane_reads_on, read_after, is_ready}
+use Rattle.afdx_session.proofs.Calls.{reads_open, half_ended, not_ended, capture_ended, half_of_table, others_stay, lane_reads_on, read_after, is_ready}
 use Rattle.afdx_session.proofs.machine.Machine.close.Goals as goal
 
 pub close-requires : goal.close-requires
@@ -19,6 +19,11 @@ returns-in_err-close-clause-err g c =
     let why = not_ended c.requires.ready.0 m.lanes.items (set m.lanes.items c.args.place c.close.new.self) c.args.place c.index_mut.result.now c.close.new.self c.in_err-close.field-0.0
     c.requires.ready.1.marked at.0 c.close.ensures.still c.close.ensures.undone c.close.ensures.bytes (all_touched_none (set m.lanes.items c.args.place c.close.new.self))
     c.in_err-close.ensures.err in
+    search rules
+
+pub returns-in_err-close-clause-others : goal.returns-in_err-close-clause-others
+returns-in_err-close-clause-others g c =
+    let stay = others_stay c.args.self.now.lanes.items c.args.place c.close.new.self c.in_err-close.field-0.0 in
     search rules
 
 pub go_on-requires-clause-of : goal.go_on-requires-clause-of

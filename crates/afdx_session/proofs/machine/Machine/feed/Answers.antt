@@ -2,7 +2,7 @@ use Rattle.std.proofs.Common.{rules, set}
 use Rattle.afdx_session.specs.declared.plan.RunFault.TheVariants as run
 use Rattle.afdx_session.proofs.Closing.{no_fault}
 use Rattle.afdx_session.proofs.Intakes.{all_touched_none}
-use Rattle.afdx_session.proofs.Calls.{reads_open, half_fed, not_fed, piece_came, half_of_table, lane_reads_on, read_after, is_ready}
+use Rattle.afdx_session.proofs.Calls.{reads_open, half_fed, not_fed, piece_came, half_of_table, others_stay, lane_reads_on, read_after, is_ready}
 use Rattle.afdx_session.proofs.machine.Machine.feed.Goals as goal
 
 pub feed-requires-clause-no_fault : goal.feed-requires-clause-no_fault
@@ -18,6 +18,11 @@ returns-in_err-feed-clause-err g c =
     let at = reads_open m.lanes.items c.requires.still_open.0 c.args.place c.index_mut.result.now _ c.requires.still_open.1 c.index_mut.ensures.value in
     let why = not_fed c.requires.ready.0 m.lanes.items (set m.lanes.items c.args.place c.feed.new.self) c.args.place c.index_mut.result.now c.feed.new.self c.args.piece.now c.in_err-feed.field-0.0
     c.requires.ready.1.marked at.0 c.feed.ensures.still c.feed.ensures.bytes (all_touched_none (set m.lanes.items c.args.place c.feed.new.self)) c.in_err-feed.ensures.err in
+    search rules
+
+pub returns-in_err-feed-clause-others : goal.returns-in_err-feed-clause-others
+returns-in_err-feed-clause-others g c =
+    let stay = others_stay c.args.self.now.lanes.items c.args.place c.feed.new.self c.in_err-feed.field-0.0 in
     search rules
 
 pub go_on-requires-clause-of : goal.go_on-requires-clause-of

@@ -1,0 +1,22 @@
+use Rattle.std.proofs.Common.{◌∙◌, String, Global, Vec, ℕ, map, string_bytes, sym, ap}
+use Rattle.std.proofs.lemmas.List.{length-map}
+use Rattle.afdx_devices.specs.Files.{settled_after}
+use Rattle.afdx_serve.proofs.CaptureLemmas.{none_put, moved}
+use Rattle.afdx_serve.proofs.Errors.{of_error}
+use Rattle.afdx_serve.proofs.outputs.put_texts.Goals as goal
+
+pub returns-in_err-settled : goal.returns-in_err-settled
+returns-in_err-settled g c =
+    of_error _ _ _ c.in_err-settled.field-0.0 c.from_residual.ensures
+    (none_put c.in_err-settled.field-0.0 _ _ _ _ _ _ c.in_err-settled.ensures.same c.in_err-settled.ensures.settled)
+
+pub returns : goal.returns
+returns g c =
+    let str : String Global → _ = λ s. string_bytes s in
+    let seen : Vec ℕ Global → _ = λ text. text.items in
+    let names = c.args.names.now in
+    let all = map seen c.args.texts.now in
+    let settled = c.in_ok-settled.ensures.settled in
+    let taken = settled.1 ∙ ap (λ n. settled_after n (g.F.Folder.failed c.args.folder.now)) (sym (length-map names str)) in
+    moved (map str names) all _ _ _ _ _ taken c.move_all.result
+    (c.move_all.ensures (g.F.Folder.files c.args.folder.now) all c.in_ok-settled.ensures.same (length-map c.args.texts.now seen ∙ c.requires) settled.0)

@@ -1,0 +1,95 @@
+#!/usr/bin/env bash
+# A run over pipes, one for each port: ten million frames in memory that stands still, to the byte what model.py says of one period of
+# them; and faults, of which the lowest port's is named though a pipe can be read only once.
+. "$(dirname "$0")/common.sh"
+install python3=python3 gzip=gzip
+install_python numpy
+export PYTHONDONTWRITEBYTECODE=1
+afdx=${AFDX:-$top/crates/afdx/out/afdx}
+table=$top/examples/network/table.toml
+ports=(1 2 3 4)
+cd "$room" || exit 1
+mkdir -p in out wanted two
+cp -r "$top/examples/network/in" one
+
+# repeated COMMAND TIMES CAPTURE FILE: see repeated.py; each time 2 seconds later.
+repeated() {
+    /usr/bin/python3 "$top/end_to_end/repeated.py" "$1" "$2" 2 "$3" "$4"
+}
+
+# are_repeated TIMES FOLDER: its captures are so often those that the model says of one period.
+are_repeated() {
+    local port
+    for port in "${ports[@]}"; do
+        repeated check "$1" "wanted/port-$port.pcap" "$2/port-$port.pcap" || return 1
+    done
+}
+
+# as_modelled_twice: of two periods the model says what it says of one, twice, so that it need not be asked of more.
+as_modelled_twice() {
+    local port
+    for port in "${ports[@]}"; do
+        repeated write 2 "one/port-$port.pcap" "two/port-$port.pcap" || return 1
+    done
+    python3 "$top/end_to_end/model.py" "$table" one wanted >wanted.txt && mkdir twice &&
+        python3 "$top/end_to_end/model.py" "$table" two twice >/dev/null && are_repeated 2 twice
+}
+
+# through_pipes WRITE.. -- COMMAND..: runs the command while `WRITE PORT` writes each port's capture into a pipe of the folder `in`.
+through_pipes() {
+    local port status=0 write=()
+    while [ "$1" != -- ]; do
+        write+=("$1")
+        shift
+    done
+    shift
+    for port in "${ports[@]}"; do
+        rm -f "in/port-$port.pcap"
+        mkfifo "in/port-$port.pcap"
+        "${write[@]}" "$port" &
+    done
+    rm -rf out && mkdir out
+    "$@" || status=$?
+    wait
+    return "$status"
+}
+
+# many PORT, zipped PORT: write a port's capture into its pipe: so many periods, and one as zcat gives it.
+many() {
+    repeated write "$times" "one/port-$1.pcap" "in/port-$1.pcap"
+}
+
+zipped() {
+    gzip -c "one/port-$1.pcap" | zcat >"in/port-$1.pcap"
+}
+
+# run_within KILOBYTES: a run over the folder `in` in so much memory.
+run_within() {
+    (ulimit -v "$1" && exec "$afdx" run "$table" in out >report.txt)
+}
+
+# counts_are TIMES: the report has so often what the model counts.
+counts_are() {
+    awk -v times="$1" '{ for (i = 3; i <= NF; i++) if ($i ~ /^[0-9]+$/) $i *= times; print }' wanted.txt | diff - report.txt
+}
+
+# names_fault LINE STATUS: a run over the folder `in` ends with this line, and puts nothing.
+names_fault() {
+    local status=0
+    "$afdx" run "$table" in out >answer.txt 2>said.txt || status=$?
+    cat said.txt
+    [ "$status" -eq "$2" ] && [ "$(cat said.txt)" = "$1" ] && [ ! -s answer.txt ] && [ -z "$(ls -A out)" ]
+}
+
+times=12700
+check "of two periods the model says twice what it says of one" as_modelled_twice
+check "a run over pipes, in 200 MB, of ten million frames" through_pipes many -- run_within 204800
+check "they are so often the model's, to the byte" are_repeated "$times" out
+check "so are the counters" counts_are "$times"
+times=1
+check "a run over pipes that zcat writes" through_pipes zipped -- run_within 204800
+check "is the model's" eval 'are_repeated 1 out && counts_are 1'
+truncate -s -1 one/port-4.pcap
+truncate -s 20 one/port-3.pcap
+check "of two faults the lowest port's is named" through_pipes many -- names_fault "afdx: capture P2 NoHeader, port 3" 3
+finish
