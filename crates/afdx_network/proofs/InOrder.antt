@@ -22,7 +22,7 @@ use Rattle.afdx_wiring.specs.Net.{Network, wire_to}
 use Rattle.afdx_wiring.specs.Order.{is_port, has_ports, by_wires, lost_port}
 use Rattle.afdx_network.specs.Runs.{Given}
 use Rattle.afdx_network.specs.Given.{HasOrder}
-use Rattle.afdx_network.specs.Inner.Sites.{Site, AreSites, text_at, left_at, came_at, left_over, Agrees, HasRun, IsSettled, Steps, AreSettled}
+use Rattle.afdx_network.specs.Inner.Sites.{Site, AreSites, text_at, left_at, came_at, left_over, Agrees, HasRun, IsSettled, Steps, HasAll, AreSettled}
 use Rattle.afdx_network.proofs.Found.{found_passes, of_all}
 use Rattle.afdx_network.proofs.TextsAt.{text_some, some_text}
 use Rattle.afdx_network.proofs.Settling.{none_is, none_some, came_same, left_same, agrees_same}
@@ -166,7 +166,8 @@ module _ (net : Network) (given : Given) (o : HasOrder net) (ends : lost_port ne
           let table : site.table ≡ h.table = same_Some site.table h.table (sym site.table_is ∙ h.table_is) in
           let led = (site.ran results has).isolated in
           let numbers : map (λ (text : Text). text.0) results.captures ≡ map (λ (p : PortRow). p.id) h.table.ports
-          = ap (map (λ (text : Text). text.0)) led.captures ∙ same_numbers (λ (p : PortRow). capture_text (led.out p)) site.table.ports ∙ ap (λ (t : Content). map (λ (p : PortRow). p.id) t.ports) table in
+          = ap (map (λ (text : Text). text.0)) led.captures ∙ same_numbers (λ (p : PortRow). capture_text (led.out p)) site.table.ports
+          ∙ ap (λ (t : Content). map (λ (p : PortRow). p.id) t.ports) table in
           let among : Contains (map (λ (p : PortRow). p.id) h.table.ports) w.from.port
           = subst (Contains (map (λ (p : PortRow). p.id) h.table.ports)) h.number (contains_map (λ (p : PortRow). p.id) h.table.ports h.port h.has) in
           let there = text_some results.captures w.from.port (subst (λ (ns : List ℕ). Contains ns w.from.port) (sym numbers) among) in
@@ -184,7 +185,7 @@ module _ (net : Network) (given : Given) (o : HasOrder net) (ends : lost_port ne
     by n within (inl less) = settled n within less
     by n within (inr never) = absurd (false≢true never)
 
-  pub all_visited : (k : ℕ) (order : List ℕ) (sites : List Site) → ((n : ℕ) → n < length net.tables → list_any (λ m. m == n) order ≡ true) → AreSettledSo k order sites
+  pub all_visited : (k : ℕ) (order : List ℕ) (sites : List Site) → HasAll (length net.tables) order → AreSettledSo k order sites
       → AreSettled net o.place (k + 1) sites
   all_visited k order sites all settled = λ n within less. settled n within (omega (arith, less)) (inr (all n within))
 

@@ -1,6 +1,6 @@
 -- Sites stay those of the network's switches, whatever comes over the wires and whatever runs.
 use Rattle.std.proofs.Common.{◌≡◌, ◌⊎◌, ℕ, List, [], ◌∷◌, slice_get, Option, Some, None, Ok, Err, ◌==◌, Bool, true, false, is_some, get_or, set, refl, ap, sym, ◌∙◌, inl, inr, subst}
-use Rattle.std.specs.Prelude.{Contains, slice_set, All, Vec, Result, IfErr, IsErr, IsErrAnd, IsSome}
+use Rattle.std.specs.Prelude.{Contains, slice_set, All, Vec, Result, IfErr, IsErr, IsErrAnd, IsSome, MatchResult}
 use Rattle.std.specs.List.{position}
 use Rattle.std.proofs.Math.ListN.{length-set}
 use Rattle.std.proofs.lemmas.List.{map-set}
@@ -35,6 +35,10 @@ none_is_some o x none some = absurd cc
 pub of_error : {T E : Type 0} (P : E → Type 0) (r : Result T E) (e : E) → IsErr r × IsErrAnd r (λ x. x ≡ e) → P e → IfErr r P
 of_error P (Ok x) e is holds = absurd is.1
 of_error P (Err x) e is holds = subst P (sym is.1) holds
+
+pub match_error : {T E : Type 0} (P : T → Type 0) (Q : E → Type 0) (r : Result T E) (e : E) → IsErr r × IsErrAnd r (λ x. x ≡ e) → Q e → MatchResult r P Q
+match_error P Q (Ok x) e is holds = absurd is.1
+match_error P Q (Err x) e is holds = subst Q (sym is.1) holds
 
 -- ---- what a call does to a site
 
@@ -79,7 +83,7 @@ runs_now isolate t copied texts old new results formed accepted same before came
       came = came;
       results = results;
       outcome = outcome;
-      led = inr (record { outcome = is; isolated = isolate t old.came results formed accepted is });
+      led = inr (record { well_formed = formed; accepted = accepted; outcome = is; isolated = isolate t old.came results formed accepted is });
       stays = has_run old.outcome never;
     }
 
@@ -150,13 +154,13 @@ sites_stay net given sites switch old new at stays are = record {
 
 -- ---- what stops a run
 
-record IsThere (came : List Text) (port : ℕ) (why : PcapFault) : Type 0 where
+pub record IsThere (came : List Text) (port : ℕ) (why : PcapFault) : Type 0 where
   pub text : Text
   pub among : Contains came text
   pub number : text.0 ≡ port
   pub fault : IsFault text.1 why
 
-first_is_there : (came : List Text) (port : ℕ) (why : PcapFault) → IsFirstFault came port why → IsThere came port why
+pub first_is_there : (came : List Text) (port : ℕ) (why : PcapFault) → IsFirstFault came port why → IsThere came port why
 first_is_there [] port why first = absurd first
 first_is_there (x ∷ came) port why (inl here) = record { text = x; among = contains_head came x x refl; number = here.0; fault = here.1 }
 first_is_there (x ∷ came) port why (inr later) =
@@ -167,7 +171,7 @@ first_is_there (x ∷ came) port why (inr later) =
 abbrev pub NotBoth : Type 0
 NotBoth = (bytes : List ℕ) (rs : List Record) (e : PcapFault) → IsCapture bytes rs → IsFault bytes e → ⊥
 
-of_ports : (net : Network) (given : Given) (switch : ℕ) (t : Content) (s : Site) → slice_get net.tables switch ≡ Some t → IsSite net given switch s → AreOfPorts t s.came
+pub of_ports : (net : Network) (given : Given) (switch : ℕ) (t : Content) (s : Site) → slice_get net.tables switch ≡ Some t → IsSite net given switch s → AreOfPorts t s.came
 of_ports net given switch t s at site = subst (λ (c : Content). AreOfPorts c s.came) (same_Some _ _ (sym site.table_is ∙ at)) site.comes.ports
 
 refused_there : NotBoth → (net : Network) (given : Given) (switch : ℕ) (t : Content) (s : Site) (why : RunFault) → AreSound given → slice_get net.tables switch ≡ Some t

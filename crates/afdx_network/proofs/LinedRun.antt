@@ -21,18 +21,19 @@ use Rattle.afdx_network.specs.Runs.{SwitchRun, Given}
 use Rattle.afdx_network.specs.Laws.{IsFittingRun}
 use Rattle.afdx_network.specs.LinedWay.{WiresKeepToLines}
 use Rattle.afdx_network.specs.LinedRun.{ArePlain, is_wired, WiredPortsKeepToLines}
+use Rattle.afdx_network.specs.Inner.Sites.{end_at}
 use Rattle.afdx_network.proofs.Found.{all_at, ports_are_found}
 use Rattle.afdx_network.proofs.Rows.{wire_goes_there}
-use Rattle.afdx_network.proofs.Agreement.{Ground, end_by, table_at, formed_at, behind}
+use Rattle.afdx_network.proofs.Agreement.{Ground, table_at, formed_at, behind}
 
 abbrev IsPlain : SwitchRun → Type 0
 IsPlain run = (run.isolated.read ≡ run.outcome.read) × (run.isolated.out ≡ output_of run.table (merged run.outcome.read))
 
 module _ (g : Ground) (wires : WiresKeepToLines) (net : Network) (given : Given) (runs : List SwitchRun) (acc : IsFittingRun net given runs) (plain : ArePlain runs) (n : ℕ) (run : SwitchRun)
     (run_is : slice_get runs n ≡ Some run) (q : PortRow) (at : Contains run.table.ports q) where
-  over : (w : Wire) → wire_to net (end_by n q.id) ≡ Some w → RecordsKeepToLine q.speed (records_of run.outcome.read q.id)
+  over : (w : Wire) → wire_to net (end_at n q.id) ≡ Some w → RecordsKeepToLine q.speed (records_of run.outcome.read q.id)
   over w is =
-      let there = wire_goes_there net (end_by n q.id) w is in
+      let there = wire_goes_there net (end_at n q.id) w is in
       let b = behind g net given runs acc w run there.1 (ap (λ (e : End). slice_get runs e.switch) there.0 ∙ run_is) in
       let joins = All-contains (Joins net) net.layout.wires w acc.accepted.fits.wires there.1 in
       let start_there : port_at net w.from ≡ Some b.port
@@ -53,8 +54,8 @@ module _ (g : Ground) (wires : WiresKeepToLines) (net : Network) (given : Given)
       (subst (λ (rs : List Record). RecordsKeepToLine b.port.speed rs) (sym records) (wires b.here.table (merged b.here.outcome.read) b.port w.delay))
 
   keeps : is_wired net n q.id ≡ true → RecordsKeepToLine q.speed (records_of run.outcome.read q.id)
-  keeps on = by (wire_to net (end_by n q.id)) refl on where
-    by : (o : Option Wire) → wire_to net (end_by n q.id) ≡ o → option_map_or (λ (w : Wire). true) o false ≡ true → RecordsKeepToLine q.speed (records_of run.outcome.read q.id)
+  keeps on = by (wire_to net (end_at n q.id)) refl on where
+    by : (o : Option Wire) → wire_to net (end_at n q.id) ≡ o → option_map_or (λ (w : Wire). true) o false ≡ true → RecordsKeepToLine q.speed (records_of run.outcome.read q.id)
     by None is on = absurd (both_ways false refl on)
     by (Some w) is on = over w is
 

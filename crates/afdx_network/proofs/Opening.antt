@@ -95,6 +95,9 @@ inserted {X = X} xs k v x among =
     All-contains P (insert xs k v) x
     (All-append P (take k xs) (v ∷ drop k xs) (All-take P k xs all) (All-cons P v (drop k xs) (inr refl) (All-drop P k xs all))) among
 
+pub all_inserted : {X : Type 0} (P : X → Type 0) (xs : List X) (k : ℕ) (v : X) → P v → All P xs → All P (insert xs k v)
+all_inserted P xs k v here all = All-append P (take k xs) (v ∷ drop k xs) (All-take P k xs all) (All-cons P v (drop k xs) here (All-drop P k xs all))
+
 -- the numbers so far are all of the ports, and after them those that pass
 abbrev pub AreFilled : (ℕ → Bool) → List ℕ → List ℕ → ℕ → Type 0
 AreFilled p ids xs k = xs ≡ take k ids ++ filter p (drop k ids)

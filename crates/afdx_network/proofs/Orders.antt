@@ -9,6 +9,7 @@ use Rattle.std.proofs.lemmas.List.Elements.{All-cons, All-contains}
 use Rattle.std.proofs.lemmas.Map.Keys.{IsDistinct-cons, IsDistinct-push}
 use Rattle.std.proofs.lemmas.Map.Steps.{length-le_from_distinct_below}
 use Rattle.std.proofs.lemmas.Map.Views.{Contains-from_any}
+use Rattle.afdx_network.specs.Inner.Sites.{HasAll}
 
 -- the same test with its sides changed
 same_sides : (m n : ℕ) → (m == n) ≡ (n == m)
@@ -49,7 +50,7 @@ all_there order count n distinct below many less = by (list_any (λ m. m == n) o
 
 -- the first number below k that is not in the list, where one was found
 abbrev pub IsNext : (before : List ℕ) (count k : ℕ) → Option ℕ → Type 0
-IsNext before count k first = MatchOption first ((n : ℕ) → n < k → list_any (λ m. m == n) before ≡ true)
+IsNext before count k first = MatchOption first (HasAll k before)
     (λ switch. (switch < count) × (list_any (λ m. m == switch) before ≡ false))
 
 below : (n k : ℕ) → (n ≡ k → ⊥) → n < k + 1 → n < k

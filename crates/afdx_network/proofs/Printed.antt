@@ -26,11 +26,12 @@ use Rattle.afdx_network.specs.Runs.{SwitchRun, Given}
 use Rattle.afdx_network.specs.Ways.{node_of, IsStageAt, GoesOver, IsWayFrom, IsWayIn}
 use Rattle.afdx_network.specs.Laws.{IsAcceptedRun, AgreementIsWired, NetworkRunsDeliver}
 use Rattle.afdx_network.specs.Printed.{IsAtPort, stages_of, IsWithin, KeepsReported, PrintedDelaysAreKept}
+use Rattle.afdx_network.specs.Inner.Sites.{end_at}
 use Rattle.afdx_network.proofs.Found.{found_passes}
 use Rattle.afdx_network.proofs.Clean.{IsOf, passed_clean}
 use Rattle.afdx_network.proofs.Lengths.{found_row}
 use Rattle.afdx_network.proofs.Ways as ways
-use Rattle.afdx_network.proofs.Agreement.{Ground, end_by, stage_by, fitting, first_stage}
+use Rattle.afdx_network.proofs.Agreement.{Ground, stage_by, fitting, first_stage}
 
 -- ---- lists
 
@@ -181,7 +182,7 @@ module _ (g : Ground) (net : Network) (given : Given) (runs : List SwitchRun) (a
       let over : GoesOver net b.row stage r leg = record {
         wire = b.wire;
         wire_is = back.0;
-        start = ap (λ (n : ℕ). end_by n b.wire.from.port) (sym h.switch_is) ∙ ap (end_by b.row.switch) (sym y.at_port.port);
+        start = ap (λ (n : ℕ). end_at n b.wire.from.port) (sym h.switch_is) ∙ ap (end_at b.row.switch) (sym y.at_port.port);
         cable = refl;
         number = sym h.number;
       } in

@@ -12,7 +12,7 @@ use Rattle.afdx_wiring.specs.Net.{Network}
 use Rattle.afdx_network.specs.declared.fault.NetworkRunFault.{NetworkRunFault}
 use Rattle.afdx_network.specs.declared.fault.NetworkRunFault.TheVariants as fault
 use Rattle.afdx_network.specs.Runs.{Given}
-use Rattle.afdx_network.specs.Given.{given_of, AreGiven, AreSound, IsFirstUnsound, IsRefusal, IsTextFault, IsGivenFault, IsWireFault}
+use Rattle.afdx_network.specs.Given.{given_of, AreGiven, AreSound, NoneIsLateAnywhere, IsFirstUnsound, IsRefusal, IsTextFault, IsGivenFault, IsWireFault}
 
 -- ---- the first given text that is no capture
 
@@ -47,8 +47,11 @@ given_fault given switch texts (fault.Capture n port why) at before broken =
 given_fault given switch texts fault.Unsettled at before broken = absurd broken
 
 -- what stops a round refuses the run
-pub refused_wire : (net : Network) (given : Given) (why : NetworkRunFault) → AreGiven net given → AreSound given → IsWireFault net why → IsRefusal net given why
-refused_wire net given fault.Memory are sound broken = are
-refused_wire net given (fault.WrongPorts switch) are sound broken = absurd broken
-refused_wire net given (fault.Capture switch port why) are sound broken = (are, inr (sound, broken))
-refused_wire net given fault.Unsettled are sound broken = absurd broken
+pub refused_wire : (net : Network) (given : Given) (why : NetworkRunFault) → AreGiven net given → AreSound given → IsWireFault net why → (NoneIsLateAnywhere net given → why ≡ fault.Memory)
+    → IsRefusal net given why
+refused_wire net given fault.Memory are sound broken soon = are
+refused_wire net given (fault.WrongPorts switch) are sound broken soon = absurd broken
+refused_wire net given (fault.Capture switch port why) are sound broken soon = (are, inr (sound, broken, λ none. absurd (no_memory (soon none)))) where
+  no_memory : fault.Capture switch port why ≡ fault.Memory → ⊥
+  no_memory is = cc
+refused_wire net given fault.Unsettled are sound broken soon = absurd broken

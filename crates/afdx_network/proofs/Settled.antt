@@ -70,14 +70,14 @@ came_there sites e text is = by (slice_get sites e.switch) refl is where
   by None at none = absurd cc
   by (Some s) at some = record { site = s; at = at; among = text_among s.came e.port text some }
 
-record LeftThere (sites : List Site) (w : Wire) (bytes : List ℕ) : Type 0 where
+pub record LeftThere (sites : List Site) (w : Wire) (bytes : List ℕ) : Type 0 where
   pub site : Site
   pub results : Results
   pub at : slice_get sites w.from.switch ≡ Some site
   pub ran : site.outcome ≡ Some results
   pub written : Contains results.captures (w.from.port, bytes)
 
-left_there : (sites : List Site) (w : Wire) (bytes : List ℕ) → left_over sites w ≡ Some bytes → LeftThere sites w bytes
+pub left_there : (sites : List Site) (w : Wire) (bytes : List ℕ) → left_over sites w ≡ Some bytes → LeftThere sites w bytes
 left_there sites w bytes is = by (slice_get sites w.from.switch) refl is where
   ran : (s : Site) → slice_get sites w.from.switch ≡ Some s → (o : Option Results) → s.outcome ≡ o → option_and_then (λ (r : Results). text_at w.from.port r.captures) o ≡ Some bytes
       → LeftThere sites w bytes

@@ -118,9 +118,10 @@ module _ (net : Network) (switch : ℕ) (ports : List ℕ) (p : ℕ) (old mid : 
   at_end : (w : Wire) → w.to.switch ≡ switch → p ≡ w.to.port → w.to ≡ end_at switch p
   at_end w to same = ap (λ (n : ℕ). end_at n w.to.port) to ∙ ap (end_at switch) (sym same)
 
-  -- the port has no wire
-  pub more_open : wire_to net (end_at switch p) ≡ None → Receives net switch (ports ++ p ∷ []) old mid
-  more_open none = record {
+  -- nothing left for the port
+  more_quiet : ((w : Wire) → w.to.switch ≡ switch → (w.from.switch ≡ switch → ⊥) → wire_to net w.to ≡ Some w → IsSome (left_over old w) → p ≡ w.to.port → ⊥)
+      → Receives net switch (ports ++ p ∷ []) old mid
+  more_quiet nothing = record {
     others = r.others;
     same_ports = r.same_ports;
     brings = λ w to from found among came left. by w to from found came left (among_more ports p w.to.port among);
@@ -129,7 +130,11 @@ module _ (net : Network) (switch : ℕ) (ports : List ℕ) (p : ℕ) (old mid : 
     by : (w : Wire) → w.to.switch ≡ switch → (w.from.switch ≡ switch → ⊥) → wire_to net w.to ≡ Some w → IsSome (came_at old w.to) → IsSome (left_over old w)
         → Contains ports w.to.port ⊎ (p ≡ w.to.port) → Agrees mid w
     by w to from found came left (inl there) = r.brings w to from found there came left
-    by w to from found came left (inr same) = none_some none (ap (wire_to net) (sym (at_end w to same)) ∙ found)
+    by w to from found came left (inr same) = absurd (nothing w to from found left same)
+
+  -- the port has no wire
+  pub more_open : wire_to net (end_at switch p) ≡ None → Receives net switch (ports ++ p ∷ []) old mid
+  more_open none = more_quiet (λ w to from found left same. none_some none (ap (wire_to net) (sym (at_end w to same)) ∙ found))
 
   module _ (v : Wire) (is : wire_to net (end_at switch p) ≡ Some v) where
     same_wire : (w : Wire) → w.to.switch ≡ switch → p ≡ w.to.port → wire_to net w.to ≡ Some w → v ≡ w
@@ -137,18 +142,9 @@ module _ (net : Network) (switch : ℕ) (ports : List ℕ) (p : ℕ) (old mid : 
 
     -- nothing has left at the start of its wire
     pub more_silent : left_over mid v ≡ None → Receives net switch (ports ++ p ∷ []) old mid
-    more_silent nothing = record {
-      others = r.others;
-      same_ports = r.same_ports;
-      brings = λ w to from found among came left. by w to from found came left (among_more ports p w.to.port among);
-      quiet = r.quiet;
-    } where
-      by : (w : Wire) → w.to.switch ≡ switch → (w.from.switch ≡ switch → ⊥) → wire_to net w.to ≡ Some w → IsSome (came_at old w.to) → IsSome (left_over old w)
-          → Contains ports w.to.port ⊎ (p ≡ w.to.port) → Agrees mid w
-      by w to from found came left (inl there) = r.brings w to from found there came left
-      by w to from found came left (inr same) =
-          let silent : left_over mid w ≡ None = subst (λ (u : Wire). left_over mid u ≡ None) (same_wire w to same found) nothing in
-          none_is (sym (left_same old mid w (r.others w.from.switch from)) ∙ silent) left
+    more_silent nothing = more_quiet (λ w to from found left same.
+        let silent : left_over mid w ≡ None = subst (λ (u : Wire). left_over mid u ≡ None) (same_wire w to same found) nothing in
+        none_is (sym (left_same old mid w (r.others w.from.switch from)) ∙ silent) left)
 
     -- the wire brings a text
     module _ (unique : OneList) (new : List Site) (text : List ℕ) (brought : IsBrought mid v text) (puts : Puts switch p text mid new) where

@@ -1,5 +1,6 @@
 -- The capture of a port among several, and what it is after another one is put in.
-use Rattle.std.proofs.Common.{◌≡◌, ◌==◌, ℕ, zero, suc, ◌+◌, ◌<◌, Bool, true, false, cond, not, nat_lt, bytes_eq, List, [], ◌∷◌, length, map, find, drop, get_or, set, slice_get, Option, Some, None, option_map, refl, ap, sym, ◌∙◌, arith, rules, Vec}
+use Rattle.std.proofs.Common.{◌≡◌, ◌==◌, ℕ, zero, suc, ◌+◌, ◌<◌, Bool, true, false, cond, not, nat_lt, bytes_eq, List, [], ◌∷◌}
+use Rattle.std.proofs.Common.{length, map, find, drop, get_or, set, slice_get, Option, Some, None, option_map, refl, ap, sym, ◌∙◌, arith, rules, Vec}
 use Rattle.std.specs.Prelude.{position, Contains, IsSome}
 use Rattle.std.specs.List.{position_or_len}
 use Rattle.std.proofs.lemmas.Bool.{eq-eqb, eqb-true, ne_eqb, ltb-false, false≢true, true≢false}

@@ -1,6 +1,9 @@
 -- What is given for a run of a network, and why there is no run.
-use Rattle.std.specs.Prelude.{◌≡◌, ℕ, ◌<◌, Bool, not, List, length, map, filter, take, slice_get, Vec, is_some, Some, All, ◌⊎◌}
+use Rattle.std.specs.Prelude.{◌≡◌, ℕ, ◌+◌, ◌*◌, ◌<◌, ◌≤◌, Bool, not, List, length, map, filter, take, slice_get, Vec, is_some, Some, All, Contains, ◌⊎◌}
+use Rattle.afdx_units.specs.Time.{second, last_second}
 use Rattle.afdx_pcap.specs.declared.fault.PcapFault.{PcapFault}
+use Rattle.afdx_pcap.specs.Record.{Record}
+use Rattle.afdx_pcap.specs.Capture.{IsCapture}
 use Rattle.afdx_table.specs.Content.{Content}
 use Rattle.afdx_session.specs.declared.plan.RunFault.{RunFault}
 use Rattle.afdx_session.specs.declared.plan.RunFault.TheVariants as run
@@ -52,6 +55,17 @@ pub record HasOrder (net : Network) : Type 0 where
   pub rises : All (λ w. place w.from.switch < place w.to.switch) net.layout.wires
   pub one_each : All (λ w. wire_to net w.to ≡ Some w) net.layout.wires
 
+-- no frame that was given came in the last 64 seconds that pcap can hold
+abbrev pub NoneComesLate : Given → Type 0
+NoneComesLate given = (texts : List Text) (text : Text) (records : List Record) → Contains given texts → Contains texts text → IsCapture text.1 records
+    → All (λ r. r.stamp + 64 * second ≤ last_second) records
+
+-- so no frame can be late at a switch: the wires have an order, each takes at most a millisecond, and none was given late
+pub record NoneIsLateAnywhere (net : Network) (given : Given) : Type 0 where
+  pub order : HasOrder net
+  pub delays : All (λ w. w.delay ≤ 1000000) net.layout.wires
+  pub early : NoneComesLate given
+
 -- ---- refusals
 
 -- the first switch for which something else is given; the one after the last, where more is given
@@ -73,11 +87,13 @@ pub record IsWired (net : Network) (switch port : ℕ) : Type 0 where
   pub wire_is : wire_to net (record { switch = switch; port = port }) ≡ Some wire
 
 -- why there is no run: what is given is not for the ports without a wire; a given text is no capture, or all are and what comes over
--- a wire is none; the wires have no order, and do not agree. Memory may run out at any time after the first
+-- a wire is none, which cannot be where no frame can be late; the wires have no order, and do not agree. Memory may run out at any time
+-- after the first
 abbrev pub IsRefusal : Network → Given → NetworkRunFault → Type 0
 IsRefusal net given fault.Memory = AreGiven net given
 IsRefusal net given (fault.WrongPorts switch) = IsFirstUngiven net given switch
-IsRefusal net given (fault.Capture switch port why) = AreGiven net given × (IsFirstUnsound given switch port why ⊎ (AreSound given × IsWired net switch port))
+IsRefusal net given (fault.Capture switch port why) =
+    AreGiven net given × (IsFirstUnsound given switch port why ⊎ (AreSound given × IsWired net switch port × (NoneIsLateAnywhere net given → ⊥)))
 IsRefusal net given fault.Unsettled = AreGiven net given × AreSound given × (HasOrder net → ⊥)
 
 -- ---- refusals on the way

@@ -1,10 +1,12 @@
 //! What a wire brings.
 
-ghost use Rattle.std.specs.Prelude.{◌≡◌, List, map, IfOk};
+ghost use Rattle.std.specs.Prelude.{◌≡◌, ◌≢◌, List, map, IfErr, IfOk};
+ghost use Rattle.afdx_pcap.specs.declared.fault.PcapFault.TheVariants.{Memory};
 ghost use Rattle.afdx_pcap.specs.Record.{Record};
 ghost use Rattle.afdx_pcap.specs.Text.{capture_text};
 ghost use Rattle.afdx_pcap.specs.Capture.{IsCapture};
 ghost use Rattle.afdx_network.specs.Way.{delayed};
+ghost use Rattle.afdx_network.specs.Inner.Sites.{IsCarryFault};
 
 use afdx_pcap::laws::one_more_record_is_appended;
 use afdx_pcap::{PcapFault, read_all, write_frame, write_header};
@@ -15,7 +17,8 @@ use std::alloc::Global;
 ///
 /// Each record's bytes are copied once: O(bytes).
 pub(crate) fn carry(alloc: Global, bytes: &[u8], delay: u32) -> Result<Vec<u8>, PcapFault>
-    ensures { IfOk result (λ text. (left : List Record) × IsCapture bytes.now left × (text.items ≡ capture_text (map (delayed delay) left))) }
+    ensures ok { IfOk result (λ text. (left : List Record) × IsCapture bytes.now left × (text.items ≡ capture_text (map (delayed delay) left))) }
+    ensures err { IfErr result (λ fault. fault ≢ Memory → IsCarryFault bytes.now delay fault) }
 {
     one_more_record_is_appended();
     let records = read_all(alloc, bytes)?;

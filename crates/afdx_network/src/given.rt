@@ -7,10 +7,12 @@ ghost use Rattle.afdx_wiring.specs.Net.{wire_to};
 ghost use Rattle.afdx_wiring.specs.Order.{lost_port};
 ghost use Rattle.afdx_network.specs.declared.fault.NetworkRunFault.TheVariants.{WrongPorts};
 ghost use Rattle.afdx_network.specs.Given.{given_of, is_open, AreOpen, IsGivenAt, AreGiven, AreSound, IsFirstUngiven, IsGivenFault, IsTextFault};
+ghost use Rattle.afdx_network.specs.Early.{ComesBy};
 ghost use Rattle.afdx_network.specs.Inner.Sites.{ComesIn};
 
 use crate::fault::NetworkRunFault;
 use crate::site::Texts;
+use afdx_pcap::laws::what_is_written_is_a_capture;
 use afdx_pcap::{PcapFault, read_all, write_header};
 use afdx_table::Table;
 use afdx_wiring::{End, Network};
@@ -102,8 +104,10 @@ pub(crate) fn first_texts(
     given: Texts,
 ) -> Result<Texts, AllocError>
     requires { AreOpen network.now switch table.now (texts_of given.items) }
-    ensures { IfOk result (λ came. ComesIn network.now switch table.now (texts_of given.items) (texts_of came.items)) }
+    ensures comes { IfOk result (λ came. ComesIn network.now switch table.now (texts_of given.items) (texts_of came.items)) }
+    ensures early { (last : ℕ) → All (λ text. ComesBy last text.1) (texts_of given.items) → IfOk result (λ came. All (λ text. ComesBy last text.1) (texts_of came.items)) }
 {
+    what_is_written_is_a_capture();
     let ports = table.ports();
     let mut texts = given;
     for (place, row) in ports.iter().enumerate() {

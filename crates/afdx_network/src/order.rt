@@ -1,7 +1,8 @@
 //! The order in which the switches run.
 
-ghost use Rattle.std.specs.Prelude.{◌≡◌, ◌==◌, ◌<◌, ℕ, true, false, length, IfOk, MatchOption};
+ghost use Rattle.std.specs.Prelude.{◌≡◌, ◌==◌, ◌<◌, false, length, IfOk, MatchOption};
 ghost use Rattle.std.specs.List.{list_any};
+ghost use Rattle.afdx_network.specs.Inner.Sites.{HasAll};
 
 use afdx_wiring::Network;
 use std::alloc::{AllocError, Global};
@@ -12,9 +13,11 @@ fn is_ready(network: &Network, before: &[usize], switch: usize) -> bool {
         || before.contains(&wire.from.switch))
 }
 
-/// The first switch that is none of these, one to which no wire comes from another of the rest where there is one.
+/// Returns a switch that is none of these: the first to which no wire comes from another of the rest, if there is one, else the first.
+///
+/// Which of them it is saves rounds, and nothing rests on it.
 fn next_of(network: &Network, before: &[usize]) -> Option<usize>
-    ensures { MatchOption result ((n : ℕ) → n < length network.now.tables → list_any (λ m. m == n) before.now ≡ true)
+    ensures { MatchOption result (HasAll (length network.now.tables) before.now)
         (λ switch. (switch < length network.now.tables) × (list_any (λ m. m == switch) before.now ≡ false)) }
 {
     let mut first = None;
@@ -31,11 +34,11 @@ fn next_of(network: &Network, before: &[usize]) -> Option<usize>
     first
 }
 
-/// All switches, each after those whose wires lead to it, where there is such an order.
+/// Returns all switches, each after those whose wires lead to it, if there is such an order.
 ///
-/// O(s^2 w) for s switches, at most 64, and w wires.
+/// No contract speaks of the order: where it is that of the wires, one round is enough. O(s^2 w) for s switches, at most 64, and w wires.
 pub(crate) fn order_of(alloc: Global, network: &Network) -> Result<Vec<usize>, AllocError>
-    ensures { IfOk result (λ order. (n : ℕ) → n < length network.now.tables → list_any (λ m. m == n) order.items ≡ true) }
+    ensures { IfOk result (λ order. HasAll (length network.now.tables) order.items) }
 {
     let switches = network.tables().len();
     let mut order = Vec::new(alloc);

@@ -1,20 +1,23 @@
 //! Rounds over the switches of a network.
 
-ghost use Rattle.std.specs.Prelude.{◌≡◌, ◌==◌, ◌+◌, ◌<◌, ℕ, All, IfErr, IfOk, IsTrue, MatchOption, None, Ok, Some, length, map, true};
-ghost use Rattle.std.specs.List.{list_any};
+ghost use Rattle.std.specs.Prelude.{◌≡◌, ◌≢◌, ◌==◌, ◌+◌, ◌<◌, ℕ, All, IfErr, IfOk, IfSome, IsTrue, MatchOption, None, Ok, Some, length, map, true};
+ghost use Rattle.afdx_pcap.specs.declared.fault.PcapFault.TheVariants.{Memory};
 ghost use Rattle.afdx_table.specs.WellFormed.{IsWellFormed};
 ghost use Rattle.afdx_network.specs.Runs.{Given};
 ghost use Rattle.afdx_wiring.specs.Net.{Network as Net};
 ghost use Rattle.afdx_wiring.specs.Order.{lost_port};
-ghost use Rattle.afdx_network.specs.Given.{given_of, AreGiven, AreSound, HasOrder, IsWired, IsWireFault};
-ghost use Rattle.afdx_network.specs.Inner.Sites.{AreSites, AreSettled, Agrees, HasRun, IsBrought, Puts, Receives, Steps, left_over};
+ghost use Rattle.afdx_network.specs.Given.{given_of, AreGiven, AreSound, HasOrder, NoneComesLate, IsWired, IsWireFault};
+ghost use Rattle.afdx_network.specs.Early.{ComesBy};
+ghost use Rattle.afdx_network.specs.Inner.Sites.{AreSites, AreSettled, Agrees, HasRun, IsBrought, IsNotBrought, Puts, Receives, Steps, left_over};
+ghost use Rattle.afdx_network.specs.Inner.Sites.{after_hops, AreEarly, HasAll, StayEarly};
 
 use crate::carrying::carry;
 use crate::fault::NetworkRunFault;
 use crate::given::first_texts;
+use crate::laws::runs_leave_in_time;
 use crate::site::{Site, Texts};
 use afdx_pcap::PcapFault;
-use afdx_pcap::laws::each_file_has_one_reading;
+use afdx_pcap::laws::{each_file_has_one_reading, what_is_written_is_a_capture};
 use afdx_session::Outcome;
 use afdx_table::Table;
 use afdx_wiring::{ClearedNetwork, End, Network, Wire};
@@ -27,7 +30,8 @@ pub(crate) fn sites_of(
     given: Vec<Texts>,
 ) -> Result<Vec<Site>, AllocError>
     requires { AreGiven network.now (given_of given.items) }
-    ensures { IfOk result (λ sites. AreSites network.now (given_of given.items) sites.items) }
+    ensures are { IfOk result (λ sites. AreSites network.now (given_of given.items) sites.items) }
+    ensures early { AreSound (given_of given.items) → NoneComesLate (given_of given.items) → (place : ℕ → ℕ) → IfOk result (λ sites. AreEarly place sites.items) }
 {
     let mut sites = Vec::new(alloc);
     for own in given {
@@ -41,7 +45,8 @@ pub(crate) fn sites_of(
 
 /// What a wire brings to its end, where its switch has run.
 fn brought(alloc: Global, sites: &[Site], wire: &Wire) -> Result<Option<Vec<u8>>, PcapFault>
-    ensures { IfOk result (λ found. MatchOption found (left_over sites.now wire.now ≡ None) (λ text. IsBrought sites.now wire.now text.items)) }
+    ensures ok { IfOk result (λ found. MatchOption found (left_over sites.now wire.now ≡ None) (λ text. IsBrought sites.now wire.now text.items)) }
+    ensures err { IfErr result (λ fault. fault ≢ Memory → IsNotBrought sites.now wire.now fault) }
 {
     let Some(site) = sites.get(wire.from.switch) else {
         return Ok(None);
@@ -56,6 +61,7 @@ fn brought(alloc: Global, sites: &[Site], wire: &Wire) -> Result<Option<Vec<u8>>
 fn put_in(sites: &mut [Site], switch: usize, port: u8, brought: Option<Vec<u8>>)
     ensures kept { (network : Net) (given : Given) → IsWired network switch port → AreSites network given sites.old → AreSites network given sites.new }
     ensures puts { MatchOption brought (sites.new ≡ sites.old) (λ text. Puts switch port text.items sites.old sites.new) }
+    ensures early { (place : ℕ → ℕ) → AreEarly place sites.old → IfSome brought (λ text. ComesBy (after_hops (place switch)) text.items) → AreEarly place sites.new }
 {
     let Some(text) = brought else {
         return;
@@ -77,8 +83,11 @@ fn receive(
     ensures err { IfErr result (IsWireFault network.now) }
     ensures well_formed { IsWellFormed table.now }
     ensures receives { IfOk result (λ _. Receives network.now switch (map (λ p. p.id) table.now.ports) sites.old sites.new) }
+    ensures early { StayEarly network.now sites.old sites.new result }
 {
     each_file_has_one_reading();
+    what_is_written_is_a_capture();
+    runs_leave_in_time();
     for row in table.ports() {
         let port = row.id;
         let Some(wire) = network.wire_to(End { switch, port }) else {
@@ -103,6 +112,7 @@ fn step(
     ensures kept { (given : Given) → AreSites network.now given sites.old → AreSites network.now given sites.new }
     ensures err { (given : Given) → AreSites network.now given sites.old → AreSound given → IfErr result (IsWireFault network.now) }
     ensures steps { (given : Given) → AreSites network.now given sites.old → IfOk result (λ _. Steps network.now switch sites.old sites.new) }
+    ensures early { StayEarly network.now sites.old sites.new result }
 {
     each_file_has_one_reading();
     let network = network.network();
@@ -129,8 +139,9 @@ pub(crate) fn round(
     ensures kept { (given : Given) → AreSites network.now given sites.old → AreSites network.now given sites.new }
     ensures err { (given : Given) → AreSites network.now given sites.old → AreSound given → IfErr result (IsWireFault network.now) }
     ensures settles { (given : Given) → AreSites network.now given sites.old → (o : HasOrder network.now) → lost_port network.now.tables network.now.layout.wires ≡ Ok tt
-        → ((n : ℕ) → n < length network.now.tables → list_any (λ m. m == n) order.now ≡ true) → (k : ℕ) → AreSettled network.now o.place k sites.old
+        → HasAll (length network.now.tables) order.now → (k : ℕ) → AreSettled network.now o.place k sites.old
         → IfOk result (λ _. AreSettled network.now o.place (k + 1) sites.new) }
+    ensures early { StayEarly network.now sites.old sites.new result }
 {
     for switch in order {
         step(alloc, network, sites, *switch)?;
@@ -142,6 +153,7 @@ pub(crate) fn round(
 fn agrees(alloc: Global, sites: &[Site], wire: &Wire) -> Result<bool, PcapFault>
     ensures agrees { IfOk result (λ agrees. IsTrue agrees → Agrees sites.now wire.now) }
     ensures all { IfOk result (λ agrees. Agrees sites.now wire.now → IsTrue agrees) }
+    ensures err { IfErr result (λ fault. fault ≢ Memory → IsNotBrought sites.now wire.now fault) }
 {
     each_file_has_one_reading();
     let Some(text) = brought(alloc, sites, wire)? else {
@@ -165,7 +177,10 @@ pub(crate) fn rests(
     ensures ok { IfOk result (λ rests. IsTrue rests → All HasRun sites.now × All (Agrees sites.now) network.now.layout.wires) }
     ensures err { IfErr result (IsWireFault network.now) }
     ensures all { IfOk result (λ rests. All HasRun sites.now → All (Agrees sites.now) network.now.layout.wires → IsTrue rests) }
+    ensures early { StayEarly network.now sites.now sites.now result }
 {
+    each_file_has_one_reading();
+    runs_leave_in_time();
     let wires = network.layout().wires.as_slice();
     for wire in wires {
         match agrees(alloc, sites, wire) {

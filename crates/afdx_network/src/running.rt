@@ -29,7 +29,8 @@ const MAX_ROUNDS: usize = 64;
 ///
 /// - `WrongPorts` of the first switch for which something else is given, in file order.
 /// - `Capture` of the first given text that is no capture, by switch and then by port, with its first fault; else of what
-///   comes over a wire and cannot be read, in the order in which the switches run.
+///   comes over a wire and cannot be read, in the order in which the switches run. That cannot be where the wires have an
+///   order, each takes at most a millisecond, and no given frame came in the last 64 seconds that a stamp can hold.
 /// - `Unsettled` where the wires do not agree after 64 rounds, which they do where they have an order.
 ///
 /// `Memory` where memory ran out, before anything that comes after `WrongPorts`.

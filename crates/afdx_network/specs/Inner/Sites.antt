@@ -1,17 +1,29 @@
 -- A network on its way to rest: what came in at each switch, and what that led to, where the switch has run over it.
-use Rattle.std.specs.Prelude.{◌≡◌, ◌==◌, ◌⊎◌, ◌<◌, ℕ, List, length, map, find, slice_get, slice_set, Option, Some, None, option_map, option_and_then, IsSome, Contains}
+use Rattle.std.specs.Prelude.{◌≡◌, ◌==◌, ◌⊎◌, true, ◌+◌, ◌*◌, ◌<◌, ◌≤◌, ℕ, List, length, map, find, take, slice_get, slice_set, Option, Some, None, option_map, option_and_then}
+use Rattle.std.specs.Prelude.{IsSome, All, Contains, Result, MatchResult}
+use Rattle.std.specs.List.{list_any}
+use Rattle.afdx_units.specs.Time.{stamp_end}
+use Rattle.afdx_pcap.specs.declared.fault.PcapFault.{PcapFault}
+use Rattle.afdx_pcap.specs.declared.fault.PcapFault.TheVariants.{Late}
 use Rattle.afdx_pcap.specs.Record.{Record}
 use Rattle.afdx_pcap.specs.Text.{capture_text}
 use Rattle.afdx_pcap.specs.Capture.{IsCapture}
+use Rattle.afdx_pcap.specs.Fault.{IsFault}
 use Rattle.afdx_table.specs.Content.{Content}
+use Rattle.afdx_table.specs.WellFormed.{IsWellFormed}
+use Rattle.afdx_load.specs.Accepted.{IsAccepted}
 use Rattle.afdx_session.specs.Texts.{Text, AreOfPorts}
 use Rattle.afdx_session.specs.Outcome.{Results, IsOutcome}
 use Rattle.afdx_session.specs.Headline.{IsIsolated}
 use Rattle.afdx_wiring.specs.declared.layout.End.{End}
 use Rattle.afdx_wiring.specs.declared.layout.Wire.{Wire}
 use Rattle.afdx_wiring.specs.Net.{Network, wire_to}
+use Rattle.afdx_network.specs.declared.fault.NetworkRunFault.{NetworkRunFault}
+use Rattle.afdx_network.specs.declared.fault.NetworkRunFault.TheVariants as fault
 use Rattle.afdx_network.specs.Way.{delayed}
 use Rattle.afdx_network.specs.Runs.{Given}
+use Rattle.afdx_network.specs.Given.{NoneIsLateAnywhere}
+use Rattle.afdx_network.specs.Early.{ComesBy}
 
 pub record Site : Type 0 where
   pub came : List Text
@@ -22,8 +34,10 @@ pub record ComesIn (net : Network) (switch : ℕ) (t : Content) (own came : List
   pub ports : AreOfPorts t came
   pub others : (text : Text) → wire_to net (record { switch = switch; port = text.0 }) ≡ None → Contains came text → Contains own text
 
--- the table leads from what came in to these results
+-- the table, which is accepted, leads from what came in to these results
 pub record LeadsTo (t : Content) (came : List Text) (results : Results) : Type 0 where
+  pub well_formed : IsWellFormed t
+  pub accepted : IsAccepted t
   pub outcome : IsOutcome t came results
   pub isolated : IsIsolated t came results
 
@@ -108,6 +122,27 @@ pub record Agrees (sites : List Site) (w : Wire) : Type 0 where
   pub comes : came_at sites w.to ≡ Some text
   pub brought : IsBrought sites w text
 
+-- a frame of a capture would come over a cable after the last instant that pcap can hold: the first such
+pub record IsPastTheLast (bytes : List ℕ) (delay : ℕ) (why : PcapFault) : Type 0 where
+  pub records : List Record
+  pub read : IsCapture bytes records
+  pub place : ℕ
+  pub frame : Record
+  pub at : slice_get records place ≡ Some frame
+  pub past : stamp_end ≤ frame.stamp + delay
+  pub before : All (λ r. r.stamp + delay < stamp_end) (take place records)
+  pub why_is : why ≡ Late (place + 1)
+
+-- why nothing comes over a cable: this is no capture, or a frame would come too late
+abbrev pub IsCarryFault : List ℕ → ℕ → PcapFault → Type 0
+IsCarryFault bytes delay why = IsFault bytes why ⊎ IsPastTheLast bytes delay why
+
+-- so what left at the start of a wire does not come over it
+pub record IsNotBrought (sites : List Site) (w : Wire) (why : PcapFault) : Type 0 where
+  pub bytes : List ℕ
+  pub left : left_over sites w ≡ Some bytes
+  pub because : IsCarryFault bytes w.delay why
+
 abbrev pub HasRun : Site → Type 0
 HasRun s = IsSome s.outcome
 
@@ -133,6 +168,29 @@ pub record Steps (net : Network) (switch : ℕ) (old new : List Site) : Type 0 w
   pub settles : ((w : Wire) → Contains net.layout.wires w → w.to.switch ≡ switch
       → (w.from.switch ≡ switch → ⊥) × (wire_to net w.to ≡ Some w) × IsSome (came_at old w.to) × IsSome (left_over old w)) → IsSettled net new switch
 
+-- each number below this one is in a list
+abbrev pub HasAll : ℕ → List ℕ → Type 0
+HasAll count ns = (n : ℕ) → n < count → list_any (λ m. m == n) ns ≡ true
+
 -- all switches are settled that have a place below this one
 abbrev pub AreSettled : (net : Network) → (place : ℕ → ℕ) → ℕ → List Site → Type 0
 AreSettled net place k sites = (n : ℕ) → n < length net.tables → place n < k → IsSettled net sites n
+
+-- ---- how late frames are
+
+-- 64 seconds before the last second that pcap can hold
+abbrev pub latest : ℕ
+latest = 4294967231000000000
+
+-- after so many switches and cables, each of which takes at most 501 ms
+abbrev pub after_hops : ℕ → ℕ
+after_hops n = latest + n * 501000000
+
+-- what came in at the switches is captures, and no frame is later than the switch's place allows
+abbrev pub AreEarly : (place : ℕ → ℕ) → List Site → Type 0
+AreEarly place sites = (n : ℕ) (s : Site) → slice_get sites n ≡ Some s → All (λ text. ComesBy (after_hops (place n)) text.1) s.came
+
+-- where no frame can be late, none is late after a call either, which fails for memory alone
+abbrev pub StayEarly : {X : Type 0} → Network → List Site → List Site → Result X NetworkRunFault → Type 0
+StayEarly net old new result = (given : Given) → AreSites net given old → (none : NoneIsLateAnywhere net given) → AreEarly none.order.place old
+    → MatchResult result (λ _. AreEarly none.order.place new) (λ why. why ≡ fault.Memory)
