@@ -36,16 +36,6 @@ pub(crate) fn whole(
     Ok(reported)
 }
 
-/// Whether what a port puts out is exactly these bytes.
-pub(crate) fn puts_out(whole: &Reported, port: u8, text: &[u8]) -> bool {
-    for (number, output) in &whole.captures {
-        if *number == port {
-            return output.as_slice() == text;
-        }
-    }
-    false
-}
-
 /// The next bytes of a port's capture.
 pub(crate) fn feed(session: &mut Session<Global>, port: u8, piece: &[u8]) -> Result<(), RunFault> {
     session.feed(port, piece)
