@@ -2,8 +2,8 @@
 use Rattle.std.proofs.Common.{◌≡◌, ◌⊎◌, ◌+◌, ◌*◌, ◌<◌, ◌≤◌, ℕ, List, [], ◌∷◌, ◌++◌, map, length, get_or, slice_get, Some, refl, inl, inr, sym, ◌∙◌, subst, arith}
 use Rattle.std.specs.Prelude.{All, Contains, slice_set}
 use Rattle.std.proofs.lemmas.List.Elements.{All-contains, All-nil, All-set, All-weaker, Contains-get_or}
-use Rattle.std.proofs.lemmas.Option.{same_Some, slice_get_within, get_or_from_slice_get}
-use Rattle.afdx_units.specs.Time.{second, last_second, stamp_end}
+use Rattle.std.proofs.lemmas.Option.{slice_get_within, get_or_from_slice_get}
+use Rattle.afdx_units.specs.Time.{second, last_second}
 use Rattle.afdx_pcap.specs.declared.fault.PcapFault.{PcapFault}
 use Rattle.afdx_pcap.specs.Record.{Record, IsWithinLimit}
 use Rattle.afdx_pcap.specs.Text.{header_text, capture_text}
@@ -22,7 +22,7 @@ use Rattle.afdx_network.specs.Way.{delayed}
 use Rattle.afdx_network.specs.Runs.{Given}
 use Rattle.afdx_network.specs.Given.{AreSound, NoneComesLate, NoneIsLateAnywhere, fault_of}
 use Rattle.afdx_network.specs.Early.{ComesBy, RunsLeaveInTime}
-use Rattle.afdx_network.specs.Inner.Sites.{Site, IsSite, AreSites, IsPutIn, RunsOver, left_over, IsBrought, IsPastTheLast, IsNotBrought, latest, after_hops, AreEarly}
+use Rattle.afdx_network.specs.Inner.Sites.{Site, IsSite, AreSites, IsPutIn, left_over, IsBrought, IsPastTheLast, IsNotBrought, after_hops, AreEarly}
 use Rattle.afdx_network.proofs.Carried.{AreWritten, carried}
 use Rattle.afdx_network.proofs.Found.{all_at}
 use Rattle.afdx_network.proofs.Keeping.{NotBoth, first_is_there, of_ports}

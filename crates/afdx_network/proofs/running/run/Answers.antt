@@ -1,6 +1,5 @@
-use Rattle.std.proofs.Common.{◌≡◌, ◌==◌, ◌+◌, ◌<◌, ◌++◌, ◌∙◌, ℕ, List, Bool, Ok, Err, true, sym, subst, arith, take, drop, length}
+use Rattle.std.proofs.Common.{◌≡◌, ◌+◌, ◌<◌, ◌++◌, ◌∙◌, Bool, Ok, Err, sym, subst, arith, take, drop, length}
 use Rattle.std.specs.Prelude.{All, IsTrue}
-use Rattle.std.specs.List.{list_any}
 use Rattle.std.proofs.lemmas.Bool.{false≢true}
 use Rattle.afdx_wiring.specs.Order.{lost_port}
 use Rattle.afdx_network.specs.Given.{given_of, HasOrder, NoneIsLateAnywhere, IsRefusal}
