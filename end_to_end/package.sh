@@ -127,7 +127,8 @@ unpacked=afdx-$number-x86_64-linux
 deb=one/out/dist/afdx_${number}_amd64.deb
 check "checksums of both packages, and no other file" has_sums
 check "the same bytes again" makes_again
-check "another argument" refuses "usage: ./package [--try]" --sign
+check "another argument" refuses "usage: ./package [--try [SCRIPT..]]" --sign
+check "a script that is none" refuses "usage: ./package [--try [SCRIPT..]]" --try ../package
 echo >>two/LICENSE
 check "files that are not the commit's" refuses "package: there are changes that are not committed"
 rm two/crates/afdx/out/afdx
