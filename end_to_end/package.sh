@@ -1,8 +1,9 @@
 #!/usr/bin/env bash
 # ./package, in copies of the repository that have commits of their own: what it makes and refuses; the program where there is the C
-# library alone; man pages beside the help; completions in real shells. ./package --try, which takes long, is not run here.
+# library alone; a program that is linked for older ones; man pages beside the help; completions in real shells. ./package --try,
+# which takes long, is not run here.
 . "$(dirname "$0")/common.sh"
-install git=git python3=python3 objdump=binutils dpkg-deb=dpkg lintian=lintian man=man-db mandoc=mandoc zsh=zsh fish=fish mypy=mypy \
+install git=git python3=python3 objdump=binutils gcc=gcc dpkg-deb=dpkg lintian=lintian man=man-db mandoc=mandoc zsh=zsh fish=fish mypy=mypy \
     flake8=flake8 shellcheck=shellcheck
 export PYTHONDONTWRITEBYTECODE=1 LC_ALL=C.UTF-8
 afdx=${AFDX:-$top/crates/afdx/out/afdx}
@@ -14,9 +15,10 @@ committed() {
         git add . && GIT_COMMITTER_DATE='2024-02-29T12:00:00Z' git -c user.name=Packager -c user.email=packager@afdx.test commit -q -m Files)
 }
 
-# with_program FOLDER: the program where a build puts it.
+# with_program FOLDER: the program where a build puts it, with its object, if the build has kept that.
 with_program() {
-    mkdir -p "$1/crates/afdx/out" && cp "$afdx" "$1/crates/afdx/out/afdx"
+    mkdir -p "$1/crates/afdx/out" && cp "$afdx" "$1/crates/afdx/out/afdx" || return 1
+    [ ! -e "$afdx.o" ] || cp "$afdx.o" "$1/crates/afdx/out/afdx.o"
 }
 
 # makes_again: in another folder, by somebody with other habits, at another time.
@@ -38,21 +40,79 @@ has_sums() {
     (cd one/out/dist && sha256sum -c SHA256SUMS && [ "$(ls | wc -l)" -eq 3 ] && [ "$(wc -l <SHA256SUMS)" -eq 2 ])
 }
 
-# is_the_program FILE..: each is the program, byte for byte.
-is_the_program() {
-    local file
-    for file in "$@"; do
-        cmp "$afdx" "$file" || return 1
-    done
+# glibc_of PROGRAM: the newest C library of which it asks for something.
+glibc_of() {
+    objdump -T "$1" | sed -n 's/.*GLIBC_\([0-9.]*\).*/\1/p' | sort -uV | tail -n 1
+}
+
+# is_older VERSION VERSION: the first is the second or older.
+is_older() {
+    [ "$(printf '%s\n' "$1" "$2" | sort -V | head -n 1)" = "$1" ]
+}
+
+# has_the_program: the .deb has it byte for byte, and so has the .tar.gz, but where it is said to be linked anew: that one asks for
+# glibc 2.28 at most and does the same.
+has_the_program() {
+    local network=$top/examples/network
+    cmp "$afdx" installed/usr/bin/afdx || return 1
+    if ! grep 'the program is linked anew' made.txt; then
+        cmp "$afdx" "$unpacked/bin/afdx"
+        return
+    fi
+    mkdir anew own && grep "^In the .tar.gz the program is linked anew .* glibc $(glibc_of "$unpacked/bin/afdx") or later" made.txt &&
+        is_older "$(glibc_of "$unpacked/bin/afdx")" 2.28 && "$unpacked/bin/afdx" run "$network"/{table.toml,in} anew >anew.txt &&
+        "$afdx" run "$network"/{table.toml,in} own >own.txt && diff anew.txt own.txt && diff -r anew own
+}
+
+# links_for_older_ones: a program that keeps its arguments before main and asks what the processor has, as the kit's do, is linked so
+# that it asks for no newer C library than 2.28, sees them, once, and is told what gcc's own library finds.
+links_for_older_ones() {
+    cat >kept.c <<'END'
+#include <stdio.h>
+static int count, calls;
+static char **words;
+static void keep(int number, char **arguments) { count = number, words = arguments, calls++; }
+__attribute__((section(".init_array"), used)) static void (*const first)(int, char **) = keep;
+extern const struct { unsigned processor[4], active[4]; } *__x86_get_cpuid_feature_leaf(unsigned place);
+int main(void) {
+    int has = !(~__x86_get_cpuid_feature_leaf(0)->active[2] & 0x982201) && __x86_get_cpuid_feature_leaf(2)->active[2] & 1;
+    return printf("%d %d %s %d\n", calls, count, words[1], !has == !__builtin_cpu_supports("x86-64-v2")) < 0;
+}
+END
+    gcc -fPIC -c kept.c && (. "$top/release/linking.sh" && link_older kept kept.o) && ./kept word >said.txt && cat said.txt &&
+        [ "$(cat said.txt)" = "1 2 word 1" ] && is_older "$(glibc_of kept)" 2.28
+}
+
+# leaves_other_objects: of an object that the program was not linked of none is made.
+leaves_other_objects() {
+    mkdir other && cp "$afdx" other/afdx && cp kept.o other/afdx.o &&
+        (. "$top/release/linking.sh" && program=other/afdx && lay_program other/laid) && cmp "$afdx" other/laid
 }
 
 # says_what_it_needs: the .deb depends on the C library whose symbols the program has, and ./package and INSTALL say so.
 says_what_it_needs() {
     local glibc
-    glibc=$(objdump -T "$afdx" | grep -o 'GLIBC_[0-9.]*' | sort -uV | tail -n 1)
-    glibc=${glibc#GLIBC_}
+    glibc=$(glibc_of "$afdx")
     dpkg-deb -f "$deb" Depends && [ "$(dpkg-deb -f "$deb" Depends)" = "libc6 (>= $glibc), python3 (>= 3.11)" ] &&
         grep -q " needs glibc $glibc or later and no other library:$" made.txt && grep -q "glibc $glibc or later" "$top/docs/use/INSTALL.md"
+}
+
+# has_notices: both packages have the notice of each library of the kit that is linked in, with its words in the copyright file; a
+# library without one is named; and where the kit is, the notices are the kit's.
+has_notices() {
+    local notice kit own
+    diff -r "$top/release/notices" "$unpacked/notices" && diff -r "$top/release/notices" installed/usr/share/doc/afdx/notices || return 1
+    echo 'clap::Command::new other::of_none std_io::write afdx_units::size' | xargs -n 1 | python3 "$top/release/notices.py" \
+        "$top/release/notices" >said.txt && cat said.txt && [ "$(cat said.txt)" = other ] || return 1
+    kit=$(command -v rt) || return 0
+    for notice in "$top"/release/notices/*; do
+        own=$(dirname "$(dirname "$(readlink -f "$kit")")")/rattle/${notice##*/}/LICENSE
+        [ -e "$own" ] || own=$own-MIT
+        grep -q '^Permission is hereby granted' "$notice" && cmp "$notice" "$own" || return 1
+        sed -n 's/^Copyright (c) *//p' "$notice" | while read -r line; do
+            grep -F "$line" installed/usr/share/doc/afdx/copyright || exit 1
+        done || return 1
+    done
 }
 
 # without_anything ARGUMENT..: the .deb's program in a folder that has the C library and its loader beside it, and no more.
@@ -115,7 +175,7 @@ completes() {
     (cd typing && PATH=$room/stubs:$PATH python3 "$top/end_to_end/completing.py" "$1" "../$unpacked/share" cases.txt)
 }
 
-check "types" mypy --strict --cache-dir="$room/mypy" --python-executable=/usr/bin/python3 "$top/release/write.py" "$top/release/modules.py"
+check "types" mypy --strict --cache-dir="$room/mypy" --python-executable=/usr/bin/python3 "$top"/release/{write,modules,notices}.py
 check "style" flake8 --max-line-length=120 "$top/release"
 check "style of the scripts" shellcheck -S warning -x -P "$top" "$top/package" "$top/release/installed.sh"
 check "a copy of the files" committed one
@@ -127,18 +187,21 @@ unpacked=afdx-$number-x86_64-linux
 deb=one/out/dist/afdx_${number}_amd64.deb
 check "checksums of both packages, and no other file" has_sums
 check "the same bytes again" makes_again
+check "a program for older C libraries" links_for_older_ones
+check "an object that is another's" leaves_other_objects
 check "another argument" refuses "usage: ./package [--try [SCRIPT..]]" --sign
 check "a script that is none" refuses "usage: ./package [--try [SCRIPT..]]" --try ../package
 echo >>two/LICENSE
 check "files that are not the commit's" refuses "package: there are changes that are not committed"
-rm two/crates/afdx/out/afdx
+rm two/crates/afdx/out/afdx*
 check "no program" refuses "package: no crates/afdx/out/afdx: ./test proves, builds and tests it"
 
 tar -x -z -f "one/out/dist/$unpacked.tar.gz" && dpkg-deb -x "$deb" installed || exit 1
 pages=$unpacked/share/man/man1
 mkdir -p installed/lib/x86_64-linux-gnu installed/lib64 stubs typing/{inner,older,outer}
 cp -L /lib/x86_64-linux-gnu/libc.so.6 installed/lib/x86_64-linux-gnu && cp -L /lib64/ld-linux-x86-64.so.2 installed/lib64
-check "both have the program" is_the_program "$unpacked/bin/afdx" installed/usr/bin/afdx
+check "both have the program" has_the_program
+check "the notices of what is linked in" has_notices
 check "lintian finds no error" lintian --fail-on error "$deb"
 check "what the program needs" says_what_it_needs
 check "README's first run, beside the C library alone" first_run

@@ -5,7 +5,7 @@
 lay_root() {
     local share=$root/usr/share command
     mkdir -p "$root/usr/bin" "$share/doc/afdx" "$share/lintian/overrides"
-    cp "$unpacked/bin/afdx" "$root/usr/bin"
+    command install -m 755 "$program" "$root/usr/bin/afdx"
     cp -r "$unpacked"/share/* "$share"
     mv "$share/zsh/site-functions" "$share/zsh/vendor-completions"
     cp -r "$unpacked/python" "$share/afdx"
@@ -13,22 +13,41 @@ lay_root() {
     for command in "$share"/afdx/bin/afdx-*; do
         ln -s "../share/afdx/bin/${command##*/}" "$root/usr/bin"
     done
-    cp -r "$unpacked"/{README.md,CHANGELOG.md,docs,examples} "$share/doc/afdx"
+    cp -r "$unpacked"/{README.md,CHANGELOG.md,docs,examples,notices} "$share/doc/afdx"
     write_copyright >"$share/doc/afdx/copyright"
     write_changelog | gzip -9n >"$share/doc/afdx/changelog.gz"
     write_overrides >"$share/lintian/overrides/afdx"
     find "$share/man" -name '*.1' -exec gzip -9n '{}' +
 }
 
+# write_copyright: whose the files are, and whose code the kit linked into the program.
 write_copyright() {
+    local own
+    own="$(date -u -d "@$SOURCE_DATE_EPOCH" +%Y) $maintainer"
     cat <<END
 Format: https://www.debian.org/doc/packaging-manuals/copyright-format/1.0/
 Upstream-Name: afdx
 
 Files: *
-Copyright: $(date -u -d "@$SOURCE_DATE_EPOCH" +%Y) $maintainer
+Copyright: $own
+License: Apache-2.0
+
+Files: usr/bin/afdx
+Copyright: $own
+$(sed -n 's/^Copyright (c) */           /p' "$files"/release/notices/* | sort -u)
+License: Apache-2.0 and Expat
+Comment: The Rattle kit, which built the program, linked code of its own into
+ it: ports of Rust crates, each under the terms of Expat, whose notices are in
+ /usr/share/doc/afdx/notices; its standard library; and a little C for
+ arguments, the environment and the heap. Of the last two the kit says no
+ terms. The start-up code is that of the GNU C library and of GCC, which their
+ exceptions let everybody link.
+
 License: Apache-2.0
  The whole licence is in /usr/share/common-licenses/Apache-2.0.
+
+License: Expat
+$(sed -n '/^Permission is hereby granted/,$p' "$files/release/notices/clap" | sed 's/^$/./; s/^/ /')
 END
 }
 
