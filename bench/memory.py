@@ -1,11 +1,11 @@
 #!/usr/bin/env python3
-"""Fails if the memory of `afdx run` grows with the frames of captures that are read in pieces.
+"""Fails if the memory of `afdx run` grows with the frames of its captures.
 
 usage: bench/memory.py [AFDX]        the program that `./test` builds, unless another one is given
 
 One link sends a frame each millisecond, so at most one frame is in flight, and whatever a run keeps of the frames before it shows.
-The captures are long enough to be read in pieces. The peak is the greater of the program's and this script's own, about 15 MB, and
-each count of frames is so large that 4 bytes kept for each of them would pass the limit. Needs 1.2 GB under /tmp.
+The peak is the greater of the program's and this script's own, about 15 MB, and each count of frames is so large that 4 bytes kept
+for each of them would pass the limit. Needs 1.2 GB under /tmp.
 """
 import os
 import sys
