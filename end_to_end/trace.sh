@@ -1,8 +1,9 @@
 #!/usr/bin/env bash
 # afdx trace on the example network, on captures full of ties and on networks that are drawn by chance: beside the model, and
-# beside the captures that afdx run puts, as tshark reads them.
+# beside the captures that afdx run puts, as tshark reads them. pandas has each number as it is, read as FORMATS says.
 . "$(dirname "$0")/common.sh"
 install python3=python3 tshark=tshark
+install_python pandas
 export PYTHONDONTWRITEBYTECODE=1 LC_ALL=C
 afdx=${AFDX:-$top/crates/afdx/out/afdx}
 network=$top/examples/network
@@ -38,6 +39,17 @@ shows() {
     done
 }
 
+# reads_by_pandas: both files of `rows`, read by the page's own lines and written again, are what they were.
+reads_by_pandas() {
+    sed -n '/^```python$/,/^```$/p' "$top/docs/use/FORMATS.md" | grep -v '^```' >rows/read.py && cat >>rows/read.py <<'END'
+arrivals.to_csv("arrivals.again", index=False)
+departures.to_csv("departures.again", index=False)
+print(*sorted({str(kind) for rows in (arrivals, departures) for kind in rows.dtypes}))
+END
+    (cd rows && /usr/bin/python3 read.py && cmp arrivals.csv arrivals.again && cmp departures.csv departures.again) | tee pandas.txt &&
+        [ "$(cat pandas.txt)" = "Int64 int64 object" ]
+}
+
 # tied_as_modelled: captures full of ties, most of them at ports where frames are lost.
 tied_as_modelled() {
     local seed
@@ -62,6 +74,7 @@ check "the example network" joined "$network/table.toml" "$network/in"
 check "the same on a faster switch" joined "$network/faster.toml" "$network/in"
 check "tight ports" joined tight.toml "$network/in" --unchecked
 check "frames are policed, full and aged there" shows ',policed,[0-9]+,$' ',passed,,[0-9;]+$' ',aged$' ',sent$'
+check "pandas has each number, read as FORMATS says" reads_by_pandas
 check "every other fate is reported" shows ',cut,,$' ',short,,$' ',foreign,,$' ',no-link,,$' ',201,.*,wrong-port,,$' ',too-big,,$'
 check "ends, arrivals, starts and ages at one instant, also with a latency" tied_as_modelled
 check "networks that are drawn by chance, with a port that babbles" drawn_as_modelled
