@@ -122,6 +122,8 @@ cp "$network"/in/* cut && head -c 5000 "$network/in/port-2.pcap" >cut/port-2.pca
 cp "$network"/in/port-[123].pcap calm && cp silent/port-4.pcap calm
 cp "$network"/in/port-[234].pcap pipe && mkfifo pipe/port-1.pcap
 echo 'version = 4' >other.toml
+python3 "$top/bench/network.py" middle 20000
+awk -v RS= -v ORS='\n\n' '!/^\[\[link/ || links++ < 120' middle/table.toml >middle.toml
 
 check "the example network" makes network.html "$network/table.toml" "$network/in"
 check "its verdict" says policed network.html '^Accepted\. ' '788 frames in, 958 copies out, 0 lost, 162 policed' \
@@ -138,6 +140,8 @@ check "answers that are not there" ends_with 5 "afdx-view: cannot read none/size
 echo 'no,such,columns' >earlier/arrivals.csv
 check "answers that are none" ends_with 5 "afdx-view: the files in earlier are not what size, measure and trace answer of $network/table.toml" \
     "$network/table.toml" "$network/in" made/page.html --answers earlier
+check "a table of 234 rows" makes middle.html middle.toml middle/in
+check "in a browser, and each row in print" opens middle.html middle.toml middle/in --print
 check "no babbler" makes calm.html "$network/table.toml" calm
 check "nothing to warn of" says good calm.html '^Accepted\. ' ', 0 lost, 0 policed' 'No link came near its bound'
 check "tight ports, unchecked" makes tight.html tight.toml "$network/in" --unchecked

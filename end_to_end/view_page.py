@@ -6,10 +6,11 @@ usage: view_page.py PAGE TABLE IN [--unchecked] [--seconds N] [--print]
 At 1280, 800 and 400 pixels: nothing is on the console, nothing else was loaded, nothing stands out at the side, no text touches
 another, the verdict and the first columns of the links are there without scrolling, each link and port that sent has a picture
 whose heading has its numbers and whose points are on it, and each row leads to its picture. The table sorts. In the light and in
-the dark all texts can be read. With --print each row of each table is in the PDF, with all its cells.
+the dark all texts can be read, and the verdict is green, amber or red. With --print each row of each table is in the PDF, with all its cells.
 """
 import argparse
 import base64
+import colorsys
 import os
 import random
 import re
@@ -27,6 +28,7 @@ LOOKED_AT = 40  # pictures, drawn by chance if there are more
 COLOURED = 3000  # texts whose colours are looked at, the first ones
 FIRST_COLUMNS = {1280: 12, 800: 8, 400: 3}
 CONTRAST = 4.5  # the least of a text to its paper, by WCAG
+HUES = {"verdict good": (120, 180), "verdict policed": (35, 55), "verdict bad": (0, 30)}  # degrees: green, amber, red
 DELAYS = re.compile(r"link (\d+) out (\d+) sent (\d+) least (\S+) greatest (\S+) bound (\S+)")
 PICTURE = """
 const figure = document.getElementById(arguments[0]);
@@ -64,6 +66,7 @@ const paper = element => { const colour = getComputedStyle(element).backgroundCo
 const ink = element => element.ownerSVGElement ? getComputedStyle(element).fill : getComputedStyle(element).color;
 return [...document.querySelectorAll("h1, h2, h3, p, b, a, td, th, figcaption, .bar span, svg[role=img] text")].slice(0, arguments[0]).map(text => [text.textContent.trim().slice(0, 40), ink(text), paper(text)]);
 """
+VERDICT = "const verdict = document.querySelector('.verdict'); return [verdict.className, getComputedStyle(verdict).borderLeftColor]"
 faults = []
 
 
@@ -148,20 +151,27 @@ def check_places(page, width):
     expect(f"at {width} px each cell has room, not {tight[:3]}", not tight)
 
 
+def parts_of(colour):
+    """Red, green and blue, up to 1, of a colour that the browser names."""
+    return [int(part) / 255 for part in re.findall(r"\d+", colour)[:3]]
+
+
 def brightness(colour):
-    """The relative luminance of a colour that the browser names."""
-    parts = [int(part) / 255 for part in re.findall(r"\d+", colour)[:3]]
-    linear = [part / 12.92 if part <= 0.04045 else ((part + 0.055) / 1.055) ** 2.4 for part in parts]
+    """The relative luminance of a colour."""
+    linear = [part / 12.92 if part <= 0.04045 else ((part + 0.055) / 1.055) ** 2.4 for part in parts_of(colour)]
     return 0.2126 * linear[0] + 0.7152 * linear[1] + 0.0722 * linear[2]
 
 
 def check_colours(page, scheme):
-    """Each text stands out from its paper, which is as light or as dark as was asked for."""
+    """Each text stands out from its paper, which is as light or as dark as was asked for; the verdict has its kind's colour."""
     page.execute_cdp_cmd("Emulation.setEmulatedMedia", {"features": [{"name": "prefers-color-scheme", "value": scheme}]})
     for text, ink, paper in page.execute_script(COLOURS, COLOURED):
         over, under = sorted((brightness(ink), brightness(paper)), reverse=True)
         expect(f"{scheme}: {text!r} is {ink} on {paper}", (over + 0.05) / (under + 0.05) >= CONTRAST)
         expect(f"{scheme}: the paper of {text!r} is {paper}", (brightness(paper) < 0.1) == (scheme == "dark"))
+    kind, colour = page.execute_script(VERDICT)
+    least, most = HUES[kind]
+    expect(f"{scheme}: the {kind} is {colour}", least <= 360 * colorsys.rgb_to_hsv(*parts_of(colour))[0] <= most)
 
 
 def check_print(page):
