@@ -1,5 +1,6 @@
 """What afdx-view refuses, and where its page says that it comes from."""
 import hashlib
+import logging
 import os
 from pathlib import Path
 
@@ -60,6 +61,11 @@ def test_a_python_without_a_module(monkeypatch: pytest.MonkeyPatch) -> None:
     assert failure.status == DEVICE
     assert "no jinja2, matplotlib in " in failure.lines[0]
     assert "install python3-jinja2 python3-matplotlib " in failure.lines[0]
+
+
+def test_that_fonts_are_looked_for_is_not_told() -> None:
+    modules.need("afdx-view", "matplotlib")
+    assert not logging.getLogger("matplotlib.font_manager").isEnabledFor(logging.WARNING)
 
 
 @pytest.mark.parametrize("name", ["table.toml", "port-2.pcap", "departures.csv"])
