@@ -9,7 +9,7 @@ cd "$room" || exit 1
 
 # copied FOLDER: a copy of what the demo reads, without what was built.
 copied() {
-    mkdir "$1" && tar -c -C "$top" --exclude=out crates crates.txt HANDLES demo end_to_end examples python | tar -x -C "$1"
+    mkdir "$1" && tar -c -C "$top" --exclude=out crates crates.txt HANDLES demo end_to_end examples python release | tar -x -C "$1"
 }
 
 # shown NAME: the demo of this copy, as if all were made at one time, and what it prints in NAME.txt.
@@ -42,10 +42,12 @@ says_so() {
     head -n 1 "$1" && diff <(head -n 1 "$1") <(tail -n 1 "$1") && head -n 1 "$1" | grep -q 'is not proved: ./demo --proved .*./test'
 }
 
-# proves_first: --proved has `rt run` prove and build the program, shows how far it is, and runs it; nothing speaks of an unproved one.
+# proves_first: --proved has `rt run` prove and build the program, shows how far it is, notes it and runs it; nothing speaks of an
+# unproved one.
 proves_first() {
     by_rt asked --proved && grep -qx 'run -- --help' calls.txt && grep -qE '^ +[0-9]+ of [0-9]+ libraries, 0 min so far$' said.txt &&
-        shows_counters said.txt && ! grep 'not proved' said.txt
+        shows_counters said.txt && ! grep 'not proved' said.txt &&
+        [ "$(cat asked/crates/afdx/out/afdx.proved)" = "$(sha256sum <"$afdx" | cut -d ' ' -f 1) of no commit" ]
 }
 
 # refuses WORD: an argument that is none.

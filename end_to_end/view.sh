@@ -65,6 +65,14 @@ tells_its_origin() {
     ! grep -n -e "$HOSTNAME" -e "$top" -e "$room" "$1"
 }
 
+# tells_whether_proved: the program, as far as a note beside the package says so.
+tells_whether_proved() {
+    mkdir told && cp -rL "$top"/python/{afdx,bin} told && told/bin/afdx-view "$network/table.toml" "$network/in" told.html &&
+        grep '^<tr><td>proved<td>not known: ' told.html || return 1
+    echo "$(sha256sum <"$(command -v "$AFDX")" | cut -d ' ' -f 1) of commit 12" >told/afdx.proved
+    told/bin/afdx-view "$network/table.toml" "$network/in" told.html && grep -x '<tr><td>proved<td>built with its proofs, of commit 12' told.html
+}
+
 # tells_progress: on a terminal, view says what it does, and leaves nothing of it.
 tells_progress() {
     script -qec "'$view' '$network/table.toml' '$network/in' terminal.html" terminal.txt >/dev/null && cat -v terminal.txt &&
@@ -132,6 +140,8 @@ check "its verdict" says policed network.html '^Accepted\. ' '788 frames in, 958
     'No other link came near its bound: the nearest, link 402 at port 2, took 33 % of it \(111,520 of 333,451 ns\)'
 check "its page in a browser, and in print" opens network.html "$network/table.toml" "$network/in" --print
 check "its origin" tells_its_origin network.html "$network/table.toml" "$network/in"
+check "whether the program was proved" tells_whether_proved
+check "what is promised of the run" grep 'then under this accepted table, whatever frames the captures hold, ' network.html
 check "the same page again" makes again.html "$network/table.toml" "$network/in"
 check "is the same but for its own name" diff <(sed 's/again\.html/network.html/' again.html) network.html
 check "so is that of earlier answers" from_answers
@@ -147,6 +157,7 @@ check "nothing to warn of" says good calm.html '^Accepted\. ' ', 0 lost, 0 polic
 check "tight ports, unchecked" makes tight.html tight.toml "$network/in" --unchecked
 check "are not accepted, and lose frames" says bad tight.html '^Not accepted: port [0-9]+ breaks L' ' [1-9][0-9]* lost' \
     'no bound is promised'
+check "and nothing is promised of them" eval "grep 'so nothing is promised of this run' tight.html && ! grep 'then under this' tight.html"
 check "their page in a browser" opens tight.html tight.toml "$network/in" --unchecked
 check "no frames" makes silent.html "$network/table.toml" silent
 check "are said as that" says good silent.html '^Accepted\. No frame came in\. $'

@@ -2,11 +2,12 @@
 import hashlib
 import logging
 import os
+import re
 from pathlib import Path
 
 import pytest
 
-from afdx import modules
+from afdx import modules, program
 from afdx.failure import DEVICE, USAGE, Failure
 from afdx.view import answers, command, making, provenance
 from tests import answered
@@ -135,6 +136,32 @@ def test_a_time_that_is_none(folder: Path, monkeypatch: pytest.MonkeyPatch, time
     monkeypatch.setenv("SOURCE_DATE_EPOCH", time)
     failure = refused("table.toml", ".", "page.html", "--answers", ".")
     assert (failure.status, failure.lines) == (USAGE, (f"afdx-view: SOURCE_DATE_EPOCH is not a time: {time}",))
+
+
+@pytest.mark.parametrize("package, note", [
+    ("clone/python/afdx", "clone/crates/afdx/out/afdx.proved"),
+    ("afdx-1.0/python/afdx", "afdx-1.0/python/afdx.proved"),
+    ("usr/share/afdx/afdx", "usr/share/afdx/afdx.proved")])
+def test_of_which_commit_the_program_was_proved(tmp_path: Path, monkeypatch: pytest.MonkeyPatch, package: str,
+                                                note: str) -> None:
+    file = tmp_path / "program"
+    file.write_text("#!/bin/sh\necho afdx 1.0\n")
+    file.chmod(0o755)
+    monkeypatch.setenv("AFDX", str(file))
+    monkeypatch.setattr(program, "PACKAGE", tmp_path / package)
+    asked = program.Program("afdx-view")
+    assert provenance.provenance_of("afdx-view", asked, [], []).proved is None
+    number = hashlib.sha256(file.read_bytes()).hexdigest()
+    (tmp_path / note).parent.mkdir(parents=True)
+    (tmp_path / note).write_text(f"{'0' * 64} of commit 1\n{number} of commit 2, linked anew\n")
+    assert provenance.provenance_of("afdx-view", asked, [], []).proved == "of commit 2, linked anew"
+
+
+def test_the_promise_is_that_of_readme() -> None:
+    top = Path(__file__).resolve().parents[2]
+    promised = re.search("^> Under an (.*)$", (top / "README.md").read_text("utf-8"), re.MULTILINE)
+    page = (top / "python/afdx/view/templates/promise.html").read_text("utf-8").rstrip()
+    assert promised and page.endswith(f", then under this {promised[1]}")
 
 
 def test_names_without_the_host() -> None:
