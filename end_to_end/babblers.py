@@ -93,12 +93,12 @@ def traffic(chance, table, port):
     return frames
 
 
-def babble(chance, table, port):
-    """Whatever it likes: bursts of its own frames, foreign ones, other ports' links, oversized and cut ones."""
+def babble(chance, table, port, least=200):
+    """Whatever it likes, so many frames at least: bursts of its own, foreign ones, other ports' links, oversized and cut ones."""
     numbers = [link.id for link in table.links]
     own = [link for link in table.links if link.source == port]
     frames, at = [], 0
-    while len(frames) < 200:
+    while len(frames) < least:
         at += chance.choice([0, 0, 1, chance.randint(0, 20_000), chance.randint(0, 2 * MILLISECOND)])
         kind = chance.randint(0, 5)
         if kind <= 1 and own:

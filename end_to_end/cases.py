@@ -239,11 +239,17 @@ def run_file(path: Path, program: str, starts: dict[str, Any]) -> tuple[int, int
     return len(cases) - failed, failed
 
 
-def main(program: str, *names: str) -> int:
-    """Runs the cases of these files, or of all."""
+def read_starts() -> dict[str, Any]:
+    """Reads what cases start from, by name."""
     starts: dict[str, Any] = {}
     for path in (CASES / "start").glob("*.toml"):
         starts |= tomllib.loads(path.read_text())
+    return starts
+
+
+def main(program: str, *names: str) -> int:
+    """Runs the cases of these files, or of all."""
+    starts = read_starts()
     paths = [Path(name) for name in names] or sorted(CASES.glob("*.toml"))
     counts = [run_file(path, str(Path(program).resolve()), starts) for path in paths]
     passed, failed = (sum(column) for column in zip(*counts))

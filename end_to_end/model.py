@@ -68,7 +68,11 @@ class Table:
 
 
 def table_of(text):
-    tree = tomllib.loads(text)
+    return table_in(tomllib.loads(text))
+
+
+def table_in(tree):
+    """The table that the tree of a text says."""
     latency = tree.get("latency_us", 0) * 1000
     ports = [Port(port["id"], {10: 800, 100: 80, 1000: 8}[port["mbit"]], port["buffer"], port["max_delay_us"] * 1000, latency)
              for port in tree.get("port", [])]

@@ -130,6 +130,11 @@ def layout_of(data):
         top = tomllib.loads(data.decode("utf-8"))
     except ValueError:
         refuse("G1 Toml")
+    return layout_in(top)
+
+
+def layout_in(top):
+    """The same of the tree of its text."""
     known("top", ["version", "switch", "wire"], top)
     if "version" in top:
         number("top", "version", top, 1, 1)

@@ -27,10 +27,10 @@ def table(chance):
     return text
 
 
-def capture(chance, port):
+def capture(chance, port, count=FRAMES):
     own = [link for link, (source, _, _) in enumerate(LINKS, 1) if source == port]
     records, at = [], 0
-    for _ in range(FRAMES if own else 0):
+    for _ in range(count if own else 0):
         at += GRID * int(chance.random() ** 2 * 16)
         link = own[int(chance.random() * len(own))] if chance.random() < 0.95 else 1
         size = 105 if chance.random() < 0.7 else 230
