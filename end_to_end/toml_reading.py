@@ -3,8 +3,7 @@
 docs/use/FORMATS.md asks for TOML 1.1, and tomllib reads 1.0; what 1.0 reads, 1.1 reads as the same. If tomllib refuses
 a text it is not known whether it is TOML if something in it may be of 1.1 alone (a line feed or a last comma in braces,
 `\\e`, `\\xHH`, a time without seconds) or a date that Python does not have (the year 0, a leap second). Nor is it known
-of arrays and tables that lie deeper in one another than in any table that is read, and of keys with thousands of dots,
-which take tomllib memory by the square.
+of what lies deep in one another: the page has limits of a text's arrays and keys, which its tree does not show.
 """
 import re
 import tomllib
@@ -15,7 +14,6 @@ MARK = b"\xef\xbb\xbf"  # of the order of bytes: one at the start is skipped
 MAY_BE_NEWER = re.compile(r"\{[^\n]*\n[\s\S]*\}|,\s*\}|\\[ex]|\d\d:\d\d(?!:)|0000-\d\d-\d\d|:60")
 NUMBERS = range(-2**63, 2**63)
 DEPTH = 60
-DOTS = 5000  # in a text
 
 Tree = dict[str, Any]
 
@@ -51,8 +49,6 @@ def tree_of(data: bytes) -> Tree:
         text = data.removeprefix(MARK).decode()
     except UnicodeDecodeError as fault:
         raise NoToml from fault
-    if text.count(".") > DOTS:
-        raise Unknown
     try:
         tree = tomllib.loads(text)
         numbers = [leaf for leaf in leaves_of(tree) if type(leaf) is int]
