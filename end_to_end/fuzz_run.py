@@ -15,6 +15,7 @@ import shutil
 import subprocess
 from collections.abc import Callable
 from dataclasses import dataclass, field
+from itertools import zip_longest
 from pathlib import Path
 from typing import Any
 
@@ -133,11 +134,20 @@ def broken_promises(trial: Trial, answer: Answer) -> list[str]:
     return faults
 
 
+def difference(got: bytes, right: bytes) -> str:
+    """Says in which line two texts differ first."""
+    pairs = zip_longest(got.splitlines(), right.splitlines())
+    lines = (f"{one!r:.200}, where the model has {other!r:.200}" for one, other in pairs if one != other)
+    return next(lines, "other line ends than the model's")
+
+
 def differences(trial: Trial, wanted: Answer, answer: Answer) -> list[str]:
     """Says where an answer is another than a model's."""
-    pairs = [("status", wanted.status, answer.status), ("standard output", wanted.out, answer.out),
-             ("line", wanted.line, answer.line)]
-    faults = [f"{what} {got!r:.300}, where the model has {right!r:.300}" for what, right, got in pairs if right != got]
+    faults = []
+    if answer.status != wanted.status:
+        faults.append(f"status {answer.status}, where the model has {wanted.status}")
+    faults += [difference(got, right) for got, right in ((answer.line, wanted.line), (answer.out, wanted.out))
+               if got != right]
     files = trial.files | wanted.files
     names = sorted(files.keys() | answer.files.keys())
     return faults + [f"{name} is another file" for name in names if files.get(name) != answer.files.get(name)]

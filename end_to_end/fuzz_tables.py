@@ -56,7 +56,7 @@ PIECES = [b"[[link]]\n", b"[[port]]\n", b"[link]\n", b"[port]\n", b"[[link.x]]\n
           b'x = "\\ud800"\n', b"x = 07:32\n", b'x = """\n[[link]]\n"""\n', b"x = [\n[[link]]\n]\n", b"x = [[1],[2]]\n",
           b"1979-05-27", *(b"x = " + b"[" * depth + b"]" * depth + b"\n" for depth in (50, 79, 80, 81, 50_000)),
           b"[" * 50_000, b"x = " + b"{a = " * 50_000, b"x = " + b"{a = " * 50 + b"1" + b"}" * 50 + b"\n",
-          b"a." * 50 + b"a = 1\n", b"a." * 50_000 + b"a = 1\n", b"[" + b"a." * 50_000 + b"a]\n"]
+          *(b"a." * parts + b"a = 1\n" for parts in (50, 79, 80, 500)), b"[" + b"a." * 500 + b"a]\n"]
 IN_PLACE_OF_A_LETTER = [b"0", b"9", b"-", b"_", b" ", b"a", b".", b"", b"00", b"\xd9\xa1"]
 
 Mutation = Callable[[Random, Tree], None]

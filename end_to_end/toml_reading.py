@@ -11,7 +11,7 @@ from collections.abc import Iterator
 from typing import Any
 
 MARK = b"\xef\xbb\xbf"  # of the order of bytes: one at the start is skipped
-MAY_BE_NEWER = re.compile(r"\{[^\n]*\n[\s\S]*\}|,\s*\}|\\[ex]|\d\d:\d\d(?!:)|0000-\d\d-\d\d|:60")
+NEWER = re.compile(r",\s*\}|\\[ex]|\d\d:\d\d(?!:)|0000-\d\d-\d\d|:60")
 NUMBERS = range(-2**63, 2**63)
 DEPTH = 60
 
@@ -40,6 +40,13 @@ def leaves_of(value: Any, depth: int = 0) -> Iterator[Any]:
         yield value
 
 
+def may_be_newer(text: str) -> bool:
+    """Says whether something in a text may be of TOML 1.1 alone, or a date that Python does not have."""
+    begin = text.find("{")
+    line_feed = text.find("\n", begin) if begin >= 0 else -1
+    return 0 <= line_feed < text.rfind("}") or NEWER.search(text) is not None
+
+
 def tree_of(data: bytes) -> Tree:
     """Reads a text.
 
@@ -55,7 +62,7 @@ def tree_of(data: bytes) -> Tree:
     except RecursionError as fault:
         raise Unknown from fault
     except ValueError as fault:
-        raise (Unknown if MAY_BE_NEWER.search(text) else NoToml) from fault
+        raise (Unknown if may_be_newer(text) else NoToml) from fault
     if any(number not in NUMBERS for number in numbers):
         raise NoToml
     return tree
