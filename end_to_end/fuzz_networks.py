@@ -26,7 +26,7 @@ import model
 import network_model
 import networks
 from fuzz_run import Answer, Files, Trial, refusal
-from fuzz_tables import Mutation, listed
+from fuzz_tables import Mutation, drawn, listed
 from toml_reading import NoToml, Tree, Unknown
 
 BASES = 60  # networks that are mutated: to draw one until it is accepted takes long
@@ -77,7 +77,7 @@ def to_an_edge(chance: Random, tree: Tree) -> None:
     keys = [key for key in row if key in EDGES]
     if keys:
         key = chance.choice(keys)
-        row[key] = chance.choice(EDGES[key])
+        row[key] = drawn(chance, EDGES[key])
 
 
 def wire_reversed(chance: Random, tree: Tree) -> None:
@@ -116,7 +116,7 @@ def row_again(chance: Random, tree: Tree) -> None:
         found.insert(chance.randint(0, len(found)), copy)
         if copy and chance.random() < 0.5:
             key = chance.choice(list(copy))
-            copy[key] = chance.choice(EDGES.get(key, [0]))
+            copy[key] = drawn(chance, EDGES.get(key, [0]))
 
 
 def row_gone(chance: Random, tree: Tree) -> None:

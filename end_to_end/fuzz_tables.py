@@ -11,6 +11,7 @@ promises of every answer stand alone.
 """
 import tomllib
 from collections.abc import Callable, Sequence
+from copy import deepcopy
 from datetime import date, datetime, time, timezone
 from random import Random
 from typing import Any
@@ -65,6 +66,11 @@ Mutation = Callable[[Random, Tree], None]
 # --- Mutations of a tree ---
 
 
+def drawn(chance: Random, values: Sequence[Any]) -> Any:
+    """Draws a value of its own: a later mutation may change it, and the next input has the same ones to draw from."""
+    return deepcopy(chance.choice(values))
+
+
 def listed(tree: Tree, key: str) -> list[Any]:
     """Gives the rows under a key, as far as they are tables."""
     found = tree.get(key)
@@ -88,13 +94,13 @@ def to_an_edge(chance: Random, tree: Tree) -> None:
     keys = [key for key in row if key in EDGES]
     if keys:
         key = chance.choice(keys)
-        row[key] = chance.choice(EDGES[key])
+        row[key] = drawn(chance, EDGES[key])
 
 
 def to_another_kind(chance: Random, tree: Tree) -> None:
     row = members(chance, tree)
     if row:
-        row[chance.choice(list(row))] = chance.choice(KINDS)
+        row[chance.choice(list(row))] = drawn(chance, KINDS)
 
 
 def without_a_key(chance: Random, tree: Tree) -> None:
@@ -105,7 +111,7 @@ def without_a_key(chance: Random, tree: Tree) -> None:
 
 def with_a_key(chance: Random, tree: Tree) -> None:
     key = chance.choice(STRANGE_KEYS)
-    members(chance, tree)[key] = chance.choice(EDGES.get(key, KINDS))
+    members(chance, tree)[key] = drawn(chance, EDGES.get(key, KINDS))
 
 
 def row_again(chance: Random, tree: Tree) -> None:
@@ -116,7 +122,7 @@ def row_again(chance: Random, tree: Tree) -> None:
         rows.insert(chance.randint(0, len(rows)), copy)
         if copy and chance.random() < 0.5:
             key = chance.choice(list(copy))
-            copy[key] = chance.choice(EDGES.get(key, KINDS))
+            copy[key] = drawn(chance, EDGES.get(key, KINDS))
 
 
 def without_a_row(chance: Random, tree: Tree) -> None:
@@ -133,7 +139,7 @@ def no_row(chance: Random, tree: Tree) -> None:
     """Puts something else in the place of a row."""
     rows = rows_of(chance, tree)
     if rows:
-        rows[chance.randrange(len(rows))] = chance.choice(KINDS)
+        rows[chance.randrange(len(rows))] = drawn(chance, KINDS)
 
 
 def many_ports(chance: Random, tree: Tree) -> None:
