@@ -1,6 +1,7 @@
 """Makes a page from the names that the command was given.
 
-What draws is imported once there is something to draw: it takes longer than the program takes to refuse an input.
+What draws is imported once there is something to draw: it takes longer than the program takes to refuse an input. A
+signal waits for that: modules that were compiled from Cython drop an exception that comes while they are imported.
 """
 import argparse
 import errno
@@ -11,7 +12,7 @@ from dataclasses import dataclass
 from pathlib import Path
 from typing import TYPE_CHECKING
 
-from afdx import files, toml
+from afdx import files, signals, toml
 from afdx.failure import DEVICE, USAGE, Failure, failing
 from afdx.program import Program, Progress
 from afdx.view import answers, provenance
@@ -65,7 +66,8 @@ def sized(program: Program, name: str) -> Sized:
 
 
 def read(answered: Answers, table: Table, unchecked: bool, progress: Progress) -> "Run":
-    from afdx.view import run
+    with signals.held():
+        from afdx.view import run
     return run.read(answered, table, not unchecked, progress)
 
 
@@ -76,7 +78,8 @@ def run_of(program: Program, asked: Sized, folder: str, unchecked: bool = False)
 
 
 def drawn(options: argparse.Namespace, run: "Run", origin: provenance.Provenance, progress: Progress) -> str:
-    from afdx.view.page import page
+    with signals.held():
+        from afdx.view.page import page
     title = f"{provenance.shown(options.table)} over {provenance.shown(options.folder)}"
     return page(run, title, origin, progress)
 
