@@ -1,11 +1,10 @@
 #!/usr/bin/python3
 """Times what a campaign does with its answers: the store, each question, and the page.
 
-usage: campaign.py ROOM RECORDINGS LINKS
-
-Writes answers of so many recordings under each of two tables into ROOM, each with a count of each link and its delays at one
-port, drawn by chance; one of a hundred links is policed in one spell. Prints the seconds of processor and of the clock.
+Writes answers of recordings under each of two tables, each with a count of each link and its delays at one port, drawn by
+chance; one of a hundred links is policed in one spell. Prints the seconds of processor and of the clock.
 """
+import argparse
 import random
 import sys
 import time
@@ -64,12 +63,17 @@ def collect(root, tasks):
             print(f"  {name} {base.execute(f'select count(*) from {name}').fetchone()[0]:,}")
 
 
-def main(room, recordings, links):
-    root, chance = Path(room), random.Random(1)
+def main():
+    parser = argparse.ArgumentParser(description=__doc__, formatter_class=argparse.RawDescriptionHelpFormatter)
+    parser.add_argument("room", type=Path, help="the folder of the answers, which is made")
+    parser.add_argument("recordings", type=int, help="how many")
+    parser.add_argument("links", type=int, help="of each table")
+    given = parser.parse_args()
+    root, chance = given.room, random.Random(1)
     root.mkdir(parents=True, exist_ok=True)
-    tasks = tasks_of(root, int(recordings))
+    tasks = tasks_of(root, given.recordings)
     for number, task in enumerate(tasks):
-        text = lines(chance, 10**18 + number * HOUR, int(links))
+        text = lines(chance, 10**18 + number * HOUR, given.links)
         put_answer(task, Said(0, text, ""), "", {"seconds": 5.0, "processor": 4.0, "memory": 10**9, "tries": 1})
     timed("store", lambda: collect(root, tasks))
     print(f"  {store_file(root).stat().st_size / 1e6:.1f} MB")
@@ -81,4 +85,4 @@ def main(room, recordings, links):
 
 
 if __name__ == "__main__":
-    main(*sys.argv[1:])
+    main()

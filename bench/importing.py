@@ -2,16 +2,14 @@
 """Times `afdx-import` beside `tcpdump -r -w` of the same recordings, in turn, and prints the megabytes of recording that each
 takes for a second of the processor, the system's time included: the medians and the greatest, with the most memory.
 
-usage: bench/importing.py [MEGABYTES [RUNS]]        1000 and 5 where they are not said
-
 Needs three times the room under /tmp, and tcpdump. Mixed sizes are 60 to 1514 bytes as captured, 430 on average. Of a mirror the
 frames come to ten ports, each to that of its sender.
 """
+import argparse
 import os
 import random
 import statistics
 import struct
-import sys
 import tempfile
 
 from measure import HEADER, TCPDUMP, TOP, measured
@@ -54,13 +52,16 @@ def row(room, name, keys, path, runs):
 
 
 def main():
-    megabytes, runs = (int(word) for word in [*sys.argv[1:], *["1000", "5"][len(sys.argv) - 1:]])
+    parser = argparse.ArgumentParser(description=__doc__, formatter_class=argparse.RawDescriptionHelpFormatter)
+    parser.add_argument("megabytes", type=int, nargs="?", default=1000, help="of each recording; 1000 if none are named")
+    parser.add_argument("runs", type=int, nargs="?", default=5, help="of each; 5 if none are named")
+    given = parser.parse_args()
     with tempfile.TemporaryDirectory() as room:
         for sizes, kind in ((SIZES, "mixed sizes"), ([60], "64 bytes"), (range(60, 101), "64 to 104 bytes")):
             path = f"{room}/raw.pcap"
-            write_recording(path, megabytes, sizes)
+            write_recording(path, given.megabytes, sizes)
             for keys, name in ((ONE_PORT, "one port"), (MIRROR, "a mirror of ten ports")):
-                row(room, f"{kind}, {name}", keys, path, runs)
+                row(room, f"{kind}, {name}", keys, path, given.runs)
 
 
 if __name__ == "__main__":

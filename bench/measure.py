@@ -2,11 +2,10 @@
 """Times the built programs beside `cat`, `mergecap` and `tcpdump -r -w` of the same files in the same run, and prints the ratios
 of the median times, by the clock and of the processor, the system's included.
 
-usage: bench/measure.py [RUNS]        5 runs where none is said
-
 The programs are built by `./test`, or by `rt run` in crates/recapture and crates/afdx. Needs 3 GB under /tmp, and
 mergecap and tcpdump (Debian's wireshark-common and tcpdump). With TMPDIR=/dev/shm no disk is waited for.
 """
+import argparse
 import glob
 import os
 import statistics
@@ -136,7 +135,9 @@ def compare_check(room, runs):
 
 
 def main():
-    runs = int(sys.argv[1]) if len(sys.argv) > 1 else 5
+    parser = argparse.ArgumentParser(description=__doc__, formatter_class=argparse.RawDescriptionHelpFormatter)
+    parser.add_argument("runs", type=int, nargs="?", default=5, help="of each program; 5 if none are named")
+    runs = parser.parse_args().runs
     alone = [AFDX, "alone", "--id", "10", "--bag", "1", "--jitter", "0", "--size", "1518"]
     with tempfile.TemporaryDirectory() as room:
         compare("read and write", [RECAPTURE], room, runs, 1_315_789, 64, 1000)

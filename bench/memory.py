@@ -1,12 +1,11 @@
 #!/usr/bin/env python3
 """Fails if the memory of `afdx run` grows with the frames of its captures.
 
-usage: bench/memory.py [AFDX]        the program that `./test` builds, unless another one is given
-
 One link sends a frame each millisecond, so at most one frame is in flight, and whatever a run keeps of the frames before it shows.
 The peak is the greater of the program's and this script's own, about 15 MB, and each count of frames is so large that 4 bytes kept
 for each of them would pass the limit. Needs 1.2 GB under /tmp.
 """
+import argparse
 import os
 import sys
 import tempfile
@@ -49,7 +48,9 @@ def peak_of(afdx, room, count, size):
 
 
 def main():
-    afdx = os.path.abspath(sys.argv[1]) if len(sys.argv) > 1 else AFDX
+    parser = argparse.ArgumentParser(description=__doc__, formatter_class=argparse.RawDescriptionHelpFormatter)
+    parser.add_argument("afdx", nargs="?", default=AFDX, help="the program; the one that ./test builds if none is named")
+    afdx = os.path.abspath(parser.parse_args().afdx)
     with tempfile.TemporaryDirectory() as room:
         for side in ("in", "out"):
             os.mkdir(f"{room}/{side}")

@@ -1,13 +1,12 @@
 #!/usr/bin/env python3
 """Makes a network of 24 ports and 4096 links, and captures of as many frames as are asked for; always the same.
 
-usage: bench/network.py ROOM FRAMES     writes ROOM/table.toml and ROOM/in/port-K.pcap
 Each link sends one frame of its greatest size in each gap, so all frames are passed, to one, two or three ports. The
 table is one that the load rules accept.
 """
+import argparse
 import os
 import struct
-import sys
 
 PORTS = 24
 LINKS = 4096
@@ -70,5 +69,13 @@ def write_network(room, count):
             file.write(capture)
 
 
+def main():
+    parser = argparse.ArgumentParser(description=__doc__, formatter_class=argparse.RawDescriptionHelpFormatter)
+    parser.add_argument("room", help="the folder in which table.toml and in/port-K.pcap are written")
+    parser.add_argument("frames", type=int, help="how many, of all ports")
+    given = parser.parse_args()
+    write_network(given.room, given.frames)
+
+
 if __name__ == "__main__":
-    write_network(sys.argv[1], int(sys.argv[2]))
+    main()

@@ -2,12 +2,11 @@
 """Says where the time of a crate's proof goes: for each function, and for each file of lemmas, the seconds that its modules took,
 the dearest first, by the times at which the prover wrote them.
 
-usage: bench/proofs.py CRATE|FOLDER [COUNT]        the 25 dearest where no count is said
-
-CRATE is a crate that was checked from nothing by one job, which writes one module after the other: `rm -r out` and
-`rt check --jobs 1` in its folder. FOLDER is any other folder of modules, as `rt ci` keeps while it tries a crate's wrong bodies
-(/tmp/rt-edits-*, until the second is tried).
+A crate has to be checked from nothing by one job, which writes one module after the other: `rm -r out` and
+`rt check --jobs 1` in its folder. `rt ci` keeps such a folder of modules while it tries a crate's wrong bodies (/tmp/rt-edits-*,
+until the second is tried).
 """
+import argparse
 import collections
 import os
 import re
@@ -33,9 +32,11 @@ def subject(module):
 
 
 def main():
-    if len(sys.argv) < 2:
-        sys.exit(__doc__)
-    folder = sys.argv[1] if os.path.isdir(sys.argv[1]) else f"{TOP}/crates/{sys.argv[1]}/out/incremental"
+    parser = argparse.ArgumentParser(description=__doc__, formatter_class=argparse.RawDescriptionHelpFormatter)
+    parser.add_argument("crate", help="a crate, or any folder of modules")
+    parser.add_argument("count", type=int, nargs="?", default=25, help="how many are printed; 25 if none are named")
+    given = parser.parse_args()
+    folder = given.crate if os.path.isdir(given.crate) else f"{TOP}/crates/{given.crate}/out/incremental"
     modules = written(folder)
     if not modules:
         sys.exit(f"no modules below {folder}")
@@ -43,7 +44,7 @@ def main():
     for (before, _), (after, module) in zip(modules, modules[1:]):
         seconds[subject(module)] += after - before
     print(f"{len(modules)} modules, {modules[-1][0] - modules[0][0]:.0f} s")
-    for name, took in seconds.most_common(int(sys.argv[2]) if len(sys.argv) > 2 else 25):
+    for name, took in seconds.most_common(given.count):
         print(f"{took:7.1f} {name}")
 
 
