@@ -313,35 +313,91 @@ class Load:
     lows: bool  # whether there are low links
 
 
-def load_of(table, port):
-    """The load of a port; None where it has no links."""
-    links = [link for link in table.links if port.id in link.to]
-    if not links:
-        return None
-
+def rate_of(port, links):
+    """Parts of the port's line that these links ask for in each nanosecond."""
     def sixteenths(link):
         return 21 * link.max_size if link.police == "byte" else 16 * (link.max_size + LINE_OVERHEAD)
 
-    def rate(which):
-        return sum(port.tick * sixteenths(link) * (128_000_000 // link.bag) for link in which)
+    return sum(port.tick * sixteenths(link) * (128_000_000 // link.bag) for link in links)
 
-    def burst(which):
-        return sum(rate([link]) * (link.bag + link.jitter) for link in which)
 
-    def largest(which):
-        return max(((link.max_size + LINE_OVERHEAD) * port.tick for link in which), default=0)
+def burst_of(port, links):
+    """Parts that they ask for at once."""
+    return sum(rate_of(port, [link]) * (link.bag + link.jitter) for link in links)
 
-    high, low = ([link for link in links if link.priority == priority] for priority in PRIORITIES)
-    need, byte = burst(links) + LOAD_UNIT * largest(links), LOAD_UNIT * port.tick
-    rules = [("L1 Rate", rate(links), LOAD_UNIT), ("L2 Buffer", need, byte * port.buffer)]
+
+def links_to(table, port):
+    """The links that lead to a port: all, the high and the low ones."""
+    links = [link for link in table.links if port.id in link.to]
+    return links, *([link for link in links if link.priority == priority] for priority in PRIORITIES)
+
+
+def largest_of(port, links):
+    """The line time of their largest frame."""
+    return max(((link.max_size + LINE_OVERHEAD) * port.tick for link in links), default=0)
+
+
+def bounds_of(table, port, burst, high_burst):
+    """The bounds of the high and of the low links of a port, where all and the high ones ask for so much at once."""
+    _, high, low = links_to(table, port)
     high_bound = low_bound = None
     if high:
-        high_bound = (burst(high) + LOAD_UNIT * largest(low)) // LOAD_UNIT + port.latency
+        high_bound = (high_burst + LOAD_UNIT * largest_of(port, low)) // LOAD_UNIT + port.latency
+    if low and rate_of(port, high) < LOAD_UNIT:
+        low_bound = burst // (LOAD_UNIT - rate_of(port, high)) + port.latency
+    return high_bound, low_bound
+
+
+def load_of(table, port):
+    """The load of a port; None where it has no links."""
+    links, high, low = links_to(table, port)
+    if not links:
+        return None
+    burst = burst_of(port, links)
+    high_bound, low_bound = bounds_of(table, port, burst, burst_of(port, high))
+    need, byte = burst + LOAD_UNIT * largest_of(port, links), LOAD_UNIT * port.tick
+    rules = [("L1 Rate", rate_of(port, links), LOAD_UNIT), ("L2 Buffer", need, byte * port.buffer)]
+    if high:
         rules.append(("L3 HighDelay", high_bound, port.max_delay))
-    if low and rate(high) < LOAD_UNIT:
-        low_bound = burst(links) // (LOAD_UNIT - rate(high)) + port.latency
+    if low_bound is not None:
         rules.append(("L4 LowDelay", low_bound, port.max_delay))
-    return Load(rate(links), -(-need // byte), high_bound, low_bound, rules, bool(low))
+    return Load(rate_of(port, links), -(-need // byte), high_bound, low_bound, rules, bool(low))
+
+
+def brought(port, line, links, spare):
+    """What links that come in at one port bring, by the length of a window in ns: no more than they may send and, where frames
+    come one after the other over the line there, than its first frame, the window's length and these parts beside."""
+    burst, rate = burst_of(port, links), rate_of(port, links)
+    if line is None:
+        return lambda window: burst + rate * window
+    first, worth = largest_of(line, links), LOAD_UNIT * port.tick // line.tick
+    return lambda window: min(burst + rate * window, worth * (first + window) + spare)
+
+
+def least_burst(groups):
+    """The most by which groups are above the port's line: what they bring gains on it ever less, so that it is where they gain
+    nothing more."""
+    def above(window):
+        return sum(group(window) for group in groups) - LOAD_UNIT * window
+
+    low, high = 0, 1 << 80
+    while low < high:
+        window = (low + high) // 2
+        low, high = (low, window) if above(window + 1) <= above(window) else (window + 1, high)
+    return above(low)
+
+
+def lesser_bursts(table, port, lined):
+    """What all links of a port and its high ones ask for at once, where frames come one after the other over the lines of
+    the ports with these numbers."""
+    links, high_links, _ = links_to(table, port)
+    groups, high_groups = [], []
+    for source in table.ports:
+        line = source if source.id in lined else None
+        high = [link for link in high_links if link.source == source.id]
+        groups.append(brought(port, line, [link for link in links if link.source == source.id], burst_of(port, high)))
+        high_groups.append(brought(port, line, high, 0))
+    return least_burst(groups), least_burst(high_groups)
 
 
 def loads_of(table):

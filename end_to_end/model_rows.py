@@ -277,8 +277,28 @@ def load():
     says("both kinds of policing", by_frames(DOUBLE), "port 3 rate 578416640 buffer 5069 high - low 282430")
 
 
+def lesser_bursts():
+    """The rows of crates/afdx_rule_tests/src/bursts.rt: port 2 at 100 Mbit/s, links of 1518 bytes each millisecond."""
+    ports = PORT.format(1) + PORT.format(2) + PORT.format(3)
+    low, other, third = LINK.format(10, 1, 2, "low"), LINK.format(11, 1, 2, "low"), LINK.format(11, 3, 2, "low")
+    high, third_high = LINK.format(12, 1, 2, "high"), LINK.format(12, 3, 2, "high")
+    framed = LINK.format(13, 1, 2, "low")
+    for name, text, lined, wanted in (
+        ("no line is known", ports + low + other, [3], (652_861_440_000_000, 0)),
+        ("one line", ports + low + other, [1], (251_985_920_000_000, 0)),
+        ("a slow line", with_port(ports + low + other, 1, mbit=10), [1], (251_985_920_000_000, 0)),
+        ("a fast line", with_port(ports + low + other, 1, mbit=1000), [1], (624_653_133_455_360, 0)),
+        ("two lines", ports + low + third, [1, 3], (592_531_463_249_920, 0)),
+        ("a high link on the line", ports + low + high, [1], (578_416_640_000_000, 251_985_920_000_000)),
+        ("both kinds, and a high link beside", by_frames(ports + low + third_high + framed), [1], (650_924_737_249_280, 326_430_720_000_000)),
+        ("no link", ports, [1, 3], (0, 0)),
+    ):
+        table = model.table_of(text)
+        same(f"lesser bursts: {name}", model.lesser_bursts(table, table.ports[1], lined), wanted)
+
+
 if __name__ == "__main__":
-    for part in (frames_and_accounts, ports, latency, policing_by_frames, captures, every_verdict, load):
+    for part in (frames_and_accounts, ports, latency, policing_by_frames, captures, every_verdict, load, lesser_bursts):
         part()
     print("\n".join(differing) or "the model gives every worked number")
     sys.exit(bool(differing))

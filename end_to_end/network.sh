@@ -134,7 +134,7 @@ check "the check of the example" as_modelled check
 check "README shows lines of it" readme_shows 4
 check "the jitters of the example" prints_jitters
 fresh
-provoked 4 "afdx: network J2 NoJitter, switch cabin, link 303, need 15247"
+provoked 4 "afdx: network J2 NoJitter, switch cabin, link 303, need 13617"
 check "a jitter past 10 ms" past
 fresh
 check "the run of the example" runs_as_modelled

@@ -321,10 +321,12 @@ class Delays:
 
 
 def bound_of(net, row, number):
-    """The bound of the link's priority at a port of its switch."""
-    table = net.tables[row.switch]
-    load = model.load_of(table, port_of(net, End(row.switch, number)))
-    return load.high if row.link.priority == "high" else load.low
+    """The bound of the link's priority at a port of its switch, where what comes in over a wire comes one frame after the
+    other."""
+    table, port = net.tables[row.switch], port_of(net, End(row.switch, number))
+    lined = {wire.end.port for wire in net.wires if wire.end.switch == row.switch}
+    high, low = model.bounds_of(table, port, *model.lesser_bursts(table, port, lined))
+    return high if row.link.priority == "high" else low
 
 
 def through(net, row, number):

@@ -102,14 +102,15 @@ def two_switches(jitter):
 
 
 def jitter_enough():
-    """The port of A sends three frames of 6,720 ns, so that 13,440 ns of jitter arise there."""
+    """The port of A sends three frames of 6,720 ns, so that 13,440 ns of jitter arise there; over the wire they come to B one after
+    the other, so that each goes on at once."""
     name, net = "jitter enough", network(two_switches(14), "A.4 B.1")
     same(name, model.check(net.tables["A"]), "port 4 rate 41287680 buffer 336 high - low 20160\naccepted\n")
     says(name, net, "switch A accepted", "switch B accepted",
-         "link 1 from A.1 to B.2 ways A.4 B.2 least 13440 most 40602 jitter 0 14",
-         "link 2 from A.2 to B.2 ways A.4 B.2 least 13440 most 40602 jitter 0 14",
-         "link 3 from A.3 to B.2 ways A.4 B.2 least 13440 most 40602 jitter 0 14",
-         "greatest 40602 link 1 to B.2", "accepted")
+         "link 1 from A.1 to B.2 ways A.4 B.2 least 13440 most 26880 jitter 0 14",
+         "link 2 from A.2 to B.2 ways A.4 B.2 least 13440 most 26880 jitter 0 14",
+         "link 3 from A.3 to B.2 ways A.4 B.2 least 13440 most 26880 jitter 0 14",
+         "greatest 26880 link 1 to B.2", "accepted")
     outcomes = run(net, A1=capture((1, 0)), A2=capture((2, 0)), A3=capture((3, 0), (3, 1_000_000)))
     same(name, left(outcomes, "A", 4), [(1, 6_720), (2, 13_440), (3, 20_160), (3, 1_006_720)])
     same(name, left(outcomes, "B", 2), [(1, 13_440), (2, 20_160), (3, 26_880), (3, 1_013_440)])
@@ -123,18 +124,18 @@ def jitter_enough():
 
 
 def three_in_a_row():
-    """A link over three switches, at each of which a babbler comes in at port 2."""
+    """A link over three switches, at each of which a babbler comes in at port 2: each time a frame waits for one of the babbler's."""
     name = "three in a row"
     tables = {"A": table(link(1, 1, [3]), link(11, 2, [3])),
               "B": table(link(1, 1, [3], 7), link(11, 1, [4], 7), link(12, 2, [3])),
               "C": table(link(1, 1, [3], 14), link(12, 1, [4], 7), link(13, 2, [3]))}
     net = network(tables, "A.3 B.1", "B.3 C.1")
     says(name, net, "switch A accepted", "switch B accepted", "switch C accepted",
-         "link 1 from A.1 to C.3 ways A.3 B.3 C.3 least 20160 most 40461 jitter 0 7 14",
-         "link 11 from A.2 to B.4 ways A.3 B.4 least 13440 most 20207 jitter 0 7",
-         "link 12 from B.2 to C.4 ways B.3 C.4 least 13440 most 20254 jitter 0 7",
-         "link 13 from C.2 to C.3 ways C.3 least 6720 most 13534 jitter 0",
-         "greatest 40461 link 1 to C.3", "accepted")
+         "link 1 from A.1 to C.3 ways A.3 B.3 C.3 least 20160 most 40320 jitter 0 7 14",
+         "link 11 from A.2 to B.4 ways A.3 B.4 least 13440 most 20160 jitter 0 7",
+         "link 12 from B.2 to C.4 ways B.3 C.4 least 13440 most 20160 jitter 0 7",
+         "link 13 from C.2 to C.3 ways C.3 least 6720 most 13440 jitter 0",
+         "greatest 40320 link 1 to C.3", "accepted")
     outcomes = run(net, A1=capture((1, 1)), A2=capture(*[(11, 0)] * 3), B2=capture(*[(12, 13_439)] * 3),
                    C2=capture(*[(13, 26_878)] * 3))
     same(name, left(outcomes, "B", 3), [(12, 20_159), (1, 26_879)])
@@ -158,10 +159,10 @@ def ring():
     name, wires = "ring", ("A.3 B.1", "B.3 C.1", "C.3 A.1")
     net = network(ring_of_three((7, 14)), *wires)
     says(name, net, "switch A accepted", "switch B accepted", "switch C accepted",
-         "link 1 from A.2 to C.4 ways A.3 B.3 C.4 least 20160 most 33788 jitter 0 7 14",
-         "link 2 from B.2 to A.4 ways B.3 C.3 A.4 least 20160 most 33788 jitter 0 7 14",
-         "link 3 from C.2 to B.4 ways C.3 A.3 B.4 least 20160 most 33788 jitter 0 7 14",
-         "greatest 33788 link 1 to C.4", "accepted")
+         "link 1 from A.2 to C.4 ways A.3 B.3 C.4 least 20160 most 33600 jitter 0 7 14",
+         "link 2 from B.2 to A.4 ways B.3 C.3 A.4 least 20160 most 33600 jitter 0 7 14",
+         "link 3 from C.2 to B.4 ways C.3 A.3 B.4 least 20160 most 33600 jitter 0 7 14",
+         "greatest 33600 link 1 to C.4", "accepted")
     same(name, network_model.order_of(net), ["A", "B", "C"])
     given = {"A2": capture((1, 0)), "B2": capture((2, 0)), "C2": capture((3, 0))}
     outcomes = run(net, **given)
@@ -190,55 +191,60 @@ def multicast():
 
 
 def both_kinds_of_policing():
-    """A port with a link of 1518 bytes by frames, 123,040 ns, and one by bytes, 159,390 ns."""
+    """A port with a link of 1518 bytes by frames, 123,040 ns, and one by bytes, 159,390 ns. At B there is a frame of 123,040 ns
+    at a time."""
     name = "both kinds of policing"
     tables = {"A": table(link(1, 1, [3], 0, 1518, police="frame"), link(2, 2, [3], 0, 1518), head="version = 2\n"),
               "B": table(link(1, 1, [2], 276, 1518, police="frame"), link(2, 1, [3], 276, 1518), head="version = 2\n")}
     says(name, network(tables, "A.3 B.1"), "switch A accepted", "switch B accepted",
-         "link 1 from A.1 to B.2 ways A.3 B.2 least 13440 most 439429 jitter 0 276",
-         "link 2 from A.2 to B.3 ways A.3 B.3 least 13440 most 485811 jitter 0 276",
-         "greatest 485811 link 2 to B.3", "accepted")
+         "link 1 from A.1 to B.2 ways A.3 B.2 least 13440 most 405470 jitter 0 276",
+         "link 2 from A.2 to B.3 ways A.3 B.3 least 13440 most 405470 jitter 0 276",
+         "greatest 405470 link 1 to B.2", "accepted")
     same(name, [model.load_of(model.table_of(tables["B"]), port).low for port in network(tables).tables["B"].ports[1:3]], [156_999, 203_381])
     short = tables | {"B": tables["B"].replace("jitter_us = 276", "jitter_us = 275")}
     refuses(name, "afdx: network J1 Jitter, switch B, link 1, need 276, has 275", 4, network_model.check, network(short, "A.3 B.1"))
 
 
 def gigabit_with_latency():
-    """Latencies are in both ends of the delay, so the jitter is that of 1,344 - 672 ns."""
+    """Latencies are in both ends of the delay, so the jitter is that of 1,344 - 672 ns. At B there is a frame of 672 ns at a time."""
     name = "gigabit with latency"
     tables = {"A": table(link(1, 1, [3]), link(2, 2, [3]), ports=3, mbit=1000, head="version = 3\nlatency_us = 10\n"),
               "B": table(link(1, 1, [2], 1), link(2, 1, [2], 1), ports=2, mbit=1000, head="version = 3\nlatency_us = 20\n")}
     net = network(tables, "A.3 B.1 500")
     says(name, net, "switch A accepted", "switch B accepted",
-         "link 1 from A.1 to B.2 ways A.3 B.2 least 31844 most 33189 jitter 0 1",
-         "link 2 from A.2 to B.2 ways A.3 B.2 least 31844 most 33189 jitter 0 1",
-         "greatest 33189 link 1 to B.2", "accepted")
+         "link 1 from A.1 to B.2 ways A.3 B.2 least 31844 most 32516 jitter 0 1",
+         "link 2 from A.2 to B.2 ways A.3 B.2 least 31844 most 32516 jitter 0 1",
+         "greatest 32516 link 1 to B.2", "accepted")
     outcomes = run(net, A1=capture((1, 0)), A2=capture((2, 0)))
     same(name, left(outcomes, "A", 3), [(1, 10_672), (2, 11_344)])
     same(name, left(outcomes, "B", 2), [(1, 31_844), (2, 32_516)])
 
 
 def rounded_once():
-    """Five switches: the sums are 672, 1,345, 2,019 and 2,695 ns, of which only the whole way is rounded."""
+    """Five switches, at each of which another link comes in: the sums are 672, 1,344, 2,016 and 2,688 ns, of which only the whole
+    way is rounded."""
     name, jitters = "rounded once", (0, 1, 2, 3, 3)
-    tables = {switch: table(link(1, 1, [2], jitter), link(2, 3 if switch == "A" else 1, [2], jitter), ports=3, mbit=1000, head="version = 3\n")
-              for switch, jitter in zip("ABCDE", jitters)}
+    tables = {switch: table(link(1, 1, [2], jitter), link(11 + place, 4, [2]), *([link(10 + place, 1, [3], 1)] if place else []), mbit=1000,
+                            head="version = 3\n") for place, (switch, jitter) in enumerate(zip("ABCDE", jitters))}
     wires = [f"{start}.2 {end}.1" for start, end in zip("ABCD", "BCDE")]
     says(name, network(tables, *wires), *(f"switch {switch} accepted" for switch in "ABCDE"),
-         "link 1 from A.1 to E.2 ways A.2 B.2 C.2 D.2 E.2 least 3360 most 6731 jitter 0 1 2 3 3",
-         "link 2 from A.3 to E.2 ways A.2 B.2 C.2 D.2 E.2 least 3360 most 6731 jitter 0 1 2 3 3",
-         "greatest 6731 link 1 to E.2", "accepted")
+         "link 1 from A.1 to E.2 ways A.2 B.2 C.2 D.2 E.2 least 3360 most 6720 jitter 0 1 2 3 3",
+         *(f"link {10 + place} from {here}.4 to {there}.3 ways {here}.2 {there}.3 least 1344 most 2016 jitter 0 1"
+           for place, (here, there) in enumerate(zip("ABCD", "BCDE"), 1)),
+         "link 15 from E.4 to E.2 ways E.2 least 672 most 1344 jitter 0",
+         "greatest 6720 link 1 to E.2", "accepted")
 
 
 def bound_of_its_priority():
-    """A high link of 64 bytes behind a low frame of 1518, and the low link behind the high one."""
+    """A high link of 64 bytes behind a low frame of 1518, 6,720 + 123,040 ns, and the low link behind the high one, 167,233 ns; at B
+    there is a frame at a time."""
     name = "bound of its priority"
     tables = {"A": table(link(1, 1, [3], priority="high"), link(2, 2, [3], size=1518), ports=3),
               "B": table(link(1, 1, [2], 124), link(2, 1, [3], 161, 1518), ports=3)}
     says(name, network(tables, "A.3 B.1"), "switch A accepted", "switch B accepted",
-         "link 1 from A.1 to B.2 ways A.3 B.2 least 13440 most 137313 jitter 0 124",
-         "link 2 from A.2 to B.3 ways A.3 B.3 least 13440 most 352284 jitter 0 161",
-         "greatest 352284 link 2 to B.3", "accepted")
+         "link 1 from A.1 to B.2 ways A.3 B.2 least 13440 most 136480 jitter 0 124",
+         "link 2 from A.2 to B.3 ways A.3 B.3 least 13440 most 290273 jitter 0 161",
+         "greatest 290273 link 2 to B.3", "accepted")
 
 
 def speed_of_the_port_before():
@@ -247,18 +253,22 @@ def speed_of_the_port_before():
     tables = {"A": table(link(1, 1, [3]), link(2, 2, [3]), mbit=[10, 10, 10, 100]),
               "B": table(link(1, 1, [2], 68), link(2, 1, [3], 68), mbit=[10, 100, 1000])}
     says(name, network(tables, "A.3 B.1"), "switch A accepted", "switch B accepted",
-         "link 1 from A.1 to B.2 ways A.3 B.2 least 73920 most 141576 jitter 0 68",
-         "link 2 from A.2 to B.3 ways A.3 B.3 least 67872 most 135117 jitter 0 68",
-         "greatest 141576 link 1 to B.2", "accepted")
+         "link 1 from A.1 to B.2 ways A.3 B.2 least 73920 most 141120 jitter 0 68",
+         "link 2 from A.2 to B.3 ways A.3 B.3 least 67872 most 135072 jitter 0 68",
+         "greatest 141120 link 1 to B.2", "accepted")
     tables["B"] = tables["B"].replace("jitter_us = 68", "jitter_us = 67", 1)
     refuses(name, "afdx: network J1 Jitter, switch B, link 1, need 68, has 67", 4, network_model.check, network(tables, "A.3 B.1"))
 
 
 def turns():
-    """318,780 ns at A; at B more, as the links have jitter there: 318,780 * 1.313."""
-    tables = {switch: table(link(1, 1, [3], size=1518), link(2, 2 if switch == "A" else 1, [3], size=1518)) for switch in "ABC"}
+    """Two links over a line of 1000 Mbit/s from A to B: 31,878 ns at A, 31,206 more than the least. At port 3 of B the line gains on
+    the port ten to one until both accounts give less, 318,780 * 1.032 ns and 0.31878 in each; from then on the port gains. So it is
+    late by 314,489 ns, and C needs 31,206 and 307,769 ns more than the least; without the jitter at B it would be 9,483 ns less."""
+    speeds = {"A": [100, 100, 1000], "B": [1000, 100, 100], "C": [100, 100, 100]}
+    tables = {switch: table(link(1, 1, [3], size=1518), link(2, 2 if switch == "A" else 1, [3], size=1518), mbit=mbit,
+                            head="version = 3\n") for switch, mbit in speeds.items()}
     needs("turns", network(tables, "A.3 B.1", "B.3 C.1"), *(f"switch {switch} link {number} jitter_us {us}"
-          for switch, us in (("A", 0), ("B", 313), ("C", 724)) for number in (1, 2)))
+          for switch, us in (("A", 0), ("B", 32), ("C", 339)) for number in (1, 2)))
 
 
 # --- Refusals ---
@@ -313,8 +323,8 @@ def texts_refused():
     first, second = table(link(1, 1, [3]), link(2, 2, [3])), table(link(1, 1, [2]), link(2, 1, [2]))
     jitters = table(link(1, 1, [2], 7), link(2, 1, [2], 7))
     says("agree", network({"A": first, "B": jitters}, "A.3 B.1"), "switch A accepted", "switch B accepted",
-         "link 1 from A.1 to B.2 ways A.3 B.2 least 13440 most 26974 jitter 0 7",
-         "link 2 from A.2 to B.2 ways A.3 B.2 least 13440 most 26974 jitter 0 7", "greatest 26974 link 1 to B.2", "accepted")
+         "link 1 from A.1 to B.2 ways A.3 B.2 least 13440 most 20160 jitter 0 7",
+         "link 2 from A.2 to B.2 ways A.3 B.2 least 13440 most 20160 jitter 0 7", "greatest 20160 link 1 to B.2", "accepted")
     heavy = table(*(link(number, 1, [2], size=1518) for number in range(1, 8)))
     for name, tables, wires, fault, status in (
         ("no port at the start", {"A": first, "B": second}, ["A.5 B.1"], "network G3 NoSuchPort, wire 1", 3),

@@ -96,15 +96,7 @@ impl<'a, A: Allocator + Copy> Relay<'a, A> {
         self.engine.accepted
     }
 
-    /// Takes an arrival: each port carries out its starts before the instant that the stamp reaches, then the frame is filtered,
-    /// policed and offered to its link's ports, in the link's order. The stamp is not in the last second.
-    ///
-    /// The first refusal is given: `NoSuchPort` where the table has no such port, `Earlier` where the stamp
-    /// is below that of an earlier arrival or advance, `Memory` where memory ran out. The record
-    /// comes back then, and the switch answers every later call as if this one had not been made.
-    ///
-    /// O(1) for each start, for each port that is due before that instant and for each that the link leads to, and, of 64 frames of
-    /// links once, for each port, beside what lists take to grow; whatever the number of links.
+    /// Takes an arrival, as [`Switch::arrive`](crate::Switch::arrive) does, with its refusals and its cost.
     pub fn arrive(
         &mut self,
         in_port: u8,
@@ -123,10 +115,8 @@ impl<'a, A: Allocator + Copy> Relay<'a, A> {
         self.engine.arrive(in_port, arrived)
     }
 
-    /// Carries out the starts before the instant that the stamp reaches, one latency later.
-    ///
-    /// `Earlier` where the instant is below the stamp of an earlier arrival or advance; nothing changes
-    /// then. O(1) for each start and for each port that is due. It takes no memory.
+    /// Carries out the starts before the instant that the stamp reaches, one latency later, as
+    /// [`Switch::advance`](crate::Switch::advance) does.
     pub fn advance(&mut self, to: Stamp) -> Result<(), CoreFault>
         ensures ok { OnOk result ((self.old.run.latest ≤ to) × (self.new.run ≡ after_advance to self.old.run) × Keeps self.old self.new) }
         ensures err { IfErr result (λ e. (to < self.old.run.latest) × (e ≡ CoreFault.Earlier) × (self.new ≡ self.old)) }
@@ -134,18 +124,14 @@ impl<'a, A: Allocator + Copy> Relay<'a, A> {
         self.engine.advance(to)
     }
 
-    /// How many different frames are held: of which some port has a copy that is queued, being sent, or sent and
-    /// not handed out. O(1).
+    /// How many different frames are held, as [`Switch::held`](crate::Switch::held) counts them. O(1).
     pub fn held(&self) -> usize
         ensures { result ≡ held_count self.now.run }
     {
         self.engine.held()
     }
 
-    /// The port's next sent frame that was not handed out yet, with its end as stamp, its length as
-    /// original and the bytes that `arrive` took; none where none is left, or there is no such port.
-    ///
-    /// An error says that memory ran out; nothing changes then. O(bytes of the frame).
+    /// Hands out the port's next sent frame, as [`Switch::next_out`](crate::Switch::next_out) does.
     pub fn next_out(&mut self, port: u8) -> Result<Option<Record<'a, A>>, AllocError>
         ensures ok { IfOk result (λ out. IsNext self.old self.new port out) }
         ensures err { OnErr result (self.new ≡ self.old) }
@@ -153,10 +139,7 @@ impl<'a, A: Allocator + Copy> Relay<'a, A> {
         self.engine.next_out(port)
     }
 
-    /// Appends the text of the record that `next_out` would give to a capture, and answers whether there
-    /// was one: its bytes are copied once, from the frame that is kept.
-    ///
-    /// An error says that memory ran out; nothing changes then. O(bytes of the frame) amortized.
+    /// Appends the next frame's text to a capture, as [`Switch::next_out_into`](crate::Switch::next_out_into) does.
     pub fn next_out_into<B: Allocator>(
         &mut self,
         port: u8,
@@ -194,10 +177,7 @@ impl<'a, A: Allocator + Copy> Relayed<'a, A> {
         &self.engine.table
     }
 
-    /// The port's next sent frame that was not handed out yet, with its end as stamp, its length as
-    /// original and the bytes that `arrive` took; none where none is left, or there is no such port.
-    ///
-    /// An error says that memory ran out; nothing changes then. O(bytes of the frame).
+    /// Hands out the port's next sent frame, as [`Relay::next_out`] does.
     pub fn next_out(&mut self, port: u8) -> Result<Option<Record<'a, A>>, AllocError>
         ensures ok { IfOk result (λ out. IsNext self.old self.new port out) }
         ensures err { OnErr result (self.new ≡ self.old) }
@@ -205,10 +185,7 @@ impl<'a, A: Allocator + Copy> Relayed<'a, A> {
         self.engine.next_out(port)
     }
 
-    /// Appends the text of the record that `next_out` would give to a capture, and answers whether there
-    /// was one: its bytes are copied once, from the frame that is kept.
-    ///
-    /// An error says that memory ran out; nothing changes then. O(bytes of the frame) amortized.
+    /// Appends the next frame's text to a capture, as [`Relay::next_out_into`] does.
     pub fn next_out_into<B: Allocator>(
         &mut self,
         port: u8,

@@ -26,3 +26,4 @@ pub use fault::{LoadFault, Rule};
 pub use loading::{load, loads};
 pub use port_load::Load;
 pub use port_loads::Loads;
+pub use share::{Share, share_of};

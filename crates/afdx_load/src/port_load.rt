@@ -122,6 +122,20 @@ impl Load {
         Load { latency, ..self }
     }
 
+    /// The same load where all links and the high ones ask for no more at once than these parts of a nanosecond: what comes
+    /// over one line comes one frame after the other. O(1).
+    pub fn lessened(self, burst: u128, high_burst: u128) -> Load
+        requires all { burst ≤ self.burst }
+        requires high { high_burst ≤ self.high_burst }
+        ensures { result ≡ record self { burst = burst; high_burst = high_burst } }
+    {
+        Load {
+            burst,
+            high_burst,
+            ..self
+        }
+    }
+
     /// The number of its high links.
     pub fn highs(&self) -> u32
         ensures { result ≡ self.now.highs }

@@ -10,17 +10,17 @@ use afdx_units::{Speed, cost};
 
 /// What one link asks of a line.
 #[derive(Clone, Copy)]
-pub(crate) struct Share {
+pub struct Share {
     /// In the long run, in parts of the line.
-    pub(crate) rate: u64,
+    pub rate: u64,
     /// At once, in parts of a nanosecond.
-    pub(crate) burst: u128,
+    pub burst: u128,
     /// The line time of its longest frame, in nanoseconds.
-    pub(crate) time: u64,
+    pub time: u64,
 }
 
-/// What a link asks of a line of this speed: its account's credit and its greatest level, by what a unit is worth.
-pub(crate) fn share_of(speed: Speed, link: &LinkRow) -> Share
+/// What a link asks of a line of this speed: its account's credit and its greatest level, by what a unit is worth. O(1).
+pub fn share_of(speed: Speed, link: &LinkRow) -> Share
     requires size { link.now.max_size ≤ greatest_size }
     requires jitter { link.now.jitter ≤ 10000000 }
     ensures rate { result.rate ≡ rate_of speed link.now }

@@ -20,7 +20,7 @@ use Rattle.afdx_session.specs.declared.plan.RunFault.TheVariants as run
 use Rattle.afdx_session.specs.Texts.{Text, AreOfPorts, texts_of}
 use Rattle.afdx_session.specs.Reading.{IsSound, IsFirstFault}
 use Rattle.afdx_session.specs.Outcome.{Results, IsOutcome, IsRefusal}
-use Rattle.afdx_session.specs.Headline.{AcceptedRunsIsolate}
+use Rattle.afdx_session.specs.Lined.{PlainHeadlines}
 use Rattle.afdx_wiring.specs.declared.layout.Wire.{Wire}
 use Rattle.afdx_wiring.specs.Net.{Network, wire_to}
 use Rattle.afdx_network.specs.Runs.{Given}
@@ -75,15 +75,16 @@ has_run : {P : Type 0} (o : Option Results) → is_some o ≡ false → IsSome o
 has_run None never ran = absurd (false≢true ran)
 has_run (Some r) never ran = absurd cc
 
-pub runs_now : AcceptedRunsIsolate → (t copied : Content) (texts : List Text) (old new : Site) (results : Results) → IsWellFormed t → IsAccepted t → copied ≡ t → texts ≡ old.came
+pub runs_now : PlainHeadlines → (t copied : Content) (texts : List Text) (old new : Site) (results : Results) → IsWellFormed t → IsAccepted t → copied ≡ t → texts ≡ old.came
     → new.came ≡ old.came → new.outcome ≡ Some results → is_some old.outcome ≡ false → IsOutcome copied texts results → RunsOver t old new
 runs_now isolate t copied texts old new results formed accepted same before came outcome never led =
     let is : IsOutcome t old.came results = subst (λ (ts : List Text). IsOutcome t ts results) before (subst (λ (c : Content). IsOutcome c texts results) same led) in
+    let headline = isolate t old.came results formed accepted is in
     record {
       came = came;
       results = results;
       outcome = outcome;
-      led = inr (record { well_formed = formed; accepted = accepted; outcome = is; isolated = isolate t old.came results formed accepted is });
+      led = inr (record { well_formed = formed; accepted = accepted; outcome = is; isolated = headline.0; plain = (headline.1, headline.2) });
       stays = has_run old.outcome never;
     }
 

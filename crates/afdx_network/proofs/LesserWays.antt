@@ -1,55 +1,39 @@
 -- Ways with lesser bounds are ways of the theorem.
 use Rattle.std.proofs.Common.{◌≡◌, ℕ, List, [], ◌∷◌, option_and_then, ap, sym, ◌∙◌, subst}
-use Rattle.afdx_pcap.specs.Record.{Record}
-use Rattle.afdx_table.specs.declared.rows.PortRow.{PortRow}
 use Rattle.afdx_table.specs.Link.{Link}
 use Rattle.afdx_table.specs.Content.{Content}
-use Rattle.afdx_load.specs.Load.{load_of}
 use Rattle.afdx_load.specs.Bounds.{bounds_of}
 use Rattle.afdx_load.specs.Inner.Laws.{AcceptedKeepsBounds}
-use Rattle.afdx_core.specs.Merge.{Capture, merged}
-use Rattle.afdx_session.specs.Output.{output_of}
-use Rattle.afdx_wiring.specs.Net.{Network, Row, bound_in}
+use Rattle.afdx_grouping.specs.Groups.{lesser_load}
+use Rattle.afdx_wiring.specs.Net.{Network, Row, is_wired, bound_in}
 use Rattle.afdx_network.specs.Way.{Node, Stage, IsStage, Leg, IsLegFrom, IsWay, WaysDeliver}
 use Rattle.afdx_network.specs.Runs.{SwitchRun, Given}
-use Rattle.afdx_network.specs.Ways.{node_of, IsStageAt, GoesOver}
+use Rattle.afdx_network.specs.Ways.{IsStageAt, GoesOver}
 use Rattle.afdx_network.specs.Laws.{IsFittingRun}
 use Rattle.afdx_network.specs.LinedWay.{node_after, LinedStages, WiresKeepToLines}
-use Rattle.afdx_network.specs.LinedRun.{ArePlain, is_wired}
 use Rattle.afdx_network.specs.LesserWays.{IsLesserStageAt, IsLesserWayFrom, LesserWaysDeliver}
-use Rattle.afdx_network.proofs.Found.{all_at}
 use Rattle.afdx_network.proofs.Rows.{same_bound}
-use Rattle.afdx_network.proofs.Agreement.{Ground, stage_by, table_at, formed_at, accepted_at, follows}
-use Rattle.afdx_network.proofs.Ends.{has_bound}
+use Rattle.afdx_network.proofs.Agreement.{Ground, stage_by, node_same, table_at, formed_at, accepted_at, follows}
+use Rattle.afdx_network.proofs.Bounded.{has_bound}
 use Rattle.afdx_network.proofs.LinedRun.{wired_ports_keep}
 
-abbrev IsPlain : SwitchRun → Type 0
-IsPlain run = (run.isolated.read ≡ run.outcome.read) × (run.isolated.out ≡ output_of run.table (merged run.outcome.read))
-
-module _ (g : Ground) (keeps : AcceptedKeepsBounds) (wires : WiresKeepToLines) (stages : LinedStages) (net : Network) (given : Given) (runs : List SwitchRun) (acc : IsFittingRun net given runs)
-    (plain : ArePlain runs) where
+module _ (g : Ground) (keeps : AcceptedKeepsBounds) (wires : WiresKeepToLines) (stages : LinedStages) (net : Network) (given : Given) (runs : List SwitchRun) (acc : IsFittingRun net given runs) where
   -- ---- a stage
 
   module _ (r : Row) (x : Stage) (h : IsLesserStageAt net runs r x) where
-    node_same : node_of h.run ≡ node_after h.run.table h.run.outcome.read
-    node_same =
-        let p = all_at IsPlain runs r.switch h.run plain h.run_is in
-        let node : List Capture → (PortRow → List Record) → Node = λ read out. record { table = h.run.table; read = read; out = out } in
-        ap (λ (read : List Capture). node read h.run.isolated.out) p.0 ∙ ap (λ (out : PortRow → List Record). node h.run.outcome.read out) p.1
-
     is_stage : IsStage x
     is_stage =
         let same : x ≡ stage_by x.port x.bound (node_after h.run.table h.run.outcome.read) r.link
-        = ap (λ (n : Node). stage_by x.port x.bound n x.link) (h.node ∙ node_same) ∙ ap (λ (l : Link). stage_by x.port x.bound (node_after h.run.table h.run.outcome.read) l) h.link in
+        = ap (λ (n : Node). stage_by x.port x.bound n x.link) (h.node ∙ node_same h.run) ∙ ap (λ (l : Link). stage_by x.port x.bound (node_after h.run.table h.run.outcome.read) l) h.link in
         let is = stages h.run.table h.run.texts h.run.results (formed_at g net given runs acc r.switch h.run h.run_is) (accepted_at g net given runs acc r.switch h.run h.run_is) h.run.outcome
-        (is_wired net r.switch) (wired_ports_keep g wires net given runs acc plain r.switch h.run h.run_is) x.port h.has h.burst h.high_burst h.enough r.link h.known h.leads x.bound h.bound_is in
+        (is_wired net r.switch) (wired_ports_keep g wires net given runs acc r.switch h.run h.run_is) x.port h.has h.burst h.high_burst h.enough r.link h.known h.leads x.bound h.bound_is in
         subst IsStage (sym same) is
 
-    -- the same row and port with the bound of the whole load
-    whole_bound : (bound : ℕ) × IsStageAt net runs r (stage_by x.port bound x.node x.link)
-    whole_bound =
+    -- the same row and port with the bound of the least bursts
+    least_bound : (bound : ℕ) × IsStageAt net runs r (stage_by x.port bound x.node x.link)
+    least_bound =
         let table = table_at g net given runs acc r.switch h.run h.run_is in
-        let b = has_bound keeps h.run.table x.port r.link (formed_at g net given runs acc r.switch h.run h.run_is) (accepted_at g net given runs acc r.switch h.run h.run_is) h.has h.known h.leads in (
+        let b = has_bound keeps (is_wired net r.switch) h.run.table x.port r.link (formed_at g net given runs acc r.switch h.run h.run_is) (accepted_at g net given runs acc r.switch h.run h.run_is) h.has h.known h.leads in (
           b.0,
           record {
             run = h.run;
@@ -59,8 +43,8 @@ module _ (g : Ground) (keeps : AcceptedKeepsBounds) (wires : WiresKeepToLines) (
             known = h.known;
             has = h.has;
             leads = h.leads;
-            bound_is = ap (option_and_then (λ (t : Content). bound_in (bounds_of (load_of t.latency x.port.speed x.port.id t.links)) r.link.priority)) table
-                ∙ same_bound (load_of h.run.table.latency x.port.speed x.port.id h.run.table.links) r.link.priority ∙ b.1;
+            bound_is = ap (option_and_then (λ (t : Content). bound_in (bounds_of (lesser_load (is_wired net r.switch) t x.port)) r.link.priority)) table
+                ∙ same_bound (lesser_load (is_wired net r.switch) h.run.table x.port) r.link.priority ∙ b.1;
           },
         )
 
@@ -68,8 +52,8 @@ module _ (g : Ground) (keeps : AcceptedKeepsBounds) (wires : WiresKeepToLines) (
 
   is_leg : (r next : Row) (x : Stage) (s : Leg) → IsLesserStageAt net runs r x → IsLesserStageAt net runs next s.stage → GoesOver net r x next s → IsLegFrom x s
   is_leg r next x s h k over =
-      let here = whole_bound r x h in
-      let there = whole_bound next s.stage k in
+      let here = least_bound r x h in
+      let there = least_bound next s.stage k in
       let x' : Stage = stage_by x.port here.0 x.node x.link in
       let s' : Leg = record { cable = s.cable; stage = stage_by s.stage.port there.0 s.stage.node s.stage.link } in
       let f = follows g net given runs acc r next x' s' here.1 there.1 (record { wire = over.wire; wire_is = over.wire_is; start = over.start; cable = over.cable; number = over.number }) in
@@ -85,4 +69,4 @@ module _ (g : Ground) (keeps : AcceptedKeepsBounds) (wires : WiresKeepToLines) (
       (is_stage r x way.0, is_leg r way.1 x s way.0 (first_at way.1 s.stage legs way.3) way.2, is_way way.1 s.stage legs way.3)
 
 pub lesser_ways : Ground → AcceptedKeepsBounds → WiresKeepToLines → LinedStages → WaysDeliver → LesserWaysDeliver
-lesser_ways g keeps wires stages deliver net given runs acc plain x legs way enough = deliver x legs (is_way g keeps wires stages net given runs acc plain way.0 x legs way.2) enough
+lesser_ways g keeps wires stages deliver net given runs acc x legs way enough = deliver x legs (is_way g keeps wires stages net given runs acc way.0 x legs way.2) enough

@@ -1,7 +1,6 @@
 -- Ports with a wire keep to their lines.
-use Rattle.std.proofs.Common.{◌≡◌, ℕ, true, false, List, map, slice_get, Option, Some, None, option_and_then, refl, ap, sym, ◌∙◌, subst}
+use Rattle.std.proofs.Common.{◌≡◌, ℕ, true, false, List, map, slice_get, Option, Some, None, is_some, option_and_then, refl, ap, sym, ◌∙◌, subst}
 use Rattle.std.specs.Prelude.{Contains}
-use Rattle.std.specs.Option.{option_map_or}
 use Rattle.std.proofs.lemmas.Bool.{both_ways}
 use Rattle.std.proofs.lemmas.List.Elements.{All-contains}
 use Rattle.std.proofs.lemmas.Option.{same_Some}
@@ -14,22 +13,19 @@ use Rattle.afdx_session.specs.Output.{output_of}
 use Rattle.afdx_session.specs.Lined.{RecordsKeepToLine}
 use Rattle.afdx_wiring.specs.declared.layout.End.{End}
 use Rattle.afdx_wiring.specs.declared.layout.Wire.{Wire}
-use Rattle.afdx_wiring.specs.Net.{Network, wire_to, port_at}
+use Rattle.afdx_wiring.specs.Net.{Network, wire_to, is_wired, port_at}
 use Rattle.afdx_wiring.specs.Rules.{Joins}
 use Rattle.afdx_network.specs.Way.{delayed}
 use Rattle.afdx_network.specs.Runs.{SwitchRun, Given}
 use Rattle.afdx_network.specs.Laws.{IsFittingRun}
 use Rattle.afdx_network.specs.LinedWay.{WiresKeepToLines}
-use Rattle.afdx_network.specs.LinedRun.{ArePlain, is_wired, WiredPortsKeepToLines}
+use Rattle.afdx_network.specs.LinedRun.{WiredPortsKeepToLines}
 use Rattle.afdx_network.specs.Inner.Sites.{end_at}
-use Rattle.afdx_network.proofs.Found.{all_at, ports_are_found}
+use Rattle.afdx_network.proofs.Found.{ports_are_found}
 use Rattle.afdx_network.proofs.Rows.{wire_goes_there}
 use Rattle.afdx_network.proofs.Agreement.{Ground, table_at, formed_at, behind}
 
-abbrev IsPlain : SwitchRun → Type 0
-IsPlain run = (run.isolated.read ≡ run.outcome.read) × (run.isolated.out ≡ output_of run.table (merged run.outcome.read))
-
-module _ (g : Ground) (wires : WiresKeepToLines) (net : Network) (given : Given) (runs : List SwitchRun) (acc : IsFittingRun net given runs) (plain : ArePlain runs) (n : ℕ) (run : SwitchRun)
+module _ (g : Ground) (wires : WiresKeepToLines) (net : Network) (given : Given) (runs : List SwitchRun) (acc : IsFittingRun net given runs) (n : ℕ) (run : SwitchRun)
     (run_is : slice_get runs n ≡ Some run) (q : PortRow) (at : Contains run.table.ports q) where
   over : (w : Wire) → wire_to net (end_at n q.id) ≡ Some w → RecordsKeepToLine q.speed (records_of run.outcome.read q.id)
   over w is =
@@ -45,19 +41,17 @@ module _ (g : Ground) (wires : WiresKeepToLines) (net : Network) (given : Given)
       let goal : joins.goal ≡ q = same_Some joins.goal q (sym joins.goal_is ∙ goal_there) in
       let start : joins.start ≡ b.port = same_Some joins.start b.port (sym joins.start_is ∙ start_there) in
       let speed : b.port.speed ≡ q.speed = ap (λ (p : PortRow). p.speed) (sym start) ∙ sym joins.speed ∙ ap (λ (p : PortRow). p.speed) goal in
-      let here_plain = all_at IsPlain runs w.from.switch b.here plain b.here_is in
-      let run_plain = all_at IsPlain runs n run plain run_is in
       let records : records_of run.outcome.read q.id ≡ map (delayed w.delay) (output_of b.here.table (merged b.here.outcome.read) b.port)
-      = ap (λ (read : List Capture). records_of read q.id) (sym run_plain.0) ∙ ap (λ (e : End). records_of run.isolated.read e.port) (sym there.0) ∙ b.comes
-      ∙ ap (λ (out : PortRow → List Record). map (delayed w.delay) (out b.port)) here_plain.1 in
+      = ap (λ (read : List Capture). records_of read q.id) (sym run.plain.0) ∙ ap (λ (e : End). records_of run.isolated.read e.port) (sym there.0) ∙ b.comes
+      ∙ ap (λ (out : PortRow → List Record). map (delayed w.delay) (out b.port)) b.here.plain.1 in
       subst (λ (s : Speed). RecordsKeepToLine s (records_of run.outcome.read q.id)) speed
       (subst (λ (rs : List Record). RecordsKeepToLine b.port.speed rs) (sym records) (wires b.here.table (merged b.here.outcome.read) b.port w.delay))
 
   keeps : is_wired net n q.id ≡ true → RecordsKeepToLine q.speed (records_of run.outcome.read q.id)
   keeps on = by (wire_to net (end_at n q.id)) refl on where
-    by : (o : Option Wire) → wire_to net (end_at n q.id) ≡ o → option_map_or (λ (w : Wire). true) o false ≡ true → RecordsKeepToLine q.speed (records_of run.outcome.read q.id)
+    by : (o : Option Wire) → wire_to net (end_at n q.id) ≡ o → is_some o ≡ true → RecordsKeepToLine q.speed (records_of run.outcome.read q.id)
     by None is on = absurd (both_ways false refl on)
     by (Some w) is on = over w is
 
 pub wired_ports_keep : Ground → WiresKeepToLines → WiredPortsKeepToLines
-wired_ports_keep g wires net given runs acc plain n run run_is = λ q at on. keeps g wires net given runs acc plain n run run_is q at on
+wired_ports_keep g wires net given runs acc n run run_is = λ q at on. keeps g wires net given runs acc n run run_is q at on

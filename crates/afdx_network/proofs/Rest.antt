@@ -19,9 +19,9 @@ one_list [] (texts ∷ came) left are = absurd are
 one_list (t ∷ tables) [] left are = absurd are
 one_list (t ∷ tables) (texts ∷ came) [] are = absurd are
 one_list (t ∷ tables) (texts ∷ came) (r ∷ left) are =
-    let rest = one_list tables came left are.2 in
+    let rest = one_list tables came left are.3 in
     record {
-      runs = record { table = t; texts = texts; results = r; outcome = are.0; isolated = are.1 } ∷ rest.runs;
+      runs = record { table = t; texts = texts; results = r; outcome = are.0; isolated = are.1; plain = are.2 } ∷ rest.runs;
       tables_are = ap (λ (others : List Content). t ∷ others) rest.tables_are;
       came_is = ap (λ (others : List (List Text)). texts ∷ others) rest.came_is;
       left_is = ap (λ (others : List Results). r ∷ others) rest.left_is;

@@ -5,8 +5,7 @@ use Rattle.std.proofs.lemmas.List.Elements.{All-contains}
 use Rattle.std.proofs.lemmas.Option.{slice_get-map, same_Some}
 use Rattle.afdx_table.specs.Content.{Content}
 use Rattle.afdx_session.specs.Texts.{Text}
-use Rattle.afdx_session.specs.Outcome.{Results, IsOutcome}
-use Rattle.afdx_session.specs.Headline.{IsIsolated}
+use Rattle.afdx_session.specs.Outcome.{Results}
 use Rattle.afdx_wiring.specs.declared.layout.Wire.{Wire}
 use Rattle.afdx_wiring.specs.declared.layout.End.{End}
 use Rattle.afdx_wiring.specs.Net.{Network, wire_to}
@@ -32,10 +31,8 @@ record Ran (tables : List Content) (n : ℕ) (s : Site) : Type 0 where
 later : (t : Content) (tables : List Content) (n : ℕ) (s : Site) → Ran (t ∷ tables) (suc n) s → Ran tables n s
 later t tables n s ran = record { table = ran.table; table_is = ran.table_is; ran = ran.ran }
 
-first : (t : Content) (tables : List Content) (s : Site) (results : Results) → Ran (t ∷ tables) 0 s → s.outcome ≡ Some results → IsOutcome t s.came results × IsIsolated t s.came results
-first t tables s results ran is =
-    let led : LeadsTo t s.came results = subst (λ (c : Content). LeadsTo c s.came results) (same_Some _ _ (sym ran.table_is)) (ran.ran results is) in
-    (led.outcome, led.isolated)
+first : (t : Content) (tables : List Content) (s : Site) (results : Results) → Ran (t ∷ tables) 0 s → s.outcome ≡ Some results → LeadsTo t s.came results
+first t tables s results ran is = subst (λ (c : Content). LeadsTo c s.came results) (same_Some _ _ (sym ran.table_is)) (ran.ran results is)
 
 runs : (tables : List Content) (sites : List Site) (left : List Results) → length sites ≡ length tables
     → ((n : ℕ) (s : Site) → slice_get sites n ≡ Some s → Ran tables n s) → HaveLed sites left → AreRuns tables (cames sites) left
@@ -48,7 +45,7 @@ runs (t ∷ tables) (s ∷ sites) (r ∷ left) all each led =
     let here : s.outcome ≡ Some r = cc in
     let others : HaveLed sites left = cc in
     let one = first t tables s r (each 0 s refl) here in
-    (one.0, one.1, runs tables sites left (omega (arith, all)) (λ n u is. later t tables n u (each (suc n) u is)) others)
+    (one.outcome, one.isolated, one.plain, runs tables sites left (omega (arith, all)) (λ n u is. later t tables n u (each (suc n) u is)) others)
 
 -- ---- the wires agree
 

@@ -4,13 +4,19 @@ use Rattle.afdx_pcap.specs.Record.{Record}
 use Rattle.afdx_pcap.specs.Text.{capture_text}
 use Rattle.afdx_pcap.specs.Capture.{IsCapture}
 use Rattle.afdx_table.specs.Content.{Content}
+use Rattle.afdx_core.specs.Merge.{merged}
 use Rattle.afdx_session.specs.Texts.{Text}
+use Rattle.afdx_session.specs.Output.{output_of}
 use Rattle.afdx_session.specs.Outcome.{Results, IsOutcome}
 use Rattle.afdx_session.specs.Headline.{IsIsolated}
 use Rattle.afdx_wiring.specs.declared.layout.Wire.{Wire}
 use Rattle.afdx_wiring.specs.declared.layout.End.{End}
 use Rattle.afdx_wiring.specs.Net.{Network, wire_to}
 use Rattle.afdx_network.specs.Way.{delayed}
+
+-- the headline is of the records that were read and of the outputs
+abbrev pub IsPlain : (t : Content) (texts : List Text) (results : Results) → IsOutcome t texts results → IsIsolated t texts results → Type 0
+IsPlain t texts results outcome isolated = (isolated.read ≡ outcome.read) × (isolated.out ≡ output_of t (merged outcome.read))
 
 -- a switch's run: its table, the texts that came in, what they led to, and the headline of it
 pub record SwitchRun : Type 0 where
@@ -19,6 +25,7 @@ pub record SwitchRun : Type 0 where
   pub results : Results
   pub outcome : IsOutcome table texts results
   pub isolated : IsIsolated table texts results
+  pub plain : IsPlain table texts results outcome isolated
 
 -- what left at the start of a wire, as the capture there has it, comes in at the wire's end, so much later
 pub record Brings (left : List Results) (came : List (List Text)) (w : Wire) : Type 0 where
@@ -56,7 +63,8 @@ pub record IsNetworkRun (net : Network) (given : Given) (runs : List SwitchRun) 
 -- each table was run over what came in at its switch, and led to this
 abbrev pub AreRuns : List Content → List (List Text) → List Results → Type 0
 AreRuns [] [] [] = Unit {0}
-AreRuns (t ∷ tables) (texts ∷ came) (results ∷ left) = IsOutcome t texts results × IsIsolated t texts results × AreRuns tables came left
+AreRuns (t ∷ tables) (texts ∷ came) (results ∷ left) =
+    (outcome : IsOutcome t texts results) × (isolated : IsIsolated t texts results) × IsPlain t texts results outcome isolated × AreRuns tables came left
 AreRuns _ _ _ = ⊥
 
 -- what came in at the switches and what left them is a run of the network

@@ -7,7 +7,7 @@ ghost use Rattle.afdx_session.specs.Outcome.{IsRefusal};
 ghost use Rattle.afdx_session.specs.Texts.{AreOfPorts, texts_of};
 ghost use Rattle.afdx_network.specs.Inner.Sites.{text_at, left_at, IsPutIn, Takes, RunsOver};
 
-use afdx_session::laws::accepted_runs_isolate;
+use afdx_session::laws::outcomes_isolate;
 use afdx_session::{Outcome, Plan, RunFault};
 use afdx_table::Table;
 use std::alloc::Global;
@@ -122,7 +122,7 @@ impl Site {
         ensures ok { OnOk result (RunsOver table.now self.old self.new) }
         ensures err { IfErr result (λ fault. (self.new ≡ self.old) × (AreOfPorts table.now self.old.came → IsRefusal table.now self.old.came fault)) }
     {
-        accepted_runs_isolate();
+        outcomes_isolate();
         if self.outcome.is_some() {
             return Ok(());
         }

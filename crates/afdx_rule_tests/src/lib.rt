@@ -6,6 +6,8 @@
 #[cfg(test)]
 mod accounts;
 #[cfg(test)]
+mod bursts;
+#[cfg(test)]
 mod frames;
 #[cfg(test)]
 mod loads;

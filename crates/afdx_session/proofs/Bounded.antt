@@ -129,15 +129,19 @@ texts_long given (x ∷ sent) all =
     let both = length-append (record_text r) (flat_map record_text (map (written given) sent)) in
     omega (arith, head, bytes, one, more, both)
 
-pub text_bound : {Z : Type 0} → ByStampIsOrdered → (t : Content) (lanes : List (Lane Z)) (s : State) (counts : Tally) (going : IsGoing t lanes s counts) (p : PortRow)
-    → length (text_up_to t going.given going.since p) < 2 ^ 128
-text_bound ordered t lanes s counts going p =
+pub text_bound_at : {Z : Type 0} → ByStampIsOrdered → (t : Content) (lanes : List (Lane Z)) (s : State) (counts : Tally) (going : IsGoing t lanes s counts) (h : ℕ) (p : PortRow)
+    → length (text_up_to t going.given h p) < 2 ^ 128
+text_bound_at ordered t lanes s counts going h p =
     let all : AllByRecursion SmallArrival (merged_so_far going.streams) =
     by_stamp_every ordered SmallArrival (arrivals_of (captures_of going.streams)) (arrivals_small lanes going.streams going.lanes_are) in
     let given : AllByRecursion SmallArrival going.given = all_prefix SmallArrival going.given (merged (map waiting_of lanes)) (subst (AllByRecursion SmallArrival) going.settling.whole all) in
-    let sent = sent_up_to t going.given (Some going.since) p in
-    let few = sent_few t going.given going.since p in
+    let sent = sent_up_to t going.given (Some h) p in
+    let few = sent_few t going.given h p in
     let long = texts_long going.given sent given in
     let both = length-append header_text (flat_map record_text (map (written going.given) sent)) in
     let most = going.few in
     omega (arith, few, long, both, most)
+
+pub text_bound : {Z : Type 0} → ByStampIsOrdered → (t : Content) (lanes : List (Lane Z)) (s : State) (counts : Tally) (going : IsGoing t lanes s counts) (p : PortRow)
+    → length (text_up_to t going.given going.since p) < 2 ^ 128
+text_bound ordered t lanes s counts going p = text_bound_at ordered t lanes s counts going going.since p

@@ -31,7 +31,7 @@ use Rattle.afdx_session.proofs.Given.{comes_on, no_going_back}
 use Rattle.afdx_session.proofs.Numbered.{all_slice_get}
 use Rattle.afdx_session.proofs.Shown.{half_ports}
 use Rattle.afdx_session.proofs.ReadUp.{all_set, touched_read_up, settled_read_up}
-use Rattle.afdx_session.proofs.Gone.{grown_length, runs_on}
+use Rattle.afdx_session.proofs.Gone.{grown_length, grown_off, runs_on}
 use Rattle.afdx_session.proofs.Settles.{back_items}
 use Rattle.afdx_session.proofs.Intakes.{touched_ports, still_of_table, half_at, half_touched, fed_half, ended_half, intakes_after, fed_intake, ended_intake, marked_bytes, settled_marked}
 use Rattle.afdx_session.proofs.Intakes.{running_settled}
@@ -91,7 +91,7 @@ pub machine_runs : {Z : Type 0} (mid : Machine Z) (adv next : State) (start now 
 machine_runs {Z} mid adv next start now come of table hands is grown out =
     subst (λ (c : Content). IsRunning c (with_items mid.lanes now).items next mid.counts) (sym (hands.table ∙ table))
     (subst (λ (ls : List (Lane Z)). IsRunning t ls next mid.counts) (sym (back_items mid.lanes now (grown_length mid.lanes.items now here)))
-    (runs_on t mid.lanes.items now adv next mid.counts come here hands outs)) where
+    (runs_on t mid.lanes.items now adv next mid.counts come (grown_off mid.lanes.items now here) hands outs)) where
       t : Content
       t = mid.switch.run.table
 
@@ -123,7 +123,7 @@ open_at {Z} lanes port k d is = (here, ap (λ (l : Lane Z). l.closed) (same_Some
 pub reads_open : {Z : Type 0} (lanes : List (Lane Z)) (port k : ℕ) (old d : Lane Z) → IsOpenAt lanes port k → old ≡ get_or lanes k d → (slice_get lanes k ≡ Some old) × (old.closed ≡ false)
 reads_open {Z = Z} lanes port k old d is read = subst (λ (l : Lane Z). (slice_get lanes k ≡ Some l) × (l.closed ≡ false)) (sym read) (open_at lanes port k d is)
 
-marked_at : {Z : Type 0} (begun : Bool) (lanes : List (Lane Z)) (k : ℕ) (l : Lane Z) → AllByRecursion (IsMarked begun) lanes → slice_get lanes k ≡ Some l → IsMarked begun l
+pub marked_at : {Z : Type 0} (begun : Bool) (lanes : List (Lane Z)) (k : ℕ) (l : Lane Z) → AllByRecursion (IsMarked begun) lanes → slice_get lanes k ≡ Some l → IsMarked begun l
 marked_at begun lanes k l all at = all_slice_get (IsMarked begun) lanes k l all at
 
 -- it was read on, or not

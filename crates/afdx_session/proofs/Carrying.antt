@@ -33,7 +33,7 @@ use Rattle.afdx_session.specs.Inner.Lent.{AreSound, IsOver, texts_over, taken_by
 use Rattle.afdx_session.specs.Inner.Kept.{AreOfTable, AreOut, Every, IsGoing, AreTouched, IsGrown, AreGrown, IsOfSameTable}
 use Rattle.afdx_session.specs.Inner.View.{HasGone, IsRound}
 use Rattle.afdx_session.proofs.Given.{lane_at, comes_anywhere}
-use Rattle.afdx_session.proofs.Gone.{grown_length, drained_going}
+use Rattle.afdx_session.proofs.Gone.{grown_length, grown_off, drained_going}
 use Rattle.afdx_session.proofs.Going.{reads_on}
 use Rattle.afdx_session.proofs.Intakes.{still_of_table, touched_of}
 use Rattle.afdx_session.proofs.Settles.{back_items}
@@ -348,7 +348,7 @@ hands_on {Z} m next start now carrying hands is grown out lanes counts = record 
     of = touched_table m next touched same carrying.of;
     handed = handed_stays m.switch next.switch same carrying.handed;
     going = subst (λ (c : Content). IsGoing c next.lanes.items next.switch next.counts) (sym hands.table)
-        (subst (λ n. IsGoing t next.lanes.items next.switch n) (sym counts) (drained_going t m.lanes.items next.lanes.items m.switch next.switch m.counts carrying.going all hands outs));
+        (subst (λ n. IsGoing t next.lanes.items next.switch n) (sym counts) (drained_going t m.lanes.items next.lanes.items m.switch next.switch m.counts carrying.going (grown_off m.lanes.items next.lanes.items all) hands outs));
     over = all_over_grown m.lanes.items next.lanes.items all carrying.over;
   };
   same = same;

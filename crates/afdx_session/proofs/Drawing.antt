@@ -1,5 +1,5 @@
 -- What one port hands out, where some was handed out before.
-use Rattle.std.proofs.Common.{◌≡◌, ℕ, zero, suc, ◌+◌, ◌<◌, ◌≤◌, ◌==◌, List, [], ◌∷◌, ◌++◌, map, length, drop, slice_get, slice_index, Option, Some, None, refl, ap, sym, ◌∙◌, arith, append_assoc}
+use Rattle.std.proofs.Common.{◌≡◌, ℕ, zero, suc, ◌+◌, ◌<◌, ◌≤◌, ◌==◌, List, [], ◌∷◌, ◌++◌, map, length, take, drop, slice_get, slice_index, Option, Some, None, refl, ap, sym, ◌∙◌, arith, append_assoc}
 use Rattle.std.proofs.Common.{subst, get_or-set_same, get_or-set_other}
 use Rattle.std.specs.List.{flat_map, position}
 use Rattle.std.proofs.lemmas.List.{length-set, append-nil, map-append}
@@ -21,13 +21,13 @@ use Rattle.afdx_session.specs.Output.{rows_of, written}
 use Rattle.afdx_session.specs.Inner.Replay.{HasBytesOf, left_at, IsDrained}
 use Rattle.afdx_session.specs.Streams.{sent_up_to}
 use Rattle.afdx_session.specs.Inner.Settled.{IsGiven, IsAt, Draws}
-use Rattle.afdx_session.specs.declared.lane.Lane.{Lane}
-use Rattle.afdx_session.specs.Inner.Kept.{text_up_to, IsOut}
+use Rattle.afdx_session.specs.Inner.Kept.{text_up_to, IsOutAt}
 use Rattle.afdx_session.proofs.Replaying.{bytes_stay, bytes_more}
 use Rattle.afdx_session.proofs.Draining.{left_before, left_after, place_within, written_out, none_left}
 use Rattle.afdx_session.proofs.Growing.{sent_later}
 use Rattle.afdx_session.proofs.Showing.{sent_is}
-use Rattle.std.proofs.lemmas.List.{length-append}
+use Rattle.std.proofs.Math.Seq.{drop-append_seam}
+use Rattle.std.proofs.lemmas.List.{drop-drop, length-append, length-drop, length-take-le, take-append-drop}
 use Rattle.std.proofs.lemmas.List.{length-map}
 use Rattle.std.proofs.lemmas.Option.{same_Some}
 
@@ -131,22 +131,26 @@ drop-within zero xs ys le = refl
 drop-within (suc n) [] ys le = absurd (omega (arith, le))
 drop-within (suc n) (x ∷ xs) ys le = drop-within n xs ys (omega (arith, le))
 
--- a port that had handed out all up to an instant hands out all up to the one that the switch has come to
-pub goes_out : {Z : Type 0} → SentGoesOn → ReachesInOrder → (t : Content) (given : List Arrival) (h k : ℕ) (start now : State) (p : PortRow) (place : ℕ) (old new : Lane Z)
-    → IsAt t given k start → h ≤ k → place_of start.run p.id ≡ Some place → slice_get t.ports place ≡ Some p → IsOut t given h start p place old
-    → Draws given p.id place start now old.out.items new.out.items → next_by now.run (place_of now.run p.id) ≡ None → new.taken ≡ old.taken → IsOut t given k now p place new
-goes_out {Z} goes_on reaches t given h k start now p place old new at le place_start row out draws none taken = record {
-  count = omega (arith, total, left_none, out.count, all_long, sent_long);
-  taken = let here = ap length text_is in let both = length-append (text_up_to t given h p) rest_text in let was = out.taken in omega (arith, taken, here, both, was);
+-- what a port sends up to an instant is what it sends up to an earlier one, and then these frames, which are left where it handed out
+-- those before them
+pub record IsBehind (t : Content) (given : List Arrival) (h k : ℕ) (start : State) (p : PortRow) (place : ℕ) : Type 0 where
+  pub rest : List Sent
+  pub long : length (sent_up_to t given (Some k) p) ≡ length (sent_up_to t given (Some h) p) + length rest
+  pub text : text_up_to t given k p ≡ text_up_to t given h p ++ flat_map record_text (map (written given) rest)
+  pub left : left_at start.run (Some place) ≡ rest
+
+is_behind : SentGoesOn → ReachesInOrder → (t : Content) (given : List Arrival) (h k : ℕ) (start : State) (p : PortRow) (place : ℕ) → IsAt t given k start → h ≤ k
+    → slice_get t.ports place ≡ Some p → slice_index start.run.handed place ≡ length (sent_up_to t given (Some h) p) → IsBehind t given h k start p place
+is_behind goes_on reaches t given h k start p place at le row count = record {
+  rest = rest.0;
+  long = ap length rest.1 ∙ length-append first rest.0;
+  text = ap (λ sent. capture_text (map (written given) sent)) rest.1 ∙ ap capture_text (map-append (written given) first rest.0)
+      ∙ capture-append (map (written given) first) (map (written given) rest.0);
   left =
-      sym (append-nil new.out.items)
-      ∙ ap (λ left. new.out.items ++ flat_map record_text (map (written given) left)) (sym none_now)
-      ∙ sym draws.rest
-      ∙ ap (λ left. old.out.items ++ flat_map record_text (map (written given) left)) left_start
-      ∙ ap (λ text. text ++ rest_text) out.left
-      ∙ sym (drop-within old.taken (text_up_to t given h p) rest_text out.taken)
-      ∙ ap (λ n. drop n (text_up_to t given h p ++ rest_text)) (sym taken)
-      ∙ ap (drop new.taken) (sym text_is);
+      ap (λ (o : Option PortRow). drop (slice_index start.run.handed place) (sent_in start.run o)) row_start
+      ∙ ap (λ n. drop n (sent_in start.run (Some p))) count
+      ∙ ap (drop (length first)) (sent_is t given k start p at ∙ rest.1)
+      ∙ sent-prefix first rest.0;
 } where
   first : List Sent
   first = sent_up_to t given (Some h) p
@@ -154,28 +158,47 @@ goes_out {Z} goes_on reaches t given h k start now p place old new at le place_s
   rest : (more_sent : List Sent) × (sent_up_to t given (Some k) p ≡ first ++ more_sent)
   rest = sent_later goes_on reaches t given h (Some k) p le
 
-  rest_text : List ℕ
-  rest_text = flat_map record_text (map (written given) rest.0)
-
-  text_is : text_up_to t given k p ≡ text_up_to t given h p ++ rest_text
-  text_is = ap (λ sent. capture_text (map (written given) sent)) rest.1 ∙ ap capture_text (map-append (written given) first rest.0)
-      ∙ capture-append (map (written given) first) (map (written given) rest.0)
-
   row_start : slice_get start.run.table.ports place ≡ Some p
   row_start = ap (λ (c : Content). slice_get c.ports place) at.is_given.table ∙ row
 
+-- so the text is as long as all of it
+pub long_behind : SentGoesOn → ReachesInOrder → (t : Content) (given : List Arrival) (h k : ℕ) (start : State) (p : PortRow) (place n : ℕ) (out : List ℕ) → IsAt t given k start → h ≤ k
+    → slice_get t.ports place ≡ Some p → IsOutAt t given h start p place n out
+    → n + length out + length (flat_map record_text (map (written given) (left_at start.run (Some place)))) ≡ length (text_up_to t given k p)
+long_behind goes_on reaches t given h k start p place n out at le row is =
+    let behind = is_behind goes_on reaches t given h k start p place at le row is.count in
+    let text = text_up_to t given h p in
+    let left = ap (λ sent. length (flat_map record_text (map (written given) sent))) behind.left in
+    let whole = ap length behind.text ∙ length-append text (flat_map record_text (map (written given) behind.rest)) in
+    let here = ap length is.left in
+    let cut = length-drop n text in
+    let within = is.taken in
+    omega (arith, left, whole, here, cut, within)
+
+-- a port that had handed out all up to an instant hands out all up to the one that the switch has come to
+pub goes_out : SentGoesOn → ReachesInOrder → (t : Content) (given : List Arrival) (h k : ℕ) (start now : State) (p : PortRow) (place n : ℕ) (before after : List ℕ)
+    → IsAt t given k start → h ≤ k → place_of start.run p.id ≡ Some place → slice_get t.ports place ≡ Some p → IsOutAt t given h start p place n before
+    → Draws given p.id place start now before after → next_by now.run (place_of now.run p.id) ≡ None → IsOutAt t given k now p place n after
+goes_out goes_on reaches t given h k start now p place n before after at le place_start row out draws none = record {
+  count = let long = behind.long in let was = out.count in omega (arith, total, left_none, was, all_long, long);
+  taken = let here = ap length behind.text in let both = length-append (text_up_to t given h p) rest_text in let was = out.taken in omega (arith, here, both, was);
+  left =
+      sym (append-nil after)
+      ∙ ap (λ left. after ++ flat_map record_text (map (written given) left)) (sym none_now)
+      ∙ sym draws.rest
+      ∙ ap (λ left. before ++ flat_map record_text (map (written given) left)) behind.left
+      ∙ ap (λ text. text ++ rest_text) out.left
+      ∙ sym (drop-within n (text_up_to t given h p) rest_text out.taken)
+      ∙ ap (drop n) (sym behind.text);
+} where
+  behind : IsBehind t given h k start p place
+  behind = is_behind goes_on reaches t given h k start p place at le row out.count
+
+  rest_text : List ℕ
+  rest_text = flat_map record_text (map (written given) behind.rest)
+
   place_now : place_of now.run p.id ≡ Some place
   place_now = ap (λ (c : Content). position (λ (q : PortRow). q.id == p.id) c.ports) draws.drained.table ∙ place_start
-
-  sent_start : sent_in start.run (Some p) ≡ first ++ rest.0
-  sent_start = sent_is t given k start p at ∙ rest.1
-
-  left_start : left_at start.run (Some place) ≡ rest.0
-  left_start =
-      ap (λ (o : Option PortRow). drop (slice_index start.run.handed place) (sent_in start.run o)) row_start
-      ∙ ap (λ n. drop n (sent_in start.run (Some p))) out.count
-      ∙ ap (drop (length first)) sent_start
-      ∙ sent-prefix first rest.0
 
   none_now : left_at now.run (Some place) ≡ []
   none_now = ap (left_at now.run) (sym place_now) ∙ none_left now.run (place_of now.run p.id) none
@@ -186,11 +209,29 @@ goes_out {Z} goes_on reaches t given h k start now p place old new at le place_s
   left_none : length (left_at now.run (Some place)) ≡ 0
   left_none = ap length none_now
 
-  all_long : length (left_at start.run (Some place)) ≡ length rest.0
-  all_long = ap length left_start
+  all_long : length (left_at start.run (Some place)) ≡ length behind.rest
+  all_long = ap length behind.left
 
-  sent_long : length (sent_up_to t given (Some k) p) ≡ length first + length rest.0
-  sent_long = ap length rest.1 ∙ length-append first rest.0
+-- ---- the first of a text is taken
+
+left_behind : (n : ℕ) (text bytes left : List ℕ) → drop n text ≡ bytes ++ left → left ≡ drop (n + length bytes) text
+left_behind n text bytes left same = sym (drop-append_seam bytes left) ∙ ap (drop (length bytes)) (sym same) ∙ drop-drop (length bytes) n text
+
+taken_within : (n : ℕ) (text bytes left : List ℕ) → n ≤ length text → drop n text ≡ bytes ++ left → n + length bytes ≤ length text
+taken_within n text bytes left le same =
+    let whole = ap length (sym (take-append-drop n text)) ∙ length-append (take n text) (drop n text) in
+    let first = length-take-le n text le in
+    let rest = ap length same ∙ length-append bytes left in
+    omega (arith, whole, first, rest)
+
+-- where these bytes of it are taken, the rest is left
+pub takes_first : (t : Content) (given : List Arrival) (h : ℕ) (s : State) (p : PortRow) (place n : ℕ) (bytes out : List ℕ) → IsOutAt t given h s p place n (bytes ++ out)
+    → IsOutAt t given h s p place (n + length bytes) out
+takes_first t given h s p place n bytes out is = record {
+  count = is.count;
+  taken = taken_within n (text_up_to t given h p) bytes out is.taken (sym is.left);
+  left = left_behind n (text_up_to t given h p) bytes out (sym is.left);
+}
 
 -- ---- the loop
 

@@ -1,36 +1,36 @@
--- Captures that are read in pieces: one more read, and then what has gone out is taken.
+-- Captures that are read in pieces, one read after the other.
 use Rattle.std.proofs.Common.{◌≡◌, ◌≢◌, ◌⊎◌, ℕ, zero, suc, ◌+◌, ◌<◌, ◌≤◌, ◌==◌, nat_lt, Bool, true, false, cond, not, List, [], ◌∷◌, ◌++◌, map, length, take, drop, set, get_or}
-use Rattle.std.proofs.Common.{slice_get, Option, Some, None, IfSome, Vec}
+use Rattle.std.proofs.Common.{slice_get, Option, Some, None, Vec}
 use Rattle.std.proofs.Common.{refl, ap, sym, ◌∙◌, arith, subst, inl, inr, length-set}
 use Rattle.std.specs.Prelude.{find}
 use Rattle.std.specs.List.{AllByRecursion, position, position_or_len}
 use Rattle.std.specs.Io.KnownBytes.{Appends, Consumes, IsAtEnd, Keeps}
-use Rattle.std.proofs.KnownBytes.{Appends-nil, Appends-trans, Consumes-nil, Consumes-trans, Consumes-whole}
+use Rattle.std.proofs.KnownBytes.{Appends-nil, Consumes-nil, Consumes-trans, Consumes-whole}
 use Rattle.std.proofs.lemmas.Bool.{both_ways, eqb-true}
 use Rattle.std.proofs.lemmas.List.{append-nil, length-map}
 use Rattle.std.proofs.lemmas.Option.{same_Some, slice_get_within, slice_get-get_or}
 use Rattle.afdx_pcap.specs.declared.fault.PcapFault.{PcapFault}
 use Rattle.afdx_pcap.specs.Fault.{IsFault, IsEarlyFault}
 use Rattle.afdx_table.specs.declared.rows.PortRow.{PortRow}
-use Rattle.afdx_table.specs.Content.{Content, port_row}
+use Rattle.afdx_table.specs.Content.{Content}
 use Rattle.afdx_table.specs.WellFormed.{Rises}
 use Rattle.afdx_count.specs.Tally.{Tally}
 use Rattle.afdx_devices.specs.Input.{AreGiven}
 use Rattle.afdx_session.specs.declared.plan.RunFault.{RunFault}
 use Rattle.afdx_session.specs.declared.plan.RunFault.TheVariants as run
 use Rattle.afdx_session.specs.Texts.{Text}
-use Rattle.afdx_session.specs.Reading.{IsFirstFault, IsReadFault, IsFaultAt}
+use Rattle.afdx_session.specs.Reading.{IsReadFault, IsFaultAt}
 use Rattle.afdx_session.specs.Lanes.{IsPieceFault}
-use Rattle.afdx_session.specs.Session.{Intake, Seen, fresh_intake, fresh_session, HasGoneOut, intake_bytes, taken_in, fed_bytes, taken_of, refusal_at, refusal, changed, fed, closed_intake, took}
-use Rattle.afdx_session.specs.Session.{after_feed, after_close, after_take, IsRefused}
+use Rattle.afdx_session.specs.Session.{Intake, Seen, fresh_intake, fresh_session, intake_bytes, taken_in, fed_bytes, taken_of, refusal_at, refusal, changed, fed, closed_intake}
+use Rattle.afdx_session.specs.Session.{after_feed, after_close, IsRefused}
 use Rattle.afdx_session.specs.Finish.{text_in, texts_in}
 use Rattle.afdx_session.specs.Sources.{AreRead, IsSourceFault}
-use Rattle.afdx_session.specs.Into.{HasTaken, HaveTaken, IsFinishedInto, IsNotFinishedInto}
+use Rattle.afdx_session.specs.Into.{HaveTaken, IsFinishedInto, IsNotFinishedInto}
 use Rattle.afdx_session.specs.Outcome.{IsOutcome}
 use Rattle.afdx_session.specs.Written.{IsWritten}
-use Rattle.afdx_session.specs.Inner.Pieces.{GoesOnTo, CallsGoOn, NothingWasTaken, TakenStays, TakesJoin}
-use Rattle.afdx_session.specs.Inner.Sources.{IsOfBytes, source_fault, IsReadUpTo, AreReadUpTo, AreAtEnd, IsOfTable, GoesOnUntaken, ReadsOn, HasSameBytes, HaveSameBytes, TakesParts}
-use Rattle.afdx_session.specs.Inner.Sources.{GoesOnReading, IsNextAt}
+use Rattle.afdx_session.specs.Inner.Pieces.{GoesOnTo, CallsGoOn, NothingWasTaken}
+use Rattle.afdx_session.specs.Inner.Sources.{IsOfBytes, source_fault, IsReadUpTo, AreReadUpTo, AreAtEnd, IsOfTable, HasSameBytes, HaveSameBytes, TakesParts}
+use Rattle.afdx_session.specs.Inner.Sources.{GoesOnReading, ReadsOn, IsNextAt}
 use Rattle.afdx_session.specs.declared.lane.Lane.{Lane}
 use Rattle.afdx_session.specs.declared.stop.Stop.{Stop}
 use Rattle.afdx_session.specs.declared.stop.Stop.TheVariants as stop
@@ -103,7 +103,7 @@ none_found (i ∷ intakes) port le = by (i.port == port) refl (none_found intake
 numbers_are : (v : Seen) (numbers : List ℕ) → IsOfTable v.table v → numbers ≡ map (λ (p : PortRow). p.id) v.table.ports → numbers ≡ ports_in v.intakes
 numbers_are v numbers of are = are ∙ sym of.ports
 
-place_in : (v : Seen) (numbers : List ℕ) (port place : ℕ) → IsOfTable v.table v → numbers ≡ map (λ (p : PortRow). p.id) v.table.ports → position (is_port port) numbers ≡ Some place
+pub place_in : (v : Seen) (numbers : List ℕ) (port place : ℕ) → IsOfTable v.table v → numbers ≡ map (λ (p : PortRow). p.id) v.table.ports → position (is_port port) numbers ≡ Some place
     → IsIntakeAt v.intakes port place
 place_in v numbers port place of are at =
     let both = position_at (is_port port) (ports_in v.intakes) place (ap (position (is_port port)) (sym (numbers_are v numbers of are)) ∙ at) in
@@ -142,7 +142,7 @@ mapped_position [] port = refl
 mapped_position (p ∷ ports) port = ap (λ n. cond (not (p.id == port)) (1 + n) zero) (mapped_position ports port)
 
 -- a row's place is that of its number
-position_in : (ports : List PortRow) (k : ℕ) (p : PortRow) → Rises ports → slice_get ports k ≡ Some p → position (is_port p.id) (map (λ (q : PortRow). q.id) ports) ≡ Some k
+pub position_in : (ports : List PortRow) (k : ℕ) (p : PortRow) → Rises ports → slice_get ports k ≡ Some p → position (is_port p.id) (map (λ (q : PortRow). q.id) ports) ≡ Some k
 position_in ports k p rises at =
     ap (λ n. cond (nat_lt n (length (map (λ (q : PortRow). q.id) ports))) (Some n) None) (mapped_position ports p.id)
     ∙ ap (λ m. cond (nat_lt (position_or_len (λ (q : PortRow). q.id == p.id) ports) m) (Some (position_or_len (λ (q : PortRow). q.id == p.id) ports)) None) (length-map ports (λ q. q.id))
@@ -166,6 +166,11 @@ intakes_long : (t : Content) (v : Seen) → IsOfTable t v → length v.intakes �
 intakes_long t v of = sym (length-map v.intakes (λ (i : Intake). i.port)) ∙ ap (λ (ns : List ℕ). length ns) of.ports ∙ length-map t.ports (λ (p : PortRow). p.id)
 
 -- ---- what changes in a session
+
+-- it goes on, and nothing is taken
+pub record GoesOnUntaken (v later : Seen) : Type 0 where
+  pub on : GoesOnTo v later
+  pub taken : (port : ℕ) → taken_of later port ≡ taken_of v port
 
 changed_ports : (port : ℕ) (f : Intake → Intake) (intakes : List Intake) → ((i : Intake) → (f i).port ≡ i.port) → ports_in (changed port f intakes) ≡ ports_in intakes
 changed_ports port f [] keeps = refl
@@ -222,9 +227,6 @@ of_feed t v port piece of = record { table = of.table; rises = of.rises; ports =
 pub of_close : (t : Content) (v : Seen) (port : ℕ) → IsOfTable t v → IsOfTable t (after_close v port)
 of_close t v port of = record { table = of.table; rises = of.rises; ports = changed_ports port closed_intake v.intakes (λ i. refl) ∙ of.ports; none_failed = of.none_failed }
 
-of_take : (t : Content) (v : Seen) (port n : ℕ) → IsOfTable t v → IsOfTable t (after_take v port n)
-of_take t v port n of = record { table = of.table; rises = of.rises; ports = changed_ports port (took n) v.intakes (λ i. refl) ∙ of.ports; none_failed = of.none_failed }
-
 -- files that have what was taken have it still
 pub taken_on : {F : Type 0} → CallsGoOn → (contents : F → Option (List ℕ)) (v later : Seen) (start now : List F) → GoesOnUntaken v later → HaveTaken contents v start now
     → HaveTaken contents later start now
@@ -240,6 +242,14 @@ taken_on calls contents v later start now on have = record {
 }
 
 -- ---- one more read
+
+-- it brought the session to this; where none is to be made any more, all readers are at their ends
+pub record ReadsTo {R : Type 0} (remaining : R → Option (List ℕ)) (v : Seen) (readers : List R) (more : Bool) (later : Seen) (now : List R) : Type 0 where
+  pub of : IsOfTable v.table later
+  pub on : GoesOnUntaken v later
+  pub many : length now ≡ length readers
+  pub read : (first : List R) → AreReadUpTo remaining v first readers → AreReadUpTo remaining later first now
+  pub all : more ≡ false → (first : List R) → AreReadUpTo remaining v first readers → AreAtEnd remaining now
 
 pub reads_one : {R : Type 0} (remaining : R → Option (List ℕ)) (v later : Seen) (first readers : List R) (place : ℕ) (i j : Intake) (r s : R) → slice_get v.intakes place ≡ Some i
     → slice_get readers place ≡ Some r → later.intakes ≡ set v.intakes place j → ((f : R) → IsReadUpTo remaining i f r → IsReadUpTo remaining j f s)
@@ -332,8 +342,8 @@ end_found a b n room buf gave none same some = (subst (λ k. Consumes a b (take 
 -- a read gave a piece
 pub reads_piece : {R : Type 0} → CallsGoOn → (remaining : R → Option (List ℕ)) (v later : Seen) (readers : List R) (port place : ℕ) (piece : List ℕ) (r s : R)
     → IsOfTable v.table v → refusal v port ≡ None → IsReaderAt v readers port place r → Consumes (remaining r) (remaining s) piece → later ≡ after_feed v port piece
-    → ReadsOn remaining v readers true later (set readers place s)
-reads_piece calls remaining v later readers port place piece r s of may there gives is = subst (λ (w : Seen). ReadsOn remaining v readers true w (set readers place s)) (sym is) (record {
+    → ReadsTo remaining v readers true later (set readers place s)
+reads_piece calls remaining v later readers port place piece r s of may there gives is = subst (λ (w : Seen). ReadsTo remaining v readers true w (set readers place s)) (sym is) (record {
   of = of_feed v.table v port piece of;
   on = untaken_feed calls v port piece may;
   many = length-set readers place s;
@@ -346,8 +356,8 @@ reads_piece calls remaining v later readers port place piece r s of may there gi
 -- or the end
 pub reads_end : {R : Type 0} → CallsGoOn → (remaining : R → Option (List ℕ)) (v later : Seen) (readers : List R) (port place : ℕ) (r s : R)
     → IsOfTable v.table v → IsReaderAt v readers port place r → Consumes (remaining r) (remaining s) [] → IsAtEnd (remaining s) → later ≡ after_close v port
-    → ReadsOn remaining v readers true later (set readers place s)
-reads_end calls remaining v later readers port place r s of there gives end is = subst (λ (w : Seen). ReadsOn remaining v readers true w (set readers place s)) (sym is) (record {
+    → ReadsTo remaining v readers true later (set readers place s)
+reads_end calls remaining v later readers port place r s of there gives end is = subst (λ (w : Seen). ReadsTo remaining v readers true w (set readers place s)) (sym is) (record {
   of = of_close v.table v port of;
   on = untaken_close calls v port;
   many = length-set readers place s;
@@ -365,7 +375,7 @@ read_nothing remaining v first readers port place r s may there gives was =
 
 -- or nothing, since it was interrupted
 pub reads_nothing : {R : Type 0} (remaining : R → Option (List ℕ)) (v : Seen) (readers : List R) (port place : ℕ) (r s : R) → IsOfTable v.table v
-    → refusal v port ≡ None → IsReaderAt v readers port place r → Keeps (remaining r) (remaining s) → ReadsOn remaining v readers true v (set readers place s)
+    → refusal v port ≡ None → IsReaderAt v readers port place r → Keeps (remaining r) (remaining s) → ReadsTo remaining v readers true v (set readers place s)
 reads_nothing remaining v readers port place r s of may there keeps = record {
   of = of;
   on = untaken_same v;
@@ -377,7 +387,7 @@ reads_nothing remaining v readers port place r s of may there keeps = record {
 -- or the end of the last that has not ended
 pub reads_last : {R : Type 0} (remaining : R → Option (List ℕ)) (v : Seen) (readers : List R) (port place : ℕ) (r s : R) → IsOfTable v.table v
     → refusal v port ≡ None → IsReaderAt v readers port place r → Consumes (remaining r) (remaining s) [] → IsAtEnd (remaining s)
-    → AllByRecursion (λ (i : Intake). (i.port ≡ port) ⊎ (i.closed ≡ true)) v.intakes → ReadsOn remaining v readers false v (set readers place s)
+    → AllByRecursion (λ (i : Intake). (i.port ≡ port) ⊎ (i.closed ≡ true)) v.intakes → ReadsTo remaining v readers false v (set readers place s)
 reads_last remaining v readers port place r s of may there gives end last = record {
   of = of;
   on = untaken_same v;
@@ -530,7 +540,7 @@ pub stop_since : {R F Z : Type 0} (remaining : R → Option (List ℕ)) (content
 stop_since remaining contents v mid readers now last files written why was is first read =
     subst (λ (c : Content). IsStop remaining c first last why) was.of.table (is first (was.read first read))
 
--- ---- what has gone out is taken
+-- ---- nothing is taken
 
 same_bytes : (i j : Intake) → i ≡ j → HasSameBytes i j
 same_bytes i j is = record { port = ap (λ (x : Intake). x.port) (sym is); bytes = ap (λ (x : Intake). x.bytes) (sym is); closed = ap (λ (x : Intake). x.closed) (sym is) }
@@ -543,108 +553,12 @@ parts_none contents v files of = record {
   taken = λ start have. have;
 }
 
-same_both_bytes : (a b c : List Intake) → HaveSameBytes a b → HaveSameBytes b c → HaveSameBytes a c
-same_both_bytes a b c one two = (
-  two.0 ∙ one.0,
-  λ place i k at there.
-      let lt = slice_get_within a place i at in
-      let long = one.0 in
-      let j = at_place b place (omega (arith, lt, long)) in
-      let x = one.1 place i j.0 at j.1 in
-      let y = two.1 place j.0 k j.1 there in
-      record { port = y.port ∙ x.port; bytes = y.bytes ∙ x.bytes; closed = y.closed ∙ x.closed },
-)
-
-took_same : (v : Seen) (port place n : ℕ) → IsIntakeAt v.intakes port place → HaveSameBytes v.intakes (changed port (took n) v.intakes)
-took_same v port place n own = (
-  ap length (own.changed_is (took n)) ∙ length-set v.intakes place (took n own.intake),
-  λ k i j at there. by k i j at (at_set v.intakes place k (took n own.intake) j (ap (λ is. slice_get is k) (sym (own.changed_is (took n))) ∙ there)),
-) where
-  by : (k : ℕ) (i j : Intake) → slice_get v.intakes k ≡ Some i → ((k ≡ place) × (j ≡ took n own.intake)) ⊎ ((k ≢ place) × (slice_get v.intakes k ≡ Some j)) → HasSameBytes i j
-  by k i j at (inl here) =
-      let is : i ≡ own.intake = same_Some i own.intake (sym at ∙ ap (slice_get v.intakes) here.0 ∙ own.at) in
-      record {
-        port = ap (λ (x : Intake). x.port) here.1 ∙ ap (λ (x : Intake). x.port) (sym is);
-        bytes = ap (λ (x : Intake). x.bytes) here.1 ∙ ap (λ (x : Intake). x.bytes) (sym is);
-        closed = ap (λ (x : Intake). x.closed) here.1 ∙ ap (λ (x : Intake). x.closed) (sym is);
-      }
-  by k i j at (inr other) = same_bytes i j (same_Some i j (sym at ∙ other.1))
-
--- of one port more
-pub parts_one : {F : Type 0} → CallsGoOn → TakenStays → TakesJoin → (contents : F → Option (List ℕ)) (first v : Seen) (start now : List F) (place : ℕ) (p : PortRow) (text : List ℕ) (old new : F)
-    → TakesParts contents first start v now → slice_get first.table.ports place ≡ Some p → HasGoneOut v p text → slice_get now place ≡ Some old
-    → Appends (contents old) (contents new) (drop (taken_of v p.id) text)
-    → TakesParts contents first start (after_take v p.id (length text)) (set now place new)
-parts_one {F} calls stays joins contents first v start now place p text old new was is_row gone is_old appends = record {
-  of = of_take first.table v p.id (length text) was.of;
-  same = same_both_bytes first.intakes v.intakes later.intakes was.same (took_same v p.id place (length text) own);
-  many = length-set now place new ∙ was.many;
-  taken = λ from have. one from (was.taken from have);
-} where
-  later : Seen
-  later = after_take v p.id (length text)
-
-  of : IsOfTable v.table v
-  of = record {
-    table = refl;
-    rises = subst (λ (c : Content). Rises c.ports) (sym was.of.table) was.of.rises;
-    ports = was.of.ports ∙ ap (λ (c : Content). map (λ (q : PortRow). q.id) c.ports) (sym was.of.table);
-    none_failed = was.of.none_failed;
-  }
-
-  row_here : slice_get v.table.ports place ≡ Some p
-  row_here = ap (λ (c : Content). slice_get c.ports place) was.of.table ∙ is_row
-
-  row : port_row v.table p.id ≡ Some p
-  row = row_found v.table.ports place p of.rises row_here
-
-  own : IsIntakeAt v.intakes p.id place
-  own = place_in v (map (λ (q : PortRow). q.id) v.table.ports) p.id place of refl (position_in v.table.ports place p of.rises row_here)
-
-  apart : (k : ℕ) (q : PortRow) → slice_get v.table.ports k ≡ Some q → q.id ≡ p.id → k ≡ place
-  apart k q is_q same =
-      same_Some k place (sym (its_place v.table.ports k q of.rises is_q) ∙ ap (λ n. position (λ (x : PortRow). x.id == n) v.table.ports) same ∙ its_place v.table.ports place p of.rises row_here)
-
-  one : (from : List F) → HaveTaken contents v from now → HaveTaken contents later from (set now place new)
-  one from have = record {
-    long = length-set now place new ∙ have.long;
-    each = λ k q f g is_q is_f is_g. by k q f g is_q is_f (at_set now place k new g is_g);
-  } where
-    by : (k : ℕ) (q : PortRow) (f g : F) → slice_get v.table.ports k ≡ Some q → slice_get from k ≡ Some f → ((k ≡ place) × (g ≡ new)) ⊎ ((k ≢ place) × (slice_get now k ≡ Some g))
-        → HasTaken contents later q.id f g
-    by k q f g is_q is_f (inl here) =
-        let same : q ≡ p = same_Some q p (sym is_q ∙ ap (slice_get v.table.ports) here.0 ∙ row_here) in
-        let has = have.each place p f old row_here (ap (slice_get from) (sym here.0) ∙ is_f) is_old in
-        let now_was = stays has.were.before v p.id p has.taken text has.were.on has.were.same (ap (λ (c : Content). port_row c p.id) (sym has.were.on.table) ∙ row) gone has.were.was in
-        let joined = joins v p.id p has.taken text row gone now_was in
-        subst (λ (x : PortRow). HasTaken contents later x.id f g) (sym same) (subst (HasTaken contents later p.id f) (sym here.1) (record {
-          taken = text;
-          were = record { before = later; was = joined.1; on = on_same later; same = refl };
-          appended = subst (Appends (contents f) (contents new)) joined.0 (Appends-trans (contents f) (contents old) (contents new) has.taken (drop (taken_of v p.id) text) has.appended appends);
-        }))
-    by k q f g is_q is_f (inr other) =
-        let has = have.each k q f g is_q is_f other.1 in
-        record {
-          taken = has.taken;
-          were = record {
-            before = has.were.before;
-            was = has.were.was;
-            on = calls.both has.were.before v later has.were.on (calls.take v p.id (length text));
-            same = changed_taken p.id q.id (took (length text)) v.intakes (λ i. refl) (λ i there here. absurd (other.0 (apart k q is_q (sym there ∙ here)))) ∙ has.were.same;
-          };
-          appended = has.appended;
-        }
-
--- what is at a place of the numbers is that of a row
-pub row_of_number : (ports : List PortRow) (k n : ℕ) → slice_get (map (λ (p : PortRow). p.id) ports) k ≡ Some n → (p : PortRow) × (slice_get ports k ≡ Some p) × (p.id ≡ n)
-row_of_number ports k n at = mapped_from (λ (p : PortRow). p.id) ports k n at
-
 -- ---- a whole run
 
 -- both go on, one after the other
 pub reads_both : {R F : Type 0} → CallsGoOn → (remaining : R → Option (List ℕ)) (contents : F → Option (List ℕ)) (v mid later : Seen) (readers now : List R)
     (files written : List F) (more : Bool) (last : List R)
-    → GoesOnReading remaining contents v readers files mid now written → ReadsOn remaining mid now more later last → GoesOnReading remaining contents v readers files later last written
+    → GoesOnReading remaining contents v readers files mid now written → ReadsTo remaining mid now more later last → GoesOnReading remaining contents v readers files later last written
 reads_both calls remaining contents v mid later readers now files written more last was on = record {
   of = subst (λ (c : Content). IsOfTable c later) was.of.table on.of;
   many = on.many ∙ was.many;
@@ -679,6 +593,27 @@ takes_both remaining contents v mid later readers now files written after was ta
 pub reads_none : {R F : Type 0} (remaining : R → Option (List ℕ)) (contents : F → Option (List ℕ)) (v : Seen) (readers : List R) (files : List F) → IsOfTable v.table v
     → GoesOnReading remaining contents v readers files v readers files
 reads_none remaining contents v readers files of = record { of = of; many = refl; long = refl; read = λ first read. read; taken = λ start have. have }
+
+-- one more read, of which this was taken
+pub reads_into : {R F : Type 0} → CallsGoOn → (remaining : R → Option (List ℕ)) (contents : F → Option (List ℕ)) (v mid later : Seen) (readers now : List R) (files written : List F) (more : Bool)
+    → IsOfTable v.table v → ReadsTo remaining v readers more mid now → TakesParts contents mid files later written → ReadsOn remaining contents v readers files more later now written
+reads_into calls remaining contents v mid later readers now files written more of on takes = record {
+  on = takes_both remaining contents v mid later readers now files files written
+      (reads_both calls remaining contents v v mid readers readers files files more now (reads_none remaining contents v readers files of) on) takes;
+  all = on.all;
+}
+
+-- one after the other
+pub reads_then : {R F : Type 0} (remaining : R → Option (List ℕ)) (contents : F → Option (List ℕ)) (v mid later : Seen) (readers now last : List R) (files written after : List F)
+    → GoesOnReading remaining contents v readers files mid now written → GoesOnReading remaining contents mid now written later last after
+    → GoesOnReading remaining contents v readers files later last after
+reads_then remaining contents v mid later readers now last files written after was on = record {
+  of = subst (λ (c : Content). IsOfTable c later) was.of.table on.of;
+  many = on.many ∙ was.many;
+  long = on.long ∙ was.long;
+  read = λ first read. on.read first (was.read first read);
+  taken = λ start have. on.taken start (was.taken start have);
+}
 
 -- the next capture is that of one of the readers
 pub next_within : {R F : Type 0} (remaining : R → Option (List ℕ)) (contents : F → Option (List ℕ)) (v mid : Seen) (readers now : List R) (files written : List F) (numbers : List ℕ)
@@ -758,27 +693,6 @@ last_fault remaining t v first now (run.Capture port why) of long was end is =
 last_fault remaining t v first now run.WrongPorts of long was end is = absurd is
 last_fault remaining t v first now run.Closed of long was end is = absurd is
 last_fault remaining t v first now run.Failed of long was end is = absurd is
-
--- what a call that takes says of a port's number
-abbrev IsTakenOf : {F : Type 0} → (F → Option (List ℕ)) → Seen → Seen → F → F → ℕ → PortRow → Type 0
-IsTakenOf contents v later old new n p =
-    (text : List ℕ) × HasGoneOut v p text × (taken_of v n ≤ length text)
-    × (Appends (contents old) (contents new) (drop (taken_of v n) text) × (later ≡ after_take v n (length text)))
-
-pub parts_number : {F : Type 0} → CallsGoOn → TakenStays → TakesJoin → (contents : F → Option (List ℕ)) (first v later : Seen) (start now : List F) (numbers : List ℕ) (place n : ℕ) (old new : F)
-    → TakesParts contents first start v now → numbers ≡ map (λ (p : PortRow). p.id) first.table.ports → slice_get numbers place ≡ Some n → slice_get now place ≡ Some old
-    → IfSome (port_row v.table n) (IsTakenOf contents v later old new n) → TakesParts contents first start later (set now place new)
-parts_number {F} calls stays joins contents first v later start now numbers place n old new was are at is_old known =
-    subst (λ (w : Seen). TakesParts contents first start w (set now place new)) (sym taken.3.1)
-    (parts_one calls stays joins contents first v start now place row.0 taken.0 old new was row.1 taken.1 is_old taken.3.0) where
-      row : (p : PortRow) × (slice_get first.table.ports place ≡ Some p) × (p.id ≡ n)
-      row = row_of_number first.table.ports place n (ap (λ ns. slice_get ns place) (sym are) ∙ at)
-
-      found : port_row v.table row.0.id ≡ Some row.0
-      found = ap (λ (c : Content). port_row c row.0.id) was.of.table ∙ row_found first.table.ports place row.0 was.of.rises row.1
-
-      taken : IsTakenOf contents v later old new row.0.id row.0
-      taken = subst (λ o. IfSome o (IsTakenOf contents v later old new row.0.id)) found (subst (λ m. IfSome (port_row v.table m) (IsTakenOf contents v later old new m)) (sym row.2) known)
 
 -- where no capture is waited for, all have ended
 pub ended_of : {R F : Type 0} (remaining : R → Option (List ℕ)) (contents : F → Option (List ℕ)) (v mid : Seen) (numbers : List ℕ) (readers now : List R) (files written : List F)

@@ -22,54 +22,90 @@ use Rattle.afdx_session.specs.Streams.{Stream, merged_so_far, frontier, sent_up_
 use Rattle.afdx_session.specs.Inner.Settled.{IsSettling, IsGiven, IsAt, HandsOut, Draws}
 use Rattle.afdx_session.specs.Inner.Lanes.{waiting_of}
 use Rattle.afdx_pcap.specs.Reading.{HasTaken}
-use Rattle.afdx_session.specs.Inner.Kept.{IsLaneOf, AreLanesOf, AreOfTable, come_to, text_up_to, IsOut, AreOut, Every, IsGoing, HasCome, IsRunning, IsTouched, IsGrown, AreGrown}
+use Rattle.afdx_session.specs.Inner.Kept.{IsLaneOf, AreLanesOf, AreOfTable, come_to, text_up_to, IsOutAt, IsOut, AreOut, Every, IsGoing, HasCome, IsRunning, IsTouched, IsGrown, AreGrown, IsDrawnOff, AreDrawnOff}
 use Rattle.afdx_session.proofs.Joining.{AllFrom}
 use Rattle.afdx_session.proofs.Settling.{all_prefix, all_back}
 use Rattle.afdx_session.proofs.Later.{same_sent, same_bytes}
 use Rattle.afdx_session.proofs.Handing.{its_place}
-use Rattle.afdx_session.proofs.Drawing.{goes_out}
+use Rattle.afdx_session.proofs.Drawing.{goes_out, takes_first}
 use Rattle.afdx_session.proofs.Going.{Early, lanes_early, get-set}
 use Rattle.afdx_session.proofs.Numbered.{set_here}
 
--- ---- lanes that have grown
+-- ---- lanes that have changed in their output alone
 
-pub grown_waiting : {Z : Type 0} (old new : List (Lane Z)) → AreGrown old new → map waiting_of new ≡ map waiting_of old
-grown_waiting [] [] grown = refl
-grown_waiting [] (n ∷ new) grown = absurd grown
-grown_waiting (l ∷ old) [] grown = absurd grown
-grown_waiting (l ∷ old) (n ∷ new) grown =
-    ap (λ w. record { port = n.port; records = w.items } ∷ map waiting_of new) grown.0.waiting
-    ∙ ap (λ m. record { port = m; records = l.waiting.items } ∷ map waiting_of new) grown.0.touched.port
-    ∙ ap (λ ws. waiting_of l ∷ ws) (grown_waiting old new grown.1)
+pub off_waiting : {Z : Type 0} (old new : List (Lane Z)) → AreDrawnOff old new → map waiting_of new ≡ map waiting_of old
+off_waiting [] [] off = refl
+off_waiting [] (n ∷ new) off = absurd off
+off_waiting (l ∷ old) [] off = absurd off
+off_waiting (l ∷ old) (n ∷ new) off =
+    ap (λ w. record { port = n.port; records = w.items } ∷ map waiting_of new) off.0.waiting
+    ∙ ap (λ m. record { port = m; records = l.waiting.items } ∷ map waiting_of new) off.0.alike.port
+    ∙ ap (λ ws. waiting_of l ∷ ws) (off_waiting old new off.1)
 
-pub grown_ports : {Z : Type 0} (old new : List (Lane Z)) → AreGrown old new → map (λ (l : Lane Z). l.port) new ≡ map (λ (l : Lane Z). l.port) old
-grown_ports [] [] grown = refl
-grown_ports [] (n ∷ new) grown = absurd grown
-grown_ports (l ∷ old) [] grown = absurd grown
-grown_ports {Z = Z} (l ∷ old) (n ∷ new) grown = ap (λ m. m ∷ map (λ (x : Lane Z). x.port) new) grown.0.touched.port ∙ ap (λ ms. l.port ∷ ms) (grown_ports old new grown.1)
+pub off_ports : {Z : Type 0} (old new : List (Lane Z)) → AreDrawnOff old new → map (λ (l : Lane Z). l.port) new ≡ map (λ (l : Lane Z). l.port) old
+off_ports [] [] off = refl
+off_ports [] (n ∷ new) off = absurd off
+off_ports (l ∷ old) [] off = absurd off
+off_ports {Z = Z} (l ∷ old) (n ∷ new) off = ap (λ m. m ∷ map (λ (x : Lane Z). x.port) new) off.0.alike.port ∙ ap (λ ms. l.port ∷ ms) (off_ports old new off.1)
 
-pub grown_length : {Z : Type 0} (old new : List (Lane Z)) → AreGrown old new → length new ≡ length old
-grown_length [] [] grown = refl
-grown_length [] (n ∷ new) grown = absurd grown
-grown_length (l ∷ old) [] grown = absurd grown
-grown_length (l ∷ old) (n ∷ new) grown = ap suc (grown_length old new grown.1)
+pub off_length : {Z : Type 0} (old new : List (Lane Z)) → AreDrawnOff old new → length new ≡ length old
+off_length [] [] off = refl
+off_length [] (n ∷ new) off = absurd off
+off_length (l ∷ old) [] off = absurd off
+off_length (l ∷ old) (n ∷ new) off = ap suc (off_length old new off.1)
 
-pub grown_lanes : {Z : Type 0} (old new : List (Lane Z)) (streams : List Stream) → AreGrown old new → AreLanesOf old streams → AreLanesOf new streams
-grown_lanes [] [] streams grown are = are
-grown_lanes [] (n ∷ new) streams grown are = absurd grown
-grown_lanes (l ∷ old) [] streams grown are = absurd grown
-grown_lanes (l ∷ old) (n ∷ new) [] grown are = absurd are
-grown_lanes (l ∷ old) (n ∷ new) (s ∷ streams) grown are = (lane grown.0 are.0, grown_lanes old new streams grown.1 are.1) where
-  lane : IsGrown l n → IsLaneOf l s → IsLaneOf n s
+off_lanes : {Z : Type 0} (old new : List (Lane Z)) (streams : List Stream) → AreDrawnOff old new → AreLanesOf old streams → AreLanesOf new streams
+off_lanes [] [] streams off are = are
+off_lanes [] (n ∷ new) streams off are = absurd off
+off_lanes (l ∷ old) [] streams off are = absurd off
+off_lanes (l ∷ old) (n ∷ new) [] off are = absurd are
+off_lanes (l ∷ old) (n ∷ new) (s ∷ streams) off are = (lane off.0 are.0, off_lanes old new streams off.1 are.1) where
+  lane : IsDrawnOff l n → IsLaneOf l s → IsLaneOf n s
   lane g is = record {
-    port = is.port ∙ sym g.touched.port;
-    ended = is.ended ∙ sym g.touched.ended;
+    port = is.port ∙ sym g.alike.port;
+    ended = is.ended ∙ sym g.alike.ended;
     read = record {
-      no_fault = ap (λ r. r.fault) g.touched.reader ∙ is.read.no_fault;
-      taken = subst (λ r. HasTaken (record { bytes = r.bytes; given = r.given }) s.records) (sym g.touched.reader) is.read.taken;
+      no_fault = ap (λ r. r.fault) g.alike.reader ∙ is.read.no_fault;
+      taken = subst (λ r. HasTaken (record { bytes = r.bytes; given = r.given }) s.records) (sym g.alike.reader) is.read.taken;
       last = g.last ∙ is.read.last;
     };
   }
+
+pub off_none : {Z : Type 0} (lanes : List (Lane Z)) → AreDrawnOff lanes lanes
+off_none [] = tt
+off_none (l ∷ lanes) = (record { alike = record { port = refl; reader = refl; ended = refl; undone = refl; closed = refl; ready = refl }; last = refl; waiting = refl }, off_none lanes)
+
+-- one more was drained
+pub off_on : {Z : Type 0} (start now : List (Lane Z)) (k : ℕ) (old new : Lane Z) → AreDrawnOff start now → slice_get start k ≡ Some old → IsDrawnOff old new → AreDrawnOff start (set now k new)
+off_on [] [] k old new off at one = tt
+off_on [] (n ∷ now) k old new off at one = absurd off
+off_on (l ∷ start) [] k old new off at one = absurd off
+off_on {Z = Z} (l ∷ start) (n ∷ now) zero old new off at one = (subst (λ (x : Lane Z). IsDrawnOff x new) (sym (same_Some l old at)) one, off.1)
+off_on (l ∷ start) (n ∷ now) (suc k) old new off at one = (off.0, off_on start now k old new off.1 at one)
+
+-- ---- lanes that have grown
+
+pub grown_off : {Z : Type 0} (old new : List (Lane Z)) → AreGrown old new → AreDrawnOff old new
+grown_off [] [] grown = tt
+grown_off [] (n ∷ new) grown = absurd grown
+grown_off (l ∷ old) [] grown = absurd grown
+grown_off (l ∷ old) (n ∷ new) grown = (one grown.0, grown_off old new grown.1) where
+  one : IsGrown l n → IsDrawnOff l n
+  one g = record {
+    alike = record {
+      port = g.touched.port;
+      reader = g.touched.reader;
+      ended = g.touched.ended;
+      undone = g.touched.undone;
+      closed = g.touched.closed;
+      ready = g.touched.ready;
+    };
+    last = g.last;
+    waiting = g.waiting;
+  }
+
+pub grown_length : {Z : Type 0} (old new : List (Lane Z)) → AreGrown old new → length new ≡ length old
+grown_length old new grown = off_length old new (grown_off old new grown)
 
 pub touched_none : {Z : Type 0} (l : Lane Z) → IsTouched l l
 touched_none l = record { port = refl; reader = refl; ended = refl; undone = refl; closed = refl; ready = refl; taken = refl; more = []; out = sym (append-nil l.out.items) }
@@ -133,15 +169,41 @@ port_of_lane (p ∷ ports) [] k l same at = absurd cc
 port_of_lane {Z = Z} (p ∷ ports) (m ∷ lanes) zero l same at = (p, refl, sym (ap (λ (ns : List ℕ). get_or ns 0 0) same) ∙ ap (λ (x : Lane Z). x.port) (same_Some m l at))
 port_of_lane {Z = Z} (p ∷ ports) (m ∷ lanes) (suc k) l same at = port_of_lane ports lanes k l (ap (drop 1) same) at
 
+-- the place of a lane's port is its own
+pub place_here : {Z : Type 0} (t : Content) (given : List Arrival) (k : ℕ) (s : State) (lanes : List (Lane Z)) (n : ℕ) (l : Lane Z) → AreOfTable t lanes → IsAt t given k s
+    → slice_get lanes n ≡ Some l → place_of s.run l.port ≡ Some n
+place_here t given k s lanes n l of at is_lane =
+    let row = port_of_lane t.ports lanes n l of.ports is_lane in
+    ap (λ (c : Content). position (λ (q : PortRow). q.id == l.port) c.ports) at.is_given.table
+    ∙ ap (λ m. position (λ (q : PortRow). q.id == m) t.ports) (sym row.2)
+    ∙ its_place t.ports n row.0 of.formed.ports_rise row.1
+
 differ_places : (m n : ℕ) (o : Option ℕ) → o ≡ Some n → (m ≡ n → ⊥) → o ≢ Some m
 differ_places m n o is differ same = differ (same_Some m n (sym same ∙ is))
 
-pub drained_on : {Z : Type 0} → SentGoesOn → ReachesInOrder → (t : Content) (given : List Arrival) (h k : ℕ) (s next : State) (lanes : List (Lane Z)) (n : ℕ) (old new : Lane Z)
+-- what the port at a place has not handed out goes behind what its lane has
+pub out_here : {Z : Type 0} → SentGoesOn → ReachesInOrder → (t : Content) (given : List Arrival) (h k : ℕ) (s next : State) (lanes : List (Lane Z)) (n : ℕ) (old : Lane Z) (after : List ℕ)
+    → AreOfTable t lanes → IsAt t given k s → h ≤ k → slice_get lanes n ≡ Some old
+    → ((place : ℕ) → place_of s.run old.port ≡ Some place → length given ≡ length s.run.rows → HasBytesOf given s → Draws given old.port place s next old.out.items after)
+    → next_by next.run (place_of next.run old.port) ≡ None → AreOut t given h s lanes (λ place. n ≤ place) → (p : PortRow) → slice_get t.ports n ≡ Some p
+    → IsOutAt t given k next p n old.taken after
+out_here {Z} goes_on reaches t given h k s next lanes n old after of at le is_old draws none rest p is_port =
+    let row = port_of_lane t.ports lanes n old of.ports is_old in
+    let place = place_here t given k s lanes n old of at is_old in
+    let long = sym (ap length at.is_given.rows ∙ length-map given _) in
+    let id : p.id ≡ old.port = ap (λ (q : PortRow). q.id) (same_Some p row.0 (sym is_port ∙ row.1)) ∙ row.2 in
+    goes_out goes_on reaches t given h k s next p n old.taken old.out.items after at le (ap (λ m. place_of s.run m) id ∙ place) is_port (rest n p old (omega arith) is_port is_old)
+    (subst (λ m. Draws given m n s next old.out.items after) (sym id) (draws n place long at.is_given.frames))
+    (ap (λ m. next_by next.run (place_of next.run m)) id ∙ none)
+
+-- of what then is there, the first may be taken at once
+pub drained_on : {Z : Type 0} → SentGoesOn → ReachesInOrder → (t : Content) (given : List Arrival) (h k : ℕ) (s next : State) (lanes : List (Lane Z)) (n : ℕ) (old new : Lane Z) (bytes : List ℕ)
     → AreOfTable t lanes → IsAt t given k s → h ≤ k
-    → slice_get lanes n ≡ Some old → new.taken ≡ old.taken → IsDrained old.port s next
-    → ((place : ℕ) → place_of s.run old.port ≡ Some place → length given ≡ length s.run.rows → HasBytesOf given s → Draws given old.port place s next old.out.items new.out.items)
+    → slice_get lanes n ≡ Some old → new.taken ≡ old.taken + length bytes → IsDrained old.port s next
+    → ((place : ℕ) → place_of s.run old.port ≡ Some place → length given ≡ length s.run.rows → HasBytesOf given s
+    → Draws given old.port place s next old.out.items (bytes ++ new.out.items))
     → next_by next.run (place_of next.run old.port) ≡ None → AreDrained t given h k s lanes n → AreDrained t given h k next (set lanes n new) (n + 1)
-drained_on {Z} goes_on reaches t given h k s next lanes n old new of at le is_old taken drained draws none was = record {
+drained_on {Z} goes_on reaches t given h k s next lanes n old new bytes of at le is_old taken drained draws none was = record {
   done = λ place p l lt is_port is_lane. elim (get-set lanes n place old new l is_old is_lane) [
     | inl same ↦ subst (λ (x : Lane Z). IsOut t given k next p place x) (sym same.1) (subst (λ m. IsOut t given k next p m new) (sym same.0) (here p (ap (slice_get t.ports) (sym same.0) ∙ is_port)))
     | inr other ↦ elim (cases_lt place n) [
@@ -157,28 +219,15 @@ drained_on {Z} goes_on reaches t given h k s next lanes n old new of at le is_ol
     | inr other ↦ stays place p l h (λ same. omega (arith, same, le_place)) (was.rest place p l (omega (arith, le_place)) is_port other)
   ];
 } where
-  row : (p : PortRow) × (slice_get t.ports n ≡ Some p) × (p.id ≡ old.port)
-  row = port_of_lane t.ports lanes n old of.ports is_old
-
-  place_is : place_of s.run old.port ≡ Some n
-  place_is =
-      ap (λ (c : Content). position (λ (q : PortRow). q.id == old.port) c.ports) at.is_given.table
-      ∙ ap (λ m. position (λ (q : PortRow). q.id == m) t.ports) (sym row.2)
-      ∙ its_place t.ports n row.0 of.formed.ports_rise row.1
-
-  long : length given ≡ length s.run.rows
-  long = sym (ap length at.is_given.rows ∙ length-map given _)
-
   here : (p : PortRow) → slice_get t.ports n ≡ Some p → IsOut t given k next p n new
   here p is_port =
-      let id : p.id ≡ old.port = ap (λ (q : PortRow). q.id) (same_Some p row.0 (sym is_port ∙ row.1)) ∙ row.2 in
-      goes_out goes_on reaches t given h k s next p n old new at le (ap (λ m. place_of s.run m) id ∙ place_is) is_port (was.rest n p old (omega arith) is_port is_old)
-      (subst (λ m. Draws given m n s next old.out.items new.out.items) (sym id) (draws n place_is long at.is_given.frames))
-      (ap (λ m. next_by next.run (place_of next.run m)) id ∙ none) taken
+      subst (λ m. IsOutAt t given k next p n m new.out.items) (sym taken)
+      (takes_first t given k next p n old.taken bytes new.out.items
+      (out_here goes_on reaches t given h k s next lanes n old (bytes ++ new.out.items) of at le is_old draws none was.rest p is_port))
 
   stays : (place : ℕ) (p : PortRow) (l : Lane Z) (m : ℕ) → (place ≡ n → ⊥) → IsOut t given m s p place l → IsOut t given m next p place l
   stays place p l m other out = record {
-    count = drained.others place (differ_places place n (place_of s.run old.port) place_is other) ∙ out.count;
+    count = drained.others place (differ_places place n (place_of s.run old.port) (place_here t given k s lanes n old of at is_old) other) ∙ out.count;
     taken = out.taken;
     left = out.left;
   }
@@ -212,17 +261,17 @@ hands_at t given k old new at hands = record {
 }
 
 -- what has left goes out
-pub drained_going : {Z : Type 0} (t : Content) (old new : List (Lane Z)) (s next : State) (counts : Tally) (going : IsGoing t old s counts) → AreGrown old new → HandsOut s next
+pub drained_going : {Z : Type 0} (t : Content) (old new : List (Lane Z)) (s next : State) (counts : Tally) (going : IsGoing t old s counts) → AreDrawnOff old new → HandsOut s next
     → AreOut t going.given s.run.latest next new Every → IsGoing t new next counts
-drained_going t old new s next counts going grown hands outs = record {
+drained_going t old new s next counts going off hands outs = record {
   streams = going.streams;
   given = going.given;
   since = s.run.latest;
-  lanes_are = grown_lanes old new going.streams grown going.lanes_are;
-  settling = subst (IsSettling going.streams going.given) (sym (grown_waiting old new grown)) going.settling;
+  lanes_are = off_lanes old new going.streams off going.lanes_are;
+  settling = subst (IsSettling going.streams going.given) (sym (off_waiting old new off)) going.settling;
   is_given = (hands_at t going.given s.run.latest s next (record { is_given = going.is_given; latest = refl }) hands).is_given;
   come = let same = hands.latest in omega (arith, same);
-  later = subst (λ ws. AllFrom next.run.latest (merged ws)) (sym (grown_waiting old new grown)) (subst (λ n. AllFrom n (merged (map waiting_of old))) (sym hands.latest) going.later);
+  later = subst (λ ws. AllFrom next.run.latest (merged ws)) (sym (off_waiting old new off)) (subst (λ n. AllFrom n (merged (map waiting_of old))) (sym hands.latest) going.later);
   until = let same = hands.latest in let le = going.until in omega (arith, same, le);
   counts_are = going.counts_are;
   few = going.few;
@@ -230,11 +279,18 @@ drained_going t old new s next counts going grown hands outs = record {
 }
 
 -- so all has gone out up to the frontier
-pub runs_on : {Z : Type 0} (t : Content) (old new : List (Lane Z)) (s next : State) (counts : Tally) (come : HasCome t old s counts) → AreGrown old new → HandsOut s next
+pub runs_on : {Z : Type 0} (t : Content) (old new : List (Lane Z)) (s next : State) (counts : Tally) (come : HasCome t old s counts) → AreDrawnOff old new → HandsOut s next
     → AreOut t come.going.given s.run.latest next new Every
     → IsRunning t new next counts
 unfolding drained_going
-runs_on t old new s next counts come grown hands outs = record { going = drained_going t old new s next counts come.going grown hands outs; out = λ some. come.at }
+runs_on t old new s next counts come off hands outs = record { going = drained_going t old new s next counts come.going off hands outs; out = λ some. come.at }
+
+-- of the same arrivals, up to where the switch is
+pub runs_with : {Z : Type 0} (t : Content) (old new : List (Lane Z)) (s next : State) (counts : Tally) (come : HasCome t old s counts) → AreDrawnOff old new → HandsOut s next
+    → AreOut t come.going.given s.run.latest next new Every
+    → (run : IsRunning t new next counts) × (run.going.given ≡ come.going.given) × (run.going.since ≡ s.run.latest)
+unfolding runs_on drained_going
+runs_with t old new s next counts come off hands outs = (runs_on t old new s next counts come off hands outs, refl, refl)
 
 -- ---- the bytes
 
@@ -286,6 +342,9 @@ text_is {Z} ordered stay reaches ends t lanes s counts run place p l of is_port 
 
 -- ---- the loop over the lanes
 
+none_more : (n : ℕ) → n ≡ n + length {A = ℕ} []
+none_more n = omega arith
+
 -- a lane with another output
 abbrev pub with_out : {Z : Type 0} → Vec ℕ Z → Lane Z → Lane Z
 with_out out l = record { port = l.port; reader = l.reader; last = l.last; ended = l.ended; waiting = l.waiting; out = out; undone = l.undone; closed = l.closed; ready = l.ready; taken = l.taken }
@@ -316,8 +375,9 @@ drains_one goes_on reaches start now next lanes new n old drained at grown is_dr
   hands = hands_on start now next old.port was.hands is_drained;
   grown = grown_on lanes new n old drained was.grown at grown;
   drained = λ t given h of is le outs.
-      drained_on goes_on reaches t given h start.run.latest now next new n old drained (record { formed = of.formed; ports = grown_ports lanes new was.grown ∙ of.ports })
-      (hands_at t given start.run.latest start now (record { is_given = is; latest = refl }) was.hands) le at grown.touched.taken is_drained (draws given) none (was.drained t given h of is le outs);
+      drained_on goes_on reaches t given h start.run.latest now next new n old drained [] (record { formed = of.formed; ports = off_ports lanes new (grown_off lanes new was.grown) ∙ of.ports })
+      (hands_at t given start.run.latest start now (record { is_given = is; latest = refl }) was.hands) le at (grown.touched.taken ∙ none_more old.taken) is_drained (draws given) none
+      (was.drained t given h of is le outs);
 }
 
 pub drains_all : {Z : Type 0} (start : State) (lanes : List (Lane Z)) (now : State) (new : List (Lane Z)) (n : ℕ) → length new ≤ n → DrainsUpTo start lanes now new n

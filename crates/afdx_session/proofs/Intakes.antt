@@ -14,7 +14,8 @@ use Rattle.afdx_session.specs.Session.{Intake, fed, closed_intake}
 use Rattle.afdx_session.specs.Inner.Settled.{IsSettling}
 use Rattle.afdx_session.specs.Streams.{Stream}
 use Rattle.afdx_session.specs.Inner.Lanes.{intake_of, waiting_of, IsStill}
-use Rattle.afdx_session.specs.Inner.Kept.{IsLaneOf, AreLanesOf, AreOfTable, text_up_to, IsGoing, IsRunning, IsTouched, AreTouched, AreGrown, IsMarked}
+use Rattle.afdx_session.specs.Inner.Kept.{IsLaneOf, AreLanesOf, AreOfTable, text_up_to, IsRunning, IsTouched, AreTouched, AreGrown, IsAlike, AreAlike, IsMarked}
+use Rattle.afdx_session.specs.Inner.Sources.{HasSameBytes, HaveSameBytes}
 use Rattle.afdx_session.specs.Inner.View.{IsHalfDone, AreHalfDone, IsSettledLane, AreSettledLanes, intakes_of}
 use Rattle.std.proofs.lemmas.List.{map-set}
 use Rattle.afdx_session.proofs.Gone.{touched_none, touched_both}
@@ -177,6 +178,34 @@ intakes_after begun lanes b c k new marked touched settled =
     ∙ map-set read_intake lanes k new
     ∙ ap (λ is. set is k (read_intake new)) (sym (marked_intakes begun lanes marked))
 
+-- lanes that are alike have the same bytes
+alike_intake : {Z : Type 0} (l n : Lane Z) → IsAlike l n → HasSameBytes (read_intake l) (read_intake n)
+unfolding read_intake
+alike_intake l n alike = record { port = alike.port; bytes = ap (λ r. r.bytes) alike.reader; closed = ap (λ r. r.closed) alike.reader }
+
+alike_intakes : {Z : Type 0} (a b : List (Lane Z)) → AreAlike a b → HaveSameBytes (map read_intake a) (map read_intake b)
+alike_intakes {Z} a b alike = (many a b alike, λ place i j at there. one a b place i j alike at there) where
+  many : (a b : List (Lane Z)) → AreAlike a b → length (map read_intake b) ≡ length (map read_intake a)
+  many [] [] alike = refl
+  many [] (n ∷ b) alike = absurd alike
+  many (l ∷ a) [] alike = absurd alike
+  many (l ∷ a) (n ∷ b) alike = ap suc (many a b alike.1)
+
+  one : (a b : List (Lane Z)) (place : ℕ) (i j : Intake) → AreAlike a b → slice_get (map read_intake a) place ≡ Some i → slice_get (map read_intake b) place ≡ Some j → HasSameBytes i j
+  one [] b place i j alike at there = absurd cc
+  one (l ∷ a) [] place i j alike at there = absurd alike
+  one (l ∷ a) (n ∷ b) zero i j alike at there =
+      subst (λ x. HasSameBytes x j) (same_Some (read_intake l) i at) (subst (HasSameBytes (read_intake l)) (same_Some (read_intake n) j there) (alike_intake l n alike.0))
+  one (l ∷ a) (n ∷ b) (suc place) i j alike at there = one a b place i j alike.1 at there
+
+-- so each intake but that of one place is as it was, but for what was taken
+pub bytes_after : {Z : Type 0} (begun : Bool) (lanes b c : List (Lane Z)) (k : ℕ) (new : Lane Z) → AllByRecursion (IsMarked begun) lanes → AreAlike (set lanes k new) b → AreSettledLanes b c
+    → HaveSameBytes (set (intakes_of lanes) k (read_intake new)) (intakes_of c)
+bytes_after begun lanes b c k new marked alike settled =
+    subst (HaveSameBytes (set (intakes_of lanes) k (read_intake new))) (sym (marked_intakes true c (settled_marked b c settled) ∙ settled_read b c settled))
+    (subst (λ is. HaveSameBytes is (map read_intake b)) (map-set read_intake lanes k new ∙ ap (λ is. set is k (read_intake new)) (sym (marked_intakes begun lanes marked)))
+    (alike_intakes (set lanes k new) b alike))
+
 pub fed_intake : {Z : Type 0} (begun : Bool) (old new : Lane Z) (piece : List ℕ) → IsMarked begun old → new.port ≡ old.port → new.reader.bytes ≡ old.reader.bytes ++ piece → new.reader.closed
     ≡ old.closed → new.taken ≡ old.taken → read_intake new ≡ fed piece (intake_of old)
 unfolding read_intake
@@ -218,7 +247,7 @@ settled_lanes (l ∷ a) (m ∷ b) (s ∷ streams) settled are = (lane settled.0 
     };
   }
 
-settled_at : {Z : Type 0} (a b : List (Lane Z)) (k : ℕ) (m : Lane Z) → AreSettledLanes a b → slice_get b k ≡ Some m → (l : Lane Z) × (slice_get a k ≡ Some l) × IsSettledLane l m
+pub settled_at : {Z : Type 0} (a b : List (Lane Z)) (k : ℕ) (m : Lane Z) → AreSettledLanes a b → slice_get b k ≡ Some m → (l : Lane Z) × (slice_get a k ≡ Some l) × IsSettledLane l m
 settled_at [] [] k m settled at = absurd cc
 settled_at [] (n ∷ b) k m settled at = absurd settled
 settled_at (l ∷ a) [] k m settled at = absurd settled
@@ -234,27 +263,31 @@ settled_length (l ∷ a) (n ∷ b) settled = ap suc (settled_length a b settled.
 pub running_settled : {Z : Type 0} (t : Content) (a b : List (Lane Z)) (s : State) (counts : Tally) → AreSettledLanes a b → IsRunning t a s counts → IsRunning t b s counts
 running_settled t a b s counts settled run = record {
   going = record {
-    streams = going.streams;
-    given = going.given;
-    since = going.since;
-    lanes_are = settled_lanes a b going.streams settled going.lanes_are;
-    settling = subst (IsSettling going.streams going.given) (sym (settled_waiting a b settled)) going.settling;
-    is_given = going.is_given;
-    come = going.come;
-    later = subst (λ ws. AllByRecursion (λ x. s.run.latest ≤ x.frame.stamp) (merged ws)) (sym (settled_waiting a b settled)) going.later;
-    until = going.until;
-    counts_are = going.counts_are;
-    few = going.few;
+    streams = run.going.streams;
+    given = run.going.given;
+    since = run.going.since;
+    lanes_are = settled_lanes a b run.going.streams settled run.going.lanes_are;
+    settling = subst (IsSettling run.going.streams run.going.given) (sym (settled_waiting a b settled)) run.going.settling;
+    is_given = run.going.is_given;
+    come = run.going.come;
+    later = subst (λ ws. AllByRecursion (λ x. s.run.latest ≤ x.frame.stamp) (merged ws)) (sym (settled_waiting a b settled)) run.going.later;
+    until = run.going.until;
+    counts_are = run.going.counts_are;
+    few = run.going.few;
     outs = λ place p m in_all is_port is_lane.
         let l = settled_at a b place m settled is_lane in
-        let was = going.outs place p l.0 tt is_port l.1 in
+        let was = run.going.outs place p l.0 tt is_port l.1 in
         record {
           count = was.count;
-          taken = subst (λ n. n ≤ length (text_up_to t going.given going.since p)) (sym l.2.taken) was.taken;
-          left = ap (λ o. o.items) l.2.out ∙ was.left ∙ ap (λ n. drop n (text_up_to t going.given going.since p)) (sym l.2.taken);
+          taken = subst (λ n. n ≤ length (text_up_to t run.going.given run.going.since p)) (sym l.2.taken) was.taken;
+          left = ap (λ o. o.items) l.2.out ∙ was.left ∙ ap (λ n. drop n (text_up_to t run.going.given run.going.since p)) (sym l.2.taken);
         };
   };
   out = λ some. run.out (subst (λ n. 0 < n) (settled_length a b settled) some);
-} where
-  going : IsGoing t a s counts
-  going = run.going
+}
+
+-- of the same arrivals, up to the same instant
+pub settled_with : {Z : Type 0} (t : Content) (a b : List (Lane Z)) (s : State) (counts : Tally) → AreSettledLanes a b → (was : IsRunning t a s counts)
+    → (run : IsRunning t b s counts) × (run.going.given ≡ was.going.given) × (run.going.since ≡ was.going.since)
+unfolding running_settled
+settled_with t a b s counts settled was = (running_settled t a b s counts settled was, refl, refl)

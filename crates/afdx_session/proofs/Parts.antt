@@ -4,8 +4,8 @@ use Rattle.std.proofs.Common.{refl, ap, sym, ◌∙◌, arith, subst, append_ass
 use Rattle.std.specs.List.{AllByRecursion}
 use Rattle.std.specs.Io.KnownBytes.{Appends}
 use Rattle.std.proofs.KnownBytes.{Appends-nil, Appends-trans}
-use Rattle.std.proofs.Math.Seq.{take-append_seam, drop-append_seam}
-use Rattle.std.proofs.lemmas.List.{drop-drop, length-append, length-drop, length-map, length-take-le, take-append-drop}
+use Rattle.std.proofs.Math.Seq.{take-append_seam}
+use Rattle.std.proofs.lemmas.List.{length-drop, length-map}
 use Rattle.std.proofs.lemmas.Option.{same_Some, slice_get-map}
 use Rattle.afdx_pcap.specs.Reading.{HasTaken}
 use Rattle.afdx_table.specs.declared.rows.PortRow.{PortRow}
@@ -26,11 +26,12 @@ use Rattle.afdx_session.specs.Streams.{Stream}
 use Rattle.afdx_session.specs.Inner.Settled.{IsSettling}
 use Rattle.afdx_session.specs.Inner.Lanes.{waiting_of}
 use Rattle.afdx_session.specs.Inner.Lent.{IsOver, texts_over, taken_by, left_of, left_in, IsCarrying, CarriesOn, HandsOn}
-use Rattle.afdx_session.specs.Inner.Kept.{IsLaneOf, AreLanesOf, AreOfTable, text_up_to, IsOut, IsGoing, IsOfSameTable}
+use Rattle.afdx_session.specs.Inner.Kept.{IsLaneOf, AreLanesOf, AreOfTable, text_up_to, IsOutAt, IsOut, IsGoing, IsOfSameTable}
 use Rattle.afdx_session.specs.Inner.View.{AreFreshLanes}
 use Rattle.afdx_session.specs.Inner.Files.{HandsOver, HavePrefixes, HaveMore, PutsOut, Proceeds, HasWritten}
 use Rattle.afdx_session.proofs.Bounded.{text_bound}
 use Rattle.afdx_session.proofs.Carrying.{texts_set}
+use Rattle.afdx_session.proofs.Drawing.{takes_first}
 use Rattle.afdx_session.proofs.Ending.{TakenAreTheCapture}
 use Rattle.afdx_session.proofs.Going.{get-set}
 use Rattle.afdx_session.proofs.Gone.{port_of_lane}
@@ -52,9 +53,6 @@ taken_on (suc n) [] rest bytes left le same = absurd (omega (arith, le))
 taken_on (suc n) (x ∷ text) rest bytes left le same =
     ap (λ xs. x ∷ xs) (taken_on n text rest bytes left (omega (arith, le)) same)
     ∙ (let e : suc (n + length bytes) ≡ suc n + length bytes = omega arith in ap (λ k. take k (x ∷ (text ++ rest))) e)
-
-left_behind : (n : ℕ) (text bytes left : List ℕ) → drop n text ≡ bytes ++ left → left ≡ drop (n + length bytes) text
-left_behind n text bytes left same = sym (drop-append_seam bytes left) ∙ ap (drop (length bytes)) (sym same) ∙ drop-drop (length bytes) n text
 
 -- ---- a lane hands over what it has
 
@@ -106,20 +104,8 @@ lanes_still (l ∷ lanes) (s ∷ streams) (suc k) bytes old new at hands are = (
 out_on : {Z : Type 0} (t : Content) (given : List Arrival) (h : ℕ) (s : State) (p : PortRow) (place : ℕ) (bytes : List ℕ) (old new : Lane Z) → HandsOver bytes old new
     → IsOut t given h s p place old → IsOut t given h s p place new
 out_on t given h s p place bytes old new hands out =
-    let text = text_up_to t given h p in
-    let behind : new.out.items ≡ drop (old.taken + length bytes) text = left_behind old.taken text bytes new.out.items (sym out.left ∙ hands.out) in
-    let within : old.taken + length bytes ≤ length text = is_within old.taken text bytes new.out.items out.taken (sym out.left ∙ hands.out) in
-    record {
-      count = out.count;
-      taken = subst (λ n. n ≤ length text) (sym hands.taken) within;
-      left = behind ∙ ap (λ n. drop n text) (sym hands.taken);
-    } where
-      is_within : (n : ℕ) (text bytes left : List ℕ) → n ≤ length text → drop n text ≡ bytes ++ left → n + length bytes ≤ length text
-      is_within n text bytes left le same =
-          let whole = ap length (sym (take-append-drop n text)) ∙ length-append (take n text) (drop n text) in
-          let first = length-take-le n text le in
-          let rest = ap length same ∙ length-append bytes left in
-          omega (arith, whole, first, rest)
+    subst (λ n. IsOutAt t given h s p place n new.out.items) (sym hands.taken)
+    (takes_first t given h s p place old.taken bytes new.out.items (subst (IsOutAt t given h s p place old.taken) hands.out out))
 
 going_on : {Z : Type 0} (t : Content) (lanes : List (Lane Z)) (s : State) (counts : Tally) (k : ℕ) (bytes : List ℕ) (old new : Lane Z) → slice_get lanes k ≡ Some old → HandsOver bytes old new
     → IsGoing t lanes s counts → IsGoing t (set lanes k new) s counts

@@ -4,6 +4,7 @@ pub mod Kept
 pub mod Lanes
 pub mod Lent
 pub mod OneMerge
+pub mod Parts
 pub mod Pieces
 pub mod Readable
 pub mod Replay

@@ -10,17 +10,18 @@ ghost use Rattle.afdx_core.specs.Held.{not_of_memory, IsTaken, Keeps};
 ghost use Rattle.afdx_core.specs.Rows.{row_of};
 ghost use Rattle.afdx_core.specs.State.{refusal_of, fresh_state, after_finish};
 ghost use Rattle.afdx_count.specs.Tally.{noted, fresh, ended_tally};
-ghost use Rattle.afdx_session.specs.Inner.Kept.{AreOfTable, AreTouched, IsOfSameTable, IsGoing, IsRunning, come_to};
+ghost use Rattle.afdx_session.specs.Inner.Kept.{AreOfTable, AreTouched, IsOfSameTable, IsGoing, HasCome, IsRunning, come_to};
 ghost use Rattle.afdx_session.specs.Inner.Lanes.{limit_at, heads_of, NoneGoes, IsLimit};
 ghost use Rattle.afdx_session.specs.Inner.Lent.{texts_over, taken_by, left_in, IsOneFault, IsCarrying, CarriesOn, HandsOn, HaveGone};
 ghost use Rattle.afdx_session.specs.Inner.Files.{PutsOut, Proceeds, HasEndedInto};
+ghost use Rattle.afdx_session.specs.Inner.Parts.{RunsInto, IsFedInto, IsEndedInto, StopsAt};
 ghost use Rattle.std.specs.List.{AllByRecursion};
 ghost use Rattle.afdx_session.specs.Inner.View.{IsRound, IsReady, IsOpenAt, IsFed, IsNotFed, IsEnded, IsNotEnded, OthersStay, AreSettledLanes, AreFreshLanes, AreHalfDone, AreEndedLanes, AreLent, texts_at};
 ghost use Rattle.afdx_session.specs.Texts.{texts_of, AreOfPorts};
 ghost use Rattle.afdx_session.specs.Reading.{IsReadFault};
 
 use crate::check::check_texts;
-use crate::drain::drain_all;
+use crate::drain::{drain_all, drain_into};
 use crate::lane::{
     Lane, head_of, heads_of, lanes_of, latest_of, limit_of, look_ahead, take_settled,
 };
@@ -203,6 +204,24 @@ impl<'a, A: Allocator + Copy> Machine<'a, A> {
         Ok(())
     }
 
+    /// What is settled goes to the switch, which comes to the frontier. O(ports), and O(1) for each record that goes, beside the
+    /// switch's own work.
+    fn reach_frontier(&mut self) -> Result<(), AllocError>
+        requires of { AreOfTable self.old.switch.run.table self.old.lanes.items }
+        requires going { IsGoing self.old.switch.run.table self.old.lanes.items self.old.switch self.old.counts }
+        ensures touched { AreTouched self.old.lanes.items self.new.lanes.items }
+        ensures same { IsOfSameTable self.old.switch self.new.switch }
+        ensures ok { OnOk result (HasCome self.new.switch.run.table self.new.lanes.items self.new.switch self.new.counts) }
+    {
+        by_stamp_is_ordered();
+        self.give_settled()?;
+        let frontier = instant_of(limit_of(&self.lanes));
+        if self.switch.advance(frontier).is_err() {
+            unreachable!();
+        }
+        Ok(())
+    }
+
     /// What is settled goes to the switch, which comes to the frontier; what then has left goes out.
     ///
     /// O(ports), O(1) for each record that goes, and O(bytes) of what goes out, beside the switch's own work.
@@ -214,13 +233,40 @@ impl<'a, A: Allocator + Copy> Machine<'a, A> {
         ensures same { IsOfSameTable self.old.switch self.new.switch }
         ensures ok { OnOk result (IsRunning self.new.switch.run.table self.new.lanes.items self.new.switch self.new.counts) }
     {
-        by_stamp_is_ordered();
-        self.give_settled()?;
-        let frontier = instant_of(limit_of(&self.lanes));
-        if self.switch.advance(frontier).is_err() {
-            unreachable!();
-        }
+        self.reach_frontier()?;
         drain_all(&mut self.switch, &mut self.lanes)
+    }
+
+    /// All that has left goes out to the lanes, and from there to the files of the ports, in parts.
+    fn drain_into_files<F: NewFile>(&mut self, files: &mut [F]) -> Result<(), AllocError>
+        requires of { AreOfTable self.old.switch.run.table self.old.lanes.items }
+        requires handed { length self.old.switch.run.handed ≡ length self.old.switch.run.table.ports }
+        requires come { HasCome self.old.switch.run.table self.old.lanes.items self.old.switch self.old.counts }
+        requires files { length files.old ≡ length self.old.lanes.items }
+        ensures ok { OnOk result (RunsInto F.contents self.old files.old self.new files.new) }
+    {
+        by_stamp_is_ordered();
+        stamps_keep_their_order();
+        sent_goes_on();
+        for place in 0..self.lanes.len() {
+            drain_into(&mut self.switch, &mut self.lanes[place], &mut files[place])?;
+        }
+        Ok(())
+    }
+
+    /// Goes on as [`Machine::go_on`] does; of what goes out, what is a part at least goes to the files of the ports.
+    ///
+    /// After a gap of the traffic all that waited at the ports may go out at once. So each port is drained in parts: no text has
+    /// more than one, however much it is.
+    fn go_on_into<F: NewFile>(&mut self, files: &mut [F]) -> Result<(), AllocError>
+        requires of { AreOfTable self.old.switch.run.table self.old.lanes.items }
+        requires going { IsGoing self.old.switch.run.table self.old.lanes.items self.old.switch self.old.counts }
+        requires handed { length self.old.switch.run.handed ≡ length self.old.switch.run.table.ports }
+        requires files { length files.old ≡ length self.old.lanes.items }
+        ensures ok { OnOk result (RunsInto F.contents self.old files.old self.new files.new) }
+    {
+        self.reach_frontier()?;
+        self.drain_into_files(files)
     }
 
     /// All that was read so far counts.
@@ -270,6 +316,53 @@ impl<'a, A: Allocator + Copy> Machine<'a, A> {
         merged_is_by_stamp_and_port();
         self.lanes[place].close()?;
         self.go_on()?;
+        self.settle();
+        Ok(())
+    }
+
+    /// The next piece comes to the lane at a place; of what goes out, what is a part at least goes to the files of the ports.
+    pub(crate) fn feed_into<F: NewFile>(
+        &mut self,
+        place: usize,
+        piece: &[u8],
+        files: &mut [F],
+    ) -> Result<(), RunFault>
+        requires of { AreOfTable self.old.switch.run.table self.old.lanes.items }
+        requires handed { length self.old.switch.run.handed ≡ length self.old.switch.run.table.ports }
+        requires ready { (begun : Bool) × IsReady self.old begun }
+        requires still_open { (port : ℕ) × IsOpenAt self.old.lanes.items port place }
+        requires files { length files.old ≡ length self.old.lanes.items }
+        ensures ok { OnOk result (IsFedInto F.contents self.old files.old self.new files.new place piece.now) }
+        ensures err { IfErr result (λ fault. StopsAt self.old.lanes.items self.new.lanes.items place fault (IsNotFed self.old.lanes.items self.new.lanes.items place piece.now fault)) }
+    {
+        by_stamp_is_ordered();
+        merged_is_a_merge();
+        merged_is_by_stamp_and_port();
+        self.lanes[place].feed(piece)?;
+        self.go_on_into(files)?;
+        self.settle();
+        Ok(())
+    }
+
+    /// The capture of the lane at a place ends; of what goes out, what is a part at least goes to the files of the ports.
+    pub(crate) fn close_into<F: NewFile>(
+        &mut self,
+        place: usize,
+        files: &mut [F],
+    ) -> Result<(), RunFault>
+        requires of { AreOfTable self.old.switch.run.table self.old.lanes.items }
+        requires handed { length self.old.switch.run.handed ≡ length self.old.switch.run.table.ports }
+        requires ready { (begun : Bool) × IsReady self.old begun }
+        requires still_open { (port : ℕ) × IsOpenAt self.old.lanes.items port place }
+        requires files { length files.old ≡ length self.old.lanes.items }
+        ensures ok { OnOk result (IsEndedInto F.contents self.old files.old self.new files.new place) }
+        ensures err { IfErr result (λ fault. StopsAt self.old.lanes.items self.new.lanes.items place fault (IsNotEnded self.old.lanes.items self.new.lanes.items place fault)) }
+    {
+        by_stamp_is_ordered();
+        merged_is_a_merge();
+        merged_is_by_stamp_and_port();
+        self.lanes[place].close()?;
+        self.go_on_into(files)?;
         self.settle();
         Ok(())
     }

@@ -6,7 +6,7 @@ ghost use Rattle.afdx_session.specs.Outcome.{table_in};
 ghost use Rattle.afdx_session.specs.Texts.{Text};
 ghost use Rattle.afdx_session.specs.Sources.{AreRead, IsSourceFault};
 ghost use Rattle.afdx_session.specs.Written.{IsWritten};
-ghost use Rattle.afdx_session.specs.Inner.Sources.{IsOfBytes, source_fault, IsOfTable, IsNextAt, AreReadUpTo, AreAtEnd, ReadsOn, TakesParts, GoesOnReading};
+ghost use Rattle.afdx_session.specs.Inner.Sources.{IsOfBytes, source_fault, IsOfTable, IsNextAt, AreReadUpTo, AreAtEnd, ReadsOn, GoesOnReading};
 ghost use Rattle.afdx_session.specs.Inner.Stop.{IsStopSince};
 
 use crate::laws::takes_join_to_the_output;
@@ -94,23 +94,26 @@ fn next_place<A: Allocator + Copy>(session: &Session<A>, ports: &[u8]) -> Option
     Some((place, port))
 }
 
-/// One more read of the capture at a place, which holds back the output: what it gives goes to the session. Whether any is still to be
-/// made; at the end of the last capture that has not ended, which the session is to end itself, none is.
-fn read_on<A: Allocator + Copy, R: Read>(
+/// One more read of the capture at a place, which holds back the output: what it gives goes to the session, and of what then goes out,
+/// what is a part at least goes to the files. Whether any read is still to be made; at the end of the last capture that has not ended,
+/// which the session is to end itself, none is.
+fn read_on<A: Allocator + Copy, R: Read, F: NewFile>(
     session: Session<A>,
     ports: &[u8],
     place: usize,
     port: u8,
     readers: &mut [R],
+    files: &mut [F],
     piece: &mut [u8],
 ) -> Result<(Session<A>, bool), Stop<A>>
     requires of { IsOfTable session.table session }
     requires ports { ports.now ≡ map (λ p. p.id) session.table.ports }
     requires next { IsNextAt session ports.now place port }
     requires readers { length readers.old ≡ length ports.now }
+    requires files { length files.old ≡ length ports.now }
     requires room { 0 < length piece.old }
     ensures room { length piece.new ≡ length piece.old }
-    ensures ok { IfOk result (λ both. ReadsOn R.remaining session readers.old both.1 both.0 readers.new) }
+    ensures ok { IfOk result (λ both. ReadsOn R.remaining F.contents session readers.old files.old both.1 both.0 readers.new files.new) }
     ensures err { IfErr result (λ why. IsStopSince R.remaining session readers.old readers.new why) }
 {
     takes_join_to_the_output();
@@ -119,12 +122,12 @@ fn read_on<A: Allocator + Copy, R: Read>(
             if session.is_last(port) {
                 return Ok((session, false));
             }
-            match session.close_on(port) {
+            match session.close_into(port, files) {
                 Ok(session) => Ok((session, true)),
                 Err((fault, lanes)) => Err(stop_of(place, fault, lanes)),
             }
         }
-        Ok(count) => match session.feed_on(port, &piece[..count]) {
+        Ok(count) => match session.feed_into(port, &piece[..count], files) {
             Ok(session) => Ok((session, true)),
             Err((fault, lanes)) => Err(stop_of(place, fault, lanes)),
         },
@@ -137,33 +140,7 @@ fn read_on<A: Allocator + Copy, R: Read>(
     }
 }
 
-/// What has gone out for the port at a place and was not taken goes to its file; nothing where there is no such place.
-fn take_at<A: Allocator + Copy, F: NewFile>(
-    session: &mut Session<A>,
-    ports: &[u8],
-    files: &mut [F],
-    place: usize,
-) -> Result<(), AllocError>
-    requires of { IsOfTable session.old.table session.old }
-    requires ports { ports.now ≡ map (λ p. p.id) session.old.table.ports }
-    requires files { length files.old ≡ length ports.now }
-    ensures { OnOk result (TakesParts F.contents session.old files.old session.new files.new) }
-{
-    takes_join_to_the_output();
-    if place < ports.len() {
-        session.take_into(ports[place], &mut files[place])?;
-    }
-    Ok(())
-}
-
-/// The place after this one, and 0 after the last.
-fn place_after(place: usize, count: usize) -> usize {
-    let next = place.saturating_add(1);
-    if next < count { next } else { 0 }
-}
-
-/// All captures are read to their ends, and but for the last they have ended. What has gone out goes to the files, of one port after
-/// each read in turn, so that a part is some pieces long.
+/// All captures are read to their ends, and but for the last they have ended. What goes out goes to the files, in parts.
 fn read_all<A: Allocator + Copy, R: Read, F: NewFile>(
     start: Session<A>,
     ports: &[u8],
@@ -181,22 +158,16 @@ fn read_all<A: Allocator + Copy, R: Read, F: NewFile>(
         × ((first : List R) → AreReadUpTo R.remaining start first readers.old → AreAtEnd R.remaining readers.new)) }
     ensures err { IfErr result (λ why. IsStopSince R.remaining start readers.old readers.new why) }
 {
-    takes_join_to_the_output();
     let mut session = start;
-    let mut place = 0;
     for _turn in 0..u64::MAX {
-        let Some((next, port)) = next_place(&session, ports) else {
+        let Some((place, port)) = next_place(&session, ports) else {
             return Ok(session);
         };
         let more;
-        (session, more) = read_on(session, ports, next, port, readers, piece)?;
+        (session, more) = read_on(session, ports, place, port, readers, files, piece)?;
         if !more {
             return Ok(session);
         }
-        if take_at(&mut session, ports, files, place).is_err() {
-            return Err(Stop::Memory);
-        }
-        place = place_after(place, ports.len());
     }
     match next_place(&session, ports) {
         Some((next, _)) => Err(Stop::Read(next)),

@@ -1,29 +1,36 @@
 -- What a row needs grows with the jitters of a network.
-use Rattle.std.proofs.Common.{◌≡◌, ℕ, zero, suc, ◌+◌, ◌-◌, ◌*◌, ◌/◌, ◌%◌, ◌≤◌, ◌<◌, Bool, true, false, cond, nat_le, List, [], ◌∷◌, length, slice_get}
-use Rattle.std.proofs.Common.{Option, Some, None, option_map, option_and_then, refl, ap, sym, ◌∙◌, arith, subst}
+use Rattle.std.proofs.Common.{◌≡◌, ℕ, zero, suc, ◌+◌, ◌-◌, ◌*◌, ◌/◌, ◌%◌, ◌≤◌, ◌<◌, Bool, true, false, cond, nat_le, List, [], ◌∷◌, find, length, slice_get}
+use Rattle.std.proofs.Common.{Option, Some, None, is_some, option_map, option_and_then, refl, ap, sym, ◌∙◌, arith, subst}
 use Rattle.std.specs.Prelude.{All}
 use Rattle.std.proofs.lemmas.Bool.Decides.{nat_tests}
 use Rattle.std.proofs.lemmas.Option.{same_Some}
 use Rattle.afdx_units.specs.declared.line.Speed.{Speed}
 use Rattle.afdx_units.specs.declared.line.Speed.TheVariants.{Ten, Hundred, Thousand}
 use Rattle.afdx_units.specs.Line.{cost_of}
+use Rattle.afdx_account.specs.Policing.{parts}
 use Rattle.afdx_table.specs.Link.{Link, leads_to}
 use Rattle.afdx_table.specs.Content.{Content, port_row}
 use Rattle.afdx_table.specs.WellFormed.{IsWellFormed}
 use Rattle.afdx_table.specs.Inner.Found.{LinksAreFound}
 use Rattle.afdx_table.specs.declared.rows.PortRow.{PortRow}
+use Rattle.afdx_grouping.specs.Groups.{lesser_load}
+use Rattle.afdx_grouping.specs.Laws.{NoMoreIsPaidFor, LesserCurvesNeedLess}
 use Rattle.afdx_load.specs.Load.{load_of}
 use Rattle.afdx_load.specs.Bounds.{bounds_of}
 use Rattle.afdx_series.specs.declared.delays.Delays.{Delays}
 use Rattle.afdx_series.specs.Delay.{hop_of, joined, at_once, IsEnough}
-use Rattle.afdx_wiring.specs.Net.{Network, Row, Back, row_at, bound_in, IsWayBack, source_of, AreDelays}
+use Rattle.afdx_wiring.specs.declared.layout.End.{End}
+use Rattle.afdx_wiring.specs.declared.layout.Wire.{Wire}
+use Rattle.afdx_wiring.specs.File.{Layout, is_end}
+use Rattle.afdx_wiring.specs.Net.{Network, Row, Back, row_at, port_at, is_wired, bound_in, IsWayBack, source_of, AreDelays}
 use Rattle.afdx_wiring.specs.Order.{most_rows, within_reason, hop_from, hop_on, way_by, way_within}
-use Rattle.afdx_wiring.specs.Needs.{DiffersInJitters, needed}
+use Rattle.afdx_wiring.specs.Needs.{DiffersInJitters, KeepsToLines, needed}
 use Rattle.afdx_wiring.proofs.Enough.{from_port}
 use Rattle.afdx_wiring.proofs.FeedLemmas.{before_is}
-use Rattle.afdx_wiring.proofs.LoadOrder.{load_grows, bound_before}
+use Rattle.afdx_wiring.proofs.LoadOrder.{bound_before}
+use Rattle.afdx_wiring.proofs.LesserOrder.{lesser_grows}
 use Rattle.afdx_wiring.proofs.Alike.{Pair, paired, same_port, all_at, Below, links_grow}
-use Rattle.afdx_wiring.proofs.Reaching.{same_wire}
+use Rattle.afdx_wiring.proofs.Reaching.{same_wire, rate_there}
 
 least_cost : (speed : Speed) → cost_of speed 64 ≤ 67200
 least_cost Ten = omega arith
@@ -32,10 +39,10 @@ least_cost Thousand = omega arith
 
 -- what a hop is where its bound is known
 hop_there : (net : Network) (c : Row) (port cable : ℕ) (t : Content) (p : PortRow) (x : ℕ) → slice_get net.tables c.switch ≡ Some t → port_row t port ≡ Some p
-    → bound_in (bounds_of (load_of t.latency p.speed p.id t.links)) c.link.priority ≡ Some x
+    → bound_in (bounds_of (lesser_load (is_wired net c.switch) t p)) c.link.priority ≡ Some x
     → hop_on net c port cable ≡ option_map (λ (n : ℕ). hop_of p.speed t.latency n cable) (within_reason x)
 hop_there net c port cable t p x t_is p_is x_is =
-    ap (option_and_then (hop_from c port cable)) t_is ∙ ap (from_port t c cable) p_is
+    ap (option_and_then (hop_from (is_wired net c.switch) c port cable)) t_is ∙ ap (from_port (is_wired net c.switch) t c cable) p_is
     ∙ ap (λ (o : Option ℕ). option_map (λ (n : ℕ). hop_of p.speed t.latency n cable) (option_and_then within_reason o)) x_is
 
 -- what a walk back found over at most n rows, beside a way back that takes so long: no more; or nothing, since a bound is past reason
@@ -49,6 +56,12 @@ pub record Compared (n : ℕ) (far : Option (ℕ × Delays)) (first : ℕ) (d af
 
 pub record Growing (net other : Network) : Type 0 where
   pub links : LinksAreFound
+  pub once : NoMoreIsPaidFor
+  pub less : LesserCurvesNeedLess
+  -- a network that keeps to its lines, from which they differ in jitters alone
+  pub origin : Network
+  pub from_origin : DiffersInJitters origin net
+  pub lines : KeepsToLines origin
   pub differs : DiffersInJitters net other
   pub here : All IsWellFormed net.tables
   pub there : All IsWellFormed other.tables
@@ -97,6 +110,20 @@ stops n far first first' d before after after' speed latency cable x y h past re
 
 pub flipped : (net other : Network) (switch id : ℕ) (r s : Row) → row_at net switch id ≡ Some r → Pair net other switch id r s → Pair other net switch id s r
 flipped net other switch id r s is pair = record { here = pair.there; there = pair.here; there_is = is; tables = sym pair.tables; links = sym pair.links }
+
+-- the same ports have a wire
+same_wired : (net other : Network) → DiffersInJitters net other → (here there : ℕ) → there ≡ here → is_wired other there ≡ is_wired net here
+same_wired net other differs here there place =
+    ap (λ (l : Layout). λ (port : ℕ). is_some (find (λ (w : Wire). is_end w.to (record { switch = there; port = port })) l.wires)) differs.0 ∙ ap (is_wired net) place
+
+kept_rate : (net other : Network) → Growing net other → (e : End) (id : ℕ) (c : Row) (t : Content) → row_at net e.switch id ≡ Some c → slice_get net.tables e.switch ≡ Some t → (p : PortRow)
+    → port_at net e ≡ Some p → (load_of t.latency p.speed p.id t.links).rate ≤ parts
+kept_rate net other set e id c t c_is t_is p port =
+    let back = paired net set.origin (sym set.from_origin.0, sym set.from_origin.1) e.switch id c c_is in
+    let pair = flipped net set.origin e.switch id c back.0 c_is back.1 in
+    let same : pair.there.table ≡ t = same_Some pair.there.table t (sym pair.there.table_is ∙ t_is) in
+    subst (λ (q : Content). (load_of q.latency p.speed p.id q.links).rate ≤ parts) same
+    (rate_there set.origin net set.lines e id back.0 c pair p (same_port net set.origin (sym set.from_origin.0, sym set.from_origin.1) e p port))
 
 compare : (net other : Network) → Growing net other → (n switch id : ℕ) (r s : Row) → row_at net switch id ≡ Some r → Pair net other switch id r s → (backs : List Back) (d : Delays)
     → IsWayBack other s backs → AreDelays other backs d → length backs < n → (after : Delays) → Compared n (way_within n net r after) (source_of s backs).link.jitter d after
@@ -161,17 +188,20 @@ compare net other set (suc n) switch id r s r_is pair (b ∷ more) d way are few
           let same_u : are.0 ≡ pair_c.there.table = same_Some are.0 pair_c.there.table (sym are.4 ∙ u_is) in
           let latency : pair_c.there.table.latency ≡ pair_c.here.table.latency = ap (λ (q : Content). q.latency) pair_c.tables in
           let priority : b.row.link.priority ≡ found.0.link.priority = ap (λ (l : Link). l.priority) pair_c.links in
-          let y_there : bound_in (bounds_of (load_of pair_c.there.table.latency are.1.speed are.1.id pair_c.there.table.links)) b.row.link.priority ≡ Some are.2
-          = sym (ap (option_and_then (λ (q : Content). bound_in (bounds_of (load_of q.latency are.1.speed are.1.id q.links)) b.row.link.priority)) u_is) ∙ are.6 in
-          let y_is : bound_in (bounds_of (load_of pair_c.here.table.latency are.1.speed are.1.id pair_c.there.table.links)) found.0.link.priority ≡ Some are.2
-          = sym (ap (λ (k : ℕ). bound_in (bounds_of (load_of k are.1.speed are.1.id pair_c.there.table.links)) found.0.link.priority) latency)
-          ∙ sym (ap (bound_in (bounds_of (load_of pair_c.there.table.latency are.1.speed are.1.id pair_c.there.table.links))) priority) ∙ y_there in
+          let wired = same_wired net other set.differs found.0.switch b.row.switch (pair_c.there.switch_is ∙ sym pair_c.here.switch_is) in
+          let y_there : bound_in (bounds_of (lesser_load (is_wired other b.row.switch) pair_c.there.table are.1)) b.row.link.priority ≡ Some are.2
+          = sym (ap (option_and_then (λ (q : Content). bound_in (bounds_of (lesser_load (is_wired other b.row.switch) q are.1)) b.row.link.priority)) u_is) ∙ are.6 in
+          let y_is : bound_in (bounds_of (lesser_load (is_wired net found.0.switch) pair_c.there.table are.1)) found.0.link.priority ≡ Some are.2
+          = sym (ap (λ (lined : ℕ → Bool). bound_in (bounds_of (lesser_load lined pair_c.there.table are.1)) found.0.link.priority) wired)
+          ∙ sym (ap (bound_in (bounds_of (lesser_load (is_wired other b.row.switch) pair_c.there.table are.1))) priority) ∙ y_there in
           let t_formed = all_at IsWellFormed net.tables b.wire.from.switch pair_c.here.table set.here pair_c.here.table_is in
           let u_formed = all_at IsWellFormed other.tables b.wire.from.switch pair_c.there.table set.there pair_c.there.table_is in
           let grow = links_grow set.links net other set.below b.wire.from.switch pair_c.here.table pair_c.there.table pair_c.here.table_is pair_c.there.table_is t_formed u_formed pair_c.tables in
-          let x = bound_before (load_of pair_c.here.table.latency are.1.speed are.1.id pair_c.here.table.links) (load_of pair_c.here.table.latency are.1.speed are.1.id pair_c.there.table.links)
-          (load_grows pair_c.here.table.latency are.1.speed are.1.id pair_c.here.table.links pair_c.there.table.links grow) found.0.link.priority are.2 y_is in
           let port = same_port other net (sym set.differs.0, sym set.differs.1) b.wire.from are.1 are.5 in
+          let rate = kept_rate net other set b.wire.from s.link.id found.0 pair_c.here.table found.1.there_is pair_c.here.table_is are.1 port in
+          let ports : pair_c.there.table.ports ≡ pair_c.here.table.ports = ap (λ (q : Content). q.ports) pair_c.tables in
+          let x = bound_before (lesser_load (is_wired net found.0.switch) pair_c.here.table are.1) (lesser_load (is_wired net found.0.switch) pair_c.there.table are.1)
+          (lesser_grows set.once set.less (is_wired net found.0.switch) pair_c.here.table pair_c.there.table are.1 t_formed u_formed ports latency grow rate) found.0.link.priority are.2 y_is in
           let port_is : port_row pair_c.here.table b.wire.from.port ≡ Some are.1
           = sym (ap (option_and_then (λ (q : Content). port_row q b.wire.from.port)) pair_c.here.table_is) ∙ port in
           let hop_is = hop_there net found.0 b.wire.from.port b.wire.delay pair_c.here.table are.1 x.0 t_is port_is x.1 in

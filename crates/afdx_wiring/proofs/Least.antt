@@ -9,6 +9,7 @@ use Rattle.std.proofs.lemmas.Option.{same_Some}
 use Rattle.afdx_table.specs.WellFormed.{IsLink, IsWellFormed}
 use Rattle.afdx_table.specs.Inner.Found.{LinksAreFound, LinksAreAtTheirPlaces}
 use Rattle.afdx_load.specs.Inner.Laws.{HighLinksLeaveAPart}
+use Rattle.afdx_grouping.specs.Laws.{NoMoreIsPaidFor, LesserCurvesNeedLess}
 use Rattle.afdx_series.specs.Delay.{at_once, IsEnough}
 use Rattle.afdx_wiring.specs.declared.fault.Short.{Short}
 use Rattle.afdx_wiring.specs.declared.jitters.RowNeed.{RowNeed}
@@ -32,6 +33,8 @@ pub record Laws : Type 0 where
   pub links : LinksAreFound
   pub places : LinksAreAtTheirPlaces
   pub leaves : HighLinksLeaveAPart
+  pub once : NoMoreIsPaidFor
+  pub less : LesserCurvesNeedLess
 
 -- ---- a turn
 
@@ -169,6 +172,11 @@ start_below net other asked switch id r s r_is s_is =
 growing : (net other turn : Network) → Asked net other → DiffersInJitters net turn → All IsWellFormed turn.tables → Below turn other → Growing turn other
 growing net other turn asked alike formed below = record {
   links = asked.laws.links;
+  once = asked.laws.once;
+  less = asked.laws.less;
+  origin = net;
+  from_origin = alike;
+  lines = asked.lines;
   differs = (asked.suffices.alike.0 ∙ sym alike.0, asked.suffices.alike.1 ∙ sym alike.1);
   here = formed;
   there = asked.suffices.well_formed;

@@ -9,13 +9,16 @@ pub mod Giving
 pub mod Growing
 pub mod JointLemmas
 pub mod Least
+pub mod LesserOrder
 pub mod LimitLemmas
 pub mod LoadLemmas
+pub mod Loaded
 pub mod LoadOrder
 pub mod NeedLemmas
 pub mod OnceLemmas
 pub mod Reaching
 pub mod RowByRow
+pub mod Staying
 pub mod TextLemmas
 pub mod WalkLemmas
 pub mod WayLemmas

@@ -1,5 +1,5 @@
 -- Loads grow with the jitters of their links, and so do bounds; a bound is no less than the latency and the line time of the least frame.
-use Rattle.std.proofs.Common.{◌≡◌, ℕ, zero, suc, ◌+◌, ◌-◌, ◌*◌, ◌/◌, ◌<◌, ◌≤◌, ◌&&◌, Bool, true, false, not, cond, nat_lt, max, List, []}
+use Rattle.std.proofs.Common.{◌≡◌, ℕ, zero, suc, ◌+◌, ◌-◌, ◌*◌, ◌/◌, ◌<◌, ◌≤◌, ◌&&◌, Bool, true, false, cond, nat_lt, max, List, []}
 use Rattle.std.proofs.Common.{◌∷◌, length, get_or, Some, None, refl, ap, sym, ◌∙◌, arith, subst}
 use Rattle.std.specs.Prelude.{Contains, filter, sum_by, count_by}
 use Rattle.std.specs.List.{AllZip}
@@ -7,7 +7,6 @@ use Rattle.std.proofs.Math.Nat.{mul-le-mul_left, div-mul-le_self}
 use Rattle.std.proofs.lemmas.Nat.{le-div}
 use Rattle.std.proofs.lemmas.Bool.Decides.{nat_tests}
 use Rattle.std.proofs.lemmas.List.Sums.{sum_by-cons}
-use Rattle.std.proofs.lemmas.List.Elements.{All-from_recursion, All-contains}
 use Rattle.std.proofs.lemmas.Option.{cond_some}
 use Rattle.afdx_units.specs.declared.bag.Bag.{Bag}
 use Rattle.afdx_units.specs.declared.bag.Bag.TheVariants.{Ms1, Ms2, Ms4, Ms8, Ms16, Ms32, Ms64, Ms128}
@@ -17,15 +16,12 @@ use Rattle.afdx_units.specs.declared.line.Speed.{Speed}
 use Rattle.afdx_units.specs.declared.line.Speed.TheVariants.{Ten, Hundred, Thousand}
 use Rattle.afdx_units.specs.declared.police.Police.{Police}
 use Rattle.afdx_units.specs.declared.police.Police.TheVariants.{Byte, Frame}
-use Rattle.afdx_units.specs.Line.{tick_of, cost_of, is_high}
+use Rattle.afdx_units.specs.Line.{tick_of, cost_of}
 use Rattle.afdx_units.specs.Time.{bag_ms, bag_ns}
 use Rattle.afdx_account.specs.Policing.{parts}
 use Rattle.afdx_table.specs.Link.{Link, leads_to}
-use Rattle.afdx_table.specs.Content.{Content}
-use Rattle.afdx_table.specs.WellFormed.{IsLink, IsWellFormed}
 use Rattle.afdx_load.specs.Load.{Load, is_high_link, is_low_link, routed, rate_by, rate_of, burst_of, time_of, greatest, links_load, load_of}
 use Rattle.afdx_load.specs.Bounds.{bounds_of}
-use Rattle.afdx_load.specs.Inner.Laws.{HighLinksLeaveAPart}
 use Rattle.afdx_wiring.specs.Net.{bound_in}
 use Rattle.afdx_wiring.specs.Needs.{bare_link}
 
@@ -39,7 +35,7 @@ pub record Grows (l m : Link) : Type 0 where
 like : {X : Type 0} (f : Link → X) → ((l : Link) → f (bare_link l) ≡ f l) → (l m : Link) → Grows l m → f m ≡ f l
 like f blind l m h = sym (blind m) ∙ ap f h.same ∙ blind l
 
-filtered : (p : Link → Bool) → ((l : Link) → p (bare_link l) ≡ p l) → (ls ms : List Link) → AllZip Grows ls ms → AllZip Grows (filter p ls) (filter p ms)
+pub filtered : (p : Link → Bool) → ((l : Link) → p (bare_link l) ≡ p l) → (ls ms : List Link) → AllZip Grows ls ms → AllZip Grows (filter p ls) (filter p ms)
 filtered p blind [] [] h = tt
 filtered p blind [] (m ∷ ms) h = absurd h
 filtered p blind (l ∷ ls) [] h = absurd h
@@ -50,7 +46,7 @@ filtered p blind (l ∷ ls) (m ∷ ms) h =
       by rest true = (h.0, rest)
       by rest false = rest
 
-sum_same : (f : Link → ℕ) → ((l : Link) → f (bare_link l) ≡ f l) → (ls ms : List Link) → AllZip Grows ls ms → sum_by f ms ≡ sum_by f ls
+pub sum_same : (f : Link → ℕ) → ((l : Link) → f (bare_link l) ≡ f l) → (ls ms : List Link) → AllZip Grows ls ms → sum_by f ms ≡ sum_by f ls
 sum_same f blind [] [] h = refl
 sum_same f blind [] (m ∷ ms) h = absurd h
 sum_same f blind (l ∷ ls) [] h = absurd h
@@ -59,13 +55,13 @@ sum_same f blind (l ∷ ls) (m ∷ ms) h =
     let rest = sum_same f blind ls ms h.1 in
     omega (arith, first, rest, sum_by-cons f l ls, sum_by-cons f m ms)
 
-greatest_same : (f : Link → ℕ) → ((l : Link) → f (bare_link l) ≡ f l) → (ls ms : List Link) → AllZip Grows ls ms → greatest f ms ≡ greatest f ls
+pub greatest_same : (f : Link → ℕ) → ((l : Link) → f (bare_link l) ≡ f l) → (ls ms : List Link) → AllZip Grows ls ms → greatest f ms ≡ greatest f ls
 greatest_same f blind [] [] h = refl
 greatest_same f blind [] (m ∷ ms) h = absurd h
 greatest_same f blind (l ∷ ls) [] h = absurd h
 greatest_same f blind (l ∷ ls) (m ∷ ms) h = ap (λ (n : ℕ). max n (greatest f ms)) (like f blind l m h.0) ∙ ap (max (f l)) (greatest_same f blind ls ms h.1)
 
-sum_grows : (f : Link → ℕ) → ((l m : Link) → Grows l m → f l ≤ f m) → (ls ms : List Link) → AllZip Grows ls ms → sum_by f ls ≤ sum_by f ms
+pub sum_grows : (f : Link → ℕ) → ((l m : Link) → Grows l m → f l ≤ f m) → (ls ms : List Link) → AllZip Grows ls ms → sum_by f ls ≤ sum_by f ms
 sum_grows f each [] [] h = omega arith
 sum_grows f each [] (m ∷ ms) h = absurd h
 sum_grows f each (l ∷ ls) [] h = absurd h
@@ -74,7 +70,7 @@ sum_grows f each (l ∷ ls) (m ∷ ms) h =
     let rest = sum_grows f each ls ms h.1 in
     omega (arith, first, rest, sum_by-cons f l ls, sum_by-cons f m ms)
 
-burst_grows : (speed : Speed) (l m : Link) → Grows l m → burst_of speed l ≤ burst_of speed m
+pub burst_grows : (speed : Speed) (l m : Link) → Grows l m → burst_of speed l ≤ burst_of speed m
 burst_grows speed l m h =
     let rate : rate_of speed m ≡ rate_of speed l = like (rate_of speed) (λ _. refl) l m h in
     let gap : bag_ns m.bag ≡ bag_ns l.bag = like (λ (k : Link). bag_ns k.bag) (λ _. refl) l m h in
@@ -145,7 +141,7 @@ bound_grows a b h Low x y x_is y_is =
 
 -- ---- a bound is there, and no less than a frame takes
 
-sum_has : (f : Link → ℕ) (ls : List Link) (l : Link) (k : ℕ) → k < length ls → get_or ls k l ≡ l → f l ≤ sum_by f ls
+pub sum_has : (f : Link → ℕ) (ls : List Link) (l : Link) (k : ℕ) → k < length ls → get_or ls k l ≡ l → f l ≤ sum_by f ls
 sum_has f [] l k within at = absurd (omega (arith, within))
 sum_has f (m ∷ ls) l zero within at =
     let same : f m ≡ f l = ap f at in
@@ -155,7 +151,7 @@ sum_has f (m ∷ ls) l (suc k) within at =
     omega (arith, rest, sum_by-cons f m ls)
 
 -- what passes a test is kept
-kept : (p : Link → Bool) (ls : List Link) (l : Link) (k : ℕ) → k < length ls → get_or ls k l ≡ l → p l ≡ true → Contains (filter p ls) l
+pub kept : (p : Link → Bool) (ls : List Link) (l : Link) (k : ℕ) → k < length ls → get_or ls k l ≡ l → p l ≡ true → Contains (filter p ls) l
 kept p [] l k within at passes = absurd (omega (arith, within))
 kept p (m ∷ ls) l zero within at passes = subst (λ (b : Bool). Contains (cond b (m ∷ filter p ls) (filter p ls)) l) (sym (ap p at ∙ passes)) (0, omega arith, at)
 kept p (m ∷ ls) l (suc k) within at passes = by (kept p ls l k (omega (arith, within)) at passes) (p m) where
@@ -193,7 +189,7 @@ rate_pays : (police : Police) (speed : Speed) (size : ℕ) (bag : Bag) → 64 �
 rate_pays Byte speed size bag least = shared (parts * cost_of speed 64) (21 * tick_of speed * size) (128 / bag_ms bag) (bag_ns bag) (share bag) (by_bytes speed size least)
 rate_pays Frame speed size bag least = shared (parts * cost_of speed 64) (16 * tick_of speed * (size + 20)) (128 / bag_ms bag) (bag_ns bag) (share bag) (by_frames speed size least)
 
-burst_pays : (speed : Speed) (l : Link) → 64 ≤ l.max_size → parts * cost_of speed 64 ≤ burst_of speed l
+pub burst_pays : (speed : Speed) (l : Link) → 64 ≤ l.max_size → parts * cost_of speed 64 ≤ burst_of speed l
 burst_pays speed l least =
     let gap = rate_pays l.police speed l.max_size l.bag least in
     let more : rate_of speed l * bag_ns l.bag ≤ rate_of speed l * (bag_ns l.bag + l.jitter) = mul-le-mul_left (rate_of speed l) (omega arith) in
@@ -207,7 +203,7 @@ pub record Bounded (load : Load) (priority : Priority) (least : ℕ) : Type 0 wh
 less_test : (m n : ℕ) → m < n → nat_lt m n ≡ true
 less_test m n less = grind (arith, nat_tests)
 
-high_is : (load : Load) (least : ℕ) → 0 < load.highs → parts * least ≤ load.high_burst → Bounded load High (load.latency + least)
+pub high_is : (load : Load) (least : ℕ) → 0 < load.highs → parts * least ≤ load.high_burst → Bounded load High (load.latency + least)
 high_is load least some pays =
     let all : ℕ = load.high_burst + parts * load.low_largest in
     let quotient = le-div least (load.high_burst + parts * load.low_largest) parts (omega arith) (omega (arith, pays)) in
@@ -221,7 +217,7 @@ both : (a b : Bool) → a ≡ true → b ≡ true → (a && b) ≡ true
 both true b one two = two
 both false b one two = absurd cc
 
-low_is : (load : Load) (least : ℕ) → 0 < load.lows → load.high_rate < parts → parts * least ≤ load.burst → Bounded load Low (load.latency + least)
+pub low_is : (load : Load) (least : ℕ) → 0 < load.lows → load.high_rate < parts → parts * least ≤ load.burst → Bounded load Low (load.latency + least)
 low_is load least some leaves pays =
     let left : least * (parts - load.high_rate) ≤ least * parts = mul-le-mul_left least (omega arith) in
     let quotient = le-div least load.burst (parts - load.high_rate) (omega (arith, leaves)) (omega (arith, left, pays)) in
@@ -238,7 +234,7 @@ counted p links l among is =
     let sum = sum_has (λ (k : Link). cond (p k) 1 0) links l among.0 among.1 among.2 in
     omega (arith, one, sum)
 
-high : (speed : Speed) (links : List Link) (latency : ℕ) (l : Link) → Contains links l → is_high_link l ≡ true → parts * cost_of speed 64 ≤ burst_of speed l
+pub high : (speed : Speed) (links : List Link) (latency : ℕ) (l : Link) → Contains links l → is_high_link l ≡ true → parts * cost_of speed 64 ≤ burst_of speed l
     → let load : Load = record (links_load speed links) { latency = latency } in (0 < load.highs) × (parts * cost_of speed 64 ≤ load.high_burst)
 unfolding links_load
 high speed links latency l among is pays =
@@ -246,29 +242,12 @@ high speed links latency l among is pays =
     let sum = sum_has (burst_of speed) (filter is_high_link links) l there.0 there.1 there.2 in
     (counted is_high_link links l among is, omega (arith, pays, sum))
 
-low : (speed : Speed) (links : List Link) (latency : ℕ) (l : Link) → Contains links l → is_low_link l ≡ true → parts * cost_of speed 64 ≤ burst_of speed l
+pub low : (speed : Speed) (links : List Link) (latency : ℕ) (l : Link) → Contains links l → is_low_link l ≡ true → parts * cost_of speed 64 ≤ burst_of speed l
     → let load : Load = record (links_load speed links) { latency = latency } in (0 < load.lows) × (parts * cost_of speed 64 ≤ load.burst)
 unfolding links_load
 low speed links latency l among is pays =
     let sum = sum_has (burst_of speed) links l among.0 among.1 among.2 in
     (counted is_low_link links l among is, omega (arith, pays, sum))
-
--- the bound of a link at a port that it leads to, whose line can give what is asked for
-pub bounded : HighLinksLeaveAPart → (t : Content) (speed : Speed) (port : ℕ) (l : Link) → IsWellFormed t → Contains t.links l → leads_to port l ≡ true
-    → (load_of t.latency speed port t.links).rate ≤ parts → Bounded (load_of t.latency speed port t.links) l.priority (t.latency + cost_of speed 64)
-bounded leaves t speed port l formed among leads rate =
-    let is_link : IsLink t.ports l = All-contains (IsLink t.ports) t.links l (All-from_recursion (IsLink t.ports) t.links formed.links) among in
-    let there = kept (leads_to port) t.links l among.0 among.1 among.2 leads in
-    let pays = burst_pays speed l is_link.size_least in
-    by l.priority refl there pays where
-      by : (priority : Priority) → l.priority ≡ priority → Contains (routed port t.links) l → parts * cost_of speed 64 ≤ burst_of speed l
-          → Bounded (load_of t.latency speed port t.links) priority (t.latency + cost_of speed 64)
-      by High is there pays =
-          let h = high speed (routed port t.links) t.latency l there (ap is_high is) pays in
-          high_is (load_of t.latency speed port t.links) (cost_of speed 64) h.0 h.1
-      by Low is there pays =
-          let h = low speed (routed port t.links) t.latency l there (ap (λ q. not (is_high q)) is) pays in
-          low_is (load_of t.latency speed port t.links) (cost_of speed 64) h.0 (leaves t speed port formed rate h.0) h.1
 
 -- where the greater load has a bound, the lesser one has one
 pub bound_before : (a b : Load) → LoadGrows a b → (priority : Priority) (y : ℕ) → bound_in (bounds_of b) priority ≡ Some y

@@ -17,17 +17,19 @@ use Rattle.afdx_table.specs.declared.rows.PortRow.{PortRow}
 use Rattle.afdx_load.specs.Load.{load_of}
 use Rattle.afdx_load.specs.Bounds.{bounds_of}
 use Rattle.afdx_load.specs.Inner.Laws.{HighLinksLeaveAPart}
+use Rattle.afdx_grouping.specs.Groups.{lesser_load}
 use Rattle.afdx_series.specs.declared.delays.Delays.{Delays}
 use Rattle.afdx_series.specs.Delay.{hop_of, joined, at_once}
 use Rattle.afdx_wiring.specs.declared.layout.End.{End}
 use Rattle.afdx_wiring.specs.declared.layout.Wire.{Wire}
 use Rattle.afdx_wiring.specs.File.{Layout, is_end}
-use Rattle.afdx_wiring.specs.Net.{Network, Row, Back, row_at, ingress, wire_to, port_at, bound_in, bound_at, IsSource, IsWayBack, source_of, AreDelays}
+use Rattle.afdx_wiring.specs.Net.{Network, Row, Back, row_at, ingress, wire_to, port_at, is_wired, bound_in, bound_at, IsSource, IsWayBack, source_of, AreDelays}
 use Rattle.afdx_wiring.specs.Rules.{Joins}
 use Rattle.afdx_wiring.specs.Order.{row_before, source_by, source_within}
 use Rattle.afdx_wiring.specs.Needs.{bare_link, DiffersInJitters, KeepsToLines}
 use Rattle.afdx_wiring.proofs.FeedLemmas.{before_says}
-use Rattle.afdx_wiring.proofs.LoadOrder.{Grows, load_grows, bounded}
+use Rattle.afdx_wiring.proofs.LoadOrder.{Grows, load_grows}
+use Rattle.afdx_wiring.proofs.LesserOrder.{lesser_bounded}
 use Rattle.afdx_wiring.proofs.Alike.{Pair, paired, same_port, all_at}
 
 -- what is found passes the test, and is there
@@ -52,6 +54,18 @@ same_rate latency speed port ls ms same =
     (load_grows latency speed port (map bare_link ms) ms (without ms)).rate
     ∙ ap (λ (ks : List Link). (load_of latency speed port ks).rate) same
     ∙ sym (load_grows latency speed port (map bare_link ls) ls (without ls)).rate
+
+-- the rate at a port of a switch, where the first network keeps to its lines
+pub rate_there : (net other : Network) → KeepsToLines net → (e : End) (id : ℕ) (b c : Row) (pair : Pair net other e.switch id b c) (p : PortRow) → port_at net e ≡ Some p
+    → (load_of pair.there.table.latency p.speed p.id pair.there.table.links).rate ≤ parts
+rate_there net other lines e id b c pair p port_is =
+    let in_t : port_row pair.here.table e.port ≡ Some p = sym (ap (option_and_then (λ (t : Content). port_row t e.port)) pair.here.table_is) ∙ port_is in
+    let among = found_passes (λ (q : PortRow). q.id == e.port) pair.here.table.ports p in_t in
+    let line = all_at (λ (t : Content). All (λ q. (load_of t.latency q.speed q.id t.links).rate ≤ parts) t.ports) net.tables e.switch pair.here.table lines pair.here.table_is in
+    let rate : (load_of pair.here.table.latency p.speed p.id pair.here.table.links).rate ≤ parts
+    = All-contains (λ (q : PortRow). (load_of pair.here.table.latency q.speed q.id pair.here.table.links).rate ≤ parts) pair.here.table.ports p line among.1 in
+    let same = same_rate pair.there.table.latency p.speed p.id pair.here.table.links pair.there.table.links (ap (λ (t : Content). t.links) pair.tables) in
+    subst (λ (n : ℕ). n ≤ parts) (sym same) rate
 
 -- ---- the networks
 
@@ -103,25 +117,18 @@ record Crossed (other : Network) (b : Row) (w : Wire) : Type 0 where
 crossed : (net other : Network) → Setting net other → (w : Wire) (id : ℕ) (b c : Row) → Contains net.layout.wires w → Pair net other w.from.switch id b c → leads_to w.from.port b.link ≡ true
     → Crossed other c w
 crossed net other set w id b c wired pair leads =
-    let u : Content = pair.there.table in
     let joined = All-contains (Joins net) net.layout.wires w set.joins wired in
     let p : PortRow = joined.start in
     let port_is = same_port net other set.differs w.from p joined.start_is in
-    let in_u : port_row u w.from.port ≡ Some p = sym (ap (option_and_then (λ (t : Content). port_row t w.from.port)) pair.there.table_is) ∙ port_is in
-    let in_t : port_row pair.here.table w.from.port ≡ Some p = sym (ap (option_and_then (λ (t : Content). port_row t w.from.port)) pair.here.table_is) ∙ joined.start_is in
-    let passes = found_passes (λ (q : PortRow). q.id == w.from.port) u.ports p in_u in
-    let among = found_passes (λ (q : PortRow). q.id == w.from.port) pair.here.table.ports p in_t in
+    let in_u : port_row pair.there.table w.from.port ≡ Some p = sym (ap (option_and_then (λ (t : Content). port_row t w.from.port)) pair.there.table_is) ∙ port_is in
+    let passes = found_passes (λ (q : PortRow). q.id == w.from.port) pair.there.table.ports p in_u in
     let number : p.id ≡ w.from.port = eqb-true p.id w.from.port passes.0 in
     let leads_there : leads_to w.from.port c.link ≡ true = ap (leads_to w.from.port) pair.links ∙ leads in
     let leads_on : leads_to p.id c.link ≡ true = subst (λ (n : ℕ). leads_to n c.link ≡ true) (sym number) leads_there in
     let formed = all_at IsWellFormed other.tables w.from.switch pair.there.table set.there pair.there.table_is in
-    let line = all_at (λ (t : Content). All (λ q. (load_of t.latency q.speed q.id t.links).rate ≤ parts) t.ports) net.tables w.from.switch pair.here.table set.lines pair.here.table_is in
-    let rate_here : (load_of pair.here.table.latency p.speed p.id pair.here.table.links).rate ≤ parts
-    = All-contains (λ (q : PortRow). (load_of pair.here.table.latency q.speed q.id pair.here.table.links).rate ≤ parts) pair.here.table.ports p line among.1 in
-    let same = same_rate pair.there.table.latency p.speed p.id pair.here.table.links pair.there.table.links (ap (λ (t : Content). t.links) pair.tables) in
-    let rate : (load_of pair.there.table.latency p.speed p.id pair.there.table.links).rate ≤ parts = subst (λ (n : ℕ). n ≤ parts) (sym same) rate_here in
+    let rate = rate_there net other set.lines w.from id b c pair p joined.start_is in
     let member = set.links.is_row pair.there.table id c.link pair.there.link_is in
-    let h = bounded set.leaves pair.there.table p.speed p.id c.link formed member.1 leads_on rate in
+    let h = lesser_bounded set.leaves (is_wired other c.switch) pair.there.table p c.link formed member.1 leads_on rate in
     let table_is : slice_get other.tables c.switch ≡ Some pair.there.table = ap (slice_get other.tables) pair.there.switch_is ∙ pair.there.table_is in
     record {
       table = pair.there.table;
@@ -129,7 +136,7 @@ crossed net other set w id b c wired pair leads =
       bound = h.bound;
       table_is = table_is;
       port_is = port_is;
-      bound_is = ap (option_and_then (λ (t : Content). bound_in (bounds_of (load_of t.latency p.speed p.id t.links)) c.link.priority)) table_is ∙ h.bound_is;
+      bound_is = ap (option_and_then (λ (t : Content). bound_in (bounds_of (lesser_load (is_wired other c.switch) t p)) c.link.priority)) table_is ∙ h.bound_is;
       order = h.order;
     }
 

@@ -1,14 +1,14 @@
 -- A network: what its file says, and the tables of its switches (profile). The wires of a link's way are found from its end.
-use Rattle.std.specs.Prelude.{◌≡◌, ℕ, ◌+◌, true, List, [], ◌∷◌, map, filter, find, flat_map, slice_get, Option, Some, None, option_map, option_and_then, Contains}
+use Rattle.std.specs.Prelude.{◌≡◌, ℕ, ◌+◌, true, List, [], ◌∷◌, map, filter, find, flat_map, slice_get, Option, Some, None, option_map, option_and_then, is_some, Bool, Contains}
 use Rattle.std.specs.List.{enumerate_from}
 use Rattle.afdx_units.specs.declared.line.Priority.{Priority}
 use Rattle.afdx_units.specs.declared.line.Priority.TheVariants.{High, Low}
 use Rattle.afdx_table.specs.declared.rows.PortRow.{PortRow}
 use Rattle.afdx_table.specs.Link.{Link, leads_to}
 use Rattle.afdx_table.specs.Content.{Content, port_row, link_row}
-use Rattle.afdx_load.specs.Load.{load_of}
 use Rattle.afdx_load.specs.Bounds.{bounds_of}
 use Rattle.afdx_load.specs.declared.delays.Bounds.{Bounds}
+use Rattle.afdx_grouping.specs.Groups.{lesser_load}
 use Rattle.afdx_series.specs.declared.delays.Delays.{Delays}
 use Rattle.afdx_series.specs.Delay.{hop_of, joined, at_once}
 use Rattle.afdx_wiring.specs.declared.layout.End.{End}
@@ -68,6 +68,10 @@ ingress r = record { switch = r.switch; port = r.link.from }
 abbrev pub wire_to : Network → End → Option Wire
 wire_to net e = find (λ w. is_end w.to e) net.layout.wires
 
+-- a wire goes to this port of the switch: what comes there left a switch of the network, one frame after the other
+abbrev pub is_wired : Network → (switch port : ℕ) → Bool
+is_wired net switch port = is_some (wire_to net (record { switch = switch; port = port }))
+
 -- an end system's port feeds the row: no wire goes there
 abbrev pub IsSource : Network → Row → Type 0
 IsSource net r = wire_to net (ingress r) ≡ None
@@ -97,13 +101,16 @@ abbrev pub bound_in : Bounds → Priority → Option ℕ
 bound_in bounds High = bounds.high
 bound_in bounds Low = bounds.low
 
--- the bound of the row's link at a port that it leads to
+-- the bound of the row's link at a port that it leads to, where what comes over a wire is counted one frame after the other
 abbrev pub bound_at : Network → Row → PortRow → Option ℕ
-bound_at net r p = option_and_then (λ t. bound_in (bounds_of (load_of t.latency p.speed p.id t.links)) r.link.priority) (slice_get net.tables r.switch)
+bound_at net r p = option_and_then (λ t. bound_in (bounds_of (lesser_load (is_wired net r.switch) t p)) r.link.priority) (slice_get net.tables r.switch)
 
--- these are the delays from the arrival at the source's switch to that at the row's switch
-abbrev pub AreDelays : Network → List Back → Delays → Type 0
-AreDelays net [] d = d ≡ at_once
-AreDelays net (b ∷ more) d =
+-- these are the delays from the arrival at the source's switch to that at the row's switch, where rows have these bounds at ports
+abbrev pub AreDelaysBy : (Row → PortRow → Option ℕ) → Network → List Back → Delays → Type 0
+AreDelaysBy bound_of net [] d = d ≡ at_once
+AreDelaysBy bound_of net (b ∷ more) d =
     (t : Content) × (p : PortRow) × (bound : ℕ) × (before : Delays) × (slice_get net.tables b.row.switch ≡ Some t) × (port_at net b.wire.from ≡ Some p)
-    × (bound_at net b.row p ≡ Some bound) × AreDelays net more before × (d ≡ joined before (hop_of p.speed t.latency bound b.wire.delay))
+    × (bound_of b.row p ≡ Some bound) × AreDelaysBy bound_of net more before × (d ≡ joined before (hop_of p.speed t.latency bound b.wire.delay))
+
+abbrev pub AreDelays : Network → List Back → Delays → Type 0
+AreDelays net backs d = AreDelaysBy (bound_at net) net backs d

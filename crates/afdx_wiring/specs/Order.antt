@@ -12,10 +12,11 @@ use Rattle.afdx_units.specs.declared.line.Speed.TheVariants.{Ten, Hundred, Thous
 use Rattle.afdx_table.specs.declared.rows.PortRow.{PortRow}
 use Rattle.afdx_table.specs.Link.{Link, leads_to}
 use Rattle.afdx_table.specs.Content.{Content, port_row, link_row}
-use Rattle.afdx_load.specs.Load.{Load, port_load}
+use Rattle.afdx_load.specs.Load.{Load}
 use Rattle.afdx_load.specs.Accepted.{first_fault}
 use Rattle.afdx_load.specs.declared.fault.LoadFault.{LoadFault}
 use Rattle.afdx_load.specs.Bounds.{bounds_of}
+use Rattle.afdx_grouping.specs.Groups.{lesser_load}
 use Rattle.afdx_series.specs.declared.delays.Delays.{Delays}
 use Rattle.afdx_series.specs.Delay.{hop_of, joined, at_once, least_jitter}
 use Rattle.afdx_wiring.specs.declared.fault.At.{At}
@@ -28,7 +29,7 @@ use Rattle.afdx_wiring.specs.declared.row.Row.{Row as RowOfCode}
 use Rattle.afdx_wiring.specs.declared.shared.Shared.{Shared}
 use Rattle.afdx_wiring.specs.declared.shared.Shared.TheVariants as shared
 use Rattle.afdx_wiring.specs.Refusal.{◌>>=◌, or_refuse, unless}
-use Rattle.afdx_wiring.specs.Net.{Network, Row, port_at, row_at, rows_of, ingress, wire_to, bound_in}
+use Rattle.afdx_wiring.specs.Net.{Network, Row, port_at, row_at, rows_of, ingress, wire_to, is_wired, bound_in}
 
 -- a row as the code has it
 abbrev pub row_of : RowOfCode → Row
@@ -187,11 +188,12 @@ abbrev pub hop_over : Content → Row → (cable : ℕ) → PortRow → Load →
 hop_over t r cable p load =
     option_map (λ bound. hop_of p.speed t.latency bound cable) (option_and_then within_reason (bound_in (bounds_of load) r.link.priority))
 
-abbrev pub hop_from : Row → (port cable : ℕ) → Content → Option Delays
-hop_from r port cable t = option_and_then (λ p. option_and_then (hop_over t r cable p) (port_load t port)) (port_row t port)
+-- where frames come one after the other over the lines of these ports
+abbrev pub hop_from : (wired : ℕ → Bool) → Row → (port cable : ℕ) → Content → Option Delays
+hop_from wired r port cable t = option_and_then (λ p. hop_over t r cable p (lesser_load wired t p)) (port_row t port)
 
 abbrev pub hop_on : Network → Row → (port cable : ℕ) → Option Delays
-hop_on net r port cable = option_and_then (hop_from r port cable) (slice_get net.tables r.switch)
+hop_on net r port cable = option_and_then (hop_from (is_wired net r.switch) r port cable) (slice_get net.tables r.switch)
 
 -- the jitter of a row's source and the delays from there to the row, over at most n rows; these come after
 abbrev pub way_by : (Row → Delays → Option (ℕ × Delays)) → Network → Row → Delays → Option Wire → Option (ℕ × Delays)

@@ -1,14 +1,18 @@
 //! What a frame takes from a switch to the next one.
 
-ghost use Rattle.std.specs.Prelude.{◌≡◌, ◌≤◌, slice_get, option_and_then, IfOk, IfSome};
-ghost use Rattle.afdx_load.specs.Load.{port_load};
-ghost use Rattle.afdx_wiring.specs.Net.{bound_in};
+ghost use Rattle.std.specs.Prelude.{◌≡◌, ◌≤◌, ◌==◌, slice_get, position, option_copied, option_map, option_and_then, IfOk, IfSome};
+ghost use Rattle.afdx_table.specs.Content.{port_row};
+ghost use Rattle.afdx_grouping.specs.Groups.{lesser_load, lesser_loads};
+ghost use Rattle.afdx_wiring.specs.Net.{is_wired, bound_in};
 ghost use Rattle.afdx_wiring.specs.Order.{row_of, within_reason, hop_on};
 
 use crate::network::Network;
 use crate::row::Row;
-use afdx_load::{Bounds, Load, Loads, bounds, loads};
+use afdx_grouping::laws::only_ports_count;
+use afdx_grouping::lesser_loads;
+use afdx_load::{Bounds, Load, bounds};
 use afdx_series::{Delays, hop};
+use afdx_table::Table;
 use afdx_units::Priority;
 use std::alloc::{AllocError, Global};
 use std::marker::Model;
@@ -16,24 +20,26 @@ use std::marker::Model;
 /// No table that is accepted has a bound of more nanoseconds.
 const MAX_BOUND: u128 = 1_000_000_000_000;
 
-/// The loads of all switches of a network.
+/// The loads of all switches of a network: what comes over a wire comes one frame after the other.
 ///
 /// Contracts see it as the network.
 #[derive(Drop)]
 pub(crate) struct Hops<'a> {
     network: &'a Network,
-    loads: Vec<Loads<'a>>,
+    /// Those of each switch's ports, in the order of its table.
+    loads: Vec<Vec<Load>>,
 }
 
 impl<'a> Model for Hops<'a> {
-    ghost use Rattle.std.specs.Prelude.{◌≡◌};
+    ghost use Rattle.std.specs.Prelude.{◌≡◌, map};
     ghost use Rattle.afdx_wiring.specs.Net.{Network as Seen};
+    ghost use Rattle.afdx_wiring.specs.Inner.Loads.{loads_from};
 
     ghost Value = { Seen };
 
     ghost view = { λ h. h.network.now };
 
-    ghost invariant = { λ h. h.loads.items ≡ h.network.now.tables };
+    ghost invariant = { λ h. map (λ loads. loads.items) h.loads.items ≡ loads_from h.network.now 0 h.network.now.tables };
 }
 
 /// The bound of a priority.
@@ -58,14 +64,49 @@ fn within_reason(bound: u128) -> Option<u64>
     }
 }
 
+/// The place of the port of a number among a table's ports.
+fn place_of(table: &Table, port: u8) -> Option<usize>
+    ensures { result ≡ position (λ p. p.id == port) table.now.ports }
+{
+    table.ports().iter().position(|row| row.id == port)
+}
+
+/// The load of the port of a number, of those of a table's ports in their order.
+fn load_in(table: &Table, loads: &[Load], port: u8) -> Option<Load>
+    ensures { result ≡ option_and_then (slice_get loads.now) (position (λ p. p.id == port) table.now.ports) }
+{
+    let place = place_of(table, port)?;
+    loads.get(place).copied()
+}
+
+/// The loads that are kept of a switch.
+fn kept_at(loads: &[Vec<Load>], switch: usize) -> Option<&Vec<Load>>
+    ensures { option_copied result ≡ slice_get loads.now switch }
+{
+    loads.get(switch)
+}
+
+/// The loads of a switch's ports.
+fn loads_at(
+    alloc: Global,
+    network: &Network,
+    switch: usize,
+    table: &Table,
+) -> Result<Vec<Load>, AllocError>
+    ensures { IfOk result (λ loads. loads.items ≡ lesser_loads (is_wired network.now switch) table.now) }
+{
+    only_ports_count();
+    lesser_loads(alloc, table, &network.wired(switch))
+}
+
 impl<'a> Hops<'a> {
-    /// The loads of each switch, from one pass over its links.
+    /// The loads of each switch.
     pub(crate) fn new(alloc: Global, network: &'a Network) -> Result<Hops<'a>, AllocError>
         ensures { IfOk result (λ h. h ≡ network.now) }
     {
         let mut all = Vec::new(alloc);
-        for table in network.tables() {
-            all.push(loads(table))?;
+        for (switch, table) in network.tables().iter().enumerate() {
+            all.push(loads_at(alloc, network, switch, table)?)?;
         }
         Ok(Hops {
             network,
@@ -79,11 +120,12 @@ impl<'a> Hops<'a> {
         self.network
     }
 
-    /// The load of a switch's port.
+    /// The load of a port of a switch.
     fn load_at(&self, switch: usize, port: u8) -> Option<Load>
-        ensures { result ≡ option_and_then (λ t. port_load t port) (slice_get self.now.tables switch) }
+        ensures { result ≡ option_and_then (λ t. option_map (lesser_load (is_wired self.now switch) t) (port_row t port)) (slice_get self.now.tables switch) }
     {
-        self.loads.get(switch)?.at(port)
+        let table = self.network.table(switch)?;
+        load_in(table, kept_at(&self.loads, switch)?, port)
     }
 
     /// What a frame of a row's link takes from its arrival at the row's switch over a cable from a port.

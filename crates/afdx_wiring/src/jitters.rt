@@ -14,6 +14,7 @@ use crate::joints::link_at;
 use crate::network::Network;
 use crate::row::Row;
 use crate::sources::MOST_ROWS;
+use afdx_grouping::laws::{lesser_curves_need_less, no_more_is_paid_for};
 use afdx_load::laws::high_links_leave_a_part;
 use afdx_series::{Delays, need};
 use afdx_table::Table;
@@ -161,6 +162,8 @@ impl Network {
         links_are_found();
         links_are_at_their_places();
         high_links_leave_a_part();
+        no_more_is_paid_for();
+        lesser_curves_need_less();
         let first = self.needs(alloc, true)?;
         let mut network = self.with_jitters(&first)?;
         for _ in 0..u64::MAX {

@@ -1,7 +1,10 @@
 //! Laws over the definitions: functions that do nothing, whose contracts are the laws.
 
 ghost use Rattle.afdx_wiring.specs.Inner.Limits.{LayoutsAreWithinLimits};
+ghost use Rattle.afdx_wiring.specs.Inner.Staying.{WholeJittersAreEnough};
 ghost use Rattle.afdx_wiring.specs.Inner.Tabled.{RowsAreOfTables};
+
+use afdx_grouping::laws::bounds_are_no_more;
 
 /// A layout that is read has at most 64 switches, and no wire takes more than a millisecond.
 pub fn layouts_are_within_limits()
@@ -12,3 +15,11 @@ pub fn layouts_are_within_limits()
 pub fn rows_are_of_tables()
     ensures { RowsAreOfTables }
 {}
+
+/// Jitters that are enough for the bounds of the ports' whole loads, as they are printed of a table by itself, are enough: a
+/// network stays accepted that was accepted where a bound counted all that a port's links may send at once.
+pub fn whole_jitters_are_enough()
+    ensures { WholeJittersAreEnough }
+{
+    bounds_are_no_more();
+}

@@ -1,14 +1,16 @@
 //! A network: its wiring and the tables of its switches.
 
-ghost use Rattle.std.specs.Prelude.{◌≡◌, MatchResult, Ok, Err, option_map, option_copied, slice_get, find};
+ghost use Rattle.std.specs.Prelude.{◌≡◌, ◌<◌, ℕ, MatchResult, Ok, Err, option_map, option_copied, slice_get, find};
+ghost use Rattle.afdx_grouping.specs.Lined.{is_lined};
 ghost use Rattle.afdx_wiring.specs.File.{is_end};
-ghost use Rattle.afdx_wiring.specs.Net.{port_at, row_at, ingress, wire_to};
+ghost use Rattle.afdx_wiring.specs.Net.{port_at, row_at, ingress, wire_to, is_wired};
 ghost use Rattle.afdx_wiring.specs.Order.{row_of, is_port, lost_port, leading, row_before};
 
 use crate::fault::{At, NetworkFault};
 use crate::layout::{End, Layout, Wire};
 use crate::row::Row;
 use crate::wires::is_end;
+use afdx_grouping::PLACES;
 use afdx_table::{PortRow, Table};
 use std::marker::Model;
 
@@ -146,6 +148,21 @@ impl Network {
         ensures { option_copied result ≡ wire_to self.now end }
     {
         self.layout.wires.iter().find(|wire| is_end(wire.to, end))
+    }
+
+    /// To which ports of a switch a wire goes, in the places of their numbers. O(wires), for each place.
+    pub(crate) fn wired(&self, switch: usize) -> [bool; PLACES]
+        ensures { (port : ℕ) → port < 25 → is_lined result port ≡ is_wired self.now switch port }
+    {
+        let mut wired = [false; PLACES];
+        for port in 0..PLACES {
+            let end = End {
+                switch,
+                port: port as u8,
+            };
+            wired[port] = self.wire_to(end).is_some();
+        }
+        wired
     }
 
     /// The row that sends a link on a wire, where there is one.

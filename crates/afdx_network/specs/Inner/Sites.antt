@@ -21,7 +21,7 @@ use Rattle.afdx_wiring.specs.Net.{Network, wire_to}
 use Rattle.afdx_network.specs.declared.fault.NetworkRunFault.{NetworkRunFault}
 use Rattle.afdx_network.specs.declared.fault.NetworkRunFault.TheVariants as fault
 use Rattle.afdx_network.specs.Way.{delayed}
-use Rattle.afdx_network.specs.Runs.{Given}
+use Rattle.afdx_network.specs.Runs.{Given, IsPlain}
 use Rattle.afdx_network.specs.Given.{NoneIsLateAnywhere}
 use Rattle.afdx_network.specs.Early.{ComesBy}
 
@@ -40,6 +40,7 @@ pub record LeadsTo (t : Content) (came : List Text) (results : Results) : Type 0
   pub accepted : IsAccepted t
   pub outcome : IsOutcome t came results
   pub isolated : IsIsolated t came results
+  pub plain : IsPlain t came results outcome isolated
 
 -- a site of a switch of the network
 pub record IsSite (net : Network) (given : Given) (switch : ℕ) (s : Site) : Type 0 where

@@ -20,6 +20,9 @@ pub record HandsOver {Z : Type 0} (bytes : List ℕ) (old new : Lane Z) : Type 0
   pub last : new.last ≡ old.last
   pub ended : new.ended ≡ old.ended
   pub waiting : new.waiting ≡ old.waiting
+  pub undone : new.undone ≡ old.undone
+  pub closed : new.closed ≡ old.closed
+  pub ready : new.ready ≡ old.ready
   pub taken : new.taken ≡ old.taken + length bytes
   pub out : old.out.items ≡ bytes ++ new.out.items
 

@@ -41,11 +41,15 @@ come_to (Some h) = h
 abbrev pub text_up_to : Content → List Arrival → ℕ → PortRow → List ℕ
 text_up_to t given h p = capture_text (map (written given) (sent_up_to t given (Some h) p))
 
--- the port at a place handed out what it sends up to an instant, and its lane has of that text what was not taken
-pub record IsOut {Z : Type 0} (t : Content) (given : List Arrival) (h : ℕ) (s : State) (p : PortRow) (place : ℕ) (l : Lane Z) : Type 0 where
+-- the port at a place handed out what it sends up to an instant, and this is what is left of that text without its first n bytes
+pub record IsOutAt (t : Content) (given : List Arrival) (h : ℕ) (s : State) (p : PortRow) (place n : ℕ) (out : List ℕ) : Type 0 where
   pub count : slice_index s.run.handed place ≡ length (sent_up_to t given (Some h) p)
-  pub taken : l.taken ≤ length (text_up_to t given h p)
-  pub left : l.out.items ≡ drop l.taken (text_up_to t given h p)
+  pub taken : n ≤ length (text_up_to t given h p)
+  pub left : out ≡ drop n (text_up_to t given h p)
+
+-- and its lane has of that text what was not taken
+abbrev pub IsOut : {Z : Type 0} → Content → List Arrival → ℕ → State → PortRow → ℕ → Lane Z → Type 0
+IsOut t given h s p place l = IsOutAt t given h s p place l.taken l.out.items
 
 -- so did the ports at these places
 abbrev pub AreOut : {Z : Type 0} → Content → List Arrival → ℕ → State → List (Lane Z) → (ℕ → Type 0) → Type 0
@@ -112,6 +116,33 @@ AreGrown [] [] = Unit {0}
 AreGrown [] (n ∷ new) = ⊥
 AreGrown (l ∷ old) [] = ⊥
 AreGrown (l ∷ old) (n ∷ new) = IsGrown l n × AreGrown old new
+
+-- a lane as it was, but for what waits and for its output
+pub record IsAlike {Z : Type 0} (old new : Lane Z) : Type 0 where
+  pub port : new.port ≡ old.port
+  pub reader : new.reader ≡ old.reader
+  pub ended : new.ended ≡ old.ended
+  pub undone : new.undone ≡ old.undone
+  pub closed : new.closed ≡ old.closed
+  pub ready : new.ready ≡ old.ready
+
+abbrev pub AreAlike : {Z : Type 0} → List (Lane Z) → List (Lane Z) → Type 0
+AreAlike [] [] = Unit {0}
+AreAlike [] (n ∷ new) = ⊥
+AreAlike (l ∷ old) [] = ⊥
+AreAlike (l ∷ old) (n ∷ new) = IsAlike l n × AreAlike old new
+
+-- a lane as it was, but for its output
+pub record IsDrawnOff {Z : Type 0} (old new : Lane Z) : Type 0 where
+  pub alike : IsAlike old new
+  pub last : new.last ≡ old.last
+  pub waiting : new.waiting ≡ old.waiting
+
+abbrev pub AreDrawnOff : {Z : Type 0} → List (Lane Z) → List (Lane Z) → Type 0
+AreDrawnOff [] [] = Unit {0}
+AreDrawnOff [] (n ∷ new) = ⊥
+AreDrawnOff (l ∷ old) [] = ⊥
+AreDrawnOff (l ∷ old) (n ∷ new) = IsDrawnOff l n × AreDrawnOff old new
 
 -- a switch is over the same table, of the same ports, and keeps its lists or lets go of them as before
 pub record IsOfSameTable (old new : State) : Type 0 where

@@ -7,9 +7,8 @@ use Rattle.afdx_session.specs.declared.plan.RunFault.{RunFault}
 use Rattle.afdx_session.specs.declared.plan.RunFault.TheVariants as run
 use Rattle.afdx_session.specs.declared.sources.SourceFault.{SourceFault}
 use Rattle.afdx_session.specs.declared.sources.SourceFault.TheVariants as fault
-use Rattle.afdx_session.specs.Session.{Intake, Seen, taken_of, refusal}
+use Rattle.afdx_session.specs.Session.{Intake, Seen, refusal}
 use Rattle.afdx_session.specs.Into.{HaveTaken}
-use Rattle.afdx_session.specs.Inner.Pieces.{GoesOnTo}
 
 -- ---- faults
 
@@ -56,19 +55,6 @@ pub record IsOfTable (t : Content) (v : Seen) : Type 0 where
   pub ports : map (λ (i : Intake). i.port) v.intakes ≡ map (λ p. p.id) t.ports
   pub none_failed : v.failed ≡ false
 
--- nothing was taken
-pub record GoesOnUntaken (v later : Seen) : Type 0 where
-  pub on : GoesOnTo v later
-  pub taken : (port : ℕ) → taken_of later port ≡ taken_of v port
-
--- one more read was made; where none is to be made any more, all readers are at their ends
-pub record ReadsOn {R : Type 0} (remaining : R → Option (List ℕ)) (v : Seen) (readers : List R) (more : Bool) (later : Seen) (now : List R) : Type 0 where
-  pub of : IsOfTable v.table later
-  pub on : GoesOnUntaken v later
-  pub many : length now ≡ length readers
-  pub read : (first : List R) → AreReadUpTo remaining v first readers → AreReadUpTo remaining later first now
-  pub all : more ≡ false → (first : List R) → AreReadUpTo remaining v first readers → AreAtEnd remaining now
-
 -- a port has what it had, but for what was taken
 pub record HasSameBytes (old new : Intake) : Type 0 where
   pub port : new.port ≡ old.port
@@ -85,7 +71,7 @@ pub record TakesParts {F : Type 0} (contents : F → Option (List ℕ)) (v : See
   pub many : length now ≡ length files
   pub taken : (start : List F) → HaveTaken contents v start files → HaveTaken contents later start now
 
--- both, one after the other
+-- a run went on: this is what the readers gave, and what was taken is in the files
 pub record GoesOnReading {R F : Type 0} (remaining : R → Option (List ℕ)) (contents : F → Option (List ℕ)) (v : Seen) (readers : List R) (files : List F) (later : Seen) (now : List R)
     (written : List F) : Type 0 where
   pub of : IsOfTable v.table later
@@ -93,3 +79,9 @@ pub record GoesOnReading {R F : Type 0} (remaining : R → Option (List ℕ)) (c
   pub long : length written ≡ length files
   pub read : (first : List R) → AreReadUpTo remaining v first readers → AreReadUpTo remaining later first now
   pub taken : (start : List F) → HaveTaken contents v start files → HaveTaken contents later start written
+
+-- by one more read; where none is to be made any more, all readers are at their ends
+pub record ReadsOn {R F : Type 0} (remaining : R → Option (List ℕ)) (contents : F → Option (List ℕ)) (v : Seen) (readers : List R) (files : List F) (more : Bool) (later : Seen) (now : List R)
+    (written : List F) : Type 0 where
+  pub on : GoesOnReading remaining contents v readers files later now written
+  pub all : more ≡ false → (first : List R) → AreReadUpTo remaining v first readers → AreAtEnd remaining now

@@ -1,7 +1,6 @@
-use Rattle.std.proofs.Common.{true, false, refl, sym, inr, ◌∙◌}
+use Rattle.std.proofs.Common.{inr, ◌∙◌}
 use Rattle.afdx_session.specs.Inner.Stop.{IsStopSince}
-use Rattle.afdx_session.proofs.Calls.{ok_reported}
-use Rattle.afdx_session.proofs.FromReaders.{reads_both, takes_both, stop_since, ended_of, next_within}
+use Rattle.afdx_session.proofs.FromReaders.{reads_then, stop_since, ended_of, next_within}
 use Rattle.afdx_session.proofs.Sessions.{of_error}
 use Rattle.afdx_session.proofs.sources.read_all.Goals as goal
 
@@ -26,25 +25,18 @@ pub returns-then-not-more-clause-ok : goal.returns-then-not-more-clause-ok
 returns-then-not-more-clause-ok g c =
     let v = c.args.start in
     let was = c.loop-turn.invariant.on in
-    let on = rw c.if-not-more.true at c.in_ok-session.ensures.ok in (
-      reads_both c.takes_join_to_the_output.ensures.calls g.R.Read.remaining g.F.NewFile.contents v c.loop-turn.session c.in_ok-session.field-0-0 c.args.readers.now c.loop-turn.readers
-          c.args.files.now c.loop-turn.files false c.read_on.new.readers was on,
-      λ first read. on.all refl first (was.read first read),
+    let reads = c.in_ok-session.ensures.ok in (
+      reads_then g.R.Read.remaining g.F.NewFile.contents v c.loop-turn.session c.in_ok-session.field-0-0 c.args.readers.now c.loop-turn.readers c.read_on.new.readers
+          c.args.files.now c.loop-turn.files c.read_on.new.files was reads.on,
+      λ first read. reads.all c.if-not-more.true first (was.read first read),
     )
 
 pub loop-turn-preserved : goal.loop-turn-preserved
-loop-turn-preserved g c =
-    let v = c.args.start in
-    let rem = g.R.Read.remaining in
-    let contents = g.F.NewFile.contents in
-    let was = c.loop-turn.invariant.on in
-    let takes = ok_reported c.take_at.result _ (sym c.if-is_err.ensures.value) c.take_at.ensures in
-    let on = reads_both c.takes_join_to_the_output.ensures.calls rem contents v c.loop-turn.session c.in_ok-session.field-0-0 c.args.readers.now c.loop-turn.readers
-    c.args.files.now c.loop-turn.files c.in_ok-session.field-0-1 c.read_on.new.readers was c.in_ok-session.ensures.ok in
-    record {
-      on = takes_both rem contents v c.in_ok-session.field-0-0 c.take_at.new.session c.args.readers.now c.read_on.new.readers c.args.files.now c.loop-turn.files c.take_at.new.files on takes;
-      room = c.read_on.ensures.room ∙ c.loop-turn.invariant.room;
-    }
+loop-turn-preserved g c = record {
+  on = reads_then g.R.Read.remaining g.F.NewFile.contents c.args.start c.loop-turn.session c.in_ok-session.field-0-0 c.args.readers.now c.loop-turn.readers c.read_on.new.readers
+      c.args.files.now c.loop-turn.files c.read_on.new.files c.loop-turn.invariant.on c.in_ok-session.ensures.ok.on;
+  room = c.read_on.ensures.room ∙ c.loop-turn.invariant.room;
+}
 
 pub returns-in-Some-next_place-clause-err : goal.returns-in-Some-next_place-clause-err
 returns-in-Some-next_place-clause-err g c =

@@ -1,4 +1,4 @@
-use Rattle.std.proofs.Common.{◌≡◌, ◌<◌, length}
+use Rattle.std.proofs.Common.{◌≡◌, length}
 use Rattle.afdx_session.specs.Inner.Sources.{GoesOnReading}
 use Rattle.afdx_session.proofs.sources.read_all.Given as goal
 

@@ -1,4 +1,4 @@
-use Rattle.std.proofs.Common.{rules, arith, ◌≡◌, ◌≤◌, ◌<◌, ◌+◌, ◌++◌, ◌∷◌, [], length, length-set, take, subst, sym, ◌∙◌, slice_index_or}
+use Rattle.std.proofs.Common.{rules, arith, ◌≡◌, ◌≤◌, ◌<◌, ◌++◌, ◌∷◌, [], length, length-set, take, subst, sym, ◌∙◌, slice_index_or}
 use Rattle.std.proofs.lemmas.Option.{slice_get-get_or}
 use Rattle.afdx_session.specs.Inner.Stop.{AreReadOut, IsFoundIn}
 use Rattle.afdx_session.proofs.Stopping.{out_more, found_more, set_later}

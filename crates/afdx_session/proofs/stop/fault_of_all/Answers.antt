@@ -1,4 +1,4 @@
-use Rattle.std.proofs.Common.{rules, arith, ◌<◌, ◌≤◌, length, slice_index_or, sym, subst}
+use Rattle.std.proofs.Common.{rules, arith, length, slice_index_or, sym, subst}
 use Rattle.std.proofs.lemmas.Option.{slice_get-get_or}
 use Rattle.afdx_session.specs.Sources.{HasFirstFault}
 use Rattle.afdx_session.specs.Inner.Stop.{IsUnread}

@@ -20,5 +20,5 @@ pub returns-clause-ok : goal.returns-clause-ok
 returns-clause-ok c =
     let before = ap (λ (s : Site). s.came) c.self.view_is in
     let never = sym (ap (λ (s : Site). is_some s.outcome) c.self.view_is) ∙ sym c.is_some.ensures ∙ c.if-is_some.false in
-    runs_now c.accepted_runs_isolate.ensures c.args.table.now c.in_ok-copy.field-0 (texts_of c.deref.result.now) c.args.self.now _ c.in_ok-run.field-0 c.requires.well_formed c.requires.accepted
+    runs_now c.outcomes_isolate.ensures.plain c.args.table.now c.in_ok-copy.field-0 (texts_of c.deref.result.now) c.args.self.now _ c.in_ok-run.field-0 c.requires.well_formed c.requires.accepted
     c.in_ok-copy.ensures (ap texts_of c.deref.ensures.value ∙ before) before refl never c.in_ok-run.ensures.ok

@@ -1,5 +1,7 @@
-use Rattle.std.proofs.Common.{◌≡◌, take}
+use Rattle.std.proofs.Common.{◌≡◌, ◌++◌, drop, map}
+use Rattle.afdx_wiring.specs.Inner.Loads.{loads_from}
 use Rattle.afdx_wiring.proofs.hops.Hops.new.Given as goal
 
-abbrev pub invariant-loop-table : goal.invariant-loop-table
-invariant-loop-table l = l.all.items ≡ take l.table-index l.network.tables
+abbrev pub invariant-loop-switch : goal.invariant-loop-switch
+invariant-loop-switch l =
+    map (λ loads. loads.items) l.all.items ++ loads_from l.network l.switch (drop l.switch l.network.tables) ≡ loads_from l.network 0 l.network.tables

@@ -1,0 +1,4 @@
+pub mod Adding
+pub mod LesserBounds
+pub mod Partition
+pub mod Turning

@@ -1,0 +1,87 @@
+-- The groups of a port's links by the ports at which they come in, what each of them can bring, and the lesser load that follows
+-- (network calculus: grouping; profile).
+use Rattle.std.specs.Prelude.{ℕ, ◌+◌, ◌*◌, ◌/◌, ◌==◌, ◌&&◌, Bool, Option, Some, None, option_map, if◌then◌else◌, List, map, filter, sum_by}
+use Rattle.afdx_units.specs.declared.line.Speed.{Speed}
+use Rattle.afdx_units.specs.Line.{tick_of, cost_of}
+use Rattle.afdx_account.specs.Policing.{parts}
+use Rattle.afdx_serial.specs.Curves.{Straight, Curve}
+use Rattle.afdx_table.specs.declared.rows.PortRow.{PortRow}
+use Rattle.afdx_table.specs.Link.{Link, leads_to}
+use Rattle.afdx_table.specs.Content.{Content}
+use Rattle.afdx_load.specs.Load.{Load, is_high_link, rate_of, burst_of, greatest, load_of}
+use Rattle.afdx_grouping.specs.Burst.{least_burst}
+
+-- ---- groups
+
+-- what some links ask of a line: in parts of a nanosecond at once, and in each nanosecond; and the bytes of their largest frame, 0
+-- where there are none
+pub record Asked : Type 0 where
+  pub burst : ℕ
+  pub rate : ℕ
+  pub largest : ℕ
+
+abbrev pub asked_by : Speed → List Link → Asked
+asked_by here links = record { burst = sum_by (burst_of here) links; rate = sum_by (rate_of here) links; largest = greatest (λ l. l.max_size) links }
+
+-- what all links of a group ask, and the high ones
+pub record Group : Type 0 where
+  pub all : Asked
+  pub high : Asked
+
+abbrev pub group_of : Speed → List Link → Group
+group_of here links = record { all = asked_by here links; high = asked_by here (filter is_high_link links) }
+
+-- a link comes in at one port and leads to another
+abbrev pub goes_over : (from to : ℕ) → Link → Bool
+goes_over from to link = (link.from == from) && leads_to to link
+
+-- the group of those that lead to the second port
+abbrev pub group_at : List Link → (from : ℕ) → PortRow → Group
+group_at links from to = group_of to.speed (filter (goes_over from to.id) links)
+
+-- ---- curves
+
+-- profile: parts of a nanosecond of line time here that a nanosecond of a line there brings; the ticks divide each other
+abbrev pub line_weight : (here there : Speed) → ℕ
+line_weight here there = parts * tick_of here / tick_of there
+
+-- what is paid for
+abbrev pub paid_by : Asked → Straight
+paid_by a = record { burst = a.burst; rate = a.rate }
+
+-- what a line there brings: the largest frame at once and a nanosecond in each; and so many parts beside
+abbrev pub brought_by : (here : Speed) → (spare : ℕ) → Asked → (there : Speed) → Straight
+brought_by here spare a there = record { burst = line_weight here there * cost_of there a.largest + spare; rate = line_weight here there }
+
+abbrev pub curve_of : (here : Speed) → (line : Option Speed) → (spare : ℕ) → Asked → Curve
+curve_of here line spare a = record { paid = paid_by a; brought = option_map (brought_by here spare a) line }
+
+-- profile: a low frame waits for high ones that come after it, so that beside what the line brings the high links' burst is counted
+abbrev pub all_curve : Speed → Option Speed → Group → Curve
+all_curve here line g = curve_of here line g.high.burst g.all
+
+abbrev pub high_curve : Speed → Option Speed → Group → Curve
+high_curve here line g = curve_of here line 0 g.high
+
+-- ---- the load of a port
+
+-- the speed of the line at a port, where frames are known to come over it one after the other
+abbrev pub line_at : (ℕ → Bool) → PortRow → Option Speed
+line_at lined from = if lined from.id then Some from.speed else None
+
+abbrev pub all_curves : Content → (ℕ → Bool) → PortRow → List Curve
+all_curves t lined to = map (λ from. all_curve to.speed (line_at lined from) (group_at t.links from.id to)) t.ports
+
+abbrev pub high_curves : Content → (ℕ → Bool) → PortRow → List Curve
+high_curves t lined to = map (λ from. high_curve to.speed (line_at lined from) (group_at t.links from.id to)) t.ports
+
+-- profile: its load, of which all links and the high ones ask for no more at once than the least bursts that are enough for their groups
+abbrev pub lesser_load : (ℕ → Bool) → Content → PortRow → Load
+lesser_load lined t to = record (load_of t.latency to.speed to.id t.links) {
+  burst = least_burst parts (all_curves t lined to);
+  high_burst = least_burst parts (high_curves t lined to);
+}
+
+-- those of all ports
+abbrev pub lesser_loads : (ℕ → Bool) → Content → List Load
+lesser_loads lined t = map (lesser_load lined t) t.ports

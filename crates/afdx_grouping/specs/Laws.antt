@@ -1,0 +1,52 @@
+-- Laws over least bursts.
+use Rattle.std.specs.Prelude.{◌≡◌, ℕ, ◌≤◌, Bool, Option, Some, List, All}
+use Rattle.std.specs.List.{AllZip}
+use Rattle.afdx_serial.specs.Curves.{Curve, curve_at}
+use Rattle.afdx_table.specs.declared.rows.PortRow.{PortRow}
+use Rattle.afdx_table.specs.Content.{Content}
+use Rattle.afdx_table.specs.WellFormed.{IsWellFormed}
+use Rattle.afdx_load.specs.Bounds.{high_bound, low_bound}
+use Rattle.afdx_load.specs.Load.{Load, load_of}
+use Rattle.afdx_grouping.specs.Burst.{paid_burst, paid_rate, least_burst, IsLeastBurst}
+use Rattle.afdx_grouping.specs.Groups.{all_curves, high_curves, lesser_load, lesser_loads}
+
+-- where no more is paid for in the long run than n
+abbrev pub BurstsAreLeast : Type 0
+BurstsAreLeast = (n : ℕ) (curves : List Curve) → paid_rate curves ≤ n → IsLeastBurst n (least_burst n curves) curves
+
+abbrev pub NoneIsMoreThanPaidFor : Type 0
+NoneIsMoreThanPaidFor = (n : ℕ) (curves : List Curve) → least_burst n curves ≤ paid_burst curves
+
+-- the groups of a port are paid for no more than its links are: in the long run, and at once, all and the high ones
+pub record ArePaidForOnce (t : Content) (lined : ℕ → Bool) (to : PortRow) : Type 0 where
+  pub rate : paid_rate (all_curves t lined to) ≤ (load_of t.latency to.speed to.id t.links).rate
+  pub high_rate : paid_rate (high_curves t lined to) ≤ (load_of t.latency to.speed to.id t.links).rate
+  pub burst : paid_burst (all_curves t lined to) ≤ (load_of t.latency to.speed to.id t.links).burst
+  pub high_burst : paid_burst (high_curves t lined to) ≤ (load_of t.latency to.speed to.id t.links).high_burst
+
+abbrev pub NoMoreIsPaidFor : Type 0
+NoMoreIsPaidFor = (t : Content) (lined : ℕ → Bool) (to : PortRow) → IsWellFormed t → ArePaidForOnce t lined to
+
+-- a curve brings no more than another one in any window
+abbrev pub IsBelow : Curve → Curve → Type 0
+IsBelow c d = (window : ℕ) → curve_at c window ≤ curve_at d window
+
+-- curves that bring no more need no more
+abbrev pub LesserCurvesNeedLess : Type 0
+LesserCurvesNeedLess = (n : ℕ) (curves greater : List Curve) → paid_rate curves ≤ n → paid_rate greater ≤ n → AllZip IsBelow curves greater → least_burst n curves ≤ least_burst n greater
+
+-- a bound is there where the other one is, and no greater
+abbrev pub IsNoMore : Option ℕ → Option ℕ → Type 0
+IsNoMore bound other = (y : ℕ) → other ≡ Some y → (x : ℕ) × (bound ≡ Some x) × (x ≤ y)
+
+-- so are the two of a load
+pub record AreNoMore (lesser load : Load) : Type 0 where
+  pub high : IsNoMore (high_bound lesser) (high_bound load)
+  pub low : IsNoMore (low_bound lesser) (low_bound load)
+
+abbrev pub BoundsAreNoMore : Type 0
+BoundsAreNoMore = (t : Content) (lined : ℕ → Bool) (to : PortRow) → IsWellFormed t → AreNoMore (lesser_load lined t to) (load_of t.latency to.speed to.id t.links)
+
+-- what is said of other ports than the table's is nothing to its loads
+abbrev pub OnlyPortsCount : Type 0
+OnlyPortsCount = (t : Content) (lined other : ℕ → Bool) → All (λ p. lined p.id ≡ other p.id) t.ports → lesser_loads lined t ≡ lesser_loads other t

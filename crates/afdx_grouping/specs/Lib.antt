@@ -1,0 +1,5 @@
+pub mod Adding
+pub mod Burst
+pub mod Groups
+pub mod Laws
+pub mod Lined

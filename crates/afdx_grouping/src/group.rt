@@ -1,0 +1,216 @@
+//! What the links of a group ask of a line, and the curves that follow.
+
+ghost use Rattle.std.specs.Prelude.{◌≡◌, ℕ, ◌+◌, ◌*◌, ◌<◌, ◌≤◌, ◌^◌, [], length, slice_index_or};
+ghost use Rattle.afdx_units.specs.Line.{greatest_size};
+ghost use Rattle.afdx_units.specs.declared.line.Speed.{Speed};
+ghost use Rattle.afdx_table.specs.WellFormed.{IsLink};
+ghost use Rattle.afdx_grouping.specs.Groups.{asked_by, group_of, goes_over, group_at, line_weight, curve_of, all_curve, high_curve};
+ghost use Rattle.afdx_grouping.specs.Adding.{asked_with, high_with, group_with, group_added, IsSmall};
+
+use crate::curve::{Curve, Straight};
+use afdx_load::{PARTS, Share, share_of};
+use afdx_table::{LinkRow, PortRow, Table};
+use afdx_units::{Priority, Speed, cost};
+use std::marker::Model;
+
+/// What some links ask of a line.
+#[derive(Clone, Copy)]
+struct Asked {
+    /// At once, in parts of a nanosecond.
+    burst: u128,
+    /// In each nanosecond.
+    rate: u64,
+    /// The bytes of their largest frame, 0 where there are none.
+    largest: u32,
+}
+
+impl Model for Asked {
+    ghost use Rattle.std.specs.Prelude.{◌≤◌, ◌^◌};
+    ghost use Rattle.afdx_units.specs.Line.{greatest_size};
+    ghost use Rattle.afdx_grouping.specs.Groups.{Asked as Seen};
+
+    ghost Value = { Seen };
+
+    ghost view = { λ a. record { burst = a.burst; rate = a.rate; largest = a.largest } };
+
+    ghost invariant = { λ a. (a.burst ≤ 2 ^ 72) × (a.rate ≤ 2 ^ 44) × (a.largest ≤ greatest_size) };
+
+    ghost inverse = { λ a. record { burst = a.burst; rate = a.rate; largest = a.largest } };
+}
+
+/// What all links of a group ask, and the high ones.
+#[derive(Clone, Copy)]
+pub(crate) struct Group {
+    all: Asked,
+    high: Asked,
+}
+
+impl Model for Group {
+    ghost use Rattle.afdx_grouping.specs.Groups.{Group as Seen};
+
+    ghost Value = { Seen };
+
+    ghost view = { λ g. record { all = g.all; high = g.high } };
+
+    ghost inverse = { λ g. record { all = g.all; high = g.high } };
+}
+
+/// Parts of a nanosecond of line time here that a nanosecond of a line there brings.
+fn line_weight(here: Speed, there: Speed) -> u64
+    ensures weight { result ≡ line_weight here there }
+    ensures small { result ≤ 2 ^ 38 }
+{
+    PARTS * here.tick() / there.tick()
+}
+
+impl Asked {
+    /// Of no links.
+    fn none() -> Asked
+        ensures { (here : Speed) → result ≡ asked_by here [] }
+    {
+        Asked {
+            burst: 0,
+            rate: 0,
+            largest: 0,
+        }
+    }
+
+    /// Of one more link.
+    fn with(self, here: Speed, link: &LinkRow) -> Asked
+        requires burst { self.burst ≤ 4095 * 2 ^ 60 }
+        requires rate { self.rate ≤ 4095 * 2 ^ 32 }
+        requires size { link.now.max_size ≤ greatest_size }
+        requires jitter { link.now.jitter ≤ 10000000 }
+        ensures more { result ≡ asked_with here link.now self }
+        ensures burst { result.burst ≤ self.burst + 2 ^ 60 }
+        ensures rate { result.rate ≤ self.rate + 2 ^ 32 }
+    {
+        let share = share_of(here, link);
+        Asked {
+            burst: self.burst + share.burst,
+            rate: self.rate + share.rate,
+            largest: self.largest.max(link.max_size),
+        }
+    }
+
+    /// Of one more link, where that is a high one.
+    fn with_high(self, here: Speed, link: &LinkRow) -> Asked
+        requires burst { self.burst ≤ 4095 * 2 ^ 60 }
+        requires rate { self.rate ≤ 4095 * 2 ^ 32 }
+        requires size { link.now.max_size ≤ greatest_size }
+        requires jitter { link.now.jitter ≤ 10000000 }
+        ensures more { result ≡ high_with here link.now self }
+        ensures burst { result.burst ≤ self.burst + 2 ^ 60 }
+        ensures rate { result.rate ≤ self.rate + 2 ^ 32 }
+    {
+        match link.priority {
+            Priority::High => self.with(here, link),
+            Priority::Low => self,
+        }
+    }
+
+    /// What the links are paid for, and what the line there brings of them, with so many parts beside, where it is kept to.
+    fn curve(self, here: Speed, line: Option<Speed>, spare: u128) -> Curve
+        requires { spare ≤ 2 ^ 72 }
+        ensures { result ≡ curve_of here line spare self }
+    {
+        let paid = Straight {
+            burst: self.burst,
+            rate: self.rate,
+        };
+        let brought = match line {
+            Some(there) => {
+                let weight = line_weight(here, there);
+                let first = u128::from(cost(there, self.largest));
+                Some(Straight {
+                    burst: u128::from(weight) * first + spare,
+                    rate: weight,
+                })
+            }
+            None => None,
+        };
+        Curve { paid, brought }
+    }
+}
+
+impl Group {
+    /// The group of no links.
+    fn none() -> Group
+        ensures { (here : Speed) → result ≡ group_of here [] }
+    {
+        Group {
+            all: Asked::none(),
+            high: Asked::none(),
+        }
+    }
+
+    /// The group with one more link.
+    fn with(self, here: Speed, link: &LinkRow) -> Group
+        requires room { IsSmall 4095 self }
+        requires size { link.now.max_size ≤ greatest_size }
+        requires jitter { link.now.jitter ≤ 10000000 }
+        ensures more { result ≡ group_with here link.now self }
+        ensures small { (links : ℕ) → IsSmall links self → IsSmall (links + 1) result }
+    {
+        Group {
+            all: self.all.with(here, link),
+            high: self.high.with_high(here, link),
+        }
+    }
+
+    /// The group with a link, where that comes in at one port and leads to another.
+    fn added(self, from: u8, to: &PortRow, link: &LinkRow) -> Group
+        requires room { IsSmall 4095 self }
+        requires size { link.now.max_size ≤ greatest_size }
+        requires jitter { link.now.jitter ≤ 10000000 }
+        ensures added { result ≡ group_added from to.now link.now self }
+        ensures small { (links : ℕ) → IsSmall links self → IsSmall (links + 1) result }
+    {
+        if goes_over(link, from, to.id) {
+            self.with(to.speed, link)
+        } else {
+            self
+        }
+    }
+
+    /// What all its links can bring, over a line of this speed where it is kept to.
+    pub(crate) fn all_curve(self, here: Speed, line: Option<Speed>) -> Curve
+        ensures { result ≡ all_curve here line self }
+    {
+        self.all.curve(here, line, self.high.burst)
+    }
+
+    /// What its high links can bring.
+    pub(crate) fn high_curve(self, here: Speed, line: Option<Speed>) -> Curve
+        ensures { result ≡ high_curve here line self }
+    {
+        self.high.curve(here, line, 0)
+    }
+}
+
+/// The link at a place in file order.
+fn link_at(table: &Table, index: usize) -> &LinkRow
+    requires { index < length table.now.links }
+    ensures link { result.now ≡ slice_index_or table.now.links index result.now }
+    ensures limits { IsLink table.now.ports result.now }
+{
+    table.link_at(index).unwrap()
+}
+
+/// Whether a link comes in at one port and leads to another.
+fn goes_over(link: &LinkRow, from: u8, to: u8) -> bool
+    ensures { result ≡ goes_over from to link.now }
+{
+    link.from == from && link.to.as_slice().contains(&to)
+}
+
+/// The group of the links that come in at a port and lead to another. O(links).
+pub(crate) fn group_at(table: &Table, from: u8, to: &PortRow) -> Group
+    ensures { result ≡ group_at table.now.links from to.now }
+{
+    let mut group = Group::none();
+    for index in 0..table.link_count() {
+        group = group.added(from, to, link_at(table, index));
+    }
+    group
+}

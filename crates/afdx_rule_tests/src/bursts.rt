@@ -1,0 +1,111 @@
+//! Lesser bursts, each reckoned by hand.
+
+use afdx_grouping::{PLACES, lessened};
+use afdx_load::load;
+use afdx_samples::{Link, Port, later, port, table};
+use afdx_table::{Table, read};
+use std::alloc::Global;
+use std::test::Fail;
+
+/// A low link from port 1 to port 2, which asks for 326,430,720 parts of a line of 100 Mbit/s in each nanosecond, and for a
+/// million times as many at once; its largest frame takes 123,040 ns there, of 2,048,000,000 parts each.
+const LOW: Link = Link {
+    id: 10,
+    from: 1,
+    to: "[2]",
+    bag_ms: 1,
+    jitter_us: 0,
+    max_size: 1518,
+    priority: "low",
+    police: "",
+};
+
+/// One more of them.
+const OTHER: Link = Link { id: 11, ..LOW };
+
+/// One from port 3.
+const THIRD: Link = Link { from: 3, ..OTHER };
+
+/// High ones from port 1 and from port 3.
+const HIGH: Link = Link {
+    id: 12,
+    priority: "high",
+    ..LOW
+};
+
+const THIRD_HIGH: Link = Link { from: 3, ..HIGH };
+
+/// One that is policed by frames: it asks for 251,985,920 parts.
+const FRAMED: Link = Link {
+    id: 13,
+    police: "frame",
+    ..LOW
+};
+
+/// The table of port 1, whose line is of so many Mbit/s, and of ports 2 and 3 at 100 Mbit/s, with these links.
+fn table_of(alloc: Global, mbit: u32, links: &[Link]) -> Result<Table, Fail> {
+    let first = Port { mbit, ..port(1) };
+    let rows = table(alloc, &[first, port(2), port(3)], links)?;
+    let table = if mbit > 100 {
+        read(alloc, later(alloc, &rows, 50)?.as_bytes())?
+    } else {
+        read(alloc, rows.as_bytes())?
+    };
+    Ok(table)
+}
+
+/// The bursts of port 2, where frames come one after the other over the line of port 1, and over that of port 3.
+fn bursts(table: &Table, first: bool, third: bool) -> Option<(u128, u128)> {
+    let mut lined = [false; PLACES];
+    lined[1] = first;
+    lined[3] = third;
+    let row = table.port(2)?;
+    let lesser = lessened(table, &lined, row, load(table, 2)?);
+    Some((lesser.burst(), lesser.high_burst()))
+}
+
+/// Mbit/s of port 1, links, over which lines frames come one after the other, and the two bursts.
+const WORKED: &[(u32, &[Link], [bool; 2], (u128, u128))] = &[
+    // no line is known: twice 326,430,720,000,000
+    (100, &[LOW, OTHER], [false, true], (652_861_440_000_000, 0)),
+    // one line as fast as the port's brings no more than its first frame, 123,040 * 2,048,000,000
+    (100, &[LOW, OTHER], [true, false], (251_985_920_000_000, 0)),
+    // so does one of 10 Mbit/s: its frame takes 1,230,400 ns there, each worth 204,800,000 parts here
+    (10, &[LOW, OTHER], [true, false], (251_985_920_000_000, 0)),
+    // one of 1000 Mbit/s brings 20,480,000,000 parts in a nanosecond for 20,218 ns; then both accounts give
+    // 652,861,440 in each: at 20,219 ns 652,861,440,000,000 - 20,219 * 1,395,138,560
+    (1000, &[LOW, OTHER], [true, false], (624_653_133_455_360, 0)),
+    // two lines bring two frames, and gain until 43,242 ns; at 43,243 ns 652,861,440,000,000 - 43,243 * 1,395,138,560
+    (100, &[LOW, THIRD], [true, true], (592_531_463_249_920, 0)),
+    // beside the first frame of all the burst of the high link is counted: 326,430,720,000,000
+    (
+        100,
+        &[LOW, HIGH],
+        [true, false],
+        (578_416_640_000_000, 251_985_920_000_000),
+    ),
+    // by bytes and by frames over the line for 222,124 ns, the high link beside it at once:
+    // 251,985,920,000,000 + 326,430,720,000,000 + 222,124 * 326,430,720
+    (
+        100,
+        &[LOW, FRAMED, THIRD_HIGH],
+        [true, false],
+        (650_924_737_249_280, 326_430_720_000_000),
+    ),
+    // no link, no burst
+    (100, &[], [true, true], (0, 0)),
+];
+
+#[test]
+fn worked_bursts(rt: HostRuntime) -> Result<(), Fail> {
+    for (mbit, links, lined, want) in WORKED {
+        let table = table_of(rt.alloc(), *mbit, links)?;
+        assert_eq!(rt;
+            bursts(&table, lined[0], lined[1]),
+            Some(*want),
+            "{}",
+            want.0
+        );
+    }
+    Ok(())
+}
