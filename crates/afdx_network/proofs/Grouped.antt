@@ -135,17 +135,20 @@ module _ (laws : Grouping) (t : Content) (formed : IsWellFormed t) (lined : ℕ 
   all_made : (has : ℕ → Bool) (line : Option Speed) → all_curve (settings_of t.latency p) (flows_at t p) (record { has = has; speed = line })
       ≡ made line (bursts (flows_on (record { has = has; speed = line }) (flows_at t p))) (rates (flows_on (record { has = has; speed = line }) (flows_at t p)))
       (largest_of (flows_on (record { has = has; speed = line }) (flows_at t p))) (bursts (high_flows (flows_on (record { has = has; speed = line }) (flows_at t p))))
+  unfolding made
   all_made has None = refl
   all_made has (Some there) = refl
 
   high_made : (has : ℕ → Bool) (line : Option Speed) → high_curve (settings_of t.latency p) (flows_at t p) (record { has = has; speed = line })
       ≡ made line (bursts (high_flows (flows_on (record { has = has; speed = line }) (flows_at t p)))) (rates (high_flows (flows_on (record { has = has; speed = line }) (flows_at t p))))
       (largest_of (high_flows (flows_on (record { has = has; speed = line }) (flows_at t p)))) 0
+  unfolding made
   high_made has None = refl
   high_made has (Some there) = refl
 
   group_made : (line : Option Speed) (spare : ℕ) (ls : List Link) → made line (sum_by (burst_of p.speed) ls) (sum_by (rate_of p.speed) ls) (greatest (λ l. l.max_size) ls) spare
       ≡ group.curve_of p.speed line spare (group.asked_by p.speed ls)
+  unfolding made
   group_made None spare ls = refl
   group_made (Some there) spare ls = refl
 
