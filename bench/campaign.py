@@ -8,26 +8,29 @@ import argparse
 import random
 import sys
 import time
+from collections.abc import Callable
 from pathlib import Path
+from typing import TypeVar
 
 sys.dont_write_bytecode = True
 sys.path.insert(0, str(Path(__file__).resolve().parents[1] / "python"))
 
-from afdx.campaign.findings import QUESTIONS
-from afdx.campaign.report import put_report
-from afdx.campaign.store import collected, store_file
-from afdx.campaign.worker.program import Said
-from afdx.campaign.worker.task import Recording, Table, Task
-from afdx.campaign.worker.work import put_answer
+from afdx.campaign.findings import QUESTIONS  # noqa: E402
+from afdx.campaign.report import put_report  # noqa: E402
+from afdx.campaign.store import collected, store_file  # noqa: E402
+from afdx.campaign.worker.program import Said  # noqa: E402
+from afdx.campaign.worker.task import Recording, Table, Task  # noqa: E402
+from afdx.campaign.worker.work import put_answer  # noqa: E402
 
 PORTS = 24
+Answer = TypeVar("Answer")
 BOUND = 200_000  # ns
 HOUR = 3600 * 10**9
 
 
-def lines(chance, begin, links):
+def lines(chance: random.Random, begin: int, links: int) -> str:
     """Makes up what afdx would say of a recording."""
-    said = []
+    said: list[str] = []
     for port in range(1, PORTS + 1):
         said.append(f"in {port} seen 9000 cut 0 short 0 long 0 foreign 0 no-link 0 wrong-port 0 too-big 0 clean 9000")
         said += [f"out {port} {priority} offered 5000 full 0 aged 0 sent 5000" for priority in ("high", "low")]
@@ -41,7 +44,7 @@ def lines(chance, begin, links):
     return "\n".join(said)
 
 
-def tasks_of(root, recordings):
+def tasks_of(root: Path, recordings: int) -> list[Task]:
     """Makes up the tasks of a campaign that nobody has to run."""
     tables = [Table(name, (), (), False, name) for name in ("before", "after")]
     names = [f"r{number:05}" for number in range(recordings)]
@@ -49,7 +52,7 @@ def tasks_of(root, recordings):
             for table in tables for name in names]
 
 
-def timed(name, do):
+def timed(name: str, do: Callable[[], Answer]) -> Answer:
     """Does it, and prints how long it took."""
     began, used = time.monotonic(), time.process_time()
     done = do()
@@ -57,13 +60,13 @@ def timed(name, do):
     return done
 
 
-def collect(root, tasks):
+def collect(root: Path, tasks: list[Task]) -> None:
     with collected(root, tasks) as base:
         for name in ("delays", "links", "spells"):
             print(f"  {name} {base.execute(f'select count(*) from {name}').fetchone()[0]:,}")
 
 
-def main():
+def main() -> None:
     parser = argparse.ArgumentParser(description=__doc__, formatter_class=argparse.RawDescriptionHelpFormatter)
     parser.add_argument("room", type=Path, help="the folder of the answers, which is made")
     parser.add_argument("recordings", type=int, help="how many")

@@ -9,10 +9,12 @@ import argparse
 import os
 import random
 import statistics
-import struct
 import tempfile
+from collections.abc import Sequence
 
-from measure import HEADER, TCPDUMP, TOP, measured
+from measure import TCPDUMP, TOP, measured
+
+from captures import HEADER, frame, record
 
 IMPORT = f"{TOP}/python/bin/afdx-import"
 SIZES = [60, 60, 80, 100, 150, 200, 256, 300, 500, 800, 1200, 1514]
@@ -20,7 +22,7 @@ ONE_PORT = 'to = "port-1"'
 MIRROR = "end_systems = { " + ", ".join(f'{number} = "port-{number}"' for number in range(1, 11)) + " }"
 
 
-def write_recording(path, megabytes, sizes):
+def write_recording(path: str, megabytes: int, sizes: Sequence[int]) -> None:
     """Writes frames of ten end systems, about 100 Mbit/s of them."""
     chance, stamp, written = random.Random(1), 1_790_000_000 * 10**9, 0
     with open(path, "wb") as file:
@@ -30,18 +32,18 @@ def write_recording(path, megabytes, sizes):
             for _ in range(10_000):
                 size, sender = chance.choice(sizes), chance.randrange(1, 11)
                 stamp += (size + 24) * 80 + chance.randrange(1000)
-                head = struct.pack("<4I4sH3sHBH", *divmod(stamp, 10**9), size, size, b"\3\0\0\0", 0x100, b"\2\0\0", sender << 8,
-                                   0x20, 8)
-                parts.append(head.ljust(size + 16, b"\x55"))
+                parts.append(record(stamp, frame(1, size + 4, end_system=sender, network=0x20, fill=b"\x55")))
             written += file.write(b"".join(parts))
 
 
-def row(room, name, keys, path, runs):
+def row(room: str, name: str, keys: str, path: str, runs: int) -> None:
     """Prints what both commands make of a recording."""
     with open(f"{room}/rules.toml", "w", encoding="utf-8") as file:
         file.write(f'[[source]]\nfile = "{os.path.basename(path)}"\n{keys}\n')
     megabytes = os.path.getsize(path) / 1e6
-    ours, theirs, memory = [], [], 0
+    ours: list[float] = []
+    theirs: list[float] = []
+    memory = 0.0
     for _ in range(runs):
         _, used, peak = measured([IMPORT, f"{room}/rules.toml", room, f"{room}/in"], "/dev/null", "/dev/null")
         ours.append(megabytes / used)
@@ -51,7 +53,7 @@ def row(room, name, keys, path, runs):
           f"tcpdump {statistics.median(theirs):.0f} MB/s (at most {max(theirs):.0f}), {memory:.0f} MB of memory", flush=True)
 
 
-def main():
+def main() -> None:
     parser = argparse.ArgumentParser(description=__doc__, formatter_class=argparse.RawDescriptionHelpFormatter)
     parser.add_argument("megabytes", type=int, nargs="?", default=1000, help="of each recording; 1000 if none are named")
     parser.add_argument("runs", type=int, nargs="?", default=5, help="of each; 5 if none are named")

@@ -9,33 +9,35 @@ import argparse
 import glob
 import os
 import statistics
-import struct
 import subprocess
 import sys
 import tempfile
 import time
+from pathlib import Path
 
+sys.path.append(str(Path(__file__).resolve().parents[1] / "end_to_end"))
+
+from captures import HEADER, frame, record  # noqa: E402
+
+Commands = dict[str, tuple[list[str], int]]  # with the status with which each ends
 TOP = os.path.dirname(os.path.dirname(os.path.abspath(__file__)))
 RECAPTURE = f"{TOP}/crates/recapture/out/recapture"
 AFDX = f"{TOP}/crates/afdx/out/afdx"
-HEADER = bytes.fromhex("4d3cb2a1 02000400 00000000 00000000 00000400 01000000")
-ADDRESSES = bytes.fromhex("03000000000a 020000000001 0800")
 
 # Started by root, tcpdump would write as a user that may not write here.
 TCPDUMP = ["tcpdump", "--relinquish-privileges=root"] if os.geteuid() == 0 else ["tcpdump"]
 
 
-def write_capture(path, count, size, gap):
+def write_capture(path: str, count: int, size: int, gap: int) -> None:
     """Writes `count` frames of link 10 of this size in bytes, so many nanoseconds apart."""
-    frame = ADDRESSES + bytes(size - 4 - len(ADDRESSES))
+    data = frame(10, size)
     with open(path, "wb") as file:
         file.write(HEADER)
         for number in range(count):
-            seconds, nanos = divmod(number * gap, 10**9)
-            file.write(struct.pack("<4I", seconds, nanos, len(frame), len(frame)) + frame)
+            file.write(record(number * gap, data))
 
 
-def measured(arguments, source, target, status=0):
+def measured(arguments: list[str], source: str, target: str, status: int = 0) -> tuple[float, float, float]:
     """The seconds that this command takes, those of the processor, and the megabytes of memory at its peak."""
     with open(source, "rb") as read, open(target, "wb") as written:
         start = time.perf_counter()
@@ -51,30 +53,31 @@ def measured(arguments, source, target, status=0):
 class Seconds:
     """What a command took, by the clock and of the processor: the medians of its runs."""
 
-    def __init__(self):
-        self.clocks, self.processors = [], []
+    def __init__(self) -> None:
+        self.clocks: list[float] = []
+        self.processors: list[float] = []
 
-    def note(self, clock, processor):
+    def note(self, clock: float, processor: float) -> None:
         self.clocks.append(clock)
         self.processors.append(processor)
 
     @property
-    def clock(self):
+    def clock(self) -> float:
         return statistics.median(self.clocks)
 
     @property
-    def processor(self):
+    def processor(self) -> float:
         return statistics.median(self.processors)
 
-    def __str__(self):
+    def __str__(self) -> str:
         return f"{self.clock:.4f} s ({self.processor:.4f} s of the processor)"
 
-    def to(self, other):
+    def to(self, other: "Seconds") -> str:
         """The ratio of this to another."""
         return f"{self.clock / other.clock:.2f} ({self.processor / other.processor:.2f})"
 
 
-def medians(commands, source, target, runs):
+def medians(commands: Commands, source: str, target: str, runs: int) -> tuple[dict[str, Seconds], float]:
     """What each command took, turn by turn; the megabytes of the last one."""
     took = {name: Seconds() for name in commands}
     for _ in range(runs):
@@ -84,7 +87,7 @@ def medians(commands, source, target, runs):
     return took, memory
 
 
-def compare(what, arguments, room, runs, count, size, gap):
+def compare(what: str, arguments: list[str], room: str, runs: int, count: int, size: int, gap: int) -> None:
     source, target = f"{room}/source", f"{room}/target"
     write_capture(source, count, size, gap)
     took, memory = medians({
@@ -98,12 +101,12 @@ def compare(what, arguments, room, runs, count, size, gap):
           f"ratio to cat {took['program'].to(took['cat'])}, to tcpdump {took['program'].to(took['tcpdump'])}", flush=True)
 
 
-def make_network(room, count):
+def make_network(room: str, count: int) -> None:
     """By a process of its own, since the memory of this one would count as that of the commands it starts."""
     subprocess.run([sys.executable, f"{TOP}/bench/network.py", room, str(count)], check=True)
 
 
-def compare_run(room, runs, count):
+def compare_run(room: str, runs: int, count: int) -> None:
     """`afdx run` on the network beside `cat` and `mergecap` of its captures."""
     make_network(room, count)
     os.makedirs(f"{room}/out", exist_ok=True)
@@ -120,7 +123,7 @@ def compare_run(room, runs, count):
           f"to mergecap {took['program'].to(took['mergecap'])}", flush=True)
 
 
-def compare_check(room, runs):
+def compare_check(room: str, runs: int) -> None:
     """`afdx check` of the network's table beside a run that reads the table and ends at the first missing capture."""
     table, nowhere = f"{room}/table.toml", f"{room}/nowhere"
     make_network(room, 0)
@@ -134,7 +137,7 @@ def compare_check(room, runs):
           f"ratio to reading {took['check'].to(took['reading'])}", flush=True)
 
 
-def main():
+def main() -> None:
     parser = argparse.ArgumentParser(description=__doc__, formatter_class=argparse.RawDescriptionHelpFormatter)
     parser.add_argument("runs", type=int, nargs="?", default=5, help="of each program; 5 if none are named")
     runs = parser.parse_args().runs

@@ -10,7 +10,9 @@ import os
 import sys
 import tempfile
 
-from measure import AFDX, HEADER, measured, write_capture
+from measure import AFDX, measured, write_capture
+
+from captures import HEADER
 
 MILLISECOND = 1_000_000
 COUNTS = {64: (2_000_000, 4_000_000), 1518: (100_000, 200_000)}  # frames, by their size: 152 and 304 MB
@@ -39,7 +41,7 @@ priority = "low"
 """
 
 
-def peak_of(afdx, room, count, size):
+def peak_of(afdx: str, room: str, count: int, size: int) -> float:
     """Returns the megabytes that a run of so many frames takes at its peak."""
     write_capture(f"{room}/in/port-1.pcap", count, size, MILLISECOND)
     arguments = [afdx, "run", f"{room}/table.toml", f"{room}/in", f"{room}/out"]
@@ -47,7 +49,7 @@ def peak_of(afdx, room, count, size):
     return megabytes
 
 
-def main():
+def main() -> None:
     parser = argparse.ArgumentParser(description=__doc__, formatter_class=argparse.RawDescriptionHelpFormatter)
     parser.add_argument("afdx", nargs="?", default=AFDX, help="the program; the one that ./test builds if none is named")
     afdx = os.path.abspath(parser.parse_args().afdx)

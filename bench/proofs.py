@@ -17,21 +17,21 @@ TOP = os.path.dirname(os.path.dirname(os.path.abspath(__file__)))
 PARTS = "Answers|Code|Contract|Given|Goals|Invariants|Key|Kinds|Layout|Lts|Met|Named|Proof|Reads|Statement|Symbol|TheImpl|TheLink|Tie"
 
 
-def written(folder):
+def written(folder: str) -> list[tuple[float, str]]:
     """The modules of a folder with the times at which they were written, the first one first."""
-    modules = []
+    modules: list[tuple[float, str]] = []
     for place, _, names in os.walk(folder):
         modules += [(os.stat(f"{place}/{name}").st_mtime, name) for name in names if name.endswith(".oantt")]
     return sorted(modules)
 
 
-def subject(module):
+def subject(module: str) -> str:
     """The function, or the file of definitions or lemmas, that a module is of."""
     name = re.sub(r"^Rattle-\w+[-.]((proofs|specs)\.)?(contracts\.)?|(\.decls)?\.oantt$", "", module)
     return re.sub(rf"\.({PARTS})(\..*)?$", "", name)
 
 
-def main():
+def main() -> None:
     parser = argparse.ArgumentParser(description=__doc__, formatter_class=argparse.RawDescriptionHelpFormatter)
     parser.add_argument("crate", help="a crate, or any folder of modules")
     parser.add_argument("count", type=int, nargs="?", default=25, help="how many are printed; 25 if none are named")
@@ -40,11 +40,11 @@ def main():
     modules = written(folder)
     if not modules:
         sys.exit(f"no modules below {folder}")
-    seconds = collections.Counter()
+    seconds: dict[str, float] = collections.defaultdict(float)
     for (before, _), (after, module) in zip(modules, modules[1:]):
         seconds[subject(module)] += after - before
     print(f"{len(modules)} modules, {modules[-1][0] - modules[0][0]:.0f} s")
-    for name, took in seconds.most_common(given.count):
+    for name, took in sorted(seconds.items(), key=lambda one: -one[1])[:given.count]:
         print(f"{took:7.1f} {name}")
 
 

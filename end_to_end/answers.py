@@ -1,14 +1,13 @@
 #!/usr/bin/env python3
 """What `afdx size`, `afdx measure` and `afdx trace` answer, by the plain model of the switch in model.py: slowly.
 
-usage: answers.py size TABLE
-       answers.py measure TABLE IN [--unchecked]
-       answers.py trace TABLE IN OUT [--unchecked]
-
 The arguments are those of afdx, so this program can stand in its place; what it refuses are loads and captures.
 """
+import argparse
 import sys
+from collections.abc import Callable
 from dataclasses import dataclass
+from pathlib import Path
 
 import model
 
@@ -20,12 +19,12 @@ DEPARTURES = "port,record,frame,link,priority,size,came,start,left,delay,outcome
 class OutputPort:
     """What became of the copies of an output port."""
     port: model.Port
-    admitted: list
-    refused: list
-    events: list  # in the order of service
+    admitted: list[model.Arrival]
+    refused: list[model.Arrival]
+    events: list[model.Event]  # in the order of service
 
 
-def output_ports_of(table, arrivals):
+def output_ports_of(table: model.Table, arrivals: list[model.Arrival]) -> list[OutputPort]:
     output_ports = []
     for port in table.ports:
         offered = [frame for frame in arrivals if frame.passed and port.id in frame.link.to]
@@ -38,9 +37,10 @@ def output_ports_of(table, arrivals):
 # --- measure ---
 
 
-def peak(output_port):
+def peak(output_port: OutputPort) -> tuple[int, int | str]:
     """The most bytes that the buffer held when a frame had been admitted, and the stamp of the first frame that did it."""
-    most, at = 0, "-"
+    most = 0
+    at: int | str = "-"
     for place, frame in enumerate(output_port.admitted):
         held = model.occupied(output_port.port, output_port.admitted[:place], frame.stamp + output_port.port.latency) + frame.size
         if held > most:
@@ -48,15 +48,14 @@ def peak(output_port):
     return most, at
 
 
-def measure(table, captures, unchecked):
+def measure(table: model.Table, captures: dict[int, bytes], unchecked: bool) -> str:
     output_ports = {output_port.port.id: output_port for output_port in output_ports_of(table, model.arrivals_of(table, captures))}
     lines = []
     for link in table.links:
         for port in link.to:
             delays = [event.end - event.frame.stamp for event in output_ports[port].events if event.sent and event.frame.link is link]
-            least, greatest = (min(delays), max(delays)) if delays else ("-", "-")
-            load = model.load_of(table, output_ports[port].port)
-            bound = "-" if unchecked else getattr(load, link.priority)
+            least, greatest = (str(min(delays)), str(max(delays))) if delays else ("-", "-")
+            bound = "-" if unchecked else getattr(model.load_of(table, output_ports[port].port), link.priority)
             lines.append(f"link {link.id} out {port} sent {len(delays)} least {least} greatest {greatest} bound {bound}")
     for port, output_port in output_ports.items():
         most, at = peak(output_port)
@@ -67,11 +66,12 @@ def measure(table, captures, unchecked):
 # --- trace ---
 
 
-def early(passed, frame):
+def early(passed: list[model.Arrival], frame: model.Arrival) -> int:
     """The least number of ns by which the frame, had it come later, would have kept to its link's allowance: each window
     that ends with it and begins with a frame passed before it has to be long enough for what it holds."""
     link, least = frame.link, 0
-    cost, each_gap = (lambda sent: sent.size, link.max_size) if link.police == "byte" else (lambda sent: 1, 1)
+    cost: Callable[[model.Arrival], int] = (lambda sent: sent.size) if link.police == "byte" else (lambda sent: 1)
+    each_gap = link.max_size if link.police == "byte" else 1
     sent = cost(frame)
     for first in passed[::-1]:
         sent += cost(first)
@@ -80,31 +80,33 @@ def early(passed, frame):
     return least
 
 
-def claimed(table, frame):
+def claimed(table: model.Table, frame: model.Arrival) -> str:
     """The number of the link that a clean, a wrong-port or a too-big frame names."""
     if frame.verdict in ("clean", "wrong-port", "too-big"):
-        return int.from_bytes(frame.record.data[4:6], "big")
+        return str(int.from_bytes(frame.record.data[4:6], "big"))
     return ""
 
 
-def arrivals_text(table, arrivals, output_ports):
-    lines, records, passed = [ARRIVALS], {port.id: 0 for port in table.ports}, {link.id: [] for link in table.links}
+def arrivals_text(table: model.Table, arrivals: list[model.Arrival], output_ports: list[OutputPort]) -> str:
+    lines, records = [ARRIVALS], {port.id: 0 for port in table.ports}
+    passed: dict[int, list[model.Arrival]] = {link.id: [] for link in table.links}
     for number, frame in enumerate(arrivals):
         records[frame.port] += 1
-        fate, soon, full = frame.verdict, "", []
+        fate, soon = frame.verdict, ""
+        full: list[int] = []
         if frame.passed:
             fate = "passed"
             passed[frame.link.id].append(frame)
             refusing = [output_port.port.id for output_port in output_ports if frame in output_port.refused]
             full = [port for port in frame.link.to if port in refusing]
         elif frame.link:
-            fate, soon = "policed", early(passed[frame.link.id], frame)
+            fate, soon = "policed", str(early(passed[frame.link.id], frame))
         lines.append(f"{number},{frame.port},{records[frame.port]},{frame.stamp},{claimed(table, frame)},{frame.size},{fate},{soon},"
                      + ";".join(map(str, full)))
     return "".join(line + "\n" for line in lines)
 
 
-def departures_text(arrivals, output_ports):
+def departures_text(arrivals: list[model.Arrival], output_ports: list[OutputPort]) -> str:
     lines, numbers = [DEPARTURES], {id(frame): number for number, frame in enumerate(arrivals)}
     for output_port in output_ports:
         record = 0
@@ -112,42 +114,50 @@ def departures_text(arrivals, output_ports):
             frame, place, left, delay = event.frame, "", "", ""
             if event.sent:
                 record += 1
-                place, left, delay = record, event.end, event.end - frame.stamp
+                place, left, delay = str(record), str(event.end), str(event.end - frame.stamp)
             lines.append(f"{output_port.port.id},{place},{numbers[id(frame)]},{frame.link.id},{frame.link.priority},{frame.size},"
                          f"{frame.stamp + output_port.port.latency},{event.begin},{left},{delay},{'sent' if event.sent else 'aged'}")
     return "".join(line + "\n" for line in lines)
 
 
-def trace(table, captures):
+def trace(table: model.Table, captures: dict[int, bytes]) -> tuple[str, str]:
     """The texts of arrivals.csv and departures.csv."""
     arrivals = model.arrivals_of(table, captures)
     output_ports = output_ports_of(table, arrivals)
     return arrivals_text(table, arrivals, output_ports), departures_text(arrivals, output_ports)
 
 
-def main(arguments):
-    unchecked = "--unchecked" in arguments
-    command, path, *folders = [argument for argument in arguments if argument != "--unchecked"]
-    with open(path, encoding="utf-8", newline="") as file:
-        table = model.table_of(file.read())
-    if command == "size":
+def main(given: argparse.Namespace) -> str:
+    table = model.read(given.table)
+    if given.command == "size":
         return model.size(table)
-    if not unchecked:
+    if not given.unchecked:
         model.check(table)
-    captures = model.captures_in(folders[0], table)
-    if command == "measure":
-        return measure(table, captures, unchecked)
+    captures = model.captures_in(given.source, table)
+    if given.command == "measure":
+        return measure(table, captures, given.unchecked)
     for name, text in zip(("arrivals", "departures"), trace(table, captures)):
-        with open(f"{folders[1]}/{name}.csv", "w", encoding="ascii", newline="") as file:
-            file.write(text)
+        Path(given.target, f"{name}.csv").write_text(text, encoding="ascii", newline="")
     return ""
 
 
+def arguments() -> argparse.Namespace:
+    parser = argparse.ArgumentParser(description=__doc__, formatter_class=argparse.RawDescriptionHelpFormatter)
+    commands = parser.add_subparsers(dest="command", required=True)
+    commands_of: dict[str, list[str]] = {"size": [], "measure": ["source"], "trace": ["source", "target"]}
+    for name, folders in commands_of.items():
+        command = commands.add_parser(name)
+        command.add_argument("table")
+        for folder in folders:
+            command.add_argument(folder)
+        if folders:
+            command.add_argument("--unchecked", action="store_true")
+    return parser.parse_args()
+
+
 if __name__ == "__main__":
-    if len(sys.argv) < 3 or sys.argv[1] not in ("size", "measure", "trace"):
-        sys.exit(__doc__)
     try:
-        sys.stdout.write(main(sys.argv[1:]))
+        sys.stdout.write(main(arguments()))
     except model.Refused as refused:
         print(refused.line, file=sys.stderr)
         sys.exit(refused.status)

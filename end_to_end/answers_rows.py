@@ -7,10 +7,11 @@ import sys
 import answers
 import model
 import model_rows as rows
-from model_rows import DOUBLE, HEADER, LINK, MIXED, PORT, SINGLE, capture, later, same, with_port
+from captures import HEADER, frame, record
+from model_rows import DOUBLE, LINK, MIXED, PORT, SINGLE, capture, later, same, with_port
 
 
-def answered(text, *captures):
+def answered(text: str, *captures: bytes) -> list[list[str]]:
     """The lines of `measure --unchecked` and of the two files of `trace`, their headings left away."""
     table = model.table_of(text)
     data = {port.id: capture for port, capture in zip(table.ports, captures)}
@@ -19,7 +20,7 @@ def answered(text, *captures):
     return [answers.measure(table, data, True).splitlines()] + [file.splitlines()[1:] for file in (arrivals, departures)]
 
 
-def early_and_late():
+def early_and_late() -> None:
     name, sent = "a nanosecond early", capture(*((10, 1518, at) for at in (0, 999_999, 1_000_000)))
     measured, arrivals, departures = answered(SINGLE, sent, HEADER)
     same(name, arrivals, ["0,1,1,0,10,1518,passed,,", "1,1,2,999999,10,1518,policed,1,", "2,1,3,1000000,10,1518,passed,,"])
@@ -41,7 +42,7 @@ def early_and_late():
           [], []])
 
 
-def ports():
+def ports() -> None:
     name = "high overtakes"
     measured, arrivals, departures = answered(MIXED, capture((10, 1518, 0), (11, 64, 1), (12, 64, 1)), HEADER)
     same(name, departures, ["2,1,0,10,low,1518,0,0,123040,123040,sent", "2,2,2,12,high,64,1,123040,129760,129759,sent",
@@ -61,7 +62,7 @@ def ports():
     same(name, [line.split()[3] for line in measured[:2]], ["3", "2"])
 
 
-def latency():
+def latency() -> None:
     sent = capture((10, 64, 0), (10, 64, 6_720))
     wanted = "link 10 out 2 sent 2 least {0} greatest {0} bound {1}"
     for latency_us, delay, bound in ((0, 6_720, 159_390), (50, 56_720, 209_390)):
@@ -72,8 +73,7 @@ def latency():
     same("behind a latency", departures, ["2,1,0,10,low,64,10005,10005,16725,16720,sent", "2,2,1,10,low,64,10006,16725,23445,23439,sent"])
 
 
-def every_fate():
-    frame, record = rows.frame, rows.record
+def every_fate() -> None:
     first = [record(0, frame(10, 64), original=61), record(0, frame(10, 63)), record(0, frame(10, 1519)),
              record(0, frame(10, 64, "02000000")), record(0, frame(11, 64)), record(0, frame(20, 64)), record(0, frame(10, 501))]
     text = DOUBLE.replace("max_size = 1518", "max_size = 500", 1)
@@ -82,8 +82,8 @@ def every_fate():
           "5,1,6,0,20,64,wrong-port,,", "6,1,7,0,10,501,too-big,,"])
 
 
-def sizes():
-    def says(name, text, line):
+def sizes() -> None:
+    def says(name: str, text: str, line: str) -> None:
         same(name, model.size(model.table_of(text)), line + "\n")
 
     both = PORT.format(1) + PORT.format(2)
@@ -95,25 +95,25 @@ def sizes():
          "port 2 rate 3264307200 of 2048000000 buffer 3531 of 64 high - low 1593900 of 1000 breaks L1 L2 L4")
 
 
-def early_is_the_least():
+def early_is_the_least() -> None:
     """What `early` adds up is the least shift with which the model's windows pass the frame."""
     chance = random.Random(1)
     for _ in range(300):
-        link = model.Link(1, 1, [2], 1_000_000 << chance.randint(0, 7), 1000 * chance.choice([0, 40, 10_000]), chance.randint(64, 1518), "low",
-                          chance.choice(["byte", "frame"]))
+        bag, jitter = 1_000_000 << chance.randint(0, 7), 1000 * chance.choice([0, 40, 10_000])
+        link = model.Link(1, 1, [2], bag, jitter, chance.randint(64, 1518), "low", chance.choice(["byte", "frame"]))
         stamps = sorted(chance.randrange(4 * link.bag) for _ in range(30))
-        passed = []
+        passed: list[model.Arrival] = []
         for stamp in stamps:
-            frame = model.Arrival(1, model.Record(stamp, 0, bytes(chance.randint(60, link.max_size - 4))), "clean", link)
-            soon = answers.early(passed, frame)
+            arrival = model.Arrival(1, model.Record(stamp, 0, bytes(chance.randint(60, link.max_size - 4))), "clean", link)
+            soon = answers.early(passed, arrival)
 
-            def passes(shift):
-                shifted = dataclasses.replace(frame, record=dataclasses.replace(frame.record, stamp=stamp + shift))
+            def passes(shift: int) -> bool:
+                shifted = dataclasses.replace(arrival, record=dataclasses.replace(arrival.record, stamp=stamp + shift))
                 return model.conforms(link, passed, shifted)
 
             same("early is the least", (passes(soon), soon > 0 and passes(soon - 1)), (True, False))
             if soon == 0:
-                passed.append(frame)
+                passed.append(arrival)
 
 
 for part in (early_and_late, ports, latency, every_fate, sizes, early_is_the_least):

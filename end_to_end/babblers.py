@@ -1,43 +1,40 @@
 #!/usr/bin/env python3
 """A trial of afdx on random networks, each with one port that sends whatever it likes.
 
-usage: babblers.py AFDX ROOM COUNT     runs networks 1 to COUNT in the folder ROOM; the same ones each time
-Buffers and greatest delays are the least with which `check` accepts the network, so each is at its edge. Of the links of
-all other ports the same frames leave each port, in the same order, as where the babbling port is silent, and every frame
-that leaves in either run has left within the bound that `check` prints.
+Networks 1 to COUNT are the same ones each time. Buffers and greatest delays are the least with which `check` accepts the network,
+so each is at its edge. Of the links of all other ports the same frames leave each port, in the same order, as where the babbling
+port is silent, and every frame that leaves in either run has left within the bound that `check` prints.
 """
-import os
+import argparse
 import random
-import struct
 import subprocess
 import sys
+from collections.abc import Iterable
+from pathlib import Path
+from random import Random
 
 import bounds
 import model
+from captures import HEADER, frame, record
 
 MILLISECOND = 1_000_000
-SILENCE = model.capture_of([])
+Frame = tuple[int, int, bytes]  # stamp, how many of its bytes were not captured, the others
 
 
-def frame(link, size, constant="03000000"):
-    head = bytes.fromhex(constant) + link.to_bytes(2, "big") + bytes.fromhex("0200000000010800")
-    return head.ljust(max(size - model.CHECK_SEQUENCE, 0), b"\0")[:max(size - model.CHECK_SEQUENCE, 0)]
-
-
-def capture(frames):
+def capture(frames: Iterable[Frame]) -> bytes:
     """The capture of (stamp, lacking, data): so many bytes of the frame were not captured."""
-    text = SILENCE
+    text = HEADER
     for number, (stamp, lacking, data) in enumerate(sorted(frames, key=lambda frame: frame[0])):
         if len(data) >= 18:  # so that no two frames are the same
             data = data[:14] + number.to_bytes(4, "big") + data[18:]
-        text += struct.pack("<4I", *divmod(stamp, model.SECOND), len(data), len(data) + lacking) + data
+        text += record(stamp, data, len(data) + lacking)
     return text
 
 
 # --- The network ---
 
 
-def draw_network(chance):
+def draw_network(chance: Random) -> model.Table:
     latency = 1000 * chance.choice([0, chance.randint(1, 100)])
     ports = [model.Port(number, chance.choice([8, 80, 80, 80, 800]), 16_777_216, 500_000_000, latency)
              for number in range(1, chance.randint(3, 8) + 1)]
@@ -51,7 +48,7 @@ def draw_network(chance):
     return model.Table(bytes.fromhex("03000000"), ports, links)
 
 
-def accepted_network(chance):
+def accepted_network(chance: Random) -> model.Table:
     """A network whose lines are not asked for too much, with the least buffers and delays."""
     while True:
         table = draw_network(chance)
@@ -67,7 +64,7 @@ def accepted_network(chance):
         return table
 
 
-def text_of(table):
+def text_of(table: model.Table) -> str:
     text = f"version = 3\nlatency_us = {table.ports[0].latency // 1000}\n"
     for port in table.ports:
         text += (f"[[port]]\nid = {port.id}\nmbit = {8000 // port.tick}\nbuffer = {port.buffer}\n"
@@ -82,7 +79,7 @@ def text_of(table):
 # --- What is sent ---
 
 
-def traffic(chance, table, port):
+def traffic(chance: Random, table: model.Table, port: int) -> list[Frame]:
     """Frames of a port's links: mostly in time, some too soon, many at round instants."""
     frames = []
     for link in table.links:
@@ -93,11 +90,12 @@ def traffic(chance, table, port):
     return frames
 
 
-def babble(chance, table, port, least=200):
+def babble(chance: Random, table: model.Table, port: int, least: int = 200) -> list[Frame]:
     """Whatever it likes, so many frames at least: bursts of its own, foreign ones, other ports' links, oversized and cut ones."""
     numbers = [link.id for link in table.links]
     own = [link for link in table.links if link.source == port]
-    frames, at = [], 0
+    frames: list[Frame] = []
+    at = 0
     while len(frames) < least:
         at += chance.choice([0, 0, 1, chance.randint(0, 20_000), chance.randint(0, 2 * MILLISECOND)])
         kind = chance.randint(0, 5)
@@ -111,7 +109,8 @@ def babble(chance, table, port, least=200):
         elif kind == 4:
             burst = [(at, chance.randint(1, 1400), frame(chance.choice(numbers), chance.randint(4, 200)))]
         else:
-            burst = [(at, 0, frame(chance.randint(0, 65_535), chance.randint(4, 1600), chance.choice(["02000000", "ffffffff", "03000000"])))]
+            foreign = frame(chance.randint(0, 65_535), chance.randint(4, 1600), chance.choice(["02000000", "ffffffff", "03000000"]))
+            burst = [(at, 0, foreign)]
         frames += burst
     return frames
 
@@ -119,22 +118,21 @@ def babble(chance, table, port, least=200):
 # --- The trial ---
 
 
-def afdx(program, *arguments):
+def afdx(program: str, *arguments: str) -> str:
     answer = subprocess.run([program, *arguments], capture_output=True, text=True, check=False)
     if answer.returncode != 0 or answer.stderr:
         sys.exit(f"afdx {' '.join(arguments)}: status {answer.returncode}, {answer.stderr}")
     return answer.stdout
 
 
-def write(path, data):
-    os.makedirs(os.path.dirname(path), exist_ok=True)
-    with open(path, "wb") as file:
-        file.write(data)
+def write(path: str, data: bytes) -> None:
+    Path(path).parent.mkdir(parents=True, exist_ok=True)
+    Path(path).write_bytes(data)
 
 
-def left_of(world, table):
+def left_of(world: str, table: model.Table) -> dict[tuple[int, int], list[bytes]]:
     """The frames that left each port for each link, in order."""
-    left = {}
+    left: dict[tuple[int, int], list[bytes]] = {}
     for port in table.ports:
         records = bounds.records_of(f"{world}/out", port.id)
         for link in table.links:
@@ -142,7 +140,7 @@ def left_of(world, table):
     return left
 
 
-def trial(program, room, number):
+def trial(program: str, room: str, number: int) -> tuple[int, int]:
     chance = random.Random(number)
     table = accepted_network(chance)
     path = f"{room}/{number}/table.toml"
@@ -152,11 +150,11 @@ def trial(program, room, number):
     babbler = chance.choice(table.ports).id
     captures = {port.id: capture(traffic(chance, table, port.id)) for port in table.ports}
     left = {}
-    for world, sent in [("silent", SILENCE), ("babbling", capture(babble(chance, table, babbler)))]:
+    for world, sent in [("silent", HEADER), ("babbling", capture(babble(chance, table, babbler)))]:
         folder = f"{room}/{number}/{world}"
         for port, data in (captures | {babbler: sent}).items():
             write(f"{folder}/in/port-{port}.pcap", data)
-        os.makedirs(f"{folder}/out")
+        Path(folder, "out").mkdir()
         afdx(program, "run", path, f"{folder}/in", f"{folder}/out")
         bounds.compare(table, f"{folder}/in", f"{folder}/out")
         left[world] = left_of(folder, table)
@@ -167,11 +165,16 @@ def trial(program, room, number):
     return sum(len(left["babbling"][place]) for place in others), sum(map(len, left["babbling"].values()))
 
 
-def main(program, room, count):
-    frames = [trial(program, room, number) for number in range(1, int(count) + 1)]
+def main() -> None:
+    parser = argparse.ArgumentParser(description=__doc__, formatter_class=argparse.RawDescriptionHelpFormatter)
+    parser.add_argument("afdx", help="the program")
+    parser.add_argument("room", help="the folder in which the networks are run")
+    parser.add_argument("count", type=int, help="of networks")
+    given = parser.parse_args()
+    frames = [trial(given.afdx, given.room, number) for number in range(1, given.count + 1)]
     others, all_frames = map(sum, zip(*frames))
-    print(f"{count} networks: {others} frames of other ports left undisturbed, {all_frames - others} of the babbling ones")
+    print(f"{given.count} networks: {others} frames of other ports left undisturbed, {all_frames - others} of the babbling ones")
 
 
 if __name__ == "__main__":
-    main(*sys.argv[1:])
+    main()

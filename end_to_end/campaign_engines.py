@@ -1,11 +1,10 @@
 #!/usr/bin/python3
 """Runs one campaign by each engine, kills by their process ids what takes part in it, and compares the answers.
 
-usage: campaign_engines.py local|dask|slurm RECORDINGS ROOM    in RECORDINGS what campaign_recordings.py wrote
-
 Each campaign has to end with one answer for each task, of the digest that is in ROOT/digest, if it is there, and else is put there.
 All processes have ended when this ends, and all traffic is on loopback.
 """
+import argparse
 import contextlib
 import os
 import signal
@@ -13,9 +12,11 @@ import socket
 import subprocess
 import sys
 import time
+from collections.abc import Callable
 from pathlib import Path
+from typing import Any
 
-import psutil
+import psutil  # type: ignore[import]
 
 CAMPAIGN = Path(__file__).resolve().parents[1] / "python" / "bin" / "afdx-campaign"
 PATIENCE = 600  # seconds for what has to come, on a busy machine too
@@ -37,13 +38,13 @@ patience_s = {patience}
 class Room:
     """A folder in which campaigns are run, and the processes that were started there."""
 
-    def __init__(self, recordings, room):
-        self.recordings, self.folder = Path(recordings).resolve(), Path(room).resolve()
+    def __init__(self, recordings: Path, room: Path) -> None:
+        self.recordings, self.folder = recordings.resolve(), room.resolve()
         self.folder.mkdir(parents=True, exist_ok=True)
         self.environment = dict(os.environ)
-        self.started = []
+        self.started: list[psutil.Process] = []
 
-    def campaign(self, name, patience=PATIENCE):
+    def campaign(self, name: str, patience: int = PATIENCE) -> "Campaign":
         """Writes a campaign over all recordings, by a program that waits a little, so that there is something to kill."""
         program = self.folder / "afdx"
         if not program.exists():
@@ -54,7 +55,7 @@ class Room:
                                     patience=patience))
         return Campaign(self, file, self.folder / name)
 
-    def start(self, *command):
+    def start(self, *command: object) -> subprocess.Popen[bytes]:
         """Starts a process; what it says goes to a log file."""
         with open(self.folder / "log", "a", encoding="utf-8") as log:
             process = subprocess.Popen([str(word) for word in command], stdin=subprocess.DEVNULL, stdout=log, stderr=log,
@@ -62,7 +63,7 @@ class Room:
         self.started.append(psutil.Process(process.pid))
         return process
 
-    def processes(self):
+    def processes(self) -> list[psutil.Process]:
         """Finds all that runs here, whoever started it: each process has a file of the folder open, if only for what it says."""
         found = []
         for process in psutil.process_iter():
@@ -71,7 +72,7 @@ class Room:
                     found.append(process)
         return found
 
-    def end(self):
+    def end(self) -> list[psutil.Process]:
         """Ends all that was started here, with its children, and answers what had outlived a process that was killed."""
         for process in self.started:
             kill(process)
@@ -84,29 +85,29 @@ class Room:
 class Campaign:
     """A campaign file and its root."""
 
-    def __init__(self, room, file, root):
+    def __init__(self, room: Room, file: Path, root: Path) -> None:
         self.room, self.file, self.root = room, file, root
 
-    def answers(self):
+    def answers(self) -> list[Path]:
         """Lists the files of the answers."""
         return list(self.root.glob("answers/*/*.json.gz"))
 
-    def run(self, *options):
+    def run(self, *options: object) -> subprocess.Popen[bytes]:
         """Starts a driver."""
         return self.room.start("/usr/bin/python3", CAMPAIGN, "run", self.file, *options)
 
-    def await_answers(self, more, driver):
+    def await_answers(self, more: int, driver: subprocess.Popen[bytes]) -> None:
         """Waits for some answers more, while the driver goes on."""
         wanted = len(self.answers()) + more
         await_that(lambda: len(self.answers()) >= wanted or driver.poll() is not None, f"{wanted} answers")
         expect(f"the driver goes on, with {len(self.answers())} answers", driver.poll() is None)
 
-    def ends(self, driver, status, what):
+    def ends(self, driver: subprocess.Popen[bytes], status: int, what: str) -> None:
         """Waits for the driver's end, which has this status."""
         await_that(lambda: driver.poll() is not None, f"the end of the driver, {what}")
         expect(f"{what}: status {driver.returncode}, {len(self.answers())} answers", driver.returncode == status)
 
-    def is_whole(self, what):
+    def is_whole(self, what: str) -> None:
         """Expects that each task has its answer once, and that the answers are those of all other engines."""
         said = subprocess.run([CAMPAIGN, "status", self.file, "--digest"], capture_output=True, text=True, check=True).stdout
         tasks = len(list((self.room.recordings / "recordings").iterdir()))
@@ -117,14 +118,14 @@ class Campaign:
         expect(f"{what}: {said.splitlines()[1]}", digest.read_text() == said.splitlines()[1])
 
 
-def expect(what, holds):
+def expect(what: str, holds: object) -> None:
     """Says what is so, and ends if it is not."""
     print(f"{time.monotonic() - BEGAN:6.1f} s  {'' if holds else 'NOT '}{what}", flush=True)
     if not holds:
         sys.exit(1)
 
 
-def await_that(holds, what):
+def await_that(holds: Callable[[], object], what: str) -> None:
     """Waits until it is so."""
     deadline = time.monotonic() + PATIENCE
     while not holds():
@@ -133,7 +134,7 @@ def await_that(holds, what):
         time.sleep(PAUSE)
 
 
-def kill(process, number=signal.SIGKILL):
+def kill(process: psutil.Process, number: int = signal.SIGKILL) -> None:
     """Ends a process and its children, and waits for their end."""
     with contextlib.suppress(psutil.NoSuchProcess):
         ended = [process, *process.children(recursive=True)]
@@ -143,19 +144,19 @@ def kill(process, number=signal.SIGKILL):
         psutil.wait_procs(ended, PATIENCE)
 
 
-def kill_alone(process):
+def kill_alone(process: Any) -> None:
     """Kills a process and leaves its children."""
-    process = psutil.Process(process.pid)
-    process.kill()
+    one = psutil.Process(process.pid)
+    one.kill()
     with contextlib.suppress(psutil.NoSuchProcess):
-        process.wait(PATIENCE)
+        one.wait(PATIENCE)
 
 
-def some_child(process, name):
+def some_child(process: subprocess.Popen[bytes], name: str) -> psutil.Process:
     """Waits for a child of a child with this name, and answers it."""
-    found = []
+    found: list[psutil.Process] = []
 
-    def there():
+    def there() -> list[psutil.Process]:
         with contextlib.suppress(psutil.NoSuchProcess):
             found[:] = [child for child in psutil.Process(process.pid).children(recursive=True) if name in " ".join(child.cmdline())]
         return found
@@ -164,28 +165,28 @@ def some_child(process, name):
     return found[0]
 
 
-def children_end(children, what):
+def children_end(children: list[psutil.Process], what: str) -> None:
     """Waits for the end of processes whose parent was killed."""
-    def ended(child):
+    def ended(child: psutil.Process) -> bool:
         try:
-            return child.status() == psutil.STATUS_ZOMBIE
+            return bool(child.status() == psutil.STATUS_ZOMBIE)
         except psutil.NoSuchProcess:
             return True
 
     await_that(lambda: all(map(ended, children)), f"the end of what {what} had started")
 
 
-def free_port():
+def free_port() -> int:
     """Finds a port of loopback on which nobody listens."""
     with socket.socket() as listening:
         listening.bind(("127.0.0.1", 0))
-        return listening.getsockname()[1]
+        return int(listening.getsockname()[1])
 
 
 # --- Local threads ---
 
 
-def local(room):
+def local(room: Room) -> None:
     plain = room.campaign("plain")
     plain.ends(plain.run("-j", 4), FAULTS, "local threads")
     plain.is_whole("local threads")
@@ -214,27 +215,26 @@ def local(room):
 class Cluster:
     """A scheduler and workers over loopback, each a process of its own; a worker has a nanny, which starts it again."""
 
-    def __init__(self, room):
+    def __init__(self, room: Room) -> None:
         self.room, self.port = room, free_port()
         self.address = f"tcp://127.0.0.1:{self.port}"
-        self.scheduler, self.nannies = None, []
-        self.start()
+        self.scheduler, self.nannies = self.start()
 
-    def start(self):
+    def start(self) -> tuple[subprocess.Popen[bytes], list[subprocess.Popen[bytes]]]:
         """Starts the scheduler, and workers."""
-        self.scheduler = self.room.start("dask-scheduler", "--host", "127.0.0.1", "--port", self.port, "--dashboard-address", "127.0.0.1:0")
+        scheduler = self.room.start("dask-scheduler", "--host", "127.0.0.1", "--port", self.port, "--dashboard-address", "127.0.0.1:0")
         await_that(self.listens, "the scheduler")
-        self.nannies = [
+        return scheduler, [
             self.room.start("dask-worker", self.address, "--host", "127.0.0.1", "--nthreads", 1, "--no-dashboard", "--resources", "MEM=2e9",
                             "--local-directory", self.room.folder / "workers") for _ in range(WORKERS)]
 
-    def listens(self):
+    def listens(self) -> bool:
         """Says whether the scheduler takes connections."""
         with socket.socket() as client:
             return client.connect_ex(("127.0.0.1", self.port)) == 0
 
 
-def dask(room):
+def dask(room: Room) -> None:
     cluster = Cluster(room)
     killed = room.campaign("killed")
     driver = killed.run("--engine", cluster.address)
@@ -248,7 +248,7 @@ def dask(room):
     killed.await_answers(5, driver)
     kill_alone(cluster.scheduler)
     expect("a worker, a nanny with its worker, the driver and the scheduler are killed", True)
-    cluster.start()
+    cluster.scheduler, cluster.nannies = cluster.start()
     killed.ends(driver, FAULTS, "Dask")
     killed.is_whole("Dask, after a worker, a nanny, the driver and the scheduler")
     gone = room.campaign("gone", patience=20)
@@ -290,7 +290,7 @@ PartitionName=test Nodes={host} Default=YES MaxTime=INFINITE State=UP
 class Slurm:
     """munged, slurmctld and slurmd over loopback, with a configuration of their own."""
 
-    def __init__(self, room):
+    def __init__(self, room: Room) -> None:
         self.room, self.folder = room, room.folder / "slurm"
         for name in ("state", "spool", "munge"):
             (self.folder / name).mkdir(parents=True)
@@ -308,13 +308,14 @@ class Slurm:
         self.node = room.start("slurmd", "-D", "-c")
         await_that(self.is_idle, "an idle node")
 
-    def is_idle(self):
+    def is_idle(self) -> bool:
         """Says whether the node is ready for jobs."""
-        said = subprocess.run(["sinfo", "--noheader", "--format=%T"], capture_output=True, text=True, env=self.room.environment, check=False)
+        command = ["sinfo", "--noheader", "--format=%T"]
+        said = subprocess.run(command, capture_output=True, text=True, env=self.room.environment, check=False)
         return said.stdout.strip() == "idle"
 
 
-def kills_job(room):
+def kills_job(room: Room) -> bool:
     """Kills a job, if one is there."""
     for process in psutil.process_iter():
         with contextlib.suppress(psutil.Error):
@@ -325,7 +326,7 @@ def kills_job(room):
     return False
 
 
-def slurm(room):
+def slurm(room: Room) -> None:
     manager = Slurm(room)
     killed = room.campaign("killed")
     driver = killed.run("--engine", "slurm", "-j", 4)
@@ -347,16 +348,22 @@ def slurm(room):
     gone.is_whole("Slurm, then local threads")
 
 
-def main(engine, recordings, room):
-    there = Room(recordings, room)
+def main() -> None:
+    parser = argparse.ArgumentParser(description=__doc__, formatter_class=argparse.RawDescriptionHelpFormatter)
+    parser.add_argument("engine", choices=ENGINES)
+    parser.add_argument("recordings", type=Path, help="what campaign_recordings.py wrote")
+    parser.add_argument("room", type=Path, help="the folder of the campaigns, and of what runs them")
+    given = parser.parse_args()
+    there = Room(given.recordings, given.room)
     try:
-        {"local": local, "dask": dask, "slurm": slurm}[engine](there)
+        ENGINES[given.engine](there)
     finally:
         left = there.end()
     expect(f"no process is left, not {[process.pid for process in left]}", not left)
 
 
+ENGINES: dict[str, Callable[[Room], None]] = {"local": local, "dask": dask, "slurm": slurm}
 BEGAN = time.monotonic()
 
 if __name__ == "__main__":
-    main(*sys.argv[1:])
+    main()

@@ -1,8 +1,6 @@
 #!/usr/bin/python3
 """Opens the page of a campaign in chromium and compares it with the files beside it.
 
-usage: campaign_page.py ROOT [--seconds N]     ROOT is that of the campaign
-
 At 1280, 800 and 400 pixels: nothing is on the console, nothing else was loaded, nothing stands out at the side; each table has the
 first rows of its CSV, leads to it, and sorts by a click; there is a picture of the recordings under each table. In the light
 and in the dark all texts can be read.
@@ -10,6 +8,7 @@ and in the dark all texts can be read.
 import argparse
 import csv
 from pathlib import Path
+from typing import Any
 
 import view_page
 from view_page import expect
@@ -24,7 +23,7 @@ SORTED = """const heads = document.querySelectorAll("table")[arguments[0]].tHead
     heads[arguments[1]].querySelector("button").click(); return heads[arguments[1]].ariaSort"""
 
 
-def check_tables(page, root):
+def check_tables(page: Any, root: Path) -> list[str]:
     """Expects that each table's rows are those of the CSV to which it leads; lists these files."""
     tables = page.execute_script(TABLES)
     for link, rows in tables:
@@ -41,20 +40,21 @@ def check_tables(page, root):
     return [link for link, _ in tables]
 
 
-def check_page(page, options, width):
+def check_page(page: Any, options: argparse.Namespace, width: int) -> None:
     view_page.open_page(page, options.root / "campaign.html", options.seconds, width)
     links = check_tables(page, options.root)
     expect("faults, delays and policed links are there", {f"csv/{name}.csv" for name in ("faults", "worst", "babblers")} <= set(links))
     pictures = page.execute_script(PICTURES)
-    expect("a picture of the recordings under each table", sum(label.startswith("Recordings under") for label, *_ in pictures) == links.count("csv/worst.csv"))
+    of_recordings = sum(label.startswith("Recordings under") for label, *_ in pictures)
+    expect("a picture of the recordings under each table", of_recordings == links.count("csv/worst.csv"))
     expect("pictures have a place", all(200 < wide <= width and high > 60 for _, wide, high in pictures))
     console = page.get_log("browser")
     expect(f"an empty console, not {console}", not console)
 
 
-def main():
-    parser = argparse.ArgumentParser()
-    parser.add_argument("root", type=Path)
+def main() -> None:
+    parser = argparse.ArgumentParser(description=__doc__, formatter_class=argparse.RawDescriptionHelpFormatter)
+    parser.add_argument("root", type=Path, help="that of the campaign")
     parser.add_argument("--seconds", type=float, default=10)
     options = parser.parse_args()
     page = view_page.browser()

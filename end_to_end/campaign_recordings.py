@@ -1,27 +1,32 @@
 #!/usr/bin/python3
 """Writes two tables of a switch of 8 ports and 200 links, and recordings of their traffic; the same for the same arguments.
 
-usage: campaign_recordings.py ROOM COUNT [MILLISECONDS]   ROOM/before.toml, ROOM/after.toml, ROOM/recordings/rNNNN
+They are ROOM/before.toml and ROOM/after.toml, and the folders ROOM/recordings/rNNNN.
 
 What is to be found in them: every 25th recording has a link that babbles; of each 250 one has a cut capture, of each 500 one has
 a file that is no capture and one lacks a capture; and after three fifths the ends at port 3 send larger frames.
 """
-import sys
+import argparse
 from pathlib import Path
+from typing import Any
 
 import numpy
+
+from captures import HEADER
 
 PORTS, LINKS = 8, 200
 BAGS = [2, 4, 8, 8, 16, 16, 32, 32, 64, 128]  # ms
 BEGIN = 1_768_471_200 * 10**9  # of the first recording; each other begins an hour later
-HEADER = bytes.fromhex("4d3cb2a1 02000400 00000000 00000000 00000400 01000000")
 MILLISECOND = 10**6
 
+Row = dict[str, Any]
+Frames = tuple[Any, Any, Any]  # columns: stamps, numbers of links, sizes
 
-def links():
+
+def links() -> list[Row]:
     """Draws the links, as dictionaries of their keys in a table."""
     chance = numpy.random.default_rng(7)
-    rows = []
+    rows: list[Row] = []
     for number in range(LINKS):
         bag = BAGS[number // PORTS % len(BAGS)]
         size = int(chance.integers(64, 240)) if bag <= 4 else int(chance.integers(100, 900))
@@ -32,25 +37,25 @@ def links():
     return rows
 
 
-def changed(row):
+def changed(row: Row) -> Row:
     """Gives a link under the other table: some have a smaller greatest size, those from port 1 low priority."""
     size = min(row["max_size"], 400) if row["id"] % 10 == 3 else row["max_size"]
     return row | {"max_size": size, "priority": "low" if row["from"] == 1 else row["priority"]}
 
 
-def section(row):
+def section(row: Row) -> str:
     """Writes a [[link]] of a table."""
     lines = (f'{key} = "{value}"\n' if isinstance(value, str) else f"{key} = {value}\n" for key, value in row.items())
     return "[[link]]\n" + "".join(lines) + "\n"
 
 
-def table(rows):
+def table(rows: list[Row]) -> str:
     """Writes the text of a table."""
     ports = "".join(f"[[port]]\nid = {port}\nmbit = 100\nbuffer = 262144\nmax_delay_us = 20000\n\n" for port in range(1, PORTS + 1))
     return ports + "".join(map(section, rows))
 
 
-def traffic(chance, row, length, babbles, larger):
+def traffic(chance: Any, row: Row, length: int, babbles: bool, larger: bool) -> tuple[Any, Any]:
     """Draws stamps and sizes of a link's frames."""
     bag = row["bag_ms"] * MILLISECOND
     stamps = numpy.arange(int(chance.integers(bag)), length, bag, dtype=numpy.int64)
@@ -65,7 +70,7 @@ def traffic(chance, row, length, babbles, larger):
     return stamps, chance.integers(least, top + 1, len(stamps))
 
 
-def capture(stamps, numbers, sizes):
+def capture(stamps: Any, numbers: Any, sizes: Any) -> bytes:
     """Makes a capture of frames of these links, which are bytes of 0 after their headers."""
     lengths = sizes - 4
     places = 24 + numpy.concatenate([[0], numpy.cumsum(lengths + 16)])
@@ -80,7 +85,7 @@ def capture(stamps, numbers, sizes):
     return out.tobytes()
 
 
-def on_a_line(begin, frames):
+def on_a_line(begin: int, frames: list[Frames]) -> Frames:
     """Puts the frames of a port in their order, each stamped at its end on a line of 100 Mbit/s on which none overlaps another."""
     stamps, numbers, sizes = (numpy.concatenate(column) for column in zip(*frames))
     order = numpy.argsort(stamps, kind="stable")
@@ -90,7 +95,7 @@ def on_a_line(begin, frames):
     return begin + numpy.maximum.accumulate(stamps - (ends - took)) + ends, numbers, sizes
 
 
-def spoilt(number, port, text):
+def spoilt(number: int, port: int, text: bytes) -> bytes | None:
     """Gives what is written of a capture; nothing if it is missing."""
     if number % 250 == 17 and port == 2:
         return text[:-7]
@@ -99,13 +104,13 @@ def spoilt(number, port, text):
     return None if number % 500 == 44 and port == 5 else text
 
 
-def write_recording(folder, number, count, length):
+def write_recording(folder: Path, number: int, count: int, length: int) -> None:
     """Writes the captures of a recording."""
     folder.mkdir(parents=True)
     chance = numpy.random.default_rng(1000 + number)
     rows = links()
     babbler = rows[int(chance.integers(LINKS))]["id"] if number % 25 == 11 else None
-    frames = {port: [] for port in range(1, PORTS + 1)}
+    frames: dict[int, list[Frames]] = {port: [] for port in range(1, PORTS + 1)}
     for row in rows:
         larger = row["from"] == 3 and number >= 3 * count // 5
         stamps, sizes = traffic(chance, row, length, row["id"] == babbler, larger)
@@ -116,14 +121,18 @@ def write_recording(folder, number, count, length):
             (folder / f"port-{port}.pcap").write_bytes(text)
 
 
-def main(room, count, milliseconds="200"):
-    room = Path(room)
-    room.mkdir(parents=True, exist_ok=True)
-    (room / "before.toml").write_text(table(links()))
-    (room / "after.toml").write_text(table(changed(row) for row in links()))
-    for number in range(int(count)):
-        write_recording(room / "recordings" / f"r{number:04}", number, int(count), int(milliseconds) * MILLISECOND)
+def main() -> None:
+    parser = argparse.ArgumentParser(description=__doc__, formatter_class=argparse.RawDescriptionHelpFormatter)
+    parser.add_argument("room", type=Path)
+    parser.add_argument("count", type=int, help="of recordings")
+    parser.add_argument("milliseconds", type=int, nargs="?", default=200, help="of each; 200 if none are named")
+    given = parser.parse_args()
+    given.room.mkdir(parents=True, exist_ok=True)
+    (given.room / "before.toml").write_text(table(links()))
+    (given.room / "after.toml").write_text(table([changed(row) for row in links()]))
+    for number in range(given.count):
+        write_recording(given.room / "recordings" / f"r{number:04}", number, given.count, given.milliseconds * MILLISECOND)
 
 
 if __name__ == "__main__":
-    main(*sys.argv[1:])
+    main()

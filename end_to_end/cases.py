@@ -1,8 +1,6 @@
 #!/usr/bin/env python3
 """Runs the program on each case of cases/*.toml, and compares its status, what it prints and the files that it puts.
 
-usage: cases.py PROGRAM [FILE..]        all files of cases/ where none is named
-
 A file has the list `case`; what `default` has, each of its cases has. A case has
 
     name        what is so
@@ -24,10 +22,10 @@ first four bytes), `times=N` (so many such frames) and `every=NS` (each so much 
 `{ frames = [..], patch = { 20 = "71" }, length = 99 }` is a capture with these bytes at these places, cut to that
 length; `{ hex = ".." }` has these bytes. The file `2` is `port-2.pcap`. A table of files is a folder.
 """
+import argparse
 import difflib
 import json
 import shlex
-import struct
 import subprocess
 import sys
 import tempfile
@@ -35,13 +33,12 @@ import tomllib
 from pathlib import Path
 from typing import Any
 
+from captures import HEADER, SECOND, frame, record, rows_of
+
 CASES = Path(__file__).parent / "cases"
 KEYS = {"name", "arguments", "start", "files", "in", "set", "change"}
 KEYS |= {"stdin", "status", "stdout", "lines", "stderr", "out"}
 ROWS = {"port", "link", "switch", "wire"}
-HEADER = bytes.fromhex("4d3cb2a1 02000400 00000000 00000000 00000400 01000000")
-RECORD = struct.Struct("<4I")
-SECOND = 1_000_000_000
 
 Case = dict[str, Any]
 Files = dict[str, bytes]
@@ -54,17 +51,13 @@ class Wrong(Exception):
 # --- Files ---
 
 
-def records_of(frame: str) -> bytes:
+def records_of(words: str) -> bytes:
     """Makes the records of `STAMP LINK SIZE KEY=VALUE..`."""
-    stamp, link, size, *rest = frame.split()
+    stamp, link, size, *rest = words.split()
     more = dict(word.split("=") for word in rest)
-    head = bytes.fromhex(more.get("constant", "03000000")) + int(link).to_bytes(2, "big")
-    data = (head + bytes.fromhex("0200000000010800")).ljust(int(size) - 4, b"\0")
-    records = b""
-    for number in range(int(more.get("times", 1))):
-        seconds, nanos = divmod(int(stamp) + number * int(more.get("every", 0)), SECOND)
-        records += RECORD.pack(seconds, nanos, len(data), int(more.get("original", len(data)))) + data
-    return records
+    data = frame(int(link), int(size), more.get("constant", "03000000"))
+    times, every, original = (int(more.get(key, other)) for key, other in (("times", 1), ("every", 0), ("original", len(data))))
+    return b"".join(record(int(stamp) + number * every, data, original) for number in range(times))
 
 
 def capture_of(frames: list[str]) -> bytes:
@@ -161,13 +154,8 @@ def shown(data: bytes) -> list[str]:
     """Gives the lines of a text, or the frames of a capture as a case has them."""
     if not data.startswith(HEADER):
         return data.decode(errors="replace").splitlines()
-    frames, place = [], len(HEADER)
-    while place + RECORD.size <= len(data):
-        seconds, nanos, length, original = RECORD.unpack_from(data, place)
-        place += RECORD.size + length
-        link = int.from_bytes(data[place - length + 4:place - length + 6], "big")
-        frames.append(f"{seconds * SECOND + nanos} {link} {length + 4} original={original}")
-    return frames
+    return [f"{seconds * SECOND + nanos} {int.from_bytes(text[4:6], 'big')} {captured + 4} original={original}"
+            for seconds, nanos, captured, original, text in rows_of(data)]
 
 
 def differences(name: str, wanted: bytes, got: bytes) -> list[str]:
@@ -247,15 +235,18 @@ def read_starts() -> dict[str, Any]:
     return starts
 
 
-def main(program: str, *names: str) -> int:
+def main() -> None:
     """Runs the cases of these files, or of all."""
+    parser = argparse.ArgumentParser(description=__doc__, formatter_class=argparse.RawDescriptionHelpFormatter)
+    parser.add_argument("program", type=Path)
+    parser.add_argument("files", type=Path, nargs="*", help="all of cases/ if none is named")
+    given = parser.parse_args()
     starts = read_starts()
-    paths = [Path(name) for name in names] or sorted(CASES.glob("*.toml"))
-    counts = [run_file(path, str(Path(program).resolve()), starts) for path in paths]
+    counts = [run_file(path, str(given.program.resolve()), starts) for path in given.files or sorted(CASES.glob("*.toml"))]
     passed, failed = (sum(column) for column in zip(*counts))
     print(f"{passed} passed, {failed} failed")
-    return 1 if failed else 0
+    sys.exit(1 if failed else 0)
 
 
 if __name__ == "__main__":
-    sys.exit(main(*sys.argv[1:]))
+    main()

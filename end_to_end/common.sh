@@ -1,3 +1,4 @@
+# shellcheck shell=bash disable=SC2154
 # Functions of the end-to-end scripts: what each needs, and how a check is counted.
 set -u
 
@@ -64,14 +65,15 @@ frames() {
 
 # enlarge FILE COUNT: the capture is followed by so many records of 262,144 bytes, which are for no link.
 enlarge() {
-    python3 - "$1" "$2" <<'END'
-import struct
+    PYTHONPATH=$top/end_to_end python3 - "$1" "$2" <<'END'
 import sys
+
+from captures import words
 
 with open(sys.argv[1], "r+b") as file:
     file.seek(0, 2)
     for _ in range(int(sys.argv[2])):
-        file.write(struct.pack("<4I", 1, 0, 262_144, 262_144))
+        file.write(words(1, 0, 262_144, 262_144))
         file.seek(262_144, 1)
     file.truncate()
 END

@@ -1,13 +1,11 @@
 #!/usr/bin/env python3
 """Types into a shell on a terminal of its own, and compares what the shell made of it.
 
-    completing.py SHELL SHARE CASES
-
-SHELL is bash, zsh or fish, SHARE the folder of its completions. Each line of CASES is what is typed, with `<TAB>` for
+Each line of CASES is what is typed, with `<TAB>` for
 that key, a `|`, and the words that the command then gets. The commands are scripts on the path that write their words
 into the file `words`.
 """
-
+import argparse
 import os
 import pty
 import select
@@ -72,10 +70,14 @@ class Shell:
 
 
 def main() -> None:
-    name, share, cases = sys.argv[1:]
-    shell = Shell(name, Path(share).resolve())
+    parser = argparse.ArgumentParser(description=__doc__, formatter_class=argparse.RawDescriptionHelpFormatter)
+    parser.add_argument("shell", choices=STARTS)
+    parser.add_argument("share", type=Path, help="the folder of its completions")
+    parser.add_argument("cases", type=Path)
+    given = parser.parse_args()
+    shell = Shell(given.shell, given.share.resolve())
     wrong = []
-    for line in Path(cases).read_text(encoding="utf-8").splitlines():
+    for line in given.cases.read_text(encoding="utf-8").splitlines():
         typed, wanted = (part.strip() for part in line.split("|"))
         made = shell.made_of(typed)
         wrong += [] if made == wanted else [f"{typed}: {made}, not {wanted}"]

@@ -145,8 +145,8 @@ def alone_answer(link: Any, data: bytes) -> Answer:
         return refusal(refused)
     passed: list[Any] = []
     for record in records:
-        frame = model.Arrival(link.source, record, *model.verdict_of(table, link.source, record))
-        if frame.link and model.conforms(link, passed, frame):
+        frame = model.Arrival(link.source, record, link=link)
+        if model.verdict_of(table, link.source, record)[0] == "clean" and model.conforms(link, passed, frame):
             passed.append(frame)
     return Answer(0, model.capture_of([frame.record for frame in passed]))
 

@@ -2,7 +2,6 @@
 
 A record is kept as the four words of its header and its bytes, so that a mutation can let them disagree.
 """
-import struct
 from collections.abc import Callable, Sequence
 from dataclasses import dataclass, replace
 from random import Random
@@ -10,8 +9,8 @@ from typing import Any
 
 import fuzz_bytes
 import model
+from captures import MAGICS, header, words
 
-MAGICS = {("<", 1): "4d3cb2a1", (">", 1): "a1b23c4d", ("<", 1000): "d4c3b2a1", (">", 1000): "a1b2c3d4"}
 WORD = 2**32 - 1
 SECONDS = [0, 1, 2**31 - 1, 2**31, WORD - 2, WORD - 1, WORD]
 FRACTIONS = [0, 1, 999_999, 1_000_000, 1_000_001, 999_999_999, 1_000_000_000, WORD]
@@ -41,10 +40,8 @@ class Capture:
     link_type: int = 1
 
     def text(self) -> bytes:
-        head = bytes.fromhex(MAGICS[self.order, self.unit])
-        head += struct.pack(f"{self.order}HH4I", *self.version, *self.others, self.link_type)
-        words = struct.Struct(f"{self.order}4I")
-        return head + b"".join(words.pack(row.seconds, row.fraction, row.captured, row.original) + row.data
+        head = header(self.order, self.unit, self.link_type, self.version, self.others)
+        return head + b"".join(words(row.seconds, row.fraction, row.captured, row.original, self.order) + row.data
                                for row in self.rows)
 
 

@@ -1,17 +1,19 @@
 #!/usr/bin/env python3
 """Makes the ICD of a network of five switches in a ring with a chord, twenty end systems and 120 links; always the same.
 
-usage: icds.py FOLDER             writes icd.csv, ends.csv, wires.csv, map.toml and ends.txt, which has of each way its two
-                                  ends and how many switches the shortest one has
-       icds.py FOLDER shuffled    the same lists with their rows in another order, in workbooks
+It writes icd.csv, ends.csv, wires.csv, map.toml and ends.txt, which has of each way its two ends and how many switches the
+shortest one has.
 """
+import argparse
 import csv
-import random
-import sys
+from collections.abc import Iterable, Iterator, Sequence
 from pathlib import Path
+from random import Random
+from typing import Any
 
 import openpyxl
 
+Row = tuple[Any, ...]
 SWITCHES = ["SW1", "SW2", "SW3", "SW4", "SW5"]
 CABLES = [("SW1", "SW2"), ("SW2", "SW3"), ("SW3", "SW4"), ("SW4", "SW5"), ("SW5", "SW1"), ("SW2", "SW5")]
 MAPPING = """\
@@ -29,13 +31,13 @@ latency_us = 8
 """
 
 
-def ends():
+def ends() -> list[tuple[str, str, int, int]]:
     """Four end systems at each switch: their names, switches, ports and speeds."""
     return [(f"ES{4 * at + port}", switch, port, 10 if port == 4 else 100)
             for at, switch in enumerate(SWITCHES) for port in range(1, 5)]
 
 
-def links(chance):
+def links(chance: Random) -> Iterator[Row]:
     """Links of all kinds to one, two or three end systems each."""
     names = [end[0] for end in ends()]
     for number in range(1, 121):
@@ -46,18 +48,18 @@ def links(chance):
                chance.choice([0, 17, 33, 129, 300]), "H" if bag == 16 else "L")
 
 
-def wires():
+def wires() -> Iterator[Row]:
     """The cables, at ports from 21 on."""
     used = dict.fromkeys(SWITCHES, 20)
     for at, cable in enumerate(CABLES):
-        row = []
+        row: list[str | int] = []
         for switch in cable:
             used[switch] += 1
             row += [switch, used[switch]]
         yield (*row, 1000, 25 * at)
 
 
-def switches_between(start, end):
+def switches_between(start: str, end: str) -> int:
     """How many switches the shortest way has, both ends with it."""
     reached, count = {start}, 1
     while end not in reached:
@@ -66,7 +68,7 @@ def switches_between(start, end):
     return count
 
 
-def ways(rows):
+def ways(rows: list[Row]) -> Iterator[str]:
     """What `afdx network check` has to say of the ends of each way."""
     places = {name: (switch, port) for name, switch, port, _ in ends()}
     for number, _, source, targets, *_ in rows:
@@ -75,7 +77,7 @@ def ways(rows):
             yield f"link {number} from {start[0]}.{start[1]} to {switch}.{port} switches {switches_between(start[0], switch)}"
 
 
-def write(path, heading, rows):
+def write(path: Path, heading: Row, rows: Iterable[Row]) -> None:
     if path.suffix == ".csv":
         with open(path, "w", encoding="utf-8", newline="") as file:
             csv.writer(file, delimiter=";", lineterminator="\n").writerows([heading, *rows])
@@ -86,15 +88,20 @@ def write(path, heading, rows):
         book.save(path)
 
 
-def main(folder, order=None):
-    folder, chance = Path(folder), random.Random(61)
+def main() -> None:
+    parser = argparse.ArgumentParser(description=__doc__, formatter_class=argparse.RawDescriptionHelpFormatter)
+    parser.add_argument("folder", type=Path, help="is made")
+    parser.add_argument("order", nargs="?", choices=["shuffled"], help="the same lists with their rows in another order, in workbooks")
+    given = parser.parse_args()
+    folder, chance = given.folder, Random(61)
     rows = list(links(chance))
-    lists = {"icd": (("VL_ID", "VL_NAME", "SRC_ES", "DST_ES", "BAG_MS", "JITTER_US", "MAX_PAYLOAD_UDP", "PRIO"), rows),
-             "ends": (("ES_NAME", "SWITCH", "PORT", "MBIT"), ends()),
-             "wires": (("SWITCH_A", "PORT_A", "SWITCH_B", "PORT_B", "MBIT", "DELAY_NS"), list(wires()))}
+    lists: dict[str, tuple[Row, Sequence[Row]]] = {
+        "icd": (("VL_ID", "VL_NAME", "SRC_ES", "DST_ES", "BAG_MS", "JITTER_US", "MAX_PAYLOAD_UDP", "PRIO"), rows),
+        "ends": (("ES_NAME", "SWITCH", "PORT", "MBIT"), ends()),
+        "wires": (("SWITCH_A", "PORT_A", "SWITCH_B", "PORT_B", "MBIT", "DELAY_NS"), list(wires()))}
     folder.mkdir()
     for name, (heading, content) in lists.items():
-        if order == "shuffled":
+        if given.order:
             write(folder / f"{name}.xlsx", heading, chance.sample(content, len(content)))
         else:
             write(folder / f"{name}.csv", heading, content)
@@ -103,4 +110,4 @@ def main(folder, order=None):
 
 
 if __name__ == "__main__":
-    main(*sys.argv[1:])
+    main()

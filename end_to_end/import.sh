@@ -31,15 +31,21 @@ changes_nothing() {
 
 # peak MEGABYTES: the most memory, in KiB, that the import of a recording of this size takes.
 peak() {
-    python3 - "$1" <<'END'
-import resource, struct, subprocess, sys
+    PYTHONPATH=$top/end_to_end python3 - "$1" <<'END'
+import resource
+import subprocess
+import sys
+
+from captures import HEADER, frame, record
+
 stamp = 1_790_000_000_000_000_000
+frames = [frame(link, 1036, end_system=1, network=0x20) for link in range(9)]
 with open("big/raw.pcap", "wb") as file:
-    file.write(bytes.fromhex("4d3cb2a1 02000400 00000000 00000000 00000400 01000000"))
+    file.write(HEADER)
     for _ in range(int(sys.argv[1])):
         for number in range(1000):
             stamp += 90_000
-            file.write(struct.pack("<4I", *divmod(stamp, 10**9), 1032, 1032) + bytes([3, 0, 0, 0, 0, number % 9, 2, 0, 0, 0, 1, 32]).ljust(1032))
+            file.write(record(stamp, frames[number % 9]))
 subprocess.run(["afdx-import", "big/rules.toml", "big", "big/in"], check=True, stdout=subprocess.DEVNULL)
 print(resource.getrusage(resource.RUSAGE_CHILDREN).ru_maxrss)
 END

@@ -1,12 +1,10 @@
 #!/usr/bin/env python3
 """Compares man pages, as `man` shows them, with what the commands print for --help.
 
-    manuals.py BIN FOLDER
-
-BIN has the programs, FOLDER the man pages. Each command that a help lists has its page; a page has all words of the
+Each command that a help lists has its page; a page has all words of the
 help, as often, but for the help's own headings.
 """
-
+import argparse
 import os
 import re
 import subprocess
@@ -48,7 +46,11 @@ def faults(bin_folder: Path, pages: Path, command: list[str]) -> list[str]:
 
 
 def main() -> None:
-    bin_folder, pages = map(Path, sys.argv[1:])
+    parser = argparse.ArgumentParser(description=__doc__, formatter_class=argparse.RawDescriptionHelpFormatter)
+    parser.add_argument("programs", type=Path, help="their folder")
+    parser.add_argument("pages", type=Path, help="the folder of the man pages")
+    given = parser.parse_args()
+    bin_folder, pages = given.programs, given.pages
     programs = sorted(file.name for file in bin_folder.iterdir())
     found = [fault for name in programs for fault in faults(bin_folder, pages, [name])]
     sys.exit("\n".join(found) or None)

@@ -1,20 +1,22 @@
 #!/usr/bin/env python3
 """A plain and slow model of the switch, written from docs/use/RULES.md and docs/use/FORMATS.md and from nothing else.
 
-usage: model.py TABLE            prints the load of each port, then `accepted`
-       model.py --size TABLE     prints what each port needs and has, and the rules that it breaks
-       model.py TABLE IN OUT     reads IN/port-K.pcap, writes OUT/port-K.pcap, prints the counts
+Of a table it prints the load of each port, then `accepted`; with IN and OUT it reads IN/port-K.pcap, writes OUT/port-K.pcap and
+prints the counts.
 
 Accounts are windows, not levels; a port's whole list of frames is scheduled anew for each arrival. Instants are
 nanoseconds, all numbers whole. A refused capture or load is one line on standard error, with status 3 or 4. The table
 itself is taken to be in order.
 """
-import os
+import argparse
 import struct
 import sys
 import tomllib
+from collections.abc import Callable, Collection
 from dataclasses import dataclass, field
 from itertools import takewhile
+from pathlib import Path
+from typing import Any, NoReturn
 
 SECOND = 1_000_000_000
 LAST_SECOND = 4_294_967_295
@@ -31,7 +33,7 @@ LOAD_UNIT = 16 * 128_000_000
 class Refused(Exception):
     """A line for standard error and a status."""
 
-    def __init__(self, line, status):
+    def __init__(self, line: str, status: int) -> None:
         super().__init__(line)
         self.line, self.status = line, status
 
@@ -52,7 +54,7 @@ class Port:
 class Link:
     id: int
     source: int  # the ingress port
-    to: list
+    to: list[int]
     bag: int  # ns
     jitter: int  # ns
     max_size: int  # bytes
@@ -63,15 +65,15 @@ class Link:
 @dataclass
 class Table:
     constant: bytes
-    ports: list  # by rising number
-    links: list  # in file order
+    ports: list[Port]  # by rising number
+    links: list[Link]  # in file order
 
 
-def table_of(text):
+def table_of(text: str) -> Table:
     return table_in(tomllib.loads(text))
 
 
-def table_in(tree):
+def table_in(tree: dict[str, Any]) -> Table:
     """The table that the tree of a text says."""
     latency = tree.get("latency_us", 0) * 1000
     ports = [Port(port["id"], {10: 800, 100: 80, 1000: 8}[port["mbit"]], port["buffer"], port["max_delay_us"] * 1000, latency)
@@ -92,14 +94,14 @@ class Record:
     data: bytes
 
     @property
-    def size(self):
+    def size(self) -> int:
         return len(self.data) + CHECK_SEQUENCE
 
 
-def records_of(data, port):
+def records_of(data: bytes, port: int) -> list[Record]:
     """The records of a capture, or its first fault."""
 
-    def refuse(fault, record=None):
+    def refuse(fault: str, record: int | None = None) -> NoReturn:
         where = f"port {port}" if record is None else f"port {port}, record {record}"
         raise Refused(f"afdx: capture {fault}, {where}", 3)
 
@@ -114,7 +116,8 @@ def records_of(data, port):
     (link_type,) = struct.unpack_from(order + "I", data, 20)
     if link_type != 1:
         refuse(f"P5 LinkType {link_type}")
-    records, at = [], 24
+    records: list[Record] = []
+    at = 24
     while at < len(data):
         number = len(records) + 1
         if len(data) - at < 16:
@@ -136,7 +139,7 @@ def records_of(data, port):
     return records
 
 
-def capture_of(records):
+def capture_of(records: list[Record]) -> bytes:
     """The one text of these records."""
     text = bytes.fromhex("4d3cb2a1 02000400 00000000 00000000 00000400 01000000")
     for record in records:
@@ -153,19 +156,19 @@ class Arrival:
     port: int
     record: Record
     verdict: str = ""
-    link: Link = None  # of a clean frame
+    link: Link = None  # type: ignore[assignment]  # of a clean frame
     passed: bool = False
 
     @property
-    def stamp(self):
+    def stamp(self) -> int:
         return self.record.stamp
 
     @property
-    def size(self):
+    def size(self) -> int:
         return self.record.size
 
 
-def verdict_of(table, port, record):
+def verdict_of(table: Table, port: int, record: Record) -> tuple[str, Link | None]:
     """The first case that holds, and the link of a clean frame."""
     if record.original > len(record.data):
         return "cut", None
@@ -186,7 +189,7 @@ def verdict_of(table, port, record):
     return "clean", links[0]
 
 
-def conforms(link, passed, frame):
+def conforms(link: Link, passed: list[Arrival], frame: Arrival) -> bool:
     """Whether each window that ends with this frame, and begins with a passed one or with itself, keeps to the link's
     allowance: in bytes, or in frames."""
     sent, each_gap = 0, link.max_size if link.police == "byte" else 1
@@ -198,10 +201,10 @@ def conforms(link, passed, frame):
     return True
 
 
-def police(table, arrivals):
+def police(table: Table, arrivals: list[Arrival]) -> None:
     """Marks the frames that their links' accounts pass."""
     for link in table.links:
-        passed = []
+        passed: list[Arrival] = []
         for frame in arrivals:
             if frame.link is link and conforms(link, passed, frame):
                 passed.append(frame)
@@ -219,9 +222,10 @@ class Event:
     end: int  # where it was sent: the instant when the line is free again
 
 
-def service(port, frames):
+def service(port: Port, frames: list[Arrival]) -> list[Event]:
     """All events of a port that is offered these frames and has room for them."""
-    events, waiting, free = [], list(frames), 0
+    events: list[Event] = []
+    waiting, free = list(frames), 0
     while waiting:
         begin = max(free, waiting[0].stamp + port.latency)
         there = list(takewhile(lambda frame: frame.stamp + port.latency <= begin, waiting))
@@ -236,16 +240,16 @@ def service(port, frames):
     return events
 
 
-def occupied(port, admitted, stamp):
+def occupied(port: Port, admitted: list[Arrival], stamp: int) -> int:
     """The bytes that these frames fill at this instant, by a schedule of all of them."""
     gone = sum(event.frame.size for event in service(port, admitted)
                if (event.sent and event.end <= stamp) or (not event.sent and event.begin < stamp))
     return sum(frame.size for frame in admitted) - gone
 
 
-def admission(port, frames):
+def admission(port: Port, frames: list[Arrival]) -> list[Arrival]:
     """The frames that find room, each judged against those that were admitted before it."""
-    admitted = []
+    admitted: list[Arrival] = []
     for frame in frames:
         if occupied(port, admitted, frame.stamp + port.latency) + frame.size <= port.buffer:
             admitted.append(frame)
@@ -257,23 +261,25 @@ def admission(port, frames):
 
 @dataclass
 class Outcome:
-    captures: dict = field(default_factory=dict)  # by port
+    captures: dict[int, bytes] = field(default_factory=dict)  # by port
     report: str = ""
 
 
-def arrivals_of(table, captures):
+def arrivals_of(table: Table, captures: dict[int, bytes]) -> list[Arrival]:
     """The arrivals of these captures, bytes by port, in the order of the merge, judged and policed."""
-    arrivals = []
+    arrivals: list[Arrival] = []
     for port in table.ports:
         arrivals += [Arrival(port.id, record) for record in records_of(captures[port.id], port.id)]
     arrivals.sort(key=lambda arrival: arrival.stamp)  # stable, so by port and place where stamps are equal
     for arrival in arrivals:
-        arrival.verdict, arrival.link = verdict_of(table, arrival.port, arrival.record)
+        arrival.verdict, link = verdict_of(table, arrival.port, arrival.record)
+        if link:
+            arrival.link = link
     police(table, arrivals)
     return arrivals
 
 
-def run(table, captures):
+def run(table: Table, captures: dict[int, bytes]) -> Outcome:
     """What comes out of the switch for these captures, bytes by port."""
     arrivals = arrivals_of(table, captures)
     outcome, ins, links, outs = Outcome(), [], [], []
@@ -309,35 +315,36 @@ class Load:
     buffer: int  # the least one, in bytes
     high: int | None  # ns
     low: int | None
-    rules: list  # of name, need and limit
+    rules: list[tuple[str, int, int]]  # of name, need and limit
     lows: bool  # whether there are low links
 
 
-def rate_of(port, links):
+def rate_of(port: Port, links: list[Link]) -> int:
     """Parts of the port's line that these links ask for in each nanosecond."""
-    def sixteenths(link):
+    def sixteenths(link: Link) -> int:
         return 21 * link.max_size if link.police == "byte" else 16 * (link.max_size + LINE_OVERHEAD)
 
     return sum(port.tick * sixteenths(link) * (128_000_000 // link.bag) for link in links)
 
 
-def burst_of(port, links):
+def burst_of(port: Port, links: list[Link]) -> int:
     """Parts that they ask for at once."""
     return sum(rate_of(port, [link]) * (link.bag + link.jitter) for link in links)
 
 
-def links_to(table, port):
+def links_to(table: Table, port: Port) -> tuple[list[Link], list[Link], list[Link]]:
     """The links that lead to a port: all, the high and the low ones."""
     links = [link for link in table.links if port.id in link.to]
-    return links, *([link for link in links if link.priority == priority] for priority in PRIORITIES)
+    high, low = ([link for link in links if link.priority == priority] for priority in PRIORITIES)
+    return links, high, low
 
 
-def largest_of(port, links):
+def largest_of(port: Port, links: list[Link]) -> int:
     """The line time of their largest frame."""
     return max(((link.max_size + LINE_OVERHEAD) * port.tick for link in links), default=0)
 
 
-def bounds_of(table, port, burst, high_burst):
+def bounds_of(table: Table, port: Port, burst: int, high_burst: int) -> tuple[int | None, int | None]:
     """The bounds of the high and of the low links of a port, where all and the high ones ask for so much at once."""
     _, high, low = links_to(table, port)
     high_bound = low_bound = None
@@ -348,7 +355,7 @@ def bounds_of(table, port, burst, high_burst):
     return high_bound, low_bound
 
 
-def load_of(table, port):
+def load_of(table: Table, port: Port) -> Load | None:
     """The load of a port; None where it has no links."""
     links, high, low = links_to(table, port)
     if not links:
@@ -357,14 +364,14 @@ def load_of(table, port):
     high_bound, low_bound = bounds_of(table, port, burst, burst_of(port, high))
     need, byte = burst + LOAD_UNIT * largest_of(port, links), LOAD_UNIT * port.tick
     rules = [("L1 Rate", rate_of(port, links), LOAD_UNIT), ("L2 Buffer", need, byte * port.buffer)]
-    if high:
+    if high_bound is not None:
         rules.append(("L3 HighDelay", high_bound, port.max_delay))
     if low_bound is not None:
         rules.append(("L4 LowDelay", low_bound, port.max_delay))
     return Load(rate_of(port, links), -(-need // byte), high_bound, low_bound, rules, bool(low))
 
 
-def brought(port, line, links, spare):
+def brought(port: Port, line: Port | None, links: list[Link], spare: int) -> Callable[[int], int]:
     """What links that come in at one port bring, by the length of a window in ns: no more than they may send and, where frames
     come one after the other over the line there, than its first frame, the window's length and these parts beside."""
     burst, rate = burst_of(port, links), rate_of(port, links)
@@ -374,10 +381,10 @@ def brought(port, line, links, spare):
     return lambda window: min(burst + rate * window, worth * (first + window) + spare)
 
 
-def least_burst(groups):
+def least_burst(groups: list[Callable[[int], int]]) -> int:
     """The most by which groups are above the port's line: what they bring gains on it ever less, so that it is where they gain
     nothing more."""
-    def above(window):
+    def above(window: int) -> int:
         return sum(group(window) for group in groups) - LOAD_UNIT * window
 
     low, high = 0, 1 << 80
@@ -387,7 +394,7 @@ def least_burst(groups):
     return above(low)
 
 
-def lesser_bursts(table, port, lined):
+def lesser_bursts(table: Table, port: Port, lined: Collection[int]) -> tuple[int, int]:
     """What all links of a port and its high ones ask for at once, where frames come one after the other over the lines of
     the ports with these numbers."""
     links, high_links, _ = links_to(table, port)
@@ -400,13 +407,13 @@ def lesser_bursts(table, port, lined):
     return least_burst(groups), least_burst(high_groups)
 
 
-def loads_of(table):
+def loads_of(table: Table) -> list[tuple[Port, Load]]:
     """The ports that have links, each with its load."""
     loads = ((port, load_of(table, port)) for port in table.ports)
     return [(port, load) for port, load in loads if load]
 
 
-def check(table):
+def check(table: Table) -> str:
     """The lines of an accepted table, or the first rule that fails at the lowest port."""
     lines = []
     for port, load in loads_of(table):
@@ -418,7 +425,7 @@ def check(table):
     return "".join(line + "\n" for line in lines + ["accepted"])
 
 
-def size(table):
+def size(table: Table) -> str:
     """The lines of a table, whether it is accepted or not."""
     lines = []
     for port, load in loads_of(table):
@@ -430,36 +437,44 @@ def size(table):
     return "".join(line + "\n" for line in lines)
 
 
-def captures_in(folder, table):
+def captures_in(folder: str, table: Table) -> dict[int, bytes]:
     """The bytes of each port's capture."""
-    captures = {}
-    for port in table.ports:
-        with open(f"{folder}/port-{port.id}.pcap", "rb") as file:
-            captures[port.id] = file.read()
-    return captures
+    return {port.id: Path(folder, f"port-{port.id}.pcap").read_bytes() for port in table.ports}
 
 
-def main(arguments):
-    sizes = arguments[0] == "--size"
-    with open(arguments[1 if sizes else 0], encoding="utf-8", newline="") as file:
-        table = table_of(file.read())
-    if sizes:
+def read(path: str | Path) -> Table:
+    """The table of a file."""
+    return table_of(Path(path).read_bytes().decode())
+
+
+def main(given: argparse.Namespace) -> str:
+    table = read(given.table)
+    if given.size:
         return size(table)
-    if len(arguments) == 1:
+    if not given.folders:
         return check(table)
-    outcome = run(table, captures_in(arguments[1], table))
-    os.makedirs(arguments[2], exist_ok=True)
+    source, target = given.folders
+    outcome = run(table, captures_in(source, table))
+    Path(target).mkdir(parents=True, exist_ok=True)
     for port, capture in outcome.captures.items():
-        with open(f"{arguments[2]}/port-{port}.pcap", "wb") as file:
-            file.write(capture)
+        Path(target, f"port-{port}.pcap").write_bytes(capture)
     return outcome.report
 
 
+def arguments() -> argparse.Namespace:
+    parser = argparse.ArgumentParser(description=__doc__, formatter_class=argparse.RawDescriptionHelpFormatter)
+    parser.add_argument("--size", action="store_true", help="says what each port needs and has, and the rules that it breaks")
+    parser.add_argument("table", help="its load is judged if no folder is named")
+    parser.add_argument("folders", nargs="*", metavar="IN OUT", help="the captures that come in, and the folder of those that go out")
+    given = parser.parse_args()
+    if len(given.folders) not in ((0,) if given.size else (0, 2)):
+        parser.error("IN and OUT go together, and without --size")
+    return given
+
+
 if __name__ == "__main__":
-    if len(sys.argv) not in (2, 3, 4) or (len(sys.argv) == 3) != (sys.argv[1] == "--size"):
-        sys.exit(__doc__)
     try:
-        sys.stdout.write(main(sys.argv[1:]))
+        sys.stdout.write(main(arguments()))
     except Refused as refused:
         print(refused.line, file=sys.stderr)
         sys.exit(refused.status)

@@ -1,10 +1,11 @@
 #!/usr/bin/env python3
 """Checks model.py against numbers and bytes that were worked out by hand; prints what differs, and fails then."""
 import re
-import struct
 import sys
+from collections.abc import Callable
 
 import model
+from captures import HEADER, frame, header, record, words
 
 PORT = "[[port]]\nid = {}\nmbit = 100\nbuffer = 100000\nmax_delay_us = 500000\n"
 LINK = ('[[link]]\nid = {}\nfrom = {}\nto = [{}]\nbag_ms = 1\njitter_us = 0\nmax_size = 1518\npriority = "{}"\n')
@@ -13,7 +14,8 @@ DOUBLE = "".join(PORT.format(port) for port in (1, 2, 3)) + LINK.format(10, 1, 3
 MIXED = (PORT.format(1) + PORT.format(2) + LINK.format(10, 1, 2, "low") + LINK.format(11, 1, 2, "low")
          + LINK.format(12, 1, 2, "high"))
 
-def by_frames(text, links=1):
+
+def by_frames(text: str, links: int = 1) -> str:
     """The table in version 2, with its last links policed by frames."""
     places = text.split("[[link]]")
     return "version = 2\n" + "[[link]]".join(
@@ -21,21 +23,20 @@ def by_frames(text, links=1):
         for place_number, place in enumerate(places))
 
 
-def later(text, latency_us):
+def later(text: str, latency_us: int) -> str:
     """The table in version 3, with this latency."""
     return f"version = 3\nlatency_us = {latency_us}\n" + text
 
 
-HEADER = bytes.fromhex("4d3cb2a1 02000400 00000000 00000000 00000400 01000000")
-differing = []
+differing: list[str] = []
 
 
-def same(name, got, wanted):
+def same(name: str, got: object, wanted: object) -> None:
     if got != wanted:
         differing.append(f"{name}: got {got!r}, wanted {wanted!r}")
 
 
-def with_port(text, number, **values):
+def with_port(text: str, number: int, **values: int) -> str:
     """The table with these values at this port."""
     places = text.split("[[")
     for key, value in values.items():
@@ -43,38 +44,28 @@ def with_port(text, number, **values):
     return "[[".join(places)
 
 
-def frame(link, size, constant="03000000"):
-    head = bytes.fromhex(constant) + link.to_bytes(2, "big") + bytes.fromhex("0200000000010800")
-    return head.ljust(size - 4, b"\0")[:size - 4]
-
-
-def record(stamp, data, original=None, order="<", unit=1):
-    seconds, nanos = divmod(stamp, 10**9)
-    return struct.pack(order + "4I", seconds, nanos // unit, len(data), original or len(data)) + data
-
-
-def capture(*frames):
+def capture(*frames: tuple[int, int, int]) -> bytes:
     """A capture of (link, size, stamp)."""
     return HEADER + b"".join(record(stamp, frame(link, size)) for link, size, stamp in frames)
 
 
-def run(text, *captures):
+def run(text: str, *captures: bytes) -> model.Outcome:
     table = model.table_of(text)
     return model.run(table, {port.id: data for port, data in zip(table.ports, captures)})
 
 
-def leaves(outcome, port):
+def leaves(outcome: model.Outcome, port: int) -> list[int]:
     """The stamps of a port's output in the order of the capture."""
     return [record.stamp for record in model.records_of(outcome.captures[port], port)]
 
 
-def sees(name, outcome, *lines):
+def sees(name: str, outcome: model.Outcome, *lines: str) -> None:
     """The report has these lines."""
     for line in lines:
         same(name, line in outcome.report.splitlines(), True)
 
 
-def refuses(name, line, status, call, *arguments):
+def refuses(name: str, line: str, status: int, call: Callable[..., object], *arguments: object) -> None:
     try:
         call(*arguments)
         same(name, "no refusal", line)
@@ -82,7 +73,7 @@ def refuses(name, line, status, call, *arguments):
         same(name, (refused.line, refused.status), (line, status))
 
 
-def frames_and_accounts():
+def frames_and_accounts() -> None:
     one = capture((10, 64, 0))
     outcome = run(SINGLE, one, HEADER)
     same("one frame", outcome.captures[1], HEADER)
@@ -115,7 +106,7 @@ out 2 low offered 0 full 0 aged 0 sent 0
     same(name, babbled.captures[3][:100], quiet.captures[3])
 
 
-def ports():
+def ports() -> None:
     for name, high in (("high overtakes", 1), ("high at the instant of the end", 123_040)):
         outcome = run(MIXED, capture((10, 1518, 0), (11, 64, 1), (12, 64, high)), HEADER)
         left = model.records_of(outcome.captures[2], 2)
@@ -149,7 +140,7 @@ def ports():
     sees(name, outcome, "out 2 low offered 2 full 1 aged 0 sent 1", "out 3 low offered 2 full 0 aged 0 sent 2")
 
 
-def latency():
+def latency() -> None:
     gigabit = with_port(SINGLE, 2, mbit=1000)
     one = capture((10, 64, 0)), HEADER
     same("gigabit", leaves(run(later(gigabit, 50), *one), 2), [50_672])
@@ -165,7 +156,7 @@ def latency():
     sees(name, outcome, "out 2 low offered 1 full 0 aged 1 sent 0")
 
 
-def policing_by_frames():
+def policing_by_frames() -> None:
     name = "frame policing"
     outcome = run(by_frames(SINGLE), capture(*[(10, 64, 0)] * 24), HEADER)
     same(name, leaves(outcome, 2), [6_720])
@@ -185,14 +176,15 @@ def policing_by_frames():
     sees(name, outcome, "link 10 passed 2 policed 0", "link 20 passed 1 policed 1")
 
 
-def captures():
+def captures() -> None:
     name, late = "last second", 4_294_967_295 * 10**9
     refuses(name, "afdx: capture P9 Late, port 1, record 1", 3, run, SINGLE, capture((10, 64, late)), HEADER)
     outcome = run(SINGLE, capture((10, 64, late - 1)), HEADER)
     same(name, outcome.captures[2][24:40].hex(), "ffffffff3f1a00003c0000003c000000")
     headers = {"4d3cb2a1": ("<", 1), "a1b23c4d": (">", 1), "d4c3b2a1": ("<", 1000), "a1b2c3d4": (">", 1000)}
     for magic, (order, unit) in headers.items():
-        data = bytes.fromhex(magic) + struct.pack(order + "HHIIII", 2, 4, 0, 0, 65_535, 1)
+        data = header(order, unit, others=(0, 0, 65_535))
+        same("four magics", data[:4].hex(), magic)
         data += record(1_000_005_000, frame(10, 64), order=order, unit=unit)
         outcome = run(SINGLE, data, HEADER)
         same("four magics", outcome.captures[2],
@@ -201,29 +193,28 @@ def captures():
     name, one = "capture faults", capture((10, 64, 0))
     same(name, model.records_of(one[:24], 1), [])
 
-    def refused(fault, data):
+    def refused(fault: str, data: bytes) -> None:
         refuses(name, f"afdx: capture {fault}", 3, model.records_of, data, 1)
 
     refused("P2 NoHeader, port 1", one[:23])
     refused("P2 NoHeader, port 1", bytes(23))
     refused("P3 Magic, port 1", bytes(24))
     refused("P4 Version, port 1", HEADER[:6] + b"\3" + HEADER[7:])
-    refused("P5 LinkType 113, port 1", HEADER[:20] + struct.pack("<I", 113))
-    refused("P5 LinkType 65537, port 1", HEADER[:20] + struct.pack("<I", 65_537))
+    refused("P5 LinkType 113, port 1", header(link_type=113))
+    refused("P5 LinkType 65537, port 1", header(link_type=65_537))
     refused("P6 CutHeader, port 1, record 1", one[:39])
     refused("P11 CutData, port 1, record 1", one[:40])
     refused("P11 CutData, port 1, record 1", one[:99])
-    refused("P7 Huge, port 1, record 1", HEADER + struct.pack("<4I", 0, 0, 262_145, 0))
-    refused("P7 Huge, port 1, record 1", HEADER + struct.pack("<4I", 0, 10**9, 262_145, 0))
-    refused("P8 Fraction, port 1, record 1", HEADER + struct.pack("<4I", 0, 10**9, 60, 60))
-    micros = bytes.fromhex("d4c3b2a1") + HEADER[4:]
-    refused("P8 Fraction, port 1, record 1", micros + struct.pack("<4I", 0, 10**6, 60, 60))
+    refused("P7 Huge, port 1, record 1", HEADER + words(0, 0, 262_145, 0))
+    refused("P7 Huge, port 1, record 1", HEADER + words(0, 10**9, 262_145, 0))
+    refused("P8 Fraction, port 1, record 1", HEADER + words(0, 10**9, 60, 60))
+    refused("P8 Fraction, port 1, record 1", header(unit=1000) + words(0, 10**6, 60, 60))
     refused("P10 Backwards, port 1, record 2", capture((10, 64, 10**9), (10, 64, 0)))
     outcome = run(SINGLE, HEADER + record(0, bytes(262_144)), HEADER)
     sees(name, outcome, "in 1 seen 1 cut 0 short 0 long 1 foreign 0 no-link 0 wrong-port 0 too-big 0 clean 0")
 
 
-def every_verdict():
+def every_verdict() -> None:
     text = DOUBLE.replace("max_size = 1518", "max_size = 500", 1)
     first = [record(0, frame(10, 64), original=61), record(0, frame(10, 63)), record(0, frame(10, 1519)),
              record(0, frame(10, 64, "02000000")), record(0, frame(11, 64)), record(0, frame(20, 64)),
@@ -235,14 +226,14 @@ def every_verdict():
          "in 2 seen 1 cut 0 short 0 long 0 foreign 0 no-link 0 wrong-port 1 too-big 0 clean 0")
 
 
-def load():
-    def says(name, text, *lines):
+def load() -> None:
+    def says(name: str, text: str, *lines: str) -> None:
         same(name, model.check(model.table_of(text)), "".join(line + "\n" for line in (*lines, "accepted")))
 
-    def fails(name, text, line):
+    def fails(name: str, text: str, line: str) -> None:
         refuses(name, f"afdx: load {line}", 4, model.check, model.table_of(text))
 
-    def equal_links(count):
+    def equal_links(count: int) -> str:
         return PORT.format(1) + PORT.format(2) + "".join(LINK.format(link + 1, 1, 2, "low") for link in range(count))
 
     says("one link", SINGLE, "port 2 rate 326430720 buffer 3531 high - low 159390")
@@ -277,7 +268,7 @@ def load():
     says("both kinds of policing", by_frames(DOUBLE), "port 3 rate 578416640 buffer 5069 high - low 282430")
 
 
-def lesser_bursts():
+def lesser_bursts() -> None:
     """The rows of crates/afdx_rule_tests/src/bursts.rt: port 2 at 100 Mbit/s, links of 1518 bytes each millisecond."""
     ports = PORT.format(1) + PORT.format(2) + PORT.format(3)
     low, other, third = LINK.format(10, 1, 2, "low"), LINK.format(11, 1, 2, "low"), LINK.format(11, 3, 2, "low")
@@ -290,7 +281,8 @@ def lesser_bursts():
         ("a fast line", with_port(ports + low + other, 1, mbit=1000), [1], (624_653_133_455_360, 0)),
         ("two lines", ports + low + third, [1, 3], (592_531_463_249_920, 0)),
         ("a high link on the line", ports + low + high, [1], (578_416_640_000_000, 251_985_920_000_000)),
-        ("both kinds, and a high link beside", by_frames(ports + low + third_high + framed), [1], (650_924_737_249_280, 326_430_720_000_000)),
+        ("both kinds, and a high link beside", by_frames(ports + low + third_high + framed), [1],
+         (650_924_737_249_280, 326_430_720_000_000)),
         ("no link", ports, [1, 3], (0, 0)),
     ):
         table = model.table_of(text)

@@ -1,21 +1,19 @@
 #!/usr/bin/env python3
 """A plain and slow model of a network of switches; each switch is that of model.py.
 
-usage: network_model.py check NET         the switches, the ways with their delays and jitters, then `accepted`
-       network_model.py jitter NET        the jitter that each row needs, from the sources' own
-       network_model.py run NET IN OUT    reads IN/A/port-K.pcap for each port without a wire, writes OUT/A/port-K.pcap
-                                          for each port, prints each switch's counts after its name
-
 A link's way is walked back from its end, row by row; its delays and jitters are summed from the first row on. Numbers are
 whole, nanoseconds if nothing is said. A refusal is one line on standard error, with status 3 or 4. The tables themselves
 are taken to be in order, their load is not.
 """
-import os
+import argparse
 import re
 import struct
 import sys
 import tomllib
+from collections.abc import Callable
 from dataclasses import dataclass
+from pathlib import Path
+from typing import Any, NoReturn, TypeVar
 
 import model
 from model import Refused
@@ -27,6 +25,9 @@ MOST_DELAY = 1_000_000
 MOST_JITTER_US = 10_000
 MOST_ROUNDS = 64
 
+Members = dict[str, Any]
+Answer = TypeVar("Answer")
+
 
 # --- The network file ---
 
@@ -36,7 +37,7 @@ class End:
     switch: str
     port: int
 
-    def __str__(self):
+    def __str__(self) -> str:
         return f"{self.switch}.{self.port}"
 
 
@@ -54,17 +55,17 @@ class Switch:
     path: str  # of its table
 
 
-def refuse(rule, *parts):
+def refuse(rule: str, *parts: str) -> NoReturn:
     """Letters G: texts that make no network; J and R: what a network cannot do."""
     raise Refused(", ".join([f"afdx: network {rule}", *parts]), 3 if rule.startswith("G") else 4)
 
 
-def known(place, keys, members):
+def known(place: str, keys: list[str], members: Members) -> None:
     if not set(members) <= set(keys):
         refuse("G2 UnknownKey", place)
 
 
-def value(place, key, members, kind):
+def value(place: str, key: str, members: Members, kind: type) -> Any:
     """A required value of this kind; a truth value is no number."""
     if key not in members:
         refuse("G2 MissingKey", place, key)
@@ -73,21 +74,21 @@ def value(place, key, members, kind):
     return members[key]
 
 
-def matched(place, key, members, pattern):
+def matched(place: str, key: str, members: Members, pattern: str) -> re.Match[str]:
     found = re.fullmatch(pattern, value(place, key, members, str))
     if not found:
         refuse("G2 Range", place, key)
     return found
 
 
-def number(place, key, members, least, most):
-    found = value(place, key, members, int)
+def number(place: str, key: str, members: Members, least: int, most: int) -> int:
+    found: int = value(place, key, members, int)
     if not least <= found <= most:
         refuse("G2 Range", place, key)
     return found
 
 
-def tables(key, top):
+def tables(key: str, top: Members) -> list[Members]:
     """An array of tables; none where it is missing."""
     found = top.get(key, [])
     if type(found) is not list or any(type(members) is not dict for members in found):
@@ -95,12 +96,12 @@ def tables(key, top):
     return found
 
 
-def end_of(place, key, members):
+def end_of(place: str, key: str, members: Members) -> End:
     found = matched(place, key, members, r"([A-Za-z0-9_-]{1,16})\.([1-9]|1[0-9]|2[0-4])")
     return End(found[1], int(found[2]))
 
 
-def switch_of(place, members, before):
+def switch_of(place: str, members: Members, before: list[Switch]) -> Switch:
     known(place, ["name", "table"], members)
     name = matched(place, "name", members, r"[A-Za-z0-9_-]{1,16}")[0]
     path = matched(place, "table", members, r"(?s).+")[0]
@@ -109,7 +110,7 @@ def switch_of(place, members, before):
     return Switch(name, path)
 
 
-def wire_of(place, members, names, before):
+def wire_of(place: str, members: Members, names: list[str], before: list[Wire]) -> Wire:
     known(place, ["from", "to", "delay_ns"], members)
     start, end = end_of(place, "from", members), end_of(place, "to", members)
     delay = number(place, "delay_ns", members, 0, MOST_DELAY) if "delay_ns" in members else 0
@@ -124,7 +125,7 @@ def wire_of(place, members, names, before):
     return Wire(place, start, end, delay)
 
 
-def layout_of(data):
+def layout_of(data: bytes) -> tuple[list[Switch], list[Wire]]:
     """The switches and the wires that a network file's bytes name."""
     try:
         top = tomllib.loads(data.decode("utf-8"))
@@ -133,7 +134,7 @@ def layout_of(data):
     return layout_in(top)
 
 
-def layout_in(top):
+def layout_in(top: Members) -> tuple[list[Switch], list[Wire]]:
     """The same of the tree of its text."""
     known("top", ["version", "switch", "wire"], top)
     if "version" in top:
@@ -141,7 +142,8 @@ def layout_in(top):
     of_switches, of_wires = tables("switch", top), tables("wire", top)
     if len(of_switches) > MOST_SWITCHES:
         refuse("G2 Range", "top", "switch")
-    switches, wires = [], []
+    switches: list[Switch] = []
+    wires: list[Wire] = []
     for place, members in enumerate(of_switches, 1):
         switches.append(switch_of(f"switch {place}", members, switches))
     names = [switch.name for switch in switches]
@@ -162,46 +164,41 @@ class Row:
 
 @dataclass
 class Network:
-    names: list  # of the switches, in file order
-    tables: dict  # by name
-    wires: list
-    rows: list  # of all tables, by switch and place
+    names: list[str]  # of the switches, in file order
+    tables: dict[str, model.Table]  # by name
+    wires: list[Wire]
+    rows: list[Row]  # of all tables, by switch and place
 
 
-def network_of(switches, wires, tables_of):
+def network_of(switches: list[Switch], wires: list[Wire], tables_of: dict[str, model.Table]) -> Network:
     rows = [Row(switch.name, link) for switch in switches for link in tables_of[switch.name].links]
     return Network([switch.name for switch in switches], tables_of, wires, rows)
 
 
-def read(path):
+def read(path: str | Path) -> Network:
     """The network of a file, and of the tables beside it."""
-    with open(path, "rb") as file:
-        switches, wires = layout_of(file.read())
-    tables_of = {}
-    for switch in switches:
-        with open(os.path.join(os.path.dirname(path), switch.path), encoding="utf-8", newline="") as file:
-            tables_of[switch.name] = model.table_of(file.read())
-    return network_of(switches, wires, tables_of)
+    switches, wires = layout_of(Path(path).read_bytes())
+    return network_of(switches, wires, {switch.name: model.read(Path(path).parent / switch.path) for switch in switches})
 
 
-def port_of(net, end):
-    """The row of a port; None where the switch has none of this number."""
-    return next((port for port in net.tables[end.switch].ports if port.id == end.port), None)
+def port_of(net: Network, end: End) -> model.Port:
+    """The row of a port that the switch has."""
+    return next(port for port in net.tables[end.switch].ports if port.id == end.port)
 
 
-def row_of(net, switch, number):
+def row_of(net: Network, switch: str, number: int) -> Row | None:
     return next((row for row in net.rows if row.switch == switch and row.link.id == number), None)
 
 
-def wire_to(net, end):
+def wire_to(net: Network, end: End) -> Wire | None:
     return next((wire for wire in net.wires if wire.end == end), None)
 
 
-def wire_from(net, start):
+def wire_from(net: Network, start: End) -> Wire | None:
     return next((wire for wire in net.wires if wire.start == start), None)
 
 
-def rows_on(net, wire):
+def rows_on(net: Network, wire: Wire) -> list[Row]:
     """The rows of the first switch that lead to the wire."""
     return [row for row in net.rows if row.switch == wire.start.switch and wire.start.port in row.link.to]
 
@@ -209,13 +206,14 @@ def rows_on(net, wire):
 # --- What the tables must agree on ---
 
 
-def ports_are_there(net):
+def ports_are_there(net: Network) -> None:
+    ends = {End(name, port.id) for name in net.names for port in net.tables[name].ports}
     for wire in net.wires:
-        if not port_of(net, wire.start) or not port_of(net, wire.end):
+        if not {wire.start, wire.end} <= ends:
             refuse("G3 NoSuchPort", wire.place)
 
 
-def wires_fit(net):
+def wires_fit(net: Network) -> None:
     for wire in net.wires:
         if net.tables[wire.start.switch].constant != net.tables[wire.end.switch].constant:
             refuse("G4 Constant", wire.place)
@@ -223,15 +221,15 @@ def wires_fit(net):
             refuse("G4 Speed", wire.place)
 
 
-def no_row(wire, here, there):
+def no_row(wire: Wire, here: Row, there: Row | None) -> str | None:
     return None if there else "G5 NoRow"
 
 
-def other_port(wire, here, there):
+def other_port(wire: Wire, here: Row, there: Row) -> str | None:
     return None if there.link.source == wire.end.port else "G6 From"
 
 
-def other_terms(wire, here, there):
+def other_terms(wire: Wire, here: Row, there: Row) -> str | None:
     if there.link.max_size != here.link.max_size:
         return "G7 Size"
     if there.link.bag != here.link.bag:
@@ -239,9 +237,10 @@ def other_terms(wire, here, there):
     return None if there.link.police == here.link.police else "G7 Police"
 
 
-def rows_agree(net):
+def rows_agree(net: Network) -> None:
     """Rule by rule: by wire, then by the row of the switch that sends."""
-    for rule in (no_row, other_port, other_terms):
+    rules: list[Callable[[Wire, Row, Any], str | None]] = [no_row, other_port, other_terms]
+    for rule in rules:
         for wire in net.wires:
             for row in rows_on(net, wire):
                 fault = rule(wire, row, row_of(net, wire.end.switch, row.link.id))
@@ -249,7 +248,7 @@ def rows_agree(net):
                     refuse(fault, wire.place, f"link {row.link.id}")
 
 
-def row_before(net, row):
+def row_before(net: Network, row: Row) -> tuple[Wire, Row | None] | None:
     """The wire on which a row's link comes and the row that sends it there; nothing for a source, and (wire, None) where
     the link does not come on it."""
     wire = wire_to(net, End(row.switch, row.link.source))
@@ -259,9 +258,10 @@ def row_before(net, row):
     return wire, before if before and wire.start.port in before.link.to else None
 
 
-def way_to(net, row):
+def way_to(net: Network, row: Row) -> tuple[list[Row], list[Wire]] | None:
     """The rows from the source to this one, and the wires between them; None where it has no source."""
-    rows, wires = [row], []
+    rows: list[Row] = [row]
+    wires: list[Wire] = []
     while step := row_before(net, rows[0]):
         wire, before = step
         if before is None or before in rows:
@@ -271,14 +271,21 @@ def way_to(net, row):
     return rows, wires
 
 
-def sources_are_there(net):
+def whole_way(net: Network, row: Row) -> tuple[list[Row], list[Wire]]:
+    """The same where each row has a source."""
+    way = way_to(net, row)
+    assert way
+    return way
+
+
+def sources_are_there(net: Network) -> None:
     for row in net.rows:
         if not way_to(net, row):
             refuse("G8 NoSource", f"switch {row.switch}", f"link {row.link.id}")
 
 
-def sources_are_one(net):
-    fed = set()
+def sources_are_one(net: Network) -> None:
+    fed: set[int] = set()
     for row in net.rows:
         if row_before(net, row):
             continue
@@ -287,14 +294,14 @@ def sources_are_one(net):
         fed.add(row.link.id)
 
 
-def texts_agree(net):
+def texts_agree(net: Network) -> None:
     wires_fit(net)
     rows_agree(net)
     sources_are_there(net)
     sources_are_one(net)
 
 
-def loads_fit(net, rules=None):
+def loads_fit(net: Network, rules: list[str] | None = None) -> None:
     """The load of each table, by all rules or by these."""
     for name in net.names:
         for port, load in model.loads_of(net.tables[name]):
@@ -303,7 +310,7 @@ def loads_fit(net, rules=None):
                     refuse_load(f"{rule}, port {port.id}, need {need}, limit {limit}", name)
 
 
-def refuse_load(fault, name):
+def refuse_load(fault: str, name: str) -> NoReturn:
     raise Refused(f"afdx: load {fault}, switch {name}", 4)
 
 
@@ -316,29 +323,31 @@ class Delays:
     least: int = 0
     most: int = 0
 
-    def __add__(self, other):
+    def __add__(self, other: "Delays") -> "Delays":
         return Delays(self.least + other.least, self.most + other.most)
 
 
-def bound_of(net, row, number):
+def bound_of(net: Network, row: Row, number: int) -> int:
     """The bound of the link's priority at a port of its switch, where what comes in over a wire comes one frame after the
     other."""
     table, port = net.tables[row.switch], port_of(net, End(row.switch, number))
     lined = {wire.end.port for wire in net.wires if wire.end.switch == row.switch}
     high, low = model.bounds_of(table, port, *model.lesser_bursts(table, port, lined))
-    return high if row.link.priority == "high" else low
+    bound = high if row.link.priority == "high" else low
+    assert bound is not None
+    return bound
 
 
-def through(net, row, number):
+def through(net: Network, row: Row, number: int) -> Delays:
     """From a frame's arrival at a switch until it has left this port."""
     port = port_of(net, End(row.switch, number))
     least = port.latency + (LEAST_SIZE + model.LINE_OVERHEAD) * port.tick
     return Delays(least, bound_of(net, row, number))
 
 
-def before(net, row):
+def before(net: Network, row: Row) -> tuple[list[Row], list[Wire], list[Delays]]:
     """From the arrival at the first switch to that at each switch of the way to a row."""
-    rows, wires = way_to(net, row)
+    rows, wires = whole_way(net, row)
     sums = [Delays()]
     for there, wire in zip(rows, wires):
         cable = Delays(wire.delay, wire.delay)
@@ -346,12 +355,12 @@ def before(net, row):
     return rows, wires, sums
 
 
-def need_us(first, delays):
+def need_us(first: Row, delays: Delays) -> int:
     """Whole microseconds of jitter that are enough after these delays for a link with this jitter at its first switch."""
     return max(0, -(-(first.link.jitter + delays.most - delays.least) // MICROSECOND))
 
 
-def jitters_are_enough(net):
+def jitters_are_enough(net: Network) -> None:
     for row in net.rows:
         rows, _, sums = before(net, row)
         need, has = need_us(rows[0], sums[-1]), row.link.jitter // MICROSECOND
@@ -362,7 +371,7 @@ def jitters_are_enough(net):
 # --- The commands ---
 
 
-def accept(net):
+def accept(net: Network) -> None:
     """Refuses what `check` refuses, in its order."""
     ports_are_there(net)
     loads_fit(net)
@@ -370,14 +379,14 @@ def accept(net):
     jitters_are_enough(net)
 
 
-def ends_of(net):
+def ends_of(net: Network) -> list[tuple[Row, int]]:
     """Each row with a port that leads out of the network: by link, then by switch and port."""
     places = [(row.link.id, net.names.index(row.switch), port, row) for row in net.rows for port in row.link.to
               if not wire_from(net, End(row.switch, port))]
     return [(row, port) for _, _, port, row in sorted(places, key=lambda place: place[:3])]
 
 
-def way_line(net, row, port):
+def way_line(net: Network, row: Row, port: int) -> tuple[str, int]:
     rows, wires, sums = before(net, row)
     whole = sums[-1] + through(net, row, port)
     last = End(row.switch, port)
@@ -387,7 +396,7 @@ def way_line(net, row, port):
     return f"link {row.link.id} from {source} to {last} ways {ports} least {whole.least} most {whole.most} jitter {needs}", whole.most
 
 
-def check(net):
+def check(net: Network) -> str:
     """The lines of an accepted network."""
     accept(net)
     lines = [f"switch {name} accepted" for name in net.names]
@@ -399,22 +408,22 @@ def check(net):
     return "".join(line + "\n" for line in lines + ["accepted"])
 
 
-def jitter_lines(net):
+def jitter_lines(net: Network) -> str:
     return "".join(f"switch {row.switch} link {row.link.id} jitter_us {row.link.jitter // MICROSECOND}\n" for row in net.rows)
 
 
-def turn(net):
+def turn(net: Network) -> bool:
     """The jitters that the rows need where all have those that they have now; says whether one of them changed."""
-    needs = [(row, need_us(way_to(net, row)[0][0], before(net, row)[2][-1]) * MICROSECOND) for row in net.rows]
+    needs = [(row, need_us(whole_way(net, row)[0][0], before(net, row)[2][-1]) * MICROSECOND) for row in net.rows]
     changed = any(row.link.jitter != need for row, need in needs)
     for row, need in needs:
         row.link.jitter = need
     return changed
 
 
-def solve(net):
+def solve(net: Network) -> Row | None:
     """Puts the least jitters into the rows, beginning with the sources' own at each; None, or the first row past the limit."""
-    firsts = [(row, way_to(net, row)[0][0].link.jitter) for row in net.rows]
+    firsts = [(row, whole_way(net, row)[0][0].link.jitter) for row in net.rows]
     for row, jitter in firsts:
         row.link.jitter = jitter
     while turn(net):
@@ -424,7 +433,7 @@ def solve(net):
     return None
 
 
-def jitter(net):
+def jitter(net: Network) -> tuple[str, Refused | None]:
     """The lines of all rows, and the refusal where one is past the limit."""
     ports_are_there(net)
     loads_fit(net, ["L1 Rate"])
@@ -439,9 +448,10 @@ def jitter(net):
 # --- A run ---
 
 
-def order_of(net):
+def order_of(net: Network) -> list[str]:
     """All switches: next is one whose wires all come from those before, where there is one, else the first of the file that is left."""
-    order, left = [], list(net.names)
+    order: list[str] = []
+    left = list(net.names)
     while left:
         ready = [name for name in left if not any(wire.end.switch == name and wire.start.switch in left for wire in net.wires)]
         order.append((ready or left)[0])
@@ -449,7 +459,7 @@ def order_of(net):
     return order
 
 
-def of_switch(name, call, *arguments):
+def of_switch(name: str, call: Callable[..., Answer], *arguments: Any) -> Answer:
     """What the call answers; a refusal names the switch."""
     try:
         return call(*arguments)
@@ -457,7 +467,7 @@ def of_switch(name, call, *arguments):
         raise Refused(f"{refused.line}, switch {name}", refused.status)
 
 
-def written(text):
+def written(text: bytes) -> list[model.Record]:
     """The records of a text that a switch wrote; the last ones may be too late to be read."""
     records, at = [], 24
     while at < len(text):
@@ -467,27 +477,28 @@ def written(text):
     return records
 
 
-def carried(wire, outcome):
+def carried(wire: Wire, outcome: model.Outcome) -> bytes:
     """The text at the end of a wire."""
     return model.capture_of([model.Record(record.stamp + wire.delay, record.original, record.data)
                              for record in written(outcome.captures[wire.start.port])])
 
 
-def texts_at(net, name, given, wired):
+def texts_at(net: Network, name: str, given: dict[End, bytes], wired: dict[End, bytes]) -> dict[int, bytes]:
     """The captures of a switch's ports: those that were given, and those that came on wires."""
     ends = [End(name, port.id) for port in net.tables[name].ports]
     return {end.port: wired[end] if end in wired else given[end] for end in ends}
 
 
-def brought(net, name, outcomes):
+def brought(net: Network, name: str, outcomes: dict[str, model.Outcome]) -> dict[End, bytes]:
     """What the wires bring to a switch: nothing from one that has not run."""
     return {wire.end: carried(wire, outcomes[wire.start.switch]) if wire.start.switch in outcomes else model.capture_of([])
             for wire in net.wires if wire.end.switch == name}
 
 
-def run_in_rounds(net, given, order, rounds):
+def run_in_rounds(net: Network, given: dict[End, bytes], order: list[str], rounds: int) -> dict[str, model.Outcome]:
     """The switches in this order over what is there, and again where a wire brings another text, until each brings what came in."""
-    came, outcomes = {}, {}
+    came: dict[str, dict[int, bytes]] = {}
+    outcomes: dict[str, model.Outcome] = {}
     for _ in range(rounds):
         for name in order:
             texts = texts_at(net, name, given, brought(net, name, outcomes))
@@ -498,7 +509,7 @@ def run_in_rounds(net, given, order, rounds):
     refuse("R1 Unsettled")
 
 
-def run(net, given, rounds=MOST_ROUNDS):
+def run(net: Network, given: dict[End, bytes], rounds: int = MOST_ROUNDS) -> dict[str, model.Outcome]:
     """What comes out of each switch, where these captures come in at the ports without a wire."""
     accept(net)
     for end in open_ends(net):
@@ -506,49 +517,61 @@ def run(net, given, rounds=MOST_ROUNDS):
     return run_in_rounds(net, given, order_of(net), rounds)
 
 
-def open_ends(net):
+def open_ends(net: Network) -> list[End]:
     """The ingress ports without a wire."""
     ends = [End(name, port.id) for name in net.names for port in net.tables[name].ports]
     return [end for end in ends if not wire_to(net, end)]
 
 
-def report(net, outcomes):
+def report(net: Network, outcomes: dict[str, model.Outcome]) -> str:
     return "".join(f"{name} {line}\n" for name in net.names for line in outcomes[name].report.splitlines())
 
 
-def captures_in(net, folder):
-    given = {}
-    for end in open_ends(net):
-        with open(f"{folder}/{end.switch}/port-{end.port}.pcap", "rb") as file:
-            given[end] = file.read()
-    return given
+def captures_in(net: Network, folder: str | Path) -> dict[End, bytes]:
+    return {end: Path(folder, end.switch, f"port-{end.port}.pcap").read_bytes() for end in open_ends(net)}
 
 
-def put(net, outcomes, folder):
+def put(net: Network, outcomes: dict[str, model.Outcome], folder: str | Path) -> None:
     for name in net.names:
-        os.makedirs(f"{folder}/{name}", exist_ok=True)
+        Path(folder, name).mkdir(parents=True, exist_ok=True)
         for port, capture in outcomes[name].captures.items():
-            with open(f"{folder}/{name}/port-{port}.pcap", "wb") as file:
-                file.write(capture)
+            Path(folder, name, f"port-{port}.pcap").write_bytes(capture)
 
 
-def main(command, path, *folders):
+def run_files(path: str | Path, source: str | Path, target: str | Path) -> str:
+    """Runs the network over the captures of a folder; writes those that go out, and answers the report."""
     net = read(path)
-    if command == "check":
-        return check(net), None
-    if command == "jitter":
-        return jitter(net)
     accept(net)  # before a capture is got
-    outcomes = run(net, captures_in(net, folders[0]))
-    put(net, outcomes, folders[1])
-    return report(net, outcomes), None
+    outcomes = run(net, captures_in(net, source))
+    put(net, outcomes, target)
+    return report(net, outcomes)
+
+
+def main(given: argparse.Namespace) -> tuple[str, Refused | None]:
+    """What a command prints, and the refusal with which it ends then."""
+    if given.command == "check":
+        return check(read(given.network)), None
+    if given.command == "jitter":
+        return jitter(read(given.network))
+    return run_files(given.network, given.source, given.target), None
+
+
+def arguments() -> argparse.Namespace:
+    parser = argparse.ArgumentParser(description=__doc__, formatter_class=argparse.RawDescriptionHelpFormatter)
+    commands = parser.add_subparsers(dest="command", required=True)
+    checks = commands.add_parser("check", help="the switches, the ways with their delays and jitters, then `accepted`")
+    jitters = commands.add_parser("jitter", help="the jitter that each row needs, from the sources' own")
+    runs = commands.add_parser("run", help="what goes out, and each switch's counts after its name")
+    for command in (checks, jitters, runs):
+        command.add_argument("network", help="the network file")
+    runs.add_argument("source", metavar="IN", help="has IN/A/port-K.pcap for each port without a wire")
+    runs.add_argument("target", metavar="OUT", help="gets OUT/A/port-K.pcap for each port")
+    return parser.parse_args()
 
 
 if __name__ == "__main__":
-    if sys.argv[1:2] not in (["check"], ["jitter"], ["run"]) or len(sys.argv) != (5 if sys.argv[1] == "run" else 3):
-        sys.exit(__doc__)
     try:
-        said, refused = main(*sys.argv[1:])
+        said, refused = main(arguments())
         sys.stdout.write(said)
         if refused:
             raise refused

@@ -1,22 +1,24 @@
 #!/usr/bin/env python3
 """Checks network_model.py against numbers that were worked out by hand; prints what differs, and fails then."""
 import sys
+from collections.abc import Callable, Iterable
 
 import model
 import network_model
+from captures import frame
 from network_model import End
 
 PORT = "[[port]]\nid = {}\nmbit = {}\nbuffer = 100000\nmax_delay_us = 500000\n"
 SILENCE = model.capture_of([])
-differing = []
+differing: list[str] = []
 
 
-def same(name, got, wanted):
+def same(name: str, got: object, wanted: object) -> None:
     if got != wanted:
         differing.append(f"{name}: got {got!r}, wanted {wanted!r}")
 
 
-def refuses(name, line, status, call, *arguments):
+def refuses(name: str, line: str, status: int, call: Callable[..., object], *arguments: object) -> None:
     try:
         call(*arguments)
         same(name, "no refusal", line)
@@ -27,19 +29,20 @@ def refuses(name, line, status, call, *arguments):
 # --- Networks ---
 
 
-def link(number, source, to, jitter=0, size=64, bag=1, priority="low", police=None):
+def link(number: int, source: int, to: list[int], jitter: int = 0, size: int = 64, bag: int = 1, priority: str = "low",
+         police: str | None = None) -> str:
     text = (f"[[link]]\nid = {number}\nfrom = {source}\nto = {to}\nbag_ms = {bag}\njitter_us = {jitter}\n"
             f'max_size = {size}\npriority = "{priority}"\n')
     return text if police is None else text + f'police = "{police}"\n'
 
 
-def table(*links, ports=4, mbit=100, head=""):
+def table(*links: str, ports: int = 4, mbit: int | list[int] = 100, head: str = "") -> str:
     """Ports 1, 2 and so on, of this speed or of these speeds."""
     speeds = mbit if isinstance(mbit, list) else [mbit] * ports
     return head + "".join(PORT.format(number, speed) for number, speed in enumerate(speeds, 1)) + "".join(links)
 
 
-def layout(names, *wires):
+def layout(names: Iterable[str], *wires: str) -> str:
     """The network file: wires are words, `A.3 B.1` or `A.3 B.1 25`."""
     text = "version = 1\n" + "".join(f'[[switch]]\nname = "{name}"\ntable = "{name}.toml"\n' for name in names)
     for wire in wires:
@@ -48,7 +51,7 @@ def layout(names, *wires):
     return text
 
 
-def network(tables, *wires):
+def network(tables: dict[str, str], *wires: str) -> network_model.Network:
     switches, read = network_model.layout_of(layout(tables, *wires).encode())
     return network_model.network_of(switches, read, {name: model.table_of(text) for name, text in tables.items()})
 
@@ -56,37 +59,35 @@ def network(tables, *wires):
 # --- Captures ---
 
 
-def frame(number, size=64):
-    head = bytes.fromhex("03000000") + number.to_bytes(2, "big") + bytes.fromhex("0200000000010800")
-    return head.ljust(size - 4, b"\0")[:size - 4]
-
-
-def capture(*frames):
+def capture(*frames: tuple[int, ...]) -> bytes:
     """A capture of (link, stamp) or of (link, stamp, size)."""
-    return model.capture_of([model.Record(at, 0, frame(number, *size)) for number, at, *size in frames])
+    return model.capture_of([model.Record(at, 0, frame(number, size[0] if size else 64)) for number, at, *size in frames])
 
 
-def run(net, **captures):
-    """Runs the network: A1 is what comes in at port 1 of A; at the other ports nothing does."""
-    given = {end: captures.get(f"{end.switch}{end.port}", SILENCE) for end in network_model.open_ends(net)}
-    return network_model.run(net, given)
+def brought(net: network_model.Network, captures: dict[str, bytes]) -> dict[End, bytes]:
+    """What comes in: A1 is the capture of port 1 of A; at the other ports nothing does."""
+    return {end: captures.get(f"{end.switch}{end.port}", SILENCE) for end in network_model.open_ends(net)}
 
 
-def left(outcomes, switch, port):
+def run(net: network_model.Network, **captures: bytes) -> dict[str, model.Outcome]:
+    return network_model.run(net, brought(net, captures))
+
+
+def left(outcomes: dict[str, model.Outcome], switch: str, port: int) -> list[tuple[int, int]]:
     """Link and stamp of each frame that left a port."""
     return [(int.from_bytes(record.data[4:6], "big"), record.stamp) for record in network_model.written(outcomes[switch].captures[port])]
 
 
-def sees(name, outcomes, switch, *lines):
+def sees(name: str, outcomes: dict[str, model.Outcome], switch: str, *lines: str) -> None:
     for line in lines:
         same(name, line in outcomes[switch].report.splitlines(), True)
 
 
-def says(name, net, *lines):
+def says(name: str, net: network_model.Network, *lines: str) -> None:
     same(name, network_model.check(net).splitlines(), list(lines))
 
 
-def needs(name, net, *lines):
+def needs(name: str, net: network_model.Network, *lines: str) -> None:
     """The lines of `jitter`; the last one may be a refusal."""
     said, refused = network_model.jitter(net)
     same(name, said.splitlines() + ([refused.line] if refused else []), list(lines))
@@ -95,13 +96,13 @@ def needs(name, net, *lines):
 # --- Rows ---
 
 
-def two_switches(jitter):
+def two_switches(jitter: int) -> dict[str, str]:
     first = table(link(1, 1, [4]), link(2, 2, [4]), link(3, 3, [4]))
     second = table(*(link(number, 1, [2], jitter) for number in (1, 2, 3)), ports=2)
     return {"A": first, "B": second}
 
 
-def jitter_enough():
+def jitter_enough() -> None:
     """The port of A sends three frames of 6,720 ns, so that 13,440 ns of jitter arise there; over the wire they come to B one after
     the other, so that each goes on at once."""
     name, net = "jitter enough", network(two_switches(14), "A.4 B.1")
@@ -123,7 +124,7 @@ def jitter_enough():
           *(f"switch B link {number} jitter_us 14" for number in (1, 2, 3)))
 
 
-def three_in_a_row():
+def three_in_a_row() -> None:
     """A link over three switches, at each of which a babbler comes in at port 2: each time a frame waits for one of the babbler's."""
     name = "three in a row"
     tables = {"A": table(link(1, 1, [3]), link(11, 2, [3])),
@@ -149,13 +150,13 @@ def three_in_a_row():
     same("whatever the order", backwards, network_model.run(net, given, 1))
 
 
-def ring_of_three(jitters):
+def ring_of_three(jitters: tuple[int, int]) -> dict[str, str]:
     """Each link comes in at port 2, goes on at port 3 of two switches and leaves at port 4 of the next."""
     return {name: table(link(own, 2, [3]), link(passing, 1, [3], jitters[0]), link(last, 1, [4], jitters[1]))
             for name, own, passing, last in (("A", 1, 3, 2), ("B", 2, 1, 3), ("C", 3, 2, 1))}
 
 
-def ring():
+def ring() -> None:
     name, wires = "ring", ("A.3 B.1", "B.3 C.1", "C.3 A.1")
     net = network(ring_of_three((7, 14)), *wires)
     says(name, net, "switch A accepted", "switch B accepted", "switch C accepted",
@@ -171,11 +172,10 @@ def ring():
     needs(name, network(ring_of_three((0, 0)), *wires),
           *(f"switch {switch} link {number} jitter_us {us}" for switch, numbers in (("A", (1, 3, 2)), ("B", (2, 1, 3)), ("C", (3, 2, 1)))
             for number, us in zip(numbers, (0, 7, 14))))
-    given = {end: given.get(f"{end.switch}{end.port}", SILENCE) for end in network_model.open_ends(net)}
-    refuses(name, "afdx: network R1 Unsettled", 4, network_model.run, net, given, 1)
+    refuses(name, "afdx: network R1 Unsettled", 4, network_model.run, net, brought(net, given), 1)
 
 
-def multicast():
+def multicast() -> None:
     """One frame over two cables to three ports; cables add to both ends of the delay and ask for no jitter."""
     name = "multicast"
     tables = {"A": table(link(5, 1, [2, 3]), ports=3), "B": table(link(5, 1, [2]), ports=2), "C": table(link(5, 2, [1, 3]), ports=3)}
@@ -190,7 +190,7 @@ def multicast():
     same(name, (left(outcomes, "C", 1), left(outcomes, "C", 3)), ([(5, 13_440), (5, 1_013_440)],) * 2)
 
 
-def both_kinds_of_policing():
+def both_kinds_of_policing() -> None:
     """A port with a link of 1518 bytes by frames, 123,040 ns, and one by bytes, 159,390 ns. At B there is a frame of 123,040 ns
     at a time."""
     name = "both kinds of policing"
@@ -200,12 +200,13 @@ def both_kinds_of_policing():
          "link 1 from A.1 to B.2 ways A.3 B.2 least 13440 most 405470 jitter 0 276",
          "link 2 from A.2 to B.3 ways A.3 B.3 least 13440 most 405470 jitter 0 276",
          "greatest 405470 link 1 to B.2", "accepted")
-    same(name, [model.load_of(model.table_of(tables["B"]), port).low for port in network(tables).tables["B"].ports[1:3]], [156_999, 203_381])
+    loads = {port.id: load.low for port, load in model.loads_of(model.table_of(tables["B"]))}
+    same(name, [loads[2], loads[3]], [156_999, 203_381])
     short = tables | {"B": tables["B"].replace("jitter_us = 276", "jitter_us = 275")}
     refuses(name, "afdx: network J1 Jitter, switch B, link 1, need 276, has 275", 4, network_model.check, network(short, "A.3 B.1"))
 
 
-def gigabit_with_latency():
+def gigabit_with_latency() -> None:
     """Latencies are in both ends of the delay, so the jitter is that of 1,344 - 672 ns. At B there is a frame of 672 ns at a time."""
     name = "gigabit with latency"
     tables = {"A": table(link(1, 1, [3]), link(2, 2, [3]), ports=3, mbit=1000, head="version = 3\nlatency_us = 10\n"),
@@ -220,7 +221,7 @@ def gigabit_with_latency():
     same(name, left(outcomes, "B", 2), [(1, 31_844), (2, 32_516)])
 
 
-def rounded_once():
+def rounded_once() -> None:
     """Five switches, at each of which another link comes in: the sums are 672, 1,344, 2,016 and 2,688 ns, of which only the whole
     way is rounded."""
     name, jitters = "rounded once", (0, 1, 2, 3, 3)
@@ -235,7 +236,7 @@ def rounded_once():
          "greatest 6720 link 1 to E.2", "accepted")
 
 
-def bound_of_its_priority():
+def bound_of_its_priority() -> None:
     """A high link of 64 bytes behind a low frame of 1518, 6,720 + 123,040 ns, and the low link behind the high one, 167,233 ns; at B
     there is a frame at a time."""
     name = "bound of its priority"
@@ -247,7 +248,7 @@ def bound_of_its_priority():
          "greatest 290273 link 2 to B.3", "accepted")
 
 
-def speed_of_the_port_before():
+def speed_of_the_port_before() -> None:
     """The least delay is that of A's port, 67,200 ns, though B sends ten times as fast."""
     name = "speed of the port before"
     tables = {"A": table(link(1, 1, [3]), link(2, 2, [3]), mbit=[10, 10, 10, 100]),
@@ -260,7 +261,7 @@ def speed_of_the_port_before():
     refuses(name, "afdx: network J1 Jitter, switch B, link 1, need 68, has 67", 4, network_model.check, network(tables, "A.3 B.1"))
 
 
-def turns():
+def turns() -> None:
     """Two links over a line of 1000 Mbit/s from A to B: 31,878 ns at A, 31,206 more than the least. At port 3 of B the line gains on
     the port ten to one until both accounts give less, 318,780 * 1.032 ns and 0.31878 in each; from then on the port gains. So it is
     late by 314,489 ns, and C needs 31,206 and 307,769 ns more than the least; without the jitter at B it would be 9,483 ns less."""
@@ -274,11 +275,11 @@ def turns():
 # --- Refusals ---
 
 
-def reads(name, text):
+def reads(name: str, text: str | bytes) -> None:
     network_model.layout_of(text if isinstance(text, bytes) else text.encode())
 
 
-def file_refusals():
+def file_refusals() -> None:
     whole = layout("AB", "A.3 B.1 25", "B.3 A.1")
     for name, text, fault in (
         ("no UTF-8", b"\xff", "G1 Toml"),
@@ -314,11 +315,12 @@ def file_refusals():
     ):
         refuses(name, f"afdx: network {fault}", 3, reads, name, text)
     names = ["A" * 16, "a-b_9"]
-    same("greatest values", network_model.layout_of(layout(names, f"{names[0]}.24 {names[1]}.1 1000000", f"{names[1]}.9 {names[0]}.10 0").encode())[1][0].delay, 1_000_000)
+    greatest = layout(names, f"{names[0]}.24 {names[1]}.1 1000000", f"{names[1]}.9 {names[0]}.10 0")
+    same("greatest values", network_model.layout_of(greatest.encode())[1][0].delay, 1_000_000)
     same("no switch", network_model.check(network({})), "accepted\n")
 
 
-def texts_refused():
+def texts_refused() -> None:
     """What the tables do not agree on, rule by rule."""
     first, second = table(link(1, 1, [3]), link(2, 2, [3])), table(link(1, 1, [2]), link(2, 1, [2]))
     jitters = table(link(1, 1, [2], 7), link(2, 1, [2], 7))
@@ -326,7 +328,7 @@ def texts_refused():
          "link 1 from A.1 to B.2 ways A.3 B.2 least 13440 most 20160 jitter 0 7",
          "link 2 from A.2 to B.2 ways A.3 B.2 least 13440 most 20160 jitter 0 7", "greatest 20160 link 1 to B.2", "accepted")
     heavy = table(*(link(number, 1, [2], size=1518) for number in range(1, 8)))
-    for name, tables, wires, fault, status in (
+    rows: list[tuple[str, dict[str, str], list[str], str, int]] = [
         ("no port at the start", {"A": first, "B": second}, ["A.5 B.1"], "network G3 NoSuchPort, wire 1", 3),
         ("no port at the end", {"A": first, "B": second}, ["A.4 B.4", "A.3 B.5"], "network G3 NoSuchPort, wire 2", 3),
         ("a load", {"A": first, "B": heavy}, ["A.3 B.1"], "load L1 Rate, port 2, need 2285015040, limit 2048000000, switch B", 4),
@@ -336,18 +338,23 @@ def texts_refused():
         ("another port", {"A": first, "B": table(link(1, 1, [2]), link(2, 3, [2]))}, ["A.3 B.1"], "network G6 From, wire 1, link 2", 3),
         ("another size", {"A": first, "B": second.replace("= 64", "= 65", 1)}, ["A.3 B.1"], "network G7 Size, wire 1, link 1", 3),
         ("another gap", {"A": first, "B": second.replace("bag_ms = 1", "bag_ms = 2", 1)}, ["A.3 B.1"], "network G7 Bag, wire 1, link 1", 3),
-        ("another policing", {"A": first, "B": "version = 2\n" + second + 'police = "frame"\n'}, ["A.3 B.1"], "network G7 Police, wire 1, link 2", 3),
+        ("another policing", {"A": first, "B": "version = 2\n" + second + 'police = "frame"\n'}, ["A.3 B.1"],
+         "network G7 Police, wire 1, link 2", 3),
         ("no such link on the wire", {"A": table(link(1, 1, [3])), "B": second}, ["A.3 B.1"], "network G8 NoSource, switch B, link 2", 3),
-        ("a loop", {"A": table(link(1, 1, [3])), "B": table(link(1, 1, [3]))}, ["A.3 B.1", "B.3 A.1"], "network G8 NoSource, switch A, link 1", 3),
+        ("a loop", {"A": table(link(1, 1, [3])), "B": table(link(1, 1, [3]))}, ["A.3 B.1", "B.3 A.1"],
+         "network G8 NoSource, switch A, link 1", 3),
         ("two sources", {"A": first, "B": table(link(2, 1, [2]))}, [], "network G9 TwiceSource, link 2", 3),
-        ("rule by rule", {"A": table(link(1, 1, [3, 4])), "B": table(link(1, 2, [3])), "C": table()}, ["A.3 B.1", "A.4 C.1"], "network G5 NoRow, wire 2, link 1", 3),
-        ("loads before wires", {"A": 'constant = "07000000"\n' + first, "B": heavy}, ["A.3 B.1"], "load L1 Rate, port 2, need 2285015040, limit 2048000000, switch B", 4),
+        ("rule by rule", {"A": table(link(1, 1, [3, 4])), "B": table(link(1, 2, [3])), "C": table()}, ["A.3 B.1", "A.4 C.1"],
+         "network G5 NoRow, wire 2, link 1", 3),
+        ("loads before wires", {"A": 'constant = "07000000"\n' + first, "B": heavy}, ["A.3 B.1"],
+         "load L1 Rate, port 2, need 2285015040, limit 2048000000, switch B", 4),
         ("jitters last", {"A": first, "B": second, "C": table(link(1, 1, [2]))}, ["A.3 B.1"], "network G9 TwiceSource, link 1", 3),
-    ):
+    ]
+    for name, tables, wires, fault, status in rows:
         refuses(name, f"afdx: {fault}", status, network_model.check, network(tables, *wires))
 
 
-def past_the_limit():
+def past_the_limit() -> None:
     """Nine links of 1518 bytes at 10 Mbit/s: 9 * 1,593,900 - 67,200 ns."""
     tables = {"A": table(*(link(number, 1, [2], size=1518, bag=128) for number in range(1, 10)), ports=2, mbit=10),
               "B": table(*(link(number, 1, [2], size=1518, bag=128) for number in range(1, 10)), ports=2, mbit=10)}
@@ -356,7 +363,7 @@ def past_the_limit():
           "afdx: network J2 NoJitter, switch B, link 1, need 14278")
 
 
-def captures_refused():
+def captures_refused() -> None:
     name, net = "captures of a network", network(two_switches(14), "A.4 B.1")
     late = 4_294_967_295 * 10**9
     refuses(name, "afdx: capture P2 NoHeader, port 2, switch A", 3, lambda: run(net, A2=b""))
@@ -365,7 +372,8 @@ def captures_refused():
     same(name, left(run(net, A1=capture((1, late - 10**9))), "B", 2), [(1, late - 10**9 + 13_440)])
 
 
-for part in (jitter_enough, three_in_a_row, ring, multicast, both_kinds_of_policing, gigabit_with_latency, rounded_once, bound_of_its_priority,
+for part in (jitter_enough, three_in_a_row, ring, multicast, both_kinds_of_policing, gigabit_with_latency, rounded_once,
+             bound_of_its_priority,
              speed_of_the_port_before, turns, file_refusals, texts_refused, past_the_limit, captures_refused):
     part()
 print("\n".join(differing) or "the model of networks gives every worked number")

@@ -1,21 +1,22 @@
 #!/usr/bin/env python3
 """A trial of networks: random ones of 2 to 5 switches, with senders that send whatever they like.
 
-usage: networks.py COUNT               networks 1 to COUNT, the same ones each time, run by network_model.py
-       networks.py COUNT AFDX ROOM     and by the program, in the folder ROOM: its bytes and lines are those of the model
-
-The tables have the jitters that `jitter` finds. Of each link the frames that its first account passes leave each of its end
+They are the same ones each time, run by network_model.py and, if it is named, by the program, whose bytes and lines are then those
+of the model. The tables have the jitters that `jitter` finds. Of each link the frames that its first account passes leave each of its end
 ports, in order, each between the least and the most that `check` prints for its size; no later account polices a frame.
 """
-import os
-import random
+import argparse
 import subprocess
 import sys
+from collections.abc import Iterator
+from pathlib import Path
+from random import Random
 
 import babblers
 import model
 import network_model
-from network_model import End
+from captures import frame
+from network_model import End, Network, Row, Wire
 
 MILLISECOND = 1_000_000
 MBIT = {800: 10, 80: 100, 8: 1000}
@@ -27,34 +28,34 @@ MBIT = {800: 10, 80: 100, 8: 1000}
 class Plan:
     """Switches that get their ports one by one."""
 
-    def __init__(self, chance):
+    def __init__(self, chance: Random) -> None:
         self.chance = chance
         self.names = list("ABCDE")[:chance.randint(2, 5)]
-        self.ticks = {name: [] for name in self.names}
-        self.open = []  # end systems' ports
-        self.wires = []
+        self.ticks: dict[str, list[int]] = {name: [] for name in self.names}
+        self.open: list[End] = []  # end systems' ports
+        self.wires: list[Wire] = []
 
-    def port(self, name, tick):
+    def port(self, name: str, tick: int) -> End:
         self.ticks[name].append(tick)
         return End(name, len(self.ticks[name]))
 
-    def wire(self, start, end):
+    def wire(self, start: End, end: End) -> None:
         place = f"wire {len(self.wires) + 1}"
-        self.wires.append(network_model.Wire(place, start, end, self.chance.choice([0, 25, 12_345])))
+        self.wires.append(Wire(place, start, end, self.chance.choice([0, 25, 12_345])))
 
-    def cable(self, name, other):
+    def cable(self, name: str, other: str) -> None:
         """Both directions, at one speed."""
         tick = self.chance.choice([8, 80, 80, 80])
         here, there = self.port(name, tick), self.port(other, tick)
         self.wire(here, there)
         self.wire(there, here)
 
-    def one_way(self, name, other):
+    def one_way(self, name: str, other: str) -> None:
         tick = self.chance.choice([8, 80, 80, 80])
         self.wire(self.port(name, tick), self.port(other, tick))
 
 
-def draw_plan(chance):
+def draw_plan(chance: Random) -> Plan:
     """A tree of cables, or a ring in one direction; each switch has a few end systems."""
     plan = Plan(chance)
     if chance.random() < 0.4:
@@ -68,9 +69,10 @@ def draw_plan(chance):
     return plan
 
 
-def reach(plan, name):
+def reach(plan: Plan, name: str) -> dict[str, Wire | None]:
     """The wire on which each other switch is reached from this one, by fewest wires."""
-    found, near = {name: None}, [name]
+    found: dict[str, Wire | None] = {name: None}
+    near = [name]
     while near:
         wires = [wire for wire in plan.wires if wire.start.switch == near[0] and wire.end.switch not in found]
         found |= {wire.end.switch: wire for wire in wires}
@@ -78,9 +80,10 @@ def reach(plan, name):
     return found
 
 
-def rows_of(plan, source, ends):
+def rows_of(plan: Plan, source: End, ends: list[End]) -> dict[str, tuple[int, set[int]]]:
     """For each switch on the way: where the link comes in, and the ports at which it leaves."""
-    by, rows = reach(plan, source.switch), {source.switch: (source.port, set())}
+    by = reach(plan, source.switch)
+    rows: dict[str, tuple[int, set[int]]] = {source.switch: (source.port, set())}
     for end in ends:
         at, port = end.switch, end.port
         while True:
@@ -92,7 +95,7 @@ def rows_of(plan, source, ends):
     return rows
 
 
-def draw_links(chance, plan, tables):
+def draw_links(chance: Random, plan: Plan, tables: dict[str, model.Table]) -> None:
     for number in chance.sample(range(65_536), chance.randint(3, 10)):
         source = chance.choice(plan.open)
         others = [end for end in plan.open if end != source]
@@ -103,9 +106,9 @@ def draw_links(chance, plan, tables):
             tables[name].links.append(model.Link(number, port, sorted(to), bag, jitter, size, chance.choice(model.PRIORITIES), police))
 
 
-def draw_network(chance):
+def draw_network(chance: Random) -> Network:
     plan = draw_plan(chance)
-    tables = {}
+    tables: dict[str, model.Table] = {}
     for name in plan.names:
         latency = 1000 * chance.choice([0, chance.randint(1, 100)])
         ports = [model.Port(number, tick, 16_777_216, 500_000_000, latency) for number, tick in enumerate(plan.ticks[name], 1)]
@@ -114,7 +117,7 @@ def draw_network(chance):
     return network_model.network_of([network_model.Switch(name, f"{name}.toml") for name in plan.names], plan.wires, tables)
 
 
-def accepted_network(chance):
+def accepted_network(chance: Random) -> Network:
     """A network whose jitters a table can have."""
     while True:
         net = draw_network(chance)
@@ -129,26 +132,26 @@ def accepted_network(chance):
 # --- What comes in ---
 
 
-def bursts(chance, links, at):
+def bursts(chance: Random, links: list[model.Link], at: int) -> Iterator[babblers.Frame]:
     """All that full accounts pay for at one instant and more, then a frame now and again."""
     for link in links:
         for _ in range(chance.randint(1, 6)):
-            yield at, 0, babblers.frame(link.id, link.max_size if chance.random() < 0.7 else 64)
+            yield at, 0, frame(link.id, link.max_size if chance.random() < 0.7 else 64)
         for number in range(1, chance.randint(1, 4)):
-            yield at + number * link.bag - chance.randint(0, link.jitter), 0, babblers.frame(link.id, 64)
+            yield at + number * link.bag - chance.randint(0, link.jitter), 0, frame(link.id, 64)
 
 
-def noise(chance, net, at):
+def noise(chance: Random, net: Network, at: int) -> Iterator[babblers.Frame]:
     """Frames of any link, cut, foreign, short and long ones."""
     for _ in range(chance.randint(0, 6)):
         number, size = chance.choice(net.rows).link.id, chance.choice([18, 63, 64, 200, 1518, 1519])
         yield (at + chance.randint(0, MILLISECOND), chance.choice([0, 0, 0, 1]),
-               babblers.frame(number, size, chance.choice(["03000000", "03000000", "07000000"])))
+               frame(number, size, chance.choice(["03000000", "03000000", "07000000"])))
 
 
-def captures(chance, net):
+def captures(chance: Random, net: Network) -> dict[End, bytes]:
     at = 20 * MILLISECOND
-    given = {}
+    given: dict[End, bytes] = {}
     for end in network_model.open_ends(net):
         links = [row.link for row in net.rows if row.switch == end.switch and row.link.source == end.port]
         frames = [*bursts(chance, links, at), *noise(chance, net, at)]
@@ -159,18 +162,18 @@ def captures(chance, net):
 # --- What must be so ---
 
 
-def passed_at(net, row, text):
+def passed_at(net: Network, row: Row, text: bytes) -> list[model.Record]:
     """The records of a source's capture that the row's account passes."""
-    own = [record for record in model.records_of(text, row.link.source)
-           if model.verdict_of(net.tables[row.switch], row.link.source, record) == ("clean", row.link)]
-    passed = []
-    for record in own:
-        if model.conforms(row.link, passed, record):
-            passed.append(record)
-    return passed
+    table, link = net.tables[row.switch], row.link
+    passed: list[model.Arrival] = []
+    for record in model.records_of(text, link.source):
+        frame = model.Arrival(link.source, record, link=link)
+        if model.verdict_of(table, link.source, record) == ("clean", link) and model.conforms(link, passed, frame):
+            passed.append(frame)
+    return [frame.record for frame in passed]
 
 
-def least_of(net, row, port, size):
+def least_of(net: Network, row: Row, port: int, size: int) -> int:
     """What a frame of this size takes at least, to the end of the way."""
     rows, wires, _ = network_model.before(net, row)
     ports = [wire.start for wire in wires] + [End(row.switch, port)]
@@ -178,7 +181,7 @@ def least_of(net, row, port, size):
     return sum(line.latency + (size + model.LINE_OVERHEAD) * line.tick for line in lines) + sum(wire.delay for wire in wires)
 
 
-def delivered(net, given, outcomes, row, port):
+def delivered(net: Network, given: dict[End, bytes], outcomes: dict[str, model.Outcome], row: Row, port: int) -> str | None:
     """Says what is wrong at the end of a link's way."""
     rows, _, sums = network_model.before(net, row)
     most = (sums[-1] + network_model.through(net, row, port)).most
@@ -192,7 +195,7 @@ def delivered(net, given, outcomes, row, port):
     return f"delay of {late[0][1].stamp - late[0][0].stamp}" if late else None
 
 
-def wrong_of(net, given, outcomes):
+def wrong_of(net: Network, given: dict[End, bytes], outcomes: dict[str, model.Outcome]) -> Iterator[str]:
     for row, port in network_model.ends_of(net):
         wrong = delivered(net, given, outcomes, row, port)
         if wrong:
@@ -207,17 +210,19 @@ def wrong_of(net, given, outcomes):
 # --- The program ---
 
 
-def table_text(table):
+def table_text(table: model.Table) -> str:
     lines = ["version = 3", f"latency_us = {table.ports[0].latency // 1000}"]
     for port in table.ports:
-        lines += ["[[port]]", f"id = {port.id}", f"mbit = {MBIT[port.tick]}", f"buffer = {port.buffer}", f"max_delay_us = {port.max_delay // 1000}"]
+        lines += ["[[port]]", f"id = {port.id}", f"mbit = {MBIT[port.tick]}", f"buffer = {port.buffer}",
+                  f"max_delay_us = {port.max_delay // 1000}"]
     for link in table.links:
         lines += ["[[link]]", f"id = {link.id}", f"from = {link.source}", f"to = {link.to}", f"bag_ms = {link.bag // MILLISECOND}",
-                  f"jitter_us = {link.jitter // 1000}", f"max_size = {link.max_size}", f'priority = "{link.priority}"', f'police = "{link.police}"']
+                  f"jitter_us = {link.jitter // 1000}", f"max_size = {link.max_size}", f'priority = "{link.priority}"',
+                  f'police = "{link.police}"']
     return "\n".join(lines) + "\n"
 
 
-def network_text(net):
+def network_text(net: Network) -> str:
     lines = ["version = 1"]
     for name in net.names:
         lines += ["[[switch]]", f'name = "{name}"', f'table = "{name}.toml"']
@@ -226,60 +231,63 @@ def network_text(net):
     return "\n".join(lines) + "\n"
 
 
-def put(room, name, data):
-    path = os.path.join(room, name)
-    os.makedirs(os.path.dirname(path), exist_ok=True)
-    with open(path, "wb") as file:
-        file.write(data)
+def put(room: Path, name: str, data: bytes) -> None:
+    (room / name).parent.mkdir(parents=True, exist_ok=True)
+    (room / name).write_bytes(data)
 
 
-def lay_out(room, net, given):
+def lay_out(room: Path, net: Network, given: dict[End, bytes]) -> None:
     put(room, "net.toml", network_text(net).encode())
     for name in net.names:
         put(room, f"{name}.toml", table_text(net.tables[name]).encode())
-        os.makedirs(f"{room}/out/{name}", exist_ok=True)
+        (room / "out" / name).mkdir(parents=True, exist_ok=True)
     for end, text in given.items():
         put(room, f"in/{end.switch}/port-{end.port}.pcap", text)
 
 
-def answer(afdx, room, *arguments):
+def answer(afdx: str, room: Path, *arguments: str) -> tuple[int, str, str]:
     done = subprocess.run([afdx, "network", *arguments], cwd=room, capture_output=True, text=True, check=False)
     return done.returncode, done.stdout, done.stderr
 
 
-def differs(afdx, room, net, given, outcomes):
+def differs(afdx: str, room: Path, net: Network, given: dict[End, bytes], outcomes: dict[str, model.Outcome]) -> Iterator[str]:
     """Where the program says something else than the model."""
     lay_out(room, net, given)
-    for arguments, said in ((["check", "net.toml"], network_model.check(net)), (["jitter", "net.toml"], network_model.jitter_lines(net)),
-                        (["run", "net.toml", "in", "out"], network_model.report(net, outcomes))):
+    wanted = [(["check", "net.toml"], network_model.check(net)), (["jitter", "net.toml"], network_model.jitter_lines(net)),
+              (["run", "net.toml", "in", "out"], network_model.report(net, outcomes))]
+    for arguments, said in wanted:
         if answer(afdx, room, *arguments) != (0, said, ""):
             yield f"network {arguments[0]}"
     for name in net.names:
         for port, text in outcomes[name].captures.items():
-            with open(f"{room}/out/{name}/port-{port}.pcap", "rb") as file:
-                if file.read() != text:
-                    yield f"{name}/port-{port}.pcap"
+            if (room / "out" / name / f"port-{port}.pcap").read_bytes() != text:
+                yield f"{name}/port-{port}.pcap"
 
 
-def main(count, afdx=None, room=None):
+def main() -> None:
+    parser = argparse.ArgumentParser(description=__doc__, formatter_class=argparse.RawDescriptionHelpFormatter)
+    parser.add_argument("count", type=int, help="of networks")
+    parser.add_argument("afdx", nargs="?", help="the program")
+    parser.add_argument("room", nargs="?", type=Path, help="the folder of its files")
+    given = parser.parse_args()
+    if given.afdx and not given.room:
+        parser.error("a folder is missing")
     faults, inner = 0, 0
-    for number in range(1, int(count) + 1):
-        chance = random.Random(number)
+    for number in range(1, given.count + 1):
+        chance = Random(number)
         net = accepted_network(chance)
-        given = captures(chance, net)
-        outcomes = network_model.run(net, given)
+        sent = captures(chance, net)
+        outcomes = network_model.run(net, sent)
         inner += sum(len(model.records_of(outcomes[wire.start.switch].captures[wire.start.port], 0)) for wire in net.wires)
-        wrong = list(wrong_of(net, given, outcomes))
-        if afdx:
-            wrong += differs(afdx, os.path.join(room, str(number)), net, given, outcomes)
+        wrong = list(wrong_of(net, sent, outcomes))
+        if given.afdx:
+            wrong += differs(given.afdx, given.room / str(number), net, sent, outcomes)
         for line in wrong:
             print(f"network {number}: {line}")
         faults += bool(wrong)
-    print(f"{count} networks, {inner} frames over wires, {faults} networks with faults")
-    return faults
+    print(f"{given.count} networks, {inner} frames over wires, {faults} networks with faults")
+    sys.exit(bool(faults))
 
 
 if __name__ == "__main__":
-    if len(sys.argv) not in (2, 4):
-        sys.exit(__doc__)
-    sys.exit(bool(main(*sys.argv[1:])))
+    main()

@@ -1,41 +1,42 @@
 #!/usr/bin/env python3
 """Compares two runs of a network: says which captures differ in the frames of links other than this one.
 
-usage: others.py OUT OTHER_OUT LINK     the folders that `afdx network run` put captures into, and the link that may differ
-
 At each port of each switch the bytes of each other link's frames are to be the same, in the same order; their stamps may differ.
 """
-import os
+import argparse
 import sys
+from pathlib import Path
 
 import model
 
 
-def frames(path, number):
+def frames(path: Path, number: int) -> dict[int, list[bytes]]:
     """The frames of a capture by their links, without this link."""
-    with open(path, "rb") as file:
-        records = model.records_of(file.read(), 0)
-    links = {}
-    for record in records:
+    links: dict[int, list[bytes]] = {}
+    for record in model.records_of(path.read_bytes(), 0):
         links.setdefault(int.from_bytes(record.data[4:6], "big"), []).append(record.data)
     links.pop(number, None)
     return links
 
 
-def captures(folder):
-    return sorted(os.path.relpath(os.path.join(at, name), folder) for at, _, names in os.walk(folder) for name in names)
+def captures(folder: Path) -> list[Path]:
+    """The names of the captures in a folder and below it."""
+    return sorted(path.relative_to(folder) for path in folder.rglob("*") if path.is_file())
 
 
-def main(folder, other, number):
-    names = captures(folder)
-    different = [] if names == captures(other) else ["the folders' files"]
-    different += [name for name in names if frames(f"{folder}/{name}", int(number)) != frames(f"{other}/{name}", int(number))]
+def main() -> None:
+    parser = argparse.ArgumentParser(description=__doc__, formatter_class=argparse.RawDescriptionHelpFormatter)
+    parser.add_argument("out", type=Path, help="a folder that `afdx network run` put captures into")
+    parser.add_argument("other", type=Path, help="that of another run")
+    parser.add_argument("link", type=int, help="which may differ")
+    given = parser.parse_args()
+    names = captures(given.out)
+    different = [] if names == captures(given.other) else ["the folders' files"]
+    different += [str(name) for name in names if frames(given.out / name, given.link) != frames(given.other / name, given.link)]
     for name in different:
         print(f"{name} differs")
-    return bool(different) or not names
+    sys.exit(bool(different) or not names)
 
 
 if __name__ == "__main__":
-    if len(sys.argv) != 4:
-        sys.exit(__doc__)
-    sys.exit(main(*sys.argv[1:]))
+    main()

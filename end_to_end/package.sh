@@ -3,8 +3,7 @@
 # library alone; a program that is linked for older ones; man pages beside the help; completions in real shells. ./package --try,
 # which takes long, is not run here.
 . "$(dirname "$0")/common.sh"
-install git=git python3=python3 objdump=binutils gcc=gcc dpkg-deb=dpkg lintian=lintian man=man-db mandoc=mandoc zsh=zsh fish=fish mypy=mypy \
-    flake8=flake8 shellcheck=shellcheck
+install git=git python3=python3 objdump=binutils gcc=gcc dpkg-deb=dpkg lintian=lintian man=man-db mandoc=mandoc zsh=zsh fish=fish
 export PYTHONDONTWRITEBYTECODE=1 LC_ALL=C.UTF-8
 afdx=${AFDX:-$top/crates/afdx/out/afdx}
 cd "$room" || exit 1
@@ -210,9 +209,6 @@ completes() {
     (cd typing && PATH=$room/stubs:$PATH python3 "$top/end_to_end/completing.py" "$1" "../$unpacked/share" cases.txt)
 }
 
-check "types" mypy --strict --cache-dir="$room/mypy" --python-executable=/usr/bin/python3 "$top"/release/{write,modules,notices,proved}.py
-check "style" flake8 --max-line-length=120 "$top/release"
-check "style of the scripts" shellcheck -S warning -x -P "$top" "$top/package" "$top/release/installed.sh"
 echo other >other.txt
 check "what is noted of a build with proofs" notes_proofs
 check "a copy of the files" committed one

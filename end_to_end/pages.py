@@ -1,17 +1,16 @@
 #!/usr/bin/env python3
 """Fails where a page names a file of the repository that is not there, or a section that its page has not.
 
-    pages.py PAGE
-
 Read are the targets of links, and in backticks what looks like a path of this repository: it begins with one of its folders, or
 ends as its sources and pages do. A word in capitals stands for any name (`crates/NAME/src`), and so does `*`. A file may be named
 from the top, from the page's own folder, or by the end of its path (`specs/Headline.antt`). What programs make (`out/`) isn't
 looked for.
 """
-
+import argparse
 import os
 import re
 import sys
+from collections.abc import Iterator
 from fnmatch import fnmatch
 from pathlib import Path
 
@@ -20,38 +19,38 @@ FOLDERS = ("bench/", "crates/", "docs/", "end_to_end/", "examples/", "python/", 
 ENDINGS = (".md", ".py", ".sh", ".rt", ".antt", ".edit", ".c")
 
 
-def there():
+def there() -> set[str]:
     """The files and folders of the repository, but for what programs make."""
-    names = set()
+    names: set[str] = set()
     for folder, folders, files in os.walk(TOP):
         folders[:] = [name for name in folders if name not in ("out", ".git", "__pycache__")]
         names |= {os.path.relpath(os.path.join(folder, name), TOP) for name in folders + files}
     return names
 
 
-def is_path(word):
+def is_path(word: str) -> bool:
     if " " in word or "out/" in word or word.startswith("http"):
         return False
     return word.startswith(FOLDERS) or (word.endswith(ENDINGS) and len(Path(word).stem) > 0)
 
 
-def is_there(word, folder, names):
+def is_there(word: str, folder: Path, names: set[str]) -> bool:
     pattern = re.sub(r"(?<![A-Za-z_.])[A-Z]{4,}(?![A-Za-z_.])", "*", word).rstrip("/")
     near = os.path.normpath(folder / pattern)
     return any(fnmatch(name, form) for form in (pattern, near, f"*/{pattern}") for name in names)
 
 
-def anchors(page):
+def anchors(page: Path) -> set[str]:
     """The sections of a page, as links name them."""
     heads = re.findall(r"^#+ (.*)$", page.read_text(encoding="utf-8"), re.M)
     return {re.sub(r"[^\w\- ]", "", head.lower()).replace(" ", "-") for head in heads}
 
 
-def links(text):
+def links(text: str) -> list[str]:
     return [link for link in re.findall(r"\]\(([^)\s]+)\)", text) if not link.startswith("http")]
 
 
-def faults(page):
+def faults(page: Path) -> Iterator[str]:
     names = there()
     folder = page.parent
     prose = re.sub(r"^```.*?^```$", "", page.read_text(encoding="utf-8"), flags=re.M | re.S)
@@ -68,8 +67,10 @@ def faults(page):
             yield f"{page}: no {word}"
 
 
-def main():
-    page = Path(sys.argv[1])
+def main() -> None:
+    parser = argparse.ArgumentParser(description=__doc__, formatter_class=argparse.RawDescriptionHelpFormatter)
+    parser.add_argument("page", type=Path)
+    page = parser.parse_args().page
     found = list(faults(page.resolve().relative_to(TOP)))
     print("\n".join(found))
     sys.exit(1 if found else 0)

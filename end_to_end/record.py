@@ -2,28 +2,28 @@
 """Sends the frames of captures with their timing over one pair of virtual Ethernet lines per port, and has tcpdump
 record each port.
 
-usage: record.py IN OUT PORT..     within a network namespace of its own
-Reads IN/port-K.pcap; tcpdump writes port-K.pcap into the folders OUT/nanos and OUT/micros. Fails where a frame got
-lost.
+It runs within a network namespace of its own. It reads IN/port-K.pcap; tcpdump writes port-K.pcap into the folders OUT/nanos and
+OUT/micros. It fails if a frame got lost.
 """
+import argparse
 import select
 import signal
 import socket
 import subprocess
 import sys
 import time
+from pathlib import Path
 
 import model
 
 PATIENCE = 20  # seconds for tcpdump to begin, and for the last frame to be recorded
 
 
-def frames_of(path):
-    with open(path, "rb") as file:
-        return model.records_of(file.read(), path)
+def frames_of(path: Path, port: int) -> list[model.Record]:
+    return model.records_of(path.read_bytes(), port)
 
 
-def lay_line(port):
+def lay_line(port: int) -> None:
     """A line whose ends are `end-K` and `switch-K`; what is sent at the one comes in at the other."""
     pair = [f"end-{port}", f"switch-{port}"]
     subprocess.run(["ip", "link", "add", pair[0], "type", "veth", "peer", "name", pair[1]], check=True)
@@ -31,20 +31,21 @@ def lay_line(port):
         subprocess.run(["ip", "link", "set", name, "up"], check=True)
 
 
-def begin_recording(port, kind, path):
+def begin_recording(port: int, kind: str, path: Path) -> subprocess.Popen[bytes]:
     arguments = ["tcpdump", "-i", f"switch-{port}", "-Z", "root", "--immediate-mode", "-U",
-             f"--time-stamp-precision={kind}", "-w", path]
+                 f"--time-stamp-precision={kind}", "-w", str(path)]
     return subprocess.Popen(arguments, stderr=subprocess.PIPE)
 
 
-def await_listening(recorder):
-    if not select.select([recorder.stderr], [], [], PATIENCE)[0] or b"listening" not in recorder.stderr.readline():
+def await_listening(recorder: subprocess.Popen[bytes]) -> None:
+    said = recorder.stderr
+    if said is None or not select.select([said], [], [], PATIENCE)[0] or b"listening" not in said.readline():
         sys.exit("tcpdump does not listen")
 
 
-def send(arrivals):
+def send(arrivals: list[tuple[int, model.Record]]) -> None:
     """Sends each frame when its instant has come, counted from the first; sleeps where the next is far."""
-    ends = {}
+    ends: dict[int, socket.socket] = {}
     for port, _ in arrivals:
         if port not in ends:
             ends[port] = socket.socket(socket.AF_PACKET, socket.SOCK_RAW)
@@ -57,23 +58,24 @@ def send(arrivals):
         ends[port].send(record.data)
 
 
-def is_recorded(sent, path):
+def is_recorded(sent: list[model.Record], path: Path) -> bool:
     """Whether these frames are in the capture, in order; the system's own frames may lie between them."""
     try:
-        recorded = iter([record.data for record in frames_of(path)])
+        recorded = iter([record.data for record in frames_of(path, 0)])
     except model.Refused:  # it is being written
         return False
     return all(record.data in recorded for record in sent)
 
 
-def record(sent, target):
+def record(sent: dict[int, list[model.Record]], target: Path) -> None:
     """Sends the frames and has them recorded."""
-    recorders, paths = [], []
+    recorders: list[subprocess.Popen[bytes]] = []
+    paths: list[tuple[int, Path]] = []
     try:
         for port in sent:
             lay_line(port)
             for kind in ("nano", "micro"):
-                paths.append((port, f"{target}/{kind}s/port-{port}.pcap"))
+                paths.append((port, target / f"{kind}s" / f"port-{port}.pcap"))
                 recorders.append(begin_recording(port, kind, paths[-1][1]))
         for recorder in recorders:
             await_listening(recorder)
@@ -90,6 +92,14 @@ def record(sent, target):
             recorder.wait()
 
 
+def main() -> None:
+    parser = argparse.ArgumentParser(description=__doc__, formatter_class=argparse.RawDescriptionHelpFormatter)
+    parser.add_argument("source", type=Path, help="the folder of the captures whose frames are sent")
+    parser.add_argument("target", type=Path, help="has the folders nanos and micros, which get what is recorded")
+    parser.add_argument("ports", type=int, nargs="+")
+    given = parser.parse_args()
+    record({port: frames_of(given.source / f"port-{port}.pcap", port) for port in given.ports}, given.target)
+
+
 if __name__ == "__main__":
-    source = sys.argv[1]
-    record({port: frames_of(f"{source}/port-{port}.pcap") for port in sys.argv[3:]}, sys.argv[2])
+    main()

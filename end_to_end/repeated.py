@@ -1,68 +1,75 @@
 #!/usr/bin/env python3
 """Repeats captures, each time so many seconds later, as they are written into pipes or compared.
 
-usage: repeated.py write TIMES SECONDS CAPTURE PIPE    writes the capture's records TIMES over, each time SECONDS later
-       repeated.py check TIMES SECONDS CAPTURE FILE    says whether a file is that, to the byte
 The stamps of the capture's records lie within SECONDS.
 """
+import argparse
 import sys
+from collections.abc import Iterator
+from pathlib import Path
+from typing import Any
 
 import numpy
 
-HEADER = 24
+from captures import HEADER, form_of, rows_of
+
 AT_ONCE = 64  # times in one part
-ORDERS = {b"\xd4\xc3\xb2\xa1": "<", b"\x4d\x3c\xb2\xa1": "<", b"\xa1\xb2\xc3\xd4": ">", b"\xa1\xb2\x3c\x4d": ">"}
 
 
-def second_places(records, order):
-    """The places of the records' seconds, which are at their starts."""
-    places, at = [], 0
-    while at < len(records):
+def second_places(text: bytes, order: str) -> Any:
+    """The places of the records' seconds, which are at their starts, counted from the end of the capture's header."""
+    places: list[int] = []
+    at = 0
+    for _, _, captured, _, _ in rows_of(text, order):
         places.append(at)
-        at += 16 + int.from_bytes(records[at + 8:at + 12], "little" if order == "<" else "big")
+        at += 16 + captured
     return numpy.array(places, dtype=numpy.int64)
 
 
-def parts(capture, times, period):
+def parts(capture: Path, times: int, period: int) -> Iterator[bytes]:
     """The text of the repeated capture, in parts."""
-    with open(capture, "rb") as file:
-        text = file.read()
-    yield text[:HEADER]
-    order = ORDERS[text[:4]]
-    records = numpy.frombuffer(text[HEADER:], dtype=numpy.uint8)
-    places = second_places(text[HEADER:], order)[:, None] + numpy.arange(4)
+    text = capture.read_bytes()
+    yield text[:len(HEADER)]
+    order, _ = form_of(text)
+    records = numpy.frombuffer(text[len(HEADER):], dtype=numpy.uint8)
+    places = second_places(text, order)[:, None] + numpy.arange(4)
     seconds = records[places].view(f"{order}u4")[:, 0].astype(f"{order}u4")
     for start in range(0, times, AT_ONCE):
         turns = range(start, min(start + AT_ONCE, times))
         texts = numpy.tile(records, (len(turns), 1))
-        for text, turn in zip(texts, turns):
-            text[places] = (seconds + turn * period).astype(f"{order}u4").view(numpy.uint8).reshape(-1, 4)
+        for row, turn in zip(texts, turns):
+            row[places] = (seconds + turn * period).astype(f"{order}u4").view(numpy.uint8).reshape(-1, 4)
         yield texts.tobytes()
 
 
-def write(capture, times, period, pipe):
+def write(capture: Path, times: int, period: int, pipe: Path) -> None:
     with open(pipe, "wb") as file:
         for part in parts(capture, times, period):
             file.write(part)
-    return 0
 
 
-def check(capture, times, period, name):
+def check(capture: Path, times: int, period: int, name: Path) -> None:
     place = 0
     with open(name, "rb") as file:
         for part in parts(capture, times, period):
             if file.read(len(part)) != part:
-                print(f"{name} differs after byte {place}")
-                return 1
+                sys.exit(f"{name} differs after byte {place}")
             place += len(part)
         if file.read(1):
-            print(f"{name} is longer than {place} bytes")
-            return 1
-    return 0
+            sys.exit(f"{name} is longer than {place} bytes")
 
 
-def main(command, times, period, capture, other):
-    return {"write": write, "check": check}[command](capture, int(times), int(period), other)
+def main() -> None:
+    parser = argparse.ArgumentParser(description=__doc__, formatter_class=argparse.RawDescriptionHelpFormatter)
+    parser.add_argument("command", choices=["write", "check"], help="into the file, or whether the file is that, to the byte")
+    parser.add_argument("times", type=int)
+    parser.add_argument("seconds", type=int, help="by which each time is later than the one before it")
+    parser.add_argument("capture", type=Path)
+    parser.add_argument("file", type=Path)
+    given = parser.parse_args()
+    do = write if given.command == "write" else check
+    do(given.capture, given.times, given.seconds, given.file)
 
 
-sys.exit(main(*sys.argv[1:]))
+if __name__ == "__main__":
+    main()

@@ -1,16 +1,16 @@
 #!/usr/bin/env python3
 """Takes the commands out of a page, and what they print.
 
-usage: steps.py PAGE FOLDER
 Each section's k-th block `sh` is written to FOLDER/NAME/k.sh, the block `text` behind it to k.txt, which is empty where
 there is none. NAME is the section's heading, small, with _ for all but letters and digits.
 """
-import os
+import argparse
 import re
-import sys
+from collections.abc import Iterator
+from pathlib import Path
 
 
-def steps_of(page):
+def steps_of(page: str) -> Iterator[tuple[str, int, str, str]]:
     """(name of the section, number in it, commands, what they print)"""
     for section in re.split(r"^## ", page, flags=re.M)[1:]:
         name = re.sub(r"[^a-z0-9]+", "_", section.split("\n", 1)[0].lower()).strip("_")
@@ -19,15 +19,17 @@ def steps_of(page):
             yield name, number, commands, printed
 
 
-def main(page, folder):
-    with open(page, encoding="utf-8") as file:
-        steps = list(steps_of(file.read()))
-    for name, number, commands, printed in steps:
-        os.makedirs(f"{folder}/{name}", exist_ok=True)
-        for ending, text in [("sh", commands), ("txt", printed)]:
-            with open(f"{folder}/{name}/{number}.{ending}", "w", encoding="utf-8") as file:
-                file.write(text)
+def main() -> None:
+    parser = argparse.ArgumentParser(description=__doc__, formatter_class=argparse.RawDescriptionHelpFormatter)
+    parser.add_argument("page", type=Path)
+    parser.add_argument("folder", type=Path)
+    given = parser.parse_args()
+    for name, number, commands, printed in steps_of(given.page.read_text(encoding="utf-8")):
+        section = given.folder / name
+        section.mkdir(parents=True, exist_ok=True)
+        (section / f"{number}.sh").write_text(commands, encoding="utf-8")
+        (section / f"{number}.txt").write_text(printed, encoding="utf-8")
 
 
 if __name__ == "__main__":
-    main(*sys.argv[1:])
+    main()

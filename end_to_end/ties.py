@@ -1,12 +1,12 @@
 #!/usr/bin/env python3
 """Writes captures in which much happens at one instant: ends, arrivals, starts and ages all lie on a grid of 5 us.
 
-usage: ties.py ROOM SEED     writes ROOM/table.toml and ROOM/in/port-K.pcap, the same for the same seed
-At 100 Mbit/s a frame of 105 bytes occupies a line for 10 us and one of 230 bytes for 20 us.
+It writes ROOM/table.toml and ROOM/in/port-K.pcap, the same for the same seed. At 100 Mbit/s a frame of 105 bytes occupies a line
+for 10 us and one of 230 bytes for 20 us.
 """
-import os
-import random
-import sys
+import argparse
+from pathlib import Path
+from random import Random
 
 import model
 
@@ -16,7 +16,7 @@ FRAMES = 150
 LINKS = [(1, [3, 4], "low"), (1, [4], "high"), (2, [4, 3], "high"), (2, [4], "low"), (3, [4], "low"), (3, [1, 4], "high")]
 
 
-def table(chance):
+def table(chance: Random) -> str:
     text = ""
     for port, (mbit, buffer, delay) in enumerate([(10, 500, 100), (100, 0, 5), (100, 335, 15), (100, 550, 30)], 1):
         buffer += 105 * int(chance.random() * 3)
@@ -27,9 +27,10 @@ def table(chance):
     return text
 
 
-def capture(chance, port, count=FRAMES):
+def capture(chance: Random, port: int, count: int = FRAMES) -> bytes:
     own = [link for link, (source, _, _) in enumerate(LINKS, 1) if source == port]
-    records, at = [], 0
+    records: list[model.Record] = []
+    at = 0
     for _ in range(count if own else 0):
         at += GRID * int(chance.random() ** 2 * 16)
         link = own[int(chance.random() * len(own))] if chance.random() < 0.95 else 1
@@ -39,15 +40,17 @@ def capture(chance, port, count=FRAMES):
     return model.capture_of(records)
 
 
-def main(room, seed):
-    chance = random.Random(int(seed))
-    os.makedirs(f"{room}/in", exist_ok=True)
-    with open(f"{room}/table.toml", "w", encoding="utf-8") as file:
-        file.write(table(chance))
+def main() -> None:
+    parser = argparse.ArgumentParser(description=__doc__, formatter_class=argparse.RawDescriptionHelpFormatter)
+    parser.add_argument("room", type=Path)
+    parser.add_argument("seed", type=int)
+    given = parser.parse_args()
+    chance = Random(given.seed)
+    (given.room / "in").mkdir(parents=True, exist_ok=True)
+    (given.room / "table.toml").write_text(table(chance), encoding="utf-8")
     for port in (1, 2, 3, 4):
-        with open(f"{room}/in/port-{port}.pcap", "wb") as file:
-            file.write(capture(chance, port))
+        (given.room / "in" / f"port-{port}.pcap").write_bytes(capture(chance, port))
 
 
 if __name__ == "__main__":
-    main(*sys.argv[1:])
+    main()

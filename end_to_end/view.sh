@@ -95,9 +95,9 @@ chmod +x signalling
 # is_ended_by SIGNAL WHEN STATUS TABLE IN: after the signal, which a gate in the background may have ignored, view ends without a
 # word, and nothing of it is left.
 is_ended_by() {
-    local status=0
+    local status=0 program=$AFDX
     rm -rf made && mkdir made
-    ROOM=$room PROGRAM=$AFDX SIGNAL=$1 WHEN=$2 AFDX=$room/signalling TMPDIR=$room/made \
+    ROOM=$room PROGRAM=$program SIGNAL=$1 WHEN=$2 AFDX=$room/signalling TMPDIR=$room/made \
         env --default-signal="$1" "$view" "$4" "$5" made/page.html >answer.txt 2>said.txt || status=$?
     echo "status $status: $(cat said.txt)"
     ls -A made

@@ -1,16 +1,16 @@
 #!/usr/bin/python3
 """Opens a page of afdx-view in chromium and compares it with what the program said of the same run.
 
-usage: view_page.py PAGE TABLE IN [--unchecked] [--seconds N] [--print]
-
 At 1280, 800 and 400 pixels: nothing is on the console, nothing else was loaded, nothing stands out at the side, no text touches
 another, the verdict and the first columns of the links are there without scrolling, each link and port that sent has a picture
 whose heading has its numbers and whose points are on it, and each row leads to its picture. The table sorts. In the light and in
-the dark all texts can be read, and the verdict is green, amber or red. With --print each row of each table is in the PDF, with all its cells.
+the dark all texts can be read, and the verdict is green, amber or red. With --print each row of each table is in the PDF, with
+all its cells.
 """
 import argparse
 import base64
 import colorsys
+import math
 import os
 import random
 import re
@@ -18,13 +18,16 @@ import subprocess
 import sys
 import time
 from collections import Counter
+from pathlib import Path
+from typing import Any, NoReturn
 
-from selenium import webdriver
-from selenium.webdriver.chrome.options import Options
-from selenium.webdriver.chrome.service import Service
+from selenium import webdriver  # type: ignore[import]
+from selenium.webdriver.chrome.options import Options  # type: ignore[import]
+from selenium.webdriver.chrome.service import Service  # type: ignore[import]
 
 WIDTHS = (1280, 800, 400)
 LOOKED_AT = 40  # pictures, drawn by chance if there are more
+Box = tuple[str, float, float, float, float]  # a text and its place
 COLOURED = 3000  # texts whose colours are looked at, the first ones
 FIRST_COLUMNS = {1280: 12, 800: 8, 400: 3}
 CONTRAST = 4.5  # the least of a text to its paper, by WCAG
@@ -36,17 +39,21 @@ if (!figure) return null;
 figure.scrollIntoView();
 const place = figure.getBoundingClientRect(), drawing = figure.querySelector("svg").getBoundingClientRect();
 return {text: figure.querySelector("figcaption").innerText, points: figure.querySelector("path").getAttribute("d").split("M").length - 1,
-        width: drawing.width, height: drawing.height, left: place.left, right: place.right, link: !!document.querySelector(`a[href="#${arguments[0]}"]`)};
+        width: drawing.width, height: drawing.height, left: place.left, right: place.right,
+        link: !!document.querySelector(`a[href="#${arguments[0]}"]`)};
 """
 COLUMN = "return [...document.querySelectorAll('.sorts tbody tr')].map(row => row.cells[arguments[0]].textContent)"
-HEADING = "document.querySelectorAll('.sorts th button')[arguments[0]].click(); return document.querySelectorAll('.sorts th')[arguments[0]].ariaSort"
-TABLES = "return [...document.querySelectorAll('table')].map(table => [...table.rows].map(row => [...row.cells].map(cell => cell.textContent.trim())))"
+HEADING = """document.querySelectorAll('.sorts th button')[arguments[0]].click();
+return document.querySelectorAll('.sorts th')[arguments[0]].ariaSort"""
+TABLES = """return [...document.querySelectorAll('table')].map(
+    table => [...table.rows].map(row => [...row.cells].map(cell => cell.textContent.trim())))"""
 # The places of the texts in each picture with axes that is shown, and of the two texts of each bar.
 TEXTS = """
 const place = (text, name) => { const box = text.getBoundingClientRect(); return [name, box.left, box.top, box.right, box.bottom]; };
 const shown = [...document.querySelectorAll("svg[role=img]")].filter(svg => svg.checkVisibility());
-const pictures = shown.map(svg => { svg.scrollIntoView(); return [...svg.querySelectorAll("text")].map(text => place(text, text.textContent)); });
-const bars = [...document.querySelectorAll(".bar")].map(bar => [...bar.querySelectorAll("b, span")].map(text => place(text, text.textContent)));
+const placed = texts => [...texts].map(text => place(text, text.textContent));
+const pictures = shown.map(svg => { svg.scrollIntoView(); return placed(svg.querySelectorAll("text")); });
+const bars = [...document.querySelectorAll(".bar")].map(bar => placed(bar.querySelectorAll("b, span")));
 return [...pictures, ...bars];
 """
 TIGHT = "return [...document.querySelectorAll('td, th')].filter(cell => cell.scrollWidth > cell.clientWidth).map(cell => cell.textContent)"
@@ -62,26 +69,30 @@ return {verdict: [verdict.left, verdict.right], right: Math.max(...right), link:
 """
 # The colours of texts and of the paper below each.
 COLOURS = """
-const paper = element => { const colour = getComputedStyle(element).backgroundColor; return element === document.documentElement || !colour.endsWith(", 0)") ? colour : paper(element.parentNode); };
+const paper = element => {
+    const colour = getComputedStyle(element).backgroundColor;
+    return element === document.documentElement || !colour.endsWith(", 0)") ? colour : paper(element.parentNode);
+};
 const ink = element => element.ownerSVGElement ? getComputedStyle(element).fill : getComputedStyle(element).color;
-return [...document.querySelectorAll("h1, h2, h3, p, b, a, td, th, figcaption, .bar span, svg[role=img] text")].slice(0, arguments[0]).map(text => [text.textContent.trim().slice(0, 40), ink(text), paper(text)]);
+const texts = [...document.querySelectorAll("h1, h2, h3, p, b, a, td, th, figcaption, .bar span, svg[role=img] text")];
+return texts.slice(0, arguments[0]).map(text => [text.textContent.trim().slice(0, 40), ink(text), paper(text)]);
 """
 VERDICT = "const verdict = document.querySelector('.verdict'); return [verdict.className, getComputedStyle(verdict).borderLeftColor]"
-faults = []
+faults: list[str] = []
 
 
-def expect(what, holds):
+def expect(what: str, holds: object) -> None:
     if not holds:
         faults.append(what)
 
 
-def end():
+def end() -> NoReturn:
     """Says what was not as expected, and ends."""
     print("\n".join(faults[:20]))
     sys.exit(bool(faults))
 
 
-def browser():
+def browser() -> Any:
     options = Options()
     options.binary_location = "/usr/bin/chromium"
     for argument in ("--headless=new", "--no-sandbox", "--disable-gpu", "--disable-dev-shm-usage"):
@@ -92,17 +103,18 @@ def browser():
     return page
 
 
-def measured(options):
+def measured(options: argparse.Namespace) -> list[tuple[str, ...]]:
     arguments = ["--unchecked"] if options.unchecked else []
-    said = subprocess.run([os.environ["AFDX"], "measure", options.table, options.folder, *arguments], capture_output=True, text=True, check=True)
+    command = [os.environ["AFDX"], "measure", options.table, options.folder, *arguments]
+    said = subprocess.run(command, capture_output=True, text=True, check=True)
     return [match.groups() for match in map(DELAYS.fullmatch, said.stdout.splitlines()) if match]
 
 
-def grouped(word):
+def grouped(word: str) -> str:
     return f"{int(word):,}" if word != "-" else word
 
 
-def check_picture(page, row, width):
+def check_picture(page: Any, row: tuple[str, ...], width: int) -> None:
     link, port, sent, least, greatest, bound = row
     name = f"link {link} at port {port}, {width} px"
     picture = page.execute_script(PICTURE, f"l{link}p{port}")
@@ -115,11 +127,12 @@ def check_picture(page, row, width):
     for text in numbers:
         expect(f"{name}: no {text} in {picture['text']!r}", text in picture["text"])
     expect(f"{name}: points", 1 <= picture["points"] <= int(sent))
-    expect(f"{name}: a place on the page", picture["width"] > 200 and picture["height"] > 40 and picture["left"] >= 0 and picture["right"] <= width)
+    is_shown = picture["width"] > 200 and picture["height"] > 40 and picture["left"] >= 0 and picture["right"] <= width
+    expect(f"{name}: a place on the page", is_shown)
     expect(f"{name}: a row that leads to it", picture["link"])
 
 
-def check_sorting(page, rows):
+def check_sorting(page: Any, rows: list[tuple[str, ...]]) -> None:
     """By each column that has numbers, up and down; what is no number stays last."""
     for column in (0, 7, 8, 9, 10):
         for turn, name in ((False, "ascending"), (True, "descending")):
@@ -130,7 +143,7 @@ def check_sorting(page, rows):
             expect(f"column {column} has a cell for each link and port", len(cells) == len(rows))
 
 
-def touching(texts):
+def touching(texts: list[Box]) -> str | None:
     """The first two texts of a group that share a place."""
     for place, (name, left, top, right, bottom) in enumerate(texts):
         for other, other_left, other_top, other_right, other_bottom in texts[:place]:
@@ -139,7 +152,7 @@ def touching(texts):
     return None
 
 
-def check_places(page, width):
+def check_places(page: Any, width: int) -> None:
     """Nothing touches or has to be looked for at the side."""
     first = page.execute_script(FIRST, FIRST_COLUMNS[width])
     expect(f"the verdict is in {width} px: {first}", first["verdict"][0] >= 0 and first["verdict"][1] <= width)
@@ -151,18 +164,18 @@ def check_places(page, width):
     expect(f"at {width} px each cell has room, not {tight[:3]}", not tight)
 
 
-def parts_of(colour):
+def parts_of(colour: str) -> list[float]:
     """Red, green and blue, up to 1, of a colour that the browser names."""
     return [int(part) / 255 for part in re.findall(r"\d+", colour)[:3]]
 
 
-def brightness(colour):
+def brightness(colour: str) -> float:
     """The relative luminance of a colour."""
-    linear = [part / 12.92 if part <= 0.04045 else ((part + 0.055) / 1.055) ** 2.4 for part in parts_of(colour)]
-    return 0.2126 * linear[0] + 0.7152 * linear[1] + 0.0722 * linear[2]
+    red, green, blue = (part / 12.92 if part <= 0.04045 else math.pow((part + 0.055) / 1.055, 2.4) for part in parts_of(colour))
+    return 0.2126 * red + 0.7152 * green + 0.0722 * blue
 
 
-def check_colours(page, scheme):
+def check_colours(page: Any, scheme: str) -> None:
     """Each text stands out from its paper, which is as light or as dark as was asked for; the verdict has its kind's colour."""
     page.execute_cdp_cmd("Emulation.setEmulatedMedia", {"features": [{"name": "prefers-color-scheme", "value": scheme}]})
     for text, ink, paper in page.execute_script(COLOURS, COLOURED):
@@ -174,7 +187,7 @@ def check_colours(page, scheme):
     expect(f"{scheme}: the {kind} is {colour}", least <= 360 * colorsys.rgb_to_hsv(*parts_of(colour))[0] <= most)
 
 
-def check_print(page):
+def check_print(page: Any) -> None:
     """Each row of each table is in the PDF, cell by cell, as often as it is on the page."""
     page.refresh()  # no heading has the mark of sorting
     printed = base64.b64decode(page.execute_cdp_cmd("Page.printToPDF", {"preferCSSPageSize": True})["data"])
@@ -187,7 +200,7 @@ def check_print(page):
         expect(f"printed {found} times, not {many}: {row}", found >= many)
 
 
-def open_page(page, path, seconds, width):
+def open_page(page: Any, path: str | Path, seconds: float, width: int) -> None:
     """Opens a page of this width within some seconds; it is whole, and nothing of it stands out."""
     page.execute_cdp_cmd("Emulation.setDeviceMetricsOverride", {"width": width, "height": 900, "deviceScaleFactor": 1, "mobile": False})
     page.execute_cdp_cmd("Performance.enable", {"timeDomain": "threadTicks"})
@@ -203,7 +216,7 @@ def open_page(page, path, seconds, width):
     expect(f"nothing stands out at {width} px", page.execute_script("return document.documentElement.scrollWidth") <= width)
 
 
-def check_page(page, options, rows, width):
+def check_page(page: Any, options: argparse.Namespace, rows: list[tuple[str, ...]], width: int) -> None:
     open_page(page, options.page, options.seconds, width)
     overviews = page.execute_script("return [...document.querySelectorAll('.wide, .narrow')].filter(x => x.offsetHeight > 100).length")
     expect("one picture of the run, where frames came in", overviews == any(sent != "0" for _, _, sent, *_ in rows))
@@ -214,8 +227,8 @@ def check_page(page, options, rows, width):
     expect(f"an empty console, not {console}", not console)
 
 
-def main():
-    parser = argparse.ArgumentParser()
+def main() -> None:
+    parser = argparse.ArgumentParser(description=__doc__, formatter_class=argparse.RawDescriptionHelpFormatter)
     for argument in ("page", "table", "folder"):
         parser.add_argument(argument)
     parser.add_argument("--unchecked", action="store_true")

@@ -1,11 +1,10 @@
 #!/usr/bin/env python3
 """Prints the modules that Python code imports from elsewhere, one a line.
 
-    modules.py FOLDER
-
 They are those that neither come with Python nor lie in FOLDER.
 """
 
+import argparse
 import ast
 import sys
 from collections.abc import Iterator
@@ -22,7 +21,9 @@ def imported(file: Path) -> Iterator[str]:
 
 
 def main() -> None:
-    folder = Path(sys.argv[1])
+    parser = argparse.ArgumentParser(description=__doc__, formatter_class=argparse.RawDescriptionHelpFormatter)
+    parser.add_argument("folder", type=Path, help="has the code")
+    folder = parser.parse_args().folder
     own = {file.stem for file in folder.iterdir()} | sys.stdlib_module_names
     found = {name for file in folder.rglob("*.py") for name in imported(file)}
     print("".join(f"{name}\n" for name in sorted(found - own)), end="")

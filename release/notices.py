@@ -1,12 +1,11 @@
 #!/usr/bin/env python3
 """Prints the libraries whose code a program has and whose notice is missing, one a line.
 
-    notices.py NOTICES < SYMBOLS
-
-SYMBOLS is what `nm --format=just-symbols` prints of the program; NOTICES is the folder that has each library's notice
-under its name. The repository's own crates need none, and of its own standard library the kit has none.
+Standard input is what `nm --format=just-symbols` prints of the program. The repository's own crates need none, and of its
+own standard library the kit has none.
 """
 
+import argparse
 import re
 import sys
 from pathlib import Path
@@ -20,8 +19,11 @@ def libraries(symbols: str) -> set[str]:
 
 
 def main() -> None:
+    parser = argparse.ArgumentParser(description=__doc__, formatter_class=argparse.RawDescriptionHelpFormatter)
+    parser.add_argument("notices", type=Path, help="the folder that has each library's notice under its name")
+    notices = parser.parse_args().notices
     found = {name for name in libraries(sys.stdin.read()) if name != "afdx" and not name.startswith("afdx_")}
-    kept = {file.name for file in Path(sys.argv[1]).iterdir()}
+    kept = {file.name for file in notices.iterdir()}
     print("".join(f"{name}\n" for name in sorted(found - STANDARD - kept)), end="")
 
 

@@ -1,16 +1,14 @@
 #!/usr/bin/env python3
 """Notes of a program that it was built with its proofs, and of which commit.
 
-    proved.py PROGRAM
-
 ./test and ./demo --proved call it once the proofs have passed. PROGRAM.proved then has one line: the program's SHA-256,
 and `of commit` with git's name of the commit, which ends in `-dirty` if files differ from it; `of no commit` where git
 has none.
 """
 
+import argparse
 import hashlib
 import subprocess
-import sys
 from pathlib import Path
 
 
@@ -25,7 +23,9 @@ def commit_of(folder: Path) -> str:
 
 
 def main() -> None:
-    program = Path(sys.argv[1])
+    parser = argparse.ArgumentParser(description=__doc__, formatter_class=argparse.RawDescriptionHelpFormatter)
+    parser.add_argument("program", type=Path)
+    program = parser.parse_args().program
     number = hashlib.sha256(program.read_bytes()).hexdigest()
     program.with_name(f"{program.name}.proved").write_text(f"{number} {commit_of(program.parent)}\n", encoding="utf-8")
 

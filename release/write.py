@@ -1,13 +1,11 @@
 #!/usr/bin/env python3
 """Writes the man pages and the completions of programs, of what each prints for --help.
 
-    write.py SHARE VERSION PROGRAM..
-
-They come into folders of SHARE, named as below /usr/share. The date of the pages is SOURCE_DATE_EPOCH.
+The date of the pages is SOURCE_DATE_EPOCH.
 """
 
+import argparse
 import os
-import sys
 from datetime import datetime, timezone
 from pathlib import Path
 
@@ -41,10 +39,14 @@ def write_completions(share: Path, programs: list[Command]) -> None:
 
 
 def main() -> None:
-    share, version, *names = sys.argv[1:]
-    programs = [described(Path(name)) for name in names]
-    write_manual(Path(share), version, programs)
-    write_completions(Path(share), programs)
+    parser = argparse.ArgumentParser(description=__doc__, formatter_class=argparse.RawDescriptionHelpFormatter)
+    parser.add_argument("share", type=Path, help="its folders get them, named as below /usr/share")
+    parser.add_argument("version")
+    parser.add_argument("programs", type=Path, nargs="+")
+    given = parser.parse_args()
+    programs = [described(program) for program in given.programs]
+    write_manual(given.share, given.version, programs)
+    write_completions(given.share, programs)
 
 
 if __name__ == "__main__":

@@ -1,12 +1,10 @@
 #!/usr/bin/env python3
 """Keeps the quotes of HEADLINE.md, SPECIFICATION.md, NETWORKS.md and PROGRAM.md as their sources have them.
 
-    docs/trust/quotes.py           writes each quote anew from its source, also if that has moved to another file, and each count
-    docs/trust/quotes.py --check   changes nothing; fails if a quote is not its source's text, if a name is not found, if a count
-                                   is not what it counts, if something that the contracts of ROOTS rest on is not quoted, or
-                                   something else is, if a word of the kit has no meaning in the table of these words, and if
-                                   what a quote has under another name (`use .. as`) is in backticks under that name on no page
-    docs/trust/quotes.py --list    prints what the contracts of ROOTS rest on, and where it is
+It writes each quote anew from its source, also if that has moved to another file, and each count. It fails if a quote is not its
+source's text, if a name is not found, if a count is not what it counts, if something that the contracts of ROOTS rest on is not
+quoted, or something else is, if a word of the kit has no meaning in the table of these words, and if what a quote has under
+another name (`use .. as`) is in backticks under that name on no page.
 
 A quote is a line `<!-- quote FILE NAME.. -->`, and after it the file's name and the block of code, which this script writes. In a
 file of specs/ a NAME is that of a definition. In a file of src/ it is that of a type, a trait or a function (its docstring and
@@ -17,9 +15,10 @@ have.
 A count is `<!-- count FILE NAME -->106 definitions, 424 lines<!-- end -->`: how many definitions NAME rests on, itself among them,
 and how many lines these have without comments, attributes and blank lines. This script writes it.
 """
-
+import argparse
 import re
 import sys
+from collections.abc import Iterable
 from itertools import groupby
 from pathlib import Path
 
@@ -60,7 +59,11 @@ class Missing(Exception):
     """A name that its file has not."""
 
 
-def read(file):
+Place = tuple[str, str]  # a file and a name in it
+Names = set[str]
+
+
+def read(file: str) -> str:
     try:
         return (TOP / file).read_text(encoding="utf-8")
     except OSError:
@@ -70,22 +73,23 @@ def read(file):
 # ---- definitions, specs/*.antt
 
 
-def paragraphs(text):
+def paragraphs(text: str) -> list[str]:
     return [part.strip("\n") for part in re.split(r"\n\s*\n(?=\S)", text)]
 
 
-def defined_in(file):
+def defined_in(file: str) -> dict[str, str]:
     """The definitions of a file by their names: each is a paragraph, with the comment above it."""
-    found = {}
+    found: dict[str, str] = {}
     for part in paragraphs(read(file)):
         for line in part.split("\n"):
             if re.match(r"(abbrev|unfoldable|opaque|pub record|pub data|record |data )", line):
-                found[DEFINITION.match(line)["name"]] = part
+                if match := DEFINITION.match(line):
+                    found[match["name"]] = part
                 break
     return found
 
 
-def owner_of(file, name):
+def owner_of(file: str, name: str) -> str:
     """The definition that a name of a file belongs to: itself, or the type that it constructs."""
     definitions = defined_in(file)
     for other, text in definitions.items():
@@ -96,13 +100,13 @@ def owner_of(file, name):
     return name
 
 
-def without_comments(text, mark):
+def without_comments(text: str, mark: str) -> str:
     return "\n".join(line.split(mark)[0] for line in text.split("\n"))
 
 
-def imports(text, keyword):
+def imports(text: str, keyword: str) -> dict[str, str]:
     """What `use` lines bring: each word with the path of what it stands for."""
-    brought = {}
+    brought: dict[str, str] = {}
     for path, names in re.findall(rf"^\s*{keyword} (Rattle\.[\w.]+?)\.\{{([^}}]*)\}}", text, re.M):
         for name in names.split(","):
             original, _, other = name.strip().partition(" as ")
@@ -112,7 +116,7 @@ def imports(text, keyword):
     return brought
 
 
-def other_names(text, keyword):
+def other_names(text: str, keyword: str) -> Names:
     """The words that `use` lines bring for what has another name."""
     groups = re.findall(rf"^\s*{keyword} Rattle\.[\w.]+?\.\{{([^}}]*)\}}", text, re.M)
     others = [name.partition(" as ")[2].strip() for names in groups for name in names.split(",")]
@@ -120,7 +124,7 @@ def other_names(text, keyword):
     return set(others) - {""}
 
 
-def words_of(text):
+def words_of(text: str) -> Names:
     """The words of a definition or clause that may name another one: all but the fields. A bound name counts as well, so that
     more may be found than is named, and never less."""
     text = re.sub(rf"^ *(?:pub )?{WORD} : ", "", text, flags=re.M)
@@ -128,7 +132,7 @@ def words_of(text):
     return set(re.findall(rf"(?<![\w.'])({WORD})", text))
 
 
-def place_of(path):
+def place_of(path: str) -> Place | None:
     """The file and the name of what a path stands for; none where it is the kit's."""
     parts = path.split(".")
     crate = TOP / "crates" / parts[1]
@@ -143,7 +147,7 @@ def place_of(path):
     return (file, owner_of(file, parts[-1]))
 
 
-def type_in(crate, name, modules):
+def type_in(crate: Path, name: str, modules: list[str]) -> Place:
     named = crate / "src" / f"{'/'.join(modules)}.rt"
     for file in [named] if modules else sorted(crate.glob("src/**/*.rt")):
         if re.search(rf"^pub(?:\(crate\))? (?:struct|enum|trait|type) {name}\b", file.read_text(encoding="utf-8"), re.M):
@@ -151,7 +155,7 @@ def type_in(crate, name, modules):
     raise Missing(f"no type {name} in {named.relative_to(TOP)}")
 
 
-def uses_of_definition(file, name, kit, others):
+def uses_of_definition(file: str, name: str, kit: Names, others: Names) -> set[Place]:
     text, definitions = read(file), defined_in(file)
     body = without_comments(definitions[name], "--")
     brought = imports(text, "use")
@@ -164,8 +168,8 @@ def uses_of_definition(file, name, kit, others):
     return named(words, brought, {word: (file, word) for word in definitions}, kit)
 
 
-def named(words, brought, here, kit):
-    found = set()
+def named(words: Names, brought: dict[str, str], here: dict[str, Place], kit: Names) -> set[Place]:
+    found: set[Place] = set()
     for word in words:
         if word in here:
             found.add(here[word])
@@ -181,32 +185,32 @@ def named(words, brought, here, kit):
 # ---- types, traits and functions, src/*.rt
 
 
-def head_of(lines, start):
+def head_of(lines: list[str], start: int) -> int:
     """The first line of the docstring and attributes above an item."""
     while start > 0 and re.match(r" *(///|#\[)", lines[start - 1]):
         start -= 1
     return start
 
 
-def item_at(lines, start):
+def item_at(lines: list[str], start: int) -> list[str]:
     """The lines of a type, a trait or an impl that begins here, with the docstring and attributes above it."""
     end = start
     if not lines[start].endswith((";", "}")):
         while not lines[end].startswith("}"):
             end += 1
-    return lines[head_of(lines, start) : end + 1]
+    return lines[head_of(lines, start):end + 1]
 
 
-def contract_at(lines, start):
+def contract_at(lines: list[str], start: int) -> list[str]:
     """The lines of a function that begins here, but for its body."""
     end = start
     while not lines[end].lstrip().startswith("{"):
         end += 1
     indent = len(lines[start]) - len(lines[start].lstrip())
-    return [line[indent:] for line in lines[head_of(lines, start) : end]]
+    return [line[indent:] for line in lines[head_of(lines, start):end]]
 
 
-def rust_item(file, name):
+def rust_item(file: str, name: str) -> str:
     """A type or trait, a function's docstring and contract, that of TYPE.FUNCTION, or TYPE.Model, as it is in a file."""
     lines = read(file).split("\n")
     type_name, _, model = name.partition(".")
@@ -215,7 +219,7 @@ def rust_item(file, name):
     elif model:
         pattern = rf"    pub(?:\(crate\))? fn {model}[<(]"
         inside = [at for at, line in enumerate(lines) if re.match(rf"impl\b(?!.* for ).*\b{type_name}\b", line)]
-        lines = lines[inside[0] :] if inside else []
+        lines = lines[inside[0]:] if inside else []
     else:
         pattern = rf"pub(?:\(crate\))? (?:(?:struct|enum|trait|type) {name}\b|fn {name}[<(])"
     for start, line in enumerate(lines):
@@ -224,15 +228,15 @@ def rust_item(file, name):
     raise Missing(f"{file} has no {name}")
 
 
-def rust_imports(file):
+def rust_imports(file: str) -> dict[str, tuple[Path, list[str]]]:
     """The types that `use` lines bring: the crate and the modules of each."""
-    brought = {}
+    brought: dict[str, tuple[Path, list[str]]] = {}
     crate = TOP / file.split("/src/")[0]
     for path, names in re.findall(r"^use ([\w:]+)::\{?([\w, ]+)\}?;", read(file), re.M):
         first = path.split("::")[0]
         if first != "crate" and not (TOP / "crates" / first).is_dir():
             continue
-        base, modules = (crate, path.split("::")[1:]) if first == "crate" else (TOP / "crates" / first, [])
+        base, modules = (crate, path.split("::")[1:]) if first == "crate" else (TOP / "crates" / first, list[str]())
         for name in names.split(","):
             name = name.strip().split(" as ")[0]
             if name[:1].isupper():
@@ -240,29 +244,28 @@ def rust_imports(file):
     return brought
 
 
-def has_model(file, name):
+def has_model(file: str, name: str) -> bool:
     return re.search(rf"^impl.* Model for {name}\b", read(file), re.M) is not None
 
 
-def uses_of_item(file, name, kit, others):
+def uses_of_item(file: str, name: str, kit: Names, others: Names) -> set[Place]:
     text = rust_item(file, name)
     code = without_comments(text, "//")
     brought = imports(read(file), "ghost use") | imports(text, "ghost use")
     clauses = re.sub(r"^\s*ghost use .*$", "", code, flags=re.M)
     if name in BY_VALUE_ALONE:
         clauses = "\n".join(re.findall(r"^\s*ghost Value = .*$", clauses, re.M))
-    if not re.search(r"\bghost\b|\bensures\b|\brequires\b", clauses):
-        ghost = set()
-    else:
+    ghost: set[Place] = set()
+    if re.search(r"\bghost\b|\bensures\b|\brequires\b", clauses):
         ghost = named(words_of(clauses), brought, {}, kit)
         others |= words_of(clauses) & (other_names(read(file), "ghost use") | other_names(text, "ghost use"))
     return ghost | types_in(file, name, code)
 
 
-def types_in(file, name, code):
+def types_in(file: str, name: str, code: str) -> set[Place]:
     """The types that a reader meets in a signature or in public fields: of one that contracts see otherwise, what they see."""
     if name.endswith(".Model"):
-        shown = "\n".join(re.findall(r"^    pub .*$", rust_item(file, name[: -len(".Model")]), re.M))
+        shown = "\n".join(re.findall(r"^    pub .*$", rust_item(file, name[:-len(".Model")]), re.M))
     else:
         shown = re.sub(r"^\s*(ghost|ensures|requires|#).*$", "", code, flags=re.M)
         shown = shown if " fn " in shown.split("{")[0] else shown.partition("{")[2] or shown.partition("(")[2]
@@ -272,7 +275,7 @@ def types_in(file, name, code):
     return {(file, word) for word in words & here} | {type_in(brought[w][0], w, brought[w][1]) for w in words & set(brought) - here}
 
 
-def has(file, name):
+def has(file: str, name: str) -> bool:
     """Whether a file of the repository has this definition or item."""
     try:
         return name in defined_in(file) if file.endswith(".antt") else bool(rust_item(file, name))
@@ -280,7 +283,7 @@ def has(file, name):
         return False
 
 
-def home_of(file, name):
+def home_of(file: str, name: str) -> str:
     """The file itself where it has the name; else the one file of its crate, or of all crates, that has it."""
     if has(file, name):
         return file
@@ -298,14 +301,16 @@ def home_of(file, name):
 # ---- what the contracts rest on
 
 
-def contracts():
+def contracts() -> list[Place]:
     """The functions of ROOTS, each with its file."""
     return [(home_of(f"crates/{crate}/src/lib.rt", name), name) for crate, name in ROOTS]
 
 
-def closure(roots):
+def closure(roots: Iterable[Place]) -> tuple[dict[Place, set[Place]], Names, Names]:
     """Each thing that the roots name, directly or not, the kit's words among them, and the words that are other names."""
-    kit, others, seen = set(), set(), {}
+    kit: Names = set()
+    others: Names = set()
+    seen: dict[Place, set[Place]] = {}
     waiting = list(roots)
     while waiting:
         file, name = waiting.pop()
@@ -326,7 +331,7 @@ COUNT = re.compile(r"<!-- count (?P<file>\S+) (?P<name>\S+) -->[^<]*<!-- end -->
 KIT = re.compile(r"^<!-- kit -->\n(?P<table>(?:\|.*\n)*)", re.M)
 
 
-def quoted(file, names):
+def quoted(file: str, names: list[str]) -> str:
     if file.endswith(".antt"):
         definitions = defined_in(file)
         language, texts = "text", [definitions[name] for name in names]
@@ -336,25 +341,26 @@ def quoted(file, names):
     return f"<!-- quote {file} {' '.join(names)} -->\n`{file}`\n\n```{language}\n{text}\n```\n"
 
 
-def code_lines(file, name):
+def code_lines(file: str, name: str) -> list[str]:
     """The lines of a definition or of an item, without comments, attributes and blank lines."""
     text, mark = (defined_in(file)[name], "--") if file.endswith(".antt") else (rust_item(file, name), "//")
     return [line for line in without_comments(text, mark).split("\n") if line.strip() and not line.startswith("#[")]
 
 
-def counted(mark):
+def counted(mark: re.Match[str]) -> str:
     """A count as it is to be written."""
     seen, _, _ = closure([(home_of(mark["file"], mark["name"]), mark["name"])])
     lines = sum(len(code_lines(file, name)) for file, name in seen)
     return f"<!-- count {mark['file']} {mark['name']} -->{len(seen)} definitions, {lines} lines<!-- end -->"
 
 
-def rewritten(page):
+def rewritten(page: str) -> tuple[str, list[Place], list[str]]:
     """The page with each quote as its source has it, what is quoted, and what is wrong. A quote follows what has moved to
     another file, and becomes several if only a part has."""
-    there, wrong = [], []
+    there: list[Place] = []
+    wrong: list[str] = []
 
-    def block(mark):
+    def block(mark: re.Match[str]) -> str:
         try:
             homes = [(home_of(mark["file"], name), name) for name in mark["names"].split()]
         except Missing as error:
@@ -370,7 +376,7 @@ def rewritten(page):
         return page, there, [*wrong, str(error)]
 
 
-def judged(there, needed):
+def judged(there: list[Place], needed: Iterable[Place]) -> list[str]:
     """What is wrong with a choice of quotes."""
     wrong = [f"not quoted: {file} {name}" for file, name in sorted(set(needed) - set(there))]
     seen_types = {(file, name.removesuffix(".Model")) for file, name in needed}
@@ -378,9 +384,9 @@ def judged(there, needed):
     return wrong + [f"quoted twice: {file} {name}" for file, name in sorted({q for q in there if there.count(q) > 1})]
 
 
-def without_meaning(pages, kit):
+def without_meaning(pages: list[str], kit: Names) -> list[str]:
     """The words of the kit that no table explains."""
-    explained = set()
+    explained: Names = set()
     for page in pages:
         for mark in KIT.finditer(page):
             for row in mark["table"].splitlines():
@@ -389,21 +395,27 @@ def without_meaning(pages, kit):
     return [f"a word of the kit without a meaning: {word}" for word in sorted(words - explained)]
 
 
-def unexplained(pages, others):
+def unexplained(pages: list[str], others: Names) -> list[str]:
     """The other names that are in backticks on no page."""
     prose = "\n".join(re.sub(r"^```.*?^```$", "", page, flags=re.M | re.S) for page in pages)
     return [f"another name, which no page explains: {name}" for name in sorted(others) if f"`{name}`" not in prose]
 
 
-def main(arguments):
+def main() -> None:
+    parser = argparse.ArgumentParser(description=__doc__, formatter_class=argparse.RawDescriptionHelpFormatter)
+    parser.add_argument("--check", action="store_true", help="changes nothing, and fails also if a quote or a count would be written anew")
+    parser.add_argument("--list", action="store_true", help="prints what the contracts of ROOTS rest on, and where it is")
+    given = parser.parse_args()
     try:
         needed, kit, others = closure(contracts())
     except Missing as error:
         sys.exit(f"quotes.py: {error}")
-    if arguments == ["--list"]:
+    if given.list:
         print("\n".join([f"{file} {name}" for file, name in sorted(needed)] + sorted(kit)))
         return
-    there, wrong, texts = [], [], []
+    there: list[Place] = []
+    wrong: list[str] = []
+    texts: list[str] = []
     for page in [*PAGES, HEADLINE]:
         old = page.read_text(encoding="utf-8")
         new, quotes, faults = rewritten(old)
@@ -413,7 +425,7 @@ def main(arguments):
         else:
             there += quotes
             texts.append(new)
-        if not arguments:
+        if not given.check:
             page.write_text(new, encoding="utf-8")
         elif new != old:
             wrong.append(f"{page.name}: a quote is not its source's text, or a count is wrong: run docs/trust/quotes.py")
@@ -423,4 +435,4 @@ def main(arguments):
 
 
 if __name__ == "__main__":
-    main(sys.argv[1:])
+    main()

@@ -1,8 +1,9 @@
 #!/usr/bin/python3
-"""Makes README's picture of the example network, docs/use/network.svg, from a run; --check compares it with one instead.
+"""Makes README's picture of the example network, docs/use/network.svg, from a run; with --check it is compared instead.
 
 What is compared is what the picture shows: its words, and the points and lines to a point's width.
 """
+import argparse
 import re
 import sys
 import xml.etree.ElementTree
@@ -22,15 +23,16 @@ NETWORK = TOP / "examples" / "network"
 WIDTH = 8.6  # inches
 
 
-def drawn():
+def drawn() -> str:
     program = Program("network_picture.py")
     run = run_of(program, sized(program, str(NETWORK / "table.toml")), str(NETWORK / "in"))
     return re.sub(r"[ \t]+$", "", saved(pictures.overview(run, WIDTH), False), flags=re.M)
 
 
-def shown(svg):
+def shown(svg: str) -> tuple[list[str], list[float]]:
     """Answers its words, and the numbers of its places and paths."""
-    words, numbers = [], []
+    words: list[str] = []
+    numbers: list[float] = []
     for element in xml.etree.ElementTree.fromstring(svg).iter():
         words += [element.text.strip()] if element.text and element.tag.endswith("}text") else []
         numbers += [float(number) for key in ("x", "y", "d")
@@ -38,19 +40,22 @@ def shown(svg):
     return words, numbers
 
 
-def same(one, other):
+def same(one: str, other: str) -> bool:
     (words, numbers), (other_words, other_numbers) = shown(one), shown(other)
     near = all(abs(left - right) <= 1 for left, right in zip(numbers, other_numbers))
     return words == other_words and len(numbers) == len(other_numbers) and near
 
 
-def main(arguments):
+def main() -> None:
+    parser = argparse.ArgumentParser(description=__doc__, formatter_class=argparse.RawDescriptionHelpFormatter)
+    parser.add_argument("--check", action="store_true", help="compares it, and changes nothing")
+    check = parser.parse_args().check
     svg = drawn()
-    if arguments != ["--check"]:
+    if not check:
         PICTURE.write_text(svg, encoding="utf-8")
     elif not same(svg, PICTURE.read_text(encoding="utf-8")):
         sys.exit(f"{PICTURE} shows another run: make it again by docs/use/network_picture.py")
 
 
 if __name__ == "__main__":
-    main(sys.argv[1:])
+    main()

@@ -9,14 +9,15 @@ import struct
 import sys
 
 HERE = os.path.dirname(os.path.abspath(__file__))
-sys.path.insert(0, os.path.join(HERE, "../network"))
-from traffic import BEGIN, Frame, frame  # noqa: E402
+sys.path.insert(0, os.path.dirname(HERE))
+from network.traffic import BEGIN, Frame, frame  # noqa: E402
 
+Link = tuple[int, int, int, int, int, int]  # link, first ns, period ns, delay up to ns, least size, greatest size
 LENGTH = 100_000_000
 BABBLE = range(30_000_000, 70_000_000, 560_000)
 
-# switch and port: ns of a byte, and (link, first ns, period ns, delay up to ns, least size, greatest size)
-PORTS = {
+# switch and port: ns of a byte, and its links
+PORTS: dict[tuple[str, int], tuple[int, list[Link]]] = {
     ("cabin", 1): (800, [(401, 2_000_000, 8_000_000, 300_000, 400, 600)]),
     ("cabin", 2): (80, [(400, 4_000_000, 32_000_000, 300_000, 200, 200), (403, 15_000_000, 64_000_000, 300_000, 128, 128)]),
     ("bay", 2): (80, [(100, 310_000, 2_000_000, 10_000, 200, 200), (101, 700_000, 4_000_000, 30_000, 120, 300)]),
@@ -26,7 +27,7 @@ PORTS = {
 }
 
 
-def instants_of(link, first, period):
+def instants_of(link: int, first: int, period: int) -> list[int]:
     """When a link's frames are sent; the camera's account cannot pay for most of what it babbles."""
     regular = list(range(first, LENGTH, period))
     if link != 401:
@@ -34,9 +35,9 @@ def instants_of(link, first, period):
     return sorted([at for at in regular if not BABBLE.start <= at < BABBLE.stop] + list(BABBLE))
 
 
-def wanted_frames(port, links):
+def wanted_frames(port: int, links: list[Link]) -> list[Frame]:
     chance = random.Random(port)
-    frames = []
+    frames: list[Frame] = []
     for link, first, period, delay, least, greatest in links:
         for number, at in enumerate(instants_of(link, first, period)):
             size = least + int(chance.random() * (greatest - least + 1))
@@ -44,7 +45,7 @@ def wanted_frames(port, links):
     return sorted(frames, key=lambda one: one.wanted)
 
 
-def capture(port, tick, links):
+def capture(port: int, tick: int, links: list[Link]) -> bytes:
     """Frames one after the other on one line."""
     text = struct.pack("<IHHiIII", 0xA1B23C4D, 2, 4, 0, 0, 262_144, 1)
     free = 0

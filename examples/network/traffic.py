@@ -42,11 +42,11 @@ class Frame:
     left_out: int = 0  # bytes at its end that the capture lacks
 
     @property
-    def size(self):
+    def size(self) -> int:
         return len(self.data) + 4
 
 
-def frame(link, port, size, number):
+def frame(link: int, port: int, size: int, number: int) -> bytes:
     """An AFDX frame of at least 64 bytes: addresses, IPv4 to the link's group, UDP, and the sequence number."""
     datagram = struct.pack(">4H", 1000 + link, 1000 + link, size - 39, 0)
     datagram += bytes((number + at) & 255 for at in range(size - 47))
@@ -60,9 +60,9 @@ def frame(link, port, size, number):
     return addresses + b"\x08\x00" + head + datagram + bytes([sequence])
 
 
-def wanted_frames(port, chance):
+def wanted_frames(port: int, chance: random.Random) -> list[Frame]:
     """What the end system at this port wants to send."""
-    frames = []
+    frames: list[Frame] = []
     for link, first, period, delay, least, greatest in LINKS[port]:
         instants = [first + int(chance.random() * delay) + at for at in range(0, LENGTH - first, period)]
         if link == 401:
@@ -73,7 +73,7 @@ def wanted_frames(port, chance):
     return frames
 
 
-def strangers(port):
+def strangers(port: int) -> list[Frame]:
     """Frames that the switch has to filter."""
     if port == 1:  # address resolution: another constant field
         request = bytes.fromhex("ffffffffffff 020000000120 0806 0001 0800 06 04 0001").ljust(60, b"\0")
@@ -89,7 +89,7 @@ def strangers(port):
     return []
 
 
-def capture(port):
+def capture(port: int) -> bytes:
     chance = random.Random(port)
     order, magic = FORMATS[port]
     text = struct.pack(order + "IHHiIII", magic, 2, 4, 0, 0, 262_144, 1)

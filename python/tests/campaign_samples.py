@@ -5,6 +5,7 @@ from pathlib import Path
 from typing import Any
 
 from afdx.campaign.worker.task import Recording, Table, Task, content_of, identity_of, table_identity
+from captures import HEADER
 
 PATIENCE = 120  # seconds, on a busy machine too
 STAND_IN = """#!/bin/sh
@@ -49,7 +50,7 @@ def recording(room: Path, name: str, act: str) -> Recording:
     folder.mkdir(parents=True)
     files = ("port-1.pcap", "port-2.pcap")
     for file in files:
-        (folder / file).write_bytes(bytes.fromhex("d4c3b2a1") + bytes(20))
+        (folder / file).write_bytes(HEADER)
     (folder / "act").write_text(act)
     return Recording(name, str(folder), files, 48, False, identity_of(name, str(folder), files, False))
 

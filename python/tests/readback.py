@@ -2,7 +2,7 @@
 from pathlib import Path
 
 from afdx.recordings.reading import Recording
-from tests.plain import Record
+from captures import Record
 
 
 def read(path: Path, piece: int = 4096) -> tuple[list[Record], Recording]:

@@ -1,26 +1,24 @@
 """The offset and the drift between two recorders."""
 import random
-import struct
-import zlib
 from collections.abc import Callable
 from pathlib import Path
 
 import numpy as np
 import pytest
 
+import captures
 from afdx.failure import Failure
 from afdx.importing.alignment import MOST_KEPT, Sampler, aligned, sightings
 from afdx.importing.command import main
-from tests import plain
-from tests.plain import Record
+from captures import Record
 
-SECOND = plain.SECOND
+SECOND = captures.SECOND
 AT = 1_768_471_200 * SECOND
 
 
 def frame(link: int, count: int, size: int = 60) -> bytes:
     """A frame whose only change is its sequence number, 1 to 255, as an AFDX sender has it."""
-    return (bytes([3, 0, 0, 0, 0, link, 2, 0, 0, 0, 1, 32, 8, 0]) + bytes(size - 15)) + bytes([count % 255 + 1])
+    return captures.frame(link, size + 3, end_system=1, network=0x20) + bytes([count % 255 + 1])
 
 
 def traffic(seconds: int, chance: random.Random) -> list[Record]:
@@ -48,10 +46,10 @@ def test_offset_and_drift_are_found(tmp_path: Path, seconds: int, offset: int, p
     far better than one of them: to a tenth of the noise."""
     chance = random.Random(seconds + ppb)
     sent = traffic(seconds, chance)
-    (tmp_path / "a").write_bytes(plain.pcap([one for number, one in enumerate(sent) if number % 5]))
+    (tmp_path / "a").write_bytes(captures.pcap([one for number, one in enumerate(sent) if number % 5]))
     both = [one for number, one in enumerate(sent) if number % 3]
     seen = other(both, offset, ppb, lambda: chance.randrange(noise + 1))
-    (tmp_path / "b").write_bytes(plain.pcap(sorted(seen, key=lambda one: one.stamp)))
+    (tmp_path / "b").write_bytes(captures.pcap(sorted(seen, key=lambda one: one.stamp)))
     found = aligned(sightings(tmp_path / "a"), sightings(tmp_path / "b"))
     for one in seen[0], seen[-1]:
         true = AT + (one.stamp - offset - AT) * SECOND // (SECOND + ppb)
@@ -63,8 +61,8 @@ def test_offset_and_drift_are_found(tmp_path: Path, seconds: int, offset: int, p
 
 def test_one_mark(tmp_path: Path, capsys: pytest.CaptureFixture[str]) -> None:
     """A single frame in both tells the offset alone."""
-    (tmp_path / "a").write_bytes(plain.pcap([Record(AT, frame(1, 1)), Record(AT + 5, frame(2, 1))]))
-    (tmp_path / "b").write_bytes(plain.pcapng([Record(AT + 1_500_000, frame(1, 1))], ["x"]))
+    (tmp_path / "a").write_bytes(captures.pcap([Record(AT, frame(1, 1)), Record(AT + 5, frame(2, 1))]))
+    (tmp_path / "b").write_bytes(captures.pcapng([Record(AT + 1_500_000, frame(1, 1))], ["x"]))
     assert main(["--align", str(tmp_path / "a"), str(tmp_path / "b")]) == 0
     assert capsys.readouterr().out.splitlines() == [
         f"# {tmp_path}/b by the clock of {tmp_path}/a: 1 frames in both, over 0.000 s",
@@ -73,9 +71,9 @@ def test_one_mark(tmp_path: Path, capsys: pytest.CaptureFixture[str]) -> None:
 
 def test_check_sequences_are_left_out(tmp_path: Path) -> None:
     sent = traffic(1, random.Random(1))
-    checked = [Record(one.stamp, one.frame + struct.pack("<I", zlib.crc32(one.frame))) for one in sent]
-    (tmp_path / "a").write_bytes(plain.pcap(checked))
-    (tmp_path / "b").write_bytes(plain.pcap(other(sent, 1000, 0, lambda: 0)))
+    checked = [Record(one.stamp, captures.checked(one.frame)) for one in sent]
+    (tmp_path / "a").write_bytes(captures.pcap(checked))
+    (tmp_path / "b").write_bytes(captures.pcap(other(sent, 1000, 0, lambda: 0)))
     found = aligned(sightings(tmp_path / "a"), sightings(tmp_path / "b"))
     assert (found.offset_ns, found.drift_ppb, found.pairs) == (-1000, 0, len(sent))
 
@@ -88,8 +86,8 @@ SAME = [Record(AT + number * 10**7, frame(1, 1)) for number in range(100)]
     ([Record(AT, frame(1, 1))], [Record(AT, frame(1, 2))], "no frame is in both recordings"),
     (SAME, SAME, "the same frames come again and again: more than one offset fits")])
 def test_what_cannot_be_aligned(tmp_path: Path, a: list[Record], b: list[Record], said: str) -> None:
-    (tmp_path / "a").write_bytes(plain.pcap(a))
-    (tmp_path / "b").write_bytes(plain.pcap(b))
+    (tmp_path / "a").write_bytes(captures.pcap(a))
+    (tmp_path / "b").write_bytes(captures.pcap(b))
     with pytest.raises(Failure) as caught:
         main(["--align", str(tmp_path / "a"), str(tmp_path / "b")])
     assert caught.value.lines == (f"afdx-import: {said.format(tmp_path)}, {tmp_path}/a and {tmp_path}/b",)

@@ -12,6 +12,7 @@ from afdx.campaign.worker.program import Program
 from afdx.campaign.worker.stamps import first_stamp
 from afdx.campaign.worker.survey import gaps_of, spells_of
 from afdx.campaign.worker.work import answer_at, work, work_hard
+from captures import header, words
 from tests.campaign_samples import PATIENCE, QUIET, await_number, ends, task
 
 POLICED = QUIET.replace("policed 0", "policed 2") + """
@@ -114,16 +115,12 @@ def test_spells_end_after_a_gap_of_the_link(tmp_path: Path) -> None:
 
 
 def test_first_stamps_in_either_order_and_both_parts(tmp_path: Path) -> None:
-    heads = {"little-nano": "4d3cb2a1", "big-nano": "a1b23c4d", "little-micro": "d4c3b2a1", "big-micro": "a1b2c3d4"}
-    stamps = {"little-nano": (5, 7), "big-nano": (5, 6), "little-micro": (6, 1), "big-micro": (7, 1)}
-    paths = []
-    for name, magic in heads.items():
-        order = "little" if name.startswith("little") else "big"
-        words = b"".join(word.to_bytes(4, order) for word in stamps[name])  # type: ignore[arg-type]
-        paths.append(tmp_path / name)
-        paths[-1].write_bytes(bytes.fromhex(magic) + bytes(20) + words + bytes(8))
-    (tmp_path / "empty").write_bytes(bytes.fromhex("d4c3b2a1") + bytes(20))
-    (tmp_path / "zero").write_bytes(bytes.fromhex("d4c3b2a1") + bytes(36))
+    paths: list[Path] = []
+    for order, unit, seconds, fraction in (("<", 1, 5, 7), (">", 1, 5, 6), ("<", 1000, 6, 1), (">", 1000, 7, 1)):
+        paths.append(tmp_path / f"{len(paths)}")
+        paths[-1].write_bytes(header(order, unit) + words(seconds, fraction, 0, 0, order))
+    (tmp_path / "empty").write_bytes(header(unit=1000))
+    (tmp_path / "zero").write_bytes(header(unit=1000) + words(0, 0, 0, 0))
     assert [first_stamp([str(path)]) for path in paths] == [5_000_000_007, 5_000_000_006, 6_000_001_000, 7_000_001_000]
     assert first_stamp([str(path) for path in (*paths, tmp_path / "empty", tmp_path / "none")]) == 5_000_000_006
     assert first_stamp([str(path) for path in (*paths, tmp_path / "zero")]) == 0

@@ -1,8 +1,6 @@
 """What the command afdx-import makes of recordings: numbers by hand, and a plain model of random ones."""
 import gzip
 import shutil
-import struct
-import zlib
 from dataclasses import dataclass, replace
 from pathlib import Path
 from unittest.mock import patch
@@ -11,25 +9,20 @@ import pytest
 from hypothesis import HealthCheck, given, settings
 from hypothesis import strategies as some
 
+import captures
 from afdx.failure import Failure
 from afdx.importing import ordering
 from afdx.importing.command import main
 from afdx.importing.rules import rules_of
 from afdx.importing.running import Import
-from tests import plain
-from tests.plain import Faulty, Record
+from captures import Faulty, Record, checked
 
-SECOND = plain.SECOND
+SECOND = captures.SECOND
 AT = 1_768_471_200 * SECOND
 
 
 def frame(link: int = 201, end_system: int = 1, network: int = 0x20, size: int = 60, fill: int = 0x55) -> bytes:
-    head = struct.pack(">4sH3sHBH", b"\3\0\0\0", link, b"\2\0\0", end_system, network, 0x800)
-    return head + bytes([fill]) * (size - len(head))
-
-
-def checked(data: bytes) -> bytes:
-    return data + struct.pack("<I", zlib.crc32(data))
+    return captures.frame(link, size + 4, end_system=end_system, network=network, fill=bytes([fill]))
 
 
 @dataclass
@@ -70,7 +63,7 @@ def test_one_recording(folder: Folder) -> None:
     """In microseconds, big-endian, one frame cut, two frames exchanged: a line, and the capture to the byte."""
     first, second, third = frame(fill=1), frame(fill=2, size=64), frame(fill=3)
     records = [Record(AT + 3000, second, 99), Record(AT + 1000, first), Record(AT + 9000, third)]
-    recording = plain.pcap(records, ">", 10**6)
+    recording = captures.pcap(records, ">", 1000)
     assert folder.run(ONE, a_pcap=recording) == (0, [
         "port-1 frames 3 reordered 1 cut 1 fcs none "
         "first 2026-01-15T10:00:00.000001000Z last 2026-01-15T10:00:00.000009000Z"], [])
@@ -96,22 +89,23 @@ A = [Record(AT, frame(1, 9)), Record(AT + 1000, frame(2, 10, 0x40), 0, 1), Recor
     ('end_systems = { 9 = "port-1", 10 = "port-1" }\nnetwork = "A"', {"port-1": [0, 2]}),
 ])
 def test_which_frames(folder: Folder, keys: str, taken: dict[str, list[int]]) -> None:
-    recording = plain.pcapng(A, ["left", "right"])
+    recording = captures.pcapng(A, ["left", "right"])
     status, lines, _ = folder.run(f'silent = ["port-7"]\n[[source]]\nfile = "a*.pcapng"\n{keys}\n', a_pcapng=recording)
     taken["port-7"] = []
     assert status == 0
-    assert folder.captures() == {f"{port}.pcap": plain.capture([A[index] for index in indices])
+    assert folder.captures() == {f"{port}.pcap": captures.pcap([A[index] for index in indices])
                                  for port, indices in taken.items()}
     assert {line.split()[0]: int(line.split()[2]) for line in lines} == {port: len(got) for port, got in taken.items()}
 
 
 def test_frames_that_no_source_takes_are_said(folder: Folder) -> None:
-    status, _, said = folder.run('[[source]]\nfile = "a.pcap"\nend_systems = { 9 = "port-1" }\n', a_pcap=plain.pcap(A))
+    rules = '[[source]]\nfile = "a.pcap"\nend_systems = { 9 = "port-1" }\n'
+    status, _, said = folder.run(rules, a_pcap=captures.pcap(A))
     assert (status, said) == (0, ["afdx-import: 4 of 5 frames are taken by no source, end systems none 10 77, a.pcap"])
 
 
 def test_an_interface_that_is_not_there_is_said(folder: Folder) -> None:
-    status, _, said = folder.run(ONE + 'interface = "up"\n', a_pcap=plain.pcapng(A, ["left", "right"]))
+    status, _, said = folder.run(ONE + 'interface = "up"\n', a_pcap=captures.pcapng(A, ["left", "right"]))
     assert (status, said) == (0, ["afdx-import: 5 of 5 frames are taken by no source, end systems none 9 10 77, a.pcap",
                                   "afdx-import: warning: no interface 'up'; there are: 0 'left', 1 'right', a.pcap"])
 
@@ -125,9 +119,9 @@ TAKEN_OFF = "afdx-import: 1 of 1 frames looked at end with their check sequence,
 @pytest.mark.parametrize("fcs, got, word, said", [
     ("true", WITHOUT, "stripped", []), ("false", WITH, "none", []), ('"auto"', WITHOUT, "stripped", [TAKEN_OFF])])
 def test_check_sequences(folder: Folder, fcs: str, got: list[Record], word: str, said: list[str]) -> None:
-    status, lines, notes = folder.run(f"{ONE}fcs = {fcs}\n", a_pcap=plain.pcap(WITH))
+    status, lines, notes = folder.run(f"{ONE}fcs = {fcs}\n", a_pcap=captures.pcap(WITH))
     assert (status, notes) == (0, said)
-    assert folder.captures() == {"port-1.pcap": plain.capture(got)}
+    assert folder.captures() == {"port-1.pcap": captures.pcap(got)}
     assert f" fcs {word} " in lines[0]
 
 
@@ -136,7 +130,7 @@ def test_check_sequences_of_some_frames(folder: Folder) -> None:
     left = [Record(AT + number, frame(fill=number)) for number in range(5)]
     right = [Record(AT + number, data, interface=1)
              for number, data in enumerate([bytes(64), checked(frame(fill=1)), checked(frame(fill=2))])]
-    status, lines, said = folder.run(ONE, a_pcap=plain.pcapng(left + right, ["left", "right"]))
+    status, lines, said = folder.run(ONE, a_pcap=captures.pcapng(left + right, ["left", "right"]))
     assert (status, said) == (0, ["afdx-import: warning: 2 of 3 frames looked at end with their check sequence, "
                                   "taken off all, a.pcap, interface 1"])
     assert " fcs stripped-of-3 " in lines[0]
@@ -151,55 +145,55 @@ def test_check_sequences_of_some_frames(folder: Folder) -> None:
     ('stamps = "start"\nmbit = 1000\noffset_ns = 7\ndrift_ppb = 1', [64 * 8 + 7, SECOND + 64 * 8 + 8]),
     ('stamps = "end"\nmbit = 1000', [0, SECOND])])
 def test_stamps(folder: Folder, keys: str, moved: list[int]) -> None:
-    assert folder.run(ONE + keys, a_pcap=plain.pcap([Record(AT, frame()), Record(AT + SECOND, frame())]))[0] == 0
-    assert [one.stamp - AT for one in plain.read(folder.captures()["port-1.pcap"])[0]] == moved
+    assert folder.run(ONE + keys, a_pcap=captures.pcap([Record(AT, frame()), Record(AT + SECOND, frame())]))[0] == 0
+    assert [one.stamp - AT for one in captures.read(folder.captures()["port-1.pcap"])[0]] == moved
 
 
 def test_drift_counts_from_the_first_recording_of_a_source(folder: Folder) -> None:
     """Rotated files: the second one's clock has drifted on; the names are not in order of time."""
     rules = '[[source]]\nfile = "a*.pcap"\nto = "port-1"\ndrift_ppb = 1000\n'
     early, late = Record(AT, frame(1)), Record(AT + 2 * SECOND, frame(2))
-    assert folder.run(rules, a9_pcap=plain.pcap([early]), a10_pcap=plain.pcap([late]))[0] == 0
-    assert folder.captures() == {"port-1.pcap": plain.capture([early, replace(late, stamp=late.stamp + 2000)])}
+    assert folder.run(rules, a9_pcap=captures.pcap([early]), a10_pcap=captures.pcap([late]))[0] == 0
+    assert folder.captures() == {"port-1.pcap": captures.pcap([early, replace(late, stamp=late.stamp + 2000)])}
 
 
 def test_warnings(folder: Folder) -> None:
     mixed = [Record(AT, frame(network=0x20)), Record(AT, frame(network=0x40)), Record(AT, frame())]
     late = [Record(AT + SECOND + 1, frame())]
-    status, lines, said = folder.run(ONE + TWO, a_pcap=plain.pcap(mixed)[:-1], b_pcap=plain.pcap(late))
+    status, lines, said = folder.run(ONE + TWO, a_pcap=captures.pcap(mixed)[:-1], b_pcap=captures.pcap(late))
     assert (status, said) == (0, [
         "afdx-import: warning: breaks off; what was whole before is used, a.pcap, record 3, offset 176",
         "afdx-import: warning: frames of both networks: 1 of network A and 1 of network B, port-1",
         "afdx-import: warning: the first frames lie 1.000 s apart, port-1 and port-2"])
     assert [line.split()[:3] for line in lines] == [["port-1", "frames", "2"], ["port-2", "frames", "1"]]
-    assert folder.run(ONE + TWO, b_pcap=plain.pcap([Record(AT + SECOND, frame())]))[2] == said[:2]
+    assert folder.run(ONE + TWO, b_pcap=captures.pcap([Record(AT + SECOND, frame())]))[2] == said[:2]
 
 
 @pytest.mark.parametrize("text", [
-    b"", b"\xd4\xc3", plain.capture([])[:23], gzip.compress(plain.capture([]))[:5], plain.capture([])])
+    b"", b"\xd4\xc3", captures.pcap([])[:23], gzip.compress(captures.pcap([]))[:5], captures.pcap([])])
 def test_nothing_was_recorded(folder: Folder, text: bytes) -> None:
     status, lines, said = folder.run(ONE, a_pcap=text)
     assert (status, lines) == (0, ["port-1 frames 0 reordered 0 cut 0 fcs none first - last -"])
-    assert folder.captures() == {"port-1.pcap": plain.capture([])}
-    assert said == ([] if text == plain.capture([]) else [
+    assert folder.captures() == {"port-1.pcap": captures.pcap([])}
+    assert said == ([] if text == captures.pcap([]) else [
         "afdx-import: warning: breaks off; what was whole before is used, a.pcap, header, offset 0"])
 
 
 def test_late_by_the_window_and_later(folder: Folder) -> None:
     late = [Record(AT + 30_000_000, frame(1)), Record(AT + 29_000_000, frame(2)), Record(AT + 10_000_000, frame(3))]
-    assert folder.run("window_ms = 20\n" + ONE, a_pcap=plain.pcap(late))[0] == 0
-    assert folder.captures() == {"port-1.pcap": plain.capture(late[::-1])}
+    assert folder.run("window_ms = 20\n" + ONE, a_pcap=captures.pcap(late))[0] == 0
+    assert folder.captures() == {"port-1.pcap": captures.pcap(late[::-1])}
     before = folder.captures()
-    assert folder.run("window_ms = 19\n" + ONE, a_pcap=plain.pcap(late)) == (3, [], [
+    assert folder.run("window_ms = 19\n" + ONE, a_pcap=captures.pcap(late)) == (3, [], [
         "afdx-import: a frame of port-1 is more than 19 ms late: 2026-01-15T10:00:00.010000000Z comes after "
         "2026-01-15T10:00:00.030000000Z (a.pcap, record 1, offset 24), a.pcap, record 3, offset 176"])
     assert folder.captures() == before
 
 
 def test_each_faulty_recording_is_named_and_nothing_is_put(folder: Folder) -> None:
-    broken = plain.pcap([Record(AT, frame())]) + struct.pack("<4I", 1, 10**9, 0, 0)
+    broken = captures.pcap([Record(AT, frame())]) + captures.words(1, 10**9, 0, 0)
     rules = '[[source]]\nfile = "*.pcap"\nto = "SW1/port-1"\n'
-    assert folder.run(rules, a_pcap=broken, b_pcap=b"no recording", c_pcap=plain.pcap(A)) == (
+    assert folder.run(rules, a_pcap=broken, b_pcap=b"no recording", c_pcap=captures.pcap(A)) == (
         3, [], ["afdx-import: a fraction of 1000000000 ns, a.pcap, record 2, offset 100",
                 "afdx-import: neither pcap nor pcapng, b.pcap, header, offset 0"])
     assert sorted(path.name for path in folder.path.iterdir()) == ["raw", "rules.toml"]
@@ -229,13 +223,13 @@ def test_each_faulty_recording_is_named_and_nothing_is_put(folder: Folder) -> No
 ])
 def test_rules_that_cannot_be_followed(folder: Folder, rules: str, status: int, said: list[str]) -> None:
     lines = [f"afdx-import: {line.format(folder.path)}" for line in said]
-    assert folder.run(rules, a_pcap=plain.pcap(A)) == (status, [], lines)
+    assert folder.run(rules, a_pcap=captures.pcap(A)) == (status, [], lines)
     assert folder.captures() == {}
 
 
 def test_a_recording_is_not_replaced(folder: Folder) -> None:
     (folder.path / "in").symlink_to(folder.path / "raw")
-    text = plain.pcap(A)
+    text = captures.pcap(A)
     assert folder.run('[[source]]\nfile = "*.pcap"\nto = "port-1"\n', **{"port-1_pcap": text}) == (
         5, [], [f"afdx-import: a recording would be replaced, {folder.path}/in/port-1.pcap"])
     assert folder.captures() == {"port-1.pcap": text}
@@ -243,11 +237,11 @@ def test_a_recording_is_not_replaced(folder: Folder) -> None:
 
 def test_link_types(folder: Folder) -> None:
     """Of another link type are refused only the interfaces that are asked for; bits of a check sequence are none."""
-    assert folder.run(ONE, a_pcap=plain.pcap(A, link_type=0x2400_0001))[0] == 0
-    assert folder.run(ONE, a_pcap=plain.pcap(A, link_type=113)) == (
+    assert folder.run(ONE, a_pcap=captures.pcap(A, link_type=0x2400_0001))[0] == 0
+    assert folder.run(ONE, a_pcap=captures.pcap(A, link_type=113)) == (
         3, [], ["afdx-import: link type 113, not Ethernet, a.pcap, record 1, offset 24"])
-    mixed = plain.section() + plain.interface(name="usb", link_type=220) + plain.interface(name="port 1")
-    mixed += b"".join(plain.packet(Record(AT, frame(), interface=number)) for number in (0, 1))
+    mixed = captures.section() + captures.interface(name="usb", link_type=220) + captures.interface(name="port 1")
+    mixed += b"".join(captures.packet(Record(AT, frame(), interface=number)) for number in (0, 1))
     assert folder.run(ONE, a_pcap=mixed)[0] == 3
     assert folder.run(ONE + 'interface = "port 1"\n', a_pcap=mixed)[0] == 0
 
@@ -311,7 +305,7 @@ def test_random_recordings(tmp_path_factory: pytest.TempPathFactory, recorded: l
     raw = tmp_path_factory.getbasetemp()
     wanted: dict[str, list[Record]] = {}
     for number, records in enumerate(recorded):
-        (raw / f"{number}.pcapng").write_bytes(plain.pcapng(records, ["left", "right"]))
+        (raw / f"{number}.pcapng").write_bytes(captures.pcapng(records, ["left", "right"]))
         for one, source in ((one, source) for source in asked if number in source.of for one in records):
             if port := source.port(one):
                 moved = Record(one.stamp + source.offset, one.frame, one.length)
@@ -324,15 +318,15 @@ def test_random_recordings(tmp_path_factory: pytest.TempPathFactory, recorded: l
         done.run(lambda _: None)
     assert not done.faults or most < 2**24 and all("late" in str(fault) for fault in done.faults)
     for port, text in got.items():
-        records, _ = plain.read(plain.capture([]) + text)
+        records, _ = captures.read(captures.pcap([]) + text)
         assert [one.stamp for one in records] == sorted(one.stamp for one in records)
         assert done.faults or sorted(records, key=repr) == sorted(wanted.get(port, []), key=repr)
 
 
 SAMPLE = [Record(AT + number * 10**6, frame(number, 9 + number % 2, size=60 + number), interface=number % 2)
           for number in range(6)]
-PCAPNG = plain.pcapng(SAMPLE, ["left", "right"])
-SAMPLES = [plain.pcap(SAMPLE), plain.pcap(SAMPLE, ">", 10**6), PCAPNG, plain.pcapng(SAMPLE, ["", "x"], ">")]
+PCAPNG = captures.pcapng(SAMPLE, ["left", "right"])
+SAMPLES = [captures.pcap(SAMPLE), captures.pcap(SAMPLE, ">", 1000), PCAPNG, captures.pcapng(SAMPLE, ["", "x"], ">")]
 CHANGES = some.lists(some.tuples(some.integers(0, 10**6), some.binary(min_size=1, max_size=4)), max_size=3)
 MUTATED = '[[source]]\nfile = "m.pcap"\nend_systems = { 9 = "port-1", 10 = "port-2" }\nfcs = false\n'
 
@@ -340,7 +334,7 @@ MUTATED = '[[source]]\nfile = "m.pcap"\nend_systems = { 9 = "port-1", 10 = "port
 def imported_plainly(text: bytes) -> dict[str, bytes] | None:
     """Answers the captures of a plain model for the rules of mutated recordings; None if they have to be refused."""
     try:
-        records, _ = plain.read(text)
+        records, _ = captures.read(text)
     except Faulty:
         return None
     ports: dict[str, list[Record]] = {"port-1.pcap": [], "port-2.pcap": []}
@@ -352,7 +346,7 @@ def imported_plainly(text: bytes) -> dict[str, bytes] | None:
         stamps = [one.stamp for one in got]
         if any(max(stamps[:index]) - stamp > SECOND for index, stamp in enumerate(stamps) if index):
             return None
-    return {port: plain.capture(sorted(got, key=lambda one: one.stamp)) for port, got in ports.items()}
+    return {port: captures.pcap(sorted(got, key=lambda one: one.stamp)) for port, got in ports.items()}
 
 
 @settings(suppress_health_check=[HealthCheck.function_scoped_fixture])
@@ -385,7 +379,7 @@ def test_late_by_less_than_the_window_where_too_many_wait(folder: Folder) -> Non
     """Nothing that was written is passed by a frame before it: it is refused, with both records."""
     records = [Record(AT + number, frame(fill=number)) for number in range(1, 40)] + [Record(AT, frame())]
     with patch.object(ordering, "MOST_WAITING", 1000), patch.object(Import.__init__, "__defaults__", (1000,)):
-        assert folder.run(ONE, a_pcap=plain.pcap(records)) == (3, [], [
+        assert folder.run(ONE, a_pcap=captures.pcap(records)) == (3, [], [
             "afdx-import: a frame of port-1 is late, and later ones no longer wait: 2026-01-15T10:00:00.000000000Z "
             "comes after 2026-01-15T10:00:00.000000026Z (a.pcap, record 26, offset 1924), "
             "a.pcap, record 40, offset 2988"])
@@ -394,6 +388,6 @@ def test_late_by_less_than_the_window_where_too_many_wait(folder: Folder) -> Non
 
 def test_a_folder_in_the_place_of_a_capture(folder: Folder) -> None:
     (folder.path / "in" / "port-2.pcap").mkdir(parents=True)
-    status, lines, said = folder.run(ONE + TWO, a_pcap=plain.pcap(A), b_pcap=plain.pcap(A))
+    status, lines, said = folder.run(ONE + TWO, a_pcap=captures.pcap(A), b_pcap=captures.pcap(A))
     assert (status, lines, said) == (5, [], [f"afdx-import: cannot write {folder.path}/in/port-2.pcap: Is a directory"])
     assert folder.captures() == {}

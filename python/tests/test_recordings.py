@@ -9,12 +9,13 @@ import zstandard
 from hypothesis import given
 from hypothesis import strategies as some
 
+import captures
 from afdx.recordings.faults import RecordingFault
 from afdx.recordings.reading import Recording
-from tests import plain, readback
-from tests.plain import Faulty, Record, block, interface, option, packet, section
+from captures import Faulty, Record, block, interface, option, packet, section, words
+from tests import readback
 
-AT = 1_768_471_200 * plain.SECOND
+AT = 1_768_471_200 * captures.SECOND
 FRAME = bytes.fromhex("0300000000c9020000000120") + bytes(48)
 
 
@@ -43,7 +44,7 @@ def test_pcap_in_both_orders_and_units(tmp_path: Path, header: str, fraction: st
     text = bytes.fromhex(header) + struct.pack(f"{order}I", 7) + bytes.fromhex(fraction)
     text += struct.pack(f"{order}II", 2, 60) + b"\xaa\xbb"
     records, recording = read(tmp_path / "a", text)
-    assert records == [Record(7 * plain.SECOND + nanos, b"\xaa\xbb", 60)]
+    assert records == [Record(7 * captures.SECOND + nanos, b"\xaa\xbb", 60)]
     assert recording.broken is None
 
 
@@ -76,17 +77,17 @@ def test_pcapng_sections_of_both_orders(tmp_path: Path) -> None:
 
 
 HEAD = section() + interface()
-HUGE = struct.pack("<4I", 1, 0, 262_145, 0)
+HUGE = words(1, 0, 262_145, 0)
 PAST_ITS_END = block("<", 6, struct.pack("<5I", 0, 0, 0, 99, 99) + FRAME)
 LONG_OPTION = block("<", 1, bytes(8) + option("<", 2, b"x" * 9)[:8])
 
 
 @pytest.mark.parametrize("text, said", [
     (b"GIF89a", "neither pcap nor pcapng, a, header, offset 0"),
-    (plain.pcap([])[:4] + b"\x03" + plain.pcap([])[5:], "pcap version 3.4, a, header, offset 4"),
-    (plain.pcap([Record(AT, FRAME)]) + HUGE, "262145 bytes captured, a, record 2, offset 100"),
-    (plain.pcap([]) + struct.pack("<4I", 1, 10**9, 0, 0), "a fraction of 1000000000 ns, a, record 1, offset 24"),
-    (plain.pcap([]) + struct.pack("<4I", 2**32 - 1, 0, 0, 0),
+    (captures.pcap([])[:4] + b"\x03" + captures.pcap([])[5:], "pcap version 3.4, a, header, offset 4"),
+    (captures.pcap([Record(AT, FRAME)]) + HUGE, "262145 bytes captured, a, record 2, offset 100"),
+    (captures.pcap([]) + words(1, 10**9, 0, 0), "a fraction of 1000000000 ns, a, record 1, offset 24"),
+    (captures.pcap([]) + words(2**32 - 1, 0, 0, 0),
      "a stamp before 1970 or after 2106, a, record 1, offset 24"),
     (section()[:8] + bytes(20), "byte-order magic 00000000, a, block 1, offset 0"),
     (HEAD + struct.pack("<3I", 5, 8, 8), "a block's length of 8 bytes, a, block 3, offset 60"),
@@ -98,7 +99,7 @@ LONG_OPTION = block("<", 1, bytes(8) + option("<", 2, b"x" * 9)[:8])
     (HEAD + struct.pack("<3I", 6, 2**30, 0), "a block of 1073741824 bytes, a, block 3, offset 60"),
     (section() + LONG_OPTION, "option 2 of 9 bytes, past the block's end, a, block 2, offset 28"),
     (section() + interface(resolution=20), "an interface's clock of resolution 20, 0 s later, a, block 2, offset 28"),
-    (gzip.compress(plain.pcap([]))[:-1] + b"x",
+    (gzip.compress(captures.pcap([]))[:-1] + b"x",
      "damaged compressed bytes (Error -3 while decompressing data: incorrect length check), a, header, offset 0"),
 ])
 def test_faults_with_their_places(tmp_path: Path, text: bytes, said: str) -> None:
@@ -115,7 +116,7 @@ def compressed(text: bytes) -> list[bytes]:
 
 def test_compressed_recordings(tmp_path: Path) -> None:
     records = [Record(AT + number, bytes([number]) * 400) for number in range(200)]
-    for packed in compressed(plain.pcap(records)):
+    for packed in compressed(captures.pcap(records)):
         found, recording = read(tmp_path / "a", packed)
         assert found == normal(records)
         assert recording.broken is None
@@ -124,7 +125,7 @@ def test_compressed_recordings(tmp_path: Path) -> None:
 def test_compressed_recordings_that_break_off(tmp_path: Path) -> None:
     """What was whole before is a beginning of what was recorded, and it is said that the rest is missing."""
     records = [Record(AT + number, bytes([number, number * 7 % 256]) * 200) for number in range(50)]
-    for packed in compressed(plain.pcap(records)):
+    for packed in compressed(captures.pcap(records)):
         for end in range(0, len(packed) - 1, 7):
             found, recording = read(tmp_path / "a", packed[:end])
             assert found == normal(records)[:len(found)]
@@ -132,7 +133,7 @@ def test_compressed_recordings_that_break_off(tmp_path: Path) -> None:
 
 
 def test_bytes_after_compressed_ones(tmp_path: Path) -> None:
-    for packed in compressed(plain.pcap([Record(AT, FRAME)]))[:3]:
+    for packed in compressed(captures.pcap([Record(AT, FRAME)]))[:3]:
         said = fault(tmp_path / "a", packed + b"more of it")
         assert said.startswith("damaged compressed bytes (bytes after its end)")
 
@@ -147,7 +148,7 @@ def records_of(text: bytes, path: Path, piece: int) -> tuple[list[Record], bool]
 
 def plainly(text: bytes) -> tuple[list[Record], bool] | None:
     try:
-        records, broken = plain.read(text)
+        records, broken = captures.read(text)
         return normal(records), broken
     except Faulty:
         return None
@@ -160,7 +161,7 @@ def sample(order: str) -> tuple[bytes, bytes]:
     for number, one in enumerate(records):
         text += packet(one, order, one.stamp // (1, 1000)[one.interface], option(order, 1, b"c" * number))
         text += block(order, 5 + number * 100, bytes(4 * number))
-    return plain.pcap(records, order), text
+    return captures.pcap(records, order), text
 
 
 SAMPLES = [text for order in "<>" for text in sample(order)]
@@ -193,5 +194,5 @@ def test_any_pieces(tmp_path_factory: pytest.TempPathFactory, drawn: list[tuple[
                     order: str) -> None:
     records = [Record(AT + stamp, bytes(size), size + 4) for stamp, size in drawn]
     path = tmp_path_factory.getbasetemp() / "pieces"
-    assert read(path, plain.pcap(records, order), piece)[0] == normal(records)
-    assert read(path, plain.pcapng(records, ["x"], order), piece)[0] == normal(records)
+    assert read(path, captures.pcap(records, order), piece)[0] == normal(records)
+    assert read(path, captures.pcapng(records, ["x"], order), piece)[0] == normal(records)

@@ -3,24 +3,24 @@ from pathlib import Path
 
 import pytest
 
+import captures
 from afdx.failure import Failure
 from afdx.skew.command import main
-from tests import plain
-from tests.plain import Record
+from captures import Record
 
-AT = 1_768_471_200 * plain.SECOND
+AT = 1_768_471_200 * captures.SECOND
 MS = 10**6
 
 
 def frame(link: int, count: int, network: int) -> bytes:
-    return bytes([3, 0, 0, 0, 0, link, 2, 0, 0, 0, 1, network, 8, 0]) + bytes([count]) * 46
+    return captures.frame(link, 64, end_system=1, network=network, fill=bytes([count]))
 
 
 def put(folder: Path, name: str, network: int, sent: list[tuple[int, int, int]]) -> None:
     """A capture of (stamp in us, link, count)."""
     (folder / name).parent.mkdir(parents=True, exist_ok=True)
     records = [Record(AT + stamp * 1000, frame(link, count, network)) for stamp, link, count in sent]
-    (folder / name).write_bytes(plain.capture(records))
+    (folder / name).write_bytes(captures.pcap(records))
 
 
 def run(folder: Path, *more: str) -> int:

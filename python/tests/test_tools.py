@@ -5,10 +5,11 @@ from pathlib import Path
 
 import pytest
 
-from tests import plain, readback
-from tests.plain import Record
+import captures
+from captures import Record
+from tests import readback
 
-SECOND = plain.SECOND
+SECOND = captures.SECOND
 
 
 def recorded() -> list[Record]:
@@ -57,7 +58,7 @@ def as_shown(one: Record) -> tuple[str, ...]:
 def test_one_interface(tmp_path: Path, command: str, unit: int) -> None:
     """The unit is that of the stamps, in ns; 0 where the tool makes its own."""
     records = recorded()
-    (tmp_path / "raw.pcap").write_bytes(plain.pcap(records))
+    (tmp_path / "raw.pcap").write_bytes(captures.pcap(records))
     run(command, tmp_path)
     found = read(tmp_path / "made")
     assert [one.frame for one in found] == [one.frame for one in records]
@@ -68,7 +69,7 @@ def test_one_interface(tmp_path: Path, command: str, unit: int) -> None:
 
 def test_several_interfaces_and_cut_frames(tmp_path: Path) -> None:
     for number in range(3):
-        (tmp_path / f"{number}.pcap").write_bytes(plain.pcap(recorded()[number::3]))
+        (tmp_path / f"{number}.pcap").write_bytes(captures.pcap(recorded()[number::3]))
     run("mergecap -F pcapng -I none -w all.pcapng 0.pcap 1.pcap 2.pcap; editcap -s 50 all.pcapng made", tmp_path)
     found = read(tmp_path / "made")
     assert {one.interface for one in found} == {0, 1, 2}

@@ -1,11 +1,11 @@
 """Finding records in lanes answers what going from one to the next does."""
 import random
-import struct
 
 import pytest
 
 from afdx.recordings import walking
 from afdx.recordings.walking import RECORD, in_lanes, of_one_length, one_by_one, records_of
+from captures import words
 
 
 def piece(order: str, seed: int, misleading: bool) -> bytes:
@@ -14,7 +14,7 @@ def piece(order: str, seed: int, misleading: bool) -> bytes:
     while len(text) < 2**20:
         stamp += chance.randrange(10**6)
         size = chance.choice([0, 60, 61, 300, 1514])
-        header = struct.pack(f"{order}4I", stamp // 10**9, stamp % 10**9, size, size)
+        header = words(stamp // 10**9, stamp % 10**9, size, size, order)
         frame = header * 100 if misleading and chance.random() < 0.5 else chance.randbytes(size)
         text += header + frame[:size].ljust(size)
     return bytes(text[:-7])
@@ -39,7 +39,7 @@ def test_lanes(order: str, misleading: bool) -> None:
 def test_records_of_one_length(order: str, count: int, other: int | None, cut: int, found: int) -> None:
     """They are answered if they are many, and one of another length is not among them; the last one may be cut."""
     sizes = [61 if number == other else 60 for number in range(count)]
-    text = b"".join([struct.pack(f"{order}4I", 7, 0, size, size).ljust(RECORD + size, b"\x07") for size in sizes])
+    text = b"".join([words(7, 0, size, size, order).ljust(RECORD + size, b"\x07") for size in sizes])
     data = text[:len(text) - cut]
     places, after = of_one_length(data, order)
     assert (places.tolist(), after) == (one_by_one(data, order, 0) if found else ([], 0))
@@ -49,5 +49,5 @@ def test_records_of_one_length(order: str, count: int, other: int | None, cut: i
 
 @pytest.mark.parametrize("size", [0, 1, 15, 16, 17, 75, 76, 77])
 def test_few_bytes(size: int) -> None:
-    data = (struct.pack("<4I", 7, 0, 60, 60) + bytes(61))[:size]
+    data = (words(7, 0, 60, 60) + bytes(61))[:size]
     assert (records_of(data, "<")[0].tolist(), records_of(data, "<")[1]) == one_by_one(data, "<", 0)

@@ -1,10 +1,20 @@
-"""Reads and writes recordings plainly, one record after the other: what the package is compared with."""
+"""Reads and writes captures and frames plainly, for the scripts and for the package's tests.
+
+The models have a reader and a writer of their own, so that what they say rests on nothing from here. What a test writes by hand,
+byte by byte, it keeps.
+"""
 import struct
+import zlib
+from collections.abc import Iterable, Iterator
 from dataclasses import dataclass
 from fractions import Fraction
 
 SECOND = 10**9
 END = (2**32 - 1) * SECOND
+CHECK_SEQUENCE = 4
+GREATEST_RECORD = 262_144
+SECTION = bytes.fromhex("0a0d0d0a")  # the kind of block with which a pcapng recording begins
+MAGICS = {("<", 1): "4d3cb2a1", (">", 1): "a1b23c4d", ("<", 1000): "d4c3b2a1", (">", 1000): "a1b2c3d4"}  # by order and ns of a unit
 
 
 @dataclass(frozen=True)
@@ -23,18 +33,51 @@ class Faulty(Exception):
     """Is raised for a recording that has to be refused."""
 
 
-def capture(records: list[Record]) -> bytes:
-    """Answers what afdx reads: pcap 2.4, little-endian, nanoseconds."""
-    return pcap(records, "<", SECOND)
+# --- Frames ---
 
 
-def pcap(records: list[Record], order: str = "<", units: int = SECOND, link_type: int = 1) -> bytes:
-    magic = 0xA1B23C4D if units == SECOND else 0xA1B2C3D4
-    parts = [struct.pack(f"{order}IHHiIII", magic, 2, 4, 0, 0, 262144, link_type)]
-    for one in records:
-        seconds, nanos = divmod(one.stamp, SECOND)
-        parts += [struct.pack(f"{order}4I", seconds, nanos * units // SECOND, len(one.frame), one.length), one.frame]
-    return b"".join(parts)
+def frame(link: int, size: int, constant: str = "03000000", end_system: int = 0, network: int = 1, fill: bytes = b"\0") -> bytes:
+    """Makes a frame of `size` bytes with the check sequence, which is left out, as a capture leaves it out."""
+    head = struct.pack(">4sH3sHBH", bytes.fromhex(constant), link, b"\2\0\0", end_system, network, 0x0800)
+    length = max(size - CHECK_SEQUENCE, 0)
+    return head.ljust(length, fill)[:length]
+
+
+def checked(data: bytes) -> bytes:
+    """Puts the check sequence behind a frame."""
+    return data + zlib.crc32(data).to_bytes(CHECK_SEQUENCE, "little")
+
+
+# --- pcap ---
+
+
+def header(order: str = "<", unit: int = 1, link_type: int = 1, version: tuple[int, int] = (2, 4),
+           others: tuple[int, int, int] = (0, 0, GREATEST_RECORD)) -> bytes:
+    """Makes the header of a capture whose fractions are of `unit` ns; `others` are zone, accuracy and snapshot length."""
+    return bytes.fromhex(MAGICS[order, unit]) + struct.pack(f"{order}HH4I", *version, *others, link_type)
+
+
+HEADER = header()
+
+
+def words(seconds: int, fraction: int, captured: int, original: int, order: str = "<") -> bytes:
+    """Makes the header of a record, whether or not one may be so."""
+    return struct.pack(f"{order}4I", seconds, fraction, captured, original)
+
+
+def record(stamp: int, data: bytes, original: int | None = None, order: str = "<", unit: int = 1) -> bytes:
+    """Makes a record; the original length is the captured one if none is given."""
+    seconds, nanos = divmod(stamp, SECOND)
+    return words(seconds, nanos // unit, len(data), len(data) if original is None else original, order) + data
+
+
+def pcap(records: Iterable[Record], order: str = "<", unit: int = 1, link_type: int = 1) -> bytes:
+    """Makes a capture: what afdx writes, little-endian and in nanoseconds, if nothing else is asked for."""
+    texts = (record(one.stamp, one.frame, one.length, order, unit) for one in records)
+    return header(order, unit, link_type) + b"".join(texts)
+
+
+# --- pcapng ---
 
 
 def block(order: str, kind: int, body: bytes) -> bytes:
@@ -58,45 +101,59 @@ def interface(order: str = "<", name: str = "", resolution: int = 9, later: int 
     return block(order, 1, struct.pack(f"{order}HHI", link_type, 0, 0) + options + (bytes(4) if options else b""))
 
 
-def packet(record: Record, order: str = "<", units: int | None = None, options: bytes = b"") -> bytes:
+def packet(one: Record, order: str = "<", units: int | None = None, options: bytes = b"") -> bytes:
     """Answers a packet's block; the stamp is in the interface's units, else in nanoseconds."""
-    stamp = record.stamp if units is None else units
-    words = (record.interface, stamp >> 32, stamp & 0xFFFFFFFF, len(record.frame), record.length)
-    body = struct.pack(f"{order}5I", *words)
-    return block(order, 6, body + record.frame + bytes(-len(record.frame) % 4) + options)
+    stamp = one.stamp if units is None else units
+    body = struct.pack(f"{order}5I", one.interface, stamp >> 32, stamp & 0xFFFFFFFF, len(one.frame), one.length)
+    return block(order, 6, body + one.frame + bytes(-len(one.frame) % 4) + options)
 
 
-def pcapng(records: list[Record], names: list[str], order: str = "<") -> bytes:
+def pcapng(records: Iterable[Record], names: Iterable[str], order: str = "<", options: bytes = b"") -> bytes:
     blocks = [*(interface(order, name) for name in names), *(packet(one, order) for one in records)]
-    return b"".join([section(order), *blocks])
+    return b"".join([section(order, options), *blocks])
+
+
+# --- Reading ---
 
 
 def read(text: bytes) -> tuple[list[Record], bool]:
     """Answers the records that lie whole in a recording, and whether it breaks off. Raises Faulty."""
-    magics = {bytes.fromhex(magic) for magic in ("a1b2c3d4", "d4c3b2a1", "a1b23c4d", "4d3cb2a1", "0a0d0d0a")}
-    if len(text) < 24 and any(magic.startswith(text[:4]) for magic in magics) and text[:4] != b"\n\r\r\n":
+    magics = {bytes.fromhex(magic) for magic in MAGICS.values()} | {SECTION}
+    if len(text) < len(HEADER) and any(magic.startswith(text[:4]) for magic in magics) and text[:4] != SECTION:
         return [], True
     if text[:4] not in magics:
         raise Faulty("magic")
-    return read_pcapng(text) if text[:4] == b"\n\r\r\n" else read_pcap(text)
+    return read_pcapng(text) if text[:4] == SECTION else read_pcap(text)
+
+
+def form_of(text: bytes) -> tuple[str, int]:
+    """Says in which order a capture's words are, and how many ns a unit of its fractions is."""
+    return next(form for form, magic in MAGICS.items() if bytes.fromhex(magic) == text[:4])
+
+
+def rows_of(text: bytes, order: str = "<") -> Iterator[tuple[int, int, int, int, bytes]]:
+    """Yields the four words of each record and its bytes, of the last one as far as they go."""
+    at = len(HEADER)
+    while at + 16 <= len(text):
+        seconds, fraction, captured, original = struct.unpack_from(f"{order}4I", text, at)
+        yield seconds, fraction, captured, original, text[at + 16:at + 16 + captured]
+        at += 16 + captured
 
 
 def read_pcap(text: bytes) -> tuple[list[Record], bool]:
-    order = ">" if text[0] == 0xA1 else "<"
-    unit = 1 if bytes.fromhex("3c4d") in (text[2:4], text[1::-1]) or text[:2] == bytes.fromhex("4d3c") else 1000
+    order, unit = form_of(text)
     if struct.unpack_from(f"{order}HH", text, 4) != (2, 4):
         raise Faulty("version")
     records: list[Record] = []
-    at = 24
-    while at + 16 <= len(text):
-        seconds, fraction, captured, original = struct.unpack_from(f"{order}4I", text, at)
-        if captured > 262144:
+    at = len(HEADER)
+    for seconds, fraction, captured, original, data in rows_of(text, order):
+        if captured > GREATEST_RECORD:
             raise Faulty("captured")
-        if at + 16 + captured > len(text):
+        if len(data) < captured:
             return records, True
         if fraction * unit >= SECOND or seconds == 2**32 - 1:
             raise Faulty("stamp")
-        records.append(Record(seconds * SECOND + fraction * unit, text[at + 16:at + 16 + captured], original))
+        records.append(Record(seconds * SECOND + fraction * unit, data, original))
         at += 16 + captured
     return records, at < len(text)
 
@@ -107,7 +164,7 @@ def read_pcapng(text: bytes) -> tuple[list[Record], bool]:
     clocks: list[tuple[int, int]] = []  # units of a second, seconds later
     before = 0  # interfaces of earlier sections
     while at + 12 <= len(text):
-        if text[at:at + 4] == b"\n\r\r\n":
+        if text[at:at + 4] == SECTION:
             if text[at + 8:at + 12] not in (bytes.fromhex("1a2b3c4d"), bytes.fromhex("4d3c2b1a")):
                 raise Faulty("order")
             order = ">" if text[at + 8] == 0x1A else "<"
@@ -160,7 +217,7 @@ def packet_of(order: str, kind: int, body: bytes, clocks: list[tuple[int, int]],
     if len(body) < 20:
         raise Faulty("packet")
     number, high, low, captured, original = struct.unpack_from(f"{order}{'I' if kind == 6 else 'Hxx'}4I", body)
-    if captured > 262144 or captured > len(body) - 20 or before + number >= len(clocks):
+    if captured > GREATEST_RECORD or captured > len(body) - 20 or before + number >= len(clocks):
         raise Faulty("packet")
     units, later = clocks[before + number]
     stamp = int(Fraction((high << 32 | low) * SECOND, units) // 1) + later * SECOND
