@@ -1,29 +1,16 @@
 #!/usr/bin/env python3
 """Checks network_model.py against numbers that were worked out by hand; prints what differs, and fails then."""
 import sys
-from collections.abc import Callable, Iterable
+from collections.abc import Iterable
 
 import model
 import network_model
 from captures import frame
+from model_rows import differing, refuses, same
 from network_model import End
 
 PORT = "[[port]]\nid = {}\nmbit = {}\nbuffer = 100000\nmax_delay_us = 500000\n"
 SILENCE = model.capture_of([])
-differing: list[str] = []
-
-
-def same(name: str, got: object, wanted: object) -> None:
-    if got != wanted:
-        differing.append(f"{name}: got {got!r}, wanted {wanted!r}")
-
-
-def refuses(name: str, line: str, status: int, call: Callable[..., object], *arguments: object) -> None:
-    try:
-        call(*arguments)
-        same(name, "no refusal", line)
-    except model.Refused as refused:
-        same(name, (refused.line, refused.status), (line, status))
 
 
 # --- Networks ---
