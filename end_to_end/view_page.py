@@ -21,9 +21,9 @@ from collections import Counter
 from pathlib import Path
 from typing import Any, NoReturn
 
-from selenium import webdriver  # type: ignore[import]
-from selenium.webdriver.chrome.options import Options  # type: ignore[import]
-from selenium.webdriver.chrome.service import Service  # type: ignore[import]
+from selenium import webdriver
+from selenium.webdriver.chrome.options import Options
+from selenium.webdriver.chrome.service import Service
 
 WIDTHS = (1280, 800, 400)
 LOOKED_AT = 40  # pictures, drawn by chance if there are more
@@ -93,7 +93,7 @@ def end() -> NoReturn:
 
 
 def browser() -> Any:
-    options = Options()
+    options: Any = Options()
     options.binary_location = "/usr/bin/chromium"
     for argument in ("--headless=new", "--no-sandbox", "--disable-gpu", "--disable-dev-shm-usage"):
         options.add_argument(argument)
