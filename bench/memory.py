@@ -3,7 +3,8 @@
 
 One link sends a frame each millisecond, so at most one frame is in flight, and whatever a run keeps of the frames before it shows.
 The peak is the greater of the program's and this script's own, about 15 MB, and each count of frames is so large that 4 bytes kept
-for each of them would pass the limit. Needs 1.2 GB under /tmp.
+for each of them would pass the limit. Then links send bursts of large frames to 23 ports, ten seconds apart: what waits at the ports
+leaves in the silence after each. Needs 1.2 GB under /tmp.
 """
 import argparse
 import os
@@ -12,12 +13,15 @@ import tempfile
 
 from measure import AFDX, measured, write_capture
 
-from captures import HEADER
+from captures import HEADER, SECOND, frame, record
 
 MILLISECOND = 1_000_000
 COUNTS = {64: (2_000_000, 4_000_000), 1518: (100_000, 200_000)}  # frames, by their size: 152 and 304 MB
 MOST = 20.0  # megabytes at the peak
 GROWTH = 1.0  # megabytes between a count and its double
+BURSTS = (1, 4)
+IN_A_BURST = 3_250  # frames of 1518 bytes that come at 1000 Mbit/s, each to 23 ports
+MOST_OF_BURSTS = 30.0  # megabytes: the frames that wait are 5 MB, and the ports' outputs were some 100 MB more if made at once
 TABLE = """[[port]]
 id = 1
 mbit = 100
@@ -39,6 +43,38 @@ jitter_us = 0
 max_size = 1518
 priority = "low"
 """
+
+
+def wide_table() -> str:
+    """The table of a switch with one port in, of 1000 Mbit/s, whose 128 links all lead to its 23 other ports."""
+    ports = [
+        f"[[port]]\nid = {port}\nmbit = {1000 if port == 1 else 100}\nbuffer = 16777216\nmax_delay_us = 500000\n"
+        for port in range(1, 25)
+    ]
+    rest = f'from = 1\nto = {list(range(2, 25))}\nbag_ms = 1\njitter_us = 10000\nmax_size = 1518\npriority = "low"\n'
+    return "version = 3\n\n" + "\n".join(ports + [f"[[link]]\nid = {link}\n{rest}" for link in range(128)])
+
+
+def write_bursts(path: str, bursts: int) -> None:
+    """Writes bursts of large frames, of 128 links in turn, ten seconds apart."""
+    with open(path, "wb") as file:
+        file.write(HEADER)
+        for place in range(bursts * IN_A_BURST):
+            burst, number = divmod(place, IN_A_BURST)
+            file.write(record(10 * SECOND * burst + 12_304 * number, frame(number % 128, 1518)))
+
+
+def peak_of_bursts(afdx: str, room: str, bursts: int) -> float:
+    """Returns the megabytes that a run of so many bursts to 23 ports takes at its peak."""
+    with open(f"{room}/wide.toml", "w", encoding="utf-8") as file:
+        file.write(wide_table())
+    write_bursts(f"{room}/in/port-1.pcap", bursts)
+    for port in range(2, 25):
+        with open(f"{room}/in/port-{port}.pcap", "wb") as file:
+            file.write(HEADER)
+    arguments = [afdx, "run", f"{room}/wide.toml", f"{room}/in", f"{room}/out", "--unchecked"]
+    _, _, megabytes = measured(arguments, f"{room}/wide.toml", f"{room}/report")
+    return megabytes
 
 
 def peak_of(afdx: str, room: str, count: int, size: int) -> float:
@@ -65,6 +101,10 @@ def main() -> None:
             print(f"frames of {size} bytes: " + ", ".join(f"{count} take {peak:.1f} MB" for count, peak in zip(counts, peaks)))
             if max(peaks) > MOST or peaks[1] - peaks[0] > GROWTH:
                 sys.exit("memory grows with the frames")
+        peaks = [peak_of_bursts(afdx, room, bursts) for bursts in BURSTS]
+        print("bursts to 23 ports: " + ", ".join(f"{count} take {peak:.1f} MB" for count, peak in zip(BURSTS, peaks)))
+        if max(peaks) > MOST_OF_BURSTS or peaks[1] - peaks[0] > GROWTH:
+            sys.exit("memory grows with the bursts")
 
 
 if __name__ == "__main__":
