@@ -354,7 +354,7 @@ check "IN is empty" ends 2 "afdx: usage" /dev/null run table.toml "" none
 
 check "a read-only file system" mounted 0 "$put_1" "mount --bind out out && mount -o remount,bind,ro out"
 check "a file system without room for the first capture" mounted 0 "$put_1" "$(small 8)"
-check "a file system without room for the second" mounted 0 "$put_2" "$(small 12)"
+check "a file system without room for the second" mounted 0 "$put_2" "$(small 48)"
 check "a limit of a file's size" leaves 5 "$put_2" 0 limited
 check "a limit that would end the program" limit_is_kept
 check "standard output is full" leaves 5 "afdx: device write" 2 redirected ">/dev/full"
@@ -363,7 +363,7 @@ check "standard input and error are closed" leaves 0 "" 2 redirected "<&- 2>&-"
 check "all three are closed" leaves 5 "" 2 redirected "<&- >&- 2>&-"
 
 check "each open fails in turn" each_fails open 6
-check "each write fails in turn" each_fails write 6
+check "each write fails in turn" each_fails write 4
 check "each sync fails in turn" each_fails fsync 2
 check "each rename fails in turn" each_fails rename 2
 check "each close fails in turn, after the sync" each_fails close 0
