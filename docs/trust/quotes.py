@@ -37,7 +37,7 @@ ROOTS = [
     ("afdx_session", "Session.close"),
     ("afdx_session", "Session.take"),
     ("afdx_session", "Session.finish"),
-    ("afdx_series", "jitter_enough"),
+    ("afdx_jitter", "jitter_enough"),
     ("afdx_network", "run"),
     ("afdx_network", "ways_deliver"),
     ("afdx_network", "ways_are_there"),

@@ -7,8 +7,8 @@
 //! of each frame and copy. `afdx network` checks a network of switches, finds its jitters and runs it.
 #![tactic(auto)]
 
-use afdx_devices::Disk;
 use afdx_failures::{Failure, report};
+use afdx_folder::Disk;
 use afdx_serve::serve;
 use std::process::ExitCode;
 use std::{env, io};

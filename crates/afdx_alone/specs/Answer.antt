@@ -1,6 +1,6 @@
 -- What is answered to a capture: the frames of one link that its account passes.
 use Rattle.std.specs.Prelude.{◌≡◌, ℕ, List, Option, filter}
-use Rattle.afdx_devices.specs.Input.{AreGiven}
+use Rattle.afdx_folder.specs.Input.{AreGiven}
 use Rattle.afdx_account.specs.Policing.{Terms, byte_terms, passed_of}
 use Rattle.afdx_pcap.specs.Record.{Record}
 use Rattle.afdx_pcap.specs.Capture.{IsCapture}

@@ -1,6 +1,6 @@
 -- Why there is no answer to an input.
 use Rattle.std.specs.Prelude.{ℕ, List, Option, ⊤}
-use Rattle.afdx_devices.specs.Input.{AreGiven}
+use Rattle.afdx_folder.specs.Input.{AreGiven}
 use Rattle.afdx_pcap.specs.declared.fault.PcapFault.{PcapFault}
 use Rattle.afdx_pcap.specs.declared.fault.PcapFault.TheVariants as pcap
 use Rattle.afdx_pcap.specs.Fault.{IsFault}

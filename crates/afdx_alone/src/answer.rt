@@ -8,7 +8,7 @@ use crate::fault::{AloneFault, ReadFault};
 use crate::policing::Policing;
 use crate::window::Window;
 use afdx_arguments::Alone;
-use afdx_devices::TURNS;
+use afdx_folder::TURNS;
 use afdx_pcap::laws::{early_faults_stay, rests_are_read_on};
 use std::alloc::Allocator;
 use std::io::Read;

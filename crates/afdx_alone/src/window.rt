@@ -6,7 +6,7 @@ ghost use Rattle.afdx_alone.specs.declared.fault.ReadFault.TheVariants.{Device};
 ghost use Rattle.afdx_alone.specs.Inner.Sizes.{longest_record, window_size};
 
 use crate::fault::ReadFault;
-use afdx_devices::CHUNK;
+use afdx_folder::CHUNK;
 use afdx_pcap::{HEAD_LENGTH, MAX_CAPTURED};
 use std::io::{ErrorKind, Read};
 

@@ -62,9 +62,6 @@ one_more next t i port l before row found leads = by_clean (says_clean i row.ver
   id : (l.id == i) ≡ true
   id = grind (arith, gets, found, find_at (λ (m : Link). m.id == i) t.links, passes_at_first (λ (m : Link). m.id == i) t.links l)
 
-  before_own : List Frame
-  before_own = account_frames i before
-
   by_pass : (b : Bool) → cond b (passed_frames (terms_of l) (account_frames i before) ++ frame_of_row row ∷ []) (passed_frames (terms_of l) (account_frames i before))
       ≡ passed_frames (terms_of l) (account_frames i before) ++ part_of i (cond (b && true) (copy_of l before row ∷ []) [])
   by_pass true = ap (λ v. passed_frames (terms_of l) (account_frames i before) ++ map frame_of_item (cond v (copy_of l before row ∷ []) [])) (sym id)

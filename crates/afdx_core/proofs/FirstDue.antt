@@ -3,7 +3,7 @@ use Rattle.std.proofs.Common.{◌≡◌, ℕ, ◌<◌, ◌≤◌, false, List, l
 use Rattle.std.proofs.lemmas.List.{get_or_default}
 use Rattle.std.proofs.lemmas.Bool.{le-ltb}
 use Rattle.afdx_port.specs.Course.{starts_before}
-use Rattle.afdx_instants.specs.Instants.{IsFirstUpTo, IsFirstIn}
+use Rattle.afdx_earliest.specs.Instants.{IsFirstUpTo, IsFirstIn}
 use Rattle.afdx_core.specs.Inner.Dues.{IsFirstBefore}
 
 -- one that is due no earlier than an instant

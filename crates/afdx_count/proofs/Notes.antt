@@ -36,9 +36,6 @@ numbers_ended r old now is = sym (map_twice (ended_port r) (λ (p : PortTally). 
 
 -- ---- copies
 
-pub capped_twice : (x m n : ℕ) → capped (capped (x + m) + n) ≡ capped (x + (m + n))
-capped_twice x m n = omega arith
-
 pub count_one : {X : Type 0} (p : X → Bool) (x : X) (xs : List X) → count_by p (x ∷ xs) ≡ cond (p x) 1 0 + count_by p xs
 count_one p x xs = sum_by-cons (λ y. cond (p y) 1 0) x xs
 

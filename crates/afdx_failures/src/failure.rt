@@ -3,7 +3,7 @@
 ghost use Rattle.std.specs.Prelude.{◌≡◌};
 
 use afdx_alone::{AloneFault, ReadFault};
-use afdx_devices::WriteFault;
+use afdx_folder::WriteFault;
 use afdx_lines::NetworkFailure;
 use afdx_load::LoadFault;
 use afdx_pcap::PcapFault;

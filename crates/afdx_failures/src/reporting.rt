@@ -6,7 +6,7 @@ ghost use Rattle.afdx_failures.specs.Reporting.{line_of, memory_line, status_of,
 ghost use Rattle.afdx_wiring.specs.Lines.{as_line};
 
 use crate::failure::Failure;
-use afdx_devices::write_bytes;
+use afdx_folder::write_bytes;
 use afdx_lines::{capture_line, load_line, network_failure_line, network_status, table_line};
 use std::alloc::{AllocError, Global};
 use std::io::Write;

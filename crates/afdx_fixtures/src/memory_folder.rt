@@ -3,10 +3,10 @@
 ghost use Rattle.std.specs.Prelude.{◌≡◌, Some, find, string_bytes, option_map, option_copied};
 ghost use Rattle.std.specs.Str.{bytes_eq};
 ghost use Rattle.std.specs.Io.Cursor.{cursor_remaining};
-ghost use Rattle.afdx_devices.specs.Files.{HasCause};
+ghost use Rattle.afdx_folder.specs.Files.{HasCause};
 ghost use Rattle.afdx_fixtures.specs.declared.memory_folder.File.{File};
 
-use afdx_devices::{DeviceLog, Folder, FolderFault, NewFile};
+use afdx_folder::{DeviceLog, Folder, FolderFault, NewFile};
 use afdx_samples::MemoryFile;
 use std::alloc::{AllocError, Allocator};
 use std::io;

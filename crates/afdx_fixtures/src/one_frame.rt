@@ -1,7 +1,7 @@
 //! The run of one frame, and frames of its link.
 
 use crate::{MemoryFolder, answers};
-use afdx_devices::FolderFault;
+use afdx_folder::FolderFault;
 use afdx_samples::{HEADER, Sample, capture, frame, single};
 use std::alloc::{AllocError, Allocator, Global};
 

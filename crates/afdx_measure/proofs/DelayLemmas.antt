@@ -10,10 +10,6 @@ use Rattle.afdx_port.specs.declared.Sent.{Sent}
 use Rattle.afdx_measure.specs.declared.delays.Delays.{Delays}
 use Rattle.afdx_measure.specs.Delays.{delay_of, delays_of, summary_of, AreDelaysByLink}
 
-pub fold_push : {X Y : Type 0} (f : Y → X → Y) (a : Y) (xs : List X) (x : X) → fold f a (xs ++ x ∷ []) ≡ f (fold f a xs) x
-fold_push f a [] x = refl
-fold_push f a (y ∷ ys) x = fold_push f (f a y) ys x
-
 -- ---- a copy more that was sent
 
 with_copy : (link : ℕ) (sent : List Sent) (x : Sent) → delays_of link (sent ++ x ∷ []) ≡ delays_of link sent ++ map delay_of (cond (x.item.link == link) (x ∷ []) [])

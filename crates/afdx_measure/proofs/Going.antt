@@ -12,9 +12,6 @@ pub record IsOnTheWay {X : Type 0} (p : X → Bool) (f : X → ℕ) (xs : List X
   pub place_is : from + prefix_len p (drop from xs) ≡ place + prefix_len p (drop place xs)
 
 module _ {X : Type 0} (p : X → Bool) (f : X → ℕ) (xs : List X) where
-  pub set_out : (from full : ℕ) → from ≤ length xs → IsOnTheWay p f xs from full from full
-  set_out from full within = record { within = within; held_is = refl; place_is = refl }
-
   first_goes : (place : ℕ) (x : X) → place < length xs → x ≡ get_or xs place x → p x ≡ true
       → (prefix_len p (drop place xs) ≡ 1 + prefix_len p (drop (place + 1) xs)) × (take_while p (drop place xs) ≡ x ∷ take_while p (drop (place + 1) xs))
   first_goes place x lt is passes =
@@ -46,11 +43,3 @@ module _ {X : Type 0} (p : X → Bool) (f : X → ℕ) (xs : List X) where
   arrived from full place held none h =
       let nothing = ap (λ (n : ℕ). sum_by f (take n (drop place xs))) none in
       (omega (arith, h.held_is, nothing), omega (arith, h.place_is, none))
-
-  pub arrived_at_end : (from full place held : ℕ) → length xs ≤ place → IsOnTheWay p f xs from full place held
-      → (held ≡ full - sum_by f (take_while p (drop from xs))) × (place ≡ from + prefix_len p (drop from xs))
-  arrived_at_end from full place held past h = arrived from full place held (prefix_len-drop_all p xs place past) h
-
-  pub arrived_before : (from full place held : ℕ) (x : X) → place < length xs → x ≡ get_or xs place x → p x ≡ false → IsOnTheWay p f xs from full place held
-      → (held ≡ full - sum_by f (take_while p (drop from xs))) × (place ≡ from + prefix_len p (drop from xs))
-  arrived_before from full place held x lt is stays h = arrived from full place held (prefix_len-drop_no p xs place x lt (ap p (sym is) ∙ stays)) h

@@ -1,7 +1,7 @@
 -- Worked examples of the definitions, which compute.
 use Rattle.std.proofs.Common.{◌≡◌, ◌+◌, nat_le, true, false, refl}
 use Rattle.afdx_units.specs.declared.line.Speed.TheVariants.{Hundred, Thousand}
-use Rattle.afdx_series.specs.Delay.{hop_of, joined}
+use Rattle.afdx_jitter.specs.Delay.{hop_of, joined}
 
 -- three links of 64 bytes each millisecond into a port of 100 Mbit/s, whose bound is 20,160 ns: 13,440 ns of jitter arise there
 first_hop : hop_of Hundred 0 20160 0 ≡ record { least = 6720; most = 20160 }

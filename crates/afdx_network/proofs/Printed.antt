@@ -14,7 +14,7 @@ use Rattle.afdx_pcap.specs.Record.{Record}
 use Rattle.afdx_table.specs.declared.rows.PortRow.{PortRow}
 use Rattle.afdx_table.specs.Link.{Link, leads_to}
 use Rattle.afdx_table.specs.Content.{Content, port_row}
-use Rattle.afdx_series.specs.declared.delays.Delays.{Delays}
+use Rattle.afdx_jitter.specs.declared.delays.Delays.{Delays}
 use Rattle.afdx_wiring.specs.declared.layout.End.{End}
 use Rattle.afdx_wiring.specs.declared.layout.Wire.{Wire}
 use Rattle.afdx_wiring.specs.declared.ways.Way.{Way}

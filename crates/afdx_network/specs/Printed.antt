@@ -3,7 +3,7 @@
 use Rattle.std.specs.Prelude.{◌≡◌, ℕ, ◌+◌, ◌≤◌, List, [], ◌∷◌, slice_get, Some, All}
 use Rattle.std.specs.List.{AllZip}
 use Rattle.afdx_pcap.specs.Record.{Record}
-use Rattle.afdx_series.specs.declared.delays.Delays.{Delays}
+use Rattle.afdx_jitter.specs.declared.delays.Delays.{Delays}
 use Rattle.afdx_wiring.specs.declared.layout.End.{End}
 use Rattle.afdx_wiring.specs.declared.ways.Way.{Way}
 use Rattle.afdx_wiring.specs.Net.{Network}

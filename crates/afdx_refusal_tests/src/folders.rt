@@ -2,8 +2,8 @@
 //! of memory is made once more, and in a run.
 
 use crate::allocations::{Calls, Memory, count, made_again, refuse};
-use afdx_devices::{Folder, FolderFault, NewFile};
 use afdx_fixtures::{MemoryFolder, OneFrame, REPORT, RUN, answer_over};
+use afdx_folder::{Folder, FolderFault, NewFile};
 use std::alloc::Global;
 use std::io::Print;
 use std::process::Abort;

@@ -2,7 +2,7 @@
 
 ghost use Rattle.std.specs.Prelude.{Some};
 
-use afdx_devices::NewFile;
+use afdx_folder::NewFile;
 use std::alloc::{AllocError, Allocator};
 
 /// A new file, by its bytes.

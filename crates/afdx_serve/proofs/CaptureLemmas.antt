@@ -10,7 +10,7 @@ use Rattle.afdx_session.specs.Texts.{Text, texts_of}
 use Rattle.afdx_table.specs.Content.{Content}
 use Rattle.afdx_failures.specs.declared.failure.Failure.{Failure}
 use Rattle.afdx_failures.specs.declared.failure.Failure.TheVariants as failure
-use Rattle.afdx_devices.specs.Files.{Files, Shows, ShowsAll, KeepsFiles, KeepsOthers, PutsFiles, DeviceLog, one_more, settled_after}
+use Rattle.afdx_folder.specs.Files.{Files, Shows, ShowsAll, KeepsFiles, KeepsOthers, PutsFiles, DeviceLog, one_more, settled_after}
 use Rattle.afdx_serve.specs.Runs.{capture_name, names_in, bytes_of_captures, GetsUpTo, port_names, StopsAt, StopsSettling, EndsAt, FailsToGet, FailsToGetAll, FailsToPutOne, FailsToPut}
 use Rattle.afdx_serve.specs.Inner.Outputs.{FailsToSettle, FailsToMove}
 use Rattle.afdx_serve.proofs.FileLemmas.{KeepsFiles-trans, Shows-before, PutsFiles-before, ShowsAll-before, ShowsAll-push}
@@ -70,22 +70,6 @@ none_put (failure.Load r) names all old new before after keeps fails = absurd fa
 none_put (failure.Network r) names all old new before after keeps fails = absurd fails
 none_put failure.Read names all old new before after keeps fails = absurd fails
 none_put failure.Write names all old new before after keeps fails = absurd fails
-
--- a new file that the device has taken was not put
-pub not_moved : (f : Failure) (name : List ℕ) (names all : List (List ℕ)) (old new : Option Files) (first before after : DeviceLog) → before ≡ first → FailsToPutOne f name before after
-    → StopsAt name names all old new → FailsToMove f names all old new first after
-not_moved (failure.Put s) name names all old new first before after same fails stops =
-    subst (λ (n : List ℕ). StopsAt n names all old new × (after ≡ one_more n first)) (sym fails.0) (stops, fails.1 ∙ ap (one_more name) same)
-not_moved failure.Memory name names all old new first before after same fails stops = (name, stops)
-not_moved failure.Usage name names all old new first before after same fails stops = absurd fails
-not_moved (failure.Table r) name names all old new first before after same fails stops = absurd fails
-not_moved (failure.Capture r) name names all old new first before after same fails stops = absurd fails
-not_moved (failure.PortCapture p r) name names all old new first before after same fails stops = absurd fails
-not_moved (failure.Get s) name names all old new first before after same fails stops = absurd fails
-not_moved (failure.Load r) name names all old new first before after same fails stops = absurd fails
-not_moved (failure.Network r) name names all old new first before after same fails stops = absurd fails
-not_moved failure.Read name names all old new first before after same fails stops = absurd fails
-not_moved failure.Write name names all old new first before after same fails stops = absurd fails
 
 -- all new files were taken, and then put or not
 module _ (names all : List (List ℕ)) (old new : Option Files) (first before after : DeviceLog) (taken : before ≡ settled_after (length names) first) where

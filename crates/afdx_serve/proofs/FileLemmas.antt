@@ -1,7 +1,7 @@
 -- Files that stay, files that were got, and files that are put in order.
 use Rattle.std.proofs.Common.{◌≡◌, ℕ, List, [], ◌∷◌, ◌++◌, map, length, Option, Some, None, refl, sym, ap, subst, ◌∙◌, arith}
 use Rattle.std.proofs.lemmas.List.{map-append}
-use Rattle.afdx_devices.specs.Files.{Files, with_file, with_files, Shows, ShowsAll, IsOpened, KeepsFiles, PutsFile, PutsFiles}
+use Rattle.afdx_folder.specs.Files.{Files, with_file, with_files, Shows, ShowsAll, IsOpened, KeepsFiles, PutsFile, PutsFiles}
 
 -- ---- files that stay
 
@@ -61,7 +61,3 @@ one_more_put (Some f) None c ns bs n x e p r = absurd p
 one_more_put (Some f) (Some g) None ns bs n x e p r = absurd r
 one_more_put (Some f) (Some g) (Some h) ns bs n x e p r = λ q.
     r q ∙ ap (λ (k : Files). with_file k n x q) (same_files (with_files f ns bs) g p) ∙ ap (λ (k : Files). k q) (sym (with_files-push f ns bs n x e))
-
-pub PutsFiles-nil : (a : Option Files) → PutsFiles a a [] []
-PutsFiles-nil None = tt
-PutsFiles-nil (Some f) = λ q. refl

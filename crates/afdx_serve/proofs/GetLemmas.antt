@@ -15,7 +15,7 @@ use Rattle.afdx_wiring.specs.Order.{lost_port}
 use Rattle.afdx_lines.specs.declared.network_failure.NetworkFailure.TheVariants as network
 use Rattle.afdx_failures.specs.declared.failure.Failure.{Failure}
 use Rattle.afdx_failures.specs.declared.failure.Failure.TheVariants as failure
-use Rattle.afdx_devices.specs.Files.{Files, Shows, ShowsAll, KeepsFiles, DeviceLog, one_more}
+use Rattle.afdx_folder.specs.Files.{Files, Shows, ShowsAll, KeepsFiles, DeviceLog, one_more}
 use Rattle.afdx_serve.specs.Runs.{FailsToGet}
 use Rattle.afdx_serve.specs.Networks.{bytes_in, table_names, HasLayout, HasTexts, AreTables, GetsTables, IsRefusedTable, FailsToLayout, FailsToGetTexts, FailsToReadTables}
 use Rattle.afdx_serve.specs.Networks.{FailsToJoin, HasNetwork, FailsToGetNetwork}
@@ -60,14 +60,6 @@ gets_tables files path name switches i d got lt is earlier = record {
   earlier = subst (λ (names : List (List ℕ)). ShowsAll files names got) (sym (take-map (λ (s : Switch). path_with_file_name path s.path) i switches)) earlier;
 }
 
--- all were got
-pub all_got : {Z : Type 0} (files : Option Files) (path : List ℕ) (switches : List Switch) (i : ℕ) (texts : List (Vec ℕ Z)) → length switches ≤ i → i ≤ length switches
-    → ShowsAll files (table_names path (take i switches)) (bytes_in texts) → length texts ≡ i → HasTexts files path switches (bytes_in texts)
-all_got {Z} files path switches i texts past within got len = (
-  subst (λ (all : List Switch). ShowsAll files (table_names path all) (bytes_in texts)) (take_all i switches past) got,
-  length-map texts (λ (text : Vec ℕ Z). text.items) ∙ omega (arith, len, past, within),
-)
-
 -- a table's file was not got
 pub not_got_text : (f : Failure) (files : Option Files) (path name : List ℕ) (switches : List Switch) (first before after : DeviceLog) → before ≡ first → FailsToGet f name before after
     → GetsTables name files path switches → FailsToGetTexts f files path switches first after
@@ -85,53 +77,6 @@ not_got_text failure.Read files path name switches first before after same fails
 not_got_text failure.Write files path name switches first before after same fails upto = absurd fails
 
 -- ---- why the rest was not
-
--- the network file was not got
-pub not_got_layout : (f : Failure) (files : Option Files) (path : List ℕ) (before after : DeviceLog) → FailsToGet f path before after → FailsToLayout f files path before after
-not_got_layout (failure.Get s) files path before after fails = fails
-not_got_layout failure.Memory files path before after fails = tt
-not_got_layout failure.Usage files path before after fails = absurd fails
-not_got_layout (failure.Table r) files path before after fails = absurd fails
-not_got_layout (failure.Capture r) files path before after fails = absurd fails
-not_got_layout (failure.PortCapture p r) files path before after fails = absurd fails
-not_got_layout (failure.Put s) files path before after fails = absurd fails
-not_got_layout (failure.Load r) files path before after fails = absurd fails
-not_got_layout (failure.Network r) files path before after fails = absurd fails
-not_got_layout failure.Read files path before after fails = absurd fails
-not_got_layout failure.Write files path before after fails = absurd fails
-
--- a table's file was not got, so that the network was not
-pub not_joined : (f : Failure) (files : Option Files) (path : List ℕ) (l : Layout) (before after : DeviceLog) → FailsToGetTexts f files path l.switches before after
-    → FailsToJoin f files path l before after
-not_joined (failure.Get s) files path l before after fails = fails
-not_joined failure.Memory files path l before after fails = tt
-not_joined failure.Usage files path l before after fails = absurd fails
-not_joined (failure.Table r) files path l before after fails = absurd fails
-not_joined (failure.Capture r) files path l before after fails = absurd fails
-not_joined (failure.PortCapture p r) files path l before after fails = absurd fails
-not_joined (failure.Put s) files path l before after fails = absurd fails
-not_joined (failure.Load r) files path l before after fails = absurd fails
-not_joined (failure.Network r) files path l before after fails = absurd fails
-not_joined failure.Read files path l before after fails = absurd fails
-not_joined failure.Write files path l before after fails = absurd fails
-
--- one of the texts is of no table
-pub not_tables : (f : Failure) (files : Option Files) (path : List ℕ) (l : Layout) (texts : List (List ℕ)) (before after : DeviceLog) → after ≡ before → HasTexts files path l.switches texts
-    → FailsToReadTables f l.switches texts → FailsToJoin f files path l before after
-not_tables (failure.Network (network.Table refusal name)) files path l texts before after same has fails = ((texts, has, fails), same)
-not_tables (failure.Network (network.Refused e name)) files path l texts before after same has fails = absurd fails
-not_tables (failure.Network (network.Capture p e name)) files path l texts before after same has fails = absurd fails
-not_tables (failure.Network network.Unsettled) files path l texts before after same has fails = absurd fails
-not_tables failure.Memory files path l texts before after same has fails = tt
-not_tables failure.Usage files path l texts before after same has fails = absurd fails
-not_tables (failure.Table r) files path l texts before after same has fails = absurd fails
-not_tables (failure.Capture r) files path l texts before after same has fails = absurd fails
-not_tables (failure.PortCapture p r) files path l texts before after same has fails = absurd fails
-not_tables (failure.Put s) files path l texts before after same has fails = absurd fails
-not_tables (failure.Get s) files path l texts before after same has fails = absurd fails
-not_tables (failure.Load r) files path l texts before after same has fails = absurd fails
-not_tables failure.Read files path l texts before after same has fails = absurd fails
-not_tables failure.Write files path l texts before after same has fails = absurd fails
 
 -- ---- tables
 

@@ -21,8 +21,8 @@ use Rattle.afdx_arguments.specs.declared.request.Paths.{Paths}
 use Rattle.afdx_arguments.specs.declared.request.Inputs.{Inputs}
 use Rattle.afdx_failures.specs.declared.failure.Failure.{Failure}
 use Rattle.afdx_failures.specs.declared.failure.Failure.TheVariants as failure
-use Rattle.afdx_devices.specs.Files.{Files, DeviceLog, Shows, ShowsAll, IsOpened, KeepsFiles}
-use Rattle.afdx_devices.specs.Input.{AreGiven}
+use Rattle.afdx_folder.specs.Files.{Files, DeviceLog, Shows, ShowsAll, IsOpened, KeepsFiles}
+use Rattle.afdx_folder.specs.Input.{AreGiven}
 use Rattle.afdx_serve.specs.Runs.{capture_name, names_in, port_names, bytes_of_captures, inputs_of, HasPlan, HasCaptures, FailsToGet, FailsToGetAll, FailsToGather}
 use Rattle.afdx_serve.specs.Inner.Outputs.{AreEmpty, HaveBytes}
 use Rattle.afdx_serve.specs.Inner.Leading.{IsPlanOf, FailsToReadPlan, AreOpened, IsInFiles, FailsToLeadFrom, IsLed}
@@ -137,21 +137,6 @@ have_before contents (Some f) (Some g) files all keeps have = have
 
 pub has_plan : (inputs : Inputs) (files : Option Files) (text : List ℕ) (plan : Plan) → Shows files inputs.table.now text → IsPlanOf text inputs.unchecked plan → HasPlan files inputs (table_in plan)
 has_plan inputs files text plan shows is = ((text, shows, is.is_table), is.accepted)
-
--- there is no plan, so that the files lead to nothing
-pub not_planned : (f : Failure) (inputs : Inputs) (files : Option Files) (text : List ℕ) (before after : DeviceLog) → Shows files inputs.table.now text → after ≡ before
-    → FailsToReadPlan f text inputs.unchecked → FailsToGather f inputs files before after
-not_planned (failure.Table r) inputs files text before after shows same h = ((text, shows, h), same)
-not_planned (failure.Load r) inputs files text before after shows same h = (h.0, (h.1.0, (text, shows, h.1.1), h.1.2, same))
-not_planned failure.Memory inputs files text before after shows same h = tt
-not_planned failure.Usage inputs files text before after shows same h = absurd h
-not_planned (failure.Capture r) inputs files text before after shows same h = absurd h
-not_planned (failure.PortCapture p r) inputs files text before after shows same h = absurd h
-not_planned (failure.Get s) inputs files text before after shows same h = absurd h
-not_planned (failure.Put s) inputs files text before after shows same h = absurd h
-not_planned (failure.Network r) inputs files text before after shows same h = absurd h
-not_planned failure.Read inputs files text before after shows same h = absurd h
-not_planned failure.Write inputs files text before after shows same h = absurd h
 
 -- ---- what it leads to
 

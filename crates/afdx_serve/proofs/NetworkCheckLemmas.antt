@@ -2,7 +2,7 @@
 use Rattle.std.proofs.Common.{◌≡◌, ℕ, List, inl, inr}
 use Rattle.afdx_wiring.specs.Net.{Network}
 use Rattle.afdx_failures.specs.declared.failure.Failure.{Failure}
-use Rattle.afdx_devices.specs.Files.{KeepsFiles}
+use Rattle.afdx_folder.specs.Files.{KeepsFiles}
 use Rattle.afdx_serve.specs.Networks.{names_of, HasNetwork, FailsToGetNetwork, FailsToAcceptNetwork}
 use Rattle.afdx_serve.specs.Serving.{World, WritesNothing, FailsToCheckNetwork}
 use Rattle.afdx_serve.proofs.NetworkLemmas.{of_lost, of_refused}

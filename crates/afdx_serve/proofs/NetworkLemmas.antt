@@ -3,7 +3,7 @@ use Rattle.std.proofs.Common.{◌≢◌, ℕ, List, Option, None, Global, String
 use Rattle.std.specs.Prelude.{◌⊎◌}
 use Rattle.afdx_wiring.specs.declared.fault.NetworkFault.{NetworkFault}
 use Rattle.afdx_wiring.specs.declared.fault.NetworkFault.TheVariants as fault
-use Rattle.afdx_ways.specs.Lines.{Names}
+use Rattle.afdx_network_report.specs.Lines.{Names}
 use Rattle.afdx_arguments.specs.declared.request.NetworkPaths.{NetworkPaths}
 use Rattle.afdx_arguments.specs.declared.request.NetworkRequest.{NetworkRequest}
 use Rattle.afdx_arguments.specs.declared.request.NetworkRequest.TheVariants as ask
@@ -12,7 +12,7 @@ use Rattle.afdx_lines.specs.declared.network_failure.NetworkFailure.TheVariants 
 use Rattle.afdx_failures.specs.declared.failure.Failure.{Failure}
 use Rattle.afdx_failures.specs.declared.failure.Failure.TheVariants as failure
 use Rattle.afdx_failures.specs.Inner.Failures.{wiring_failure}
-use Rattle.afdx_devices.specs.Files.{Files, DeviceLog, KeepsFiles}
+use Rattle.afdx_folder.specs.Files.{Files, DeviceLog, KeepsFiles}
 use Rattle.afdx_failures.specs.Reporting.{IsMade}
 use Rattle.afdx_serve.specs.Networks.{IsRefused, FailsToGetNetwork}
 use Rattle.afdx_serve.specs.NetworkRuns.{StopsNetwork, EndsNetwork}

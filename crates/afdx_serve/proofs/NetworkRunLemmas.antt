@@ -17,12 +17,12 @@ use Rattle.afdx_wiring.specs.Rules.{IsAcceptedNetwork}
 use Rattle.afdx_network.specs.Runs.{SwitchRun, Given, IsRunOf}
 use Rattle.afdx_network.specs.Given.{AreGiven}
 use Rattle.afdx_network.specs.Laws.{IsOfFile, NetworkRunsDeliver}
-use Rattle.afdx_ways.specs.Lines.{Names, name_of, report_of}
+use Rattle.afdx_network_report.specs.Lines.{Names, name_of, report_of}
 use Rattle.afdx_arguments.specs.declared.request.NetworkPaths.{NetworkPaths}
 use Rattle.afdx_lines.specs.declared.network_failure.NetworkFailure.TheVariants as network
 use Rattle.afdx_failures.specs.declared.failure.Failure.{Failure}
 use Rattle.afdx_failures.specs.declared.failure.Failure.TheVariants as failure
-use Rattle.afdx_devices.specs.Files.{Files, KeepsFiles, PutsFiles, DeviceLog, settled_after}
+use Rattle.afdx_folder.specs.Files.{Files, KeepsFiles, PutsFiles, DeviceLog, settled_after}
 use Rattle.afdx_serve.specs.Runs.{capture_name, names_in, bytes_of_captures, report_in, StopsAt, EndsAt, FailsToPut}
 use Rattle.afdx_serve.specs.Networks.{names_of, HasNetwork}
 use Rattle.afdx_serve.specs.NetworkRuns.{switch_folder, names_at, bytes_at, captures_of, reports_of, HasGiven, LeadsToNetwork, GetsGiven, FailsToGetGiven, FailsToLeadNetwork, StopsNetwork, EndsNetwork}
@@ -85,10 +85,6 @@ one_more_report names left i d old new count lt grown before =
     ∙ ap (λ (n : ℕ). reports_of names (take i left) ++ report_of (name_of names n) (report_in (get_or left i d))) (sym many)
     ∙ sym (reports_of-push names (take i left) (get_or left i d) (omega (arith, many, count, lt)))
     ∙ ap (reports_of names) (sym (take_more left i d lt))
-
--- the texts of one switch more
-pub one_more_texts : (all : List (List Text)) (own : List Text) → bytes_at (all ++ own ∷ []) ≡ bytes_at all ++ bytes_of_captures own
-one_more_texts all own = flat_map-append bytes_of_captures all (own ∷ []) ∙ ap (λ (l : List (List ℕ)). bytes_at all ++ l) (append-nil (bytes_of_captures own))
 
 -- as many names as texts
 as_many : (path : List ℕ) (names : Names) (all : List (List Text)) → length names ≡ length all → length (names_at path names all) ≡ length (bytes_at all)

@@ -7,7 +7,7 @@ use Rattle.std.proofs.lemmas.List.{length-take, take_more}
 use Rattle.std.proofs.lemmas.Option.{same_Some, slice_get-get_or, slice_get_within, get_or_from_slice_get}
 use Rattle.afdx_session.specs.Texts.{Text}
 use Rattle.afdx_session.specs.Written.{AreAppended}
-use Rattle.afdx_devices.specs.Files.{Files, KeepsFiles, PutsFile, PutsFiles, DeviceLog, one_settled, settled_after}
+use Rattle.afdx_folder.specs.Files.{Files, KeepsFiles, PutsFile, PutsFiles, DeviceLog, one_settled, settled_after}
 use Rattle.afdx_serve.specs.Runs.{bytes_of_captures}
 use Rattle.afdx_serve.specs.Inner.Outputs.{AreEmpty, HaveBytes}
 use Rattle.afdx_serve.proofs.FileLemmas.{one_more_put}
@@ -58,12 +58,6 @@ have_bytes contents (Some f) (Some g) old new texts keeps empty appended = λ pl
     let grown = subst (λ (k : Option (List ℕ)). Appends k (contents n) text.0.1) (empty place was was_is) (appended.1 place was n text.0 was_is is_new text.1) in
     to_none (contents n) bytes (subst (Appends (Some []) (contents n)) text.2 grown)
 
--- a new file that was begun has the text that was appended to it, also once the device has taken it
-pub has_text : (a : Option Files) (begun appended settled : Option (List ℕ)) (text : List ℕ) → IfSome a (λ _. begun ≡ Some []) → Appends begun appended text → settled ≡ appended
-    → IfSome a (λ _. settled ≡ Some text)
-has_text None begun appended settled text empty grown same = tt
-has_text (Some f) begun appended settled text empty grown same = same ∙ to_none appended text (subst (λ (k : Option (List ℕ)). Appends k appended text) empty grown)
-
 -- ---- the device takes them
 
 -- so many, and one more
@@ -80,13 +74,6 @@ pushed_at P [] new was one zero n is = subst (P zero) (same_Some new n is) one
 pushed_at P [] new was one (suc place) n is = absurd cc
 pushed_at P (x ∷ files) new was one zero n is = was zero n is
 pushed_at P (x ∷ files) new was one (suc place) n is = pushed_at (λ k m. P (suc k) m) files new (λ k m at. was (suc k) m at) one place n is
-
--- none has other bytes
-pub none_have : {N : Type 0} (contents : N → Option (List ℕ)) (a : Option Files) (all : List (List ℕ)) → HaveBytes contents a [] all
-none_have contents None all = tt
-none_have contents (Some f) all = λ place n bytes is_new is_bytes. absurd (nowhere place n is_new) where
-  nowhere : {N : Type 0} (place : ℕ) (n : N) → slice_get [] place ≡ Some n → ⊥
-  nowhere place n is = absurd cc
 
 -- one more, of the new files of a run, was taken as it was
 pub taken_push : {N : Type 0} (contents : N → Option (List ℕ)) (a : Option Files) (files settled : List N) (new taken : N) (all : List (List ℕ)) → HaveBytes contents a files all

@@ -20,7 +20,7 @@ use Rattle.afdx_arguments.specs.declared.request.Paths.{Paths}
 use Rattle.afdx_arguments.specs.declared.request.Inputs.{Inputs}
 use Rattle.afdx_failures.specs.declared.failure.Failure.{Failure}
 use Rattle.afdx_failures.specs.declared.failure.Failure.TheVariants as failure
-use Rattle.afdx_devices.specs.Files.{Files, DeviceLog, KeepsFiles, PutsFiles, one_more, settled_after}
+use Rattle.afdx_folder.specs.Files.{Files, DeviceLog, KeepsFiles, PutsFiles, one_more, settled_after}
 use Rattle.afdx_serve.specs.Measures.{IsMeasured, MeasuresTo}
 use Rattle.afdx_serve.specs.Runs.{inputs_of, IsRunOf, LeadsTo, names_in, bytes_of_captures, StopsAt, EndsAt, StopsRun, EndsRun, FailsToPut, FailsToEnd, FailsToRun, HasPlan, FailsToGetAll, FailsToGather, FailsToLead}
 use Rattle.afdx_serve.specs.Runs.{capture_name}
@@ -194,12 +194,6 @@ not_gathered_run paths a b first after keeps w v none (failure.Capture r) h = ab
 not_gathered_run paths a b first after keeps w v none (failure.Put s) h = absurd h
 not_gathered_run paths a b first after keeps w v none failure.Read h = absurd h
 not_gathered_run paths a b first after keeps w v none failure.Write h = absurd h
-
--- neither do the captures
-pub not_led_run : (paths : Paths) (a b : Option Files) (plan : Plan) (captures : List Text) (first after : DeviceLog) → IsRunOf (inputs_of paths) a plan captures → KeepsFiles a b → after ≡ first
-    → (w v : Option (List ℕ)) → Keeps w v → (f : Failure) → FailsToLead f (table_in plan) captures → FailsToRunAll f paths (world w a first) (world v b after)
-not_led_run paths a b plan captures first after of keeps count w v none f h = not_gathered_run paths a b first after keeps w v none f
-    (not_led (inputs_of paths) a plan captures first after of count f h)
 
 -- what the run of the captures leads to is what the files lead to
 pub leads_to : TablesAreWellFormed → AcceptedRunsIsolate → (paths : Paths) (files : Option Files) (plan : Plan) (captures : List Text) (results : Results)

@@ -32,12 +32,6 @@ module _ (arguments : List (List ℕ)) (input : Option (List ℕ)) (old new : Wo
   fails r asks failure.Write h = inr (r, asks, h)
   fails r asks failure.Memory h = inr (r, asks, h)
 
-  -- the request that was done is that of the arguments
-  pub performed : {T : Type 0} (result : Result T Failure) (r : Request) → Asks arguments r
-      → MatchResult result (λ _. Performs r input old new) (λ f. FailsToPerform f r input old new) → MatchResult result (λ _. Serves arguments input old new) (λ f. Fails f arguments input old new)
-  performed (Ok x) r asks h = inr (r, asks, h)
-  performed (Err f) r asks h = fails r asks f h
-
   network_runs_out : (f : Failure) (r : NetworkRequest) → IsMade f → Asks arguments (request.Network r) → FailsToPerformNetwork f r old new → RunsOut arguments input old new
   network_runs_out f r made asks h = elim (spares f r old new made h) [
     | inl spared ↦ inl spared

@@ -8,7 +8,7 @@ use Rattle.afdx_measure.specs.Report.{report_of}
 use Rattle.afdx_session.specs.Texts.{Text}
 use Rattle.afdx_session.specs.Outcome.{IsDoneOf}
 use Rattle.afdx_arguments.specs.declared.request.Inputs.{Inputs}
-use Rattle.afdx_devices.specs.Files.{Files}
+use Rattle.afdx_folder.specs.Files.{Files}
 use Rattle.afdx_serve.specs.Runs.{HasPlan, HasCaptures}
 
 -- this is reported of the finished switch of these captures; over a checked table it promises the bounds

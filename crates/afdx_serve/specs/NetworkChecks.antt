@@ -3,7 +3,7 @@ use Rattle.std.specs.Prelude.{◌≡◌, ℕ, List}
 use Rattle.afdx_wiring.specs.Net.{Network}
 use Rattle.afdx_wiring.specs.Ways.{AreWaysOf}
 use Rattle.afdx_wiring.specs.declared.ways.Way.{Way}
-use Rattle.afdx_ways.specs.Lines.{accepted_text}
+use Rattle.afdx_network_report.specs.Lines.{accepted_text}
 use Rattle.afdx_serve.specs.Networks.{names_of}
 
 -- the lines of its switches and of its ways

@@ -17,9 +17,9 @@ use Rattle.afdx_wiring.specs.declared.fault.Short.{Short}
 use Rattle.afdx_wiring.specs.declared.fault.NetworkFault.{NetworkFault}
 use Rattle.afdx_wiring.specs.declared.fault.NetworkFault.TheVariants as fault
 use Rattle.afdx_wiring.specs.declared.jitters.RowNeed.{RowNeed}
-use Rattle.afdx_ways.specs.Lines.{jitter_text}
+use Rattle.afdx_network_report.specs.Lines.{jitter_text}
 use Rattle.afdx_failures.specs.declared.failure.Failure.{Failure}
-use Rattle.afdx_devices.specs.Files.{Files}
+use Rattle.afdx_folder.specs.Files.{Files}
 use Rattle.afdx_serve.specs.Networks.{names_of, HasNetwork, IsRefused}
 
 -- the fault of a port whose links ask for more than its line: the one rule of loads that no jitter bears on

@@ -15,7 +15,7 @@ use Rattle.afdx_arguments.specs.declared.request.Paths.{Paths}
 use Rattle.afdx_arguments.specs.declared.request.Inputs.{Inputs}
 use Rattle.afdx_failures.specs.declared.failure.Failure.{Failure}
 use Rattle.afdx_failures.specs.declared.failure.Failure.TheVariants as failure
-use Rattle.afdx_devices.specs.Files.{Files, Shows, ShowsAll, KeepsFiles, KeepsOthers, PutsFiles, DeviceLog, one_more, settled_after}
+use Rattle.afdx_folder.specs.Files.{Files, Shows, ShowsAll, KeepsFiles, KeepsOthers, PutsFiles, DeviceLog, one_more, settled_after}
 
 -- ---- names
 

@@ -26,10 +26,10 @@ use Rattle.afdx_serve.specs.Networks.{names_of, HasNetwork, IsRefused, FailsToGe
 use Rattle.afdx_serve.specs.NetworkChecks.{IsNetworkCheck}
 use Rattle.afdx_serve.specs.NetworkJitters.{JittersAre, FailsToFit}
 use Rattle.afdx_serve.specs.NetworkRuns.{LeadsToNetwork, FailsToPutNetwork, names_at, bytes_at, captures_of, reports_of}
-use Rattle.afdx_devices.specs.Files.{Files, DeviceLog, KeepsFiles, PutsFiles, one_more, settled_after}
+use Rattle.afdx_folder.specs.Files.{Files, DeviceLog, KeepsFiles, PutsFiles, one_more, settled_after}
 use Rattle.afdx_session.specs.Outcome.{Results}
-use Rattle.afdx_devices.specs.Input.{AreGiven}
-use Rattle.afdx_devices.specs.Output.{AppendsPrefix}
+use Rattle.afdx_folder.specs.Input.{AreGiven}
+use Rattle.afdx_folder.specs.Output.{AppendsPrefix}
 use Rattle.afdx_serve.specs.Measures.{MeasuresTo}
 use Rattle.afdx_serve.specs.Traces.{PutsTrace, FailsToTrace}
 use Rattle.afdx_serve.specs.Runs.{HasTable, HasNoTable, LeadsTo, FailsToGather, FailsToRun, names_in, bytes_of_captures, report_in}

@@ -4,14 +4,14 @@ ghost use Rattle.std.specs.Prelude.{◌≡◌, ℕ, List, false, not, MatchResul
 ghost use Rattle.afdx_load.specs.Accepted.{IsAccepted};
 ghost use Rattle.afdx_session.specs.Texts.{texts_of};
 ghost use Rattle.afdx_session.specs.Outcome.{table_in, is_cleared};
-ghost use Rattle.afdx_devices.specs.Files.{Shows, KeepsFiles};
+ghost use Rattle.afdx_folder.specs.Files.{Shows, KeepsFiles};
 ghost use Rattle.afdx_serve.specs.Runs.{inputs_of, IsRunOf, FailsToPlan, FailsToGather};
 ghost use Rattle.afdx_serve.specs.Inner.Leading.{IsPlanOf, FailsToReadPlan};
 
 use crate::get::{get_captures, get_text};
 use afdx_arguments::{Inputs, Paths};
-use afdx_devices::Folder;
 use afdx_failures::Failure;
+use afdx_folder::Folder;
 use afdx_session::Plan;
 use afdx_table::Table;
 use std::alloc::Global;

@@ -2,14 +2,14 @@
 
 ghost use Rattle.std.specs.Prelude.{◌≡◌, map, string_bytes, MatchResult};
 ghost use Rattle.afdx_session.specs.Texts.{texts_of};
-ghost use Rattle.afdx_devices.specs.Files.{Shows, KeepsFiles, DeviceLog, IsCause};
+ghost use Rattle.afdx_folder.specs.Files.{Shows, KeepsFiles, DeviceLog, IsCause};
 ghost use Rattle.afdx_serve.specs.Runs.{HasTable, HasCaptures, FailsToGet, FailsToGetAll, FailsToRead};
 ghost use Rattle.afdx_serve.specs.Inner.Leading.{AreOpened};
 ghost use Rattle.afdx_serve.specs.Inner.OpenPorts.{FailsToGetNamed};
 
 use crate::names::capture_name;
-use afdx_devices::{Folder, FolderFault};
 use afdx_failures::Failure;
+use afdx_folder::{Folder, FolderFault};
 use afdx_table::Table;
 use std::alloc::Global;
 

@@ -7,7 +7,7 @@ ghost use Rattle.afdx_session.specs.Texts.{Text};
 ghost use Rattle.afdx_session.specs.Outcome.{table_in};
 ghost use Rattle.afdx_session.specs.Sources.{AreRead, IsSourceFault};
 ghost use Rattle.afdx_session.specs.Written.{IsWritten};
-ghost use Rattle.afdx_devices.specs.Files.{Files, Shows, KeepsFiles};
+ghost use Rattle.afdx_folder.specs.Files.{Files, Shows, KeepsFiles};
 ghost use Rattle.afdx_serve.specs.Runs.{inputs_of, port_names, HasCaptures, FailsToGather};
 ghost use Rattle.afdx_serve.specs.Inner.Leading.{IsPlanOf, IsLed, FailsToLeadFrom};
 
@@ -15,8 +15,8 @@ use crate::get::{get_failure, open_all};
 use crate::names::port_names;
 use crate::outputs::{abandon_all, begin_all};
 use afdx_arguments::Paths;
-use afdx_devices::{Folder, NewFile};
 use afdx_failures::Failure;
+use afdx_folder::{Folder, NewFile};
 use afdx_session::laws::accepted_runs_isolate;
 use afdx_session::{Plan, SourceFault, run_from};
 use afdx_table::laws::tables_are_well_formed;

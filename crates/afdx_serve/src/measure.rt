@@ -3,15 +3,15 @@
 ghost use Rattle.std.specs.Prelude.{◌≡◌, true, MatchResult, string_bytes};
 ghost use Rattle.afdx_session.specs.Texts.{texts_of, AreOfPorts};
 ghost use Rattle.afdx_session.specs.Outcome.{table_in, is_cleared};
-ghost use Rattle.afdx_devices.specs.Files.{KeepsFiles};
+ghost use Rattle.afdx_folder.specs.Files.{KeepsFiles};
 ghost use Rattle.afdx_serve.specs.Measures.{IsMeasured, MeasuresTo};
 ghost use Rattle.afdx_serve.specs.Runs.{FailsToLead, FailsToGather};
 ghost use Rattle.afdx_serve.specs.Serving.{world, Measures, FailsToMeasure};
 
 use crate::gathering::gather;
 use afdx_arguments::Inputs;
-use afdx_devices::{Folder, write_bytes};
 use afdx_failures::Failure;
+use afdx_folder::{Folder, write_bytes};
 use afdx_measure::laws::accepted_tables_stay_within_the_load;
 use afdx_session::Plan;
 use std::alloc::Global;

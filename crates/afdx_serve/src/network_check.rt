@@ -8,9 +8,9 @@ ghost use Rattle.afdx_serve.specs.NetworkChecks.{IsNetworkCheck};
 ghost use Rattle.afdx_serve.specs.Serving.{world, ChecksNetwork, FailsToCheckNetwork};
 
 use crate::network_get::{get_network, names_of, refused};
-use afdx_devices::{Folder, write_bytes};
 use afdx_failures::Failure;
-use afdx_ways::accepted_text;
+use afdx_folder::{Folder, write_bytes};
+use afdx_network_report::accepted_text;
 use afdx_wiring::{ClearedNetwork, Network, NetworkFault};
 use std::alloc::{AllocError, Global};
 use std::io::Write;

@@ -3,13 +3,13 @@
 ghost use Rattle.std.specs.Prelude.{◌≡◌, ℕ, List, Ok, length, map, slice_get, option_map, option_and_then, string_bytes, IfOk, MatchResult};
 ghost use Rattle.std.specs.Path.{path_with_file_name};
 ghost use Rattle.afdx_wiring.specs.Order.{lost_port};
-ghost use Rattle.afdx_devices.specs.Files.{KeepsFiles};
+ghost use Rattle.afdx_folder.specs.Files.{KeepsFiles};
 ghost use Rattle.afdx_serve.specs.Networks.{bytes_in, names_of, HasLayout, HasTexts, AreTables, HasNetwork, switch_of, IsRefused, IsRefusedTable};
 ghost use Rattle.afdx_serve.specs.Networks.{FailsToLayout, FailsToGetTexts, FailsToReadTables, FailsToJoin, FailsToGetNetwork};
 
 use crate::get::get;
-use afdx_devices::Folder;
 use afdx_failures::Failure;
+use afdx_folder::Folder;
 use afdx_lines::NetworkFailure;
 use afdx_table::{Table, TableFault};
 use afdx_wiring::{Layout, Network, NetworkFault, Switch};

@@ -10,12 +10,12 @@ ghost use Rattle.afdx_failures.specs.declared.failure.Failure.TheVariants.{Memor
 ghost use Rattle.afdx_serve.specs.Serving.{world, GivesJitters, FailsToGiveJitters};
 
 use crate::network_get::{get_network, names_of, refused};
-use afdx_devices::{Folder, write_bytes};
 use afdx_failures::Failure;
+use afdx_folder::{Folder, write_bytes};
 use afdx_load::{LoadFault, Loads, PARTS, Rule, breaks, loads};
+use afdx_network_report::jitter_text;
 use afdx_table::laws::ports_are_found;
 use afdx_table::{PortRow, Table};
-use afdx_ways::jitter_text;
 use afdx_wiring::{Needs, Network, NetworkFault};
 use std::alloc::Global;
 use std::io::Write;

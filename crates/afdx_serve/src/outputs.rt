@@ -1,13 +1,13 @@
 //! The outputs of a run: new files, which are put under their names at the end, once the device has taken all of them.
 
 ghost use Rattle.std.specs.Prelude.{◌≡◌, ℕ, List, length, map, string_bytes, Option, Some, IfOk, IfSome, MatchResult};
-ghost use Rattle.afdx_devices.specs.Files.{Files, KeepsFiles, KeepsOthers, PutsFile, PutsFiles, one_settled, settled_after};
+ghost use Rattle.afdx_folder.specs.Files.{Files, KeepsFiles, KeepsOthers, PutsFile, PutsFiles, one_settled, settled_after};
 ghost use Rattle.afdx_serve.specs.Runs.{FailsToPut, FailsToPutOne};
 ghost use Rattle.afdx_serve.specs.Inner.Outputs.{AreEmpty, HaveBytes, FailsToSettle, FailsToMove};
 
 use crate::put::put_failure;
-use afdx_devices::{Folder, NewFile};
 use afdx_failures::Failure;
+use afdx_folder::{Folder, NewFile};
 use std::alloc::{AllocError, Global};
 use std::vec::IntoIter;
 

@@ -1,10 +1,10 @@
 //! Why a file was not put into a folder.
 
-ghost use Rattle.afdx_devices.specs.Files.{DeviceLog, IsCause};
+ghost use Rattle.afdx_folder.specs.Files.{DeviceLog, IsCause};
 ghost use Rattle.afdx_serve.specs.Runs.{FailsToPutOne};
 
-use afdx_devices::FolderFault;
 use afdx_failures::Failure;
+use afdx_folder::FolderFault;
 use std::alloc::Global;
 
 /// The failure of a put under this name.

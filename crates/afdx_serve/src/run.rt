@@ -8,8 +8,8 @@ use crate::leading::lead;
 use crate::names::port_names;
 use crate::outputs::put_all;
 use afdx_arguments::Paths;
-use afdx_devices::{Folder, write_bytes};
 use afdx_failures::Failure;
+use afdx_folder::{Folder, write_bytes};
 use std::alloc::Global;
 use std::io::Write;
 

@@ -14,8 +14,8 @@ use crate::size::size;
 use crate::trace::trace;
 use afdx_alone::read_alone;
 use afdx_arguments::{Alone, NoRequest, Request, parse};
-use afdx_devices::{Folder, write_bytes};
 use afdx_failures::{Ending, Failure, report};
+use afdx_folder::{Folder, write_bytes};
 use std::alloc::Global;
 use std::io::{Read, Write};
 

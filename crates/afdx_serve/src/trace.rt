@@ -5,15 +5,15 @@ ghost use Rattle.afdx_core.specs.Isolation.{IsIsolatedRun};
 ghost use Rattle.afdx_core.specs.State.{State};
 ghost use Rattle.afdx_session.specs.Texts.{texts_of, AreOfPorts};
 ghost use Rattle.afdx_session.specs.Outcome.{table_in, is_cleared, IsDoneOf};
-ghost use Rattle.afdx_devices.specs.Files.{KeepsFiles, settled_after};
+ghost use Rattle.afdx_folder.specs.Files.{KeepsFiles, settled_after};
 ghost use Rattle.afdx_serve.specs.Runs.{inputs_of, FailsToLead, FailsToGather};
 ghost use Rattle.afdx_serve.specs.Traces.{trace_names, trace_texts, IsTraceIn, PutsTrace, FailsToTrace};
 
 use crate::gathering::{gather, inputs_of};
 use crate::outputs::put_texts;
 use afdx_arguments::Paths;
-use afdx_devices::Folder;
 use afdx_failures::Failure;
+use afdx_folder::Folder;
 use afdx_session::Plan;
 use std::alloc::{AllocError, Global};
 

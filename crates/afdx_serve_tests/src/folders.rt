@@ -1,10 +1,10 @@
 //! Commands over a folder in memory, one of whose calls fails, and over one that opens its files. Values from outside: tables,
 //! captures and printed lines.
 
-use afdx_devices::FolderFault;
 use afdx_fixtures::{
     Broken, CHECKED, MemoryFolder, OneFrame, REPORT, RUN, answers, captured, folder_of,
 };
+use afdx_folder::FolderFault;
 use afdx_samples::{capture, single};
 use std::alloc::{AllocError, Global};
 

@@ -1,8 +1,8 @@
 //! The messages of faults: each is its variant's name.
 
 use afdx_alone::AloneFault;
-use afdx_devices::FolderFault;
 use afdx_failures::Failure;
+use afdx_folder::FolderFault;
 use afdx_load::{LoadFault, Rule};
 use afdx_pcap::PcapFault;
 use afdx_table::TableFault;

@@ -1,7 +1,7 @@
 //! `afdx network run` over a folder in memory, one of whose calls fails. Values from outside: tables, captures and printed lines.
 
-use afdx_devices::FolderFault;
 use afdx_fixtures::{MemoryFolder, answers};
+use afdx_folder::FolderFault;
 use afdx_samples::{HEADER, capture, network_file, port, small, small_link, table};
 use std::alloc::{AllocError, Global};
 

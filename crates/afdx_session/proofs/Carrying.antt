@@ -27,7 +27,7 @@ use Rattle.afdx_session.specs.Texts.{Text}
 use Rattle.afdx_session.specs.Reading.{IsSound}
 use Rattle.afdx_session.specs.Inner.Settled.{first_place, IsGiven, HandsOut, IsWithin}
 use Rattle.afdx_session.proofs.FirstHeads.{set_twice, heads_set}
-use Rattle.afdx_instants.specs.Instants.{instant_at, IsFirstUpTo}
+use Rattle.afdx_earliest.specs.Instants.{instant_at, IsFirstUpTo}
 use Rattle.afdx_session.specs.Inner.Lanes.{limit_at, with_waiting, head_of, heads_of, IsFirstOf, IsLimit, NoneGoes, IsReadOn, HasDrawn, IsLaneFault}
 use Rattle.afdx_session.specs.Inner.Lent.{AreSound, IsOver, texts_over, taken_by, left_of, left_in, IsOneFault, IsCarrying, CarriesOn, HandsOn}
 use Rattle.afdx_session.specs.Inner.Kept.{AreOfTable, AreOut, Every, IsGoing, AreTouched, IsGrown, AreGrown, IsOfSameTable}

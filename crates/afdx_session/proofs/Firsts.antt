@@ -10,7 +10,7 @@ use Rattle.afdx_core.specs.Inner.Merge.{ByStampIsOrdered}
 use Rattle.afdx_session.specs.declared.lane.Lane.{Lane}
 use Rattle.afdx_session.specs.Streams.{Stream, captures_of, last_of}
 use Rattle.afdx_session.specs.Inner.Settled.{Ascend, ports_of, first_place, limit, IsWithin, HeadFrom, ComesFirst, AllRise, without, IsSettling, IsPast}
-use Rattle.afdx_instants.specs.Instants.{instant_at, IsFirstUpTo}
+use Rattle.afdx_earliest.specs.Instants.{instant_at, IsFirstUpTo}
 use Rattle.afdx_session.specs.Inner.Lanes.{waiting_of, limit_at, head_of, heads_of, with_waiting, Goes}
 use Rattle.afdx_session.specs.Inner.Kept.{AreLanesOf}
 use Rattle.afdx_session.proofs.Giving.{settles_on}

@@ -15,7 +15,7 @@ use Rattle.afdx_table.specs.declared.rows.PortRow.{PortRow}
 use Rattle.afdx_table.specs.Content.{Content}
 use Rattle.afdx_table.specs.WellFormed.{Rises}
 use Rattle.afdx_count.specs.Tally.{Tally}
-use Rattle.afdx_devices.specs.Input.{AreGiven}
+use Rattle.afdx_folder.specs.Input.{AreGiven}
 use Rattle.afdx_session.specs.declared.plan.RunFault.{RunFault}
 use Rattle.afdx_session.specs.declared.plan.RunFault.TheVariants as run
 use Rattle.afdx_session.specs.Texts.{Text}
@@ -395,11 +395,6 @@ reads_last remaining v readers port place r s of may there gives end last = reco
   read = λ first was. read_nothing remaining v first readers port place r s may there gives was;
   all = λ none first was. all_at_end remaining v first readers port place there.own s of there.many last end was;
 }
-
--- a call at a port that may go on was refused for its bytes
-pub for_its_bytes : (v later : Seen) (port : ℕ) (fault : RunFault) (Why : Type 0) → refusal v port ≡ None → IsRefused v later port fault Why → Why
-for_its_bytes v later port fault Why may (inl is) = let none : Some fault ≡ None = sym is.0 ∙ may in absurd cc
-for_its_bytes v later port fault Why may (inr is) = is.2
 
 pub of_piece : (bytes : List ℕ) (port : ℕ) (fault : RunFault) → IsPieceFault bytes port fault → IsOfBytes fault
 of_piece bytes port run.Memory is = tt

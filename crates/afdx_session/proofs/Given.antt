@@ -28,7 +28,7 @@ use Rattle.afdx_session.specs.declared.lane.Lane.{Lane}
 use Rattle.afdx_session.specs.Output.{rows_of, written}
 use Rattle.afdx_session.specs.Streams.{Stream, frontier, last_instant}
 use Rattle.afdx_session.specs.Inner.Settled.{first_place, without, IsGiven, HeadFrom, AllRise, IsPast, IsWithin}
-use Rattle.afdx_instants.specs.Instants.{IsFirstUpTo}
+use Rattle.afdx_earliest.specs.Instants.{IsFirstUpTo}
 use Rattle.afdx_session.specs.Inner.Lanes.{waiting_of, limit_at, heads_of, with_waiting, IsFirstOf, Goes, NoneGoes}
 use Rattle.afdx_session.specs.Inner.Kept.{AreLanesOf, AreOfTable, come_to, text_up_to, IsOut, IsGoing, HasCome}
 use Rattle.afdx_session.proofs.Joining.{AllFrom, frames-from}

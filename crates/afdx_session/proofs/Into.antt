@@ -14,7 +14,7 @@ use Rattle.afdx_core.specs.State.{State}
 use Rattle.afdx_core.specs.Merge.{Capture, merged}
 use Rattle.afdx_count.specs.Tally.{Tally}
 use Rattle.afdx_count.specs.Run.{counts_of}
-use Rattle.afdx_instants.specs.Instants.{instant_at}
+use Rattle.afdx_earliest.specs.Instants.{instant_at}
 use Rattle.afdx_session.specs.declared.lane.Lane.{Lane}
 use Rattle.afdx_session.specs.declared.machine.Machine.{Machine}
 use Rattle.afdx_session.specs.Texts.{Text}

@@ -266,28 +266,6 @@ carrying_on mid next of handed going over switch counts = record {
   over = over;
 }
 
-pub proceeds_none : {F Z : Type 0} (contents : F → Option (List ℕ)) (m : Machine Z) (files : List F) → IsCarrying m → Proceeds contents m files m files
-proceeds_none contents m files carrying = record {
-  carrying = carrying;
-  same = record { table = refl; accepted = refl; keeps = refl; handed = refl };
-  texts = refl;
-  many = refl;
-  long = refl;
-  more = λ start have. have;
-}
-
--- more records went to the switch
-pub proceeds_on : {F Z : Type 0} (contents : F → Option (List ℕ)) (start m next : Machine Z) (files now : List F) (more : Bool) → Proceeds contents start files m now
-    → IsOfSameTable m.switch next.switch → CarriesOn more m next → Proceeds contents start files next now
-proceeds_on contents start m next files now more was same on = record {
-  carrying = on.carrying;
-  same = same_both start.switch m.switch next.switch was.same same;
-  texts = on.texts ∙ was.texts;
-  many = same_length m.lanes.items next.lanes.items on.taken ∙ was.many;
-  long = was.long;
-  more = λ first have. subst (λ ns. HaveMore contents start.switch.run.table (texts_over start.lanes.items) ns first now) (sym on.taken) (was.more first have);
-}
-
 -- what left went to the files
 pub proceeds_out : {F Z : Type 0} (contents : F → Option (List ℕ)) (m mid next : Machine Z) (now after : List F) → HandsOn m mid → PutsOut contents mid now next.lanes.items after
     → next.switch ≡ mid.switch → next.counts ≡ mid.counts → Proceeds contents m now next after

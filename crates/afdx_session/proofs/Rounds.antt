@@ -20,7 +20,7 @@ use Rattle.afdx_count.specs.Inner.Laws.{NoteCountsOneMore}
 use Rattle.afdx_session.specs.declared.lane.Lane.{Lane}
 use Rattle.afdx_session.specs.declared.machine.Machine.{Machine}
 use Rattle.afdx_session.specs.Inner.Settled.{first_place, IsWithin}
-use Rattle.afdx_instants.specs.Instants.{IsFirstIn}
+use Rattle.afdx_earliest.specs.Instants.{IsFirstIn}
 use Rattle.afdx_session.specs.Inner.Lanes.{waiting_of, limit_at, head_of, heads_of, with_waiting, IsLimit, Goes, GoesAt, NoneGoes}
 use Rattle.afdx_session.specs.Inner.Kept.{AreOfTable, IsGoing, AreTouched, IsOfSameTable}
 use Rattle.afdx_session.specs.Inner.View.{HasGone, IsRound}

@@ -9,7 +9,7 @@ use Rattle.std.proofs.lemmas.Option.{same_Some}
 use Rattle.std.proofs.Math.Numerals.{suc-eq-add-one}
 use Rattle.afdx_pcap.specs.declared.fault.PcapFault.{PcapFault}
 use Rattle.afdx_pcap.specs.Fault.{IsFault, IsEarlyFault}
-use Rattle.afdx_devices.specs.Input.{AreGiven}
+use Rattle.afdx_folder.specs.Input.{AreGiven}
 use Rattle.afdx_session.specs.declared.lane.Lane.{Lane}
 use Rattle.afdx_session.specs.declared.sources.SourceFault.{SourceFault}
 use Rattle.afdx_session.specs.declared.sources.SourceFault.TheVariants as fault

@@ -298,34 +298,7 @@ gone_is_left {Z} goes_on reaches takes law t texts m r gone table run keeps coun
         ∙ rest_of_port goes_on reaches given going.since m.switch p place from.0 rows is_port (going.outs place p from.0 tt is_port from.1);
   }
 
--- and what went to the files
-pub rest_is_left : {F Z : Type 0} → SentGoesOn → ReachesInOrder → TakenAreTheCapture → EndCountsTheRun
-    → (contents : F → Option (List ℕ)) (t : Content) (texts : List Text) (m : Machine Z) (r : Rest)
-    (files now : List F) → AreOfPorts t texts → m.switch.run.table ≡ t → HasWritten contents texts m files now
-    → r.state.run ≡ after_finish m.switch.run → Keeps m.switch r.state → r.counts ≡ ended_tally (after_finish m.switch.run) m.counts
-    → r.texts ≡ map (λ (l : Lane Z). (l.port, l.out.items)) m.lanes.items → r.taken ≡ taken_by m.lanes.items → HasRest contents t texts r files now
-rest_is_left {F} goes_on reaches takes law contents t texts m r files now ports table has run keeps counts outs taken =
-    let read = captures_of has.gone.carrying.going.streams in
-    let both = gone_is_left goes_on reaches takes law t texts m r has.gone table run keeps counts outs taken in
-    record {
-      ports = ports;
-      read = read;
-      are_read = both.0;
-      left = both.1;
-      prefixes = subst (λ (c : Content). HavePrefixes contents c (merged read) r.taken files now) table
-          (subst (λ ns. HavePrefixes contents m.switch.run.table (merged read) ns files now) (sym taken) (has.more read both.0));
-    }
-
 -- ---- the files have the whole
-
--- there are as many captures as ports
-pub as_many_texts : {Y : Type 0} (t : Content) (captures : List (ℕ × Vec ℕ Y)) → AreOfPorts t (texts_of captures) → length captures ≡ length t.ports
-as_many_texts t captures ports =
-    let a = length-map {B = Text} captures (λ pair. (pair.0, pair.1.items)) in
-    let b = length-map (texts_of captures) (λ (text : Text). text.0) in
-    let same = ap length ports in
-    let d = length-map t.ports (λ (p : PortRow). p.id) in
-    omega (arith, a, b, same, d)
 
 pub rests_none : {F : Type 0} (contents : F → Option (List ℕ)) (t : Content) (arrivals : List Arrival) (taken : List ℕ) (files : List F) → HaveRests contents t arrivals taken 0 files files
 rests_none contents t arrivals taken files = record {

@@ -1,7 +1,7 @@
 -- Captures that are read in pieces, from readers.
 use Rattle.std.specs.Prelude.{ℕ, ◌<◌, ◌≡◌, List, length, slice_get, Option, Some}
 use Rattle.afdx_pcap.specs.declared.fault.PcapFault.{PcapFault}
-use Rattle.afdx_devices.specs.Input.{AreGiven}
+use Rattle.afdx_folder.specs.Input.{AreGiven}
 use Rattle.afdx_table.specs.Content.{Content}
 use Rattle.afdx_session.specs.declared.sources.SourceFault.{SourceFault}
 use Rattle.afdx_session.specs.declared.sources.SourceFault.TheVariants as fault

@@ -31,8 +31,8 @@ use afdx_core::laws::{by_stamp_is_ordered, merged_is_a_merge, merged_is_by_stamp
 use afdx_core::{CoreFault, Relay};
 use afdx_count::Counts;
 use afdx_count::laws::note_counts_one_more;
-use afdx_devices::NewFile;
-use afdx_instants::Instants;
+use afdx_earliest::Instants;
+use afdx_folder::NewFile;
 use afdx_pcap::Record;
 use afdx_pcap::laws::{
     each_file_has_one_reading, taken_records_are_the_first, taken_records_begin_the_capture,

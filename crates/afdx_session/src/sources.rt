@@ -14,7 +14,7 @@ use crate::plan::{Plan, RunFault};
 use crate::session::Session;
 use crate::stop::{Stop, stop_of};
 use afdx_count::Counts;
-use afdx_devices::NewFile;
+use afdx_folder::NewFile;
 use afdx_pcap::PcapFault;
 use afdx_table::PortRow;
 use std::alloc::{AllocError, Allocator};

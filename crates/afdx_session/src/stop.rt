@@ -1,7 +1,7 @@
 //! Where a run over readers stopped, and which failure it answers.
 
 ghost use Rattle.std.specs.Prelude.{◌≡◌, ◌≤◌, ◌<◌, ◌+◌, ◌++◌, ℕ, List, length, take, IfOk, IfErr};
-ghost use Rattle.afdx_devices.specs.Input.{AreGiven};
+ghost use Rattle.afdx_folder.specs.Input.{AreGiven};
 ghost use Rattle.afdx_table.specs.Content.{Content};
 ghost use Rattle.afdx_session.specs.Texts.{Text};
 ghost use Rattle.afdx_session.specs.Sources.{IsSourceFault, HasFirstFault};

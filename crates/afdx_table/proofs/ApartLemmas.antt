@@ -3,7 +3,7 @@ use Rattle.std.proofs.Common.{◌≡◌, ℕ, ◌+◌, ◌<◌, true, List, [], 
 use Rattle.std.proofs.lemmas.Bool.Decides.{nat_tests}
 use Rattle.toml.specs.Data.{Members}
 use Rattle.toml.specs.Parse.{ends_line, parse_document}
-use Rattle.afdx_link_texts.specs.Joined.{joined, are_plain}
+use Rattle.afdx_toml_split.specs.Joined.{joined, are_plain}
 use Rattle.afdx_table.specs.declared.fault.At.TheVariants as place
 use Rattle.afdx_table.specs.declared.rows.PortRow.{PortRow}
 use Rattle.afdx_table.specs.Link.{Link}

@@ -4,7 +4,7 @@ use Rattle.std.proofs.lemmas.Option.{none-some, same_Some}
 use Rattle.toml.specs.Data.{Data, as_array, as_table}
 use Rattle.toml.specs.View.{view, items_view}
 use Rattle.toml.specs.declared.value.Value.{Value}
-use Rattle.afdx_link_texts.specs.Joined.{is_plain, ends_in_table}
+use Rattle.afdx_toml_split.specs.Joined.{is_plain, ends_in_table}
 use Rattle.afdx_table.proofs.Says.{is_array}
 
 pub some_mapped : {A B : Type 0} (f : A → B) (o : Option A) → is_some (option_map f o) ≡ is_some o

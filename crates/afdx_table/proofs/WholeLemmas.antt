@@ -12,8 +12,8 @@ use Rattle.toml.specs.Parse.{parse_document}
 use Rattle.toml.specs.View.{view, members_view}
 use Rattle.toml.specs.declared.value.Value.{Value}
 use Rattle.toml.proofs.Views.{view-lookup}
-use Rattle.afdx_link_texts.specs.Joined.{link, joined, items_of, all_keys as every_key, HasLinks}
-use Rattle.afdx_link_texts.specs.Laws.{LinksAreReadApart}
+use Rattle.afdx_toml_split.specs.Joined.{link, joined, items_of, all_keys as every_key, HasLinks}
+use Rattle.afdx_toml_split.specs.Laws.{LinksAreReadApart}
 use Rattle.afdx_table.specs.declared.fault.At.{At}
 use Rattle.afdx_table.specs.declared.fault.At.TheVariants as place
 use Rattle.afdx_table.specs.declared.fault.Key.{Key}

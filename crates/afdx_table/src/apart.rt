@@ -4,7 +4,7 @@ ghost use Rattle.std.specs.Prelude.{◌≡◌, ◌≤◌, ◌∷◌, [], true, f
 ghost use Rattle.toml.specs.Data.{Members};
 ghost use Rattle.toml.specs.View.{view, table_view};
 ghost use Rattle.toml.specs.Parse.{ends_line, parse_document};
-ghost use Rattle.afdx_link_texts.specs.Joined.{joined, is_plain, are_plain};
+ghost use Rattle.afdx_toml_split.specs.Joined.{joined, is_plain, are_plain};
 ghost use Rattle.afdx_table.specs.Links.{has_link, link_at};
 ghost use Rattle.afdx_table.specs.Inner.Apart.{AreReadApart};
 
@@ -13,7 +13,7 @@ use crate::limits::MAX_LINKS;
 use crate::link_map::LinkMap;
 use crate::links::read_link;
 use crate::rows::{LinkRow, PortRow};
-use afdx_link_texts::laws::links_are_read_apart;
+use afdx_toml_split::laws::links_are_read_apart;
 use std::alloc::Global;
 use toml::{Table as Tree, Value};
 

@@ -18,7 +18,7 @@ use crate::links::read_links;
 use crate::ports::{port_of, read_ports};
 use crate::rows::{LinkRow, PortRow};
 use crate::top::read_top;
-use afdx_link_texts::laws::links_are_read_apart;
+use afdx_toml_split::laws::links_are_read_apart;
 use std::alloc::{AllocError, Global};
 use std::marker::Model;
 use toml::Table as Tree;

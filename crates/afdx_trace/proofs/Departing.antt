@@ -22,9 +22,6 @@ abbrev pub LeftOf : ℕ → Settings → List Sent → List Aged → List Sent �
 LeftOf port s sent₀ aged₀ sent aged number start text = (all : List Event) → AreInOrder all → sent_of all ≡ sent₀ → aged_of all ≡ aged₀
     → Left port s all sent aged number start text
 
-pub left_first : (port : ℕ) (s : Settings) (sent : List Sent) (aged : List Aged) (start : List ℕ) → LeftOf port s sent aged sent aged 0 start start
-left_first port s sent aged start all order sent_is aged_is = record { events = all; order = order; sent_is = sent_is; aged_is = aged_is; text_is = refl }
-
 aged_late : (t : ℕ) (events : List Event) (a : Aged) (aged : List Aged) → AllByRecursion (λ event. t < instant event) events → aged_of events ≡ a ∷ aged → t < a.at
 aged_late t [] a aged late is = absurd (let e : [] ≡ a ∷ aged = is in cc)
 aged_late t (sending x ∷ events) a aged late is = aged_late t events a aged late.1 is
@@ -62,16 +59,6 @@ pub ages_next-starts : (events : List Event) → AreInOrder events → ages_next
 ages_next-starts [] order = refl
 ages_next-starts (sending x ∷ events) order = after_sent x events (aged_of events) order.0 refl
 ages_next-starts (aging a ∷ events) order = after_aged a events (sent_of events) order.0 refl
-
--- where there are events, it is there
-pub some_sent : (sent : List Sent) (aged : List Aged) → ages_next sent aged ≡ false → 0 < length sent + length aged → 0 < length sent
-some_sent [] [] next some = some
-some_sent [] (a ∷ aged) next some = not_both (sym next)
-some_sent (x ∷ sent) aged next some = omega arith
-
-pub some_aged : (sent : List Sent) (aged : List Aged) → ages_next sent aged ≡ true → 0 < length aged
-some_aged sent [] next = not_both next
-some_aged sent (a ∷ aged) next = omega arith
 
 -- ---- one line more
 

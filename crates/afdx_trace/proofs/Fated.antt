@@ -21,9 +21,6 @@ use Rattle.afdx_trace.specs.Inner.Tracing.{IsPassed, IsPoliced, Traces}
 abbrev fields_by : Run → List Row → Row → Option Link → List (List ℕ)
 fields_by r before row o = fate_word (fate_by o before row) ∷ optional (early_in o before row) ∷ joined_by (codes ";") (map decimal (full_in r o before row)) ∷ []
 
-pub filtered_fields : (r : Run) (before : List Row) (row : Row) → named r.table row.verdict ≡ None → verdict_word row.verdict ∷ [] ∷ [] ∷ [] ≡ fate_fields r before row
-filtered_fields r before row none = sym (ap (fields_by r before row) none)
-
 -- those of a link's frame, by whether it is passed
 abbrev judged_fields : Run → List Row → Row → Link → Bool → List (List ℕ)
 judged_fields r before row l p = fate_word (cond p (Passed l.id) (Policed l.id))
@@ -35,12 +32,6 @@ pub passed_fields : (r : Run) (before : List Row) (row : Row) (to full : List �
 passed_fields r before row to full p is =
     ap (λ (ports : List ℕ). codes "passed" ∷ [] ∷ joined_by (codes ";") (map decimal ports) ∷ []) (is ∙ ap (refusing r (length before)) p.leads)
     ∙ sym (ap (fields_by r before row) p.names ∙ ap (judged_fields r before row p.link) p.is_passed)
-
-pub policed_fields : (r : Run) (before : List Row) (row : Row) (early : ℕ) → IsPoliced r.table before row early
-    → codes "policed" ∷ decimal early ∷ [] ∷ [] ≡ fate_fields r before row
-policed_fields r before row early p =
-    ap (λ (ns : ℕ). codes "policed" ∷ decimal ns ∷ [] ∷ []) p.is_early
-    ∙ sym (ap (fields_by r before row) p.names ∙ ap (judged_fields r before row p.link) p.is_policed)
 
 -- ---- all arrivals
 

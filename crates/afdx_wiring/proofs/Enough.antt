@@ -10,8 +10,8 @@ use Rattle.afdx_table.specs.Link.{Link}
 use Rattle.afdx_table.specs.Content.{Content, port_row, link_row}
 use Rattle.afdx_load.specs.Bounds.{bounds_of}
 use Rattle.afdx_grouping.specs.Groups.{lesser_load}
-use Rattle.afdx_series.specs.declared.delays.Delays.{Delays}
-use Rattle.afdx_series.specs.Delay.{hop_of, joined, at_once, IsEnough, least_jitter}
+use Rattle.afdx_jitter.specs.declared.delays.Delays.{Delays}
+use Rattle.afdx_jitter.specs.Delay.{hop_of, joined, at_once, IsEnough, least_jitter}
 use Rattle.afdx_wiring.specs.Net.{Network, Row, Back, port_at, row_at, row_in, rows_of, is_wired, bound_in, bound_at, IsWayBack, source_of, AreDelays}
 use Rattle.afdx_wiring.specs.Rules.{HasJitters}
 use Rattle.afdx_wiring.specs.Refusal.{Gives}

@@ -10,7 +10,7 @@ use Rattle.afdx_table.specs.WellFormed.{IsLink, IsWellFormed}
 use Rattle.afdx_table.specs.Inner.Found.{LinksAreFound, LinksAreAtTheirPlaces}
 use Rattle.afdx_load.specs.Inner.Laws.{HighLinksLeaveAPart}
 use Rattle.afdx_grouping.specs.Laws.{NoMoreIsPaidFor, LesserCurvesNeedLess}
-use Rattle.afdx_series.specs.Delay.{at_once, IsEnough}
+use Rattle.afdx_jitter.specs.Delay.{at_once, IsEnough}
 use Rattle.afdx_wiring.specs.declared.fault.Short.{Short}
 use Rattle.afdx_wiring.specs.declared.jitters.RowNeed.{RowNeed}
 use Rattle.afdx_wiring.specs.Net.{Network, Row, rows_of, row_at, ingress, wire_to, IsSource, source_of}

@@ -17,15 +17,6 @@ use Rattle.afdx_grouping.specs.Lined.{is_lined}
 use Rattle.afdx_wiring.specs.Net.{Network, is_wired}
 use Rattle.afdx_wiring.specs.Inner.Loads.{loads_from}
 
--- those of one switch more
-pub loads_go : (net : Network) (before : List (List Load)) (n : ℕ) (ts : List Content) (t : Content) → n < length ts → t ≡ get_or ts n t
-    → (before ++ lesser_loads (is_wired net n) t ∷ []) ++ loads_from net (n + 1) (drop (n + 1) ts) ≡ before ++ loads_from net n (drop n ts)
-loads_go net before n ts t within is =
-    let rest : drop n ts ≡ t ∷ drop (n + 1) ts
-    = drop-cons ts n t within ∙ ap (λ (u : Content). u ∷ drop (suc n) ts) (sym is) ∙ ap (λ (k : ℕ). t ∷ drop k ts) (sym (add-one n)) in
-    append_assoc before (lesser_loads (is_wired net n) t ∷ []) (loads_from net (n + 1) (drop (n + 1) ts))
-    ∙ ap (λ (more : List (List Load)). before ++ more) (sym (ap (loads_from net n) rest))
-
 -- those of a switch
 pub loads_found : (net : Network) (n : ℕ) (ts : List Content) (i : ℕ) → slice_get (loads_from net n ts) i ≡ option_map (lesser_loads (is_wired net (n + i))) (slice_get ts i)
 loads_found net n [] i = refl

@@ -18,8 +18,8 @@ use Rattle.afdx_load.specs.Load.{load_of}
 use Rattle.afdx_load.specs.Bounds.{bounds_of}
 use Rattle.afdx_load.specs.Inner.Laws.{HighLinksLeaveAPart}
 use Rattle.afdx_grouping.specs.Groups.{lesser_load}
-use Rattle.afdx_series.specs.declared.delays.Delays.{Delays}
-use Rattle.afdx_series.specs.Delay.{hop_of, joined, at_once}
+use Rattle.afdx_jitter.specs.declared.delays.Delays.{Delays}
+use Rattle.afdx_jitter.specs.Delay.{hop_of, joined, at_once}
 use Rattle.afdx_wiring.specs.declared.layout.End.{End}
 use Rattle.afdx_wiring.specs.declared.layout.Wire.{Wire}
 use Rattle.afdx_wiring.specs.File.{Layout, is_end}

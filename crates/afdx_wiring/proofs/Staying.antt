@@ -12,8 +12,8 @@ use Rattle.afdx_load.specs.Load.{Load, load_of}
 use Rattle.afdx_load.specs.Bounds.{bounds_of}
 use Rattle.afdx_grouping.specs.Groups.{lesser_load}
 use Rattle.afdx_grouping.specs.Laws.{BoundsAreNoMore}
-use Rattle.afdx_series.specs.declared.delays.Delays.{Delays}
-use Rattle.afdx_series.specs.Delay.{hop_of, joined, at_once}
+use Rattle.afdx_jitter.specs.declared.delays.Delays.{Delays}
+use Rattle.afdx_jitter.specs.Delay.{hop_of, joined, at_once}
 use Rattle.afdx_wiring.specs.Net.{Network, Row, Back, is_wired, bound_in, AreDelays, AreDelaysBy}
 use Rattle.afdx_wiring.specs.Inner.Staying.{whole_bound_at, WholeJittersAreEnough}
 use Rattle.afdx_wiring.proofs.Alike.{all_at}

@@ -1,6 +1,6 @@
 -- A step of a walk back.
 use Rattle.std.proofs.Common.{◌≡◌, ℕ, zero, suc, ◌-◌, ◌≤◌, ap, arith}
-use Rattle.afdx_series.specs.declared.delays.Delays.{Delays}
+use Rattle.afdx_jitter.specs.declared.delays.Delays.{Delays}
 use Rattle.afdx_wiring.specs.Net.{Network, Row, ingress, wire_to}
 use Rattle.afdx_wiring.specs.Order.{source_by, source_within, way_by, way_within}
 

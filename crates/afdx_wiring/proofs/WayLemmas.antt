@@ -12,8 +12,8 @@ use Rattle.afdx_table.specs.Link.{Link}
 use Rattle.afdx_table.specs.Content.{Content, port_row}
 use Rattle.afdx_load.specs.Bounds.{bounds_of}
 use Rattle.afdx_grouping.specs.Groups.{lesser_load}
-use Rattle.afdx_series.specs.declared.delays.Delays.{Delays}
-use Rattle.afdx_series.specs.Delay.{hop_of, joined, least_jitter}
+use Rattle.afdx_jitter.specs.declared.delays.Delays.{Delays}
+use Rattle.afdx_jitter.specs.Delay.{hop_of, joined, least_jitter}
 use Rattle.afdx_wiring.specs.declared.exit.Exit.{Exit}
 use Rattle.afdx_wiring.specs.declared.layout.End.{End}
 use Rattle.afdx_wiring.specs.declared.layout.Wire.{Wire}
@@ -33,37 +33,6 @@ exit_in r port = record { link = r.link.id; switch = r.switch; port = port }
 -- those at these ports
 abbrev pub exits_from : Network → Row → List ℕ → List Exit
 exits_from net r ports = filter (leads_out net) (map (exit_in r) ports)
-
-next_port : (net : Network) (r : Row) (ports : List ℕ) (i d : ℕ) → i < length ports → (led : Bool) → leads_out net (exit_in r (get_or ports i d)) ≡ led
-    → exits_from net r (drop i ports) ≡ cond led (exit_in r (get_or ports i d) ∷ exits_from net r (drop (i + 1) ports)) (exits_from net r (drop (i + 1) ports))
-next_port net r ports i d within led is =
-    let rest : List Exit = exits_from net r (drop (i + 1) ports) in
-    ap (exits_from net r) (drop-cons ports i d within ∙ ap (λ (k : ℕ). get_or ports i d ∷ drop k ports) (sym (add-one i)))
-    ∙ ap (λ (b : Bool). cond b (exit_in r (get_or ports i d) ∷ rest) rest) is
-
-pub exit_more : (net : Network) (r : Row) (before : List Exit) (ports : List ℕ) (i d : ℕ) → i < length ports → leads_out net (exit_in r (get_or ports i d)) ≡ true
-    → (before ++ exit_in r (get_or ports i d) ∷ []) ++ exits_from net r (drop (i + 1) ports) ≡ before ++ exits_from net r (drop i ports)
-exit_more net r before ports i d within is =
-    append_assoc before (exit_in r (get_or ports i d) ∷ []) (exits_from net r (drop (i + 1) ports)) ∙ ap (λ (rest : List Exit). before ++ rest) (sym (next_port net r ports i d within true is))
-
-pub exit_none : (net : Network) (r : Row) (before : List Exit) (ports : List ℕ) (i d : ℕ) → i < length ports → leads_out net (exit_in r (get_or ports i d)) ≡ false
-    → before ++ exits_from net r (drop (i + 1) ports) ≡ before ++ exits_from net r (drop i ports)
-exit_none net r before ports i d within is = ap (λ (rest : List Exit). before ++ rest) (sym (next_port net r ports i d within false is))
-
--- row by row
-pub exits_go : (net : Network) (before : List Exit) (n : ℕ) (ls : List Link) (i : ℕ) (l : Link) → i < length ls → l ≡ get_or ls i l
-    → (before ++ exits_at net (row_in n l)) ++ flat_map (exits_at net) (rows_in n (drop (i + 1) ls)) ≡ before ++ flat_map (exits_at net) (rows_in n (drop i ls))
-exits_go net before n ls i l within is =
-    append_assoc before (exits_at net (row_in n l)) (flat_map (exits_at net) (rows_in n (drop (i + 1) ls)))
-    ∙ ap (λ (rest : List Exit). before ++ rest) (sym (ap (flat_map (exits_at net)) (next_row n ls i l within is)))
-
--- switch by switch
-pub exits_go_on : (net : Network) (before : List Exit) (n : ℕ) (ts : List Content) (t : Content) → n < length ts → t ≡ get_or ts n t
-    → (before ++ flat_map (exits_at net) (rows_in n t.links)) ++ flat_map (exits_at net) (rows_from (n + 1) (drop (n + 1) ts)) ≡ before ++ flat_map (exits_at net) (rows_from n (drop n ts))
-exits_go_on net before n ts t within is =
-    let rest : List Row = rows_from (n + 1) (drop (n + 1) ts) in
-    append_assoc before (flat_map (exits_at net) (rows_in n t.links)) (flat_map (exits_at net) rest)
-    ∙ ap (λ (more : List Exit). before ++ more) (sym (ap (flat_map (exits_at net)) (next_rows n ts t within is) ∙ flat_map-append (exits_at net) (rows_in n t.links) rest))
 
 -- ---- a line more
 
@@ -116,9 +85,6 @@ longer net r line old new hop same h link from jitter ports jitters delays sourc
     }
 
 -- ---- the way along a line
-
-pub before_switch : (net : Network) (id : ℕ) (line : Wire) (r : Row) → row_before net id line ≡ Some r → r.switch ≡ line.from.switch
-before_switch net id line r found = row_switch net line.from.switch id r (before_says net id line r found).row_is
 
 pub from_source : (net : Network) (id : ℕ) (line : Wire) (r : Row) (w : Way) → row_before net id line ≡ Some r → wire_to net (ingress r) ≡ None
     → IsWayOver net r (record { wire = line; row = r } ∷ []) w → IsWayAlong net id line w

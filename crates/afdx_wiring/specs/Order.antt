@@ -17,8 +17,8 @@ use Rattle.afdx_load.specs.Accepted.{first_fault}
 use Rattle.afdx_load.specs.declared.fault.LoadFault.{LoadFault}
 use Rattle.afdx_load.specs.Bounds.{bounds_of}
 use Rattle.afdx_grouping.specs.Groups.{lesser_load}
-use Rattle.afdx_series.specs.declared.delays.Delays.{Delays}
-use Rattle.afdx_series.specs.Delay.{hop_of, joined, at_once, least_jitter}
+use Rattle.afdx_jitter.specs.declared.delays.Delays.{Delays}
+use Rattle.afdx_jitter.specs.Delay.{hop_of, joined, at_once, least_jitter}
 use Rattle.afdx_wiring.specs.declared.fault.At.{At}
 use Rattle.afdx_wiring.specs.declared.fault.At.TheVariants as place
 use Rattle.afdx_wiring.specs.declared.fault.NetworkFault.{NetworkFault}

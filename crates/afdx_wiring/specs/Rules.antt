@@ -4,8 +4,8 @@ use Rattle.afdx_table.specs.declared.rows.PortRow.{PortRow}
 use Rattle.afdx_table.specs.Content.{Content}
 use Rattle.std.specs.Prelude.{slice_get}
 use Rattle.afdx_load.specs.Accepted.{IsAccepted}
-use Rattle.afdx_series.specs.declared.delays.Delays.{Delays}
-use Rattle.afdx_series.specs.Delay.{IsEnough}
+use Rattle.afdx_jitter.specs.declared.delays.Delays.{Delays}
+use Rattle.afdx_jitter.specs.Delay.{IsEnough}
 use Rattle.afdx_wiring.specs.declared.layout.Wire.{Wire}
 use Rattle.afdx_wiring.specs.Net.{Network, Row, Back, port_at, row_at, rows_of, rows_on, IsSource, IsWayBack, source_of, AreDelays}
 

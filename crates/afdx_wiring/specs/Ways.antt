@@ -4,8 +4,8 @@ use Rattle.std.specs.List.{AllZip}
 use Rattle.std.specs.List.Sorted.{IsPermutation, IsSorted}
 use Rattle.std.specs.Ordering.{nat_cmp, ordering_then}
 use Rattle.std.specs.declared.cmp.Ordering.{Ordering}
-use Rattle.afdx_series.specs.declared.delays.Delays.{Delays}
-use Rattle.afdx_series.specs.Delay.{least_jitter}
+use Rattle.afdx_jitter.specs.declared.delays.Delays.{Delays}
+use Rattle.afdx_jitter.specs.Delay.{least_jitter}
 use Rattle.afdx_wiring.specs.declared.exit.Exit.{Exit}
 use Rattle.afdx_wiring.specs.declared.layout.End.{End}
 use Rattle.afdx_wiring.specs.declared.layout.Wire.{Wire}

@@ -12,7 +12,7 @@ use crate::hops::Hops;
 use crate::joints::link_at;
 use crate::row::Row;
 use crate::sources::MOST_ROWS;
-use afdx_series::{Delays, need};
+use afdx_jitter::{Delays, need};
 use afdx_table::Table;
 use afdx_units::MICROSECOND;
 use std::alloc::Global;

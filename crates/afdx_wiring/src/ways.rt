@@ -13,7 +13,7 @@ use crate::hops::Hops;
 use crate::layout::{End, Wire};
 use crate::row::Row;
 use crate::sources::MOST_ROWS;
-use afdx_series::{Delays, need};
+use afdx_jitter::{Delays, need};
 use std::alloc::Global;
 
 /// A link's way, from an end system's port to a port that leads out of the network.

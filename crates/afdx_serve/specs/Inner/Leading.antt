@@ -9,7 +9,7 @@ use Rattle.afdx_session.specs.Outcome.{Results, table_in, is_cleared, IsOutcome}
 use Rattle.afdx_arguments.specs.declared.request.Paths.{Paths}
 use Rattle.afdx_failures.specs.declared.failure.Failure.{Failure}
 use Rattle.afdx_failures.specs.declared.failure.Failure.TheVariants as failure
-use Rattle.afdx_devices.specs.Files.{Files, IsOpened, DeviceLog}
+use Rattle.afdx_folder.specs.Files.{Files, IsOpened, DeviceLog}
 use Rattle.afdx_serve.specs.Runs.{HasCaptures, LeadsTo, names_in, bytes_of_captures, report_in, FailsToGetAll, FailsToLead}
 use Rattle.afdx_serve.specs.Inner.Outputs.{HaveBytes}
 

@@ -5,7 +5,7 @@ use Rattle.afdx_network.specs.Runs.{Given}
 use Rattle.afdx_network.specs.Given.{IsRefusal}
 use Rattle.afdx_network.specs.declared.fault.NetworkRunFault.{NetworkRunFault}
 use Rattle.afdx_network.specs.declared.fault.NetworkRunFault.TheVariants as run
-use Rattle.afdx_ways.specs.Lines.{Names, name_of}
+use Rattle.afdx_network_report.specs.Lines.{Names, name_of}
 use Rattle.afdx_lines.specs.declared.network_failure.NetworkFailure.TheVariants as network
 use Rattle.afdx_failures.specs.declared.failure.Failure.{Failure}
 use Rattle.afdx_failures.specs.declared.failure.Failure.TheVariants as failure

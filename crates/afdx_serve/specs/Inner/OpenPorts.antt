@@ -6,7 +6,7 @@ use Rattle.afdx_wiring.specs.Net.{Network}
 use Rattle.afdx_network.specs.Given.{AreOpen}
 use Rattle.afdx_failures.specs.declared.failure.Failure.{Failure}
 use Rattle.afdx_failures.specs.declared.failure.Failure.TheVariants as failure
-use Rattle.afdx_devices.specs.Files.{Files, ShowsAll, DeviceLog, one_more}
+use Rattle.afdx_folder.specs.Files.{Files, ShowsAll, DeviceLog, one_more}
 use Rattle.afdx_serve.specs.Runs.{names_in, bytes_of_captures}
 
 -- these are the captures in a switch's folder, one for each of its ports to which no wire goes

@@ -2,7 +2,7 @@
 use Rattle.std.specs.Prelude.{ℕ, ◌≡◌, List, [], Option, Some, IfSome, slice_get, string_bytes}
 use Rattle.afdx_failures.specs.declared.failure.Failure.{Failure}
 use Rattle.afdx_failures.specs.declared.failure.Failure.TheVariants as failure
-use Rattle.afdx_devices.specs.Files.{Files, DeviceLog, one_more}
+use Rattle.afdx_folder.specs.Files.{Files, DeviceLog, one_more}
 use Rattle.afdx_serve.specs.Runs.{StopsAt, StopsSettling}
 
 -- ---- of the files of a folder that did not show its own, nothing is said

@@ -5,7 +5,7 @@ use Rattle.afdx_pcap.specs.declared.fault.PcapFault.{PcapFault}
 use Rattle.afdx_pcap.specs.Record.{Record}
 use Rattle.afdx_pcap.specs.Capture.{IsCapture}
 use Rattle.afdx_pcap.specs.Fault.{IsFault, IsEarlyFault}
-use Rattle.afdx_devices.specs.Input.{AreGiven}
+use Rattle.afdx_folder.specs.Input.{AreGiven}
 use Rattle.afdx_table.specs.Content.{Content}
 use Rattle.afdx_session.specs.declared.lane.Lane.{Lane}
 use Rattle.afdx_session.specs.declared.plan.RunFault.{RunFault}

@@ -1,7 +1,7 @@
 -- Links that are read one by one, each from its own text.
 use Rattle.std.specs.Prelude.{◌≡◌, ℕ, ◌+◌, ◌≤◌, List, ◌∷◌, length, Ok}
 use Rattle.toml.specs.Data.{Members}
-use Rattle.afdx_link_texts.specs.Joined.{joined, AreRead}
+use Rattle.afdx_toml_split.specs.Joined.{joined, AreRead}
 use Rattle.afdx_table.specs.declared.rows.PortRow.{PortRow}
 use Rattle.afdx_table.specs.Link.{Link}
 use Rattle.afdx_table.specs.Links.{links_from}

@@ -4,8 +4,8 @@ use Rattle.afdx_table.specs.declared.rows.PortRow.{PortRow}
 use Rattle.afdx_table.specs.WellFormed.{IsWellFormed}
 use Rattle.afdx_load.specs.Load.{load_of}
 use Rattle.afdx_load.specs.Bounds.{bounds_of}
-use Rattle.afdx_series.specs.declared.delays.Delays.{Delays}
-use Rattle.afdx_series.specs.Delay.{IsEnough}
+use Rattle.afdx_jitter.specs.declared.delays.Delays.{Delays}
+use Rattle.afdx_jitter.specs.Delay.{IsEnough}
 use Rattle.afdx_wiring.specs.Net.{Network, Row, Back, rows_of, bound_in, IsWayBack, source_of, AreDelaysBy}
 use Rattle.afdx_wiring.specs.Rules.{HasJitters}
 

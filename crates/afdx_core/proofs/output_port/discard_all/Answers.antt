@@ -3,7 +3,7 @@ use Rattle.std.proofs.lemmas.List.{map_more, take_all}
 use Rattle.afdx_port.specs.declared.Aged.{Aged}
 use Rattle.afdx_port.specs.declared.Item.{Item}
 use Rattle.afdx_core.specs.Inner.Copies.{Discards}
-use Rattle.afdx_store.specs.Seen.{is_held}
+use Rattle.afdx_held_frames.specs.Seen.{is_held}
 use Rattle.afdx_core.proofs.Counts.{gave_none, gave_more, held_next, held_within}
 use Rattle.afdx_core.proofs.output_port.discard_all.Goals as goal
 

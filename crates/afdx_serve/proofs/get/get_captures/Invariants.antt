@@ -1,6 +1,6 @@
 use Rattle.std.proofs.Common.{◌≡◌, map, take}
 use Rattle.afdx_session.specs.Texts.{texts_of}
-use Rattle.afdx_devices.specs.Files.{ShowsAll, KeepsFiles}
+use Rattle.afdx_folder.specs.Files.{ShowsAll, KeepsFiles}
 use Rattle.afdx_serve.specs.Runs.{names_in, bytes_of_captures}
 use Rattle.afdx_serve.proofs.get.get_captures.Given as goal
 

@@ -1,6 +1,6 @@
 use Rattle.std.proofs.Common.{rules, ◌+◌, ◌<◌, ◌∙◌, ◌∷◌, [], ap, sym, subst, length, map, String, Global, string_bytes, arith}
 use Rattle.std.proofs.lemmas.List.{length-append}
-use Rattle.afdx_devices.specs.Files.{IsCause}
+use Rattle.afdx_folder.specs.Files.{IsCause}
 use Rattle.afdx_serve.proofs.FileLemmas.{KeepsFiles-trans}
 use Rattle.afdx_serve.proofs.GivenLemmas.{not_got_named}
 use Rattle.afdx_serve.proofs.LeadLemmas.{opened_next, next_unopened}

@@ -1,5 +1,5 @@
 use Rattle.std.proofs.Common.{◌≡◌, ◌≤◌, length, map, take, string_bytes, vec_capacity}
-use Rattle.afdx_devices.specs.Files.{KeepsFiles}
+use Rattle.afdx_folder.specs.Files.{KeepsFiles}
 use Rattle.afdx_serve.specs.Inner.Leading.{AreOpened}
 use Rattle.afdx_serve.proofs.get.open_all.Given as goal
 

@@ -1,6 +1,6 @@
 use Rattle.std.proofs.Common.{◌≡◌, ◌∙◌, map, length, get_or, inl, sym, ap, subst, String, Global, string_bytes, arith}
 use Rattle.std.proofs.lemmas.List.{length-map}
-use Rattle.afdx_devices.specs.Files.{IsCause}
+use Rattle.afdx_folder.specs.Files.{IsCause}
 use Rattle.afdx_session.specs.Outcome.{table_in}
 use Rattle.afdx_serve.specs.Runs.{port_names, FailsToGet}
 use Rattle.afdx_serve.proofs.Errors.{of_error}

@@ -1,5 +1,5 @@
 use Rattle.std.proofs.Common.{◌≡◌, length, take}
-use Rattle.afdx_devices.specs.Files.{ShowsAll, KeepsFiles}
+use Rattle.afdx_folder.specs.Files.{ShowsAll, KeepsFiles}
 use Rattle.afdx_serve.specs.Networks.{bytes_in, table_names}
 use Rattle.afdx_serve.proofs.network_get.get_texts.Given as goal
 

@@ -2,7 +2,7 @@ use Rattle.std.proofs.Common.{◌<◌, ◌≤◌, ◌∙◌, List, length, get_o
 use Rattle.afdx_table.specs.Content.{Content}
 use Rattle.afdx_session.specs.Texts.{texts_of}
 use Rattle.afdx_network.specs.Given.{given_of}
-use Rattle.afdx_ways.specs.Lines.{Names, name_of}
+use Rattle.afdx_network_report.specs.Lines.{Names, name_of}
 use Rattle.afdx_serve.specs.NetworkRuns.{switch_folder}
 use Rattle.afdx_serve.proofs.FileLemmas.{KeepsFiles-refl, KeepsFiles-trans}
 use Rattle.afdx_serve.proofs.GivenLemmas.{GotFirst, none_got, one_more_given, not_got_given, got_one_more, all_given}

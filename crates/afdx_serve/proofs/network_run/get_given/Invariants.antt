@@ -1,6 +1,6 @@
 use Rattle.std.proofs.Common.{◌≡◌}
 use Rattle.afdx_network.specs.Given.{given_of}
-use Rattle.afdx_devices.specs.Files.{KeepsFiles}
+use Rattle.afdx_folder.specs.Files.{KeepsFiles}
 use Rattle.afdx_serve.proofs.GivenLemmas.{GotFirst}
 use Rattle.afdx_serve.proofs.network_run.get_given.Given as goal
 

@@ -1,7 +1,7 @@
 use Rattle.std.proofs.Common.{◌≡◌, map, filter, take}
 use Rattle.afdx_session.specs.Texts.{texts_of}
 use Rattle.afdx_network.specs.Given.{is_open}
-use Rattle.afdx_devices.specs.Files.{ShowsAll, KeepsFiles}
+use Rattle.afdx_folder.specs.Files.{ShowsAll, KeepsFiles}
 use Rattle.afdx_serve.specs.Runs.{names_in, bytes_of_captures}
 use Rattle.afdx_serve.proofs.network_run.get_open.Given as goal
 

@@ -3,7 +3,7 @@ use Rattle.std.proofs.KnownBytes.{Keeps-refl}
 use Rattle.std.proofs.lemmas.List.{length-map}
 use Rattle.afdx_session.specs.Outcome.{Results}
 use Rattle.afdx_network.specs.Given.{given_of}
-use Rattle.afdx_ways.specs.Lines.{Names}
+use Rattle.afdx_network_report.specs.Lines.{Names}
 use Rattle.afdx_serve.proofs.Errors.{of_error}
 use Rattle.afdx_serve.proofs.FileLemmas.{KeepsFiles-trans}
 use Rattle.afdx_failures.specs.declared.failure.Failure.TheVariants.{Memory, Write}

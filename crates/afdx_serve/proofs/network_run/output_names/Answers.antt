@@ -2,7 +2,7 @@ use Rattle.std.proofs.Common.{rules, ◌≡◌, ◌∙◌, ◌<◌, ℕ, List, V
 use Rattle.std.proofs.lemmas.List.{length-map, map-append}
 use Rattle.afdx_session.specs.Texts.{Text, texts_of}
 use Rattle.afdx_session.specs.Outcome.{Results}
-use Rattle.afdx_ways.specs.Lines.{name_of}
+use Rattle.afdx_network_report.specs.Lines.{name_of}
 use Rattle.afdx_serve.specs.Runs.{names_in}
 use Rattle.afdx_serve.specs.NetworkRuns.{switch_folder}
 use Rattle.afdx_serve.proofs.NetworkRunLemmas.{no_names, one_more_named}

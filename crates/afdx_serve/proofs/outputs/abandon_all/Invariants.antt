@@ -1,5 +1,5 @@
 use Rattle.std.proofs.Common.{◌≡◌}
-use Rattle.afdx_devices.specs.Files.{KeepsFiles}
+use Rattle.afdx_folder.specs.Files.{KeepsFiles}
 use Rattle.afdx_serve.proofs.outputs.abandon_all.Given as goal
 
 abbrev pub invariant-loop-new : goal.invariant-loop-new

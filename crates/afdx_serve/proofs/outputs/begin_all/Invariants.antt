@@ -1,5 +1,5 @@
 use Rattle.std.proofs.Common.{◌≡◌, ◌≤◌, length, vec_capacity}
-use Rattle.afdx_devices.specs.Files.{KeepsFiles}
+use Rattle.afdx_folder.specs.Files.{KeepsFiles}
 use Rattle.afdx_serve.specs.Inner.Outputs.{AreEmpty}
 use Rattle.afdx_serve.proofs.outputs.begin_all.Given as goal
 

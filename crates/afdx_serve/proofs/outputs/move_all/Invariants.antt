@@ -1,6 +1,6 @@
 use Rattle.std.proofs.Common.{◌≡◌, ℕ, List, length, map, take, drop, Option, string_bytes}
 use Rattle.std.specs.Vec.Iter.{into_iter_items, into_iter_len}
-use Rattle.afdx_devices.specs.Files.{Files, KeepsFiles, PutsFiles}
+use Rattle.afdx_folder.specs.Files.{Files, KeepsFiles, PutsFiles}
 use Rattle.afdx_serve.specs.Inner.Outputs.{HaveBytes}
 use Rattle.afdx_serve.proofs.outputs.move_all.Given as goal
 

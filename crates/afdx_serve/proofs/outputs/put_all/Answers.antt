@@ -1,6 +1,6 @@
 use Rattle.std.proofs.Common.{◌∙◌, String, Global, map, string_bytes, sym, ap}
 use Rattle.std.proofs.lemmas.List.{length-map}
-use Rattle.afdx_devices.specs.Files.{settled_after}
+use Rattle.afdx_folder.specs.Files.{settled_after}
 use Rattle.afdx_serve.proofs.CaptureLemmas.{none_put, moved}
 use Rattle.afdx_serve.proofs.Errors.{of_error}
 use Rattle.afdx_serve.proofs.FileLemmas.{KeepsFiles-trans}

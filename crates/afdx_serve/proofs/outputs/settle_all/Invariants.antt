@@ -1,6 +1,6 @@
 use Rattle.std.proofs.Common.{◌≡◌, ◌≤◌, ℕ, List, length, drop, Option, vec_capacity}
 use Rattle.std.specs.Vec.Iter.{into_iter_items, into_iter_len}
-use Rattle.afdx_devices.specs.Files.{Files, KeepsFiles, settled_after}
+use Rattle.afdx_folder.specs.Files.{Files, KeepsFiles, settled_after}
 use Rattle.afdx_serve.specs.Inner.Outputs.{HaveBytes}
 use Rattle.afdx_serve.proofs.outputs.settle_all.Given as goal
 

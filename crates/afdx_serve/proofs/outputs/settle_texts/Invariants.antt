@@ -1,5 +1,5 @@
 use Rattle.std.proofs.Common.{◌≡◌, ◌≤◌, length, map, vec_capacity}
-use Rattle.afdx_devices.specs.Files.{KeepsFiles, settled_after}
+use Rattle.afdx_folder.specs.Files.{KeepsFiles, settled_after}
 use Rattle.afdx_serve.specs.Inner.Outputs.{HaveBytes}
 use Rattle.afdx_serve.proofs.outputs.settle_texts.Given as goal
 

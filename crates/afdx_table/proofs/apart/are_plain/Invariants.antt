@@ -1,6 +1,6 @@
 use Rattle.std.proofs.Common.{◌≡◌}
 use Rattle.toml.specs.View.{members_view, table_view}
-use Rattle.afdx_link_texts.specs.Joined.{are_plain}
+use Rattle.afdx_toml_split.specs.Joined.{are_plain}
 use Rattle.afdx_table.proofs.apart.are_plain.Given as goal
 
 abbrev pub invariant-loop-value : goal.invariant-loop-value

@@ -1,6 +1,6 @@
 use Rattle.std.proofs.Common.{◌∙◌, sym}
 use Rattle.toml.specs.View.{table_view}
-use Rattle.afdx_link_texts.specs.Joined.{link}
+use Rattle.afdx_toml_split.specs.Joined.{link}
 use Rattle.afdx_table.proofs.TableFormed.{few_ports-formed}
 use Rattle.afdx_table.proofs.WholeLemmas.{lacks, read_by_links}
 use Rattle.afdx_table.proofs.table.read_by_links.Goals as goal

@@ -1,0 +1,162 @@
+//! A folder of files.
+
+ghost use Rattle.std.specs.Prelude.{◌≡◌, [], Option, Some, None, IfOk, IfSome, OnOk};
+ghost use Rattle.afdx_folder.specs.Files.{Files, DeviceLog, Shows, IsOpened, KeepsFiles, PutsFile, KeepsOthers, IsCause, HasCause, HasSettled};
+
+use crate::input::InputFault;
+use crate::new_file::NewFile;
+use std::alloc::{AllocError, AllocFailed, Allocator};
+use std::io::Read;
+use thiserror::Error;
+
+/// Why a file was not got or put. Each message is its variant's name.
+#[derive(Clone, Copy, Debug, PartialEq, Eq, Error)]
+pub enum FolderFault {
+    /// Out of memory.
+    #[error("Memory")]
+    Memory,
+    /// The folder failed; a file that is not there is such a failure.
+    #[error("Device")]
+    Device,
+}
+
+impl From<AllocError> for FolderFault {
+    ghost use Rattle.afdx_folder.specs.declared.folder.FolderFault.TheVariants.{Memory};
+
+    ghost from_gives = { λ _ fault. fault ≡ Memory };
+
+    fn from(_error: AllocError) -> FolderFault {
+        FolderFault::Memory
+    }
+}
+
+impl<T: Drop> From<AllocFailed<T>> for FolderFault {
+    ghost use Rattle.afdx_folder.specs.declared.folder.FolderFault.TheVariants.{Memory};
+
+    ghost from_gives = { λ _ fault. fault ≡ Memory };
+
+    fn from(_error: AllocFailed<T>) -> FolderFault {
+        FolderFault::Memory
+    }
+}
+
+impl From<InputFault> for FolderFault {
+    ghost use Rattle.afdx_folder.specs.Inner.Faults.{folder_fault};
+
+    ghost from_gives = { λ fault given. given ≡ folder_fault fault };
+
+    fn from(e: InputFault) -> FolderFault {
+        match e {
+            InputFault::Memory => FolderFault::Memory,
+            InputFault::Device => FolderFault::Device,
+        }
+    }
+}
+
+/// A folder, by the bytes that are under each name. It counts its failures and the new files that its device has taken, and keeps
+/// the name of the last failure.
+pub trait Folder {
+    /// A file that is written in parts, before it is put.
+    type New: NewFile + Drop;
+
+    /// A file that was opened to be read in pieces.
+    type Opened: Read + Drop;
+
+    /// The files, where it shows them.
+    ghost files: { Self → Option Files } = { λ _. None };
+    /// How often it has failed and how many new files it has settled, as far as 64 bits go; and the name that the last call that
+    /// failed was for.
+    ghost failed: { Self → DeviceLog };
+
+    /// The bytes that are under a name.
+    ///
+    /// # Errors
+    ///
+    /// `Memory` where memory ran out; `Device`, counted, where the folder failed or has no such file.
+    ///
+    /// O(bytes of the file).
+    fn get<A: Allocator + Copy>(&mut self, alloc: A, name: &str) -> Result<Vec<u8, A>, FolderFault>
+        ensures bytes { IfOk result (λ v. Shows (files self.old) name.now v.items) }
+        ensures same { KeepsFiles (files self.old) (files self.new) }
+        ensures cause { HasCause name.now (failed self.old) (failed self.new) result };
+
+    /// The file under a name, to be read in pieces, once. A pipe is opened as well, which waits for whoever writes into it.
+    ///
+    /// # Errors
+    ///
+    /// `Memory` where memory ran out; `Device`, counted, where it was not opened; a file that is not there is such a failure.
+    ///
+    /// O(name).
+    fn open(&mut self, name: &str) -> Result<Self::Opened, FolderFault>
+        ensures bytes { IfOk result (λ file. IsOpened (files self.old) name.now (Self.Opened.remaining file)) }
+        ensures same { KeepsFiles (files self.old) (files self.new) }
+        ensures cause { HasCause name.now (failed self.old) (failed self.new) result };
+
+    /// Counts that what was opened under a name could not be read, and gives it as a fault. O(name).
+    fn note_unread(&mut self, name: &str) -> FolderFault
+        ensures same { KeepsFiles (files self.old) (files self.new) }
+        ensures cause { IsCause result name.now (failed self.old) (failed self.new) };
+
+    /// Puts bytes under a name, in place of what is there. After an error nothing is said of what is there.
+    ///
+    /// # Errors
+    ///
+    /// `Memory` where memory ran out; `Device`, counted, where the folder failed.
+    ///
+    /// O(bytes).
+    fn put<A: Allocator + Copy>(
+        &mut self,
+        alloc: A,
+        name: &str,
+        bytes: &[u8],
+    ) -> Result<(), FolderFault>
+        ensures bytes { OnOk result (PutsFile (files self.old) (files self.new) name.now bytes.now) }
+        ensures others { KeepsOthers (files self.old) (files self.new) name.now }
+        ensures cause { HasCause name.now (failed self.old) (failed self.new) result };
+
+    /// A new file of no bytes, to be put under a name. Nothing else changes, and a failure of the device is answered when it is
+    /// settled or put. An error is out of memory.
+    ///
+    /// O(name).
+    fn begin(&mut self, name: &str) -> Result<Self::New, AllocError>
+        ensures bytes { IfOk result (λ new. IfSome (files self.old) (λ _. Self.New.contents new ≡ Some [])) }
+        ensures same { KeepsFiles (files self.old) (files self.new) }
+        ensures failed { failed self.new ≡ failed self.old };
+
+    /// Has the device take a new file that is to be put under the name that it was begun for, and says what has failed of it so far.
+    /// Nothing that is under a name changes. After an error the new file is gone.
+    ///
+    /// # Errors
+    ///
+    /// `Memory` where memory ran out; `Device`, counted, where the device failed since the file was begun, or it is known that the
+    /// file cannot be put.
+    ///
+    /// O(bytes).
+    fn settle(&mut self, new: Self::New, name: &str) -> Result<Self::New, FolderFault>
+        ensures bytes { IfOk result (λ settled. Self.New.contents settled ≡ Self.New.contents new) }
+        ensures same { KeepsFiles (files self.old) (files self.new) }
+        ensures cause { HasSettled name.now (failed self.old) (failed self.new) result };
+
+    /// Puts a new file under the name that it was begun for, in place of what is there. After an error it is gone, and nothing
+    /// is said of what is there.
+    ///
+    /// # Errors
+    ///
+    /// As `put`, also where the device failed since the file was begun.
+    ///
+    /// O(bytes).
+    fn put_new(&mut self, new: Self::New, name: &str) -> Result<(), FolderFault>
+        ensures bytes { OnOk result (IfSome (Self.New.contents new)
+            (λ bytes. PutsFile (files self.old) (files self.new) name.now bytes)) }
+        ensures others { KeepsOthers (files self.old) (files self.new) name.now }
+        ensures cause { HasCause name.now (failed self.old) (failed self.new) result };
+
+    /// Lets a new file go. Nothing else changes, and no failure is counted.
+    fn abandon(&mut self, new: Self::New)
+        ensures same { KeepsFiles (files self.old) (files self.new) }
+        ensures failed { failed self.new ≡ failed self.old };
+
+    /// The count of failures, which stays at its greatest value. O(1).
+    fn failures(&self) -> u64
+        ensures { result ≡ (failed self.now).count };
+}

@@ -1,0 +1,41 @@
+use Rattle.std.proofs.Common.{ℕ, ◌≡◌, length, ap, ◌∙◌, [], ◌∷◌, ◌++◌, Some, ◌-◌, arith}
+use Rattle.afdx_held_frames.specs.declared.store.Slot.{Slot}
+use Rattle.afdx_past.specs.Seen.{Seen}
+use Rattle.afdx_held_frames.specs.Seen.{StoreValue}
+use Rattle.afdx_held_frames.specs.Inner.Kept.{seen_from}
+use Rattle.afdx_held_frames.proofs.Keeping.{Came, held_more, kept_more}
+use Rattle.afdx_held_frames.proofs.store.Store.hold.Goals as goal
+
+pub invariant_of-self : goal.invariant_of-self
+invariant_of-self g c =
+    let p = c.self.inside in
+    let some = ap (λ (v : StoreValue). v.room) c.self.view_is in
+    let number : c.len-number.result ≡ length p.keys.items = c.len-number.ensures.count in
+    let slot : Slot _ = record { number = c.len-number.result; copies = c.args.copies; frame = c.args.frame } in
+    let key = c.insert_reserved-key.result in
+    let came : Came p c.self.invariant c.insert_reserved-key.new.self key slot = record {
+      names = number;
+      left = c.requires.some;
+      was = c.insert_reserved-key.ensures.was_vacant;
+      there = c.insert_reserved-key.ensures.updates.changed;
+      others = c.insert_reserved-key.ensures.updates.others;
+    } in
+    kept_more p c.self.invariant c.insert_reserved-key.new.self key slot c.push.new.self (p.room - 1) came (ap (λ (h : Seen ℕ). h.items) c.push.ensures) (omega (arith, some, c.requires.room))
+    (ap (λ (h : Seen ℕ). h.first) c.push.ensures) (let r = ap (λ (h : Seen ℕ). h.room) c.push.ensures in omega (arith, r, c.self.invariant.keys_room, some, c.requires.room))
+    c.insert_reserved-key.ensures.len c.insert_reserved-key.ensures.capacity
+
+pub returns : goal.returns
+returns g c =
+    let p = c.self.inside in
+    let number : c.len-number.result ≡ length p.keys.items = c.len-number.ensures.count in
+    let slot : Slot _ = record { number = c.len-number.result; copies = c.args.copies; frame = c.args.frame } in
+    let key = c.insert_reserved-key.result in
+    let came : Came p c.self.invariant c.insert_reserved-key.new.self key slot = record {
+      names = number;
+      left = c.requires.some;
+      was = c.insert_reserved-key.ensures.was_vacant;
+      there = c.insert_reserved-key.ensures.updates.changed;
+      others = c.insert_reserved-key.ensures.updates.others;
+    } in
+    ap (λ ks. seen_from 0 ks c.insert_reserved-key.new.self.slots) (ap (λ (h : Seen ℕ). h.items) c.push.ensures)
+    ∙ held_more p c.self.invariant c.insert_reserved-key.new.self key slot came ∙ ap (λ (v : StoreValue). v.held ++ Some (record { copies = c.args.copies; frame = c.args.frame }) ∷ []) c.self.view_is

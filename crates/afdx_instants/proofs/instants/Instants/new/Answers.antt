@@ -1,8 +1,0 @@
-use Rattle.afdx_instants.proofs.Firsts.{grouped_fresh, instants_fresh}
-use Rattle.afdx_instants.proofs.instants.Instants.new.Goals as goal
-
-pub invariant_of-result : goal.invariant_of-result
-invariant_of-result c = grouped_fresh c.args.places c.requires
-
-pub returns : goal.returns
-returns c = instants_fresh c.args.places c.requires

@@ -1,9 +1,0 @@
-//! Laws over the definitions: functions that do nothing, whose contracts are the laws.
-
-ghost use Rattle.afdx_link_texts.specs.Laws.{LinksAreReadApart};
-
-/// What the text before the first link says, and what each link says by itself, is what the whole text says: where the former
-/// has no `link`, and the latter have neither tables nor arrays that end in one, as headers would leave them.
-pub fn links_are_read_apart()
-    ensures { LinksAreReadApart }
-{}

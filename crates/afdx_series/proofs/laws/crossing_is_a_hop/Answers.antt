@@ -1,5 +1,0 @@
-use Rattle.afdx_series.proofs.Jitter.{crossing_is_a_hop}
-use Rattle.afdx_series.proofs.laws.crossing_is_a_hop.Goals as goal
-
-pub returns : goal.returns
-returns c = crossing_is_a_hop

@@ -1,5 +1,0 @@
-use Rattle.afdx_series.proofs.Jitter.{jitter_enough}
-use Rattle.afdx_series.proofs.laws.jitter_enough.Goals as goal
-
-pub returns : goal.returns
-returns g c = jitter_enough

@@ -1,5 +1,0 @@
-use Rattle.afdx_series.proofs.Later.{passed_pass_again}
-use Rattle.afdx_series.proofs.laws.passed_pass_again.Goals as goal
-
-pub returns : goal.returns
-returns g c = passed_pass_again

@@ -1,5 +1,0 @@
-use Rattle.afdx_series.proofs.Way.{ways_pass_all}
-use Rattle.afdx_series.proofs.laws.ways_pass_all.Goals as goal
-
-pub returns : goal.returns
-returns c = ways_pass_all
