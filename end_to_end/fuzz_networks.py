@@ -43,6 +43,7 @@ ENDS: list[Any] = ["A.1", "A.2", "B.1", "B.3", "A.0", "A.24", "A.25", "A.01", "A
 DELAYS: list[Any] = [-1, 0, 1, 25, 999_999, 1_000_000, 1_000_001, 2**63 - 1, 2**63, 0.0, "25", True, []]
 EDGES: dict[str, list[Any]] = {
     "version": [0, 1, 2, "1", 1.0], "name": NAMES, "table": PATHS, "from": ENDS, "to": ENDS, "delay_ns": DELAYS,
+    "least_latency_us": [-1, 0, 1, 10, 99, 100, 101, 2**63, 0.0, "1", True, []],
     "switch": [[], {}, [1], "A"], "wire": [[], {}, [[]], 0]}
 STRANGE_KEYS = ["color", "delay", "Name", "id", "", "port", "link", "delay_us", "constant"]
 TERMS: list[tuple[str, list[Any]]] = [

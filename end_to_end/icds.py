@@ -28,6 +28,7 @@ priority = "PRIO"
 name = "ES_NAME"
 [switches]
 latency_us = 8
+least_latency_us = 8
 """
 
 

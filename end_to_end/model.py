@@ -67,6 +67,7 @@ class Table:
     constant: bytes
     ports: list[Port]  # by rising number
     links: list[Link]  # in file order
+    latency: int = 0  # ns, the most that the switch takes
 
 
 def table_of(text: str) -> Table:
@@ -81,7 +82,7 @@ def table_in(tree: dict[str, Any]) -> Table:
     links = [Link(link["id"], link["from"], link["to"], link["bag_ms"] * 1_000_000, link["jitter_us"] * 1000,
                   link["max_size"], link["priority"], link.get("police", "byte"))
              for link in tree.get("link", [])]
-    return Table(bytes.fromhex(tree.get("constant", "03000000")), sorted(ports, key=lambda port: port.id), links)
+    return Table(bytes.fromhex(tree.get("constant", "03000000")), sorted(ports, key=lambda port: port.id), links, latency)
 
 
 # --- Captures ---
@@ -355,13 +356,13 @@ def bounds_of(table: Table, port: Port, burst: int, high_burst: int) -> tuple[in
     return high_bound, low_bound
 
 
-def load_of(table: Table, port: Port) -> Load | None:
-    """The load of a port; None where it has no links."""
+def load_of(table: Table, port: Port, scatter: int = 0) -> Load | None:
+    """The load of a port, where latencies differ by so many ns, as if the jitters were so much larger; None where it has no links."""
     links, high, low = links_to(table, port)
     if not links:
         return None
-    burst = burst_of(port, links)
-    high_bound, low_bound = bounds_of(table, port, burst, burst_of(port, high))
+    burst = burst_of(port, links) + rate_of(port, links) * scatter
+    high_bound, low_bound = bounds_of(table, port, burst, burst_of(port, high) + rate_of(port, high) * scatter)
     need, byte = burst + LOAD_UNIT * largest_of(port, links), LOAD_UNIT * port.tick
     rules = [("L1 Rate", rate_of(port, links), LOAD_UNIT), ("L2 Buffer", need, byte * port.buffer)]
     if high_bound is not None:
@@ -394,22 +395,27 @@ def least_burst(groups: list[Callable[[int], int]]) -> int:
     return above(low)
 
 
-def lesser_bursts(table: Table, port: Port, lined: Collection[int]) -> tuple[int, int]:
+def later(group: Callable[[int], int], scatter: int) -> Callable[[int], int]:
+    """What comes of a group to the queues in a window came to the switch in a longer one, where latencies differ by so many ns."""
+    return lambda window: group(window + scatter)
+
+
+def lesser_bursts(table: Table, port: Port, lined: Collection[int], scatter: int = 0) -> tuple[int, int]:
     """What all links of a port and its high ones ask for at once, where frames come one after the other over the lines of
-    the ports with these numbers."""
+    the ports with these numbers, and latencies differ by so many ns."""
     links, high_links, _ = links_to(table, port)
     groups, high_groups = [], []
     for source in table.ports:
         line = source if source.id in lined else None
         high = [link for link in high_links if link.source == source.id]
-        groups.append(brought(port, line, [link for link in links if link.source == source.id], burst_of(port, high)))
-        high_groups.append(brought(port, line, high, 0))
+        groups.append(later(brought(port, line, [link for link in links if link.source == source.id], burst_of(port, high)), scatter))
+        high_groups.append(later(brought(port, line, high, 0), scatter))
     return least_burst(groups), least_burst(high_groups)
 
 
-def loads_of(table: Table) -> list[tuple[Port, Load]]:
+def loads_of(table: Table, scatter: int = 0) -> list[tuple[Port, Load]]:
     """The ports that have links, each with its load."""
-    loads = ((port, load_of(table, port)) for port in table.ports)
+    loads = ((port, load_of(table, port, scatter)) for port in table.ports)
     return [(port, load) for port, load in loads if load]
 
 

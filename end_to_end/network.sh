@@ -153,6 +153,7 @@ refusal 3 "afdx: network G3 TwiceFrom, wire 3" network.toml 's/^from = "bay.4"/f
 refusal 3 "afdx: network G3 TwiceTo, wire 4" network.toml 's/^to = "bay.4"/to = "bay.1"/'
 refusal 3 "afdx: network G3 OwnPort, wire 1" network.toml '0,/^to = .*/ s/^to = .*/to = "cabin.3"/'
 refusal 3 "afdx: network G3 NoSuchPort, wire 1" network.toml '0,/^to = .*/ s/^to = .*/to = "bay.9"/'
+refusal 3 "afdx: network G3 Latency, switch bay" network.toml '/^table = "bay.toml"/,/^$/ s/^least_latency_us = .*/least_latency_us = 1/'
 provoked 3 "afdx: table C3 UnknownKey, port 1, switch bay"
 check "afdx: table C3 UnknownKey, port 1, switch bay" table_refused
 refusal 4 "afdx: load L2 Buffer, port 1, need 101078630400000, limit 16384000000000, switch bay" bay.toml '0,/^buffer/ s/^buffer = .*/buffer = 100/'

@@ -23,6 +23,7 @@ LEAST_SIZE = 64
 MOST_SWITCHES = 64
 MOST_DELAY = 1_000_000
 MOST_JITTER_US = 10_000
+MOST_LATENCY_US = 100
 MOST_ROUNDS = 64
 
 Members = dict[str, Any]
@@ -53,6 +54,7 @@ class Wire:
 class Switch:
     name: str
     path: str  # of its table
+    least: int = 0  # of its latencies; the table's is the most
 
 
 def refuse(rule: str, *parts: str) -> NoReturn:
@@ -102,12 +104,13 @@ def end_of(place: str, key: str, members: Members) -> End:
 
 
 def switch_of(place: str, members: Members, before: list[Switch]) -> Switch:
-    known(place, ["name", "table"], members)
+    known(place, ["name", "table", "least_latency_us"], members)
     name = matched(place, "name", members, r"[A-Za-z0-9_-]{1,16}")[0]
     path = matched(place, "table", members, r"(?s).+")[0]
+    least = number(place, "least_latency_us", members, 0, MOST_LATENCY_US) if "least_latency_us" in members else 0
     if any(switch.name == name for switch in before):
         refuse("G3 TwiceSwitch", place)
-    return Switch(name, path)
+    return Switch(name, path, least * MICROSECOND)
 
 
 def wire_of(place: str, members: Members, names: list[str], before: list[Wire]) -> Wire:
@@ -165,6 +168,7 @@ class Row:
 @dataclass
 class Network:
     names: list[str]  # of the switches, in file order
+    leasts: dict[str, int]  # of their latencies, by name
     tables: dict[str, model.Table]  # by name
     wires: list[Wire]
     rows: list[Row]  # of all tables, by switch and place
@@ -172,7 +176,7 @@ class Network:
 
 def network_of(switches: list[Switch], wires: list[Wire], tables_of: dict[str, model.Table]) -> Network:
     rows = [Row(switch.name, link) for switch in switches for link in tables_of[switch.name].links]
-    return Network([switch.name for switch in switches], tables_of, wires, rows)
+    return Network([switch.name for switch in switches], {switch.name: switch.least for switch in switches}, tables_of, wires, rows)
 
 
 def read(path: str | Path) -> Network:
@@ -211,6 +215,17 @@ def ports_are_there(net: Network) -> None:
     for wire in net.wires:
         if not {wire.start, wire.end} <= ends:
             refuse("G3 NoSuchPort", wire.place)
+
+
+def scatter_of(net: Network, name: str) -> int:
+    """By how much latencies of the switch may differ."""
+    return net.tables[name].latency - net.leasts[name]
+
+
+def latencies_are_least(net: Network) -> None:
+    for name in net.names:
+        if net.leasts[name] > net.tables[name].latency:
+            refuse("G3 Latency", f"switch {name}")
 
 
 def wires_fit(net: Network) -> None:
@@ -304,7 +319,7 @@ def texts_agree(net: Network) -> None:
 def loads_fit(net: Network, rules: list[str] | None = None) -> None:
     """The load of each table, by all rules or by these."""
     for name in net.names:
-        for port, load in model.loads_of(net.tables[name]):
+        for port, load in model.loads_of(net.tables[name], scatter_of(net, name)):
             for rule, need, limit in load.rules:
                 if need > limit and (rules is None or rule in rules):
                     refuse_load(f"{rule}, port {port.id}, need {need}, limit {limit}", name)
@@ -329,10 +344,10 @@ class Delays:
 
 def bound_of(net: Network, row: Row, number: int) -> int:
     """The bound of the link's priority at a port of its switch, where what comes in over a wire comes one frame after the
-    other."""
+    other and latencies differ by the switch's scatter."""
     table, port = net.tables[row.switch], port_of(net, End(row.switch, number))
     lined = {wire.end.port for wire in net.wires if wire.end.switch == row.switch}
-    high, low = model.bounds_of(table, port, *model.lesser_bursts(table, port, lined))
+    high, low = model.bounds_of(table, port, *model.lesser_bursts(table, port, lined, scatter_of(net, row.switch)))
     bound = high if row.link.priority == "high" else low
     assert bound is not None
     return bound
@@ -341,7 +356,7 @@ def bound_of(net: Network, row: Row, number: int) -> int:
 def through(net: Network, row: Row, number: int) -> Delays:
     """From a frame's arrival at a switch until it has left this port."""
     port = port_of(net, End(row.switch, number))
-    least = port.latency + (LEAST_SIZE + model.LINE_OVERHEAD) * port.tick
+    least = net.leasts[row.switch] + (LEAST_SIZE + model.LINE_OVERHEAD) * port.tick
     return Delays(least, bound_of(net, row, number))
 
 
@@ -374,6 +389,7 @@ def jitters_are_enough(net: Network) -> None:
 def accept(net: Network) -> None:
     """Refuses what `check` refuses, in its order."""
     ports_are_there(net)
+    latencies_are_least(net)
     loads_fit(net)
     texts_agree(net)
     jitters_are_enough(net)
@@ -436,6 +452,7 @@ def solve(net: Network) -> Row | None:
 def jitter(net: Network) -> tuple[str, Refused | None]:
     """The lines of all rows, and the refusal where one is past the limit."""
     ports_are_there(net)
+    latencies_are_least(net)
     loads_fit(net, ["L1 Rate"])
     texts_agree(net)
     past = solve(net)

@@ -1,5 +1,6 @@
 #!/usr/bin/env python3
 """Checks network_model.py against numbers that were worked out by hand; prints what differs, and fails then."""
+import dataclasses
 import sys
 from collections.abc import Iterable
 
@@ -29,17 +30,20 @@ def table(*links: str, ports: int = 4, mbit: int | list[int] = 100, head: str = 
     return head + "".join(PORT.format(number, speed) for number, speed in enumerate(speeds, 1)) + "".join(links)
 
 
-def layout(names: Iterable[str], *wires: str) -> str:
-    """The network file: wires are words, `A.3 B.1` or `A.3 B.1 25`."""
-    text = "version = 1\n" + "".join(f'[[switch]]\nname = "{name}"\ntable = "{name}.toml"\n' for name in names)
+def layout(names: Iterable[str], *wires: str, leasts: dict[str, int] | None = None) -> str:
+    """The network file: wires are words, `A.3 B.1` or `A.3 B.1 25`; the least latencies are in µs, by name."""
+    text = "version = 1\n"
+    for name in names:
+        text += f'[[switch]]\nname = "{name}"\ntable = "{name}.toml"\n'
+        text += f"least_latency_us = {leasts[name]}\n" if leasts and name in leasts else ""
     for wire in wires:
         start, end, *delay = wire.split()
         text += f'[[wire]]\nfrom = "{start}"\nto = "{end}"\n' + "".join(f"delay_ns = {ns}\n" for ns in delay)
     return text
 
 
-def network(tables: dict[str, str], *wires: str) -> network_model.Network:
-    switches, read = network_model.layout_of(layout(tables, *wires).encode())
+def network(tables: dict[str, str], *wires: str, leasts: dict[str, int] | None = None) -> network_model.Network:
+    switches, read = network_model.layout_of(layout(tables, *wires, leasts=leasts).encode())
     return network_model.network_of(switches, read, {name: model.table_of(text) for name, text in tables.items()})
 
 
@@ -194,11 +198,12 @@ def both_kinds_of_policing() -> None:
 
 
 def gigabit_with_latency() -> None:
-    """Latencies are in both ends of the delay, so the jitter is that of 1,344 - 672 ns. At B there is a frame of 672 ns at a time."""
+    """Latencies that do not vary are in both ends of the delay, so the jitter is that of 1,344 - 672 ns. At B there is a frame of
+    672 ns at a time."""
     name = "gigabit with latency"
     tables = {"A": table(link(1, 1, [3]), link(2, 2, [3]), ports=3, mbit=1000, head="version = 3\nlatency_us = 10\n"),
               "B": table(link(1, 1, [2], 1), link(2, 1, [2], 1), ports=2, mbit=1000, head="version = 3\nlatency_us = 20\n")}
-    net = network(tables, "A.3 B.1 500")
+    net = network(tables, "A.3 B.1 500", leasts={"A": 10, "B": 20})
     says(name, net, "switch A accepted", "switch B accepted",
          "link 1 from A.1 to B.2 ways A.3 B.2 least 31844 most 32516 jitter 0 1",
          "link 2 from A.2 to B.2 ways A.3 B.2 least 31844 most 32516 jitter 0 1",
@@ -206,6 +211,99 @@ def gigabit_with_latency() -> None:
     outcomes = run(net, A1=capture((1, 0)), A2=capture((2, 0)))
     same(name, left(outcomes, "A", 3), [(1, 10_672), (2, 11_344)])
     same(name, left(outcomes, "B", 2), [(1, 31_844), (2, 32_516)])
+
+
+def slow(*links: str, latency: int = 10, ports: int = 4) -> str:
+    """A table of a switch with this latency, in µs."""
+    return table(*links, head=f"version = 3\nlatency_us = {latency}\n", ports=ports)
+
+
+def latency_that_varies() -> None:
+    """One link of 64 bytes over two switches of 10 µs. Where these are taken for each frame, a frame takes 16,720 ns through each. Where
+    nothing is known of the least, frames that come 1 ms apart may be queued 990,000 ns apart: the link asks for 6,720 * 1.01 ns, a frame
+    takes from 6,720 to 16,787 ns, and needs 11 µs at the second switch; with these it asks for 6,720 * 1.021 there."""
+    name = "latency that varies"
+    tables = {"A": slow(link(1, 1, [2]), ports=2), "B": slow(link(1, 1, [2]), ports=2)}
+    says(name, network(tables, "A.2 B.1", leasts={"A": 10, "B": 10}), "switch A accepted", "switch B accepted",
+         "link 1 from A.1 to B.2 ways A.2 B.2 least 33440 most 33440 jitter 0 0", "greatest 33440 link 1 to B.2", "accepted")
+    refuses(name, "afdx: network J1 Jitter, switch B, link 1, need 11, has 0", 4, network_model.check, network(tables, "A.2 B.1"))
+    needs(name, network(tables, "A.2 B.1"), "switch A link 1 jitter_us 0", "switch B link 1 jitter_us 11")
+    allowing = tables | {"B": slow(link(1, 1, [2], 11), ports=2)}
+    says(name, network(allowing, "A.2 B.1"), "switch A accepted", "switch B accepted",
+         "link 1 from A.1 to B.2 ways A.2 B.2 least 13440 most 33648 jitter 0 11", "greatest 33648 link 1 to B.2", "accepted")
+    says(name, network(allowing, "A.2 B.1", leasts={"A": 4, "B": 10}), "switch A accepted", "switch B accepted",
+         "link 1 from A.1 to B.2 ways A.2 B.2 least 27440 most 33480 jitter 0 7", "greatest 33480 link 1 to B.2", "accepted")
+    outcomes = run(network(allowing, "A.2 B.1"), A1=capture((1, 0)))
+    same(name, left(outcomes, "B", 2), [(1, 33_440)])
+
+
+def overtaken() -> None:
+    """Six links of 1518 bytes, of which each asks for 159,390.06 ns at once, at a switch of 100 µs: 956,340 ns wait where it takes
+    them for each frame, a tenth more where latencies may be of any length up to it."""
+    name = "overtaken"
+    links = [link(number, 1 + number % 2, [3], size=1518) for number in range(1, 7)]
+    tables = {"A": slow(*links, latency=100, ports=3)}
+    lines = {0: 1_151_974, 60: 1_094_593, 100: 1_056_340}
+    for least, most in lines.items():
+        said = network_model.check(network(tables, leasts={"A": least})).splitlines()
+        same(name, said[1], f"link 1 from A.2 to A.3 ways A.3 least {least * 1000 + 6_720} most {most} jitter 0")
+    low = tables | {"A": tables["A"].replace("max_delay_us = 500000", "max_delay_us = 1100")}
+    for least in (60, 100):
+        same(name, network_model.check(network(low, leasts={"A": least})).splitlines()[-1], "accepted")
+    refuses(name, "afdx: load L4 LowDelay, port 3, need 1151974, limit 1100000, switch A", 4, network_model.check, network(low))
+    refuses(name, "afdx: load L3 HighDelay, port 3, need 1151974, limit 1100000, switch A", 4, network_model.check,
+            network({"A": low["A"].replace('"low"', '"high"')}))
+    small = {"A": tables["A"].replace("buffer = 100000", "buffer = 13493")}
+    same(name, network_model.check(network(small, leasts={"A": 100})).splitlines()[-1], "accepted")
+    refuses(name, "afdx: load L2 Buffer, port 3, need 2406428672000000, limit 2210693120000000, switch A", 4, network_model.check, network(small))
+    mixed = slow(*links[:5], link(6, 1, [3]), latency=100, ports=3).replace('"low"', '"high"', 5)
+    for least, bound in ((100, 4_057_990), (0, 4_453_789)):
+        said = network_model.check(network({"A": mixed}, leasts={"A": least})).splitlines()
+        same(name, said[6].split()[8:12], ["least", str(least * 1000 + 6_720), "most", str(bound)])
+
+
+def overtaken_by_all() -> None:
+    """At that switch each link sends 23 frames of 64 bytes at once, and the others three more as their accounts allow, the last at
+    96,180 ns. The frames of link 1 take 100,000 ns, and all others are queued just before them: the last one of it has gone when
+    153 frames of 6,720 ns have. So the bound for one latency does not hold, and the one for any up to it does."""
+    name = "overtaken by all"
+    links = [link(number, 1 + number % 2, [3], size=1518) for number in range(1, 7)]
+    switch = model.table_of(slow(*links, latency=100, ports=3))
+    later = [11_858, 54_019, 96_180]
+    sent = {port: [(number, 0) for number in range(1, 7) if number % 2 + 1 == port for _ in range(23)]
+            + [(number, at) for at in later for number in range(2, 7) if number % 2 + 1 == port] for port in (1, 2)}
+    arrivals = model.arrivals_of(switch, {1: capture(*sent[1]), 2: capture(*sent[2]), 3: SILENCE})
+    same(name, [len(arrivals), all(arrival.passed for arrival in arrivals)], [153, True])
+    order = sorted(arrivals, key=lambda arrival: arrival.link.id == 1)
+    queued = [dataclasses.replace(arrival, record=dataclasses.replace(arrival.record, stamp=100_000)) for arrival in order]
+    last = model.service(dataclasses.replace(switch.ports[2], latency=0), queued)[-1]
+    same(name, (last.frame.link.id, last.end), (1, 1_128_160))
+
+
+def wire_that_varies() -> None:
+    """Two links of 1518 bytes on one wire: it brings 123,040 ns at once, and at the queues 50,000 ns more, where the latency of B may be
+    of any length up to 50 µs."""
+    name = "wire that varies"
+    tables = {"A": table(link(1, 1, [3], size=1518), link(2, 2, [3], size=1518)),
+              "B": slow(link(1, 1, [2], 312, size=1518), link(2, 1, [2], 312, size=1518), latency=50)}
+    for least, most in ((50, 123_040 + 50_000), (0, 123_040 + 50_000 + 50_000)):
+        net = network(tables, "A.3 B.1", leasts={"A": 0, "B": least})
+        row = network_model.row_of(net, "B", 1)
+        same(name, row and network_model.bound_of(net, row, 2), most)
+
+
+def least_latencies() -> None:
+    """What a network file may say of them."""
+    name = "least latencies"
+    tables = {"A": slow(link(1, 1, [2]), ports=2), "B": slow(link(1, 1, [2]), ports=2, latency=9)}
+    refuses(name, "afdx: network G3 Latency, switch B", 3, network_model.check, network(tables, "A.2 B.1", leasts={"A": 10, "B": 10}))
+    refuses(name, "afdx: network G3 Latency, switch B", 3, network_model.jitter, network(tables, "A.2 B.1", leasts={"A": 0, "B": 10}))
+    refuses(name, "afdx: network G3 NoSuchPort, wire 1", 3, network_model.check, network(tables, "A.2 B.3", leasts={"A": 11}))
+    for value, fault in (("-1", "Range"), ("101", "Range"), ('"1"', "Kind"), ("1.0", "Kind")):
+        refuses(name, f"afdx: network G2 {fault}, switch 1, least_latency_us", 3, network_model.layout_of,
+                layout(["A"], leasts={"A": 7}).replace("_us = 7", f"_us = {value}").encode())
+    refuses(name, "afdx: network G2 Range, switch 1, table", 3, network_model.layout_of,
+            layout(["A"], leasts={"A": 101}).replace('"A.toml"', '""').encode())
 
 
 def rounded_once() -> None:
@@ -359,9 +457,9 @@ def captures_refused() -> None:
     same(name, left(run(net, A1=capture((1, late - 10**9))), "B", 2), [(1, late - 10**9 + 13_440)])
 
 
-for part in (jitter_enough, three_in_a_row, ring, multicast, both_kinds_of_policing, gigabit_with_latency, rounded_once,
-             bound_of_its_priority,
-             speed_of_the_port_before, turns, file_refusals, texts_refused, past_the_limit, captures_refused):
+for part in (jitter_enough, three_in_a_row, ring, multicast, both_kinds_of_policing, gigabit_with_latency, latency_that_varies, overtaken,
+             overtaken_by_all, wire_that_varies, least_latencies, rounded_once, bound_of_its_priority, speed_of_the_port_before, turns,
+             file_refusals, texts_refused, past_the_limit, captures_refused):
     part()
 print("\n".join(differing) or "the model of networks gives every worked number")
 sys.exit(bool(differing))

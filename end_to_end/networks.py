@@ -106,15 +106,21 @@ def draw_links(chance: Random, plan: Plan, tables: dict[str, model.Table]) -> No
             tables[name].links.append(model.Link(number, port, sorted(to), bag, jitter, size, chance.choice(model.PRIORITIES), police))
 
 
+def draw_least(chance: Random, latency: int) -> int:
+    """What a switch with this latency takes at least: often the same, or nothing is known."""
+    return 1000 * chance.choice([latency // 1000, 0, chance.randint(0, latency // 1000)])
+
+
 def draw_network(chance: Random) -> Network:
     plan = draw_plan(chance)
     tables: dict[str, model.Table] = {}
     for name in plan.names:
         latency = 1000 * chance.choice([0, chance.randint(1, 100)])
         ports = [model.Port(number, tick, 16_777_216, 500_000_000, latency) for number, tick in enumerate(plan.ticks[name], 1)]
-        tables[name] = model.Table(bytes.fromhex("03000000"), ports, [])
+        tables[name] = model.Table(bytes.fromhex("03000000"), ports, [], latency)
     draw_links(chance, plan, tables)
-    return network_model.network_of([network_model.Switch(name, f"{name}.toml") for name in plan.names], plan.wires, tables)
+    switches = [network_model.Switch(name, f"{name}.toml", draw_least(chance, tables[name].latency)) for name in plan.names]
+    return network_model.network_of(switches, plan.wires, tables)
 
 
 def accepted_network(chance: Random) -> Network:
@@ -177,8 +183,8 @@ def least_of(net: Network, row: Row, port: int, size: int) -> int:
     """What a frame of this size takes at least, to the end of the way."""
     rows, wires, _ = network_model.before(net, row)
     ports = [wire.start for wire in wires] + [End(row.switch, port)]
-    lines = [network_model.port_of(net, end) for end in ports]
-    return sum(line.latency + (size + model.LINE_OVERHEAD) * line.tick for line in lines) + sum(wire.delay for wire in wires)
+    lines = [(net.leasts[end.switch], network_model.port_of(net, end)) for end in ports]
+    return sum(least + (size + model.LINE_OVERHEAD) * line.tick for least, line in lines) + sum(wire.delay for wire in wires)
 
 
 def delivered(net: Network, given: dict[End, bytes], outcomes: dict[str, model.Outcome], row: Row, port: int) -> str | None:
@@ -226,6 +232,7 @@ def network_text(net: Network) -> str:
     lines = ["version = 1"]
     for name in net.names:
         lines += ["[[switch]]", f'name = "{name}"', f'table = "{name}.toml"']
+        lines += [f"least_latency_us = {net.leasts[name] // 1000}"] if net.leasts[name] else []
     for wire in net.wires:
         lines += ["[[wire]]", f'from = "{wire.start}"', f'to = "{wire.end}"', f"delay_ns = {wire.delay}"]
     return "\n".join(lines) + "\n"

@@ -1,22 +1,25 @@
 -- Lesser curves need lesser bursts, and lesser bursts give lesser bounds.
 use Rattle.std.proofs.Common.{◌≡◌, ℕ, ◌+◌, ◌-◌, ◌*◌, ◌/◌, ◌<◌, ◌≤◌, ◌&&◌, Bool, true, false, cond, nat_lt, Some, None, List, [], ◌∷◌, map, refl, ap, ◌∙◌, arith}
-use Rattle.std.specs.Prelude.{Option, All, sum_by}
+use Rattle.std.specs.Prelude.{Option, option_map, min, All, sum_by}
 use Rattle.std.specs.List.{AllZip}
-use Rattle.std.proofs.Math.Nat.{div-mul-le_self}
+use Rattle.std.proofs.Math.Nat.{div-mul-le_self, mul-le-mul_left}
 use Rattle.std.proofs.lemmas.Nat.{le-div}
 use Rattle.std.proofs.lemmas.Bool.Decides.{nat_tests}
 use Rattle.std.proofs.lemmas.List.Elements.{All-head, All-tail}
 use Rattle.std.proofs.lemmas.List.Sums.{sum_by-cons}
 use Rattle.std.proofs.lemmas.Option.{same_Some}
 use Rattle.afdx_account.specs.Policing.{parts}
-use Rattle.afdx_serial.specs.Curves.{Curve, curve_at, BurstsAreEnough}
+use Rattle.afdx_serial.specs.Curves.{Straight, Curve, lesser_at, curve_at, BurstsAreEnough}
 use Rattle.afdx_units.specs.declared.line.Speed.{Speed}
 use Rattle.afdx_table.specs.declared.rows.PortRow.{PortRow}
 use Rattle.afdx_table.specs.Content.{Content}
 use Rattle.afdx_table.specs.WellFormed.{IsWellFormed}
 use Rattle.afdx_load.specs.Load.{Load, load_of}
+use Rattle.afdx_load.specs.Bounds.{bounds_of}
+use Rattle.afdx_load.specs.declared.delays.Bounds.{Bounds}
 use Rattle.afdx_grouping.specs.Burst.{paid_rate, least_burst}
-use Rattle.afdx_grouping.specs.Groups.{all_curve, high_curve, group_at, line_at, all_curves, high_curves, lesser_load, lesser_loads}
+use Rattle.afdx_grouping.specs.Groups.{all_curve, high_curve, group_at, line_at, all_curves, high_curves, lesser_load, lesser_bounds}
+use Rattle.afdx_grouping.specs.Scatter.{scattered, later_line, later}
 use Rattle.afdx_grouping.specs.Laws.{IsBelow, IsNoMore, AreNoMore}
 use Rattle.afdx_grouping.proofs.Turning.{bursts_least, none_more}
 use Rattle.afdx_grouping.proofs.Partition.{paid_once}
@@ -50,26 +53,60 @@ sooner true m n k latency le some y is =
     (m / k + latency, refl, omega (arith, same, quotient))
 sooner false m n k latency le some y is = absurd cc
 
-pub bounds_no_more : (t : Content) (lined : ℕ → Bool) (to : PortRow) → IsWellFormed t → AreNoMore (lesser_load lined t to) (load_of t.latency to.speed to.id t.links)
-bounds_no_more t lined to formed =
-    let once = paid_once t lined to formed in
-    let all = through _ _ _ (none_more parts (all_curves t lined to)) once.burst in
-    let high = through _ _ _ (none_more parts (high_curves t lined to)) once.high_burst in
-    let load = load_of t.latency to.speed to.id t.links in
-    let lesser = lesser_load lined t to in
-    record {
-      high = sooner (nat_lt 0 load.highs) (lesser.high_burst + parts * load.low_largest) (load.high_burst + parts * load.low_largest) parts load.latency (more _ _ _ high) (λ _. omega arith);
-      low = sooner (nat_lt 0 load.lows && nat_lt load.high_rate parts) lesser.burst load.burst (parts - load.high_rate) load.latency all (leaves (nat_lt 0 load.lows) load.high_rate);
-    } where
-      through : (a b c : ℕ) → a ≤ b → b ≤ c → a ≤ c
-      through a b c h k = omega (arith, h, k)
+-- the bounds of loads of which one asks for no more at once
+sooner_all : (load : Load) (burst most high high_most : ℕ) → burst ≤ most → high ≤ high_most
+    → AreNoMore (record load { burst = burst; high_burst = high }) (record load { burst = most; high_burst = high_most })
+sooner_all load burst most high high_most all highs = record {
+  high = sooner (nat_lt 0 load.highs) (high + parts * load.low_largest) (high_most + parts * load.low_largest) parts load.latency (more _ _ _ highs) (λ _. omega arith);
+  low = sooner (nat_lt 0 load.lows && nat_lt load.high_rate parts) burst most (parts - load.high_rate) load.latency all (leaves (nat_lt 0 load.lows) load.high_rate);
+} where
+  more : (a b k : ℕ) → a ≤ b → a + k ≤ b + k
+  more a b k h = omega (arith, h)
 
-      more : (a b k : ℕ) → a ≤ b → a + k ≤ b + k
-      more a b k h = omega (arith, h)
+  leaves : (some : Bool) (rate : ℕ) → (some && nat_lt rate parts) ≡ true → 0 < parts - rate
+  leaves true rate h = let test : nat_lt rate parts ≡ true = h in grind (arith, nat_tests)
+  leaves false rate h = absurd cc
 
-      leaves : (some : Bool) (rate : ℕ) → (some && nat_lt rate parts) ≡ true → 0 < parts - rate
-      leaves true rate h = let test : nat_lt rate parts ≡ true = h in grind (arith, nat_tests)
-      leaves false rate h = absurd cc
+through : (a b c : ℕ) → a ≤ b → b ≤ c → a ≤ c
+through a b c h k = omega (arith, h, k)
+
+pub bounds_no_more : (scatter : ℕ) (t : Content) (lined : ℕ → Bool) (to : PortRow) → IsWellFormed t
+    → AreNoMore (lesser_load scatter lined t to) (scattered scatter (load_of t.latency to.speed to.id t.links))
+bounds_no_more scatter t lined to formed =
+    let once = paid_once scatter t lined to formed in
+    let load : Load = load_of t.latency to.speed to.id t.links in
+    sooner_all load _ (load.burst + load.rate * scatter) _ (load.high_burst + load.high_rate * scatter)
+    (through _ _ _ (none_more parts (all_curves scatter t lined to)) once.burst)
+    (through _ _ _ (none_more parts (high_curves scatter t lined to)) once.high_burst)
+
+-- ---- less scatter
+
+line_later : (d e burst rate window : ℕ) → d ≤ e → burst + rate * d + rate * window ≤ burst + rate * e + rate * window
+line_later d e burst rate window le = let step = mul-le-mul_left rate le in omega (arith, step)
+
+later_below : (d e : ℕ) → d ≤ e → (c : Curve) → IsBelow (later d c) (later e c)
+later_below d e le c window = by c.brought where
+  both : (p q r s : ℕ) → p ≤ r → q ≤ s → min p q ≤ min r s
+  both p q r s one two = omega (arith, one, two)
+
+  by : (b : Option Straight) → lesser_at (later_line d c.paid) (option_map (later_line d) b) window ≤ lesser_at (later_line e c.paid) (option_map (later_line e) b) window
+  by None = line_later d e c.paid.burst c.paid.rate window le
+  by (Some b) = both _ _ _ _ (line_later d e c.paid.burst c.paid.rate window le) (line_later d e b.burst b.rate window le)
+
+all_below : (d e : ℕ) → d ≤ e → (f : PortRow → Curve) (ports : List PortRow) → AllZip IsBelow (map (λ q. later d (f q)) ports) (map (λ q. later e (f q)) ports)
+all_below d e le f [] = tt
+all_below d e le f (q ∷ ports) = (later_below d e le (f q), all_below d e le f ports)
+
+pub less_scatter : BurstsAreEnough → (scatter more : ℕ) (t : Content) (lined : ℕ → Bool) (to : PortRow) → IsWellFormed t → scatter ≤ more
+    → (load_of t.latency to.speed to.id t.links).rate ≤ parts → AreNoMore (lesser_load scatter lined t to) (lesser_load more lined t to)
+less_scatter paid scatter more t lined to formed le rate =
+    let here = paid_once scatter t lined to formed in
+    let there = paid_once more t lined to formed in
+    sooner_all (load_of t.latency to.speed to.id t.links) _ _ _ _
+    (curves_need_less paid parts (all_curves scatter t lined to) (all_curves more t lined to) (through _ _ _ here.rate rate) (through _ _ _ there.rate rate)
+    (all_below scatter more le (λ q. all_curve to.speed (line_at lined q) (group_at t.links q.id to)) t.ports))
+    (curves_need_less paid parts (high_curves scatter t lined to) (high_curves more t lined to) (through _ _ _ here.high_rate rate) (through _ _ _ there.high_rate rate)
+    (all_below scatter more le (λ q. high_curve to.speed (line_at lined q) (group_at t.links q.id to)) t.ports))
 
 -- ---- the ports that count
 
@@ -82,16 +119,19 @@ each_line f lined other (q ∷ ports) same =
     let rest = each_line f lined other ports (All-tail (λ p. lined p.id ≡ other p.id) q ports same) in
     ap (λ line. f q line ∷ map (λ r. f r (line_at lined r)) ports) here ∙ ap (λ more. f q (line_at other q) ∷ more) rest
 
-abbrev loaded : Content → PortRow → List Curve → List Curve → Load
-loaded t to all high = record (load_of t.latency to.speed to.id t.links) { burst = least_burst parts all; high_burst = least_burst parts high }
+abbrev bounded : Content → PortRow → List Curve → List Curve → Bounds
+bounded t to all high =
+    let load : Load = record (load_of t.latency to.speed to.id t.links) { burst = least_burst parts all; high_burst = least_burst parts high } in
+    bounds_of load
 
-pub only_ports : (t : Content) (lined other : ℕ → Bool) → All (λ p. lined p.id ≡ other p.id) t.ports → lesser_loads lined t ≡ lesser_loads other t
-only_ports t lined other same = each t.ports where
-  at : (to : PortRow) → lesser_load lined t to ≡ lesser_load other t to
+pub only_ports : (scatter : ℕ) (t : Content) (lined other : ℕ → Bool) → All (λ p. lined p.id ≡ other p.id) t.ports → lesser_bounds scatter lined t ≡ lesser_bounds scatter other t
+only_ports scatter t lined other same = each t.ports where
+  at : (to : PortRow) → bounds_of (lesser_load scatter lined t to) ≡ bounds_of (lesser_load scatter other t to)
   at to =
-      ap (λ all. loaded t to all (high_curves t lined to)) (each_line (λ q line. all_curve to.speed line (group_at t.links q.id to)) lined other t.ports same)
-      ∙ ap (λ high. loaded t to (all_curves t other to) high) (each_line (λ q line. high_curve to.speed line (group_at t.links q.id to)) lined other t.ports same)
+      ap (λ all. bounded t to all (high_curves scatter t lined to)) (each_line (λ q line. later scatter (all_curve to.speed line (group_at t.links q.id to))) lined other t.ports same)
+      ∙ ap (λ high. bounded t to (all_curves scatter t other to) high) (each_line (λ q line. later scatter (high_curve to.speed line (group_at t.links q.id to))) lined other t.ports same)
 
-  each : (ports : List PortRow) → map (lesser_load lined t) ports ≡ map (lesser_load other t) ports
+  each : (ports : List PortRow) → map (λ to. bounds_of (lesser_load scatter lined t to)) ports ≡ map (λ to. bounds_of (lesser_load scatter other t to)) ports
   each [] = refl
-  each (to ∷ ports) = ap (λ load. load ∷ map (lesser_load lined t) ports) (at to) ∙ ap (λ more. lesser_load other t to ∷ more) (each ports)
+  each (to ∷ ports) =
+      ap (λ bounds. bounds ∷ map (λ to. bounds_of (lesser_load scatter lined t to)) ports) (at to) ∙ ap (λ more. bounds_of (lesser_load scatter other t to) ∷ more) (each ports)

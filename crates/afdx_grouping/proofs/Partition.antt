@@ -1,11 +1,12 @@
 -- The groups of a port's links have no more than all of them: each link comes in at one port.
-use Rattle.std.proofs.Common.{◌≡◌, ℕ, ◌+◌, ◌<◌, ◌≤◌, ◌==◌, ◌&&◌, Bool, true, false, cond, List, [], ◌∷◌, map, refl, sym, ap, ◌∙◌, ⊎_elim, arith}
+use Rattle.std.proofs.Common.{◌≡◌, ℕ, ◌+◌, ◌*◌, ◌<◌, ◌≤◌, ◌==◌, ◌&&◌, Bool, true, false, cond, List, [], ◌∷◌, map, refl, sym, ap, ◌∙◌, ⊎_elim, arith}
 use Rattle.std.specs.Prelude.{filter, sum_by}
 use Rattle.std.specs.List.{AllByRecursion}
 use Rattle.std.proofs.lemmas.Bool.{cases_Bool}
 use Rattle.std.proofs.lemmas.Bool.Decides.{nat_tests}
 use Rattle.std.proofs.lemmas.List.Filters.{sum_by-filter_both}
 use Rattle.std.proofs.lemmas.List.Sums.{sum_by-cons}
+use Rattle.std.proofs.Math.Nat.{mul-le-mul_right}
 use Rattle.afdx_serial.specs.Curves.{Curve}
 use Rattle.afdx_table.specs.declared.rows.PortRow.{PortRow}
 use Rattle.afdx_table.specs.Link.{Link, leads_to}
@@ -14,6 +15,7 @@ use Rattle.afdx_table.specs.WellFormed.{IsWellFormed, Rises}
 use Rattle.afdx_load.specs.Load.{is_high_link, is_low_link, rate_of, burst_of, routed, links_load}
 use Rattle.afdx_grouping.specs.Groups.{goes_over, group_at, line_at, all_curve, high_curve}
 use Rattle.afdx_grouping.specs.Laws.{ArePaidForOnce}
+use Rattle.afdx_grouping.specs.Scatter.{later}
 
 -- ---- one port for each link
 
@@ -143,17 +145,30 @@ sum_map f g (q ∷ ports) = adds _ _ _ _ _ (sum_by-cons f (g q) (map g ports)) (
   adds : (a xs ys sa sb : ℕ) → sa ≡ a + xs → sb ≡ a + ys → xs ≡ ys → sa ≡ sb
   adds a xs ys sa sb p q h = omega (arith, p, q, h)
 
-pub paid_once : (t : Content) (lined : ℕ → Bool) (to : PortRow) → IsWellFormed t → ArePaidForOnce t lined to
+-- a burst and so much of a rate
+scattered_sum : (d : ℕ) (f g : PortRow → ℕ) (ports : List PortRow) (b r : ℕ) → sum_by f ports ≤ b → sum_by g ports ≤ r → sum_by (λ q. f q + g q * d) ports ≤ b + r * d
+scattered_sum d f g ports b r fb gr = omega (arith, both_sums f (λ q. g q * d) (λ q. f q + g q * d) ports (λ q. refl), times ports, mul-le-mul_right d gr, fb) where
+  times : (ports : List PortRow) → sum_by (λ q. g q * d) ports ≡ sum_by g ports * d
+  times [] = omega arith
+  times (q ∷ ports) = adds _ _ _ _ (g q) (sum_by-cons (λ p. g p * d) q ports) (sum_by-cons g q ports) (times ports) where
+    adds : (xs ys sa sb a : ℕ) → sa ≡ a * d + xs → sb ≡ a + ys → xs ≡ ys * d → sa ≡ sb * d
+    adds xs ys sa sb a p q h = rw q (omega (arith, p, h))
+
+pub paid_once : (scatter : ℕ) (t : Content) (lined : ℕ → Bool) (to : PortRow) → IsWellFormed t → ArePaidForOnce scatter t lined to
 unfolding links_load
-paid_once t lined to formed =
-    let all = λ (q : PortRow). all_curve to.speed (line_at lined q) (group_at t.links q.id to) in
-    let high = λ (q : PortRow). high_curve to.speed (line_at lined q) (group_at t.links q.id to) in
+paid_once scatter t lined to formed =
+    let all = λ (q : PortRow). later scatter (all_curve to.speed (line_at lined q) (group_at t.links q.id to)) in
+    let high = λ (q : PortRow). later scatter (high_curve to.speed (line_at lined q) (group_at t.links q.id to)) in
+    let all_rate = groups_within to.id (rate_of to.speed) t.ports formed.ports_rise t.links in
+    let high_rate = high_within to.id (rate_of to.speed) t.ports formed.ports_rise t.links in
+    let all_burst = groups_within to.id (burst_of to.speed) t.ports formed.ports_rise t.links in
+    let high_burst = high_within to.id (burst_of to.speed) t.ports formed.ports_rise t.links in
     record {
-      rate = through _ _ _ (sum_map (λ c. c.paid.rate) all t.ports) (groups_within to.id (rate_of to.speed) t.ports formed.ports_rise t.links);
-      high_rate = through _ _ _ (sum_map (λ c. c.paid.rate) high t.ports) (part _ _ _ _ (high_within to.id (rate_of to.speed) t.ports formed.ports_rise t.links)
+      rate = through _ _ _ (sum_map (λ c. c.paid.rate) all t.ports) all_rate;
+      high_rate = through _ _ _ (sum_map (λ c. c.paid.rate) high t.ports) (part _ _ _ _ high_rate
           (sum_by-filter_both is_high_link is_low_link (λ _. refl) (rate_of to.speed) (routed to.id t.links)));
-      burst = through _ _ _ (sum_map (λ c. c.paid.burst) all t.ports) (groups_within to.id (burst_of to.speed) t.ports formed.ports_rise t.links);
-      high_burst = through _ _ _ (sum_map (λ c. c.paid.burst) high t.ports) (high_within to.id (burst_of to.speed) t.ports formed.ports_rise t.links);
+      burst = through _ _ _ (sum_map (λ c. c.paid.burst) all t.ports) (scattered_sum scatter _ _ t.ports _ _ all_burst all_rate);
+      high_burst = through _ _ _ (sum_map (λ c. c.paid.burst) high t.ports) (scattered_sum scatter _ _ t.ports _ _ high_burst high_rate);
     } where
       through : (a b c : ℕ) → a ≡ b → b ≤ c → a ≤ c
       through a b c e h = omega (arith, e, h)

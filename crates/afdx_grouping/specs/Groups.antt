@@ -9,7 +9,10 @@ use Rattle.afdx_table.specs.declared.rows.PortRow.{PortRow}
 use Rattle.afdx_table.specs.Link.{Link, leads_to}
 use Rattle.afdx_table.specs.Content.{Content}
 use Rattle.afdx_load.specs.Load.{Load, is_high_link, rate_of, burst_of, greatest, load_of}
+use Rattle.afdx_load.specs.Bounds.{bounds_of}
+use Rattle.afdx_load.specs.declared.delays.Bounds.{Bounds}
 use Rattle.afdx_grouping.specs.Burst.{least_burst}
+use Rattle.afdx_grouping.specs.Scatter.{later}
 
 -- ---- groups
 
@@ -69,19 +72,20 @@ high_curve here line g = curve_of here line 0 g.high
 abbrev pub line_at : (ℕ → Bool) → PortRow → Option Speed
 line_at lined from = if lined from.id then Some from.speed else None
 
-abbrev pub all_curves : Content → (ℕ → Bool) → PortRow → List Curve
-all_curves t lined to = map (λ from. all_curve to.speed (line_at lined from) (group_at t.links from.id to)) t.ports
+-- where latencies differ by at most so many nanoseconds
+abbrev pub all_curves : (scatter : ℕ) → Content → (ℕ → Bool) → PortRow → List Curve
+all_curves scatter t lined to = map (λ from. later scatter (all_curve to.speed (line_at lined from) (group_at t.links from.id to))) t.ports
 
-abbrev pub high_curves : Content → (ℕ → Bool) → PortRow → List Curve
-high_curves t lined to = map (λ from. high_curve to.speed (line_at lined from) (group_at t.links from.id to)) t.ports
+abbrev pub high_curves : (scatter : ℕ) → Content → (ℕ → Bool) → PortRow → List Curve
+high_curves scatter t lined to = map (λ from. later scatter (high_curve to.speed (line_at lined from) (group_at t.links from.id to))) t.ports
 
 -- profile: its load, of which all links and the high ones ask for no more at once than the least bursts that are enough for their groups
-abbrev pub lesser_load : (ℕ → Bool) → Content → PortRow → Load
-lesser_load lined t to = record (load_of t.latency to.speed to.id t.links) {
-  burst = least_burst parts (all_curves t lined to);
-  high_burst = least_burst parts (high_curves t lined to);
+abbrev pub lesser_load : (scatter : ℕ) → (ℕ → Bool) → Content → PortRow → Load
+lesser_load scatter lined t to = record (load_of t.latency to.speed to.id t.links) {
+  burst = least_burst parts (all_curves scatter t lined to);
+  high_burst = least_burst parts (high_curves scatter t lined to);
 }
 
--- those of all ports
-abbrev pub lesser_loads : (ℕ → Bool) → Content → List Load
-lesser_loads lined t = map (lesser_load lined t) t.ports
+-- the bounds of all ports
+abbrev pub lesser_bounds : (scatter : ℕ) → (ℕ → Bool) → Content → List Bounds
+lesser_bounds scatter lined t = map (λ to. bounds_of (lesser_load scatter lined t to)) t.ports

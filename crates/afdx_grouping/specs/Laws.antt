@@ -8,7 +8,9 @@ use Rattle.afdx_table.specs.WellFormed.{IsWellFormed}
 use Rattle.afdx_load.specs.Bounds.{high_bound, low_bound}
 use Rattle.afdx_load.specs.Load.{Load, load_of}
 use Rattle.afdx_grouping.specs.Burst.{paid_burst, paid_rate, least_burst, IsLeastBurst}
-use Rattle.afdx_grouping.specs.Groups.{all_curves, high_curves, lesser_load, lesser_loads}
+use Rattle.afdx_account.specs.Policing.{parts}
+use Rattle.afdx_grouping.specs.Groups.{all_curves, high_curves, lesser_load, lesser_bounds}
+use Rattle.afdx_grouping.specs.Scatter.{scattered}
 
 -- where no more is paid for in the long run than n
 abbrev pub BurstsAreLeast : Type 0
@@ -17,15 +19,16 @@ BurstsAreLeast = (n : ℕ) (curves : List Curve) → paid_rate curves ≤ n → 
 abbrev pub NoneIsMoreThanPaidFor : Type 0
 NoneIsMoreThanPaidFor = (n : ℕ) (curves : List Curve) → least_burst n curves ≤ paid_burst curves
 
--- the groups of a port are paid for no more than its links are: in the long run, and at once, all and the high ones
-pub record ArePaidForOnce (t : Content) (lined : ℕ → Bool) (to : PortRow) : Type 0 where
-  pub rate : paid_rate (all_curves t lined to) ≤ (load_of t.latency to.speed to.id t.links).rate
-  pub high_rate : paid_rate (high_curves t lined to) ≤ (load_of t.latency to.speed to.id t.links).rate
-  pub burst : paid_burst (all_curves t lined to) ≤ (load_of t.latency to.speed to.id t.links).burst
-  pub high_burst : paid_burst (high_curves t lined to) ≤ (load_of t.latency to.speed to.id t.links).high_burst
+-- the groups of a port are paid for no more than its links are where latencies differ as much: in the long run, and at once, all and the
+-- high ones
+pub record ArePaidForOnce (scatter : ℕ) (t : Content) (lined : ℕ → Bool) (to : PortRow) : Type 0 where
+  pub rate : paid_rate (all_curves scatter t lined to) ≤ (load_of t.latency to.speed to.id t.links).rate
+  pub high_rate : paid_rate (high_curves scatter t lined to) ≤ (load_of t.latency to.speed to.id t.links).rate
+  pub burst : paid_burst (all_curves scatter t lined to) ≤ (scattered scatter (load_of t.latency to.speed to.id t.links)).burst
+  pub high_burst : paid_burst (high_curves scatter t lined to) ≤ (scattered scatter (load_of t.latency to.speed to.id t.links)).high_burst
 
 abbrev pub NoMoreIsPaidFor : Type 0
-NoMoreIsPaidFor = (t : Content) (lined : ℕ → Bool) (to : PortRow) → IsWellFormed t → ArePaidForOnce t lined to
+NoMoreIsPaidFor = (scatter : ℕ) (t : Content) (lined : ℕ → Bool) (to : PortRow) → IsWellFormed t → ArePaidForOnce scatter t lined to
 
 -- a curve brings no more than another one in any window
 abbrev pub IsBelow : Curve → Curve → Type 0
@@ -45,8 +48,15 @@ pub record AreNoMore (lesser load : Load) : Type 0 where
   pub low : IsNoMore (low_bound lesser) (low_bound load)
 
 abbrev pub BoundsAreNoMore : Type 0
-BoundsAreNoMore = (t : Content) (lined : ℕ → Bool) (to : PortRow) → IsWellFormed t → AreNoMore (lesser_load lined t to) (load_of t.latency to.speed to.id t.links)
+BoundsAreNoMore = (scatter : ℕ) (t : Content) (lined : ℕ → Bool) (to : PortRow) → IsWellFormed t
+    → AreNoMore (lesser_load scatter lined t to) (scattered scatter (load_of t.latency to.speed to.id t.links))
 
--- what is said of other ports than the table's is nothing to its loads
+-- and where latencies differ by less, they are no greater
+abbrev pub LessScatterBoundsNoMore : Type 0
+LessScatterBoundsNoMore = (scatter more : ℕ) (t : Content) (lined : ℕ → Bool) (to : PortRow) → IsWellFormed t → scatter ≤ more
+    → (load_of t.latency to.speed to.id t.links).rate ≤ parts → AreNoMore (lesser_load scatter lined t to) (lesser_load more lined t to)
+
+-- what is said of other ports than the table's is nothing to its bounds
 abbrev pub OnlyPortsCount : Type 0
-OnlyPortsCount = (t : Content) (lined other : ℕ → Bool) → All (λ p. lined p.id ≡ other p.id) t.ports → lesser_loads lined t ≡ lesser_loads other t
+OnlyPortsCount = (scatter : ℕ) (t : Content) (lined other : ℕ → Bool) → All (λ p. lined p.id ≡ other p.id) t.ports
+    → lesser_bounds scatter lined t ≡ lesser_bounds scatter other t

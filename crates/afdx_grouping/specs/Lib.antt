@@ -3,3 +3,4 @@ pub mod Burst
 pub mod Groups
 pub mod Laws
 pub mod Lined
+pub mod Scatter

@@ -123,7 +123,8 @@ fn above(parts: u64, curves: &[Curve], window: u128) -> u128
 /// What the curves' links pay for at once.
 fn paid_burst(curves: &[Curve]) -> u128
     requires few { length curves.now ≤ 24 }
-    ensures { result ≡ paid_burst curves.now }
+    ensures paid { result ≡ paid_burst curves.now }
+    ensures small { result ≤ 2 ^ 78 }
 {
     let mut sum = 0;
     for curve in curves {
@@ -158,6 +159,7 @@ pub(crate) fn least_burst(parts: u64, curves: &[Curve]) -> u128
     ensures found { result ≡ least_burst parts curves.now }
     ensures least { paid_rate curves.now ≤ parts → IsLeastBurst parts result curves.now }
     ensures most { result ≤ paid_burst curves.now }
+    ensures small { result ≤ 2 ^ 78 }
 {
     bursts_are_least();
     paid_burst(curves).min(most_above(parts, curves))

@@ -5,6 +5,7 @@ ghost use Rattle.afdx_units.specs.Line.{greatest_size};
 ghost use Rattle.afdx_units.specs.declared.line.Speed.{Speed};
 ghost use Rattle.afdx_table.specs.WellFormed.{IsLink};
 ghost use Rattle.afdx_grouping.specs.Groups.{asked_by, group_of, goes_over, group_at, line_weight, curve_of, all_curve, high_curve};
+ghost use Rattle.afdx_grouping.specs.Scatter.{later};
 ghost use Rattle.afdx_grouping.specs.Adding.{asked_with, high_with, group_with, group_added, IsSmall};
 
 use crate::curve::{Curve, Straight};
@@ -109,13 +110,16 @@ impl Asked {
         }
     }
 
-    /// What the links are paid for, and what the line there brings of them, with so many parts beside, where it is kept to.
-    fn curve(self, here: Speed, line: Option<Speed>, spare: u128) -> Curve
-        requires { spare ≤ 2 ^ 72 }
-        ensures { result ≡ curve_of here line spare self }
+    /// What the links are paid for, and what the line there brings of them, with so many parts beside, where it is kept to; in a
+    /// window that is longer by so many nanoseconds.
+    fn curve(self, here: Speed, line: Option<Speed>, spare: u128, scatter: u64) -> Curve
+        requires spare { spare ≤ 2 ^ 72 }
+        requires scatter { scatter ≤ 100000 }
+        ensures { result ≡ later scatter (curve_of here line spare self) }
     {
+        let scatter = u128::from(scatter);
         let paid = Straight {
-            burst: self.burst,
+            burst: self.burst + u128::from(self.rate) * scatter,
             rate: self.rate,
         };
         let brought = match line {
@@ -123,7 +127,7 @@ impl Asked {
                 let weight = line_weight(here, there);
                 let first = u128::from(cost(there, self.largest));
                 Some(Straight {
-                    burst: u128::from(weight) * first + spare,
+                    burst: u128::from(weight) * first + spare + u128::from(weight) * scatter,
                     rate: weight,
                 })
             }
@@ -173,18 +177,20 @@ impl Group {
         }
     }
 
-    /// What all its links can bring, over a line of this speed where it is kept to.
-    pub(crate) fn all_curve(self, here: Speed, line: Option<Speed>) -> Curve
-        ensures { result ≡ all_curve here line self }
+    /// What all its links can bring, over a line of this speed where it is kept to, if latencies differ by so many nanoseconds.
+    pub(crate) fn all_curve(self, here: Speed, line: Option<Speed>, scatter: u64) -> Curve
+        requires { scatter ≤ 100000 }
+        ensures { result ≡ later scatter (all_curve here line self) }
     {
-        self.all.curve(here, line, self.high.burst)
+        self.all.curve(here, line, self.high.burst, scatter)
     }
 
     /// What its high links can bring.
-    pub(crate) fn high_curve(self, here: Speed, line: Option<Speed>) -> Curve
-        ensures { result ≡ high_curve here line self }
+    pub(crate) fn high_curve(self, here: Speed, line: Option<Speed>, scatter: u64) -> Curve
+        requires { scatter ≤ 100000 }
+        ensures { result ≡ later scatter (high_curve here line self) }
     {
-        self.high.curve(here, line, 0)
+        self.high.curve(here, line, 0, scatter)
     }
 }
 

@@ -1,6 +1,8 @@
 //! Laws over the definitions: functions that do nothing, whose contracts are the laws.
 
 ghost use Rattle.afdx_grouping.specs.Laws.{BurstsAreLeast, NoneIsMoreThanPaidFor, NoMoreIsPaidFor, LesserCurvesNeedLess, BoundsAreNoMore, OnlyPortsCount};
+ghost use Rattle.afdx_grouping.specs.Laws.{LessScatterBoundsNoMore};
+ghost use Rattle.afdx_grouping.specs.Scatter.{LaterIsALongerWindow, NothingIsScattered, AcceptedHasNoScatteredFault, LessScatterIsAccepted};
 
 use afdx_serial::laws::turns_are_enough;
 
@@ -25,12 +27,39 @@ pub fn lesser_curves_need_less()
     turns_are_enough();
 }
 
-/// The bounds by the lesser load of a port are there where those by its load are, and no greater.
+/// The bounds by the lesser load of a port are there where those by its load are, and no greater, however much latencies differ.
 pub fn bounds_are_no_more()
     ensures { BoundsAreNoMore }
 {}
 
-/// The lesser loads of a table's ports rest on what is said of the lines of these ports, and of no others.
+/// The lesser bounds of a table's ports rest on what is said of the lines of these ports, and of no others.
 pub fn only_ports_count()
     ensures { OnlyPortsCount }
+{}
+
+/// The bounds by the lesser load of a port are no greater where latencies differ by less.
+pub fn less_scatter_bounds_no_more()
+    ensures { LessScatterBoundsNoMore }
+{
+    turns_are_enough();
+}
+
+/// What comes to the queues in a window is what comes to the switch in one that is longer by what latencies differ by.
+pub fn later_is_a_longer_window()
+    ensures { LaterIsALongerWindow }
+{}
+
+/// Where latencies do not differ, a load is what it is without them, and a table is accepted as by its check.
+pub fn nothing_is_scattered()
+    ensures { NothingIsScattered }
+{}
+
+/// A table is accepted where latencies differ exactly where it has no fault then.
+pub fn accepted_has_no_scattered_fault()
+    ensures { AcceptedHasNoScatteredFault }
+{}
+
+/// A table that is accepted where latencies differ is accepted where they differ by less.
+pub fn less_scatter_is_accepted()
+    ensures { LessScatterIsAccepted }
 {}

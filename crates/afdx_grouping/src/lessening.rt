@@ -1,18 +1,20 @@
-//! The lesser load of a port.
+//! The lesser bursts of a port, and its bounds by them.
 
-ghost use Rattle.std.specs.Prelude.{◌≡◌, ◌<◌, ◌≤◌, Some, IfOk};
+ghost use Rattle.std.specs.Prelude.{◌≡◌, ◌<◌, ◌≤◌, ◌^◌, Some, IfOk};
 ghost use Rattle.afdx_account.specs.Policing.{parts};
 ghost use Rattle.afdx_table.specs.Content.{port_row};
 ghost use Rattle.afdx_table.specs.WellFormed.{IsWellFormed};
 ghost use Rattle.afdx_load.specs.Load.{load_of};
-ghost use Rattle.afdx_grouping.specs.Burst.{IsLeastBurst};
-ghost use Rattle.afdx_grouping.specs.Groups.{line_at, all_curves, high_curves, lesser_load, lesser_loads};
+ghost use Rattle.afdx_grouping.specs.Burst.{least_burst, IsLeastBurst};
+ghost use Rattle.afdx_grouping.specs.Groups.{line_at, all_curves, high_curves, lesser_bounds};
 ghost use Rattle.afdx_grouping.specs.Lined.{is_lined};
+ghost use Rattle.afdx_grouping.specs.Scatter.{scattered};
 
+use crate::bounding::{Bursts, bounds_with};
 use crate::curve::{Curve, least_burst};
 use crate::group::group_at;
 use crate::laws::no_more_is_paid_for;
-use afdx_load::{Load, Loads, PARTS, loads};
+use afdx_load::{Bounds, Load, Loads, PARTS, loads};
 use afdx_table::laws::ports_are_found;
 use afdx_table::{PortRow, Table};
 use afdx_units::Speed;
@@ -41,10 +43,11 @@ fn line_at(lined: &[bool; PLACES], from: &PortRow) -> Option<Speed>
     }
 }
 
-/// The curves of the groups of a port, one for each port of the table.
-fn group_curves(table: &Table, lined: &[bool; PLACES], to: &PortRow) -> Curves
-    ensures all { result.all.items ≡ all_curves table.now (is_lined lined.now) to.now }
-    ensures high { result.high.items ≡ high_curves table.now (is_lined lined.now) to.now }
+/// The curves of the groups of a port, one for each port of the table, if latencies differ by so many nanoseconds.
+fn group_curves(table: &Table, lined: &[bool; PLACES], scatter: u64, to: &PortRow) -> Curves
+    requires { scatter ≤ 100000 }
+    ensures all { result.all.items ≡ all_curves scatter table.now (is_lined lined.now) to.now }
+    ensures high { result.high.items ≡ high_curves scatter table.now (is_lined lined.now) to.now }
     ensures well_formed { IsWellFormed table.now }
 {
     let mut all = ArrayVec::new();
@@ -52,57 +55,67 @@ fn group_curves(table: &Table, lined: &[bool; PLACES], to: &PortRow) -> Curves
     for from in table.ports() {
         let line = line_at(lined, from);
         let group = group_at(table, from.id, to);
-        all.push(group.all_curve(to.speed, line));
-        high.push(group.high_curve(to.speed, line));
+        all.push(group.all_curve(to.speed, line, scatter));
+        high.push(group.high_curve(to.speed, line, scatter));
     }
     Curves { all, high }
 }
 
-/// The load of a port at which links come in over lines: all links and the high ones ask for no more at once than the least
-/// bursts that are enough for the groups of those that come in at one port, where `lined` says, in the places of the ports'
-/// numbers, over which lines frames come one after the other (network calculus: grouping). Neither burst is more than the load's
-/// own. Where the links ask for more than the line, nothing is enough, and the bursts are only no more than the load's.
+/// Finds the least bursts of a port at which links come in over lines: enough for the groups of those that come in at one port,
+/// where `lined` says, in the places of the ports' numbers, over which lines frames come one after the other (network calculus:
+/// grouping), and latencies differ by `scatter` nanoseconds, at most 100,000. Neither burst is more than the links ask for at once
+/// then. Where the links ask for more than the line, nothing is enough, and the bursts are only no more than that.
 ///
 /// O(p n + p^2) for p ports and n links. It takes no memory.
-pub fn lessened(table: &Table, lined: &[bool; PLACES], to: &PortRow, load: Load) -> Load
-    requires { load ≡ load_of table.now.latency to.now.speed to.now.id table.now.links }
-    ensures lesser { result ≡ lesser_load (is_lined lined.now) table.now to.now }
-    ensures least { load.rate ≤ parts → IsLeastBurst parts result.burst (all_curves table.now (is_lined lined.now) to.now) }
-    ensures high_least { load.rate ≤ parts → IsLeastBurst parts result.high_burst (high_curves table.now (is_lined lined.now) to.now) }
-    ensures no_more { (result.burst ≤ load.burst) × (result.high_burst ≤ load.high_burst) }
+pub fn lesser_bursts(table: &Table, lined: &[bool; PLACES], scatter: u64, to: &PortRow) -> Bursts
+    requires { scatter ≤ 100000 }
+    ensures all { result.all ≡ least_burst parts (all_curves scatter table.now (is_lined lined.now) to.now) }
+    ensures high { result.high ≡ least_burst parts (high_curves scatter table.now (is_lined lined.now) to.now) }
+    ensures least { (load_of table.now.latency to.now.speed to.now.id table.now.links).rate ≤ parts
+        → IsLeastBurst parts result.all (all_curves scatter table.now (is_lined lined.now) to.now) }
+    ensures high_least { (load_of table.now.latency to.now.speed to.now.id table.now.links).rate ≤ parts
+        → IsLeastBurst parts result.high (high_curves scatter table.now (is_lined lined.now) to.now) }
+    ensures no_more { let load = scattered scatter (load_of table.now.latency to.now.speed to.now.id table.now.links) in
+        (result.all ≤ load.burst) × (result.high ≤ load.high_burst) }
+    ensures all_small { result.all ≤ 2 ^ 82 }
+    ensures high_small { result.high ≤ 2 ^ 82 }
 {
     no_more_is_paid_for();
-    let curves = group_curves(table, lined, to);
-    load.lessened(
-        least_burst(PARTS, curves.all.as_slice()),
-        least_burst(PARTS, curves.high.as_slice()),
-    )
+    let curves = group_curves(table, lined, scatter, to);
+    Bursts {
+        all: least_burst(PARTS, curves.all.as_slice()),
+        high: least_burst(PARTS, curves.high.as_slice()),
+    }
 }
 
 /// The load of a port of the loads' table.
-fn load_at(loads: &Loads<'_>, to: &PortRow) -> Load
+pub(crate) fn load_at(loads: &Loads<'_>, to: &PortRow) -> Load
     requires { port_row loads.now to.now.id ≡ Some to.now }
     ensures { result ≡ load_of loads.now.latency to.now.speed to.now.id loads.now.links }
 {
     loads.at(to.id).unwrap()
 }
 
-/// The lesser loads of a table's ports, in their order: each as by [`lessened`].
+/// Bounds the time that a frame may stay at each port of a table, in the order of its ports: by the bursts that [`lesser_bursts`]
+/// finds, in nanoseconds from the frame's arrival to its end on the line.
 ///
 /// O(p^2 n + p^3) for p ports and n links, and O(p) memory.
-pub fn lesser_loads(
+pub fn lesser_bounds(
     alloc: Global,
     table: &Table,
     lined: &[bool; PLACES],
-) -> Result<Vec<Load>, AllocError>
-    ensures loads { IfOk result (λ loads. loads.items ≡ lesser_loads (is_lined lined.now) table.now) }
+    scatter: u64,
+) -> Result<Vec<Bounds>, AllocError>
+    requires { scatter ≤ 100000 }
+    ensures bounds { IfOk result (λ bounds. bounds.items ≡ lesser_bounds scatter (is_lined lined.now) table.now) }
     ensures well_formed { IsWellFormed table.now }
 {
     ports_are_found();
     let loads = loads(table);
-    let mut lesser = Vec::new(alloc);
+    let mut bounds = Vec::new(alloc);
     for to in table.ports() {
-        lesser.push(lessened(table, lined, to, load_at(&loads, to)))?;
+        let bursts = lesser_bursts(table, lined, scatter, to);
+        bounds.push(bounds_with(&load_at(&loads, to), bursts))?;
     }
-    Ok(lesser)
+    Ok(bounds)
 }

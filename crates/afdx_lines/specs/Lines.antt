@@ -128,6 +128,7 @@ network_text name (net.TwiceFrom at) = network_rule (codes "G3 TwiceFrom") ++ co
 network_text name (net.TwiceTo at) = network_rule (codes "G3 TwiceTo") ++ codes ", " ++ wiring_place_text at
 network_text name (net.OwnPort at) = network_rule (codes "G3 OwnPort") ++ codes ", " ++ wiring_place_text at
 network_text name (net.NoSuchPort at) = network_rule (codes "G3 NoSuchPort") ++ codes ", " ++ wiring_place_text at
+network_text name (net.Latency switch) = network_rule (codes "G3 Latency") ++ switch_part name
 network_text name (net.Load switch why) = load_fault_text why ++ switch_part name
 network_text name (net.Constant at) = network_rule (codes "G4 Constant") ++ codes ", " ++ wiring_place_text at
 network_text name (net.Speed at) = network_rule (codes "G4 Speed") ++ codes ", " ++ wiring_place_text at

@@ -61,12 +61,20 @@ fn at_link(alloc: Global, rule: &str, at: At, link: u16) -> Result<String, Alloc
     Ok(text)
 }
 
+/// A refusal of a switch.
+fn at_switch(alloc: Global, rule: &str, name: Option<&str>) -> Result<String, AllocError>
+    ensures { IfOk result (λ text. string_bytes text ≡ network_rule rule.now ++ switch_part (option_map (λ n. n.now) name.entry)) }
+{
+    let mut text = rule_text(alloc, rule)?;
+    put_switch(&mut text, name)?;
+    Ok(text)
+}
+
 /// A refusal of a link's row in the table of a switch.
 fn at_row(alloc: Global, rule: &str, name: Option<&str>, link: u16) -> Result<String, AllocError>
     ensures { IfOk result (λ text. string_bytes text ≡ network_rule rule.now ++ switch_part (option_map (λ n. n.now) name.entry) ++ link_part link) }
 {
-    let mut text = rule_text(alloc, rule)?;
-    put_switch(&mut text, name)?;
+    let mut text = at_switch(alloc, rule, name)?;
     write!(text, ", link {link}")?;
     Ok(text)
 }
@@ -115,6 +123,7 @@ fn network_text(
         NetworkFault::TwiceTo(at) => at_place(alloc, "G3 TwiceTo", at),
         NetworkFault::OwnPort(at) => at_place(alloc, "G3 OwnPort", at),
         NetworkFault::NoSuchPort(at) => at_place(alloc, "G3 NoSuchPort", at),
+        NetworkFault::Latency(_) => at_switch(alloc, "G3 Latency", name),
         NetworkFault::Load(_, fault) => load_text(alloc, fault, name),
         NetworkFault::Constant(at) => at_place(alloc, "G4 Constant", at),
         NetworkFault::Speed(at) => at_place(alloc, "G4 Speed", at),

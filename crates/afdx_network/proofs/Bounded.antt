@@ -56,18 +56,18 @@ a_part_is_left keeps t p formed accepted among there =
     × (0 < s.lows → (s.high_rate < parts) × (s.burst / (parts - s.high_rate) + t.latency ≤ row.max_delay))) t.ports p (keeps t formed accepted) among in
     (bounds.1 there).0
 
-pub has_bound : AcceptedKeepsBounds → (lined : ℕ → Bool) (t : Content) (p : PortRow) (l : Link) → IsWellFormed t → IsAccepted t → Contains t.ports p → Contains t.links l → leads_to p.id l ≡ true
-    → (bound : ℕ) × (bound_of (lesser_load lined t p) l.priority ≡ Some bound)
-has_bound keeps lined t p l formed accepted among known leads = by l.priority refl where
+pub has_bound : AcceptedKeepsBounds → (d : ℕ) (lined : ℕ → Bool) (t : Content) (p : PortRow) (l : Link) → IsWellFormed t → IsAccepted t → Contains t.ports p → Contains t.links l → leads_to p.id l ≡ true
+    → (bound : ℕ) × (bound_of (lesser_load d lined t p) l.priority ≡ Some bound)
+has_bound keeps d lined t p l formed accepted among known leads = by l.priority refl where
   here : Contains (routed p.id t.links) l
   here = of_all (λ m. leads_to p.id m ≡ true → Contains (routed p.id t.links) m) t.links l
       (all_tested _ (leads_to p.id) t.links (all_by (Contains (routed p.id t.links)) (routed p.id t.links) (λ m h. h))) known leads
 
-  by : (priority : Priority) → l.priority ≡ priority → (bound : ℕ) × (bound_of (lesser_load lined t p) priority ≡ Some bound)
-  by High is = some_high (lesser_load lined t p) (highs t.latency t p l here (ap is_high is))
+  by : (priority : Priority) → l.priority ≡ priority → (bound : ℕ) × (bound_of (lesser_load d lined t p) priority ≡ Some bound)
+  by High is = some_high (lesser_load d lined t p) (highs t.latency t p l here (ap is_high is))
   by Low is =
       let there = lows t.latency t p l here (ap (λ priority. not (is_high priority)) is) in
-      some_low (lesser_load lined t p) there (a_part_is_left keeps t p formed accepted among there)
+      some_low (lesser_load d lined t p) there (a_part_is_left keeps t p formed accepted among there)
 
 -- its links ask for no more than its line
 pub rate_within : (t : Content) (p : PortRow) (l : Link) → IsAccepted t → Contains t.ports p → Contains t.links l → leads_to p.id l ≡ true → (load_at t p).rate ≤ parts

@@ -68,7 +68,7 @@ module _ (exact : CleanExactly) (verdicts : VerdictsNameLinks) (links : LinksAre
 
   pub leave_clean : (x : Stage) → IsStage x → AllByRecursion (λ r. IsOf x.node.table.constant x.link r.bytes) (leave x)
   leave_clean x here =
-      over_bytes (IsOf x.node.table.constant x.link) (passed_at x) (leave x) ((here.node.isolated x.port here.has).passed x.link here.known here.leads) (passed_clean x here)
+      over_bytes (IsOf x.node.table.constant x.link) (passed_at x) (leave x) (here.node.passed x.port here.has x.link here.known here.leads) (passed_clean x here)
 
   -- a record on the wire is a clean frame of the link at the next switch exactly where it has the link's number
   module _ (x : Stage) (s : Leg) (here : IsStage x) (there : IsStage s.stage) (follows : IsLegFrom x s) where

@@ -1,7 +1,7 @@
 -- The least bursts of a port's groups are enough for its lines.
 use Rattle.std.proofs.Common.{◌≡◌, ℕ, zero, suc, ◌+◌, ◌*◌, ◌<◌, ◌≤◌, ◌==◌, ◌&&◌, ◌||◌, Bool, true, false, cond, nat_eq, max, List, [], ◌∷◌, map, length, get_or}
 use Rattle.std.proofs.Common.{Option, Some, None, refl, ap, sym, ◌∙◌, subst, arith}
-use Rattle.std.specs.Prelude.{Contains, filter, sum_by}
+use Rattle.std.specs.Prelude.{Contains, filter, sum_by, option_map}
 use Rattle.std.specs.List.{list_any}
 use Rattle.std.proofs.lemmas.Bool.{eqb-true}
 use Rattle.std.proofs.lemmas.Bool.Decides.{nat_tests}
@@ -10,7 +10,7 @@ use Rattle.std.proofs.lemmas.Option.{same_Some}
 use Rattle.afdx_units.specs.declared.line.Speed.{Speed}
 use Rattle.afdx_units.specs.Line.{cost_of, is_high}
 use Rattle.afdx_account.specs.Policing.{parts}
-use Rattle.afdx_serial.specs.Curves.{Curve, IsEnough}
+use Rattle.afdx_serial.specs.Curves.{Straight, Curve, IsEnough}
 use Rattle.afdx_table.specs.declared.rows.PortRow.{PortRow}
 use Rattle.afdx_table.specs.Link.{Link, leads_to}
 use Rattle.afdx_table.specs.Content.{Content, link_row}
@@ -21,6 +21,7 @@ use Rattle.afdx_load.specs.Inner.Laws.{AsksWhatItsAccountGives}
 use Rattle.afdx_grouping.specs.Groups.{goes_over, group_at, line_weight, all_curves, high_curves, lesser_load}
 use Rattle.afdx_grouping.specs.Groups as group
 use Rattle.afdx_grouping.specs.Laws.{BurstsAreLeast, NoneIsMoreThanPaidFor, NoMoreIsPaidFor}
+use Rattle.afdx_grouping.specs.Scatter.{later_line, later}
 use Rattle.afdx_isolation.specs.Table.{settings_of}
 use Rattle.afdx_isolation.specs.Inner.Flow.{Flow, high_flows, rates, bursts}
 use Rattle.afdx_isolation.specs.Inner.Table.{flow_of, flows_at}
@@ -183,17 +184,32 @@ module _ (laws : Grouping) (t : Content) (formed : IsWellFormed t) (lined : ℕ 
   through : (a b c : ℕ) → a ≤ b → b ≤ c → a ≤ c
   through a b c h k = omega (arith, h, k)
 
-  pub grouped : (load_of t.latency p.speed p.id t.links).rate ≤ parts → AreLesser t p lined (lesser_load lined t p).burst (lesser_load lined t p).high_burst
+  -- what comes where latencies do not differ
+  not_later : (c : Curve) → later 0 c ≡ c
+  not_later c = λ i. record { paid = line c.paid i; brought = by c.brought i } where
+    line : (a : Straight) → later_line 0 a ≡ a
+    line a = let same : a.burst + a.rate * 0 ≡ a.burst = omega arith in λ i. record { burst = same i; rate = a.rate }
+
+    by : (b : Option Straight) → option_map (later_line 0) b ≡ b
+    by None = refl
+    by (Some b) = ap Some (line b)
+
+  no_more : (a b rate : ℕ) → a ≤ b + rate * 0 → a ≤ b
+  no_more a b rate h = omega (arith, h)
+
+  pub grouped : (load_of t.latency p.speed p.id t.links).rate ≤ parts → AreLesser t p lined (lesser_load 0 lined t p).burst (lesser_load 0 lined t p).high_burst
   grouped rate =
-      let once = laws.once t lined p formed in
-      let all = (laws.least parts (all_curves t lined p) (through _ _ _ once.rate rate)).enough in
-      let high = (laws.least parts (high_curves t lined p) (through _ _ _ once.high_rate rate)).enough in
+      let once = laws.once 0 t lined p formed in
+      let all = (laws.least parts (all_curves 0 t lined p) (through _ _ _ once.rate rate)).enough in
+      let high = (laws.least parts (high_curves 0 t lined p) (through _ _ _ once.high_rate rate)).enough in
       record {
-        enough = laws.curves (settings_of t.latency p) (flows_at t p) (lines_of t lined) (lesser_load lined t p).burst (lesser_load lined t p).high_burst
-            (subst (IsEnough parts (lesser_load lined t p).burst)
-            (sym (each_same (all_curve (settings_of t.latency p) (flows_at t p)) (λ q. group.all_curve p.speed (group.line_at lined q) (group_at t.links q.id p)) all_same t.ports)) all)
-            (subst (IsEnough parts (lesser_load lined t p).high_burst)
-            (sym (each_same (high_curve (settings_of t.latency p) (flows_at t p)) (λ q. group.high_curve p.speed (group.line_at lined q) (group_at t.links q.id p)) high_same t.ports)) high);
-        all_less = through _ _ _ (laws.none_more parts (all_curves t lined p)) once.burst;
-        high_less = through _ _ _ (laws.none_more parts (high_curves t lined p)) once.high_burst;
+        enough = laws.curves (settings_of t.latency p) (flows_at t p) (lines_of t lined) (lesser_load 0 lined t p).burst (lesser_load 0 lined t p).high_burst
+            (subst (IsEnough parts (lesser_load 0 lined t p).burst)
+            (sym (each_same (all_curve (settings_of t.latency p) (flows_at t p)) (λ q. later 0 (group.all_curve p.speed (group.line_at lined q) (group_at t.links q.id p)))
+            (λ q. all_same q ∙ sym (not_later (group.all_curve p.speed (group.line_at lined q) (group_at t.links q.id p)))) t.ports)) all)
+            (subst (IsEnough parts (lesser_load 0 lined t p).high_burst)
+            (sym (each_same (high_curve (settings_of t.latency p) (flows_at t p)) (λ q. later 0 (group.high_curve p.speed (group.line_at lined q) (group_at t.links q.id p)))
+            (λ q. high_same q ∙ sym (not_later (group.high_curve p.speed (group.line_at lined q) (group_at t.links q.id p)))) t.ports)) high);
+        all_less = no_more _ _ (load_of t.latency p.speed p.id t.links).rate (through _ _ _ (laws.none_more parts (all_curves 0 t lined p)) once.burst);
+        high_less = no_more _ _ (load_of t.latency p.speed p.id t.links).high_rate (through _ _ _ (laws.none_more parts (high_curves 0 t lined p)) once.high_burst);
       }

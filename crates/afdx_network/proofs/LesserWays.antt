@@ -1,11 +1,10 @@
 -- Ways with lesser bounds are ways of the theorem.
-use Rattle.std.proofs.Common.{◌≡◌, ℕ, List, [], ◌∷◌, option_and_then, ap, sym, ◌∙◌, subst}
+use Rattle.std.proofs.Common.{◌≡◌, ℕ, List, [], ◌∷◌, option_and_then, refl, ap, sym, ◌∙◌, subst}
 use Rattle.afdx_table.specs.Link.{Link}
 use Rattle.afdx_table.specs.Content.{Content}
 use Rattle.afdx_load.specs.Bounds.{bounds_of}
 use Rattle.afdx_load.specs.Inner.Laws.{AcceptedKeepsBounds}
-use Rattle.afdx_grouping.specs.Groups.{lesser_load}
-use Rattle.afdx_wiring.specs.Net.{Network, Row, is_wired, bound_in}
+use Rattle.afdx_wiring.specs.Net.{least_at, scatter_at, load_at, Network, Row, is_wired, bound_in}
 use Rattle.afdx_network.specs.Way.{Node, Stage, IsStage, Leg, IsLegFrom, IsWay, WaysDeliver}
 use Rattle.afdx_network.specs.Runs.{SwitchRun, Given}
 use Rattle.afdx_network.specs.Ways.{IsStageAt, GoesOver}
@@ -23,17 +22,17 @@ module _ (g : Ground) (keeps : AcceptedKeepsBounds) (wires : WiresKeepToLines) (
   module _ (r : Row) (x : Stage) (h : IsLesserStageAt net runs r x) where
     is_stage : IsStage x
     is_stage =
-        let same : x ≡ stage_by x.port x.bound (node_after h.run.table h.run.outcome.read) r.link
-        = ap (λ (n : Node). stage_by x.port x.bound n x.link) (h.node ∙ node_same h.run) ∙ ap (λ (l : Link). stage_by x.port x.bound (node_after h.run.table h.run.outcome.read) l) h.link in
+        let same : x ≡ stage_by x.port h.run.table.latency x.bound (node_after h.run.table h.run.outcome.read) r.link
+        = ap (λ (n : ℕ). stage_by x.port n x.bound x.node x.link) h.least_is ∙ ap (λ (n : Node). stage_by x.port h.run.table.latency x.bound n x.link) (h.node ∙ node_same h.run) ∙ ap (λ (l : Link). stage_by x.port h.run.table.latency x.bound (node_after h.run.table h.run.outcome.read) l) h.link in
         let is = stages h.run.table h.run.texts h.run.results (formed_at g net given runs acc r.switch h.run h.run_is) (accepted_at g net given runs acc r.switch h.run h.run_is) h.run.outcome
         (is_wired net r.switch) (wired_ports_keep g wires net given runs acc r.switch h.run h.run_is) x.port h.has h.burst h.high_burst h.enough r.link h.known h.leads x.bound h.bound_is in
         subst IsStage (sym same) is
 
     -- the same row and port with the bound of the least bursts
-    least_bound : (bound : ℕ) × IsStageAt net runs r (stage_by x.port bound x.node x.link)
+    least_bound : (bound : ℕ) × IsStageAt net runs r (stage_by x.port (least_at net r.switch h.run.table) bound x.node x.link)
     least_bound =
         let table = table_at g net given runs acc r.switch h.run h.run_is in
-        let b = has_bound keeps (is_wired net r.switch) h.run.table x.port r.link (formed_at g net given runs acc r.switch h.run h.run_is) (accepted_at g net given runs acc r.switch h.run h.run_is) h.has h.known h.leads in (
+        let b = has_bound keeps (scatter_at net r.switch h.run.table) (is_wired net r.switch) h.run.table x.port r.link (formed_at g net given runs acc r.switch h.run h.run_is) (accepted_at g net given runs acc r.switch h.run h.run_is) h.has h.known h.leads in (
           b.0,
           record {
             run = h.run;
@@ -43,8 +42,9 @@ module _ (g : Ground) (keeps : AcceptedKeepsBounds) (wires : WiresKeepToLines) (
             known = h.known;
             has = h.has;
             leads = h.leads;
-            bound_is = ap (option_and_then (λ (t : Content). bound_in (bounds_of (lesser_load (is_wired net r.switch) t x.port)) r.link.priority)) table
-                ∙ same_bound (lesser_load (is_wired net r.switch) h.run.table x.port) r.link.priority ∙ b.1;
+            least_is = refl;
+            bound_is = ap (option_and_then (λ (t : Content). bound_in (bounds_of (load_at net r.switch t x.port)) r.link.priority)) table
+                ∙ same_bound (load_at net r.switch h.run.table x.port) r.link.priority ∙ b.1;
           },
         )
 
@@ -54,8 +54,8 @@ module _ (g : Ground) (keeps : AcceptedKeepsBounds) (wires : WiresKeepToLines) (
   is_leg r next x s h k over =
       let here = least_bound r x h in
       let there = least_bound next s.stage k in
-      let x' : Stage = stage_by x.port here.0 x.node x.link in
-      let s' : Leg = record { cable = s.cable; stage = stage_by s.stage.port there.0 s.stage.node s.stage.link } in
+      let x' : Stage = stage_by x.port (least_at net r.switch h.run.table) here.0 x.node x.link in
+      let s' : Leg = record { cable = s.cable; stage = stage_by s.stage.port (least_at net next.switch k.run.table) there.0 s.stage.node s.stage.link } in
       let f = follows g net given runs acc r next x' s' here.1 there.1 (record { wire = over.wire; wire_is = over.wire_is; start = over.start; cable = over.cable; number = over.number }) in
       record { number = f.number; constant = f.constant; size = f.size; bag = f.bag; police = f.police; wired = f.wired }
 

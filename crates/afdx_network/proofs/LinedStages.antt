@@ -18,22 +18,23 @@ use Rattle.afdx_isolation.specs.Table.{bound_of}
 use Rattle.afdx_isolation.specs.Inner.LineTable.{lesser}
 use Rattle.afdx_session.specs.Output.{output_of}
 use Rattle.afdx_session.specs.Lined.{OutputsKeepToLines, IsInLesserTime, LinedOutcomesKeepBounds, OutcomesIsolate}
-use Rattle.afdx_network.specs.Way.{KeepsBound, delayed}
+use Rattle.afdx_network.specs.Kept.{KeepsBound}
+use Rattle.afdx_network.specs.Way.{delayed}
 use Rattle.afdx_network.specs.LinedWay.{LinedStages, WiresKeepToLines}
 
 by_lesser : (t : Content) (p : PortRow) (l : Link) (burst high_burst bound : ℕ) → bound_of (lesser (load_of t.latency p.speed p.id t.links) burst high_burst) l.priority ≡ Some bound
-    → (came left : List Record) → AllZip (IsInLesserTime t p l burst high_burst) came left → AllZip (KeepsBound t p bound) came left
+    → (came left : List Record) → AllZip (IsInLesserTime t p l burst high_burst) came left → AllZip (KeepsBound t.latency p bound) came left
 by_lesser t p l burst high_burst bound bound_is [] [] zip = tt
 by_lesser t p l burst high_burst bound bound_is [] (f ∷ left) zip = absurd zip
 by_lesser t p l burst high_burst bound bound_is (c ∷ came) [] zip = absurd zip
 by_lesser t p l burst high_burst bound bound_is (c ∷ came) (f ∷ left) zip = (
-  record { least = zip.0.least; most = subst (λ (b : ℕ). f.stamp ≤ c.stamp + b) (same_Some _ _ (sym zip.0.bound_is ∙ bound_is)) zip.0.most },
+  record { least_is = zip.0.least; most = subst (λ (b : ℕ). f.stamp ≤ c.stamp + b) (same_Some _ _ (sym zip.0.bound_is ∙ bound_is)) zip.0.most },
   by_lesser t p l burst high_burst bound bound_is came left zip.1,
 )
 
 pub lined_stages : OutcomesIsolate → LinedOutcomesKeepBounds → LinedStages
 lined_stages isolates keeps t texts results formed accepted outcome lined lines p at burst high_burst less l among leads bound bound_is = record {
-  node = record { well_formed = formed; isolated = λ q here. isolates t texts results formed accepted outcome q here };
+  node = record { well_formed = formed; passed = λ q here. (isolates t texts results formed accepted outcome q here).passed };
   known = among;
   has = at;
   leads = leads;

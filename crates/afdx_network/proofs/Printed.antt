@@ -18,7 +18,7 @@ use Rattle.afdx_jitter.specs.declared.delays.Delays.{Delays}
 use Rattle.afdx_wiring.specs.declared.layout.End.{End}
 use Rattle.afdx_wiring.specs.declared.layout.Wire.{Wire}
 use Rattle.afdx_wiring.specs.declared.ways.Way.{Way}
-use Rattle.afdx_wiring.specs.Net.{Network, Row, Back, port_at, row_at, bound_at, IsWayBack, source_of, AreDelays}
+use Rattle.afdx_wiring.specs.Net.{least_at, Network, Row, Back, port_at, row_at, bound_at, IsWayBack, source_of, AreDelays}
 use Rattle.afdx_wiring.specs.Order.{leading, row_before}
 use Rattle.afdx_wiring.specs.Ways.{line_of, IsWayOver, IsWayAlong, IsWayOut}
 use Rattle.afdx_network.specs.Way.{Stage, IsStage, Leg, last_stage, span_least, span_most, passed_at, leave, IsInTime, IsDelivered}
@@ -103,8 +103,8 @@ module _ (g : Ground) (net : Network) (given : Given) (runs : List SwitchRun) (a
     pub run : SwitchRun
     pub run_is : slice_get runs r.switch ≡ Some run
     pub table_is : run.table ≡ t
-    pub at : IsStageAt net runs r (stage_by p bound (node_of run) r.link)
-    pub at_port : IsAtPort runs id (stage_by p bound (node_of run) r.link) e
+    pub at : IsStageAt net runs r (stage_by p (least_at net r.switch t) bound (node_of run) r.link)
+    pub at_port : IsAtPort runs id (stage_by p (least_at net r.switch t) bound (node_of run) r.link) e
 
   port_there : (e : End) (t : Content) (p : PortRow) → slice_get net.tables e.switch ≡ Some t → port_at net e ≡ Some p → (p.id ≡ e.port) × Contains t.ports p
   port_there e t p table is =
@@ -129,6 +129,7 @@ module _ (g : Ground) (net : Network) (given : Given) (runs : List SwitchRun) (a
           known = subst (λ (c : Content). Contains c.links r.link) (same ∙ sym there.table_is) h.known;
           has = subst (λ (c : Content). Contains c.ports p) (sym there.table_is) port.1;
           leads = ap (λ (n : ℕ). leads_to n r.link) port.0 ∙ on.leads;
+          least_is = ap (least_at net r.switch) (sym there.table_is);
           bound_is = over.bound_is;
         };
         at_port = record {
@@ -177,7 +178,7 @@ module _ (g : Ground) (net : Network) (given : Given) (runs : List SwitchRun) (a
       let h = found_row g.links net b.wire.from.switch r.link.id b.row back.1 in
       let y = stage_there id b.row b.wire t p bound (record { row_is = ap (row_at net b.wire.from.switch) (sym number) ∙ back.1; leads = back.2 })
       (record { table_is = are.4; port_is = are.5; bound_is = are.6 }) in
-      let stage : Stage = stage_by p bound (node_of y.run) b.row.link in
+      let stage : Stage = stage_by p (least_at net b.row.switch t) bound (node_of y.run) b.row.link in
       let leg : Leg = record { cable = b.wire.delay; stage = x } in
       let over : GoesOver net b.row stage r leg = record {
         wire = b.wire;
@@ -187,8 +188,7 @@ module _ (g : Ground) (net : Network) (given : Given) (runs : List SwitchRun) (a
         number = sym h.number;
       } in
       let rest = reached id backs b.row before stage (leg ∷ legs) (b.wire.from ∷ ends) (h.number ∙ number) back.3 are.7 (y.at, r, over, way) (y.at_port, ports) in
-      let latency : y.run.table.latency ≡ t.latency = ap (λ (c : Content). c.latency) y.table_is in
-      let d_least : d.least ≡ before.least + (t.latency + cost_of p.speed least_size + b.wire.delay) = ap (λ (e : Delays). e.least) are.8 in
+      let d_least : d.least ≡ before.least + (least_at net b.row.switch t + cost_of p.speed least_size + b.wire.delay) = ap (λ (e : Delays). e.least) are.8 in
       let d_most : d.most ≡ before.most + (bound + b.wire.delay) = ap (λ (e : Delays). e.most) are.8 in
       record {
         first = rest.first;
@@ -200,8 +200,8 @@ module _ (g : Ground) (net : Network) (given : Given) (runs : List SwitchRun) (a
         ports = subst (AllZip (IsAtPort runs id) (stages_of rest.first rest.all)) (sym (reversed b.wire.from (map (λ (c : Back). c.wire.from) backs) ends)) rest.ports;
         least = λ size long.
             let cost = cost_least p.speed size long in
-            let sum : before.least + ((y.run.table.latency + cost_of p.speed size) + b.wire.delay + span_least size x legs) ≤ span_least size rest.first rest.all = rest.least size long in
-            omega (arith, d_least, latency, cost, sum);
+            let sum : before.least + ((least_at net b.row.switch t + cost_of p.speed size) + b.wire.delay + span_least size x legs) ≤ span_least size rest.first rest.all = rest.least size long in
+            omega (arith, d_least, cost, sum);
         most =
             let sum : span_most rest.first rest.all ≤ before.most + (bound + b.wire.delay + span_most x legs) = rest.most in
             omega (arith, d_most, sum);
@@ -233,11 +233,10 @@ module _ (g : Ground) (net : Network) (given : Given) (runs : List SwitchRun) (a
       let before : Delays = are.3 in
       let number = (found_row g.links net line.from.switch id r on.row_is).number in
       let y = stage_there id r line t p bound on (record { table_is = are.4; port_is = are.5; bound_is = are.6 }) in
-      let x : Stage = stage_by p bound (node_of y.run) r.link in
+      let x : Stage = stage_by p (least_at net r.switch t) bound (node_of y.run) r.link in
       let h = reached id backs r before x [] (line.from ∷ []) number along.3 are.7 y.at (y.at_port, tt) in
       let delivered = deliver net given runs acc h.first h.all h.way in
-      let latency : y.run.table.latency ≡ t.latency = ap (λ (c : Content). c.latency) y.table_is in
-      let d_least : w.delays.least ≡ before.least + (t.latency + cost_of p.speed least_size + line.delay) = ap (λ (e : Delays). e.least) are.8 in
+      let d_least : w.delays.least ≡ before.least + (least_at net r.switch t + cost_of p.speed least_size + line.delay) = ap (λ (e : Delays). e.least) are.8 in
       let d_most : w.delays.most ≡ before.most + (bound + line.delay) = ap (λ (e : Delays). e.most) are.8 in
       let number_is : w.link ≡ id = is.link ∙ h.number in
       let ports : w.ports.items ≡ reverse (map (λ (b : Back). b.wire.from) backs) ++ line.from ∷ []
@@ -258,8 +257,8 @@ module _ (g : Ground) (net : Network) (given : Given) (runs : List SwitchRun) (a
         in_time = in_time w.delays h.first h.all
             (λ size long.
             let cost = cost_least p.speed size long in
-            let sum : before.least + (y.run.table.latency + cost_of p.speed size) ≤ span_least size h.first h.all = h.least size long in
-            omega (arith, d_least, no_delay, latency, cost, sum))
+            let sum : before.least + (least_at net r.switch t + cost_of p.speed size) ≤ span_least size h.first h.all = h.least size long in
+            omega (arith, d_least, no_delay, cost, sum))
             (let sum : span_most h.first h.all ≤ before.most + bound = h.most in omega (arith, d_most, no_delay, sum))
             (ways.first_stage h.first h.all (wired net given runs acc h.first h.all h.way).0) delivered;
       }

@@ -25,7 +25,7 @@ abbrev pub LinedStages : Type 0
 LinedStages = (t : Content) (texts : List Text) (results : Results) → IsWellFormed t → IsAccepted t → (outcome : IsOutcome t texts results)
     → (lined : ℕ → Bool) → CapturesKeepToLines t outcome.read lined → (p : PortRow) → Contains t.ports p → (burst high_burst : ℕ) → AreLesser t p lined burst high_burst
     → (l : Link) → Contains t.links l → leads_to p.id l ≡ true → (bound : ℕ) → bound_of (lesser (load_of t.latency p.speed p.id t.links) burst high_burst) l.priority ≡ Some bound
-    → IsStage (record { node = node_after t outcome.read; link = l; port = p; bound = bound })
+    → IsStage (record { node = node_after t outcome.read; link = l; port = p; least = t.latency; bound = bound })
 
 -- what left a port, so much later at the end of a wire, keeps to the line of that speed, whatever the table and whatever came
 abbrev pub WiresKeepToLines : Type 0

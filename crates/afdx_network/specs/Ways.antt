@@ -2,7 +2,7 @@
 use Rattle.std.specs.Prelude.{◌≡◌, true, List, [], ◌∷◌, slice_get, Some, Contains}
 use Rattle.afdx_table.specs.Link.{leads_to}
 use Rattle.afdx_wiring.specs.declared.layout.Wire.{Wire}
-use Rattle.afdx_wiring.specs.Net.{Network, Row, ingress, wire_to, IsSource, bound_at}
+use Rattle.afdx_wiring.specs.Net.{Network, Row, ingress, wire_to, IsSource, least_at, bound_at}
 use Rattle.afdx_network.specs.Way.{Node, Stage, Leg}
 use Rattle.afdx_network.specs.Runs.{SwitchRun}
 
@@ -19,6 +19,7 @@ pub record IsStageAt (net : Network) (runs : List SwitchRun) (r : Row) (x : Stag
   pub known : Contains run.table.links r.link
   pub has : Contains run.table.ports x.port
   pub leads : leads_to x.port.id r.link ≡ true
+  pub least_is : x.least ≡ least_at net r.switch run.table
   pub bound_is : bound_at net r x.port ≡ Some x.bound
 
 -- from that port over a wire to the next switch's row of the link

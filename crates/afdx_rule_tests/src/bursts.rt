@@ -1,7 +1,7 @@
 //! Lesser bursts, each reckoned by hand.
 
-use afdx_grouping::{PLACES, lessened};
-use afdx_load::load;
+use afdx_grouping::{PLACES, first_scattered_fault, lesser_bursts};
+use afdx_load::{LoadFault, Rule, check};
 use afdx_samples::{Link, Port, later, port, table};
 use afdx_table::{Table, read};
 use std::alloc::Global;
@@ -54,14 +54,15 @@ fn table_of(alloc: Global, mbit: u32, links: &[Link]) -> Result<Table, Fail> {
     Ok(table)
 }
 
-/// The bursts of port 2, where frames come one after the other over the line of port 1, and over that of port 3.
-fn bursts(table: &Table, first: bool, third: bool) -> Option<(u128, u128)> {
+/// The bursts of port 2, where frames come one after the other over the line of port 1, and over that of port 3, and where latencies
+/// differ by so many nanoseconds.
+fn bursts(table: &Table, first: bool, third: bool, scatter: u64) -> Option<(u128, u128)> {
     let mut lined = [false; PLACES];
     lined[1] = first;
     lined[3] = third;
     let row = table.port(2)?;
-    let lesser = lessened(table, &lined, row, load(table, 2)?);
-    Some((lesser.burst(), lesser.high_burst()))
+    let bursts = lesser_bursts(table, &lined, scatter, row);
+    Some((bursts.all, bursts.high))
 }
 
 /// Mbit/s of port 1, links, over which lines frames come one after the other, and the two bursts.
@@ -101,11 +102,77 @@ fn worked_bursts(rt: HostRuntime) -> Result<(), Fail> {
     for (mbit, links, lined, want) in WORKED {
         let table = table_of(rt.alloc(), *mbit, links)?;
         assert_eq!(rt;
-            bursts(&table, lined[0], lined[1]),
+            bursts(&table, lined[0], lined[1], 0),
             Some(*want),
             "{}",
             want.0
         );
     }
+    Ok(())
+}
+
+/// Nanoseconds by which latencies differ, links, over which lines frames come one after the other, and the two bursts.
+const SCATTERED: &[(u64, &[Link], [bool; 2], (u128, u128))] = &[
+    // the links ask for twice 326,430,720 * 1,100,000
+    (
+        100_000,
+        &[LOW, OTHER],
+        [false, false],
+        (718_147_584_000_000, 0),
+    ),
+    // the line brings its first frame and 50,000 ns, 173,040 * 2,048,000,000
+    (
+        50_000,
+        &[LOW, OTHER],
+        [true, false],
+        (354_385_920_000_000, 0),
+    ),
+    // beside it the burst of the high link, 326,430,720,000,000; that alone asks for 326,430,720 * 1,050,000
+    (
+        50_000,
+        &[LOW, HIGH],
+        [true, false],
+        (680_816_640_000_000, 342_752_256_000_000),
+    ),
+];
+
+#[test]
+fn scattered_bursts(rt: HostRuntime) -> Result<(), Fail> {
+    for (scatter, links, lined, want) in SCATTERED {
+        let table = table_of(rt.alloc(), 100, links)?;
+        assert_eq!(rt;
+            bursts(&table, lined[0], lined[1], *scatter),
+            Some(*want),
+            "{}",
+            want.0
+        );
+    }
+    Ok(())
+}
+
+/// A table whose port 2 discards frames after a millisecond. Six links of 1518 bytes wait for 956,340 ns there, and for a tenth more
+/// where latencies differ by 100,000 ns.
+#[test]
+fn scattered_faults(rt: HostRuntime) -> Result<(), Fail> {
+    let late = Port {
+        max_delay_us: 1000,
+        ..port(2)
+    };
+    let mut links = [LOW; 6];
+    for number in 0..6 {
+        links[number].id = 10 + number as u16;
+    }
+    let rows = table(rt.alloc(), &[port(1), late, port(3)], &links)?;
+    let table = read(rt.alloc(), rows.as_bytes())?;
+    let fault = LoadFault {
+        port: 2,
+        rule: Rule::LowDelay,
+        need: 1_051_974,
+        limit: 1_000_000,
+    };
+    assert_eq!(rt; first_scattered_fault(&table, 0), None);
+    assert_eq!(rt; first_scattered_fault(&table, 45_000), None);
+    assert_eq!(rt; first_scattered_fault(&table, 100_000), Some(fault));
+    assert!(rt; check(table).is_ok());
     Ok(())
 }

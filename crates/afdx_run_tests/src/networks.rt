@@ -1,9 +1,10 @@
 //! Networks by their calls: the file, what its tables are judged for, and the jitters that they need.
 
-use afdx_samples::{Ends, four_ports_each, network_file, two_switches};
+use afdx_samples::{Ends, four_ports_each, later, network_file, small_link, two_switches};
 use afdx_table::{Table, read};
 use afdx_wiring::{ClearedNetwork, End, Layout, Needs, Network, NetworkFault, Short, Wire};
 use std::alloc::{AllocError, Global};
+use std::fmt::Write;
 use std::test::Fail;
 
 /// The layout of these switches and wires.
@@ -118,6 +119,58 @@ fn fourteen_are_enough(rt: HostRuntime) -> Result<(), Fail> {
     };
     for (jitter_us, fault) in [(14, None), (13, Some(NetworkFault::Jitter(short)))] {
         assert_eq!(rt; shortage(rt.alloc(), jitter_us)?, fault, "{jitter_us}");
+    }
+    Ok(())
+}
+
+/// The text of a network file: A and B, each of which takes at least so many microseconds, and a wire between them.
+fn varying_file(alloc: Global, leasts: [u32; 2]) -> Result<String, AllocError> {
+    let mut text = String::new(alloc);
+    for (name, least) in [("A", leasts[0]), ("B", leasts[1])] {
+        writeln!(text, "[[switch]]")?;
+        writeln!(text, "name = \"{name}\"")?;
+        writeln!(text, "table = \"{name}.toml\"")?;
+        writeln!(text, "least_latency_us = {least}")?;
+    }
+    writeln!(text, "[[wire]]\nfrom = \"A.2\"\nto = \"B.1\"")?;
+    Ok(text)
+}
+
+/// What is refused of a link of 64 bytes over A and B, whose tables have a latency of 10 microseconds and the link no jitter.
+fn varying(alloc: Global, leasts: [u32; 2]) -> Result<Option<NetworkFault>, Fail> {
+    let links = [small_link(1, 1, "[2]", 0)];
+    let plain = four_ports_each(alloc, &[&links, &links])?;
+    let texts = [later(alloc, &plain[0], 10)?, later(alloc, &plain[1], 10)?];
+    let file = varying_file(alloc, leasts)?;
+    let layout = afdx_wiring::read(alloc, file.as_bytes())
+        .ok()
+        .ok_or("a network file")?;
+    let network = Network::new(layout, tables(alloc, &texts)?)
+        .ok()
+        .ok_or("ports of the tables")?;
+    match network.clear() {
+        Ok(cleared) => Ok(cleared.check(alloc).err()),
+        Err(fault) => Ok(Some(fault)),
+    }
+}
+
+/// A switch that takes 10 microseconds for each frame brings no jitter; of one that may take less, the next switch needs 6,787 and
+/// 10,000 ns less 6,720, which are 11 microseconds; none takes at least more than it takes at most.
+#[test]
+fn latencies_vary(rt: HostRuntime) -> Result<(), Fail> {
+    let short = Short {
+        switch: 1,
+        link: 1,
+        need: 11,
+        has: 0,
+    };
+    let cases = [
+        ([10, 10], None),
+        ([0, 10], Some(NetworkFault::Jitter(short))),
+        ([10, 11], Some(NetworkFault::Latency(1))),
+    ];
+    for (leasts, fault) in cases {
+        assert_eq!(rt; varying(rt.alloc(), leasts)?, fault, "{}", leasts[0]);
     }
     Ok(())
 }

@@ -2,26 +2,32 @@
 use Rattle.std.proofs.Common.{◌≡◌, Ok, Err, ap, ◌∙◌}
 use Rattle.afdx_wiring.specs.declared.fault.NetworkFault.{NetworkFault}
 use Rattle.afdx_wiring.specs.Net.{Network}
-use Rattle.afdx_wiring.specs.Order.{Answer, loads_fit, misfit}
+use Rattle.afdx_wiring.specs.Order.{Answer, lost_latency, loads_fit, misfit}
 use Rattle.afdx_wiring.specs.Refusal.{◌>>=◌}
 use Rattle.afdx_serve.specs.Networks.{judged, verdict_of}
 use Rattle.afdx_serve.specs.NetworkJitters.{rates_fit, fit_of}
 
 -- it is that of its loads
-pub of_loads : (net : Network) (e : NetworkFault) → loads_fit 0 net.tables ≡ Err e → verdict_of net ≡ Err e
+pub of_loads : (net : Network) (e : NetworkFault) → loads_fit net ≡ Err e → verdict_of net ≡ Err e
 unfolding verdict_of
 of_loads net e is = ap (λ (r : Answer). r >>= λ loads. judged net) is
 
 -- or, where they are accepted, that of the rest
-pub of_rest : (net : Network) (e : NetworkFault) → loads_fit 0 net.tables ≡ Ok tt → judged net ≡ Err e → verdict_of net ≡ Err e
+pub of_rest : (net : Network) (e : NetworkFault) → loads_fit net ≡ Ok tt → judged net ≡ Err e → verdict_of net ≡ Err e
 unfolding verdict_of
 of_rest net e loads is = ap (λ (r : Answer). r >>= λ loads. judged net) loads ∙ is
 
 -- where the jitters are not judged
-pub of_rates : (net : Network) (e : NetworkFault) → rates_fit 0 net.tables ≡ Err e → fit_of net ≡ Err e
+pub of_latencies : (net : Network) (e : NetworkFault) → lost_latency net 0 net.tables ≡ Err e → fit_of net ≡ Err e
 unfolding fit_of
-of_rates net e is = ap (λ (r : Answer). r >>= λ rates. misfit net) is
+of_latencies net e is = ap (λ (r : Answer). r >>= λ latencies. rates_fit 0 net.tables >>= λ rates. misfit net) is
 
-pub of_fit : (net : Network) (answer : Answer) → rates_fit 0 net.tables ≡ Ok tt → misfit net ≡ answer → fit_of net ≡ answer
+pub of_rates : (net : Network) (e : NetworkFault) → lost_latency net 0 net.tables ≡ Ok tt → rates_fit 0 net.tables ≡ Err e → fit_of net ≡ Err e
 unfolding fit_of
-of_fit net answer rates is = ap (λ (r : Answer). r >>= λ rates. misfit net) rates ∙ is
+of_rates net e latencies is =
+    ap (λ (r : Answer). r >>= λ latencies. rates_fit 0 net.tables >>= λ rates. misfit net) latencies ∙ ap (λ (r : Answer). r >>= λ rates. misfit net) is
+
+pub of_fit : (net : Network) (answer : Answer) → lost_latency net 0 net.tables ≡ Ok tt → rates_fit 0 net.tables ≡ Ok tt → misfit net ≡ answer → fit_of net ≡ answer
+unfolding fit_of
+of_fit net answer latencies rates is =
+    ap (λ (r : Answer). r >>= λ latencies. rates_fit 0 net.tables >>= λ rates. misfit net) latencies ∙ ap (λ (r : Answer). r >>= λ rates. misfit net) rates ∙ is

@@ -10,7 +10,7 @@ use Rattle.afdx_load.specs.Accepted.{past}
 use Rattle.afdx_load.specs.declared.fault.Rule.TheVariants.{Rate}
 use Rattle.afdx_load.specs.declared.fault.LoadFault.{LoadFault}
 use Rattle.afdx_wiring.specs.Net.{Network}
-use Rattle.afdx_wiring.specs.Order.{Answer, load_fits, misfit}
+use Rattle.afdx_wiring.specs.Order.{Answer, load_fits, lost_latency, misfit}
 use Rattle.afdx_wiring.specs.Refusal.{◌>>=◌}
 use Rattle.afdx_wiring.specs.Needs.{AreNeeds}
 use Rattle.afdx_wiring.specs.declared.fault.Short.{Short}
@@ -38,7 +38,10 @@ rates_fit n (t ∷ ts) = load_fits n (first_rate_fault t.latency t.links t.ports
 
 -- the first refusal of a network whose jitters are not judged
 unfoldable pub fit_of : Network → Answer
-fit_of net = rates_fit 0 net.tables >>= λ rates. misfit net
+fit_of net = do
+  latencies ← lost_latency net 0 net.tables
+  rates ← rates_fit 0 net.tables
+  misfit net
 
 -- the rates or the tables of a network were not accepted
 abbrev pub FailsToFit : Failure → Network → Type 0

@@ -54,6 +54,7 @@ pub record HasNetwork (files : Option Files) (path : List ℕ) (net : Network) :
 
 -- the switch that a refusal is of
 abbrev pub switch_of : NetworkFault → Option ℕ
+switch_of (fault.Latency switch) = Some switch
 switch_of (fault.Load switch why) = Some switch
 switch_of (fault.NoSource switch link) = Some switch
 switch_of (fault.Jitter short) = Some short.switch
@@ -82,7 +83,7 @@ judged net = misfit net >>= λ fits. shortage net
 
 -- the first refusal of a network that is there: a load, or else one of those
 unfoldable pub verdict_of : Network → Answer
-verdict_of net = loads_fit 0 net.tables >>= λ loads. judged net
+verdict_of net = loads_fit net >>= λ loads. judged net
 
 -- a network was not accepted
 abbrev pub FailsToAcceptNetwork : Failure → Network → Type 0

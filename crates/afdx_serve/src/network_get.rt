@@ -41,7 +41,9 @@ fn switch_of(fault: NetworkFault) -> Option<usize>
     ensures { result ≡ switch_of fault }
 {
     match fault {
-        NetworkFault::Load(switch, _) | NetworkFault::NoSource(switch, _) => Some(switch),
+        NetworkFault::Latency(switch)
+        | NetworkFault::Load(switch, _)
+        | NetworkFault::NoSource(switch, _) => Some(switch),
         NetworkFault::Jitter(short) | NetworkFault::NoJitter(short) => Some(short.switch),
         _ => None,
     }

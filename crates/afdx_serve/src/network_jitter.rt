@@ -64,13 +64,14 @@ fn rates_fit(tables: &[Table]) -> Result<(), NetworkFault>
     Ok(())
 }
 
-/// Whether no line is asked for too much, and the tables fit together.
+/// Whether the least latencies are as they may be, no line is asked for too much, and the tables fit together.
 #[tactic(auto, unfolding(crate::specs::NetworkJitters::fit_of))]
 fn check_fit(alloc: Global, network: &Network) -> Result<(), NetworkFault>
     ensures { MatchResult result
         (λ _. (fit_of network.now ≡ Ok tt) × FitsTogether network.now)
         (λ e. e ≢ Memory → fit_of network.now ≡ Err e) }
 {
+    network.check_latencies()?;
     rates_fit(network.tables())?;
     network.fit(alloc)
 }
@@ -91,8 +92,8 @@ fn needs_of(alloc: Global, network: Network) -> Result<Needs, Failure>
 ///
 /// # Errors
 ///
-/// What is met first: `Get`; `Network`, in the order of the network file, its tables, the ports of its wires, the rates of
-/// the ports by switch, what the tables agree on; `Write`; `Network` with `NoJitter` after the lines, where a row needs more
+/// What is met first: `Get`; `Network`, in the order of the network file, its tables, the ports of its wires, the least
+/// latencies by switch, the rates of the ports by switch, what the tables agree on; `Write`; `Network` with `NoJitter` after the lines, where a row needs more
 /// than a table can have; `Memory` where memory ran out.
 ///
 /// O(files), beside what the jitters take.

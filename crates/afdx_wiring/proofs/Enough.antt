@@ -9,10 +9,9 @@ use Rattle.afdx_table.specs.declared.rows.PortRow.{PortRow}
 use Rattle.afdx_table.specs.Link.{Link}
 use Rattle.afdx_table.specs.Content.{Content, port_row, link_row}
 use Rattle.afdx_load.specs.Bounds.{bounds_of}
-use Rattle.afdx_grouping.specs.Groups.{lesser_load}
 use Rattle.afdx_jitter.specs.declared.delays.Delays.{Delays}
 use Rattle.afdx_jitter.specs.Delay.{hop_of, joined, at_once, IsEnough, least_jitter}
-use Rattle.afdx_wiring.specs.Net.{Network, Row, Back, port_at, row_at, row_in, rows_of, is_wired, bound_in, bound_at, IsWayBack, source_of, AreDelays}
+use Rattle.afdx_wiring.specs.Net.{Network, Row, Back, port_at, row_at, row_in, rows_of, least_at, load_at, bound_in, bound_at, IsWayBack, source_of, AreDelays}
 use Rattle.afdx_wiring.specs.Rules.{HasJitters}
 use Rattle.afdx_wiring.specs.Refusal.{Gives}
 use Rattle.afdx_wiring.specs.Order.{Answer, within_reason, hop_over, hop_from, hop_on, way_by, way_within, has_jitter, jitter_enough, most_rows, shortage}
@@ -43,28 +42,28 @@ record Hop (net : Network) (b : Back) (d before : Delays) (hop : Delays) : Type 
   pub most : d.most ≡ before.most + hop.most
 
 -- from a port, where there is one
-abbrev pub from_port : (ℕ → Bool) → Content → Row → ℕ → Option PortRow → Option Delays
-from_port wired t r cable o = option_and_then (λ (p : PortRow). hop_over t r cable p (lesser_load wired t p)) o
+abbrev pub from_port : Network → Content → Row → ℕ → Option PortRow → Option Delays
+from_port net t r cable o = option_and_then (λ (p : PortRow). hop_over net t r cable p (load_at net r.switch t p)) o
 
 hop_says : (net : Network) (b : Back) (d hop : Delays) (id : ℕ) → row_at net b.wire.from.switch id ≡ Some b.row → hop_on net b.row b.wire.from.port b.wire.delay ≡ Some hop
     → (t : Content) (p : PortRow) (bound : ℕ) (before : Delays) → slice_get net.tables b.row.switch ≡ Some t → port_at net b.wire.from ≡ Some p → bound_at net b.row p ≡ Some bound
-    → d ≡ joined before (hop_of p.speed t.latency bound b.wire.delay) → Hop net b d before hop
+    → d ≡ joined before (hop_of p.speed (least_at net b.row.switch t) bound b.wire.delay) → Hop net b d before hop
 hop_says net b d hop id row_is hop_is t p bound before t_is p_is bound_is d_is =
     let at : b.row.switch ≡ b.wire.from.switch = row_switch net b.wire.from.switch id b.row row_is in
     let t_there : slice_get net.tables b.wire.from.switch ≡ Some t = ap (slice_get net.tables) (sym at) ∙ t_is in
     let port : port_row t b.wire.from.port ≡ Some p = sym (ap (option_and_then (λ (c : Content). port_row c b.wire.from.port)) t_there) ∙ p_is in
-    let bounded : bound_in (bounds_of (lesser_load (is_wired net b.row.switch) t p)) b.row.link.priority ≡ Some bound
-    = sym (ap (option_and_then (λ (c : Content). bound_in (bounds_of (lesser_load (is_wired net b.row.switch) c p)) b.row.link.priority)) t_is) ∙ bound_is in
-    let found : option_map (λ (n : ℕ). hop_of p.speed t.latency n b.wire.delay) (within_reason bound) ≡ Some hop
-    = sym (ap (option_and_then (hop_from (is_wired net b.row.switch) b.row b.wire.from.port b.wire.delay)) t_is
-    ∙ ap (from_port (is_wired net b.row.switch) t b.row b.wire.delay) port
-    ∙ ap (λ (o : Option ℕ). option_map (λ (n : ℕ). hop_of p.speed t.latency n b.wire.delay) (option_and_then within_reason o)) bounded) ∙ hop_is in
+    let bounded : bound_in (bounds_of (load_at net b.row.switch t p)) b.row.link.priority ≡ Some bound
+    = sym (ap (option_and_then (λ (c : Content). bound_in (bounds_of (load_at net b.row.switch c p)) b.row.link.priority)) t_is) ∙ bound_is in
+    let found : option_map (λ (n : ℕ). hop_of p.speed (least_at net b.row.switch t) n b.wire.delay) (within_reason bound) ≡ Some hop
+    = sym (ap (option_and_then (hop_from net b.row b.wire.from.port b.wire.delay)) t_is
+    ∙ ap (from_port net t b.row b.wire.delay) port
+    ∙ ap (λ (o : Option ℕ). option_map (λ (n : ℕ). hop_of p.speed (least_at net b.row.switch t) n b.wire.delay) (option_and_then within_reason o)) bounded) ∙ hop_is in
     by (within_reason bound) refl found where
-      by : (o : Option ℕ) → within_reason bound ≡ o → option_map (λ (n : ℕ). hop_of p.speed t.latency n b.wire.delay) o ≡ Some hop → Hop net b d before hop
+      by : (o : Option ℕ) → within_reason bound ≡ o → option_map (λ (n : ℕ). hop_of p.speed (least_at net b.row.switch t) n b.wire.delay) o ≡ Some hop → Hop net b d before hop
       by None is found = absurd cc
       by (Some n) is found =
           let same : d ≡ joined before hop
-          = d_is ∙ ap (λ (m : ℕ). joined before (hop_of p.speed t.latency m b.wire.delay)) (sym (reasonable bound n is)) ∙ ap (joined before) (same_Some _ _ found) in
+          = d_is ∙ ap (λ (m : ℕ). joined before (hop_of p.speed (least_at net b.row.switch t) m b.wire.delay)) (sym (reasonable bound n is)) ∙ ap (joined before) (same_Some _ _ found) in
           record { least = ap (λ (e : Delays). e.least) same; most = ap (λ (e : Delays). e.most) same }
 
 -- ---- the way

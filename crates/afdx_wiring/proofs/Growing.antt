@@ -1,7 +1,8 @@
 -- What a row needs grows with the jitters of a network.
 use Rattle.std.proofs.Common.{◌≡◌, ℕ, zero, suc, ◌+◌, ◌-◌, ◌*◌, ◌/◌, ◌%◌, ◌≤◌, ◌<◌, Bool, true, false, cond, nat_le, List, [], ◌∷◌, find, length, slice_get}
 use Rattle.std.proofs.Common.{Option, Some, None, is_some, option_map, option_and_then, refl, ap, sym, ◌∙◌, arith, subst}
-use Rattle.std.specs.Prelude.{All}
+use Rattle.std.specs.Prelude.{All, min}
+use Rattle.std.specs.Option.{option_map_or}
 use Rattle.std.proofs.lemmas.Bool.Decides.{nat_tests}
 use Rattle.std.proofs.lemmas.Option.{same_Some}
 use Rattle.afdx_units.specs.declared.line.Speed.{Speed}
@@ -22,7 +23,7 @@ use Rattle.afdx_jitter.specs.Delay.{hop_of, joined, at_once, IsEnough}
 use Rattle.afdx_wiring.specs.declared.layout.End.{End}
 use Rattle.afdx_wiring.specs.declared.layout.Wire.{Wire}
 use Rattle.afdx_wiring.specs.File.{Layout, is_end}
-use Rattle.afdx_wiring.specs.Net.{Network, Row, Back, row_at, port_at, is_wired, bound_in, IsWayBack, source_of, AreDelays}
+use Rattle.afdx_wiring.specs.Net.{Network, Row, Back, row_at, port_at, is_wired, stated_least, least_at, scatter_at, load_at, bound_in, IsWayBack, source_of, AreDelays}
 use Rattle.afdx_wiring.specs.Order.{most_rows, within_reason, hop_from, hop_on, way_by, way_within}
 use Rattle.afdx_wiring.specs.Needs.{DiffersInJitters, KeepsToLines, needed}
 use Rattle.afdx_wiring.proofs.Enough.{from_port}
@@ -32,6 +33,9 @@ use Rattle.afdx_wiring.proofs.LesserOrder.{lesser_grows}
 use Rattle.afdx_wiring.proofs.Alike.{Pair, paired, same_port, all_at, Below, links_grow}
 use Rattle.afdx_wiring.proofs.Reaching.{same_wire, rate_there}
 
+least_few : (stated latency : ℕ) → latency ≤ 100000 → min stated latency ≤ 100000
+least_few stated latency few = omega (arith, few)
+
 least_cost : (speed : Speed) → cost_of speed 64 ≤ 67200
 least_cost Ten = omega arith
 least_cost Hundred = omega arith
@@ -39,11 +43,11 @@ least_cost Thousand = omega arith
 
 -- what a hop is where its bound is known
 hop_there : (net : Network) (c : Row) (port cable : ℕ) (t : Content) (p : PortRow) (x : ℕ) → slice_get net.tables c.switch ≡ Some t → port_row t port ≡ Some p
-    → bound_in (bounds_of (lesser_load (is_wired net c.switch) t p)) c.link.priority ≡ Some x
-    → hop_on net c port cable ≡ option_map (λ (n : ℕ). hop_of p.speed t.latency n cable) (within_reason x)
+    → bound_in (bounds_of (load_at net c.switch t p)) c.link.priority ≡ Some x
+    → hop_on net c port cable ≡ option_map (λ (n : ℕ). hop_of p.speed (least_at net c.switch t) n cable) (within_reason x)
 hop_there net c port cable t p x t_is p_is x_is =
-    ap (option_and_then (hop_from (is_wired net c.switch) c port cable)) t_is ∙ ap (from_port (is_wired net c.switch) t c cable) p_is
-    ∙ ap (λ (o : Option ℕ). option_map (λ (n : ℕ). hop_of p.speed t.latency n cable) (option_and_then within_reason o)) x_is
+    ap (option_and_then (hop_from net c port cable)) t_is ∙ ap (from_port net t c cable) p_is
+    ∙ ap (λ (o : Option ℕ). option_map (λ (n : ℕ). hop_of p.speed (least_at net c.switch t) n cable) (option_and_then within_reason o)) x_is
 
 -- what a walk back found over at most n rows, beside a way back that takes so long: no more; or nothing, since a bound is past reason
 abbrev pub IsWithin : ℕ → Option (ℕ × Delays) → (first : ℕ) → (d after : Delays) → Type 0
@@ -111,10 +115,19 @@ stops n far first first' d before after after' speed latency cable x y h past re
 pub flipped : (net other : Network) (switch id : ℕ) (r s : Row) → row_at net switch id ≡ Some r → Pair net other switch id r s → Pair other net switch id s r
 flipped net other switch id r s is pair = record { here = pair.there; there = pair.here; there_is = is; tables = sym pair.tables; links = sym pair.links }
 
--- the same ports have a wire
+-- the same ports have a wire, and the same is said of latencies
 same_wired : (net other : Network) → DiffersInJitters net other → (here there : ℕ) → there ≡ here → is_wired other there ≡ is_wired net here
 same_wired net other differs here there place =
     ap (λ (l : Layout). λ (port : ℕ). is_some (find (λ (w : Wire). is_end w.to (record { switch = there; port = port })) l.wires)) differs.0 ∙ ap (is_wired net) place
+
+same_least : (net other : Network) → DiffersInJitters net other → (here there : ℕ) → there ≡ here → (t u : Content) → u.latency ≡ t.latency → least_at other there u ≡ least_at net here t
+same_least net other differs here there place t u latency =
+    ap (λ (l : Layout). min (option_map_or (λ s. s.least) (slice_get l.switches there) 0) u.latency) differs.0
+    ∙ ap (λ (n : ℕ). min (stated_least net n) u.latency) place ∙ ap (λ (n : ℕ). min (stated_least net here) n) latency
+
+same_scatter : (net other : Network) → DiffersInJitters net other → (here there : ℕ) → there ≡ here → (t u : Content) → u.latency ≡ t.latency → scatter_at other there u ≡ scatter_at net here t
+same_scatter net other differs here there place t u latency =
+    ap (λ (n : ℕ). u.latency - n) (same_least net other differs here there place t u latency) ∙ ap (λ (n : ℕ). n - least_at net here t) latency
 
 kept_rate : (net other : Network) → Growing net other → (e : End) (id : ℕ) (c : Row) (t : Content) → row_at net e.switch id ≡ Some c → slice_get net.tables e.switch ≡ Some t → (p : PortRow)
     → port_at net e ≡ Some p → (load_of t.latency p.speed p.id t.links).rate ≤ parts
@@ -151,24 +164,24 @@ compare net other set (suc n) switch id r s r_is pair (b ∷ more) d way are few
       -- where the bound in this network is known
       bounded : (c : Row) (t : Content) (x : ℕ)
           → way_within (suc n) net r after ≡ option_and_then (λ (hop : Delays). way_within n net c (joined hop after)) (hop_on net c b.wire.from.port b.wire.delay)
-          → hop_on net c b.wire.from.port b.wire.delay ≡ option_map (λ (m : ℕ). hop_of are.1.speed t.latency m b.wire.delay) (within_reason x)
-          → Hops d are.3 are.1.speed t.latency b.wire.delay x are.2 → ((after' : Delays) → Compared n (way_within n net c after') first are.3 after')
+          → hop_on net c b.wire.from.port b.wire.delay ≡ option_map (λ (m : ℕ). hop_of are.1.speed (least_at net c.switch t) m b.wire.delay) (within_reason x)
+          → Hops d are.3 are.1.speed (least_at net c.switch t) b.wire.delay x are.2 → ((after' : Delays) → Compared n (way_within n net c after') first are.3 after')
           → Compared (suc n) (way_within (suc n) net r after) first d after
       bounded c t x way_is hop_is hops further = by (nat_le x 1000000000000) refl where
         by : (reason : Bool) → nat_le x 1000000000000 ≡ reason → Compared (suc n) (way_within (suc n) net r after) first d after
         by true reason =
-            let hop : Delays = hop_of are.1.speed t.latency x b.wire.delay in
-            let here : hop_on net c b.wire.from.port b.wire.delay ≡ Some (hop_of are.1.speed t.latency x b.wire.delay)
-            = hop_is ∙ ap (λ (q : Bool). option_map (λ (m : ℕ). hop_of are.1.speed t.latency m b.wire.delay) (cond q (Some x) None)) reason in
+            let hop : Delays = hop_of are.1.speed (least_at net c.switch t) x b.wire.delay in
+            let here : hop_on net c b.wire.from.port b.wire.delay ≡ Some (hop_of are.1.speed (least_at net c.switch t) x b.wire.delay)
+            = hop_is ∙ ap (λ (q : Bool). option_map (λ (m : ℕ). hop_of are.1.speed (least_at net c.switch t) m b.wire.delay) (cond q (Some x) None)) reason in
             let whole = way_is ∙ ap (option_and_then (λ (h : Delays). way_within n net c (joined h after))) here in
             subst (λ (o : Option (ℕ × Delays)). Compared (suc n) o first d after) (sym whole)
-            (further_on n (way_within n net c (joined hop after)) first d are.3 after are.1.speed t.latency b.wire.delay x are.2 hops (further (joined hop after)))
+            (further_on n (way_within n net c (joined hop after)) first d are.3 after are.1.speed (least_at net c.switch t) b.wire.delay x are.2 hops (further (joined hop after)))
         by false reason =
             let here : hop_on net c b.wire.from.port b.wire.delay ≡ None
-            = hop_is ∙ ap (λ (q : Bool). option_map (λ (m : ℕ). hop_of are.1.speed t.latency m b.wire.delay) (cond q (Some x) None)) reason in
+            = hop_is ∙ ap (λ (q : Bool). option_map (λ (m : ℕ). hop_of are.1.speed (least_at net c.switch t) m b.wire.delay) (cond q (Some x) None)) reason in
             let whole = way_is ∙ ap (option_and_then (λ (h : Delays). way_within n net c (joined h after))) here in
             subst (λ (o : Option (ℕ × Delays)). Compared (suc n) o first d after) (sym whole)
-            (stops n (way_within n net c after) first first d are.3 after after are.1.speed t.latency b.wire.delay x are.2 hops reason (further after))
+            (stops n (way_within n net c after) first first d are.3 after after are.1.speed (least_at net c.switch t) b.wire.delay x are.2 hops reason (further after))
 
       over : ((c : Row) × Pair other net b.wire.from.switch s.link.id b.row c) → Further → Compared (suc n) (way_within (suc n) net r after) first d after
       over found further =
@@ -188,28 +201,32 @@ compare net other set (suc n) switch id r s r_is pair (b ∷ more) d way are few
           let same_u : are.0 ≡ pair_c.there.table = same_Some are.0 pair_c.there.table (sym are.4 ∙ u_is) in
           let latency : pair_c.there.table.latency ≡ pair_c.here.table.latency = ap (λ (q : Content). q.latency) pair_c.tables in
           let priority : b.row.link.priority ≡ found.0.link.priority = ap (λ (l : Link). l.priority) pair_c.links in
-          let wired = same_wired net other set.differs found.0.switch b.row.switch (pair_c.there.switch_is ∙ sym pair_c.here.switch_is) in
-          let y_there : bound_in (bounds_of (lesser_load (is_wired other b.row.switch) pair_c.there.table are.1)) b.row.link.priority ≡ Some are.2
-          = sym (ap (option_and_then (λ (q : Content). bound_in (bounds_of (lesser_load (is_wired other b.row.switch) q are.1)) b.row.link.priority)) u_is) ∙ are.6 in
-          let y_is : bound_in (bounds_of (lesser_load (is_wired net found.0.switch) pair_c.there.table are.1)) found.0.link.priority ≡ Some are.2
-          = sym (ap (λ (lined : ℕ → Bool). bound_in (bounds_of (lesser_load lined pair_c.there.table are.1)) found.0.link.priority) wired)
-          ∙ sym (ap (bound_in (bounds_of (lesser_load (is_wired other b.row.switch) pair_c.there.table are.1))) priority) ∙ y_there in
+          let place : b.row.switch ≡ found.0.switch = pair_c.there.switch_is ∙ sym pair_c.here.switch_is in
+          let wired = same_wired net other set.differs found.0.switch b.row.switch place in
+          let scatter = same_scatter net other set.differs found.0.switch b.row.switch place pair_c.here.table pair_c.there.table latency in
+          let y_there : bound_in (bounds_of (load_at other b.row.switch pair_c.there.table are.1)) b.row.link.priority ≡ Some are.2
+          = sym (ap (option_and_then (λ (q : Content). bound_in (bounds_of (load_at other b.row.switch q are.1)) b.row.link.priority)) u_is) ∙ are.6 in
+          let y_is : bound_in (bounds_of (lesser_load (scatter_at net found.0.switch pair_c.here.table) (is_wired net found.0.switch) pair_c.there.table are.1)) found.0.link.priority ≡ Some are.2
+          = sym (ap (λ (lined : ℕ → Bool). bound_in (bounds_of (lesser_load (scatter_at net found.0.switch pair_c.here.table) lined pair_c.there.table are.1)) found.0.link.priority) wired)
+          ∙ sym (ap (λ (e : ℕ). bound_in (bounds_of (lesser_load e (is_wired other b.row.switch) pair_c.there.table are.1)) found.0.link.priority) scatter)
+          ∙ sym (ap (bound_in (bounds_of (load_at other b.row.switch pair_c.there.table are.1))) priority) ∙ y_there in
           let t_formed = all_at IsWellFormed net.tables b.wire.from.switch pair_c.here.table set.here pair_c.here.table_is in
           let u_formed = all_at IsWellFormed other.tables b.wire.from.switch pair_c.there.table set.there pair_c.there.table_is in
           let grow = links_grow set.links net other set.below b.wire.from.switch pair_c.here.table pair_c.there.table pair_c.here.table_is pair_c.there.table_is t_formed u_formed pair_c.tables in
           let port = same_port other net (sym set.differs.0, sym set.differs.1) b.wire.from are.1 are.5 in
           let rate = kept_rate net other set b.wire.from s.link.id found.0 pair_c.here.table found.1.there_is pair_c.here.table_is are.1 port in
           let ports : pair_c.there.table.ports ≡ pair_c.here.table.ports = ap (λ (q : Content). q.ports) pair_c.tables in
-          let x = bound_before (lesser_load (is_wired net found.0.switch) pair_c.here.table are.1) (lesser_load (is_wired net found.0.switch) pair_c.there.table are.1)
-          (lesser_grows set.once set.less (is_wired net found.0.switch) pair_c.here.table pair_c.there.table are.1 t_formed u_formed ports latency grow rate) found.0.link.priority are.2 y_is in
+          let x = bound_before (load_at net found.0.switch pair_c.here.table are.1) (lesser_load (scatter_at net found.0.switch pair_c.here.table) (is_wired net found.0.switch) pair_c.there.table are.1)
+          (lesser_grows set.once set.less (scatter_at net found.0.switch pair_c.here.table) (is_wired net found.0.switch) pair_c.here.table pair_c.there.table are.1 t_formed u_formed ports latency grow rate) found.0.link.priority are.2 y_is in
           let port_is : port_row pair_c.here.table b.wire.from.port ≡ Some are.1
           = sym (ap (option_and_then (λ (q : Content). port_row q b.wire.from.port)) pair_c.here.table_is) ∙ port in
           let hop_is = hop_there net found.0 b.wire.from.port b.wire.delay pair_c.here.table are.1 x.0 t_is port_is x.1 in
-          let few_ns = t_formed.latency_most in
-          let u_latency : are.0.latency ≡ pair_c.here.table.latency = ap (λ (q : Content). q.latency) same_u ∙ latency in
-          let d_least : d.least ≡ are.3.least + (are.0.latency + cost_of are.1.speed 64 + b.wire.delay) = ap (λ (e : Delays). e.least) are.8 in
-          let hops : Hops d are.3 are.1.speed pair_c.here.table.latency b.wire.delay x.0 are.2
-          = record { least = omega (arith, d_least, u_latency); most = ap (λ (e : Delays). e.most) are.8; bound = x.2; few = few_ns } in
+          let few_ns = least_few (stated_least net found.0.switch) pair_c.here.table.latency t_formed.latency_most in
+          let u_least : least_at other b.row.switch are.0 ≡ least_at net found.0.switch pair_c.here.table
+          = same_least net other set.differs found.0.switch b.row.switch place pair_c.here.table are.0 (ap (λ (q : Content). q.latency) same_u ∙ latency) in
+          let d_least : d.least ≡ are.3.least + (least_at other b.row.switch are.0 + cost_of are.1.speed 64 + b.wire.delay) = ap (λ (e : Delays). e.least) are.8 in
+          let hops : Hops d are.3 are.1.speed (least_at net found.0.switch pair_c.here.table) b.wire.delay x.0 are.2
+          = record { least = d_least ∙ ap (λ (e : ℕ). are.3.least + (e + cost_of are.1.speed 64 + b.wire.delay)) u_least; most = ap (λ (e : Delays). e.most) are.8; bound = x.2; few = few_ns } in
           bounded found.0 pair_c.here.table x.0 way_is hop_is hops (further found.0 found.1.there_is pair_c)
 
 -- ---- what is needed

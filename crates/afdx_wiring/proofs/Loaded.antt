@@ -1,53 +1,52 @@
--- The loads of a network's ports, switch by switch.
-use Rattle.std.proofs.Common.{◌≡◌, ℕ, zero, suc, ◌+◌, ◌<◌, ◌≤◌, ◌==◌, Bool, true, false, cond, nat_lt, List, [], ◌∷◌, ◌++◌, map, drop, length, get_or, slice_get}
+-- The bounds of a network's ports, switch by switch.
+use Rattle.std.proofs.Common.{◌≡◌, ℕ, zero, suc, ◌+◌, ◌<◌, ◌≤◌, ◌==◌, Bool, true, false, cond, nat_lt, List, [], ◌∷◌, map, length, slice_get}
 use Rattle.std.proofs.Common.{slice_set, inl, inr, ◌⊎◌, subst}
-use Rattle.std.proofs.Common.{append_assoc, add-one, Option, Some, None, option_map, option_and_then, find, refl, ap, sym, ◌∙◌, arith}
+use Rattle.std.proofs.Common.{Option, Some, None, option_map, option_and_then, find, refl, ap, sym, ◌∙◌, arith}
 use Rattle.std.specs.Prelude.{Vec, position}
 use Rattle.std.specs.List.{position_or_len}
-use Rattle.std.proofs.Math.Seq.{drop-cons}
 use Rattle.std.proofs.lemmas.Bool.{cases_lt}
 use Rattle.std.proofs.lemmas.Bool.Decides.{nat_tests}
 use Rattle.std.proofs.lemmas.List.Folds.{find_at}
 use Rattle.std.proofs.lemmas.Option.{same_Some, slice_get-map, slice_get_past}
 use Rattle.afdx_table.specs.declared.rows.PortRow.{PortRow}
 use Rattle.afdx_table.specs.Content.{Content, port_row}
-use Rattle.afdx_load.specs.Load.{Load}
-use Rattle.afdx_grouping.specs.Groups.{lesser_load, lesser_loads}
+use Rattle.afdx_load.specs.Bounds.{bounds_of}
+use Rattle.afdx_load.specs.declared.delays.Bounds.{Bounds}
 use Rattle.afdx_grouping.specs.Lined.{is_lined}
-use Rattle.afdx_wiring.specs.Net.{Network, is_wired}
-use Rattle.afdx_wiring.specs.Inner.Loads.{loads_from}
+use Rattle.afdx_wiring.specs.Net.{Network, load_at}
+use Rattle.afdx_wiring.specs.Inner.Loads.{switch_bounds, bounds_from}
 
 -- those of a switch
-pub loads_found : (net : Network) (n : ℕ) (ts : List Content) (i : ℕ) → slice_get (loads_from net n ts) i ≡ option_map (lesser_loads (is_wired net (n + i))) (slice_get ts i)
-loads_found net n [] i = refl
-loads_found net n (t ∷ ts) zero = ap (λ (k : ℕ). Some (lesser_loads (is_wired net k) t)) (first n) where
+pub bounds_found : (net : Network) (n : ℕ) (ts : List Content) (i : ℕ) → slice_get (bounds_from net n ts) i ≡ option_map (switch_bounds net (n + i)) (slice_get ts i)
+bounds_found net n [] i = refl
+bounds_found net n (t ∷ ts) zero = ap (λ (k : ℕ). Some (switch_bounds net k t)) (first n) where
   first : (m : ℕ) → m ≡ m + 0
   first m = omega arith
-loads_found net n (t ∷ ts) (suc i) = loads_found net (n + 1) ts i ∙ ap (λ (k : ℕ). option_map (lesser_loads (is_wired net k)) (slice_get ts i)) (next n i) where
+bounds_found net n (t ∷ ts) (suc i) = bounds_found net (n + 1) ts i ∙ ap (λ (k : ℕ). option_map (switch_bounds net k) (slice_get ts i)) (next n i) where
   next : (m k : ℕ) → m + 1 + k ≡ m + suc k
   next m k = omega arith
 
 -- as they are kept
-pub record IsKept {Z : Type 0} (net : Network) (all : List (Vec Load Z)) (i : ℕ) (t : Content) : Type 0 where
-  pub loads : Vec Load Z
-  pub loads_are : slice_get all i ≡ Some loads
-  pub are : loads.items ≡ lesser_loads (is_wired net i) t
+pub record IsKept {Z : Type 0} (net : Network) (all : List (Vec Bounds Z)) (i : ℕ) (t : Content) : Type 0 where
+  pub bounds : Vec Bounds Z
+  pub bounds_are : slice_get all i ≡ Some bounds
+  pub are : bounds.items ≡ switch_bounds net i t
 
-pub kept_there : {Z : Type 0} (net : Network) (all : List (Vec Load Z)) (i : ℕ) (t : Content) → map (λ (loads : Vec Load Z). loads.items) all ≡ loads_from net 0 net.tables → slice_get net.tables i ≡ Some t
+pub kept_there : {Z : Type 0} (net : Network) (all : List (Vec Bounds Z)) (i : ℕ) (t : Content) → map (λ (bounds : Vec Bounds Z). bounds.items) all ≡ bounds_from net 0 net.tables → slice_get net.tables i ≡ Some t
     → IsKept net all i t
 kept_there {Z = Z} net all i t are t_is =
     by (slice_get all i) refl
-    (sym (slice_get-map (λ (loads : Vec Load Z). loads.items) all i) ∙ ap (λ (ls : List (List Load)). slice_get ls i) are ∙ loads_found net 0 net.tables i
-    ∙ ap (λ (n : ℕ). option_map (lesser_loads (is_wired net n)) (slice_get net.tables i)) (start i) ∙ ap (option_map (lesser_loads (is_wired net i))) t_is) where
+    (sym (slice_get-map (λ (bounds : Vec Bounds Z). bounds.items) all i) ∙ ap (λ (ls : List (List Bounds)). slice_get ls i) are ∙ bounds_found net 0 net.tables i
+    ∙ ap (λ (n : ℕ). option_map (switch_bounds net n) (slice_get net.tables i)) (start i) ∙ ap (option_map (switch_bounds net i)) t_is) where
       start : (n : ℕ) → 0 + n ≡ n
       start n = omega arith
 
-      by : (o : Option (Vec Load Z)) → slice_get all i ≡ o → option_map (λ (loads : Vec Load Z). loads.items) o ≡ Some (lesser_loads (is_wired net i) t) → IsKept net all i t
+      by : (o : Option (Vec Bounds Z)) → slice_get all i ≡ o → option_map (λ (bounds : Vec Bounds Z). bounds.items) o ≡ Some (switch_bounds net i t) → IsKept net all i t
       by None at none = absurd cc
-      by (Some loads) at some = record { loads = loads; loads_are = at; are = same_Some loads.items (lesser_loads (is_wired net i) t) some }
+      by (Some bounds) at some = record { bounds = bounds; bounds_are = at; are = same_Some bounds.items (switch_bounds net i t) some }
 
 -- what is made of a port is in its place
-pub place_found : (f : PortRow → Load) (p : PortRow → Bool) (rows : List PortRow) → option_and_then (slice_get (map f rows)) (position p rows) ≡ option_map f (find p rows)
+pub place_found : (f : PortRow → Bounds) (p : PortRow → Bool) (rows : List PortRow) → option_and_then (slice_get (map f rows)) (position p rows) ≡ option_map f (find p rows)
 place_found f p rows = by (nat_lt (position_or_len p rows) (length rows)) refl where
   past : (k n : ℕ) → nat_lt k n ≡ false → n ≤ k
   past k n h = grind (arith, nat_tests)
@@ -56,20 +55,20 @@ place_found f p rows = by (nat_lt (position_or_len p rows) (length rows)) refl w
   by true within = slice_get-map f rows (position_or_len p rows) ∙ ap (option_map f) (sym (find_at p rows))
   by false over = ap (option_map f) (sym (find_at p rows ∙ slice_get_past rows (position_or_len p rows) (past (position_or_len p rows) (length rows) over)))
 
-pub load_there : {Z : Type 0} (net : Network) (all : List (Vec Load Z)) (i port : ℕ) (t : Content) → map (λ (loads : Vec Load Z). loads.items) all ≡ loads_from net 0 net.tables
-    → slice_get net.tables i ≡ Some t → (v : Vec Load Z) → slice_get all i ≡ Some v
-    → option_and_then (slice_get v.items) (position (λ p. p.id == port) t.ports) ≡ option_map (lesser_load (is_wired net i) t) (port_row t port)
-load_there {Z = Z} net all i port t are t_is v v_is =
+pub bounds_there : {Z : Type 0} (net : Network) (all : List (Vec Bounds Z)) (i port : ℕ) (t : Content) → map (λ (bounds : Vec Bounds Z). bounds.items) all ≡ bounds_from net 0 net.tables
+    → slice_get net.tables i ≡ Some t → (v : Vec Bounds Z) → slice_get all i ≡ Some v
+    → option_and_then (slice_get v.items) (position (λ p. p.id == port) t.ports) ≡ option_map (λ p. bounds_of (load_at net i t p)) (port_row t port)
+bounds_there {Z = Z} net all i port t are t_is v v_is =
     let kept = kept_there net all i t are t_is in
-    let items : v.items ≡ lesser_loads (is_wired net i) t = ap (λ (w : Vec Load Z). w.items) (same_Some v kept.loads (sym v_is ∙ kept.loads_are)) ∙ kept.are in
-    ap (λ (ls : List Load). option_and_then (slice_get ls) (position (λ p. p.id == port) t.ports)) items ∙ place_found (lesser_load (is_wired net i) t) (λ p. p.id == port) t.ports
+    let items : v.items ≡ switch_bounds net i t = ap (λ (w : Vec Bounds Z). w.items) (same_Some v kept.bounds (sym v_is ∙ kept.bounds_are)) ∙ kept.are in
+    ap (λ (ls : List Bounds). option_and_then (slice_get ls) (position (λ p. p.id == port) t.ports)) items ∙ place_found (λ p. bounds_of (load_at net i t p)) (λ p. p.id == port) t.ports
 
--- each table has its loads
-pub none_lost : {Z X : Type 0} (net : Network) (all : List (Vec Load Z)) (i : ℕ) (t : Content) → map (λ (loads : Vec Load Z). loads.items) all ≡ loads_from net 0 net.tables
+-- each table has its bounds
+pub none_lost : {Z X : Type 0} (net : Network) (all : List (Vec Bounds Z)) (i : ℕ) (t : Content) → map (λ (bounds : Vec Bounds Z). bounds.items) all ≡ bounds_from net 0 net.tables
     → slice_get net.tables i ≡ Some t → slice_get all i ≡ None → X
 none_lost {Z = Z} net all i t are t_is none =
     let kept = kept_there net all i t are t_is in
-    let both : None ≡ Some kept.loads = sym none ∙ kept.loads_are in
+    let both : None ≡ Some kept.bounds = sym none ∙ kept.bounds_are in
     absurd cc
 
 -- ---- the ports to which wires go, by their numbers

@@ -1,7 +1,7 @@
 -- The way back from a row whose source is found, in a network that differs in its jitters alone: it is there, and takes some time.
 use Rattle.std.proofs.Common.{◌≡◌, ℕ, zero, suc, ◌+◌, ◌≤◌, ◌<◌, ◌==◌, Bool, true, false, cond, List, [], ◌∷◌, map, find, length, slice_get}
 use Rattle.std.proofs.Common.{Option, Some, None, option_and_then, refl, ap, sym, ◌∙◌, arith, subst}
-use Rattle.std.specs.Prelude.{All, Contains}
+use Rattle.std.specs.Prelude.{All, Contains, min}
 use Rattle.std.specs.List.{AllZip}
 use Rattle.std.proofs.lemmas.Bool.{eqb-true}
 use Rattle.std.proofs.lemmas.List.Elements.{All-contains}
@@ -17,13 +17,12 @@ use Rattle.afdx_table.specs.declared.rows.PortRow.{PortRow}
 use Rattle.afdx_load.specs.Load.{load_of}
 use Rattle.afdx_load.specs.Bounds.{bounds_of}
 use Rattle.afdx_load.specs.Inner.Laws.{HighLinksLeaveAPart}
-use Rattle.afdx_grouping.specs.Groups.{lesser_load}
 use Rattle.afdx_jitter.specs.declared.delays.Delays.{Delays}
 use Rattle.afdx_jitter.specs.Delay.{hop_of, joined, at_once}
 use Rattle.afdx_wiring.specs.declared.layout.End.{End}
 use Rattle.afdx_wiring.specs.declared.layout.Wire.{Wire}
 use Rattle.afdx_wiring.specs.File.{Layout, is_end}
-use Rattle.afdx_wiring.specs.Net.{Network, Row, Back, row_at, ingress, wire_to, port_at, is_wired, bound_in, bound_at, IsSource, IsWayBack, source_of, AreDelays}
+use Rattle.afdx_wiring.specs.Net.{Network, Row, Back, row_at, ingress, wire_to, port_at, is_wired, stated_least, least_at, scatter_at, load_at, bound_in, bound_at, IsSource, IsWayBack, source_of, AreDelays}
 use Rattle.afdx_wiring.specs.Rules.{Joins}
 use Rattle.afdx_wiring.specs.Order.{row_before, source_by, source_within}
 use Rattle.afdx_wiring.specs.Needs.{bare_link, DiffersInJitters, KeepsToLines}
@@ -112,7 +111,7 @@ record Crossed (other : Network) (b : Row) (w : Wire) : Type 0 where
   pub table_is : slice_get other.tables b.switch ≡ Some table
   pub port_is : port_at other w.from ≡ Some port
   pub bound_is : bound_at other b port ≡ Some bound
-  pub order : table.latency + cost_of port.speed 64 ≤ bound
+  pub order : least_at other b.switch table + cost_of port.speed 64 ≤ bound
 
 crossed : (net other : Network) → Setting net other → (w : Wire) (id : ℕ) (b c : Row) → Contains net.layout.wires w → Pair net other w.from.switch id b c → leads_to w.from.port b.link ≡ true
     → Crossed other c w
@@ -128,7 +127,7 @@ crossed net other set w id b c wired pair leads =
     let formed = all_at IsWellFormed other.tables w.from.switch pair.there.table set.there pair.there.table_is in
     let rate = rate_there net other set.lines w.from id b c pair p joined.start_is in
     let member = set.links.is_row pair.there.table id c.link pair.there.link_is in
-    let h = lesser_bounded set.leaves (is_wired other c.switch) pair.there.table p c.link formed member.1 leads_on rate in
+    let h = lesser_bounded set.leaves (scatter_at other c.switch pair.there.table) (is_wired other c.switch) pair.there.table p c.link formed member.1 leads_on rate in
     let table_is : slice_get other.tables c.switch ≡ Some pair.there.table = ap (slice_get other.tables) pair.there.switch_is ∙ pair.there.table_is in
     record {
       table = pair.there.table;
@@ -136,9 +135,11 @@ crossed net other set w id b c wired pair leads =
       bound = h.bound;
       table_is = table_is;
       port_is = port_is;
-      bound_is = ap (option_and_then (λ (t : Content). bound_in (bounds_of (lesser_load (is_wired other c.switch) t p)) c.link.priority)) table_is ∙ h.bound_is;
-      order = h.order;
-    }
+      bound_is = ap (option_and_then (λ (t : Content). bound_in (bounds_of (load_at other c.switch t p)) c.link.priority)) table_is ∙ h.bound_is;
+      order = no_more (stated_least other c.switch) pair.there.table.latency (cost_of p.speed 64) h.bound h.order;
+    } where
+      no_more : (stated latency cost bound : ℕ) → latency + cost ≤ bound → min stated latency + cost ≤ bound
+      no_more stated latency cost bound h = omega (arith, h)
 
 pub reach : (net other : Network) → Setting net other → (n switch id : ℕ) (r s origin : Row) → row_at net switch id ≡ Some r → Pair net other switch id r s
     → source_within n net r ≡ Some origin → Reached n net other s origin
@@ -159,7 +160,7 @@ reach net other set (suc n) switch id r s origin r_is pair h =
           let few = rest.few in
           let order = rest.order in
           let step = cross.order in
-          let d : Delays = joined rest.delays (hop_of cross.port.speed cross.table.latency cross.bound w.delay) in
+          let d : Delays = joined rest.delays (hop_of cross.port.speed (least_at other c.switch cross.table) cross.bound w.delay) in
           record {
             backs = record { wire = w; row = c } ∷ rest.backs;
             delays = d;

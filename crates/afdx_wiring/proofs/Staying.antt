@@ -1,5 +1,5 @@
 -- A lesser bound is there exactly where the whole one is, and no greater: so are sums of them.
-use Rattle.std.proofs.Common.{◌≡◌, ℕ, ◌+◌, ◌-◌, ◌*◌, ◌/◌, ◌≤◌, ◌&&◌, Bool, ◌∷◌, [], List, cond, nat_lt, slice_get, Option, Some, None, option_and_then, refl, ap, sym, ◌∙◌, arith}
+use Rattle.std.proofs.Common.{◌≡◌, ℕ, ◌+◌, ◌-◌, ◌*◌, ◌/◌, ◌≤◌, ◌&&◌, Bool, ◌∷◌, [], List, cond, nat_lt, Some, None, option_and_then, refl, ap, sym, ◌∙◌, arith}
 use Rattle.std.specs.Prelude.{All}
 use Rattle.std.proofs.lemmas.Option.{cond_some, same_Some}
 use Rattle.afdx_units.specs.declared.line.Priority.{Priority}
@@ -12,9 +12,10 @@ use Rattle.afdx_load.specs.Load.{Load, load_of}
 use Rattle.afdx_load.specs.Bounds.{bounds_of}
 use Rattle.afdx_grouping.specs.Groups.{lesser_load}
 use Rattle.afdx_grouping.specs.Laws.{BoundsAreNoMore}
+use Rattle.afdx_grouping.specs.Scatter.{scattered}
 use Rattle.afdx_jitter.specs.declared.delays.Delays.{Delays}
 use Rattle.afdx_jitter.specs.Delay.{hop_of, joined, at_once}
-use Rattle.afdx_wiring.specs.Net.{Network, Row, Back, is_wired, bound_in, AreDelays, AreDelaysBy}
+use Rattle.afdx_wiring.specs.Net.{Network, Back, is_wired, least_at, scatter_at, load_at, bound_in, AreDelays, AreDelaysBy}
 use Rattle.afdx_wiring.specs.Inner.Staying.{whole_bound_at, WholeJittersAreEnough}
 use Rattle.afdx_wiring.proofs.Alike.{all_at}
 
@@ -24,25 +25,25 @@ record Above (load : Load) (priority : Priority) (x : ℕ) : Type 0 where
   pub bound_is : bound_in (bounds_of load) priority ≡ Some bound
   pub order : x ≤ bound
 
-above : BoundsAreNoMore → (lined : ℕ → Bool) (t : Content) (p : PortRow) → IsWellFormed t → (priority : Priority) (x : ℕ) → bound_in (bounds_of (lesser_load lined t p)) priority ≡ Some x
-    → Above (load_of t.latency p.speed p.id t.links) priority x
-above law lined t p formed High x x_is =
-    let load : Load = load_of t.latency p.speed p.id t.links in
-    let lesser : Load = lesser_load lined t p in
+above : BoundsAreNoMore → (d : ℕ) (lined : ℕ → Bool) (t : Content) (p : PortRow) → IsWellFormed t → (priority : Priority) (x : ℕ) → bound_in (bounds_of (lesser_load d lined t p)) priority ≡ Some x
+    → Above (scattered d (load_of t.latency p.speed p.id t.links)) priority x
+above law d lined t p formed High x x_is =
+    let load : Load = scattered d (load_of t.latency p.speed p.id t.links) in
+    let lesser : Load = lesser_load d lined t p in
     let test = (cond_some (nat_lt 0 lesser.highs) ((lesser.high_burst + parts * lesser.low_largest) / parts + lesser.latency) x x_is).0 in
     let y : ℕ = (load.high_burst + parts * load.low_largest) / parts + load.latency in
     let y_is : bound_in (bounds_of load) High ≡ Some y = ap (λ b. cond b (Some ((load.high_burst + parts * load.low_largest) / parts + load.latency)) None) test in
-    let h = (law t lined p formed).high y y_is in
+    let h = (law d t lined p formed).high y y_is in
     let same : h.0 ≡ x = same_Some h.0 x (sym h.1 ∙ x_is) in
     let order = h.2 in
     record { bound = y; bound_is = y_is; order = omega (arith, same, order) }
-above law lined t p formed Low x x_is =
-    let load : Load = load_of t.latency p.speed p.id t.links in
-    let lesser : Load = lesser_load lined t p in
+above law d lined t p formed Low x x_is =
+    let load : Load = scattered d (load_of t.latency p.speed p.id t.links) in
+    let lesser : Load = lesser_load d lined t p in
     let test = (cond_some (nat_lt 0 lesser.lows && nat_lt lesser.high_rate parts) (lesser.burst / (parts - lesser.high_rate) + lesser.latency) x x_is).0 in
     let y : ℕ = load.burst / (parts - load.high_rate) + load.latency in
     let y_is : bound_in (bounds_of load) Low ≡ Some y = ap (λ b. cond b (Some (load.burst / (parts - load.high_rate) + load.latency)) None) test in
-    let h = (law t lined p formed).low y y_is in
+    let h = (law d t lined p formed).low y y_is in
     let same : h.0 ≡ x = same_Some h.0 x (sym h.1 ∙ x_is) in
     let order = h.2 in
     record { bound = y; bound_is = y_is; order = omega (arith, same, order) }
@@ -66,18 +67,18 @@ whole law net formed (b ∷ more) d are =
     let p : PortRow = are.1 in
     let rest = whole law net formed more are.3 are.7 in
     let table = all_at IsWellFormed net.tables b.row.switch are.0 formed are.4 in
-    let there : bound_in (bounds_of (lesser_load (is_wired net b.row.switch) are.0 are.1)) b.row.link.priority ≡ Some are.2
-    = sym (ap (option_and_then (λ (c : Content). bound_in (bounds_of (lesser_load (is_wired net b.row.switch) c are.1)) b.row.link.priority)) are.4) ∙ are.6 in
-    let y = above law (is_wired net b.row.switch) are.0 are.1 table b.row.link.priority are.2 there in
+    let there : bound_in (bounds_of (load_at net b.row.switch are.0 are.1)) b.row.link.priority ≡ Some are.2
+    = sym (ap (option_and_then (λ (c : Content). bound_in (bounds_of (load_at net b.row.switch c are.1)) b.row.link.priority)) are.4) ∙ are.6 in
+    let y = above law (scatter_at net b.row.switch are.0) (is_wired net b.row.switch) are.0 are.1 table b.row.link.priority are.2 there in
     let y_is : whole_bound_at net b.row are.1 ≡ Some y.bound
-    = ap (option_and_then (λ (c : Content). bound_in (bounds_of (load_of c.latency are.1.speed are.1.id c.links)) b.row.link.priority)) are.4 ∙ y.bound_is in
-    let d_least : d.least ≡ are.3.least + (hop_of are.1.speed are.0.latency are.2 b.wire.delay).least = ap (λ (e : Delays). e.least) are.8 in
+    = ap (option_and_then (λ (c : Content). bound_in (bounds_of (scattered (scatter_at net b.row.switch c) (load_of c.latency are.1.speed are.1.id c.links))) b.row.link.priority)) are.4 ∙ y.bound_is in
+    let d_least : d.least ≡ are.3.least + (hop_of are.1.speed (least_at net b.row.switch are.0) are.2 b.wire.delay).least = ap (λ (e : Delays). e.least) are.8 in
     let d_most : d.most ≡ are.3.most + (are.2 + b.wire.delay) = ap (λ (e : Delays). e.most) are.8 in
     let rest_least = rest.least in
     let rest_most = rest.most in
     let order = y.order in
     record {
-      delays = joined rest.delays (hop_of are.1.speed are.0.latency y.bound b.wire.delay);
+      delays = joined rest.delays (hop_of are.1.speed (least_at net b.row.switch are.0) y.bound b.wire.delay);
       are = (are.0, are.1, y.bound, rest.delays, are.4, are.5, y_is, rest.are, refl);
       least = omega (arith, d_least, rest_least);
       most = omega (arith, d_most, rest_most, order);

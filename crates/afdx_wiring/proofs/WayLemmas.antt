@@ -1,28 +1,23 @@
 -- Ways that go over one line more, and the exits of rows one after another.
-use Rattle.std.proofs.Common.{◌≡◌, ℕ, ◌+◌, ◌<◌, Bool, true, false, cond, List, [], ◌∷◌, ◌++◌, map, length, take, drop, get_or, slice_get, append_assoc, add-one, Option, Some, None, option_map}
+use Rattle.std.proofs.Common.{◌≡◌, ℕ, ◌+◌, ◌<◌, List, [], ◌∷◌, ◌++◌, map, length, take, get_or, slice_get, Option, Some, None, option_map}
 use Rattle.std.proofs.Common.{option_and_then, Ok, Err, refl, ap, sym, ◌∙◌, subst}
-use Rattle.std.specs.Prelude.{flat_map, Result, IfOk}
+use Rattle.std.specs.Prelude.{Result, IfOk}
 use Rattle.std.specs.List.{filter, AllZip}
-use Rattle.std.proofs.Math.Seq.{drop-cons}
 use Rattle.std.proofs.lemmas.List.{take_more, reverse-append}
-use Rattle.std.proofs.lemmas.List.Concat.{flat_map-append}
 use Rattle.std.proofs.lemmas.Option.{same_Some}
 use Rattle.afdx_table.specs.declared.rows.PortRow.{PortRow}
-use Rattle.afdx_table.specs.Link.{Link}
 use Rattle.afdx_table.specs.Content.{Content, port_row}
 use Rattle.afdx_load.specs.Bounds.{bounds_of}
-use Rattle.afdx_grouping.specs.Groups.{lesser_load}
 use Rattle.afdx_jitter.specs.declared.delays.Delays.{Delays}
 use Rattle.afdx_jitter.specs.Delay.{hop_of, joined, least_jitter}
 use Rattle.afdx_wiring.specs.declared.exit.Exit.{Exit}
 use Rattle.afdx_wiring.specs.declared.layout.End.{End}
 use Rattle.afdx_wiring.specs.declared.layout.Wire.{Wire}
 use Rattle.afdx_wiring.specs.declared.ways.Way.{Way}
-use Rattle.afdx_wiring.specs.Net.{Network, Row, Back, row_in, rows_in, rows_from, port_at, ingress, wire_to, is_wired, bound_in, bound_at, source_of}
+use Rattle.afdx_wiring.specs.Net.{Network, Row, Back, port_at, ingress, wire_to, least_at, load_at, bound_in, bound_at, source_of}
 use Rattle.afdx_wiring.specs.Order.{row_before, within_reason, hop_from, hop_on}
-use Rattle.afdx_wiring.specs.Ways.{leads_out, exits_at, IsWayOver, IsWayAlong, IsWayOut}
-use Rattle.afdx_wiring.proofs.Chains.{next_row, next_rows}
-use Rattle.afdx_wiring.proofs.Enough.{row_switch, reasonable, from_port}
+use Rattle.afdx_wiring.specs.Ways.{leads_out, IsWayOver, IsWayAlong, IsWayOut}
+use Rattle.afdx_wiring.proofs.Enough.{reasonable, from_port}
 use Rattle.afdx_wiring.proofs.FeedLemmas.{before_says}
 
 -- ---- exits
@@ -44,21 +39,21 @@ pub record Over (net : Network) (r : Row) (line : Wire) (hop : Delays) : Type 0 
   pub table_is : slice_get net.tables r.switch ≡ Some table
   pub port_is : port_at net line.from ≡ Some port
   pub bound_is : bound_at net r port ≡ Some bound
-  pub hop_is : hop ≡ hop_of port.speed table.latency bound line.delay
+  pub hop_is : hop ≡ hop_of port.speed (least_at net r.switch table) bound line.delay
 
 goes_over : (net : Network) (r : Row) (line : Wire) (hop : Delays) → r.switch ≡ line.from.switch → hop_on net r line.from.port line.delay ≡ Some hop → Over net r line hop
 goes_over net r line hop same h = by (slice_get net.tables r.switch) refl h where
-  by : (o : Option Content) → slice_get net.tables r.switch ≡ o → option_and_then (hop_from (is_wired net r.switch) r line.from.port line.delay) o ≡ Some hop → Over net r line hop
+  by : (o : Option Content) → slice_get net.tables r.switch ≡ o → option_and_then (hop_from net r line.from.port line.delay) o ≡ Some hop → Over net r line hop
   by None is found = absurd cc
   by (Some t) is found = at_port (port_row t line.from.port) refl found where
-    at_port : (o : Option PortRow) → port_row t line.from.port ≡ o → from_port (is_wired net r.switch) t r line.delay o ≡ Some hop → Over net r line hop
+    at_port : (o : Option PortRow) → port_row t line.from.port ≡ o → from_port net t r line.delay o ≡ Some hop → Over net r line hop
     at_port None p_is there = absurd cc
-    at_port (Some p) p_is there = bounded (bound_in (bounds_of (lesser_load (is_wired net r.switch) t p)) r.link.priority) refl there where
-      bounded : (o : Option ℕ) → bound_in (bounds_of (lesser_load (is_wired net r.switch) t p)) r.link.priority ≡ o
-          → option_map (λ (n : ℕ). hop_of p.speed t.latency n line.delay) (option_and_then within_reason o) ≡ Some hop → Over net r line hop
+    at_port (Some p) p_is there = bounded (bound_in (bounds_of (load_at net r.switch t p)) r.link.priority) refl there where
+      bounded : (o : Option ℕ) → bound_in (bounds_of (load_at net r.switch t p)) r.link.priority ≡ o
+          → option_map (λ (n : ℕ). hop_of p.speed (least_at net r.switch t) n line.delay) (option_and_then within_reason o) ≡ Some hop → Over net r line hop
       bounded None b_is so = absurd cc
       bounded (Some bound) b_is so = reasoned (within_reason bound) refl so where
-        reasoned : (o : Option ℕ) → within_reason bound ≡ o → option_map (λ (n : ℕ). hop_of p.speed t.latency n line.delay) o ≡ Some hop → Over net r line hop
+        reasoned : (o : Option ℕ) → within_reason bound ≡ o → option_map (λ (n : ℕ). hop_of p.speed (least_at net r.switch t) n line.delay) o ≡ Some hop → Over net r line hop
         reasoned None n_is last = absurd cc
         reasoned (Some n) n_is last = record {
           table = t;
@@ -66,8 +61,8 @@ goes_over net r line hop same h = by (slice_get net.tables r.switch) refl h wher
           bound = bound;
           table_is = is;
           port_is = ap (option_and_then (λ (c : Content). port_row c line.from.port)) (ap (slice_get net.tables) (sym same) ∙ is) ∙ p_is;
-          bound_is = ap (option_and_then (λ (c : Content). bound_in (bounds_of (lesser_load (is_wired net r.switch) c p)) r.link.priority)) is ∙ b_is;
-          hop_is = sym (same_Some _ _ last) ∙ ap (λ (m : ℕ). hop_of p.speed t.latency m line.delay) (reasonable bound n n_is);
+          bound_is = ap (option_and_then (λ (c : Content). bound_in (bounds_of (load_at net r.switch c p)) r.link.priority)) is ∙ b_is;
+          hop_is = sym (same_Some _ _ last) ∙ ap (λ (m : ℕ). hop_of p.speed (least_at net r.switch t) m line.delay) (reasonable bound n n_is);
         }
 
 pub longer : (net : Network) (r : Row) (line : Wire) (old new : Way) (hop : Delays) → r.switch ≡ line.from.switch → hop_on net r line.from.port line.delay ≡ Some hop → new.link ≡ old.link

@@ -1,6 +1,6 @@
 -- The network of a text, or the first refusal (profile): the text, the top, each switch after those before it, each wire after the
 -- switches and the wires before it.
-use Rattle.std.specs.Prelude.{ℕ, ◌+◌, ◌==◌, ◌&&◌, Bool, nat_lt, if◌then◌else◌, List, [], ◌∷◌, ◌++◌, length, position}
+use Rattle.std.specs.Prelude.{ℕ, ◌+◌, ◌*◌, ◌==◌, ◌&&◌, Bool, nat_lt, if◌then◌else◌, List, [], ◌∷◌, ◌++◌, length, position}
 use Rattle.std.specs.Prelude.{option_map, Result, Ok, Err}
 use Rattle.std.specs.Prelude.{not}
 use Rattle.std.specs.List.{list_any}
@@ -25,6 +25,8 @@ pub record Switch : Type 0 where
   pub name : List ℕ
   -- the name of its table's file
   pub path : List ℕ
+  -- nanoseconds that it takes for each frame, at least
+  pub least : ℕ
 
 pub record Layout : Type 0 where
   pub switches : List Switch
@@ -35,16 +37,18 @@ pub record Layout : Type 0 where
 abbrev pub has_switch : List Switch → List ℕ → Bool
 has_switch switches name = list_any (λ s. bytes_eq s.name name) switches
 
--- the switch of these fields, after the switches before it
+-- the switch of these fields, after the switches before it; its least latency is in whole microseconds, as its table has the most, and 0
+-- where it is not stated
 unfoldable pub switch_at : At → List Switch → Members → Result Switch NetworkFault
 switch_at at before ms = do
-  known ← known_at at (key.Name ∷ key.Table ∷ []) ms
+  known ← known_at at (key.Name ∷ key.Table ∷ key.LeastLatency ∷ []) ms
   name ← text_at at key.Name ms
   is_one ← unless (not (is_name name)) (Range at key.Name)
   path ← text_at at key.Table ms
   is_path ← unless (length path == 0) (Range at key.Table)
+  least ← optional_number_at at key.LeastLatency 100 0 ms
   once ← unless (has_switch before name) (TwiceSwitch at)
-  Ok (record { name = name; path = path })
+  Ok (record { name = name; path = path; least = least * 1000 })
 
 unfoldable pub switches_from : ℕ → List Switch → List Members → Result (List Switch) NetworkFault
 switches_from n before [] = Ok before

@@ -1,11 +1,13 @@
 -- A network: what its file says, and the tables of its switches (profile). The wires of a link's way are found from its end.
-use Rattle.std.specs.Prelude.{◌≡◌, ℕ, ◌+◌, true, List, [], ◌∷◌, map, filter, find, flat_map, slice_get, Option, Some, None, option_map, option_and_then, is_some, Bool, Contains}
+use Rattle.std.specs.Prelude.{◌≡◌, ℕ, ◌+◌, ◌-◌, min, true, List, [], ◌∷◌, map, filter, find, flat_map, slice_get, Option, Some, None, option_map, option_and_then, is_some, Bool, Contains}
 use Rattle.std.specs.List.{enumerate_from}
 use Rattle.afdx_units.specs.declared.line.Priority.{Priority}
 use Rattle.afdx_units.specs.declared.line.Priority.TheVariants.{High, Low}
 use Rattle.afdx_table.specs.declared.rows.PortRow.{PortRow}
 use Rattle.afdx_table.specs.Link.{Link, leads_to}
 use Rattle.afdx_table.specs.Content.{Content, port_row, link_row}
+use Rattle.std.specs.Option.{option_map_or}
+use Rattle.afdx_load.specs.Load.{Load}
 use Rattle.afdx_load.specs.Bounds.{bounds_of}
 use Rattle.afdx_load.specs.declared.delays.Bounds.{Bounds}
 use Rattle.afdx_grouping.specs.Groups.{lesser_load}
@@ -96,21 +98,36 @@ source_of r (b ∷ more) = source_of b.row more
 
 -- ---- what a frame takes for it
 
+-- the least time that a switch is said to take; 0 where it is not known
+abbrev pub stated_least : Network → (switch : ℕ) → ℕ
+stated_least net switch = option_map_or (λ s. s.least) (slice_get net.layout.switches switch) 0
+
+-- a switch with this table takes no less than that, and no more than the table's latency; by so much its latencies may differ
+abbrev pub least_at : Network → (switch : ℕ) → Content → ℕ
+least_at net switch t = min (stated_least net switch) t.latency
+
+abbrev pub scatter_at : Network → (switch : ℕ) → Content → ℕ
+scatter_at net switch t = t.latency - least_at net switch t
+
+-- the load of a port of the switch, where what comes over a wire is counted one frame after the other
+abbrev pub load_at : Network → (switch : ℕ) → Content → PortRow → Load
+load_at net switch t p = lesser_load (scatter_at net switch t) (is_wired net switch) t p
+
 -- the bound of a priority
 abbrev pub bound_in : Bounds → Priority → Option ℕ
 bound_in bounds High = bounds.high
 bound_in bounds Low = bounds.low
 
--- the bound of the row's link at a port that it leads to, where what comes over a wire is counted one frame after the other
+-- the bound of the row's link at a port that it leads to
 abbrev pub bound_at : Network → Row → PortRow → Option ℕ
-bound_at net r p = option_and_then (λ t. bound_in (bounds_of (lesser_load (is_wired net r.switch) t p)) r.link.priority) (slice_get net.tables r.switch)
+bound_at net r p = option_and_then (λ t. bound_in (bounds_of (load_at net r.switch t p)) r.link.priority) (slice_get net.tables r.switch)
 
 -- these are the delays from the arrival at the source's switch to that at the row's switch, where rows have these bounds at ports
 abbrev pub AreDelaysBy : (Row → PortRow → Option ℕ) → Network → List Back → Delays → Type 0
 AreDelaysBy bound_of net [] d = d ≡ at_once
 AreDelaysBy bound_of net (b ∷ more) d =
     (t : Content) × (p : PortRow) × (bound : ℕ) × (before : Delays) × (slice_get net.tables b.row.switch ≡ Some t) × (port_at net b.wire.from ≡ Some p)
-    × (bound_of b.row p ≡ Some bound) × AreDelaysBy bound_of net more before × (d ≡ joined before (hop_of p.speed t.latency bound b.wire.delay))
+    × (bound_of b.row p ≡ Some bound) × AreDelaysBy bound_of net more before × (d ≡ joined before (hop_of p.speed (least_at net b.row.switch t) bound b.wire.delay))
 
 abbrev pub AreDelays : Network → List Back → Delays → Type 0
 AreDelays net backs d = AreDelaysBy (bound_at net) net backs d

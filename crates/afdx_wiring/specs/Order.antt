@@ -13,10 +13,9 @@ use Rattle.afdx_table.specs.declared.rows.PortRow.{PortRow}
 use Rattle.afdx_table.specs.Link.{Link, leads_to}
 use Rattle.afdx_table.specs.Content.{Content, port_row, link_row}
 use Rattle.afdx_load.specs.Load.{Load}
-use Rattle.afdx_load.specs.Accepted.{first_fault}
 use Rattle.afdx_load.specs.declared.fault.LoadFault.{LoadFault}
 use Rattle.afdx_load.specs.Bounds.{bounds_of}
-use Rattle.afdx_grouping.specs.Groups.{lesser_load}
+use Rattle.afdx_grouping.specs.Scatter.{first_scattered_fault}
 use Rattle.afdx_jitter.specs.declared.delays.Delays.{Delays}
 use Rattle.afdx_jitter.specs.Delay.{hop_of, joined, at_once, least_jitter}
 use Rattle.afdx_wiring.specs.declared.fault.At.{At}
@@ -29,7 +28,7 @@ use Rattle.afdx_wiring.specs.declared.row.Row.{Row as RowOfCode}
 use Rattle.afdx_wiring.specs.declared.shared.Shared.{Shared}
 use Rattle.afdx_wiring.specs.declared.shared.Shared.TheVariants as shared
 use Rattle.afdx_wiring.specs.Refusal.{◌>>=◌, or_refuse, unless}
-use Rattle.afdx_wiring.specs.Net.{Network, Row, port_at, row_at, rows_of, ingress, wire_to, is_wired, bound_in}
+use Rattle.afdx_wiring.specs.Net.{Network, Row, port_at, row_at, rows_of, ingress, wire_to, least_at, scatter_at, load_at, stated_least, bound_in}
 
 -- a row as the code has it
 abbrev pub row_of : RowOfCode → Row
@@ -155,6 +154,11 @@ each_once before (id ∷ ids) = unless (list_any (λ n. n == id) before) (fault.
 unfoldable pub lost_port : List Content → List Wire → Answer
 lost_port tables wires = by_wires (has_ports tables) 0 wires
 
+-- the first switch that is said to take at least more than its table's latency; n come before these
+abbrev pub lost_latency : Network → ℕ → List Content → Answer
+lost_latency net n [] = Ok tt
+lost_latency net n (t ∷ ts) = unless (nat_lt t.latency (stated_least net n)) (fault.Latency n) >>= λ _. lost_latency net (n + 1) ts
+
 -- what the tables do not agree on
 unfoldable pub misfit : Network → Answer
 misfit net = do
@@ -172,10 +176,13 @@ abbrev pub load_fits : ℕ → Option LoadFault → Answer
 load_fits n None = Ok tt
 load_fits n (Some why) = Err (fault.Load n why)
 
--- by switch, of which n come before these
-abbrev pub loads_fit : ℕ → List Content → Answer
-loads_fit n [] = Ok tt
-loads_fit n (t ∷ ts) = load_fits n (first_fault t.latency t.links t.ports) >>= λ _. loads_fit (n + 1) ts
+-- by switch, of which n come before these, each where its latencies may differ so much
+abbrev pub tables_fit : Network → ℕ → List Content → Answer
+tables_fit net n [] = Ok tt
+tables_fit net n (t ∷ ts) = load_fits n (first_scattered_fault (scatter_at net n t) t.latency t.links t.ports) >>= λ _. tables_fit net (n + 1) ts
+
+unfoldable pub loads_fit : Network → Answer
+loads_fit net = lost_latency net 0 net.tables >>= λ _. tables_fit net 0 net.tables
 
 -- ---- jitters
 
@@ -184,16 +191,15 @@ abbrev pub within_reason : ℕ → Option ℕ
 within_reason bound = if nat_le bound 1000000000000 then Some bound else None
 
 -- from a row's switch, which has this table, over a cable from this port, which has this load
-abbrev pub hop_over : Content → Row → (cable : ℕ) → PortRow → Load → Option Delays
-hop_over t r cable p load =
-    option_map (λ bound. hop_of p.speed t.latency bound cable) (option_and_then within_reason (bound_in (bounds_of load) r.link.priority))
+abbrev pub hop_over : Network → Content → Row → (cable : ℕ) → PortRow → Load → Option Delays
+hop_over net t r cable p load =
+    option_map (λ bound. hop_of p.speed (least_at net r.switch t) bound cable) (option_and_then within_reason (bound_in (bounds_of load) r.link.priority))
 
--- where frames come one after the other over the lines of these ports
-abbrev pub hop_from : (wired : ℕ → Bool) → Row → (port cable : ℕ) → Content → Option Delays
-hop_from wired r port cable t = option_and_then (λ p. hop_over t r cable p (lesser_load wired t p)) (port_row t port)
+abbrev pub hop_from : Network → Row → (port cable : ℕ) → Content → Option Delays
+hop_from net r port cable t = option_and_then (λ p. hop_over net t r cable p (load_at net r.switch t p)) (port_row t port)
 
 abbrev pub hop_on : Network → Row → (port cable : ℕ) → Option Delays
-hop_on net r port cable = option_and_then (hop_from (is_wired net r.switch) r port cable) (slice_get net.tables r.switch)
+hop_on net r port cable = option_and_then (hop_from net r port cable) (slice_get net.tables r.switch)
 
 -- the jitter of a row's source and the delays from there to the row, over at most n rows; these come after
 abbrev pub way_by : (Row → Delays → Option (ℕ × Delays)) → Network → Row → Delays → Option Wire → Option (ℕ × Delays)

@@ -1,13 +1,14 @@
 -- What a network's tables must agree on, and that the jitters are enough; with no order of cases.
-use Rattle.std.specs.Prelude.{◌≡◌, List, Some, All, Contains}
+use Rattle.std.specs.Prelude.{◌≡◌, ℕ, ◌≤◌, List, Some, All, Contains}
 use Rattle.afdx_table.specs.declared.rows.PortRow.{PortRow}
 use Rattle.afdx_table.specs.Content.{Content}
 use Rattle.std.specs.Prelude.{slice_get}
 use Rattle.afdx_load.specs.Accepted.{IsAccepted}
+use Rattle.afdx_grouping.specs.Scatter.{IsAcceptedWith}
 use Rattle.afdx_jitter.specs.declared.delays.Delays.{Delays}
 use Rattle.afdx_jitter.specs.Delay.{IsEnough}
 use Rattle.afdx_wiring.specs.declared.layout.Wire.{Wire}
-use Rattle.afdx_wiring.specs.Net.{Network, Row, Back, port_at, row_at, rows_of, rows_on, IsSource, IsWayBack, source_of, AreDelays}
+use Rattle.afdx_wiring.specs.Net.{Network, Row, Back, port_at, row_at, rows_of, rows_on, IsSource, IsWayBack, source_of, stated_least, scatter_at, AreDelays}
 
 -- both ends of a wire are ports, of one speed (IEEE 802.3), at switches of one constant field (ARINC 664 Part 7)
 pub record Joins (net : Network) (w : Wire) : Type 0 where
@@ -43,7 +44,16 @@ pub record HasJitters (net : Network) : Type 0 where
   pub enough : (r : Row) (backs : List Back) (d : Delays) → Contains (rows_of net) r → IsWayBack net r backs → AreDelays net backs d
       → IsEnough d (source_of r backs).link.jitter r.link.jitter
 
+-- a switch is said to take at least no more than its table's latency, and is accepted where its latencies may differ so much
+pub record FitsSwitch (net : Network) (switch : ℕ) (t : Content) : Type 0 where
+  pub latency : stated_least net switch ≤ t.latency
+  pub accepted : IsAcceptedWith (scatter_at net switch t) t
+
+abbrev pub FitSwitches : Network → Type 0
+FitSwitches net = (switch : ℕ) (t : Content) → slice_get net.tables switch ≡ Some t → FitsSwitch net switch t
+
 pub record IsAcceptedNetwork (net : Network) : Type 0 where
   pub fits : FitsTogether net
   pub loads : All IsAccepted net.tables
+  pub switches : FitSwitches net
   pub jitters : HasJitters net

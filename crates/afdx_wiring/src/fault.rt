@@ -25,6 +25,7 @@ pub enum Key {
     Wire,
     Name,
     Table,
+    LeastLatency,
     From,
     To,
     Delay,
@@ -58,7 +59,10 @@ pub enum NetworkFault {
     OwnPort(At),
     /// G3: a wire's end names a port that is not in its switch's table.
     NoSuchPort(At),
-    /// L1 to L4: the load of the table of the switch at this place, from 0, is not accepted, and this is its first fault.
+    /// G3: the switch at this place, from 0, is said to take at least more than its table's latency.
+    Latency(usize),
+    /// L1 to L4: the load of the table of the switch at this place, from 0, is not accepted where its latencies may differ as the
+    /// network file says, and this is its first fault.
     Load(usize, LoadFault),
     /// G4: the tables at both ends have two constant fields.
     Constant(At),
@@ -108,6 +112,7 @@ impl Key {
             Key::Wire => "wire",
             Key::Name => "name",
             Key::Table => "table",
+            Key::LeastLatency => "least_latency_us",
             Key::From => "from",
             Key::To => "to",
             Key::Delay => "delay_ns",

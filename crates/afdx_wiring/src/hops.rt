@@ -2,16 +2,17 @@
 
 ghost use Rattle.std.specs.Prelude.{◌≡◌, ◌≤◌, ◌==◌, slice_get, position, option_copied, option_map, option_and_then, IfOk, IfSome};
 ghost use Rattle.afdx_table.specs.Content.{port_row};
-ghost use Rattle.afdx_grouping.specs.Groups.{lesser_load, lesser_loads};
-ghost use Rattle.afdx_wiring.specs.Net.{is_wired, bound_in};
+ghost use Rattle.afdx_load.specs.Bounds.{bounds_of};
+ghost use Rattle.afdx_wiring.specs.Net.{bound_in, load_at};
+ghost use Rattle.afdx_wiring.specs.Inner.Loads.{switch_bounds};
 ghost use Rattle.afdx_wiring.specs.Order.{row_of, within_reason, hop_on};
 
 use crate::network::Network;
 use crate::row::Row;
 use afdx_grouping::laws::only_ports_count;
-use afdx_grouping::lesser_loads;
+use afdx_grouping::lesser_bounds;
 use afdx_jitter::{Delays, hop};
-use afdx_load::{Bounds, Load, bounds};
+use afdx_load::Bounds;
 use afdx_table::Table;
 use afdx_units::Priority;
 use std::alloc::{AllocError, Global};
@@ -20,26 +21,27 @@ use std::marker::Model;
 /// No table that is accepted has a bound of more nanoseconds.
 const MAX_BOUND: u128 = 1_000_000_000_000;
 
-/// The loads of all switches of a network: what comes over a wire comes one frame after the other.
+/// The bounds of all switches of a network: what comes over a wire comes one frame after the other, and latencies differ as the
+/// network says.
 ///
 /// Contracts see it as the network.
 #[derive(Drop)]
 pub(crate) struct Hops<'a> {
     network: &'a Network,
     /// Those of each switch's ports, in the order of its table.
-    loads: Vec<Vec<Load>>,
+    bounds: Vec<Vec<Bounds>>,
 }
 
 impl<'a> Model for Hops<'a> {
     ghost use Rattle.std.specs.Prelude.{◌≡◌, map};
     ghost use Rattle.afdx_wiring.specs.Net.{Network as Seen};
-    ghost use Rattle.afdx_wiring.specs.Inner.Loads.{loads_from};
+    ghost use Rattle.afdx_wiring.specs.Inner.Loads.{bounds_from};
 
     ghost Value = { Seen };
 
     ghost view = { λ h. h.network.now };
 
-    ghost invariant = { λ h. map (λ loads. loads.items) h.loads.items ≡ loads_from h.network.now 0 h.network.now.tables };
+    ghost invariant = { λ h. map (λ bounds. bounds.items) h.bounds.items ≡ bounds_from h.network.now 0 h.network.now.tables };
 }
 
 /// The bound of a priority.
@@ -71,46 +73,47 @@ fn place_of(table: &Table, port: u8) -> Option<usize>
     table.ports().iter().position(|row| row.id == port)
 }
 
-/// The load of the port of a number, of those of a table's ports in their order.
-fn load_in(table: &Table, loads: &[Load], port: u8) -> Option<Load>
-    ensures { result ≡ option_and_then (slice_get loads.now) (position (λ p. p.id == port) table.now.ports) }
+/// The bounds of the port of a number, of those of a table's ports in their order.
+fn bounds_in(table: &Table, bounds: &[Bounds], port: u8) -> Option<Bounds>
+    ensures { result ≡ option_and_then (slice_get bounds.now) (position (λ p. p.id == port) table.now.ports) }
 {
     let place = place_of(table, port)?;
-    loads.get(place).copied()
+    bounds.get(place).copied()
 }
 
-/// The loads that are kept of a switch.
-fn kept_at(loads: &[Vec<Load>], switch: usize) -> Option<&Vec<Load>>
-    ensures { option_copied result ≡ slice_get loads.now switch }
+/// The bounds that are kept of a switch.
+fn kept_at(bounds: &[Vec<Bounds>], switch: usize) -> Option<&Vec<Bounds>>
+    ensures { option_copied result ≡ slice_get bounds.now switch }
 {
-    loads.get(switch)
+    bounds.get(switch)
 }
 
-/// The loads of a switch's ports.
-fn loads_at(
+/// The bounds of a switch's ports.
+fn switch_bounds(
     alloc: Global,
     network: &Network,
     switch: usize,
     table: &Table,
-) -> Result<Vec<Load>, AllocError>
-    ensures { IfOk result (λ loads. loads.items ≡ lesser_loads (is_wired network.now switch) table.now) }
+) -> Result<Vec<Bounds>, AllocError>
+    ensures { IfOk result (λ bounds. bounds.items ≡ switch_bounds network.now switch table.now) }
 {
     only_ports_count();
-    lesser_loads(alloc, table, &network.wired(switch))
+    let scatter = network.scatter_at(switch, table);
+    lesser_bounds(alloc, table, &network.wired(switch), scatter)
 }
 
 impl<'a> Hops<'a> {
-    /// The loads of each switch.
+    /// The bounds of each switch.
     pub(crate) fn new(alloc: Global, network: &'a Network) -> Result<Hops<'a>, AllocError>
         ensures { IfOk result (λ h. h ≡ network.now) }
     {
         let mut all = Vec::new(alloc);
         for (switch, table) in network.tables().iter().enumerate() {
-            all.push(loads_at(alloc, network, switch, table)?)?;
+            all.push(switch_bounds(alloc, network, switch, table)?)?;
         }
         Ok(Hops {
             network,
-            loads: all,
+            bounds: all,
         })
     }
 
@@ -120,12 +123,12 @@ impl<'a> Hops<'a> {
         self.network
     }
 
-    /// The load of a port of a switch.
-    fn load_at(&self, switch: usize, port: u8) -> Option<Load>
-        ensures { result ≡ option_and_then (λ t. option_map (lesser_load (is_wired self.now switch) t) (port_row t port)) (slice_get self.now.tables switch) }
+    /// The bounds of a port of a switch.
+    fn bounds_at(&self, switch: usize, port: u8) -> Option<Bounds>
+        ensures { result ≡ option_and_then (λ t. option_map (λ p. bounds_of (load_at self.now switch t p)) (port_row t port)) (slice_get self.now.tables switch) }
     {
         let table = self.network.table(switch)?;
-        load_in(table, kept_at(&self.loads, switch)?, port)
+        bounds_in(table, kept_at(&self.bounds, switch)?, port)
     }
 
     /// What a frame of a row's link takes from its arrival at the row's switch over a cable from a port.
@@ -135,9 +138,10 @@ impl<'a> Hops<'a> {
     {
         let table = self.network.table(row.switch)?;
         let start = table.port(port)?;
-        let load = self.load_at(row.switch, port)?;
+        let bounds = self.bounds_at(row.switch, port)?;
         let link = row.link;
-        let bound = within_reason(bound_in(bounds(&load), link.priority)?)?;
-        Some(hop(start.speed, table.latency(), bound, u64::from(cable)))
+        let bound = within_reason(bound_in(bounds, link.priority)?)?;
+        let least = self.network.least_at(row.switch, table);
+        Some(hop(start.speed, least, bound, u64::from(cable)))
     }
 }

@@ -16,7 +16,8 @@ pub fn rows_are_of_tables()
     ensures { RowsAreOfTables }
 {}
 
-/// Jitters that are enough for the bounds of the ports' whole loads, as they are printed of a table by itself, are enough: a
+/// Jitters that are enough for the bounds of the ports' whole loads, as they are printed of a table by itself where
+/// its latency does not vary, are enough: a
 /// network stays accepted that was accepted where a bound counted all that a port's links may send at once.
 pub fn whole_jitters_are_enough()
     ensures { WholeJittersAreEnough }

@@ -4,13 +4,15 @@ use std::marker::Model;
 
 /// A switch of the network.
 ///
-/// Contracts see it as a record of these fields, each a list of bytes.
+/// Contracts see it as a record of these fields, of which the texts are lists of bytes.
 #[derive(Debug, Drop)]
 pub struct Switch {
     /// From 1 to 16 ASCII letters, digits, `-` or `_`.
     pub name: String,
     /// The name of its table's file, as it is in the network file; it is not empty.
     pub path: String,
+    /// The least that it takes for a frame, in nanoseconds, at most 100,000; 0 where that is not known.
+    pub least: u64,
 }
 
 impl Model for Switch {
@@ -19,7 +21,7 @@ impl Model for Switch {
 
     ghost Value = { Seen };
 
-    ghost view = { λ s. record { name = string_bytes s.name; path = string_bytes s.path } };
+    ghost view = { λ s. record { name = string_bytes s.name; path = string_bytes s.path; least = s.least } };
 }
 
 /// A port of a switch.

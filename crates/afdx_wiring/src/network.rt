@@ -1,10 +1,10 @@
 //! A network: its wiring and the tables of its switches.
 
-ghost use Rattle.std.specs.Prelude.{◌≡◌, ◌<◌, ℕ, MatchResult, Ok, Err, option_map, option_copied, slice_get, find};
+ghost use Rattle.std.specs.Prelude.{◌≡◌, ◌<◌, ◌≤◌, ℕ, MatchResult, Ok, Err, option_map, option_copied, slice_get, find};
 ghost use Rattle.afdx_grouping.specs.Lined.{is_lined};
 ghost use Rattle.afdx_wiring.specs.File.{is_end};
-ghost use Rattle.afdx_wiring.specs.Net.{port_at, row_at, ingress, wire_to, is_wired};
-ghost use Rattle.afdx_wiring.specs.Order.{row_of, is_port, lost_port, leading, row_before};
+ghost use Rattle.afdx_wiring.specs.Net.{port_at, row_at, ingress, wire_to, is_wired, stated_least, least_at, scatter_at};
+ghost use Rattle.afdx_wiring.specs.Order.{row_of, is_port, lost_port, lost_latency, leading, row_before};
 
 use crate::fault::{At, NetworkFault};
 use crate::layout::{End, Layout, Wire};
@@ -95,6 +95,45 @@ impl Network {
     {
         check_ports(&tables, &layout.wires)?;
         Ok(Network { layout, tables })
+    }
+
+    /// Refuses the first switch that is said to take at least more than its table's latency: `Latency`. O(s), s switches.
+    pub fn check_latencies(&self) -> Result<(), NetworkFault>
+        ensures { result ≡ lost_latency self.now 0 self.now.tables }
+    {
+        for (switch, table) in self.tables.iter().enumerate() {
+            if table.latency() < self.stated_least(switch) {
+                return Err(NetworkFault::Latency(switch));
+            }
+        }
+        Ok(())
+    }
+
+    /// The least that the switch at a place is said to take, in nanoseconds; 0 where it is not known.
+    fn stated_least(&self, switch: usize) -> u64
+        ensures { result ≡ stated_least self.now switch }
+    {
+        match self.layout.switches.get(switch) {
+            Some(stated) => stated.least,
+            None => 0,
+        }
+    }
+
+    /// The least that the switch at a place, which has this table, takes for a frame, in nanoseconds. O(1).
+    pub(crate) fn least_at(&self, switch: usize, table: &Table) -> u64
+        ensures least { result ≡ least_at self.now switch table.now }
+        ensures most { result ≤ table.now.latency }
+        ensures small { result ≤ 100000 }
+    {
+        self.stated_least(switch).min(table.latency())
+    }
+
+    /// By how many nanoseconds its latencies may differ. O(1).
+    pub(crate) fn scatter_at(&self, switch: usize, table: &Table) -> u64
+        ensures scatter { result ≡ scatter_at self.now switch table.now }
+        ensures small { result ≤ 100000 }
+    {
+        table.latency() - self.least_at(switch, table)
     }
 
     /// What the network file says. O(1).

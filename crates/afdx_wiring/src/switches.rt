@@ -10,8 +10,12 @@ use crate::fault::{At, Key, NetworkFault};
 use crate::fields::Fields;
 use crate::layout::Switch;
 use crate::names::is_name;
+use afdx_units::MICROSECOND;
 use std::alloc::Global;
 use toml::Table;
+
+/// The greatest latency, in microseconds.
+const MAX_LATENCY_US: u64 = 100;
 
 /// Whether there is a switch of this name.
 fn has_switch(switches: &[Switch], name: &[u8]) -> bool
@@ -38,7 +42,7 @@ fn read_switch(
 ) -> Result<Switch, NetworkFault>
     ensures { Gives (λ s. s) result (switch_at fields.now.at before.now (table_view fields.now.table.now)) }
 {
-    fields.known(&[Key::Name, Key::Table])?;
+    fields.known(&[Key::Name, Key::Table, Key::LeastLatency])?;
     let name = fields.text(Key::Name)?;
     if !is_name(name.as_bytes()) {
         return Err(NetworkFault::Range(fields.at, Key::Name));
@@ -47,12 +51,14 @@ fn read_switch(
     if path.is_empty() {
         return Err(NetworkFault::Range(fields.at, Key::Table));
     }
+    let least_us = fields.optional_number(Key::LeastLatency, MAX_LATENCY_US, 0)?;
     if has_switch(before, name.as_bytes()) {
         return Err(NetworkFault::TwiceSwitch(fields.at));
     }
     Ok(Switch {
         name: String::from_str(alloc, name)?,
         path: String::from_str(alloc, path)?,
+        least: least_us * MICROSECOND,
     })
 }
 

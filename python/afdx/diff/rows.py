@@ -26,7 +26,8 @@ def table_facts(table: dict[str, Any], switch: str = "") -> Facts:
 
 def network_facts(network: dict[str, Any]) -> Facts:
     """Answers the switches and wires of a network file. Where its tables lie is no fact."""
-    facts: Facts = {Place("", "switch", switch["name"]): {} for switch in network.get("switch", [])}
+    facts: Facts = {Place("", "switch", switch["name"]): {"least_latency_us": str(switch.get("least_latency_us", 0))}
+                    for switch in network.get("switch", [])}
     for wire in network.get("wire", []):
         facts[Place("", "wire", wire["from"])] = {"to": wire["to"], "delay_ns": str(wire.get("delay_ns", 0))}
     return facts

@@ -22,6 +22,7 @@ def constant(text: str) -> str:
 
 
 LATENCY = Column("latency_us", whole(0, 100), "0")
+LEAST_LATENCY = Column("least_latency_us", whole(0, 100), "0")
 CONSTANT = Column("constant", constant, "03000000")
 
 
@@ -43,6 +44,7 @@ class Mapping:
     ends: ListMapping
     wires: ListMapping
     latency_us: int
+    least_latency_us: int
     constant: str
 
 
@@ -97,7 +99,10 @@ def read(command: str, path: Path | None) -> Mapping:
     except (UnicodeDecodeError, tomllib.TOMLDecodeError) as error:
         raise Failure(INPUT, f"{command}: not TOML: {error}, {path}") from error
     links, ends, wires = (reading.list_mapping(name) for name in LISTS)
-    switches = reading.fit("switches", (LATENCY, CONSTANT))
+    switches = reading.fit("switches", (LATENCY, LEAST_LATENCY, CONSTANT))
+    if not reading.wrong and value_of(LEAST_LATENCY, switches) > value_of(LATENCY, switches):
+        reading.wrong.append("above latency_us, switches.least_latency_us")
     if reading.wrong:
         raise Failure(INPUT, *(f"{command}: {wrong}, {path}" for wrong in sorted(reading.wrong)))
-    return Mapping(links, ends, wires, value_of(LATENCY, switches), value_of(CONSTANT, switches))
+    return Mapping(links, ends, wires, value_of(LATENCY, switches), value_of(LEAST_LATENCY, switches),
+                   value_of(CONSTANT, switches))

@@ -32,6 +32,7 @@ class Table:
     ports: dict[int, tuple[str, Port]] = field(default_factory=dict)
     rows: dict[int, Row] = field(default_factory=dict)
     document: TOMLDocument = field(default_factory=tomlkit.document)
+    least_latency_us: int = 0
 
     def names(self, numbers: Iterable[int]) -> str:
         return ", ".join(self.ports[number][0] for number in numbers)
@@ -93,18 +94,27 @@ def tables_of(network: Network, hops: dict[int, list[Hop]], mapping: Mapping) ->
             table = tables[hop.switch]
             table.rows[link.id] = Row(link, row_section(table, link, hop))
     for table in tables.values():
+        table.least_latency_us = mapping.least_latency_us
         table.document = document({"version": 3, "constant": mapping.constant, "latency_us": mapping.latency_us}, {
             "port": [port_section(name, port) for name, port in table.ports.values()],
             "link": [row.section for row in table.rows.values()]})
     return tables
 
 
-def network_document(switches: Iterable[str], cables: Iterable[Cable]) -> TOMLDocument:
+def switch_section(name: str, table: Table) -> Section:
+    """Answers the section of a switch in the network file. Its least latency is said if it is known to be above 0."""
+    values: dict[str, Value] = {"name": name, "table": f"{name}.toml"}
+    if table.least_latency_us:
+        values["least_latency_us"] = table.least_latency_us
+    return section("", values)
+
+
+def network_document(tables: dict[str, Table], cables: Iterable[Cable]) -> TOMLDocument:
     """Answers the network file: the switches, and both wires of each cable, by switch and port."""
     both = [[(cable.a, cable.b, cable.delay_ns), (cable.b, cable.a, cable.delay_ns)] for cable in cables]
     wires = sorted(chain(*both), key=lambda wire: (wire[0].switch, wire[0].number))
     return document({"version": 1}, {
-        "switch": [section("", {"name": switch, "table": f"{switch}.toml"}) for switch in switches],
+        "switch": [switch_section(name, table) for name, table in tables.items()],
         "wire": [section("", {"from": str(start), "to": str(end), "delay_ns": delay})
                  for start, end, delay in wires]})
 

@@ -1,11 +1,15 @@
--- The loads of a network's ports, as the code keeps them.
+-- The bounds of a network's ports, as the code keeps them.
 use Rattle.std.specs.Prelude.{ℕ, ◌+◌, List, [], ◌∷◌}
 use Rattle.afdx_table.specs.Content.{Content}
-use Rattle.afdx_load.specs.Load.{Load}
-use Rattle.afdx_grouping.specs.Groups.{lesser_loads}
-use Rattle.afdx_wiring.specs.Net.{Network, is_wired}
+use Rattle.afdx_load.specs.declared.delays.Bounds.{Bounds}
+use Rattle.afdx_grouping.specs.Groups.{lesser_bounds}
+use Rattle.afdx_wiring.specs.Net.{Network, is_wired, scatter_at}
+
+-- those of the ports of a switch with this table
+abbrev pub switch_bounds : Network → ℕ → Content → List Bounds
+switch_bounds net n t = lesser_bounds (scatter_at net n t) (is_wired net n) t
 
 -- by switch, of which n come before these
-abbrev pub loads_from : Network → ℕ → List Content → List (List Load)
-loads_from net n [] = []
-loads_from net n (t ∷ ts) = lesser_loads (is_wired net n) t ∷ loads_from net (n + 1) ts
+abbrev pub bounds_from : Network → ℕ → List Content → List (List Bounds)
+bounds_from net n [] = []
+bounds_from net n (t ∷ ts) = switch_bounds net n t ∷ bounds_from net (n + 1) ts

@@ -6,12 +6,13 @@ use Rattle.afdx_load.specs.Load.{load_of}
 use Rattle.afdx_load.specs.Bounds.{bounds_of}
 use Rattle.afdx_jitter.specs.declared.delays.Delays.{Delays}
 use Rattle.afdx_jitter.specs.Delay.{IsEnough}
-use Rattle.afdx_wiring.specs.Net.{Network, Row, Back, rows_of, bound_in, IsWayBack, source_of, AreDelaysBy}
+use Rattle.afdx_grouping.specs.Scatter.{scattered}
+use Rattle.afdx_wiring.specs.Net.{Network, Row, Back, rows_of, scatter_at, bound_in, IsWayBack, source_of, AreDelaysBy}
 use Rattle.afdx_wiring.specs.Rules.{HasJitters}
 
--- the bound by the port's whole load, as it is printed of a table by itself
+-- the bound by the port's whole load, as it is printed of a table by itself, where latencies may differ so much
 abbrev pub whole_bound_at : Network → Row → PortRow → Option ℕ
-whole_bound_at net r p = option_and_then (λ t. bound_in (bounds_of (load_of t.latency p.speed p.id t.links)) r.link.priority) (slice_get net.tables r.switch)
+whole_bound_at net r p = option_and_then (λ t. bound_in (bounds_of (scattered (scatter_at net r.switch t) (load_of t.latency p.speed p.id t.links))) r.link.priority) (slice_get net.tables r.switch)
 
 -- the jitters are enough for these bounds
 abbrev pub HasWholeJitters : Network → Type 0

@@ -1,4 +1,4 @@
-use Rattle.std.proofs.Common.{rules, ◌≡◌, ◌<◌, ◌∙◌, ℕ, length, length-set, arith}
+use Rattle.std.proofs.Common.{rules, ◌≡◌, ◌<◌, ◌∙◌, length, length-set, arith}
 use Rattle.afdx_wiring.specs.Net.{is_wired}
 use Rattle.afdx_wiring.proofs.Loaded.{one_more}
 use Rattle.afdx_wiring.proofs.network.Network.wired.Goals as goal
