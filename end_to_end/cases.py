@@ -11,7 +11,7 @@ A file has the list `case`; what `default` has, each of its cases has. A case ha
     change      other texts: `change.table = ["to = [2]", "to = [1]"]`, and further pairs
     stdin       what is on standard input
     status      the status that is wanted, 0 where it is missing
-    stdout      what is to be on standard output; nothing where it is missing and the status is not 0
+    stdout      what is to be on standard output; nothing where it is missing and the status is above 1
     lines       lines that are to be among those on standard output
     stderr      the line that is to be on standard error; none where it is missing
     out         the files that are to be in the folder `out`, all of them; none where it is missing
@@ -169,7 +169,7 @@ def differences(name: str, wanted: bytes, got: bytes) -> list[str]:
 def wrong_output(case: Case, out: bytes) -> list[str]:
     """Says what is not right on standard output."""
     missing = [f"no line {line}" for line in case.get("lines", []) if line not in out.decode().splitlines()]
-    wanted = case.get("stdout", "" if case.get("status", 0) else None)
+    wanted = case.get("stdout", "" if case.get("status", 0) > 1 else None)
     return missing + ([] if wanted is None else differences("standard output", bytes_of(wanted), out))
 
 

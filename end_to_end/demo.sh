@@ -42,12 +42,12 @@ says_so() {
     head -n 1 "$1" && diff <(head -n 1 "$1") <(tail -n 1 "$1") && head -n 1 "$1" | grep -q 'is not proved: ./demo --proved .*./test'
 }
 
-# proves_first: --proved has `rt run` prove and build the program, shows how far it is, notes it and runs it; nothing speaks of an
-# unproved one.
+# proves_first: --proved has `rt run` prove and build the program, which is to say that it is proved, shows how far it is, and runs it;
+# nothing speaks of an unproved one.
 proves_first() {
     by_rt asked --proved && grep -qx 'run -- --help' calls.txt && grep -qE '^ +[0-9]+ of [0-9]+ libraries, 0 min so far$' said.txt &&
-        shows_counters said.txt && ! grep 'not proved' said.txt &&
-        [ "$(cat asked/crates/afdx/out/afdx.proved)" = "$(sha256sum <"$afdx" | cut -d ' ' -f 1) of no commit" ]
+        shows_counters said.txt && ! grep 'not proved' said.txt && grep -x 'proved of no commit";' version.txt &&
+        cmp asked/crates/afdx/src/version.rt "$top/crates/afdx/src/version.rt"
 }
 
 # refuses WORD: an argument that is none.
@@ -66,7 +66,7 @@ cat >bin/rt <<END
 echo "\$*" >>"$room/calls.txt"
 [ ! -e "$room/fails" ] || { echo "no kit here" >&2; exit 2; }
 sleep 2
-mkdir -p out && cp "$afdx" out/afdx
+cp src/version.rt "$room/version.txt" && mkdir -p out && cp "$afdx" out/afdx
 END
 chmod +x bin/rt
 copied proved && copied unproved && copied asked || exit 1

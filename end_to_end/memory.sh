@@ -61,6 +61,7 @@ refuses "check" 0 "" /dev/null check table.toml
 refuses "size" 0 "" /dev/null size small.toml
 refuses "run" 0 "" /dev/null run table.toml in out
 refuses "run without the check" 0 "" /dev/null run table.toml in out --unchecked
+refuses "run that fails on a policed frame" 1 "" /dev/null run table.toml in out --verdict --fail-on policed
 refuses "run of captures of 17 MB" 0 "" /dev/null run table.toml whole out
 refuses "measure" 0 "" /dev/null measure table.toml in
 refuses "trace" 0 "" /dev/null trace table.toml in out

@@ -71,7 +71,7 @@ lines_are_the_pages() {
 
 # report_is_the_pages: so is the report of one frame of each kind.
 report_is_the_pages() {
-    "$afdx" run lossy.toml in out --unchecked >report.txt && sed -n '/^## The report/,$ { /^```text/,/^```$/ { /^```/! p } }' "$page" | diff - report.txt
+    "$afdx" run lossy.toml in out --unchecked --verdict >report.txt && sed -n '/^## The report/,$ { /^```text/,/^```$/ { /^```/! p } }' "$page" | diff - report.txt
 }
 
 table_ports 1 2 >table.toml

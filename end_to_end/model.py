@@ -2,7 +2,7 @@
 """A plain and slow model of the switch, written from docs/use/RULES.md and docs/use/FORMATS.md and from nothing else.
 
 Of a table it prints the load of each port, then `accepted`; with IN and OUT it reads IN/port-K.pcap, writes OUT/port-K.pcap and
-prints the counts.
+prints the counts, with `--verdict` the verdict's line after them.
 
 Accounts are windows, not levels; a port's whole list of frames is scheduled anew for each arrival. Instants are
 nanoseconds, all numbers whole. A refused capture or load is one line on standard error, with status 3 or 4. The table
@@ -264,6 +264,7 @@ def admission(port: Port, frames: list[Arrival]) -> list[Arrival]:
 class Outcome:
     captures: dict[int, bytes] = field(default_factory=dict)  # by port
     report: str = ""
+    verdict: str = ""
 
 
 def arrivals_of(table: Table, captures: dict[int, bytes]) -> list[Arrival]:
@@ -280,10 +281,23 @@ def arrivals_of(table: Table, captures: dict[int, bytes]) -> list[Arrival]:
     return arrivals
 
 
+def number_of(count: int, thing: str) -> str:
+    """So many of a thing."""
+    return f"{count} {thing}" if count == 1 else f"{count} {thing}s"
+
+
+def verdict_line(arrivals: list[Arrival], lost: int) -> str:
+    """The line of a run's verdict, from what became of each arrival, and the number of copies that were offered and not sent."""
+    policed = [arrival.link.id for arrival in arrivals if arrival.link and not arrival.passed]
+    filtered = [arrival for arrival in arrivals if not arrival.link]
+    links, frames = number_of(len(set(policed)), "link"), number_of(len(policed), "frame")
+    return f"policed {links} {frames}, filtered {len(filtered)}, lost {lost}\n"
+
+
 def run(table: Table, captures: dict[int, bytes]) -> Outcome:
     """What comes out of the switch for these captures, bytes by port."""
     arrivals = arrivals_of(table, captures)
-    outcome, ins, links, outs = Outcome(), [], [], []
+    outcome, ins, links, outs, lost = Outcome(), [], [], [], 0
     for port in table.ports:
         verdicts = [arrival.verdict for arrival in arrivals if arrival.port == port.id]
         counts = " ".join(f"{verdict} {verdicts.count(verdict)}" for verdict in VERDICTS)
@@ -291,6 +305,7 @@ def run(table: Table, captures: dict[int, bytes]) -> Outcome:
         offered = [arrival for arrival in arrivals if arrival.passed and port.id in arrival.link.to]
         admitted = admission(port, offered)
         events = service(port, admitted)
+        lost += len(offered) - sum(event.sent for event in events)
         outcome.captures[port.id] = capture_of(
             [Record(event.end, event.frame.size, event.frame.record.data) for event in events if event.sent])
         for priority in PRIORITIES:
@@ -303,6 +318,7 @@ def run(table: Table, captures: dict[int, bytes]) -> Outcome:
         passed = [arrival.passed for arrival in arrivals if arrival.link is link]
         links.append(f"link {link.id} passed {passed.count(True)} policed {passed.count(False)}")
     outcome.report = "".join(line + "\n" for line in ins + links + outs)
+    outcome.verdict = verdict_line(arrivals, lost)
     return outcome
 
 
@@ -464,12 +480,13 @@ def main(given: argparse.Namespace) -> str:
     Path(target).mkdir(parents=True, exist_ok=True)
     for port, capture in outcome.captures.items():
         Path(target, f"port-{port}.pcap").write_bytes(capture)
-    return outcome.report
+    return outcome.report + outcome.verdict if given.verdict else outcome.report
 
 
 def arguments() -> argparse.Namespace:
     parser = argparse.ArgumentParser(description=__doc__, formatter_class=argparse.RawDescriptionHelpFormatter)
     parser.add_argument("--size", action="store_true", help="says what each port needs and has, and the rules that it breaks")
+    parser.add_argument("--verdict", action="store_true", help="ends the counts with the verdict's line")
     parser.add_argument("table", help="its load is judged if no folder is named")
     parser.add_argument("folders", nargs="*", metavar="IN OUT", help="the captures that come in, and the folder of those that go out")
     given = parser.parse_args()

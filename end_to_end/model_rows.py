@@ -102,6 +102,7 @@ out 2 low offered 0 full 0 aged 0 sent 0
     babbled = run(DOUBLE, one, capture(*[(20, 1518, 0)] * 1000), HEADER)
     same(name, leaves(babbled, 3), [6_720, 129_760])
     sees(name, babbled, "link 20 passed 1 policed 999")
+    same(name, babbled.verdict, "policed 1 link 999 frames, filtered 0, lost 0\n")
     quiet = run(DOUBLE, one, HEADER, HEADER)
     same(name, babbled.captures[3][:100], quiet.captures[3])
 
@@ -127,6 +128,7 @@ def ports() -> None:
     outcome = run(text, capture((10, 1517, 0)), capture((20, 64, 0), (20, 1518, 122_960)), HEADER)
     same(name, leaves(outcome, 3), [122_960])
     sees(name, outcome, "out 3 low offered 3 full 1 aged 1 sent 1")
+    same(name, outcome.verdict, "policed 0 links 0 frames, filtered 0, lost 2\n")
     outcome = run(text, capture((10, 1517, 0)), capture((20, 64, 0), (20, 1518, 122_961)), HEADER)
     same(name, leaves(outcome, 3), [122_960, 246_001])
     name, text = "age at the edge", with_port(DOUBLE, 3, max_delay_us=100)
@@ -224,6 +226,7 @@ def every_verdict() -> None:
     sees("every verdict", outcome,
          "in 1 seen 9 cut 1 short 2 long 1 foreign 1 no-link 1 wrong-port 1 too-big 1 clean 1",
          "in 2 seen 1 cut 0 short 0 long 0 foreign 0 no-link 0 wrong-port 1 too-big 0 clean 0")
+    same("every verdict", outcome.verdict, "policed 0 links 0 frames, filtered 9, lost 0\n")
 
 
 def load() -> None:

@@ -14,16 +14,10 @@ committed() {
         git add . && GIT_COMMITTER_DATE='2024-02-29T12:00:00Z' git -c user.name=Packager -c user.email=packager@afdx.test commit -q -m Files)
 }
 
-# with_program FOLDER: the program where a build puts it, with its object, if the build has kept that, and with a note of its proofs.
+# with_program FOLDER: the program where a build puts it, with its object, if the build has kept that.
 with_program() {
     mkdir -p "$1/crates/afdx/out" && cp "$afdx" "$1/crates/afdx/out/afdx" || return 1
     [ ! -e "$afdx.o" ] || cp "$afdx.o" "$1/crates/afdx/out/afdx.o"
-    { echo "$(sum_of other.txt) of commit 1" && echo "$(sum_of "$afdx") of commit 2"; } >"$1/crates/afdx/out/afdx.proved"
-}
-
-# sum_of FILE: its SHA-256.
-sum_of() {
-    sha256sum <"$1" | cut -d ' ' -f 1
 }
 
 # makes_again: in another folder, by somebody with other habits, at another time.
@@ -55,33 +49,46 @@ is_older() {
     [ "$(printf '%s\n' "$1" "$2" | sort -V | head -n 1)" = "$1" ]
 }
 
-# notes_proofs: a note has the program's sum and the commit, and says if files differ from it, or if there is no commit.
-notes_proofs() {
-    local commit
-    mkdir -p noted/out && cp other.txt noted/out/program && (cd noted && git init -q . && echo out >.gitignore && git add . &&
-        git -c user.name=Packager -c user.email=packager@afdx.test commit -q -m Files) || return 1
-    commit=$(git -C noted rev-parse HEAD)
-    is_noted "of commit $commit" && echo >>noted/.gitignore && is_noted "of commit $commit-dirty" && rm -rf noted/.git && is_noted "of no commit"
+# says_proved: a build with proofs says so of the commit, says if files differ from it, and if there is no commit; afterwards, however
+# it has ended, the text says of no program that it is proved.
+says_proved() {
+    local source=built/crates/afdx/src commit
+    mkdir -p built/release "$source" && cp "$top/release/proved.py" built/release && cp "$top/crates/afdx/src/version.rt" "$source" &&
+        (cd built && git init -q . && git add . && git -c user.name=Packager -c user.email=packager@afdx.test commit -q -m Files) || return 1
+    commit=$(git -C built rev-parse HEAD)
+    built_as "proved $commit" 0 && built_as "proved $commit" 7 && killed_as "proved $commit" && echo >>built/release/proved.py &&
+        built_as "proved $commit-dirty" 0 && rm -rf built/.git && built_as "proved of no commit" 0
 }
 
-# is_noted WORDS: the note of the program in `noted` says so.
-is_noted() {
-    python3 "$top/release/proved.py" noted/out/program && cat noted/out/program.proved &&
-        [ "$(cat noted/out/program.proved)" = "$(sum_of other.txt) $1" ]
+# built_as LINE STATUS: while a command runs that ends so, this is the last line of the version, and then `not proved` is.
+built_as() {
+    local status=0
+    python3 built/release/proved.py sh -c "cp built/crates/afdx/src/version.rt during.txt && exit $2" || status=$?
+    says_meanwhile "$1" && [ "$status" -eq "$2" ]
 }
 
-# has_the_note: both packages say of which commit each program was built with its proofs, and which one is linked anew.
-has_the_note() {
-    echo "$(sum_of "$afdx") of commit 2" >wanted.txt
-    cmp -s "$afdx" "$unpacked/bin/afdx" || echo "$(sum_of "$unpacked/bin/afdx") of commit 2, linked anew" >>wanted.txt
-    diff wanted.txt "$unpacked/python/afdx.proved" && diff wanted.txt installed/usr/share/afdx/afdx.proved
+# killed_as LINE: the same of one that is stopped by a signal.
+killed_as() {
+    local status=0 build
+    rm during.txt
+    python3 built/release/proved.py sh -c 'cp built/crates/afdx/src/version.rt during.txt && exec sleep 60' &
+    build=$!
+    until [ -s during.txt ]; do sleep 0.1; done
+    kill "$build" && wait "$build" || status=$?
+    says_meanwhile "$1" && [ "$status" -eq 143 ]
 }
 
-# says_that_none_is_noted: of a program that is not the one of the note.
-says_that_none_is_noted() {
-    echo "$(sum_of other.txt) of commit 1" >two/crates/afdx/out/afdx.proved
-    two/package >said.txt && cat said.txt && grep -qx 'No note of a build with proofs has this program: .*' said.txt &&
-        ! tar -t -z -f "two/out/dist/$unpacked.tar.gz" | grep 'afdx\.proved'
+# says_meanwhile LINE: the last line was this one, and is `not proved` again.
+says_meanwhile() {
+    cat during.txt && [ "$(tail -n 1 during.txt)" = "$1\";" ] && cmp built/crates/afdx/src/version.rt "$top/crates/afdx/src/version.rt" &&
+        [ "$(tail -n 1 built/crates/afdx/src/version.rt)" = 'not proved";' ]
+}
+
+# says_what_it_is: ./package says so of a program that is not proved of the newest commit.
+says_what_it_is() {
+    local said
+    said=$("$afdx" --version | sed -n 3p)
+    [ -n "$said" ] && grep -qxF "The program does not say that it is proved of the newest commit, but: $said" made.txt
 }
 
 # has_the_program: the .deb has it byte for byte, and so has the .tar.gz, but where it is said to be linked anew: that one asks for
@@ -209,8 +216,7 @@ completes() {
     (cd typing && PATH=$room/stubs:$PATH python3 "$top/end_to_end/completing.py" "$1" "../$unpacked/share" cases.txt)
 }
 
-echo other >other.txt
-check "what is noted of a build with proofs" notes_proofs
+check "what a program says of its proofs" says_proved
 check "a copy of the files" committed one
 with_program one
 (cd one && ./package) >made.txt 2>&1
@@ -220,7 +226,7 @@ unpacked=afdx-$number-x86_64-linux
 deb=one/out/dist/afdx_${number}_amd64.deb
 check "checksums of both packages, and no other file" has_sums
 check "the same bytes again" makes_again
-check "a program of which nothing is noted" says_that_none_is_noted
+check "a program that is not proved of this commit" says_what_it_is
 check "a program for older C libraries" links_for_older_ones
 check "an object that is another's" leaves_other_objects
 check "another argument" refuses "usage: ./package [--try [SCRIPT..]]" --sign
@@ -235,7 +241,6 @@ pages=$unpacked/share/man/man1
 mkdir -p installed/lib/x86_64-linux-gnu installed/lib64 stubs typing/{inner,older,outer}
 cp -L /lib/x86_64-linux-gnu/libc.so.6 installed/lib/x86_64-linux-gnu && cp -L /lib64/ld-linux-x86-64.so.2 installed/lib64
 check "both have the program" has_the_program
-check "both say of which commit it was proved" has_the_note
 check "the notices of what is linked in" has_notices
 check "lintian finds no error" lintian --fail-on error "$deb"
 check "what the program needs" says_what_it_needs
@@ -255,6 +260,7 @@ cat >typing/cases.txt <<'END'
 afdx mea<TAB> | afdx measure
 afdx netw<TAB> jit<TAB> | afdx network jitter
 afdx run --un<TAB> tab<TAB> inn<TAB> out<TAB> | afdx run --unchecked table.toml inner outer
+afdx run --verd<TAB> --fail<TAB> lost tab<TAB> inn<TAB> out<TAB> | afdx run --verdict --fail-on lost table.toml inner outer
 afdx alone --id 10 --jit<TAB> | afdx alone --id 10 --jitter
 afdx --vers<TAB> | afdx --version
 afdx-view --ans<TAB> old<TAB> tab<TAB> | afdx-view --answers older table.toml

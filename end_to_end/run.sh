@@ -12,12 +12,12 @@ network=$top/examples/network
 ports=(1 2 3 4)
 cd "$room" || exit 1
 
-# as_modelled TABLE IN: status, captures, report and the line on standard error are the model's.
+# as_modelled TABLE IN: status, captures, report with its verdict and the line on standard error are the model's.
 as_modelled() {
     local status=0 wanted=0
     rm -rf out model && mkdir out model
-    "$afdx" run "$1" "$2" out --unchecked >report.txt 2>said.txt || status=$?
-    python3 "$model" "$1" "$2" model >wanted.txt 2>line.txt || wanted=$?
+    "$afdx" run "$1" "$2" out --unchecked --verdict >report.txt 2>said.txt || status=$?
+    python3 "$model" --verdict "$1" "$2" model >wanted.txt 2>line.txt || wanted=$?
     echo "status $status: $(cat said.txt)"
     [ "$status" -eq "$wanted" ] && cmp line.txt said.txt && cmp wanted.txt report.txt && diff -r model out
 }
@@ -25,7 +25,7 @@ as_modelled() {
 # checked_as_modelled TABLE IN: the table's lines are the model's, and the checked run gives what the unchecked one gave.
 checked_as_modelled() {
     "$afdx" check "$1" >lines.txt && python3 "$model" "$1" >wanted_lines.txt && cmp lines.txt wanted_lines.txt &&
-        rm -rf checked && mkdir checked && "$afdx" run "$1" "$2" checked >checked.txt && cmp checked.txt report.txt && diff -r checked out
+        rm -rf checked && mkdir checked && "$afdx" run "$1" "$2" checked --verdict >checked.txt && cmp checked.txt report.txt && diff -r checked out
 }
 
 # are_read: capinfos and tshark take each capture that came out without complaint, and see as many frames as were sent.

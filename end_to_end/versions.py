@@ -11,7 +11,7 @@ import sys
 from pathlib import Path
 
 TOP = Path(__file__).resolve().parents[1]
-CODE = ("crates/afdx_arguments/src/command.rt", r'const VERSION: &str = "([^"\\]+)')
+CODE = ("crates/afdx/src/version.rt", r'const VERSION: &str = "(\S+)$')
 PACKAGE = ("python/afdx/__init__.py", r'^__version__ = "(.*)"$')
 CHANGELOG = ("CHANGELOG.md", r"^## \[(\d\S*)\] - \d{4}-\d{2}-\d{2}$")
 

@@ -50,12 +50,6 @@ def beside(package: Path) -> list[Path]:
     return [tree / "crates" / "afdx" / "out" / "afdx", tree / "bin" / "afdx", *installed]
 
 
-def notes_beside(package: Path) -> list[Path]:
-    """Answers where a note says which programs were built with their proofs: beside the build of a repository, and in
-    the package of a release beside this one."""
-    return [package.parents[1] / "crates" / "afdx" / "out" / "afdx.proved", package.parent / "afdx.proved"]
-
-
 def find_program() -> str | None:
     """Finds the program, the first of these that is there: what AFDX in the environment names; the repository's own
     build, crates/afdx/out/afdx, where these commands are in a repository; where they came in a package the program of

@@ -138,23 +138,17 @@ def test_a_time_that_is_none(folder: Path, monkeypatch: pytest.MonkeyPatch, time
     assert (failure.status, failure.lines) == (USAGE, (f"afdx-view: SOURCE_DATE_EPOCH is not a time: {time}",))
 
 
-@pytest.mark.parametrize("package, note", [
-    ("clone/python/afdx", "clone/crates/afdx/out/afdx.proved"),
-    ("afdx-1.0/python/afdx", "afdx-1.0/python/afdx.proved"),
-    ("usr/share/afdx/afdx", "usr/share/afdx/afdx.proved")])
-def test_of_which_commit_the_program_was_proved(tmp_path: Path, monkeypatch: pytest.MonkeyPatch, package: str,
-                                                note: str) -> None:
+@pytest.mark.parametrize("said, proofs", [
+    ("afdx 1.0\nkit 4\nproved 12ab\n", "proved 12ab"), ("afdx 1.0\nkit 4\nnot proved\n", "not proved"),
+    ("afdx 1.0\nkit 4\n", "the program does not say whether it is proved")])
+def test_what_the_program_says_of_its_proofs(tmp_path: Path, said: str, proofs: str) -> None:
     file = tmp_path / "program"
-    file.write_text("#!/bin/sh\necho afdx 1.0\n")
+    file.write_text(f"#!/bin/sh\ncat <<'END'\n{said}END\n")
     file.chmod(0o755)
-    monkeypatch.setenv("AFDX", str(file))
-    monkeypatch.setattr(program, "PACKAGE", tmp_path / package)
-    asked = program.Program("afdx-view")
-    assert provenance.provenance_of("afdx-view", asked, [], []).proved is None
-    number = hashlib.sha256(file.read_bytes()).hexdigest()
-    (tmp_path / note).parent.mkdir(parents=True)
-    (tmp_path / note).write_text(f"{'0' * 64} of commit 1\n{number} of commit 2, linked anew\n")
-    assert provenance.provenance_of("afdx-view", asked, [], []).proved == "of commit 2, linked anew"
+    asked = program.Program("afdx-view", str(file))
+    origin = provenance.provenance_of("afdx-view", asked, [], [])
+    assert (origin.program, origin.proofs) == ("afdx 1.0 · kit 4", proofs)
+    assert origin.sums == [("afdx", hashlib.sha256(file.read_bytes()).hexdigest())]
 
 
 def test_the_promise_is_that_of_readme() -> None:

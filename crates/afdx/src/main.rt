@@ -7,6 +7,9 @@
 //! of each frame and copy. `afdx network` checks a network of switches, finds its jitters and runs it.
 #![tactic(auto)]
 
+mod version;
+
+use crate::version::VERSION;
 use afdx_failures::{Failure, report};
 use afdx_folder::Disk;
 use afdx_serve::serve;
@@ -27,6 +30,7 @@ fn main(rt: HostRuntime) -> ExitCode {
     let ending = match arguments(&rt) {
         Ok(arguments) => serve(
             rt.alloc(),
+            VERSION,
             &arguments,
             &mut rt.stdin(),
             &mut rt.stdout(),

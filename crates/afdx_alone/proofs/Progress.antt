@@ -16,7 +16,7 @@ use Rattle.afdx_pcap.specs.Fault.{last_stamp}
 use Rattle.afdx_pcap.specs.Reading.{AreReadUpTo}
 use Rattle.afdx_pcap.specs.Text.{capture_text, record_text}
 use Rattle.afdx_filter.specs.Frame.{frame_of}
-use Rattle.afdx_arguments.specs.declared.alone.Alone.{Alone}
+use Rattle.afdx_alone.specs.declared.link.Alone.{Alone}
 use Rattle.afdx_alone.specs.Own.{is_own}
 use Rattle.afdx_alone.specs.declared.policing.Policing.{Policing}
 use Rattle.afdx_alone.specs.Inner.Offer.{IsOffered}

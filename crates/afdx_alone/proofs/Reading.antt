@@ -8,7 +8,7 @@ use Rattle.afdx_pcap.specs.declared.fault.PcapFault.{PcapFault}
 use Rattle.afdx_pcap.specs.Record.{Record}
 use Rattle.afdx_pcap.specs.Fault.{IsFault, IsEarlyFault}
 use Rattle.afdx_pcap.specs.Reading.{AreReadUpTo}
-use Rattle.afdx_arguments.specs.declared.alone.Alone.{Alone}
+use Rattle.afdx_alone.specs.declared.link.Alone.{Alone}
 use Rattle.afdx_alone.specs.declared.fault.AloneFault.{AloneFault}
 use Rattle.afdx_alone.specs.declared.fault.AloneFault.TheVariants.{Memory, Capture}
 use Rattle.afdx_alone.specs.declared.fault.ReadFault.TheVariants.{Alone as NoAnswer}

@@ -13,7 +13,7 @@ use Rattle.afdx_pcap.specs.Record.{captured_limit}
 use Rattle.afdx_pcap.specs.Capture.{header_of, head_of, checked_header, format_of, Splits, IsCapture}
 use Rattle.afdx_pcap.specs.Number.{number, field}
 use Rattle.afdx_pcap.specs.Fault.{head_fault, data_fault, record_fault, IsFault, is_cut, last_stamp}
-use Rattle.afdx_arguments.specs.declared.alone.Alone.{Alone}
+use Rattle.afdx_alone.specs.declared.link.Alone.{Alone}
 use Rattle.afdx_alone.specs.declared.fault.AloneFault.{AloneFault}
 use Rattle.afdx_alone.specs.declared.policing.Policing.{Policing}
 use Rattle.afdx_alone.specs.declared.fault.AloneFault.TheVariants as alone

@@ -6,7 +6,7 @@ use Rattle.afdx_pcap.specs.Record.{Record}
 use Rattle.afdx_pcap.specs.Capture.{IsCapture}
 use Rattle.afdx_pcap.specs.Text.{capture_text}
 use Rattle.afdx_filter.specs.Frame.{frame_of}
-use Rattle.afdx_arguments.specs.declared.alone.Alone.{Alone}
+use Rattle.afdx_alone.specs.declared.link.Alone.{Alone}
 use Rattle.afdx_alone.specs.Own.{is_own}
 
 abbrev pub account_terms : Alone → Terms

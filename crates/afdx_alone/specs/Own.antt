@@ -4,7 +4,7 @@ use Rattle.std.specs.Str.{bytes_eq}
 use Rattle.afdx_frame.specs.Address.{constant_of, link_of}
 use Rattle.afdx_units.specs.Line.{size_of, least_size, greatest_size}
 use Rattle.afdx_pcap.specs.Record.{Record}
-use Rattle.afdx_arguments.specs.declared.alone.Alone.{Alone}
+use Rattle.afdx_alone.specs.declared.link.Alone.{Alone}
 
 -- profile: the constant field of every link
 abbrev pub constant : List ℕ

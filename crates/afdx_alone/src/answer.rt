@@ -5,9 +5,9 @@ ghost use Rattle.afdx_alone.specs.Answer.{IsAnswer, IsAnswerTo};
 ghost use Rattle.afdx_alone.specs.Faults.{IsFaultOf, IsReadFault};
 
 use crate::fault::{AloneFault, ReadFault};
+use crate::link::Alone;
 use crate::policing::Policing;
 use crate::window::Window;
-use afdx_arguments::Alone;
 use afdx_folder::TURNS;
 use afdx_pcap::laws::{early_faults_stay, rests_are_read_on};
 use std::alloc::Allocator;

@@ -7,10 +7,11 @@
 mod answer;
 mod fault;
 pub mod laws;
+mod link;
 mod own;
 mod policing;
 mod window;
 
-pub use afdx_arguments::Alone;
 pub use answer::{alone, read_alone};
 pub use fault::{AloneFault, ReadFault};
+pub use link::Alone;

@@ -4,7 +4,7 @@ ghost use Rattle.std.specs.Prelude.{◌≡◌, ◌≤◌, length};
 ghost use Rattle.afdx_units.specs.Line.{size_of};
 ghost use Rattle.afdx_alone.specs.Own.{is_addressed, is_own};
 
-use afdx_arguments::Alone;
+use crate::link::Alone;
 use afdx_frame::view;
 use afdx_pcap::Record;
 use afdx_units::{GREATEST_SIZE, LEAST_SIZE, size};

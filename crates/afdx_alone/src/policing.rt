@@ -11,10 +11,10 @@ ghost use Rattle.afdx_alone.specs.Inner.Offer.{IsOffered};
 ghost use Rattle.afdx_alone.specs.Inner.Polices.{Polices, HasOffered, Leaves, IsPieceFault};
 
 use crate::fault::AloneFault;
+use crate::link::Alone;
 use crate::own::{frame_size, is_own};
 use afdx_account::laws::{next_joins_where_it_conforms, passed_by_their_frames};
 use afdx_account::{ByteAccount, Meter};
-use afdx_arguments::Alone;
 use afdx_pcap::laws::{
     one_more_record_is_appended, rests_are_read_on, taken_records_are_the_first,
 };

@@ -1,2 +1,3 @@
 pub mod ArgumentLemmas
 pub mod CommandLemmas
+pub mod FailOnLemmas

@@ -16,6 +16,10 @@ path_rule name = record (new_rule name) { required = true }
 abbrev pub flag_rule : Text → Rule
 flag_rule name = record (new_rule name) { long = Some name; action = Some SetTrue }
 
+-- an option with a text
+abbrev pub list_rule : Text → Rule
+list_rule name = record (new_rule name) { long = Some name; value_names = 1 }
+
 -- afdx alone --id N --bag MS --jitter US --size N
 unfoldable pub alone_app : App
 alone_app =
@@ -30,11 +34,15 @@ check_app = with_rule (new_app (codes "check")) (path_rule (codes "TABLE"))
 unfoldable pub size_app : App
 size_app = with_rule (new_app (codes "size")) (path_rule (codes "TABLE"))
 
--- afdx run TABLE IN OUT [--unchecked], and trace with the same arguments
+-- afdx trace TABLE IN OUT [--unchecked], and run with further ones
 unfoldable pub paths_app : Text → App
 paths_app name =
     with_rule (with_rule (with_rule (with_rule (new_app name) (path_rule (codes "TABLE"))) (path_rule (codes "IN"))) (path_rule (codes "OUT")))
     (flag_rule (codes "unchecked"))
+
+-- afdx run TABLE IN OUT [--unchecked] [--verdict] [--fail-on WORDS]
+unfoldable pub run_app : App
+run_app = with_rule (with_rule (paths_app (codes "run")) (flag_rule (codes "verdict"))) (list_rule (codes "fail-on"))
 
 -- afdx measure TABLE IN [--unchecked]
 unfoldable pub measure_app : App
@@ -54,7 +62,7 @@ program =
     with_subcommand
     (with_subcommand
     (with_subcommand
-    (with_subcommand (with_subcommand (with_subcommand (with_subcommand bare_program alone_app.top) check_app.top) size_app.top) (paths_app (codes "run")).top)
+    (with_subcommand (with_subcommand (with_subcommand (with_subcommand bare_program alone_app.top) check_app.top) size_app.top) run_app.top)
     measure_app.top)
     (paths_app (codes "trace")).top)
     network_app.top

@@ -1,3 +1,3 @@
-pub mod Link
 pub mod Commands
+pub mod FailOn
 pub mod Requests

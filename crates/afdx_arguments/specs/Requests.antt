@@ -6,8 +6,9 @@ use Rattle.std.specs.Str.Parse.{ParsesUnsigned}
 use Rattle.clap.specs.Words.{App, IsAmong, Kinds, Row, Text, fault_of, first_of, one_of, subcommand_of}
 use Rattle.clap.specs.declared.error.kind.ErrorKind.{ErrorKind}
 use Rattle.clap.specs.declared.error.kind.ErrorKind.TheVariants.{DisplayHelp, DisplayVersion, OutOfMemory}
-use Rattle.afdx_arguments.specs.declared.alone.Alone.{Alone}
+use Rattle.afdx_alone.specs.declared.link.Alone.{Alone}
 use Rattle.afdx_arguments.specs.declared.request.Paths.{Paths}
+use Rattle.afdx_arguments.specs.declared.request.RunOptions.{RunOptions}
 use Rattle.afdx_arguments.specs.declared.request.Inputs.{Inputs}
 use Rattle.afdx_arguments.specs.declared.request.NetworkPaths.{NetworkPaths}
 use Rattle.afdx_arguments.specs.declared.request.NetworkRequest.{NetworkRequest}
@@ -16,7 +17,8 @@ use Rattle.afdx_arguments.specs.declared.request.Request.{Request}
 use Rattle.afdx_arguments.specs.declared.request.Request.TheVariants as request
 use Rattle.afdx_arguments.specs.declared.request.NoRequest.{NoRequest}
 use Rattle.afdx_arguments.specs.declared.request.NoRequest.TheVariants.{Help, Usage, Memory}
-use Rattle.afdx_arguments.specs.Link.{HasNumbers}
+use Rattle.afdx_alone.specs.Link.{HasNumbers}
+use Rattle.afdx_arguments.specs.FailOn.{Chooses}
 use Rattle.afdx_arguments.specs.Commands.{program, network_program}
 
 -- the entry of an option is this number
@@ -55,6 +57,11 @@ pub record HasInputs (rows : List Row) (inputs : Inputs) : Type 0 where
   pub has_input : inputs.input.now ≢ []
   pub unchecked : inputs.unchecked ≡ is_set (codes "unchecked") rows
 
+-- the entries say what is asked of a run beside its files
+pub record HasOptions (rows : List Row) (options : RunOptions) : Type 0 where
+  pub verdict : options.verdict ≡ is_set (codes "verdict") rows
+  pub fail_on : Chooses (first_of (codes "fail-on") rows) options.fail_on
+
 -- the entries name the files of a network's run
 pub record HasNetworkPaths (rows : List Row) (paths : NetworkPaths) : Type 0 where
   pub network : first_of (codes "NET") rows ≡ Some paths.network.now
@@ -76,7 +83,7 @@ AsksFor None r = ⊥
 AsksFor (Some (name, rows)) (request.Alone link) = (name ≡ codes "alone") × HasLink rows link
 AsksFor (Some (name, rows)) (request.Check table) = (name ≡ codes "check") × (first_of (codes "TABLE") rows ≡ Some table.now)
 AsksFor (Some (name, rows)) (request.Size table) = (name ≡ codes "size") × (first_of (codes "TABLE") rows ≡ Some table.now)
-AsksFor (Some (name, rows)) (request.Run paths) = (name ≡ codes "run") × HasPaths rows paths
+AsksFor (Some (name, rows)) (request.Run paths options) = (name ≡ codes "run") × HasPaths rows paths × HasOptions rows options
 AsksFor (Some (name, rows)) (request.Measure inputs) = (name ≡ codes "measure") × HasInputs rows inputs
 AsksFor (Some (name, rows)) (request.Trace paths) = (name ≡ codes "trace") × HasPaths rows paths
 AsksFor (Some (name, rows)) (request.Network r) = ⊥

@@ -3,18 +3,20 @@
 ghost use Rattle.std.specs.Prelude.{◌≡◌, ℕ, codes, true, false, map, option_map, string_bytes, MatchOption, MatchResult, Some};
 ghost use Rattle.std.specs.Str.{bytes_eq};
 ghost use Rattle.clap.specs.Words.{app_of, fault_of, first_of, found_of, is_simple, is_simple_and_free, kind_of, rows_of, subcommand_rows_of};
-ghost use Rattle.afdx_arguments.specs.declared.alone.Alone.{Alone as Link};
+ghost use Rattle.afdx_alone.specs.declared.link.Alone.{Alone as Link};
 ghost use Rattle.afdx_arguments.specs.declared.request.Paths.{Paths as Files};
 ghost use Rattle.afdx_arguments.specs.declared.request.Inputs.{Inputs as Given};
+ghost use Rattle.afdx_arguments.specs.declared.request.RunOptions.{RunOptions as Options};
 ghost use Rattle.afdx_arguments.specs.declared.request.Request.{Request as Asked};
-ghost use Rattle.afdx_arguments.specs.Requests.{HasNumber, is_set, HasLink, HasPaths, HasInputs, AsksFor, Explains, Reads};
+ghost use Rattle.afdx_arguments.specs.Requests.{HasNumber, is_set, HasLink, HasPaths, HasInputs, HasOptions, AsksFor, Explains, Reads};
 ghost use Rattle.afdx_arguments.specs.Requests.{HasMatches, HasNoMatches, is_network};
 
-use crate::alone::Alone;
 use crate::command::program;
+use crate::fail_on::FailOn;
 use crate::network_arguments::network_asked;
 use crate::network_command::network_program;
-use crate::request::{Inputs, NoRequest, Paths, Request};
+use crate::request::{Inputs, NoRequest, Paths, Request, RunOptions};
+use afdx_alone::Alone;
 use clap::error::ErrorKind;
 use clap::{ArgMatches, Command, Error};
 use std::alloc::Global;
@@ -94,6 +96,19 @@ fn inputs_of<'a>(matches: &ArgMatches<'a>) -> Option<Inputs<'a>>
     })
 }
 
+/// What is asked of a run beside its files.
+fn options_of(matches: &ArgMatches<'_>) -> Option<RunOptions>
+    ensures { MatchOption result ((options : Options) → HasOptions (rows_of (found_of matches.now)) options → ⊥)
+        (HasOptions (rows_of (found_of matches.now))) }
+{
+    let verdict = flag(matches, "verdict");
+    let fail_on = match argument(matches, "fail-on") {
+        Some(list) => FailOn::of_list(list)?,
+        None => FailOn::default(),
+    };
+    Some(RunOptions { verdict, fail_on })
+}
+
 /// What a subcommand of runs asks for.
 fn run_asked<'a>(name: &str, inner: &ArgMatches<'a>) -> Option<Request<'a>>
     requires alone { bytes_eq name.now (codes "alone") ≡ false }
@@ -104,7 +119,8 @@ fn run_asked<'a>(name: &str, inner: &ArgMatches<'a>) -> Option<Request<'a>>
 {
     if name == "run" {
         let paths = paths_of(inner)?;
-        Some(Request::Run(paths))
+        let options = options_of(inner)?;
+        Some(Request::Run(paths, options))
     } else if name == "measure" {
         let inputs = inputs_of(inner)?;
         Some(Request::Measure(inputs))
@@ -194,11 +210,15 @@ fn parse_network<'a>(alloc: Global, arguments: &'a [String]) -> Result<Request<'
 }
 
 /// What arguments ask for that are of no network.
-fn parse_other<'a>(alloc: Global, arguments: &'a [String]) -> Result<Request<'a>, NoRequest>
+fn parse_other<'a>(
+    alloc: Global,
+    version: &'a str,
+    arguments: &'a [String],
+) -> Result<Request<'a>, NoRequest>
     requires { is_network (map string_bytes arguments.now) ≡ false }
     ensures { Reads (map string_bytes arguments.entry.now) result }
 {
-    let Ok(command) = program(alloc) else {
+    let Ok(command) = program(alloc, version) else {
         return Err(NoRequest::Memory);
     };
     let matches = matches_of(alloc, command, arguments)?;
@@ -208,20 +228,25 @@ fn parse_other<'a>(alloc: Global, arguments: &'a [String]) -> Result<Request<'a>
     }
 }
 
-/// What the arguments ask for, of which the first is the program's name.
+/// What the arguments ask for, of which the first is the program's name. `version` is what follows the name in the text of the version.
 ///
 /// # Errors
 ///
 /// `Help` with its text where `clap` is asked for help or the version; `Memory` where memory ran out; `Usage` where `clap` refuses
-/// the arguments for another cause, an option's number is out of its limits, or IN or OUT is empty.
+/// the arguments for another cause, an option's number is out of its limits, IN or OUT is empty, or the list of what a run is to fail
+/// on has another word or one twice.
 ///
 /// O(arguments).
-pub fn parse<'a>(alloc: Global, arguments: &'a [String]) -> Result<Request<'a>, NoRequest>
+pub fn parse<'a>(
+    alloc: Global,
+    version: &'a str,
+    arguments: &'a [String],
+) -> Result<Request<'a>, NoRequest>
     ensures { Reads (map string_bytes arguments.entry.now) result }
 {
     if is_network(arguments) {
         parse_network(alloc, arguments)
     } else {
-        parse_other(alloc, arguments)
+        parse_other(alloc, version, arguments)
     }
 }

@@ -3,7 +3,7 @@
 ghost use Rattle.std.specs.Prelude.{◌≡◌, codes, false, IfOk};
 ghost use Rattle.clap.specs.Words.{App, app_of, new_app, rule_of, with_rule, with_subcommand};
 ghost use Rattle.clap.specs.declared.builder.command.Command.TheViews.{out-Command};
-ghost use Rattle.afdx_arguments.specs.Commands.{number_rule, path_rule, flag_rule, alone_app, check_app, size_app, paths_app, measure_app, network_app, bare_program, program};
+ghost use Rattle.afdx_arguments.specs.Commands.{number_rule, path_rule, flag_rule, list_rule, alone_app, check_app, size_app, paths_app, run_app, measure_app, network_app, bare_program, program};
 
 use clap::builder::ValueParser;
 use clap::{Arg, ArgAction, Command};
@@ -40,6 +40,17 @@ fn flag<'a>(alloc: Global, name: &'a str, about: &'a str) -> Arg<'a>
         .action(ArgAction::SetTrue)
 }
 
+/// An option with a text.
+fn list_option<'a>(alloc: Global, name: &'a str, value: &'a str, about: &'a str) -> Arg<'a>
+    ensures rule { rule_of result ≡ list_rule name.entry.now }
+    ensures local { result.global ≡ false }
+{
+    Arg::new(alloc, name)
+        .long(name)
+        .value_name(value)
+        .help(about)
+}
+
 /// What the help of `alone` says at its end.
 const ALONE: &str = "Reads a capture on standard input and writes the capture of the frames that the
 link's account passes on standard output.
@@ -74,8 +85,14 @@ new, after a failed write all are. A file that was read is not replaced. Capture
 of ports that the table lacks are not looked at. Names are printed as they were
 given.
 
-Status: 0 done, 2 arguments, 3 no table or capture, 4 a port cannot give what its
-links ask for, 5 memory or a device.
+With --verdict the report has one more line, its last: how many links had policed
+frames, how many these were, how many frames the filter dropped, and how many
+copies were lost, refused by a full buffer or discarded for age. WORDS are policed,
+filtered, lost or several of these with commas between them, as policed,lost: the
+run ends with status 1 if there was one. All is put and written as without it.
+
+Status: 0 done, 1 done with one of WORDS, 2 arguments, 3 no table or capture, 4 a
+port cannot give what its links ask for, 5 memory or a device.
 
 Example: mkdir out && afdx run table.toml in out";
 
@@ -106,9 +123,6 @@ Example: mkdir rows && afdx trace table.toml in rows";
 
 /// What the help of `network` says at its end. Its own commands are read by a program of their own.
 const NETWORK: &str = "Its commands are check, jitter and run: see afdx network --help.";
-
-/// What the program says of its version: its own number, and the kit that it is proved with.
-const VERSION: &str = "0.1.0\nrattle-kit-13f logic dac8208d650f15bf";
 
 /// A command without its arguments.
 pub(crate) fn with_no_arguments<'a>(
@@ -218,12 +232,17 @@ fn with_paths<'a>(
 }
 
 fn run<'a>(alloc: Global) -> Result<Command<'a>, AllocError>
-    ensures app { IfOk result (λ c. app_of c ≡ paths_app (codes "run")) }
+    ensures app { IfOk result (λ c. app_of c ≡ run_app) }
     ensures local { IfOk result (λ c. (out-Command c).has_globals ≡ false) }
 {
     let about = "Runs the switch over one capture for each port";
     let output = "The folder for the captures of the output ports";
-    with_paths(alloc, "run", about, RUN, output)
+    let sums = "Adds a last line to the report that sums it up";
+    let verdict = flag(alloc, "verdict", sums);
+    let fails = "Ends with status 1 if there was one of WORDS";
+    let fail_on = list_option(alloc, "fail-on", "WORDS", fails);
+    let command = with_paths(alloc, "run", about, RUN, output);
+    with_argument(with_argument(command, verdict), fail_on)
 }
 
 fn measure<'a>(alloc: Global) -> Result<Command<'a>, AllocError>
@@ -258,26 +277,26 @@ fn network<'a>(alloc: Global) -> Command<'a>
 }
 
 /// The program without its commands.
-fn bare_program<'a>(alloc: Global) -> Command<'a>
+fn bare_program<'a>(alloc: Global, version: &'a str) -> Command<'a>
     ensures { app_of result ≡ bare_program }
 {
     Command::new(alloc, "afdx")
         .about("An AFDX switch over captured traffic")
-        .version(VERSION)
+        .version(version)
         .subcommand_required(true)
 }
 
 /// The program with the commands of one link and of a table's load.
-fn with_checks<'a>(alloc: Global) -> Result<Command<'a>, AllocError>
+fn with_checks<'a>(alloc: Global, version: &'a str) -> Result<Command<'a>, AllocError>
     ensures { IfOk result (λ c. app_of c ≡ with_subcommand (with_subcommand bare_program alone_app.top) check_app.top) }
 {
-    let program = with_command(bare_program(alloc), alone(alloc))?;
+    let program = with_command(bare_program(alloc, version), alone(alloc))?;
     with_command(program, check(alloc))
 }
 
 /// A program with the commands `size` and `run` too.
 fn with_run<'a>(alloc: Global, program: Command<'a>) -> Result<Command<'a>, AllocError>
-    ensures { IfOk result (λ c. app_of c ≡ with_subcommand (with_subcommand (app_of program.entry) size_app.top) (paths_app (codes "run")).top) }
+    ensures { IfOk result (λ c. app_of c ≡ with_subcommand (with_subcommand (app_of program.entry) size_app.top) run_app.top) }
 {
     let program = with_command(program, size(alloc))?;
     with_command(program, run(alloc))
@@ -291,11 +310,11 @@ fn with_rows<'a>(alloc: Global, program: Command<'a>) -> Result<Command<'a>, All
     with_command(program, trace(alloc))
 }
 
-/// The whole program.
-pub(crate) fn program<'a>(alloc: Global) -> Result<Command<'a>, AllocError>
+/// The whole program, which says this of its version.
+pub(crate) fn program<'a>(alloc: Global, version: &'a str) -> Result<Command<'a>, AllocError>
     ensures { IfOk result (λ c. app_of c ≡ program) }
 {
-    let checks = with_checks(alloc)?;
+    let checks = with_checks(alloc, version)?;
     let runs = with_run(alloc, checks)?;
     let rows = with_rows(alloc, runs)?;
     rows.subcommand(network(alloc))

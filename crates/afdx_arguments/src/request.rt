@@ -1,6 +1,7 @@
 //! What the arguments of a command line ask for.
 
-use crate::alone::Alone;
+use crate::fail_on::FailOn;
+use afdx_alone::Alone;
 
 /// The files of a run, as they were written.
 #[derive(Clone, Copy, Debug, PartialEq, Eq)]
@@ -13,6 +14,15 @@ pub struct Paths<'a> {
     pub output: &'a str,
     /// Whether the table's load is left unchecked.
     pub unchecked: bool,
+}
+
+/// What is asked of a run beside its files.
+#[derive(Clone, Copy, Debug, PartialEq, Eq)]
+pub struct RunOptions {
+    /// Whether its verdict is the last line of its report.
+    pub verdict: bool,
+    /// What it is to fail on.
+    pub fail_on: FailOn,
 }
 
 /// The files of a run of which nothing is put, as they were written.
@@ -58,7 +68,7 @@ pub enum Request<'a> {
     /// The need and the limit of each rule at the ports of the table in this file.
     Size(&'a str),
     /// The switch over captures.
-    Run(Paths<'a>),
+    Run(Paths<'a>, RunOptions),
     /// The delays and the buffers of such a run.
     Measure(Inputs<'a>),
     /// What became of each frame and of each copy of such a run.

@@ -17,3 +17,5 @@ mod report;
 
 pub use counters::{InCount, LinkCount, OutCount};
 pub use counts::Counts;
+pub use links::LinkTally;
+pub use ports::PortTally;

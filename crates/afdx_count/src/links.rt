@@ -14,10 +14,12 @@ use std::marker::Model;
 
 /// The counters of a link.
 #[derive(Clone, Copy, Debug, PartialEq, Eq)]
-pub(crate) struct LinkTally {
-    pub(crate) id: u16,
-    pub(crate) priority: Priority,
-    pub(crate) count: LinkCount,
+pub struct LinkTally {
+    /// The link's number.
+    pub id: u16,
+    /// The priority of its copies.
+    pub priority: Priority,
+    pub count: LinkCount,
 }
 
 impl LinkTally {

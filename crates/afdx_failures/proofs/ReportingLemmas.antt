@@ -1,6 +1,7 @@
 -- Which failure is reported.
-use Rattle.std.proofs.Common.{◌≡◌, ℕ, Bool, List, Option, Result, Ok, Err, Global, String, string_bytes, refl, subst, ◌∙◌, inl, inr}
+use Rattle.std.proofs.Common.{◌≡◌, ℕ, Bool, true, List, [], Option, Some, None, Result, Ok, Err, Global, String, string_bytes, refl, sym, subst, ◌∙◌, inl, inr}
 use Rattle.std.specs.Prelude.{IfOk, MatchResult}
+use Rattle.std.proofs.lemmas.List.{append-nil}
 use Rattle.afdx_failures.specs.declared.failure.Failure.{Failure}
 use Rattle.afdx_failures.specs.declared.failure.Failure.TheVariants.{Memory}
 use Rattle.afdx_failures.specs.Reporting.{IsMade, ReportsAs, IsTold, line_of, memory_line, status_of}
@@ -13,3 +14,8 @@ pub made : {E : Type 0} (f : Failure) (line : Result (String Global) E) (status 
 made f (Ok text) status result told old new is_made is_line is_status h =
     (f, inl refl, h.0 ∙ is_status, subst (λ (bytes : List ℕ). IsTold told old new bytes) is_line h.1)
 made f (Err e) status result told old new is_made is_line is_status h = (Memory, inr (is_made, refl), h.0, h.1)
+
+-- without a line nothing is written
+pub nothing_told : (now : Option (List ℕ)) → IsTold true now now []
+nothing_told None = tt
+nothing_told (Some text) = sym (append-nil text)

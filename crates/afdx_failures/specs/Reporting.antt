@@ -1,5 +1,5 @@
 -- The line and the status of any failure (profile).
-use Rattle.std.specs.Prelude.{◌≡◌, ◌⊎◌, ℕ, Bool, true, false, codes, List, ◌++◌, Option, Some, None, string_bytes}
+use Rattle.std.specs.Prelude.{◌≡◌, ◌⊎◌, ℕ, Bool, true, false, codes, List, [], ◌++◌, Option, Some, None, string_bytes}
 use Rattle.std.specs.Io.KnownBytes.{Appends}
 use Rattle.afdx_failures.specs.declared.failure.Failure.{Failure}
 use Rattle.afdx_failures.specs.declared.failure.Failure.TheVariants as failure
@@ -10,7 +10,9 @@ use Rattle.afdx_lines.specs.Lines.{memory_text, table_line, capture_line, load_l
 abbrev pub memory_line : List ℕ
 memory_line = as_line memory_text
 
+-- that there was one of what a run is to fail on has no line: the report tells it
 abbrev pub line_of : Failure → List ℕ
+line_of failure.Found = []
 line_of failure.Usage = as_line (codes "afdx: usage")
 line_of (failure.Table refusal) = table_line refusal
 line_of (failure.Load f) = load_line f
@@ -24,6 +26,7 @@ line_of failure.Write = as_line (codes "afdx: device write")
 line_of failure.Memory = memory_line
 
 abbrev pub status_of : Failure → ℕ
+status_of failure.Found = 1
 status_of failure.Usage = 2
 status_of (failure.Table refusal) = 3
 status_of (failure.Capture f) = 3
@@ -34,6 +37,7 @@ status_of _ = 5
 
 -- the line holds a number or a name, for which it takes memory
 abbrev pub IsMade : Failure → Type 0
+IsMade failure.Found = ⊥
 IsMade failure.Usage = ⊥
 IsMade failure.Read = ⊥
 IsMade failure.Write = ⊥

@@ -1,4 +1,4 @@
-//! Why a command was not served.
+//! Why a command ends with another status than 0.
 
 ghost use Rattle.std.specs.Prelude.{◌≡◌};
 
@@ -13,9 +13,12 @@ use afdx_wiring::NetworkFault;
 use std::alloc::{AllocError, AllocFailed};
 use thiserror::Error;
 
-/// Why a command was not served. Each message is its variant's name.
+/// Why a command ends with another status than 0. Each message is its variant's name.
 #[derive(Debug, Drop, Error)]
 pub enum Failure {
+    /// All was done, and there was one of what the run is to fail on.
+    #[error("Found")]
+    Found,
     /// The arguments are refused.
     #[error("Usage")]
     Usage,

@@ -1,4 +1,4 @@
-//! Why a command was not served, and what is reported of it.
+//! Why a command ends with another status than 0, and what is reported of it.
 //!
 //! [`report`] writes the line of a [`Failure`] and gives its status, and whether the line went out whole.
 #![tactic(auto)]

@@ -51,17 +51,21 @@ fn device_line(alloc: Global, call: &str, name: &str) -> Result<String, AllocErr
     Ok(line)
 }
 
-/// Writes the line of a failure, as far as the writer takes it, and gives the failure's status: 2 for refused arguments,
-/// 3 for a refused table, network or capture, 4 for a refused load or jitter or a network that does not come to rest, 5 for a
-/// device or memory. It also says whether the writer took the whole line.
+/// Writes the line of a failure, as far as the writer takes it, and gives the failure's status: 1, without a line, where there was
+/// one of what a run is to fail on, 2 for refused arguments, 3 for a refused table, network or capture, 4 for a refused load or
+/// jitter or a network that does not come to rest, 5 for a device or memory. It also says whether the writer took the whole line.
 ///
 /// Only a line with a number or a name takes memory. Where that is refused, memory is the failure. O(line).
 pub fn report<E: Write>(alloc: Global, failure: &Failure, err: &mut E) -> Ending
     ensures reported { (reported : Failing) × ReportsAs failure.now reported × (result.status ≡ status_of reported)
         × IsTold result.is_told (E.contents err.old) (E.contents err.new) (line_of reported) }
-    ensures failed { 2 ≤ result.status }
+    ensures failed { 1 ≤ result.status }
 {
     match failure {
+        Failure::Found => Ending {
+            status: 1,
+            is_told: true,
+        },
         Failure::Usage => write_line(err, "afdx: usage\n", 2),
         Failure::Table(refusal) => write_made(err, table_line(alloc, *refusal), 3),
         Failure::Capture(fault) => write_made(err, capture_line(alloc, None, *fault), 3),

@@ -5,6 +5,11 @@ use afdx_failures::Ending;
 use afdx_serve::serve;
 use std::alloc::{AllocError, Allocator, Global};
 
+/// What the program says of its version in these tests.
+pub const VERSION: &str = "1.2.3
+kit 4
+not proved";
+
 /// A folder with a table and with captures of ports 1 and up.
 pub fn folder_of(
     alloc: Global,
@@ -60,7 +65,9 @@ pub fn answer_over<A: Allocator + Copy>(
     let arguments = split(alloc, line)?;
     let mut out = Vec::new(alloc);
     let mut err = Vec::new(alloc);
-    let ending = serve(alloc, &arguments, &mut input, &mut out, &mut err, folder);
+    let ending = serve(
+        alloc, VERSION, &arguments, &mut input, &mut out, &mut err, folder,
+    );
     Ok(Served { ending, out, err })
 }
 

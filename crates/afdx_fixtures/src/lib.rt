@@ -7,6 +7,6 @@ mod commands;
 mod memory_folder;
 mod one_frame;
 
-pub use commands::{Said, Served, answer_over, answers, folder_of, split};
+pub use commands::{Said, Served, VERSION, answer_over, answers, folder_of, split};
 pub use memory_folder::{MemoryFolder, OpenedFile};
 pub use one_frame::{Broken, CHECKED, LINK_10, OneFrame, REPORT, RUN, captured};

@@ -2,8 +2,7 @@
 
 use crate::allocations::{Calls, Memory, refuse};
 use crate::tables::plan_of;
-use afdx_alone::{AloneFault, alone};
-use afdx_arguments::Alone;
+use afdx_alone::{Alone, AloneFault, alone};
 use afdx_refusing::Refusing;
 use afdx_samples::{Sample, capture, large, single, small};
 use afdx_session::{Outcome, RunFault, run};

@@ -30,6 +30,7 @@ pub not_got : (f : Failure) (files : Option Files) (path name : List ℕ) (t : C
 not_got (failure.Get s) files path name t first before after same fails upto =
     subst (λ (n : List ℕ). GetsUpTo n files path t × (after ≡ one_more n first)) (sym fails.0) (upto, fails.1 ∙ ap (one_more name) same)
 not_got failure.Memory files path name t first before after same fails upto = tt
+not_got failure.Found files path name t first before after same fails upto = absurd fails
 not_got failure.Usage files path name t first before after same fails upto = absurd fails
 not_got (failure.Table r) files path name t first before after same fails upto = absurd fails
 not_got (failure.Capture r) files path name t first before after same fails upto = absurd fails
@@ -46,6 +47,7 @@ pub not_settled : (f : Failure) (name : List ℕ) (names : List (List ℕ)) (i :
 not_settled (failure.Put s) name names i first before after is same fails =
     subst (λ (n : List ℕ). StopsSettling n names first after) (sym fails.0) (i, is, fails.1 ∙ ap (one_more name) same)
 not_settled failure.Memory name names i first before after is same fails = tt
+not_settled failure.Found name names i first before after is same fails = absurd fails
 not_settled failure.Usage name names i first before after is same fails = absurd fails
 not_settled (failure.Table r) name names i first before after is same fails = absurd fails
 not_settled (failure.Capture r) name names i first before after is same fails = absurd fails
@@ -61,6 +63,7 @@ pub none_put : (f : Failure) (names all : List (List ℕ)) (old new : Option Fil
     → FailsToPut f names all old new before after
 none_put (failure.Put s) names all old new before after keeps fails = inl (fails, keeps)
 none_put failure.Memory names all old new before after keeps fails = inl keeps
+none_put failure.Found names all old new before after keeps fails = absurd fails
 none_put failure.Usage names all old new before after keeps fails = absurd fails
 none_put (failure.Table r) names all old new before after keeps fails = absurd fails
 none_put (failure.Capture r) names all old new before after keeps fails = absurd fails
@@ -76,6 +79,7 @@ module _ (names all : List (List ℕ)) (old new : Option Files) (first before af
   not_all_moved : (f : Failure) → FailsToMove f names all old new before after → FailsToPut f names all old new first after
   not_all_moved (failure.Put s) fails = inr (fails.0, fails.1 ∙ ap (one_more (string_bytes s)) taken)
   not_all_moved failure.Memory fails = inr fails
+  not_all_moved failure.Found fails = absurd fails
   not_all_moved failure.Usage fails = absurd fails
   not_all_moved (failure.Table r) fails = absurd fails
   not_all_moved (failure.Capture r) fails = absurd fails

@@ -66,6 +66,7 @@ pub not_got_text : (f : Failure) (files : Option Files) (path name : List ℕ) (
 not_got_text (failure.Get s) files path name switches first before after same fails upto =
     subst (λ (n : List ℕ). GetsTables n files path switches × (after ≡ one_more n first)) (sym fails.0) (upto, fails.1 ∙ ap (one_more name) same)
 not_got_text failure.Memory files path name switches first before after same fails upto = tt
+not_got_text failure.Found files path name switches first before after same fails upto = absurd fails
 not_got_text failure.Usage files path name switches first before after same fails upto = absurd fails
 not_got_text (failure.Table r) files path name switches first before after same fails upto = absurd fails
 not_got_text (failure.Capture r) files path name switches first before after same fails upto = absurd fails
@@ -110,6 +111,7 @@ stops_at_table (failure.Network (network.Refused e name)) refusal switches texts
 stops_at_table (failure.Network (network.Capture p e name)) refusal switches texts i d tables in_texts within are is h = absurd h
 stops_at_table (failure.Network network.Unsettled) refusal switches texts i d tables in_texts within are is h = absurd h
 stops_at_table failure.Memory refusal switches texts i d tables in_texts within are is h = tt
+stops_at_table failure.Found refusal switches texts i d tables in_texts within are is h = absurd h
 stops_at_table failure.Usage refusal switches texts i d tables in_texts within are is h = absurd h
 stops_at_table (failure.Table r) refusal switches texts i d tables in_texts within are is h = absurd h
 stops_at_table (failure.Capture r) refusal switches texts i d tables in_texts within are is h = absurd h
@@ -138,6 +140,7 @@ not_joined_before (failure.Network (network.Capture p e name)) a b path l before
 not_joined_before (failure.Network network.Unsettled) a b path l before after keeps h = absurd h
 not_joined_before (failure.Get s) a b path l before after keeps h = (gets_before (string_bytes s) a b path l.switches keeps h.0, h.1)
 not_joined_before failure.Memory a b path l before after keeps h = tt
+not_joined_before failure.Found a b path l before after keeps h = absurd h
 not_joined_before failure.Usage a b path l before after keeps h = absurd h
 not_joined_before (failure.Table r) a b path l before after keeps h = absurd h
 not_joined_before (failure.Capture r) a b path l before after keeps h = absurd h

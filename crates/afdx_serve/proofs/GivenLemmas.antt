@@ -160,6 +160,7 @@ pub not_got_named : (f : Failure) (files : Option Files) (name : List ℕ) (name
 not_got_named (failure.Get s) files name names first before after same fails upto =
     subst (λ (n : List ℕ). GetsNamed n files names × (after ≡ one_more n first)) (sym fails.0) (upto, fails.1 ∙ ap (one_more name) same)
 not_got_named failure.Memory files name names first before after same fails upto = tt
+not_got_named failure.Found files name names first before after same fails upto = absurd fails
 not_got_named failure.Usage files name names first before after same fails upto = absurd fails
 not_got_named (failure.Table r) files name names first before after same fails upto = absurd fails
 not_got_named (failure.Capture r) files name names first before after same fails upto = absurd fails
@@ -291,6 +292,7 @@ module _ (files b : Option Files) (path : List ℕ) (net : Network) (i : ℕ) (d
       → FailsToGetGiven f files path net first now
   not_got_given (failure.Get s) first before now same fails = (gets_given (string_bytes s) fails.0, fails.1 ∙ ap (one_more (string_bytes s)) same)
   not_got_given failure.Memory first before now same fails = tt
+  not_got_given failure.Found first before now same fails = absurd fails
   not_got_given failure.Usage first before now same fails = absurd fails
   not_got_given (failure.Table r) first before now same fails = absurd fails
   not_got_given (failure.Capture r) first before now same fails = absurd fails

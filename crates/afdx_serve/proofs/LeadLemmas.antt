@@ -10,7 +10,6 @@ use Rattle.afdx_table.specs.declared.rows.PortRow.{PortRow}
 use Rattle.afdx_table.specs.Content.{Content}
 use Rattle.afdx_table.specs.WellFormed.{TablesAreWellFormed}
 use Rattle.afdx_count.specs.Tally.{Tally}
-use Rattle.afdx_count.specs.Report.{report_of}
 use Rattle.afdx_session.specs.Texts.{Text, AreOfPorts, texts_of}
 use Rattle.afdx_session.specs.declared.plan.Plan.{Plan}
 use Rattle.afdx_session.specs.Outcome.{table_in}
@@ -116,15 +115,15 @@ opened_are_captures remaining files path t names readers texts named opened read
 -- ---- new files
 
 -- what was written to new files, which were lent as a whole, is in them
-pub in_files : {N : Type 0} (contents : N → Option (List ℕ)) (a b : Option Files) (t : Content) (texts : List Text) (begun new : List N) (len : ℕ) (counts : Tally) (report : List ℕ)
-    → KeepsFiles a b → AreEmpty contents b begun → len ≡ length new → IsWritten contents t texts begun new counts → report ≡ report_of counts
-    → IsInFiles contents a t texts (take len (new ++ drop (length new) begun)) report
-in_files contents a b t texts begun new len counts report keeps empty long is reported = record {
+pub in_files : {N : Type 0} (contents : N → Option (List ℕ)) (a b : Option Files) (t : Content) (texts : List Text) (begun new : List N) (len : ℕ) (counts : Tally)
+    → KeepsFiles a b → AreEmpty contents b begun → len ≡ length new → IsWritten contents t texts begun new counts
+    → IsInFiles contents a t texts (take len (new ++ drop (length new) begun)) counts
+in_files contents a b t texts begun new len counts keeps empty long is = record {
   results = is.results;
   outcome = is.outcome;
   have = subst (λ files. HaveBytes contents a files (bytes_of_captures is.results.captures)) (sym (written_back begun new len long))
       (have_bytes contents a b begun new is.results.captures keeps empty is.appended);
-  reported = reported ∙ ap report_of is.counted;
+  counted = is.counted;
 }
 
 have_before : {N : Type 0} (contents : N → Option (List ℕ)) (a b : Option Files) (files : List N) (all : List (List ℕ)) → KeepsFiles a b → HaveBytes contents b files all
@@ -142,9 +141,9 @@ has_plan inputs files text plan shows is = ((text, shows, is.is_table), is.accep
 
 -- the captures are those of the table's ports, and their outcome is in the new files
 pub led : TablesAreWellFormed → AcceptedRunsIsolate → {N : Type 0} (contents : N → Option (List ℕ)) (paths : Paths) (a b : Option Files) (text : List ℕ) (plan : Plan) (captures : List Text)
-    (names : List (List ℕ)) (files : List N) (report : List ℕ) → Shows a paths.table.now text → IsPlanOf text paths.unchecked plan → HasCaptures a paths.input.now (table_in plan) captures
-    → names ≡ port_names paths.output.now (table_in plan) → KeepsFiles a b → IsInFiles contents b (table_in plan) captures files report → IsLed contents paths a files names report
-led formed isolate contents paths a b text plan captures names files report shows is has named keeps in_them =
+    (names : List (List ℕ)) (files : List N) (counts : Tally) → Shows a paths.table.now text → IsPlanOf text paths.unchecked plan → HasCaptures a paths.input.now (table_in plan) captures
+    → names ≡ port_names paths.output.now (table_in plan) → KeepsFiles a b → IsInFiles contents b (table_in plan) captures files counts → IsLed contents paths a files names counts
+led formed isolate contents paths a b text plan captures names files counts shows is has named keeps in_them =
     let results = in_them.results in
     let same = named ∙ sym (named_ports paths.output.now (table_in plan) captures has.0) ∙ same_names paths.output.now (table_in plan) captures results in_them.outcome in
     record {
@@ -153,7 +152,7 @@ led formed isolate contents paths a b text plan captures names files report show
       named = same;
       many = length-map results.captures (λ (x : Text). x.1) ∙ sym (length-map results.captures (λ (x : Text). capture_name paths.output.now x.0)) ∙ sym (ap length same);
       have = have_before contents a b files (bytes_of_captures results.captures) keeps in_them.have;
-      reported = in_them.reported;
+      counted = in_them.counted;
     }
 
 -- the captures were not got, or lead to nothing
@@ -209,6 +208,7 @@ named_capture (failure.Get s) files path t names before after named fails =
     let at = subst (λ ns. GetsNamed (string_bytes s) files ns) named fails.0 in
     (record { place = at.place; got = at.got; is_there = at.is_there; earlier = at.earlier }, fails.1)
 named_capture failure.Memory files path t names before after named fails = tt
+named_capture failure.Found files path t names before after named fails = absurd fails
 named_capture failure.Usage files path t names before after named fails = absurd fails
 named_capture (failure.Table r) files path t names before after named fails = absurd fails
 named_capture (failure.Capture r) files path t names before after named fails = absurd fails
@@ -242,13 +242,13 @@ capture_fault remaining files path t names readers port why before after named o
 
 -- what the captures of a folder lead to, which were opened after new files were begun, is what the files lead to
 pub folder_led : TablesAreWellFormed → AcceptedRunsIsolate → {N : Type 0} (contents : N → Option (List ℕ)) (paths : Paths) (first a b : Option Files) (text : List ℕ) (plan : Plan)
-    (captures : List Text) (begun new : List N) (len : ℕ) (counts : Tally) (names : List (List ℕ)) (report : List ℕ) → Shows first paths.table.now text → IsPlanOf text paths.unchecked plan
+    (captures : List Text) (begun new : List N) (len : ℕ) (counts : Tally) (names : List (List ℕ)) → Shows first paths.table.now text → IsPlanOf text paths.unchecked plan
     → names ≡ port_names paths.output.now (table_in plan) → KeepsFiles first a → KeepsFiles a b → AreEmpty contents a begun → len ≡ length new → HasCaptures b paths.input.now (table_in plan) captures
-    → IsWritten contents (table_in plan) captures begun new counts → report ≡ report_of counts → IsLed contents paths first (take len (new ++ drop (length new) begun)) names report
-folder_led formed isolate contents paths first a b text plan captures begun new len counts names report shows is named keeps more empty long has written reported =
-    led formed isolate contents paths first a text plan captures names (take len (new ++ drop (length new) begun)) report shows is
+    → IsWritten contents (table_in plan) captures begun new counts → IsLed contents paths first (take len (new ++ drop (length new) begun)) names counts
+folder_led formed isolate contents paths first a b text plan captures begun new len counts names shows is named keeps more empty long has written =
+    led formed isolate contents paths first a text plan captures names (take len (new ++ drop (length new) begun)) counts shows is
     (captures_before first b paths.input.now (table_in plan) captures (KeepsFiles-trans first a b keeps more) has) named keeps
-    (in_files contents a a (table_in plan) captures begun new len counts report (KeepsFiles-refl a) empty long written reported)
+    (in_files contents a a (table_in plan) captures begun new len counts (KeepsFiles-refl a) empty long written)
 
 -- there are as many names as ports
 pub as_many : {X : Type 0} (str : X → List ℕ) (path : List ℕ) (t : Content) (names : List X) → map str names ≡ port_names path t → length names ≡ length t.ports

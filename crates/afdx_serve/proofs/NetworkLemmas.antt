@@ -33,6 +33,7 @@ pub of_lost : (P : Failure → Type 0) (files : Option Files) (path : List ℕ) 
 of_lost P files path before after out refused unread failure.Memory h = out
 of_lost P files path before after out refused unread (failure.Network e) h = refused e h
 of_lost P files path before after out refused unread (failure.Get name) h = unread name h
+of_lost P files path before after out refused unread failure.Found h = absurd (got files path before after h)
 of_lost P files path before after out refused unread failure.Usage h = absurd (got files path before after h)
 of_lost P files path before after out refused unread (failure.Table e) h = absurd (got files path before after h)
 of_lost P files path before after out refused unread (failure.Load e) h = absurd (got files path before after h)
@@ -47,6 +48,7 @@ pub of_refused : (P : Failure → Type 0) (names : Names) (e : NetworkFault) →
     → ((x : NetworkFailure) → IsRefused names e (failure.Network x) → P (failure.Network x)) → (f : Failure) → IsRefused names e f → P f
 of_refused P names e out refused failure.Memory h = out
 of_refused P names e out refused (failure.Network x) h = refused x h
+of_refused P names e out refused failure.Found h = absurd h
 of_refused P names e out refused failure.Usage h = absurd h
 of_refused P names e out refused (failure.Table x) h = absurd h
 of_refused P names e out refused (failure.Load x) h = absurd h
@@ -88,6 +90,7 @@ network_ended name paths a c before after h = elim h.3 [
 -- a failure with a line that is made leaves what may be there where memory ran out
 pub spares : (f : Failure) (r : NetworkRequest) (old new : World) → IsMade f → FailsToPerformNetwork f r old new
     → (WritesNothing old new × KeepsFiles old.files new.files) ⊎ FailsToPerformNetwork failure.Memory r old new
+spares failure.Found r old new made h = absurd made
 spares failure.Usage r old new made h = absurd made
 spares failure.Read r old new made h = absurd made
 spares failure.Write r old new made h = absurd made

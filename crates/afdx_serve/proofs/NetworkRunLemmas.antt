@@ -192,6 +192,7 @@ not_given_before (failure.Network network.Unsettled) a b path net before after k
     ((h.0.0, has_given_before a b path (names_of net.layout.switches) h.0.0 keeps h.0.1, h.0.2), h.1)
 not_given_before (failure.Network (network.Refused r name)) a b path net before after keeps h = absurd h
 not_given_before (failure.Network (network.Table r name)) a b path net before after keeps h = absurd h
+not_given_before failure.Found a b path net before after keeps h = absurd h
 not_given_before failure.Usage a b path net before after keeps h = absurd h
 not_given_before (failure.Table r) a b path net before after keeps h = absurd h
 not_given_before (failure.Load r) a b path net before after keeps h = absurd h
@@ -210,6 +211,7 @@ led_to_none (failure.Network network.Unsettled) files path net given before afte
 led_to_none (failure.Network (network.Refused r name)) files path net given before after has same h = absurd h
 led_to_none (failure.Network (network.Table r name)) files path net given before after has same h = absurd h
 led_to_none failure.Memory files path net given before after has same h = tt
+led_to_none failure.Found files path net given before after has same h = absurd h
 led_to_none failure.Usage files path net given before after has same h = absurd h
 led_to_none (failure.Table r) files path net given before after has same h = absurd h
 led_to_none (failure.Load r) files path net given before after has same h = absurd h
@@ -247,6 +249,7 @@ pub no_run : (f : Failure) (paths : NetworkPaths) (a b : Option Files) (first af
 no_run failure.Memory paths a b first after keeps w v none h = (inl keeps, none)
 no_run failure.Write paths a b first after keeps w v none h = absurd (never_write paths a first after h)
 no_run (failure.Put s) paths a b first after keeps w v none h = absurd (never_put s paths a first after h)
+no_run failure.Found paths a b first after keeps w v none h = ((h, keeps), none)
 no_run failure.Usage paths a b first after keeps w v none h = ((h, keeps), none)
 no_run (failure.Table r) paths a b first after keeps w v none h = ((h, keeps), none)
 no_run (failure.Load r) paths a b first after keeps w v none h = ((h, keeps), none)
@@ -292,6 +295,7 @@ module _ (paths : NetworkPaths) (net : Network) (left : List Results) (names all
   not_put_network (failure.Put name) w v none h = (ends_network (string_bytes name) h, none)
   not_put_network failure.Memory w v none (inl kept) = (inl (KeepsFiles-trans a b c keeps kept), none)
   not_put_network failure.Memory w v none (inr h) = (inr (h.0, stops_network h.0 h.1), none)
+  not_put_network failure.Found w v none h = absurd h
   not_put_network failure.Usage w v none h = absurd h
   not_put_network (failure.Table r) w v none h = absurd h
   not_put_network (failure.Load r) w v none h = absurd h

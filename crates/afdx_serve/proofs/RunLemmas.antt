@@ -17,6 +17,7 @@ use Rattle.afdx_session.specs.declared.plan.Plan.{Plan}
 use Rattle.afdx_session.specs.Outcome.{Results, table_in, is_cleared, IsOutcome, IsDoneOf}
 use Rattle.afdx_session.specs.Headline.{AcceptedRunsIsolate}
 use Rattle.afdx_arguments.specs.declared.request.Paths.{Paths}
+use Rattle.afdx_arguments.specs.declared.request.RunOptions.{RunOptions}
 use Rattle.afdx_arguments.specs.declared.request.Inputs.{Inputs}
 use Rattle.afdx_failures.specs.declared.failure.Failure.{Failure}
 use Rattle.afdx_failures.specs.declared.failure.Failure.TheVariants as failure
@@ -38,6 +39,7 @@ module _ (paths : Paths) (names all : List (List ℕ)) (a b c : Option Files) (f
   not_all_put (failure.Put name) h = ends (string_bytes name) (EndsAt-before (string_bytes name) names all a b c first before after keeps same h)
   not_all_put failure.Memory (inl kept) = inl (KeepsFiles-trans a b c keeps kept)
   not_all_put failure.Memory (inr h) = inr (h.0, stops h.0 (StopsAt-before _ _ _ a b c keeps h.1))
+  not_all_put failure.Found h = absurd h
   not_all_put failure.Usage h = absurd h
   not_all_put (failure.Table r) h = absurd h
   not_all_put (failure.Capture r) h = absurd h
@@ -60,19 +62,20 @@ module _ (paths : Paths) (results : Results) (a b c : Option Files) (first befor
       (λ name. EndsRun name paths a c first after) ended (λ name. StopsRun name paths a c) stopped
 
   -- what was led to was not all put, and nothing was written
-  pub not_all : (f : Failure) (w v : Option (List ℕ)) → Keeps w v → FailsToPut f (names_in paths.output.now results.captures) (bytes_of_captures results.captures) b c before after
-      → FailsToRunAll f paths (world w a first) (world v c after)
-  not_all (failure.Put name) w v none h = (not_put_run (failure.Put name) h, none)
-  not_all failure.Memory w v none h = (not_put_run failure.Memory h, none)
-  not_all failure.Usage w v none h = absurd h
-  not_all (failure.Table r) w v none h = absurd h
-  not_all (failure.Capture r) w v none h = absurd h
-  not_all (failure.PortCapture p r) w v none h = absurd h
-  not_all (failure.Get s) w v none h = absurd h
-  not_all (failure.Load r) w v none h = absurd h
-  not_all (failure.Network r) w v none h = absurd h
-  not_all failure.Read w v none h = absurd h
-  not_all failure.Write w v none h = absurd h
+  pub not_all : (options : RunOptions) (f : Failure) (w v : Option (List ℕ)) → Keeps w v → FailsToPut f (names_in paths.output.now results.captures) (bytes_of_captures results.captures) b c before after
+      → FailsToRunAll f paths options (world w a first) (world v c after)
+  not_all options (failure.Put name) w v none h = (not_put_run (failure.Put name) h, none)
+  not_all options failure.Memory w v none h = (not_put_run failure.Memory h, none)
+  not_all options failure.Found w v none h = absurd h
+  not_all options failure.Usage w v none h = absurd h
+  not_all options (failure.Table r) w v none h = absurd h
+  not_all options (failure.Capture r) w v none h = absurd h
+  not_all options (failure.PortCapture p r) w v none h = absurd h
+  not_all options (failure.Get s) w v none h = absurd h
+  not_all options (failure.Load r) w v none h = absurd h
+  not_all options (failure.Network r) w v none h = absurd h
+  not_all options failure.Read w v none h = absurd h
+  not_all options failure.Write w v none h = absurd h
 
   -- what was led to was put
   pub all_put : PutsFiles b c (names_in paths.output.now results.captures) (bytes_of_captures results.captures)
@@ -100,6 +103,7 @@ module _ (inputs : Inputs) (a b : Option Files) (t : Content) (first before afte
   pub not_gathered : (f : Failure) → FailsToGetAll f b inputs.input.now t before after → FailsToGather f inputs a first after
   not_gathered (failure.Get name) h = (h.1 ∙ ap (one_more (string_bytes name)) same, inr (t, plan, GetsUpTo-before _ _ a b t keeps h.0))
   not_gathered failure.Memory h = tt
+  not_gathered failure.Found h = absurd h
   not_gathered failure.Usage h = absurd h
   not_gathered (failure.Table r) h = absurd h
   not_gathered (failure.Capture r) h = absurd h
@@ -116,6 +120,7 @@ module _ (inputs : Inputs) (a : Option Files) (plan : Plan) (captures : List Tex
   pub not_led : (f : Failure) → FailsToLead f (table_in plan) captures → FailsToGather f inputs a before after
   not_led (failure.PortCapture p r) h = (table_in plan, captures, of.has_plan, of.has_captures, h, count)
   not_led failure.Memory h = tt
+  not_led failure.Found h = absurd h
   not_led failure.Usage h = absurd h
   not_led (failure.Table r) h = absurd h
   not_led (failure.Capture r) h = absurd h
@@ -180,20 +185,21 @@ module _ (paths : Paths) (texts : List (List ℕ)) (a b c : Option Files) (first
   traced_all (Err f) h = not_traced f h
 
 -- the files lead to nothing, and nothing was put or written
-pub not_gathered_run : (paths : Paths) (a b : Option Files) (first after : DeviceLog) → KeepsFiles a b → (w v : Option (List ℕ)) → Keeps w v → (f : Failure)
+pub not_gathered_run : (paths : Paths) (options : RunOptions) (a b : Option Files) (first after : DeviceLog) → KeepsFiles a b → (w v : Option (List ℕ)) → Keeps w v → (f : Failure)
     → FailsToGather f (inputs_of paths) a first after
-    → FailsToRunAll f paths (world w a first) (world v b after)
-not_gathered_run paths a b first after keeps w v none failure.Memory h = (inl keeps, none)
-not_gathered_run paths a b first after keeps w v none (failure.Table r) h = ((h, keeps), none)
-not_gathered_run paths a b first after keeps w v none (failure.Get s) h = ((h, keeps), none)
-not_gathered_run paths a b first after keeps w v none (failure.Load r) h = ((h, keeps), none)
-not_gathered_run paths a b first after keeps w v none (failure.PortCapture p r) h = ((h, keeps), none)
-not_gathered_run paths a b first after keeps w v none failure.Usage h = absurd h
-not_gathered_run paths a b first after keeps w v none (failure.Network r) h = absurd h
-not_gathered_run paths a b first after keeps w v none (failure.Capture r) h = absurd h
-not_gathered_run paths a b first after keeps w v none (failure.Put s) h = absurd h
-not_gathered_run paths a b first after keeps w v none failure.Read h = absurd h
-not_gathered_run paths a b first after keeps w v none failure.Write h = absurd h
+    → FailsToRunAll f paths options (world w a first) (world v b after)
+not_gathered_run paths options a b first after keeps w v none failure.Memory h = (inl keeps, none)
+not_gathered_run paths options a b first after keeps w v none (failure.Table r) h = ((h, keeps), none)
+not_gathered_run paths options a b first after keeps w v none (failure.Get s) h = ((h, keeps), none)
+not_gathered_run paths options a b first after keeps w v none (failure.Load r) h = ((h, keeps), none)
+not_gathered_run paths options a b first after keeps w v none (failure.PortCapture p r) h = ((h, keeps), none)
+not_gathered_run paths options a b first after keeps w v none failure.Found h = absurd h
+not_gathered_run paths options a b first after keeps w v none failure.Usage h = absurd h
+not_gathered_run paths options a b first after keeps w v none (failure.Network r) h = absurd h
+not_gathered_run paths options a b first after keeps w v none (failure.Capture r) h = absurd h
+not_gathered_run paths options a b first after keeps w v none (failure.Put s) h = absurd h
+not_gathered_run paths options a b first after keeps w v none failure.Read h = absurd h
+not_gathered_run paths options a b first after keeps w v none failure.Write h = absurd h
 
 -- what the run of the captures leads to is what the files lead to
 pub leads_to : TablesAreWellFormed → AcceptedRunsIsolate → (paths : Paths) (files : Option Files) (plan : Plan) (captures : List Text) (results : Results)

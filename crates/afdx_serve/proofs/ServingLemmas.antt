@@ -17,10 +17,11 @@ module _ (arguments : List (List ℕ)) (input : Option (List ℕ)) (old new : Wo
   fails (request.Alone link) asks failure.Usage h = absurd h.0
   fails (request.Check path) asks failure.Usage h = absurd h
   fails (request.Size path) asks failure.Usage h = absurd h
-  fails (request.Run paths) asks failure.Usage h = absurd h.0.0
+  fails (request.Run paths options) asks failure.Usage h = absurd h.0.0
   fails (request.Measure inputs) asks failure.Usage h = absurd h.0
   fails (request.Trace paths) asks failure.Usage h = absurd h.0.0
   fails (request.Network r) asks failure.Usage h = absurd (never_usage r old new h)
+  fails r asks failure.Found h = (r, asks, h)
   fails r asks (failure.Load e) h = (r, asks, h)
   fails r asks (failure.Network e) h = (r, asks, h)
   fails r asks (failure.Table e) h = (r, asks, h)
@@ -40,6 +41,7 @@ module _ (arguments : List (List ℕ)) (input : Option (List ℕ)) (old new : Wo
 
   -- a failure with a line that is made leaves what may be there where memory ran out
   runs_out : (f : Failure) (r : Request) → IsMade f → Asks arguments r → FailsToPerform f r input old new → RunsOut arguments input old new
+  runs_out failure.Found r made asks h = absurd made
   runs_out failure.Usage r made asks h = absurd made
   runs_out failure.Read r made asks h = absurd made
   runs_out failure.Write r made asks h = absurd made
@@ -47,35 +49,35 @@ module _ (arguments : List (List ℕ)) (input : Option (List ℕ)) (old new : Wo
   runs_out (failure.Table e) (request.Alone link) made asks h = absurd h.0
   runs_out (failure.Table e) (request.Check path) made asks h = inl (h.2, h.1.0)
   runs_out (failure.Table e) (request.Size path) made asks h = inl (h.2, h.1.0)
-  runs_out (failure.Table e) (request.Run paths) made asks h = inl (h.1, h.0.1)
+  runs_out (failure.Table e) (request.Run paths options) made asks h = inl (h.1, h.0.1)
   runs_out (failure.Table e) (request.Measure inputs) made asks h = inl (h.2, h.1)
   runs_out (failure.Table e) (request.Trace paths) made asks h = inl (h.1, h.0.1)
   runs_out (failure.Table e) (request.Network r) made asks h = network_runs_out (failure.Table e) r made asks h
   runs_out (failure.Load e) (request.Alone link) made asks h = absurd h.0
   runs_out (failure.Load e) (request.Check path) made asks h = inl (h.4, h.3.0)
   runs_out (failure.Load e) (request.Size path) made asks h = absurd h
-  runs_out (failure.Load e) (request.Run paths) made asks h = inl (h.1, h.0.1)
+  runs_out (failure.Load e) (request.Run paths options) made asks h = inl (h.1, h.0.1)
   runs_out (failure.Load e) (request.Measure inputs) made asks h = inl (h.2, h.1)
   runs_out (failure.Load e) (request.Trace paths) made asks h = inl (h.1, h.0.1)
   runs_out (failure.Load e) (request.Network r) made asks h = network_runs_out (failure.Load e) r made asks h
   runs_out (failure.Capture e) (request.Alone link) made asks h = inl (h.0.1, h.1.0)
   runs_out (failure.Capture e) (request.Check path) made asks h = absurd h
   runs_out (failure.Capture e) (request.Size path) made asks h = absurd h
-  runs_out (failure.Capture e) (request.Run paths) made asks h = absurd h.0.0
+  runs_out (failure.Capture e) (request.Run paths options) made asks h = absurd h.0.0
   runs_out (failure.Capture e) (request.Measure inputs) made asks h = absurd h.0
   runs_out (failure.Capture e) (request.Trace paths) made asks h = absurd h.0.0
   runs_out (failure.Capture e) (request.Network r) made asks h = network_runs_out (failure.Capture e) r made asks h
   runs_out (failure.PortCapture p e) (request.Alone link) made asks h = absurd h.0
   runs_out (failure.PortCapture p e) (request.Check path) made asks h = absurd h
   runs_out (failure.PortCapture p e) (request.Size path) made asks h = absurd h
-  runs_out (failure.PortCapture p e) (request.Run paths) made asks h = inl (h.1, h.0.1)
+  runs_out (failure.PortCapture p e) (request.Run paths options) made asks h = inl (h.1, h.0.1)
   runs_out (failure.PortCapture p e) (request.Measure inputs) made asks h = inl (h.2, h.1)
   runs_out (failure.PortCapture p e) (request.Trace paths) made asks h = inl (h.1, h.0.1)
   runs_out (failure.PortCapture p e) (request.Network r) made asks h = network_runs_out (failure.PortCapture p e) r made asks h
   runs_out (failure.Get name) (request.Alone link) made asks h = absurd h.0
   runs_out (failure.Get name) (request.Check path) made asks h = inl (h.3, h.2)
   runs_out (failure.Get name) (request.Size path) made asks h = inl (h.3, h.2)
-  runs_out (failure.Get name) (request.Run paths) made asks h = inl (h.1, h.0.1)
+  runs_out (failure.Get name) (request.Run paths options) made asks h = inl (h.1, h.0.1)
   runs_out (failure.Get name) (request.Measure inputs) made asks h = inl (h.2, h.1)
   runs_out (failure.Get name) (request.Trace paths) made asks h = inl (h.1, h.0.1)
   runs_out (failure.Get name) (request.Network r) made asks h = network_runs_out (failure.Get name) r made asks h
@@ -83,13 +85,13 @@ module _ (arguments : List (List ℕ)) (input : Option (List ℕ)) (old new : Wo
   runs_out (failure.Put name) (request.Check path) made asks h = absurd h
   runs_out (failure.Put name) (request.Size path) made asks h = absurd h
   runs_out (failure.Put name) (request.Measure inputs) made asks h = absurd h.0
-  runs_out (failure.Put name) (request.Run paths) made asks h = inr (request.Run paths, asks, (run_ended _ paths _ _ _ _ h.0, h.1))
+  runs_out (failure.Put name) (request.Run paths options) made asks h = inr (request.Run paths options, asks, (run_ended _ paths _ _ _ _ h.0, h.1))
   runs_out (failure.Put name) (request.Trace paths) made asks h = inr (request.Trace paths, asks, (trace_ended _ paths _ _ _ _ h.0, h.1))
   runs_out (failure.Put name) (request.Network r) made asks h = network_runs_out (failure.Put name) r made asks h
   runs_out (failure.Network e) (request.Alone link) made asks h = absurd h.0
   runs_out (failure.Network e) (request.Check path) made asks h = absurd h
   runs_out (failure.Network e) (request.Size path) made asks h = absurd h
-  runs_out (failure.Network e) (request.Run paths) made asks h = absurd h.0.0
+  runs_out (failure.Network e) (request.Run paths options) made asks h = absurd h.0.0
   runs_out (failure.Network e) (request.Measure inputs) made asks h = absurd h.0
   runs_out (failure.Network e) (request.Trace paths) made asks h = absurd h.0.0
   runs_out (failure.Network e) (request.Network r) made asks h = network_runs_out (failure.Network e) r made asks h
@@ -97,6 +99,7 @@ module _ (arguments : List (List ℕ)) (input : Option (List ℕ)) (old new : Wo
   -- where memory ran out for its line, memory is the failure
   pub reported : (f t : Failure) → ReportsAs f t → Fails f arguments input old new → Fails t arguments input old new
   reported f t (inl e) h = subst (λ (x : Failure). Fails x arguments input old new) (sym e) h
+  reported failure.Found t (inr e) h = absurd e.0
   reported failure.Usage t (inr e) h = absurd e.0
   reported failure.Read t (inr e) h = absurd e.0
   reported failure.Write t (inr e) h = absurd e.0

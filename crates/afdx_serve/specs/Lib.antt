@@ -9,3 +9,4 @@ pub mod Runs
 pub mod Serving
 pub mod Sizes
 pub mod Traces
+pub mod Verdicts

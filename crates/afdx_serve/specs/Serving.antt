@@ -1,9 +1,10 @@
 -- What serving arguments does: to what a reader gives, and to what a writer and a folder hold before and after.
-use Rattle.std.specs.Prelude.{string_bytes, length, Some, None, ◌≡◌, ◌⊎◌, ℕ, List, Option}
+use Rattle.std.specs.Prelude.{Bool, true, false, string_bytes, length, Some, None, ◌≡◌, ◌⊎◌, ℕ, List, Option}
 use Rattle.std.specs.Io.KnownBytes.{Appends, Keeps}
 use Rattle.afdx_pcap.specs.Fault.{IsFault}
-use Rattle.afdx_arguments.specs.declared.alone.Alone.{Alone}
+use Rattle.afdx_alone.specs.declared.link.Alone.{Alone}
 use Rattle.afdx_arguments.specs.declared.request.Paths.{Paths}
+use Rattle.afdx_arguments.specs.declared.request.RunOptions.{RunOptions}
 use Rattle.afdx_arguments.specs.declared.request.Inputs.{Inputs}
 use Rattle.afdx_arguments.specs.declared.request.Request.{Request}
 use Rattle.afdx_arguments.specs.declared.request.Request.TheVariants as request
@@ -30,9 +31,11 @@ use Rattle.afdx_folder.specs.Files.{Files, DeviceLog, KeepsFiles, PutsFiles, one
 use Rattle.afdx_session.specs.Outcome.{Results}
 use Rattle.afdx_folder.specs.Input.{AreGiven}
 use Rattle.afdx_folder.specs.Output.{AppendsPrefix}
+use Rattle.afdx_verdict.specs.Verdict.{verdict_of}
 use Rattle.afdx_serve.specs.Measures.{MeasuresTo}
+use Rattle.afdx_serve.specs.Verdicts.{text_of, is_found}
 use Rattle.afdx_serve.specs.Traces.{PutsTrace, FailsToTrace}
-use Rattle.afdx_serve.specs.Runs.{HasTable, HasNoTable, LeadsTo, FailsToGather, FailsToRun, names_in, bytes_of_captures, report_in}
+use Rattle.afdx_serve.specs.Runs.{HasTable, HasNoTable, LeadsTo, FailsToGather, FailsToRun, names_in, bytes_of_captures}
 
 -- what commands work on, as far as contracts see it
 pub record World : Type 0 where
@@ -196,14 +199,22 @@ PutsResults paths old new results =
     LeadsTo paths old.files results × PutsFiles old.files new.files (names_in paths.output.now results.captures) (bytes_of_captures results.captures)
     × (new.failed ≡ settled_after (length (names_in paths.output.now results.captures)) old.failed)
 
--- and their report was written
-abbrev pub Runs : Paths → World → World → Type 0
-Runs paths old new = (results : Results) × PutsResults paths old new results × Appends old.written new.written (report_in results)
+-- and their report was written; there is one of what the run is to fail on, or not
+abbrev pub RunsTo : Bool → Paths → RunOptions → World → World → Type 0
+RunsTo found paths options old new =
+    (results : Results) × PutsResults paths old new results × Appends old.written new.written (text_of options.verdict results.counts)
+    × (is_found options.fail_on (verdict_of results.counts) ≡ found)
 
--- why it was not, and what was done
-abbrev pub FailsToRunAll : Failure → Paths → World → World → Type 0
-FailsToRunAll failure.Write paths old new = (results : Results) × PutsResults paths old new results × AppendsPrefix old.written new.written (report_in results)
-FailsToRunAll f paths old new = FailsToRun f paths old.files new.files old.failed new.failed × WritesNothing old new
+-- all was done, and there is none
+abbrev pub Runs : Paths → RunOptions → World → World → Type 0
+Runs paths options old new = RunsTo false paths options old new
+
+-- there is one, or why not all was done, and what was done
+abbrev pub FailsToRunAll : Failure → Paths → RunOptions → World → World → Type 0
+FailsToRunAll failure.Found paths options old new = RunsTo true paths options old new
+FailsToRunAll failure.Write paths options old new =
+    (results : Results) × PutsResults paths old new results × AppendsPrefix old.written new.written (text_of options.verdict results.counts)
+FailsToRunAll f paths options old new = FailsToRun f paths old.files new.files old.failed new.failed × WritesNothing old new
 
 -- ---- what is reported of a run
 
@@ -231,7 +242,7 @@ abbrev pub Performs : Request → Option (List ℕ) → World → World → Type
 Performs (request.Alone link) input old new = Answers link input old.written new.written × KeepsFolder old new
 Performs (request.Check path) input old new = Checks path.now old new
 Performs (request.Size path) input old new = Sizes path.now old new
-Performs (request.Run paths) input old new = Runs paths old new
+Performs (request.Run paths options) input old new = Runs paths options old new
 Performs (request.Measure inputs) input old new = Measures inputs old new
 Performs (request.Trace paths) input old new = Traces paths old new
 Performs (request.Network r) input old new = PerformsNetwork r old new
@@ -241,7 +252,7 @@ abbrev pub FailsToPerform : Failure → Request → Option (List ℕ) → World 
 FailsToPerform f (request.Alone link) input old new = FailsToAnswer f link input old.written new.written × KeepsFolder old new
 FailsToPerform f (request.Check path) input old new = FailsToCheck f path.now old new
 FailsToPerform f (request.Size path) input old new = FailsToSize f path.now old new
-FailsToPerform f (request.Run paths) input old new = FailsToRunAll f paths old new
+FailsToPerform f (request.Run paths options) input old new = FailsToRunAll f paths options old new
 FailsToPerform f (request.Measure inputs) input old new = FailsToMeasure f inputs old new
 FailsToPerform f (request.Trace paths) input old new = FailsToTraceAll f paths old new
 FailsToPerform f (request.Network r) input old new = FailsToPerformNetwork f r old new

@@ -2,7 +2,6 @@
 
 ghost use Rattle.std.specs.Prelude.{◌≡◌, List, ℕ, length, map, string_bytes, Option, IfOk, IfErr, MatchResult};
 ghost use Rattle.afdx_count.specs.Tally.{Tally};
-ghost use Rattle.afdx_count.specs.Report.{report_of};
 ghost use Rattle.afdx_session.specs.Texts.{Text};
 ghost use Rattle.afdx_session.specs.Outcome.{table_in};
 ghost use Rattle.afdx_session.specs.Sources.{AreRead, IsSourceFault};
@@ -10,11 +9,13 @@ ghost use Rattle.afdx_session.specs.Written.{IsWritten};
 ghost use Rattle.afdx_folder.specs.Files.{Files, Shows, KeepsFiles};
 ghost use Rattle.afdx_serve.specs.Runs.{inputs_of, port_names, HasCaptures, FailsToGather};
 ghost use Rattle.afdx_serve.specs.Inner.Leading.{IsPlanOf, IsLed, FailsToLeadFrom};
+ghost use Rattle.afdx_serve.specs.Inner.Reports.{IsReportOf};
 
 use crate::get::{get_failure, open_all};
 use crate::names::port_names;
 use crate::outputs::{abandon_all, begin_all};
-use afdx_arguments::Paths;
+use crate::reports::{Report, report_of};
+use afdx_arguments::{Paths, RunOptions};
 use afdx_failures::Failure;
 use afdx_folder::{Folder, NewFile};
 use afdx_session::laws::accepted_runs_isolate;
@@ -27,17 +28,18 @@ use std::io::Read;
 fn report_from<R: Read, N: NewFile>(
     alloc: Global,
     plan: Plan,
+    options: &RunOptions,
     readers: &mut [R],
     files: &mut [N],
-) -> Result<String, SourceFault>
+) -> Result<Report, SourceFault>
     requires readers { length readers.old ≡ length (table_in plan).ports }
     requires files { length files.old ≡ length (table_in plan).ports }
     ensures ok { IfOk result (λ report. (counts : Tally) × (texts : List Text) × AreRead R.remaining readers.old texts
-        × IsWritten N.contents (table_in plan) texts files.old files.new counts × (string_bytes report ≡ report_of counts)) }
+        × IsWritten N.contents (table_in plan) texts files.old files.new counts × IsReportOf options.now counts report) }
     ensures err { IfErr result (λ fault. IsSourceFault R.remaining (table_in plan) readers.old fault) }
 {
     let counts = run_from(alloc, plan, readers, files)?;
-    match counts.report(alloc) {
+    match report_of(alloc, &counts, options) {
         Ok(report) => Ok(report),
         Err(_) => Err(SourceFault::Memory),
     }
@@ -50,19 +52,20 @@ fn report_of_folder<F: Folder>(
     folder: &mut F,
     path: &str,
     plan: Plan,
+    options: &RunOptions,
     files: &mut [F::New],
-) -> Result<String, Failure>
+) -> Result<Report, Failure>
     requires { length files.old ≡ length (table_in plan).ports }
     ensures led { MatchResult result
         (λ report. ((counts : Tally) × (texts : List Text) × HasCaptures (F.files folder.old) path.now (table_in plan) texts
-        × IsWritten F.New.contents (table_in plan) texts files.old files.new counts × (string_bytes report ≡ report_of counts))
+        × IsWritten F.New.contents (table_in plan) texts files.old files.new counts × IsReportOf options.now counts report)
         × (F.failed folder.new ≡ F.failed folder.old))
         (λ f. FailsToLeadFrom f (F.files folder.old) path.now (table_in plan) (F.failed folder.old) (F.failed folder.new)) }
     ensures same { KeepsFiles (F.files folder.old) (F.files folder.new) }
 {
     let names = port_names(alloc, path, plan.table().ports())?;
     let mut opened = open_all(alloc, folder, &names)?;
-    match report_from(alloc, plan, &mut opened, files) {
+    match report_from(alloc, plan, options, &mut opened, files) {
         Ok(report) => Ok(report),
         Err(SourceFault::Memory) => Err(Failure::Memory),
         Err(SourceFault::Read(place)) => {
@@ -74,8 +77,8 @@ fn report_of_folder<F: Folder>(
     }
 }
 
-/// What the files of a run lead to, where this is its plan: new files to be put under these names, and the report. After an error no
-/// new file is left.
+/// What the files of a run lead to, where this is its plan: new files to be put under these names, and the report, with the verdict's
+/// line if it is asked for. After an error no new file is left.
 ///
 /// The new files are begun before a capture is opened, so that a system that lets too few files be open says so before anything is read.
 ///
@@ -90,13 +93,14 @@ pub(crate) fn lead<F: Folder>(
     folder: &mut F,
     paths: &Paths<'_>,
     plan: Plan,
+    options: &RunOptions,
     names: &[String],
-) -> Result<(Vec<F::New>, String), Failure>
+) -> Result<(Vec<F::New>, Report), Failure>
     requires plan { (text : List ℕ) × IsPlanOf text paths.now.unchecked plan }
     requires names { map string_bytes names.now ≡ port_names paths.now.output.now (table_in plan) }
     ensures led { (first : Option Files) (text : List ℕ) → KeepsFiles first (F.files folder.old) → Shows first paths.now.table.now text
         → IsPlanOf text paths.now.unchecked plan → MatchResult result
-        (λ both. IsLed F.New.contents paths.now first both.0.items (map string_bytes names.now) (string_bytes both.1)
+        (λ both. ((counts : Tally) × IsLed F.New.contents paths.now first both.0.items (map string_bytes names.now) counts × IsReportOf options.now counts both.1)
         × (F.failed folder.new ≡ F.failed folder.old))
         (λ f. FailsToGather f (inputs_of paths.now) first (F.failed folder.old) (F.failed folder.new)) }
     ensures count { IfOk result (λ both. length both.0.items ≡ length names.now) }
@@ -105,7 +109,7 @@ pub(crate) fn lead<F: Folder>(
     accepted_runs_isolate();
     tables_are_well_formed();
     let mut files = begin_all(alloc, folder, names)?;
-    match report_of_folder(alloc, folder, paths.input, plan, &mut files) {
+    match report_of_folder(alloc, folder, paths.input, plan, options, &mut files) {
         Ok(report) => Ok((files, report)),
         Err(failure) => {
             abandon_all(folder, files.into_iter());

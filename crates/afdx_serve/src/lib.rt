@@ -16,6 +16,7 @@ mod network_run;
 mod network_serving;
 mod outputs;
 mod put;
+mod reports;
 mod run;
 mod serving;
 mod size;

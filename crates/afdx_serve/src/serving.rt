@@ -12,8 +12,8 @@ use crate::network_serving::perform_network;
 use crate::run::run;
 use crate::size::size;
 use crate::trace::trace;
-use afdx_alone::read_alone;
-use afdx_arguments::{Alone, NoRequest, Request, parse};
+use afdx_alone::{Alone, read_alone};
+use afdx_arguments::{NoRequest, Request, parse};
 use afdx_failures::{Ending, Failure, report};
 use afdx_folder::{Folder, write_bytes};
 use std::alloc::Global;
@@ -55,7 +55,7 @@ fn perform<R: Read, O: Write, F: Folder>(
         Request::Alone(link) => answer(alloc, link, input, out),
         Request::Check(path) => check(alloc, path, out, folder),
         Request::Size(path) => size(alloc, path, out, folder),
-        Request::Run(paths) => run(alloc, paths, out, folder),
+        Request::Run(paths, options) => run(alloc, paths, options, out, folder),
         Request::Measure(inputs) => measure(alloc, inputs, out, folder),
         Request::Trace(paths) => trace(alloc, paths, folder),
         Request::Network(request) => perform_network(alloc, request, out, folder),
@@ -65,6 +65,7 @@ fn perform<R: Read, O: Write, F: Folder>(
 /// Serves what the arguments ask for, help included.
 fn serve_arguments<R: Read, O: Write, F: Folder>(
     alloc: Global,
+    version: &str,
     arguments: &[String],
     input: &mut R,
     out: &mut O,
@@ -76,7 +77,7 @@ fn serve_arguments<R: Read, O: Write, F: Folder>(
         (λ f. Fails f (map string_bytes arguments.now) (R.remaining input.old)
         (world (O.contents out.old) (F.files folder.old) (F.failed folder.old)) (world (O.contents out.new) (F.files folder.new) (F.failed folder.new))) }
 {
-    match parse(alloc, arguments) {
+    match parse(alloc, version, arguments) {
         Ok(request) => perform(alloc, &request, input, out, folder),
         Err(NoRequest::Help(text)) => {
             write_bytes(out, text.as_bytes())?;
@@ -88,19 +89,20 @@ fn serve_arguments<R: Read, O: Write, F: Folder>(
 }
 
 /// Serves what the arguments ask for, of which the first is the program's name, and gives how it ended. The status is 0 done,
-/// 2 refused arguments, 3 a refused table, network or capture, 4 a refused load or jitter or a network that does not come to rest,
-/// 5 memory or a device.
+/// 1 done with one of what a run is to fail on, 2 refused arguments, 3 a refused table, network or capture, 4 a refused load or
+/// jitter or a network that does not come to rest, 5 memory or a device.
 ///
 /// `afdx alone` reads `input` to its end and writes its answer on `out`; `afdx check TABLE` and `afdx size TABLE` get TABLE
 /// from `folder` and write their lines on `out`; `afdx run TABLE IN OUT` gets TABLE, checks its load unless there is
-/// `--unchecked`, gets IN/port-1.pcap and so on, puts OUT/port-1.pcap and so on and writes the report on `out`;
-/// `afdx measure TABLE IN` does so too, but puts nothing and writes what delays and buffers were; `afdx trace TABLE IN OUT`
-/// puts OUT/arrivals.csv and OUT/departures.csv in place of the captures, and writes nothing; `afdx network check NET` and
-/// `afdx network jitter NET` get NET and the tables that it names and write their lines; `afdx network run NET IN OUT` gets
-/// IN/A/port-1.pcap and so on for each switch A, puts OUT/A/port-1.pcap and so on and writes the reports; `--help` and
-/// `--version` write the text of `clap` on `out`. On another status than 0 one line goes to `err`: whole, or it is said that it was
-/// not taken, and a prefix of it is there; a fault in writing it changes nothing else. What is met before the answer is written
-/// leaves `out` as it was; where writing fails, a prefix of the answer was written.
+/// `--unchecked`, gets IN/port-1.pcap and so on, puts OUT/port-1.pcap and so on and writes the report on `out`, with its verdict
+/// as the last line if there is `--verdict`; `afdx measure TABLE IN` does so too, but puts nothing and writes what delays and
+/// buffers were; `afdx trace TABLE IN OUT` puts OUT/arrivals.csv and OUT/departures.csv in place of the captures, and writes
+/// nothing; `afdx network check NET` and `afdx network jitter NET` get NET and the tables that it names and write their lines;
+/// `afdx network run NET IN OUT` gets IN/A/port-1.pcap and so on for each switch A, puts OUT/A/port-1.pcap and so on and writes
+/// the reports; `--help` and `--version` write the text of `clap` on `out`, the second that of `version` after the program's
+/// name. On a status above 1 one line goes to `err`: whole, or it is said that it was not taken, and a prefix of it is there; a
+/// fault in writing it changes nothing else. What is met before the answer is written leaves `out` as it was; where writing
+/// fails, a prefix of the answer was written.
 ///
 /// No contract knows why a reader, a writer or a folder fails, or whether memory is left: that 5 comes only then, and
 /// that it is said only of an `err` that fails that it has not taken its line, is shown by tests.
@@ -108,6 +110,7 @@ fn serve_arguments<R: Read, O: Write, F: Folder>(
 /// O(arguments, input and files) beside the switch's own work, with at most 16,777,216 reads of `input`.
 pub fn serve<R: Read, O: Write, E: Write, F: Folder>(
     alloc: Global,
+    version: &str,
     arguments: &[String],
     input: &mut R,
     out: &mut O,
@@ -123,7 +126,7 @@ pub fn serve<R: Read, O: Write, E: Write, F: Folder>(
         (world (O.contents out.old) (F.files folder.old) (F.failed folder.old)) (world (O.contents out.new) (F.files folder.new) (F.failed folder.new))
         × IsTold result.is_told (E.contents err.old) (E.contents err.new) (line_of f) }
 {
-    match serve_arguments(alloc, arguments, input, out, folder) {
+    match serve_arguments(alloc, version, arguments, input, out, folder) {
         Ok(()) => Ending {
             status: 0,
             is_told: true,

@@ -15,3 +15,5 @@ mod networks;
 mod policing;
 #[cfg(test)]
 mod streams;
+#[cfg(test)]
+mod version;

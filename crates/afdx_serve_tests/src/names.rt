@@ -62,13 +62,14 @@ fn inputs_are_named(alloc: Global) -> Result<bool, AllocError> {
     Ok(table && load && capture && port)
 }
 
-/// Whether arguments, devices and memory that fail are printed so.
+/// Whether arguments, devices and memory that fail, and what a run is to fail on, are printed so.
 fn others_are_named(alloc: Global) -> Result<bool, AllocError> {
+    let found = is_named(alloc, Failure::Found, "Found")?;
     let usage = is_named(alloc, Failure::Usage, "Usage")?;
     let read = is_named(alloc, Failure::Read, "Read")?;
     let write = is_named(alloc, Failure::Write, "Write")?;
     let memory = is_named(alloc, Failure::Memory, "Memory")?;
-    Ok(usage && read && write && memory)
+    Ok(found && usage && read && write && memory)
 }
 
 #[test]

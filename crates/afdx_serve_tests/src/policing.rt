@@ -1,8 +1,8 @@
 //! The policing of one link, by its call, and of a capture that is cut at each byte.
 
-use afdx_alone::{AloneFault, alone};
-use afdx_arguments::{Alone, Request, parse};
-use afdx_fixtures::{LINK_10, split};
+use afdx_alone::{Alone, AloneFault, alone};
+use afdx_arguments::{Request, parse};
+use afdx_fixtures::{LINK_10, VERSION, split};
 use afdx_pcap::PcapFault;
 use afdx_samples::{capture, large, small};
 use std::alloc::{AllocError, Global};
@@ -16,7 +16,7 @@ fn link() -> Option<Alone> {
 /// What these arguments ask for, where it is the policing of one link.
 fn link_in(alloc: Global, line: &str) -> Result<Option<Alone>, AllocError> {
     let arguments = split(alloc, line)?;
-    match parse(alloc, &arguments) {
+    match parse(alloc, VERSION, &arguments) {
         Ok(Request::Alone(link)) => Ok(Some(link)),
         _ => Ok(None),
     }

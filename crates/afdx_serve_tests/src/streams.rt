@@ -3,7 +3,7 @@
 
 use crate::devices::{Interrupted, Sink, Source};
 use afdx_failures::Ending;
-use afdx_fixtures::{CHECKED, LINK_10, MemoryFolder, OneFrame, RUN, answer_over, split};
+use afdx_fixtures::{CHECKED, LINK_10, MemoryFolder, OneFrame, RUN, VERSION, answer_over, split};
 use afdx_samples::{capture, large};
 use afdx_serve::serve;
 use std::alloc::{AllocError, Global};
@@ -71,7 +71,7 @@ fn served<R: Read>(
 ) -> Result<(Ending, Vec<u8>), AllocError> {
     let arguments = split(alloc, line)?;
     let mut err = Sink::new(alloc, writer.0, writer.1, BROKEN);
-    let ending = serve(alloc, &arguments, input, out, &mut err, folder);
+    let ending = serve(alloc, VERSION, &arguments, input, out, &mut err, folder);
     Ok((ending, err.bytes))
 }
 

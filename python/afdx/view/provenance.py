@@ -8,7 +8,7 @@ from collections.abc import Sequence
 from dataclasses import dataclass
 from pathlib import Path
 
-from afdx import files, program
+from afdx import program
 from afdx.failure import USAGE, Failure, failing
 from afdx.pages import words
 
@@ -16,10 +16,19 @@ from afdx.pages import words
 @dataclass(frozen=True)
 class Provenance:
     version: list[str]  # what the program says of itself; nothing if it was not run
-    proved: str | None  # of which commit it was built with its proofs, as the build noted; None if no note has it
     sums: list[tuple[str, str]]  # of each file its name and its SHA-256
     line: str  # the command line
     made: str  # the time in UTC
+
+    @property
+    def program(self) -> str:
+        """Answers its number and the kit that it is proved with."""
+        return " · ".join(self.version[:2]) or "not run"
+
+    @property
+    def proofs(self) -> str:
+        """Answers whether this program was built with its proofs, and of which commit."""
+        return self.version[2] if len(self.version) > 2 else "the program does not say whether it is proved"
 
 
 def shown(name: str) -> str:
@@ -41,13 +50,6 @@ def sums_of(command: str, names: Sequence[str]) -> list[tuple[str, str]]:
     return [(shown(name), sum_of(command, name)) for name in names]
 
 
-def noted(command: str) -> dict[str, str]:
-    """Answers what notes say of programs that were built with their proofs, by the SHA-256 of each."""
-    notes = [note for note in program.notes_beside(program.PACKAGE) if note.is_file()]
-    lines = [line for note in notes for line in files.get(command, note).decode("utf-8", "replace").splitlines()]
-    return {number: said for number, _, said in (line.partition(" ") for line in lines)}
-
-
 def now(command: str) -> str:
     """Answers the time, or that of SOURCE_DATE_EPOCH, by which a page can be made again byte by byte."""
     fixed = os.environ.get("SOURCE_DATE_EPOCH")
@@ -60,11 +62,9 @@ def now(command: str) -> str:
 def provenance_of(command: str, asked: program.Program | None, arguments: Sequence[str],
                   names: Sequence[str]) -> Provenance:
     """Answers where a page of these arguments comes from, which was made of these files."""
-    version, proved, sums = [], None, sums_of(command, names)
+    version, sums = [], sums_of(command, names)
     if asked:
         version = asked.answer("--version").splitlines()
-        number = sum_of(command, shutil.which(asked.file) or asked.file)
-        proved = noted(command).get(number)
-        sums.append(("afdx", number))
+        sums.append(("afdx", sum_of(command, shutil.which(asked.file) or asked.file)))
     line = shlex.join([command, *map(shown, arguments)])
-    return Provenance(version, proved, sums, line, now(command))
+    return Provenance(version, sums, line, now(command))

@@ -5,7 +5,7 @@ use Rattle.afdx_table.specs.Link.{Link}
 use Rattle.afdx_table.specs.Content.{Content}
 use Rattle.afdx_filter.specs.declared.outcome.Verdict.TheVariants.{Clean}
 use Rattle.afdx_filter.specs.Verdict.{verdict_of}
-use Rattle.afdx_arguments.specs.declared.alone.Alone.{Alone}
+use Rattle.afdx_alone.specs.declared.link.Alone.{Alone}
 use Rattle.afdx_alone.specs.Own.{constant, is_own}
 
 -- the table has the profile's constant and one link: this one, whose frames come in at this port

@@ -10,7 +10,7 @@ use Rattle.afdx_pcap.specs.Fault.{IsFault, is_cut, last_stamp}
 use Rattle.afdx_pcap.specs.Reading.{AreReadUpTo}
 use Rattle.afdx_pcap.specs.Text.{capture_text, record_text}
 use Rattle.afdx_filter.specs.Frame.{frame_of}
-use Rattle.afdx_arguments.specs.declared.alone.Alone.{Alone}
+use Rattle.afdx_alone.specs.declared.link.Alone.{Alone}
 use Rattle.afdx_alone.specs.declared.fault.AloneFault.{AloneFault}
 use Rattle.afdx_alone.specs.declared.fault.AloneFault.TheVariants.{Memory, Capture}
 use Rattle.afdx_alone.specs.declared.policing.Policing.{Policing}

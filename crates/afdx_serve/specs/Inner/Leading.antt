@@ -3,6 +3,7 @@ use Rattle.std.specs.Prelude.{Bool, not, false, ◌≡◌, ◌⊎◌, ℕ, List,
 use Rattle.afdx_table.specs.Content.{Content}
 use Rattle.afdx_table.specs.Text.{table_of}
 use Rattle.afdx_load.specs.Accepted.{IsAccepted, first_fault}
+use Rattle.afdx_count.specs.Tally.{Tally}
 use Rattle.afdx_session.specs.Texts.{Text}
 use Rattle.afdx_session.specs.declared.plan.Plan.{Plan}
 use Rattle.afdx_session.specs.Outcome.{Results, table_in, is_cleared, IsOutcome}
@@ -10,7 +11,7 @@ use Rattle.afdx_arguments.specs.declared.request.Paths.{Paths}
 use Rattle.afdx_failures.specs.declared.failure.Failure.{Failure}
 use Rattle.afdx_failures.specs.declared.failure.Failure.TheVariants as failure
 use Rattle.afdx_folder.specs.Files.{Files, IsOpened, DeviceLog}
-use Rattle.afdx_serve.specs.Runs.{HasCaptures, LeadsTo, names_in, bytes_of_captures, report_in, FailsToGetAll, FailsToLead}
+use Rattle.afdx_serve.specs.Runs.{HasCaptures, LeadsTo, names_in, bytes_of_captures, FailsToGetAll, FailsToLead}
 use Rattle.afdx_serve.specs.Inner.Outputs.{HaveBytes}
 
 -- ---- a plan
@@ -38,23 +39,23 @@ pub record AreOpened {R : Type 0} (remaining : R → Option (List ℕ)) (files :
 
 -- ---- new files
 
--- the outcome of these captures is in new files, and this is its report
-pub record IsInFiles {N : Type 0} (contents : N → Option (List ℕ)) (shown : Option Files) (t : Content) (texts : List Text) (files : List N) (report : List ℕ) : Type 0 where
+-- the outcome of these captures is in new files, and these are its counts
+pub record IsInFiles {N : Type 0} (contents : N → Option (List ℕ)) (shown : Option Files) (t : Content) (texts : List Text) (files : List N) (counts : Tally) : Type 0 where
   pub results : Results
   pub outcome : IsOutcome t texts results
   pub have : HaveBytes contents shown files (bytes_of_captures results.captures)
-  pub reported : report ≡ report_in results
+  pub counted : counts ≡ results.counts
 
 -- captures were not got, or lead to nothing
 abbrev pub FailsToLeadFrom : Failure → Option Files → List ℕ → Content → DeviceLog → DeviceLog → Type 0
 FailsToLeadFrom f files path t before after =
     FailsToGetAll f files path t before after ⊎ ((texts : List Text) × HasCaptures files path t texts × FailsToLead f t texts × (after ≡ before))
 
--- what the files of a run lead to is in these new files, which are to be put under these names, and this is the report
-pub record IsLed {N : Type 0} (contents : N → Option (List ℕ)) (paths : Paths) (shown : Option Files) (files : List N) (names : List (List ℕ)) (report : List ℕ) : Type 0 where
+-- what the files of a run lead to is in these new files, which are to be put under these names, and these are its counts
+pub record IsLed {N : Type 0} (contents : N → Option (List ℕ)) (paths : Paths) (shown : Option Files) (files : List N) (names : List (List ℕ)) (counts : Tally) : Type 0 where
   pub results : Results
   pub leads : LeadsTo paths shown results
   pub named : names ≡ names_in paths.output.now results.captures
   pub many : length (bytes_of_captures results.captures) ≡ length names
   pub have : HaveBytes contents shown files (bytes_of_captures results.captures)
-  pub reported : report ≡ report_in results
+  pub counted : counts ≡ results.counts

@@ -1,7 +1,10 @@
 use Rattle.std.proofs.Common.{refl, inl}
 use Rattle.afdx_failures.specs.declared.failure.Failure.TheVariants as failure
-use Rattle.afdx_failures.proofs.ReportingLemmas.{made}
+use Rattle.afdx_failures.proofs.ReportingLemmas.{made, nothing_told}
 use Rattle.afdx_failures.proofs.reporting.report.Goals as goal
+
+pub returns-in-Found-clause-reported : goal.returns-in-Found-clause-reported
+returns-in-Found-clause-reported g c = rw c.in-Found.is (failure.Found, inl refl, refl, nothing_told _)
 
 pub returns-in-Usage-clause-reported : goal.returns-in-Usage-clause-reported
 returns-in-Usage-clause-reported g c = rw c.in-Usage.is (failure.Usage, inl refl, c.write_line.ensures.status, c.write_line.ensures.line)

@@ -10,9 +10,13 @@ returns-in-Ok-clause-led g c = λ first text keeps shows is.
     let led = c.in-Ok.ensures.led in
     let long = sym c.deref_mut.ensures.len ∙ sym led.0.3.appended.0 in
     let written = rw c.deref_mut.ensures.value at led.0.3 in (
-      folder_led c.tables_are_well_formed.ensures c.accepted_runs_isolate.ensures g.F.New.NewFile.contents c.args.paths.now first _ _ text c.args.plan led.0.1 c.in_ok-files.files.items
-          c.report_of_folder.new.files c.in_ok-files.files.len led.0.0 (map string_bytes c.args.names.now) (string_bytes c.in-Ok.report) shows is c.requires.names keeps c.in_ok-files.ensures.same
-          c.in_ok-files.ensures.empty long led.0.2 written led.0.4,
+      (
+        led.0.0,
+        folder_led c.tables_are_well_formed.ensures c.accepted_runs_isolate.ensures g.F.New.NewFile.contents c.args.paths.now first _ _ text c.args.plan led.0.1 c.in_ok-files.files.items
+            c.report_of_folder.new.files c.in_ok-files.files.len led.0.0 (map string_bytes c.args.names.now) shows is c.requires.names keeps c.in_ok-files.ensures.same
+            c.in_ok-files.ensures.empty long led.0.2 written,
+        led.0.4,
+      ),
       led.1 ∙ c.in_ok-files.ensures.failed,
     )
 

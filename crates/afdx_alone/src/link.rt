@@ -23,8 +23,8 @@ pub struct Alone {
 
 impl Alone {
     ghost use Rattle.std.specs.Prelude.{MatchOption};
-    ghost use Rattle.afdx_arguments.specs.declared.alone.Alone.{Alone as Link};
-    ghost use Rattle.afdx_arguments.specs.Link.{HasNumbers};
+    ghost use Rattle.afdx_alone.specs.declared.link.Alone.{Alone as Link};
+    ghost use Rattle.afdx_alone.specs.Link.{HasNumbers};
 
     /// The link of these numbers (gap in ms, jitter in µs, size in bytes); `None` where one is out of its limits. O(1).
     pub fn of_numbers(id: u64, bag: u64, jitter: u64, size: u64) -> Option<Alone>

@@ -1,7 +1,7 @@
 -- The numbers of a link.
 use Rattle.std.specs.Prelude.{◌≡◌, ◌≤◌, ◌*◌, ℕ}
 use Rattle.afdx_units.specs.Time.{bag_ms}
-use Rattle.afdx_arguments.specs.declared.alone.Alone.{Alone}
+use Rattle.afdx_alone.specs.declared.link.Alone.{Alone}
 
 -- the numbers of a link: ms, µs and bytes
 pub record HasNumbers (link : Alone) (id bag jitter size : ℕ) : Type 0 where
