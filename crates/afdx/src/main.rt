@@ -10,8 +10,8 @@
 mod version;
 
 use crate::version::VERSION;
-use afdx_failures::{Failure, report};
 use afdx_folder::Disk;
+use afdx_messages::{Failure, report};
 use afdx_serve::serve;
 use std::process::ExitCode;
 use std::{env, io};

@@ -1,7 +1,7 @@
 //! What the program answers to its arguments, over a folder in memory.
 
 use crate::MemoryFolder;
-use afdx_failures::Ending;
+use afdx_messages::Ending;
 use afdx_serve::serve;
 use std::alloc::{AllocError, Allocator, Global};
 

@@ -8,8 +8,8 @@ use Rattle.std.proofs.lemmas.Option.{slice_get-map, slice_get-get_or}
 use Rattle.afdx_table.specs.declared.rows.PortRow.{PortRow}
 use Rattle.afdx_session.specs.Texts.{Text, texts_of}
 use Rattle.afdx_table.specs.Content.{Content}
-use Rattle.afdx_failures.specs.declared.failure.Failure.{Failure}
-use Rattle.afdx_failures.specs.declared.failure.Failure.TheVariants as failure
+use Rattle.afdx_messages.specs.declared.failure.Failure.{Failure}
+use Rattle.afdx_messages.specs.declared.failure.Failure.TheVariants as failure
 use Rattle.afdx_folder.specs.Files.{Files, Shows, ShowsAll, KeepsFiles, KeepsOthers, PutsFiles, DeviceLog, one_more, settled_after}
 use Rattle.afdx_serve.specs.Runs.{capture_name, names_in, bytes_of_captures, GetsUpTo, port_names, StopsAt, StopsSettling, EndsAt, FailsToGet, FailsToGetAll, FailsToPutOne, FailsToPut}
 use Rattle.afdx_serve.specs.Inner.Outputs.{FailsToSettle, FailsToMove}

@@ -12,9 +12,9 @@ use Rattle.afdx_table.specs.declared.fault.TableFault.TheVariants as table
 use Rattle.afdx_wiring.specs.File.{Switch, Layout}
 use Rattle.afdx_wiring.specs.Net.{Network}
 use Rattle.afdx_wiring.specs.Order.{lost_port}
-use Rattle.afdx_lines.specs.declared.network_failure.NetworkFailure.TheVariants as network
-use Rattle.afdx_failures.specs.declared.failure.Failure.{Failure}
-use Rattle.afdx_failures.specs.declared.failure.Failure.TheVariants as failure
+use Rattle.afdx_messages.specs.declared.network_failure.NetworkFailure.TheVariants as network
+use Rattle.afdx_messages.specs.declared.failure.Failure.{Failure}
+use Rattle.afdx_messages.specs.declared.failure.Failure.TheVariants as failure
 use Rattle.afdx_folder.specs.Files.{Files, Shows, ShowsAll, KeepsFiles, DeviceLog, one_more}
 use Rattle.afdx_serve.specs.Runs.{FailsToGet}
 use Rattle.afdx_serve.specs.Networks.{bytes_in, table_names, HasLayout, HasTexts, AreTables, GetsTables, IsRefusedTable, FailsToLayout, FailsToGetTexts, FailsToReadTables}

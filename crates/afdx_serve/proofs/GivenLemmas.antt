@@ -15,8 +15,8 @@ use Rattle.afdx_wiring.specs.Net.{Network}
 use Rattle.afdx_network.specs.Runs.{Given}
 use Rattle.afdx_network.specs.Given.{given_of, is_open, AreOpen, IsGivenAt, AreGiven}
 use Rattle.afdx_network_report.specs.Lines.{Names, name_of}
-use Rattle.afdx_failures.specs.declared.failure.Failure.{Failure}
-use Rattle.afdx_failures.specs.declared.failure.Failure.TheVariants as failure
+use Rattle.afdx_messages.specs.declared.failure.Failure.{Failure}
+use Rattle.afdx_messages.specs.declared.failure.Failure.TheVariants as failure
 use Rattle.afdx_folder.specs.Files.{Files, Shows, ShowsAll, KeepsFiles, DeviceLog, one_more}
 use Rattle.afdx_serve.specs.Runs.{capture_name, names_in, bytes_of_captures, FailsToGet}
 use Rattle.afdx_serve.specs.Networks.{names_of}

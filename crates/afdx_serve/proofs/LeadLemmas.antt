@@ -18,8 +18,8 @@ use Rattle.afdx_session.specs.Sources.{AreRead, HasFirstFault}
 use Rattle.afdx_session.specs.Written.{IsWritten}
 use Rattle.afdx_arguments.specs.declared.request.Paths.{Paths}
 use Rattle.afdx_arguments.specs.declared.request.Inputs.{Inputs}
-use Rattle.afdx_failures.specs.declared.failure.Failure.{Failure}
-use Rattle.afdx_failures.specs.declared.failure.Failure.TheVariants as failure
+use Rattle.afdx_messages.specs.declared.failure.Failure.{Failure}
+use Rattle.afdx_messages.specs.declared.failure.Failure.TheVariants as failure
 use Rattle.afdx_folder.specs.Files.{Files, DeviceLog, Shows, ShowsAll, IsOpened, KeepsFiles}
 use Rattle.afdx_folder.specs.Input.{AreGiven}
 use Rattle.afdx_serve.specs.Runs.{capture_name, names_in, port_names, bytes_of_captures, inputs_of, HasPlan, HasCaptures, FailsToGet, FailsToGetAll, FailsToGather}

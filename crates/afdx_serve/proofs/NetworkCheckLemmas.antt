@@ -1,7 +1,7 @@
 -- Why a network was not found to be accepted.
 use Rattle.std.proofs.Common.{◌≡◌, ℕ, List, inl, inr}
 use Rattle.afdx_wiring.specs.Net.{Network}
-use Rattle.afdx_failures.specs.declared.failure.Failure.{Failure}
+use Rattle.afdx_messages.specs.declared.failure.Failure.{Failure}
 use Rattle.afdx_folder.specs.Files.{KeepsFiles}
 use Rattle.afdx_serve.specs.Networks.{names_of, HasNetwork, FailsToGetNetwork, FailsToAcceptNetwork}
 use Rattle.afdx_serve.specs.Serving.{World, WritesNothing, FailsToCheckNetwork}

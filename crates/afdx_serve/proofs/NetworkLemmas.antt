@@ -7,13 +7,13 @@ use Rattle.afdx_network_report.specs.Lines.{Names}
 use Rattle.afdx_arguments.specs.declared.request.NetworkPaths.{NetworkPaths}
 use Rattle.afdx_arguments.specs.declared.request.NetworkRequest.{NetworkRequest}
 use Rattle.afdx_arguments.specs.declared.request.NetworkRequest.TheVariants as ask
-use Rattle.afdx_lines.specs.declared.network_failure.NetworkFailure.{NetworkFailure}
-use Rattle.afdx_lines.specs.declared.network_failure.NetworkFailure.TheVariants as network
-use Rattle.afdx_failures.specs.declared.failure.Failure.{Failure}
-use Rattle.afdx_failures.specs.declared.failure.Failure.TheVariants as failure
-use Rattle.afdx_failures.specs.Inner.Failures.{wiring_failure}
+use Rattle.afdx_messages.specs.declared.network_failure.NetworkFailure.{NetworkFailure}
+use Rattle.afdx_messages.specs.declared.network_failure.NetworkFailure.TheVariants as network
+use Rattle.afdx_messages.specs.declared.failure.Failure.{Failure}
+use Rattle.afdx_messages.specs.declared.failure.Failure.TheVariants as failure
+use Rattle.afdx_messages.specs.Inner.Failures.{wiring_failure}
 use Rattle.afdx_folder.specs.Files.{Files, DeviceLog, KeepsFiles}
-use Rattle.afdx_failures.specs.Reporting.{IsMade}
+use Rattle.afdx_messages.specs.Reporting.{IsMade}
 use Rattle.afdx_serve.specs.Networks.{IsRefused, FailsToGetNetwork}
 use Rattle.afdx_serve.specs.NetworkRuns.{StopsNetwork, EndsNetwork}
 use Rattle.afdx_serve.specs.Serving.{World, WritesNothing, FailsToPerformNetwork}

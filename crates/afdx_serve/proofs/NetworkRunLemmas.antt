@@ -19,9 +19,9 @@ use Rattle.afdx_network.specs.Given.{AreGiven}
 use Rattle.afdx_network.specs.Laws.{IsOfFile, NetworkRunsDeliver}
 use Rattle.afdx_network_report.specs.Lines.{Names, name_of, report_of}
 use Rattle.afdx_arguments.specs.declared.request.NetworkPaths.{NetworkPaths}
-use Rattle.afdx_lines.specs.declared.network_failure.NetworkFailure.TheVariants as network
-use Rattle.afdx_failures.specs.declared.failure.Failure.{Failure}
-use Rattle.afdx_failures.specs.declared.failure.Failure.TheVariants as failure
+use Rattle.afdx_messages.specs.declared.network_failure.NetworkFailure.TheVariants as network
+use Rattle.afdx_messages.specs.declared.failure.Failure.{Failure}
+use Rattle.afdx_messages.specs.declared.failure.Failure.TheVariants as failure
 use Rattle.afdx_folder.specs.Files.{Files, KeepsFiles, PutsFiles, DeviceLog, settled_after}
 use Rattle.afdx_serve.specs.Runs.{capture_name, names_in, bytes_of_captures, report_in, StopsAt, EndsAt, FailsToPut}
 use Rattle.afdx_serve.specs.Networks.{names_of, HasNetwork}

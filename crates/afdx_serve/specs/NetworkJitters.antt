@@ -18,7 +18,7 @@ use Rattle.afdx_wiring.specs.declared.fault.NetworkFault.{NetworkFault}
 use Rattle.afdx_wiring.specs.declared.fault.NetworkFault.TheVariants as fault
 use Rattle.afdx_wiring.specs.declared.jitters.RowNeed.{RowNeed}
 use Rattle.afdx_network_report.specs.Lines.{jitter_text}
-use Rattle.afdx_failures.specs.declared.failure.Failure.{Failure}
+use Rattle.afdx_messages.specs.declared.failure.Failure.{Failure}
 use Rattle.afdx_folder.specs.Files.{Files}
 use Rattle.afdx_serve.specs.Networks.{names_of, HasNetwork, IsRefused}
 

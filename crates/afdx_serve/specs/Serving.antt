@@ -9,8 +9,8 @@ use Rattle.afdx_arguments.specs.declared.request.Inputs.{Inputs}
 use Rattle.afdx_arguments.specs.declared.request.Request.{Request}
 use Rattle.afdx_arguments.specs.declared.request.Request.TheVariants as request
 use Rattle.afdx_arguments.specs.Requests.{Asks, AskForHelp, AreRefused}
-use Rattle.afdx_failures.specs.declared.failure.Failure.{Failure}
-use Rattle.afdx_failures.specs.declared.failure.Failure.TheVariants as failure
+use Rattle.afdx_messages.specs.declared.failure.Failure.{Failure}
+use Rattle.afdx_messages.specs.declared.failure.Failure.TheVariants as failure
 use Rattle.afdx_alone.specs.Answer.{IsAnswer}
 use Rattle.afdx_table.specs.Content.{Content}
 use Rattle.afdx_load.specs.Accepted.{IsAccepted, first_fault}

@@ -8,7 +8,7 @@ use Rattle.afdx_trace.specs.Departures.{departures_text}
 use Rattle.afdx_session.specs.Texts.{Text}
 use Rattle.afdx_session.specs.Outcome.{IsDoneOf}
 use Rattle.afdx_arguments.specs.declared.request.Paths.{Paths}
-use Rattle.afdx_failures.specs.declared.failure.Failure.{Failure}
+use Rattle.afdx_messages.specs.declared.failure.Failure.{Failure}
 use Rattle.afdx_folder.specs.Files.{Files, PutsFiles, DeviceLog}
 use Rattle.afdx_serve.specs.Runs.{inputs_of, HasPlan, HasCaptures, StopsAt, EndsAt, FailsToEnd}
 

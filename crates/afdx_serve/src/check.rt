@@ -9,10 +9,10 @@ ghost use Rattle.afdx_serve.specs.Checks.{IsLeastBuffer, bound_text, load_text, 
 ghost use Rattle.afdx_serve.specs.Serving.{world, FailsToAccept, Checks, FailsToCheck};
 
 use crate::get::get_table;
-use afdx_failures::Failure;
 use afdx_folder::{Folder, write_bytes};
 use afdx_load::laws::longest_shows_links;
 use afdx_load::{Load, Loads, bounds, least_buffer, loads};
+use afdx_messages::Failure;
 use afdx_table::laws::ports_are_found;
 use afdx_table::{PortRow, Table};
 use std::alloc::{AllocError, Global};

@@ -10,8 +10,8 @@ ghost use Rattle.afdx_serve.specs.Inner.Leading.{IsPlanOf, FailsToReadPlan};
 
 use crate::get::{get_captures, get_text};
 use afdx_arguments::{Inputs, Paths};
-use afdx_failures::Failure;
 use afdx_folder::Folder;
+use afdx_messages::Failure;
 use afdx_session::Plan;
 use afdx_table::Table;
 use std::alloc::Global;

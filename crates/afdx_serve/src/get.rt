@@ -8,8 +8,8 @@ ghost use Rattle.afdx_serve.specs.Inner.Leading.{AreOpened};
 ghost use Rattle.afdx_serve.specs.Inner.OpenPorts.{FailsToGetNamed};
 
 use crate::names::capture_name;
-use afdx_failures::Failure;
 use afdx_folder::{Folder, FolderFault};
+use afdx_messages::Failure;
 use afdx_table::Table;
 use std::alloc::Global;
 

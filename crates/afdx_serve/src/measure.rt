@@ -10,9 +10,9 @@ ghost use Rattle.afdx_serve.specs.Serving.{world, Measures, FailsToMeasure};
 
 use crate::gathering::gather;
 use afdx_arguments::Inputs;
-use afdx_failures::Failure;
 use afdx_folder::{Folder, write_bytes};
 use afdx_measure::laws::accepted_tables_stay_within_the_load;
+use afdx_messages::Failure;
 use afdx_session::Plan;
 use std::alloc::Global;
 use std::io::Write;

@@ -8,8 +8,8 @@ ghost use Rattle.afdx_serve.specs.NetworkChecks.{IsNetworkCheck};
 ghost use Rattle.afdx_serve.specs.Serving.{world, ChecksNetwork, FailsToCheckNetwork};
 
 use crate::network_get::{get_network, names_of, refused};
-use afdx_failures::Failure;
 use afdx_folder::{Folder, write_bytes};
+use afdx_messages::Failure;
 use afdx_network_report::accepted_text;
 use afdx_wiring::{ClearedNetwork, Network, NetworkFault};
 use std::alloc::{AllocError, Global};

@@ -8,9 +8,8 @@ ghost use Rattle.afdx_serve.specs.Networks.{bytes_in, names_of, HasLayout, HasTe
 ghost use Rattle.afdx_serve.specs.Networks.{FailsToLayout, FailsToGetTexts, FailsToReadTables, FailsToJoin, FailsToGetNetwork};
 
 use crate::get::get;
-use afdx_failures::Failure;
 use afdx_folder::Folder;
-use afdx_lines::NetworkFailure;
+use afdx_messages::{Failure, NetworkFailure};
 use afdx_table::{Table, TableFault};
 use afdx_wiring::{Layout, Network, NetworkFault, Switch};
 use std::alloc::{AllocError, Global};

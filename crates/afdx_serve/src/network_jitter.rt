@@ -6,13 +6,13 @@ ghost use Rattle.afdx_wiring.specs.declared.fault.NetworkFault.TheVariants.{Memo
 ghost use Rattle.afdx_wiring.specs.Needs.{AreNeeds};
 ghost use Rattle.afdx_wiring.specs.Rules.{FitsTogether};
 ghost use Rattle.afdx_serve.specs.NetworkJitters.{rate_fault, first_rate_fault, rates_fit, fit_of};
-ghost use Rattle.afdx_failures.specs.declared.failure.Failure.TheVariants.{Memory as Out};
+ghost use Rattle.afdx_messages.specs.declared.failure.Failure.TheVariants.{Memory as Out};
 ghost use Rattle.afdx_serve.specs.Serving.{world, GivesJitters, FailsToGiveJitters};
 
 use crate::network_get::{get_network, names_of, refused};
-use afdx_failures::Failure;
 use afdx_folder::{Folder, write_bytes};
 use afdx_load::{LoadFault, Loads, PARTS, Rule, breaks, loads};
+use afdx_messages::Failure;
 use afdx_network_report::jitter_text;
 use afdx_table::laws::ports_are_found;
 use afdx_table::{PortRow, Table};

@@ -7,8 +7,8 @@ use crate::network_check::network_check;
 use crate::network_jitter::network_jitter;
 use crate::network_run::network_run;
 use afdx_arguments::NetworkRequest;
-use afdx_failures::Failure;
 use afdx_folder::Folder;
+use afdx_messages::Failure;
 use std::alloc::Global;
 use std::io::Write;
 

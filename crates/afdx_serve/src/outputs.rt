@@ -6,8 +6,8 @@ ghost use Rattle.afdx_serve.specs.Runs.{FailsToPut, FailsToPutOne};
 ghost use Rattle.afdx_serve.specs.Inner.Outputs.{AreEmpty, HaveBytes, FailsToSettle, FailsToMove};
 
 use crate::put::put_failure;
-use afdx_failures::Failure;
 use afdx_folder::{Folder, NewFile};
+use afdx_messages::Failure;
 use std::alloc::{AllocError, Global};
 use std::vec::IntoIter;
 

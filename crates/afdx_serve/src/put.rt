@@ -3,8 +3,8 @@
 ghost use Rattle.afdx_folder.specs.Files.{DeviceLog, IsCause};
 ghost use Rattle.afdx_serve.specs.Runs.{FailsToPutOne};
 
-use afdx_failures::Failure;
 use afdx_folder::FolderFault;
+use afdx_messages::Failure;
 use std::alloc::Global;
 
 /// The failure of a put under this name.

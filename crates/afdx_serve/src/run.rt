@@ -8,8 +8,8 @@ use crate::leading::lead;
 use crate::names::port_names;
 use crate::outputs::put_all;
 use afdx_arguments::{Paths, RunOptions};
-use afdx_failures::Failure;
 use afdx_folder::{Folder, write_bytes};
+use afdx_messages::Failure;
 use std::alloc::Global;
 use std::io::Write;
 

@@ -2,8 +2,8 @@
 
 ghost use Rattle.std.specs.Prelude.{◌≡◌, ◌≢◌, map, string_bytes, MatchResult};
 ghost use Rattle.std.specs.Io.KnownBytes.{Keeps};
-ghost use Rattle.afdx_failures.specs.declared.failure.Failure.{Failure as Failing};
-ghost use Rattle.afdx_failures.specs.Reporting.{line_of, status_of, IsTold};
+ghost use Rattle.afdx_messages.specs.declared.failure.Failure.{Failure as Failing};
+ghost use Rattle.afdx_messages.specs.Reporting.{line_of, status_of, IsTold};
 ghost use Rattle.afdx_serve.specs.Serving.{world, Answers, FailsToAnswer, Performs, FailsToPerform, Serves, Fails};
 
 use crate::check::check;
@@ -14,8 +14,8 @@ use crate::size::size;
 use crate::trace::trace;
 use afdx_alone::{Alone, read_alone};
 use afdx_arguments::{NoRequest, Request, parse};
-use afdx_failures::{Ending, Failure, report};
 use afdx_folder::{Folder, write_bytes};
+use afdx_messages::{Ending, Failure, report};
 use std::alloc::Global;
 use std::io::{Read, Write};
 

@@ -10,10 +10,10 @@ ghost use Rattle.afdx_serve.specs.Sizes.{delay_text, letter_of, letters_of, verd
 ghost use Rattle.afdx_serve.specs.Serving.{world, Sizes, FailsToSize};
 
 use crate::get::get_table;
-use afdx_failures::Failure;
 use afdx_folder::{Folder, write_bytes};
 use afdx_load::laws::longest_shows_links;
 use afdx_load::{Load, Loads, PARTS, Rule, bounds, breaks, least_buffer, loads};
+use afdx_messages::Failure;
 use afdx_table::laws::ports_are_found;
 use afdx_table::{PortRow, Table};
 use std::alloc::{AllocError, Global};

@@ -12,8 +12,8 @@ ghost use Rattle.afdx_serve.specs.Traces.{trace_names, trace_texts, IsTraceIn, P
 use crate::gathering::{gather, inputs_of};
 use crate::outputs::put_texts;
 use afdx_arguments::Paths;
-use afdx_failures::Failure;
 use afdx_folder::Folder;
+use afdx_messages::Failure;
 use afdx_session::Plan;
 use std::alloc::{AllocError, Global};
 

@@ -1,9 +1,9 @@
 //! The messages of faults: each is its variant's name.
 
 use afdx_alone::AloneFault;
-use afdx_failures::Failure;
 use afdx_folder::FolderFault;
 use afdx_load::{LoadFault, Rule};
+use afdx_messages::Failure;
 use afdx_pcap::PcapFault;
 use afdx_table::TableFault;
 use std::alloc::{AllocError, Global};

@@ -2,8 +2,8 @@
 //! a writer takes.
 
 use crate::devices::{Interrupted, Sink, Source};
-use afdx_failures::Ending;
 use afdx_fixtures::{CHECKED, LINK_10, MemoryFolder, OneFrame, RUN, VERSION, answer_over, split};
+use afdx_messages::Ending;
 use afdx_samples::{capture, large};
 use afdx_serve::serve;
 use std::alloc::{AllocError, Global};

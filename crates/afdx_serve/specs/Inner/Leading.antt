@@ -8,8 +8,8 @@ use Rattle.afdx_session.specs.Texts.{Text}
 use Rattle.afdx_session.specs.declared.plan.Plan.{Plan}
 use Rattle.afdx_session.specs.Outcome.{Results, table_in, is_cleared, IsOutcome}
 use Rattle.afdx_arguments.specs.declared.request.Paths.{Paths}
-use Rattle.afdx_failures.specs.declared.failure.Failure.{Failure}
-use Rattle.afdx_failures.specs.declared.failure.Failure.TheVariants as failure
+use Rattle.afdx_messages.specs.declared.failure.Failure.{Failure}
+use Rattle.afdx_messages.specs.declared.failure.Failure.TheVariants as failure
 use Rattle.afdx_folder.specs.Files.{Files, IsOpened, DeviceLog}
 use Rattle.afdx_serve.specs.Runs.{HasCaptures, LeadsTo, names_in, bytes_of_captures, FailsToGetAll, FailsToLead}
 use Rattle.afdx_serve.specs.Inner.Outputs.{HaveBytes}

@@ -6,9 +6,9 @@ use Rattle.afdx_network.specs.Given.{IsRefusal}
 use Rattle.afdx_network.specs.declared.fault.NetworkRunFault.{NetworkRunFault}
 use Rattle.afdx_network.specs.declared.fault.NetworkRunFault.TheVariants as run
 use Rattle.afdx_network_report.specs.Lines.{Names, name_of}
-use Rattle.afdx_lines.specs.declared.network_failure.NetworkFailure.TheVariants as network
-use Rattle.afdx_failures.specs.declared.failure.Failure.{Failure}
-use Rattle.afdx_failures.specs.declared.failure.Failure.TheVariants as failure
+use Rattle.afdx_messages.specs.declared.network_failure.NetworkFailure.TheVariants as network
+use Rattle.afdx_messages.specs.declared.failure.Failure.{Failure}
+use Rattle.afdx_messages.specs.declared.failure.Failure.TheVariants as failure
 use Rattle.afdx_serve.specs.Networks.{names_of}
 
 -- the failure that a refusal of a run leads to: the refusal, with the name of its switch; or memory. That something else was given

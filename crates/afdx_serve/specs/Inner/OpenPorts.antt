@@ -4,8 +4,8 @@ use Rattle.afdx_table.specs.Content.{Content}
 use Rattle.afdx_session.specs.Texts.{Text}
 use Rattle.afdx_wiring.specs.Net.{Network}
 use Rattle.afdx_network.specs.Given.{AreOpen}
-use Rattle.afdx_failures.specs.declared.failure.Failure.{Failure}
-use Rattle.afdx_failures.specs.declared.failure.Failure.TheVariants as failure
+use Rattle.afdx_messages.specs.declared.failure.Failure.{Failure}
+use Rattle.afdx_messages.specs.declared.failure.Failure.TheVariants as failure
 use Rattle.afdx_folder.specs.Files.{Files, ShowsAll, DeviceLog, one_more}
 use Rattle.afdx_serve.specs.Runs.{names_in, bytes_of_captures}
 

@@ -1,7 +1,7 @@
 -- New files that outputs go to, beside what a folder showed before they were begun.
 use Rattle.std.specs.Prelude.{ℕ, ◌≡◌, List, [], Option, Some, IfSome, slice_get, string_bytes}
-use Rattle.afdx_failures.specs.declared.failure.Failure.{Failure}
-use Rattle.afdx_failures.specs.declared.failure.Failure.TheVariants as failure
+use Rattle.afdx_messages.specs.declared.failure.Failure.{Failure}
+use Rattle.afdx_messages.specs.declared.failure.Failure.TheVariants as failure
 use Rattle.afdx_folder.specs.Files.{Files, DeviceLog, one_more}
 use Rattle.afdx_serve.specs.Runs.{StopsAt, StopsSettling}
 

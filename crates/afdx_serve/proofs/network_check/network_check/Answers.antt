@@ -1,6 +1,6 @@
 use Rattle.std.proofs.Common.{string_bytes}
 use Rattle.std.proofs.KnownBytes.{Keeps-refl}
-use Rattle.afdx_failures.specs.declared.failure.Failure.TheVariants.{Write}
+use Rattle.afdx_messages.specs.declared.failure.Failure.TheVariants.{Write}
 use Rattle.afdx_serve.proofs.Errors.{of_error}
 use Rattle.afdx_serve.proofs.NetworkCheckLemmas.{not_got, not_accepted}
 use Rattle.afdx_serve.proofs.network_check.network_check.Goals as goal

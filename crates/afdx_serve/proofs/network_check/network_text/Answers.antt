@@ -1,6 +1,6 @@
 use Rattle.std.proofs.Common.{refl}
 use Rattle.afdx_wiring.specs.declared.fault.NetworkFault.TheVariants as fault
-use Rattle.afdx_failures.specs.declared.failure.Failure.TheVariants.{Memory}
+use Rattle.afdx_messages.specs.declared.failure.Failure.TheVariants.{Memory}
 use Rattle.afdx_serve.proofs.Errors.{of_error}
 use Rattle.afdx_serve.proofs.network_check.network_text.Goals as goal
 

@@ -1,6 +1,6 @@
 use Rattle.std.proofs.Common.{◌∙◌, refl, sym, ap, subst}
 use Rattle.afdx_wiring.specs.File.{layout_of}
-use Rattle.afdx_failures.specs.declared.failure.Failure.{Failure}
+use Rattle.afdx_messages.specs.declared.failure.Failure.{Failure}
 use Rattle.afdx_serve.specs.Networks.{FailsToLayout}
 use Rattle.afdx_serve.proofs.NetworkLemmas.{of_wiring}
 use Rattle.afdx_serve.proofs.network_get.get_layout.Goals as goal

@@ -1,6 +1,6 @@
 use Rattle.std.proofs.Common.{rules, ◌≡◌, Err, refl, sym, subst}
 use Rattle.afdx_wiring.specs.Order.{lost_port}
-use Rattle.afdx_failures.specs.declared.failure.Failure.{Failure}
+use Rattle.afdx_messages.specs.declared.failure.Failure.{Failure}
 use Rattle.afdx_serve.specs.Networks.{bytes_in, HasTexts, AreTables, FailsToJoin}
 use Rattle.afdx_serve.proofs.NetworkLemmas.{of_wiring}
 use Rattle.afdx_serve.proofs.network_get.join.Goals as goal

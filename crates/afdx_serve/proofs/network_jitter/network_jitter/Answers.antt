@@ -1,7 +1,7 @@
 use Rattle.std.proofs.Common.{◌≡◌, map, string_bytes, rules}
 use Rattle.std.proofs.KnownBytes.{Keeps-refl}
 use Rattle.afdx_network_report.specs.Lines.{jitter_text}
-use Rattle.afdx_failures.specs.declared.failure.Failure.TheVariants.{Write}
+use Rattle.afdx_messages.specs.declared.failure.Failure.TheVariants.{Write}
 use Rattle.afdx_serve.specs.Networks.{names_of}
 use Rattle.afdx_serve.proofs.Errors.{of_error}
 use Rattle.afdx_serve.proofs.JitterLemmas.{not_got, not_fit, past_reported}

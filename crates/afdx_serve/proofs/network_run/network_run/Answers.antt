@@ -6,7 +6,7 @@ use Rattle.afdx_network.specs.Given.{given_of}
 use Rattle.afdx_network_report.specs.Lines.{Names}
 use Rattle.afdx_serve.proofs.Errors.{of_error}
 use Rattle.afdx_serve.proofs.FileLemmas.{KeepsFiles-trans}
-use Rattle.afdx_failures.specs.declared.failure.Failure.TheVariants.{Memory, Write}
+use Rattle.afdx_messages.specs.declared.failure.Failure.TheVariants.{Memory, Write}
 use Rattle.afdx_serve.specs.Networks.{names_of}
 use Rattle.afdx_serve.specs.NetworkRuns.{names_at, captures_of, reports_of}
 use Rattle.afdx_serve.specs.Serving.{world, PutsNetwork}

@@ -1,7 +1,7 @@
 use Rattle.std.proofs.Common.{◌∙◌, ap, sym, None}
 use Rattle.std.proofs.KnownBytes.{Keeps-refl}
 use Rattle.std.proofs.lemmas.List.{length-map}
-use Rattle.afdx_failures.specs.declared.failure.Failure.TheVariants.{Write}
+use Rattle.afdx_messages.specs.declared.failure.Failure.TheVariants.{Write}
 use Rattle.afdx_serve.specs.Runs.{bytes_of_captures}
 use Rattle.afdx_serve.specs.Verdicts.{text_of, is_found}
 use Rattle.afdx_verdict.specs.Verdict.{verdict_of}

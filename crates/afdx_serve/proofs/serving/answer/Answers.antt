@@ -1,4 +1,4 @@
-use Rattle.afdx_failures.specs.declared.failure.Failure.TheVariants.{Write}
+use Rattle.afdx_messages.specs.declared.failure.Failure.TheVariants.{Write}
 use Rattle.afdx_serve.proofs.Errors.{of_error}
 use Rattle.afdx_serve.proofs.serving.answer.Goals as goal
 

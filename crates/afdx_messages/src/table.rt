@@ -2,7 +2,7 @@
 
 ghost use Rattle.std.specs.Prelude.{◌≡◌, ◌++◌, codes, IfOk, string_bytes};
 ghost use Rattle.afdx_table.specs.Names.{key_text, place_text};
-ghost use Rattle.afdx_lines.specs.Lines.{table_text, table_line};
+ghost use Rattle.afdx_messages.specs.Lines.{table_text, table_line};
 
 use afdx_table::{At, Key, TableFault};
 use std::alloc::{AllocError, Global};

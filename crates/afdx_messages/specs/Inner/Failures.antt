@@ -10,9 +10,9 @@ use Rattle.afdx_alone.specs.declared.fault.AloneFault.{AloneFault}
 use Rattle.afdx_alone.specs.declared.fault.AloneFault.TheVariants as alone
 use Rattle.afdx_alone.specs.declared.fault.ReadFault.{ReadFault}
 use Rattle.afdx_alone.specs.declared.fault.ReadFault.TheVariants as read
-use Rattle.afdx_lines.specs.declared.network_failure.NetworkFailure.TheVariants as network
-use Rattle.afdx_failures.specs.declared.failure.Failure.{Failure}
-use Rattle.afdx_failures.specs.declared.failure.Failure.TheVariants as failure
+use Rattle.afdx_messages.specs.declared.network_failure.NetworkFailure.TheVariants as network
+use Rattle.afdx_messages.specs.declared.failure.Failure.{Failure}
+use Rattle.afdx_messages.specs.declared.failure.Failure.TheVariants as failure
 
 abbrev pub alone_failure : AloneFault → Failure
 alone_failure alone.Memory = failure.Memory

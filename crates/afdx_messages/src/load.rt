@@ -1,7 +1,7 @@
 //! What is reported of a load that is refused.
 
 ghost use Rattle.std.specs.Prelude.{◌≡◌, IfOk, string_bytes};
-ghost use Rattle.afdx_lines.specs.Lines.{rule_text, load_fault_text, load_line};
+ghost use Rattle.afdx_messages.specs.Lines.{rule_text, load_fault_text, load_line};
 
 use afdx_load::{LoadFault, Rule};
 use std::alloc::{AllocError, Global};

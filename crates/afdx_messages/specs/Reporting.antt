@@ -1,11 +1,11 @@
 -- The line and the status of any failure (profile).
 use Rattle.std.specs.Prelude.{◌≡◌, ◌⊎◌, ℕ, Bool, true, false, codes, List, [], ◌++◌, Option, Some, None, string_bytes}
 use Rattle.std.specs.Io.KnownBytes.{Appends}
-use Rattle.afdx_failures.specs.declared.failure.Failure.{Failure}
-use Rattle.afdx_failures.specs.declared.failure.Failure.TheVariants as failure
+use Rattle.afdx_messages.specs.declared.failure.Failure.{Failure}
+use Rattle.afdx_messages.specs.declared.failure.Failure.TheVariants as failure
 use Rattle.afdx_wiring.specs.Lines.{as_line}
 use Rattle.afdx_folder.specs.Output.{AppendsPrefix}
-use Rattle.afdx_lines.specs.Lines.{memory_text, table_line, capture_line, load_line, network_failure_line, network_status}
+use Rattle.afdx_messages.specs.Lines.{memory_text, table_line, capture_line, load_line, network_failure_line, network_status}
 
 abbrev pub memory_line : List ℕ
 memory_line = as_line memory_text

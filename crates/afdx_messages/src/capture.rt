@@ -1,7 +1,7 @@
 //! What is reported of a capture's fault.
 
 ghost use Rattle.std.specs.Prelude.{◌≡◌, ◌++◌, IfOk, OnOk, string_bytes};
-ghost use Rattle.afdx_lines.specs.Lines.{fault_text, part, capture_text, capture_line, record_of};
+ghost use Rattle.afdx_messages.specs.Lines.{fault_text, part, capture_text, capture_line, record_of};
 
 use afdx_pcap::PcapFault;
 use std::alloc::{AllocError, Global};

@@ -1,13 +1,16 @@
 //! What is reported of a failure.
 
 ghost use Rattle.std.specs.Prelude.{◌≡◌, ◌≤◌, ◌++◌, codes, string_bytes, IfOk, MatchResult};
-ghost use Rattle.afdx_failures.specs.declared.failure.Failure.{Failure as Failing};
-ghost use Rattle.afdx_failures.specs.Reporting.{line_of, memory_line, status_of, ReportsAs, IsTold};
+ghost use Rattle.afdx_messages.specs.declared.failure.Failure.{Failure as Failing};
+ghost use Rattle.afdx_messages.specs.Reporting.{line_of, memory_line, status_of, ReportsAs, IsTold};
 ghost use Rattle.afdx_wiring.specs.Lines.{as_line};
 
+use crate::capture::capture_line;
 use crate::failure::Failure;
+use crate::load::load_line;
+use crate::network::{network_failure_line, network_status};
+use crate::table::table_line;
 use afdx_folder::write_bytes;
-use afdx_lines::{capture_line, load_line, network_failure_line, network_status, table_line};
 use std::alloc::{AllocError, Global};
 use std::io::Write;
 

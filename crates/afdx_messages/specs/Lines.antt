@@ -14,8 +14,8 @@ use Rattle.afdx_wiring.specs.declared.fault.NetworkFault.TheVariants as net
 use Rattle.afdx_wiring.specs.declared.fault.Short.{Short}
 use Rattle.afdx_wiring.specs.Lines.{as_line}
 use Rattle.afdx_wiring.specs.Names.{key_text as wiring_key_text, place_text as wiring_place_text}
-use Rattle.afdx_lines.specs.declared.network_failure.NetworkFailure.{NetworkFailure}
-use Rattle.afdx_lines.specs.declared.network_failure.NetworkFailure.TheVariants as network
+use Rattle.afdx_messages.specs.declared.network_failure.NetworkFailure.{NetworkFailure}
+use Rattle.afdx_messages.specs.declared.network_failure.NetworkFailure.TheVariants as network
 
 -- that memory ran out, wherever it did
 abbrev pub memory_text : List ℕ

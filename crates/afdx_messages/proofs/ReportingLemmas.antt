@@ -2,9 +2,9 @@
 use Rattle.std.proofs.Common.{◌≡◌, ℕ, Bool, true, List, [], Option, Some, None, Result, Ok, Err, Global, String, string_bytes, refl, sym, subst, ◌∙◌, inl, inr}
 use Rattle.std.specs.Prelude.{IfOk, MatchResult}
 use Rattle.std.proofs.lemmas.List.{append-nil}
-use Rattle.afdx_failures.specs.declared.failure.Failure.{Failure}
-use Rattle.afdx_failures.specs.declared.failure.Failure.TheVariants.{Memory}
-use Rattle.afdx_failures.specs.Reporting.{IsMade, ReportsAs, IsTold, line_of, memory_line, status_of}
+use Rattle.afdx_messages.specs.declared.failure.Failure.{Failure}
+use Rattle.afdx_messages.specs.declared.failure.Failure.TheVariants.{Memory}
+use Rattle.afdx_messages.specs.Reporting.{IsMade, ReportsAs, IsTold, line_of, memory_line, status_of}
 
 -- of a failure with a line that is made: the failure, or memory
 pub made : {E : Type 0} (f : Failure) (line : Result (String Global) E) (status result : ℕ) (told : Bool) (old new : Option (List ℕ)) → IsMade f

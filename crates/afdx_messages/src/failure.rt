@@ -2,9 +2,9 @@
 
 ghost use Rattle.std.specs.Prelude.{◌≡◌};
 
+use crate::network_failure::NetworkFailure;
 use afdx_alone::{AloneFault, ReadFault};
 use afdx_folder::WriteFault;
-use afdx_lines::NetworkFailure;
 use afdx_load::LoadFault;
 use afdx_pcap::PcapFault;
 use afdx_session::RunFault;
@@ -55,7 +55,7 @@ pub enum Failure {
 }
 
 impl From<AllocError> for Failure {
-    ghost use Rattle.afdx_failures.specs.declared.failure.Failure.TheVariants.{Memory};
+    ghost use Rattle.afdx_messages.specs.declared.failure.Failure.TheVariants.{Memory};
 
     ghost from_gives = { λ _ failure. failure ≡ Memory };
 
@@ -65,7 +65,7 @@ impl From<AllocError> for Failure {
 }
 
 impl<T: Drop> From<AllocFailed<T>> for Failure {
-    ghost use Rattle.afdx_failures.specs.declared.failure.Failure.TheVariants.{Memory};
+    ghost use Rattle.afdx_messages.specs.declared.failure.Failure.TheVariants.{Memory};
 
     ghost from_gives = { λ _ failure. failure ≡ Memory };
 
@@ -75,7 +75,7 @@ impl<T: Drop> From<AllocFailed<T>> for Failure {
 }
 
 impl From<WriteFault> for Failure {
-    ghost use Rattle.afdx_failures.specs.declared.failure.Failure.TheVariants.{Write as WriteFailed};
+    ghost use Rattle.afdx_messages.specs.declared.failure.Failure.TheVariants.{Write as WriteFailed};
 
     ghost from_gives = { λ _ failure. failure ≡ WriteFailed };
 
@@ -85,7 +85,7 @@ impl From<WriteFault> for Failure {
 }
 
 impl From<AloneFault> for Failure {
-    ghost use Rattle.afdx_failures.specs.Inner.Failures.{alone_failure};
+    ghost use Rattle.afdx_messages.specs.Inner.Failures.{alone_failure};
 
     ghost from_gives = { λ fault failure. failure ≡ alone_failure fault };
 
@@ -98,7 +98,7 @@ impl From<AloneFault> for Failure {
 }
 
 impl From<ReadFault> for Failure {
-    ghost use Rattle.afdx_failures.specs.Inner.Failures.{read_failure};
+    ghost use Rattle.afdx_messages.specs.Inner.Failures.{read_failure};
 
     ghost from_gives = { λ fault failure. failure ≡ read_failure fault };
 
@@ -111,7 +111,7 @@ impl From<ReadFault> for Failure {
 }
 
 impl From<TableFault> for Failure {
-    ghost use Rattle.afdx_failures.specs.Inner.Failures.{table_failure};
+    ghost use Rattle.afdx_messages.specs.Inner.Failures.{table_failure};
 
     ghost from_gives = { λ fault failure. failure ≡ table_failure fault };
 
@@ -124,7 +124,7 @@ impl From<TableFault> for Failure {
 }
 
 impl From<NetworkFault> for Failure {
-    ghost use Rattle.afdx_failures.specs.Inner.Failures.{wiring_failure};
+    ghost use Rattle.afdx_messages.specs.Inner.Failures.{wiring_failure};
 
     ghost from_gives = { λ fault failure. failure ≡ wiring_failure fault };
 
@@ -137,7 +137,7 @@ impl From<NetworkFault> for Failure {
 }
 
 impl From<RunFault> for Failure {
-    ghost use Rattle.afdx_failures.specs.Inner.Failures.{run_failure};
+    ghost use Rattle.afdx_messages.specs.Inner.Failures.{run_failure};
 
     ghost from_gives = { λ fault failure. failure ≡ run_failure fault };
 

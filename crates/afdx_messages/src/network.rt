@@ -2,7 +2,7 @@
 
 ghost use Rattle.std.specs.Prelude.{◌≡◌, ◌++◌, codes, option_map, string_bytes, IfOk, OnOk};
 ghost use Rattle.afdx_wiring.specs.Names.{key_text, place_text};
-ghost use Rattle.afdx_lines.specs.Lines.{load_fault_text, network_rule, switch_part, link_part, short_text, network_text, network_failure_text, network_failure_line, network_status};
+ghost use Rattle.afdx_messages.specs.Lines.{load_fault_text, network_rule, switch_part, link_part, short_text, network_text, network_failure_text, network_failure_line, network_status};
 
 use crate::capture::capture_text;
 use crate::load::load_fault_text;

@@ -1,7 +1,7 @@
 use Rattle.std.proofs.Common.{refl, inl}
-use Rattle.afdx_failures.specs.declared.failure.Failure.TheVariants as failure
-use Rattle.afdx_failures.proofs.ReportingLemmas.{made, nothing_told}
-use Rattle.afdx_failures.proofs.reporting.report.Goals as goal
+use Rattle.afdx_messages.specs.declared.failure.Failure.TheVariants as failure
+use Rattle.afdx_messages.proofs.ReportingLemmas.{made, nothing_told}
+use Rattle.afdx_messages.proofs.reporting.report.Goals as goal
 
 pub returns-in-Found-clause-reported : goal.returns-in-Found-clause-reported
 returns-in-Found-clause-reported g c = rw c.in-Found.is (failure.Found, inl refl, refl, nothing_told _)

@@ -1,0 +1,21 @@
+//! Why a command ends with another status than 0, and the line that is written then.
+//!
+//! The lines are those of `specs/Lines.antt`; each ends with a line feed. [`report`] writes that of a [`Failure`] and gives its status,
+//! and whether the line went out whole.
+#![tactic(auto)]
+
+mod capture;
+mod failure;
+mod load;
+mod network;
+mod network_failure;
+mod reporting;
+mod table;
+
+pub use capture::capture_line;
+pub use failure::Failure;
+pub use load::load_line;
+pub use network::{network_failure_line, network_status};
+pub use network_failure::NetworkFailure;
+pub use reporting::{Ending, report};
+pub use table::table_line;
