@@ -1,9 +1,10 @@
 #!/usr/bin/env bash
-# python/bin/afdx-campaign: the same answers by local threads, by a Dask scheduler with workers over loopback and by Slurm, if
-# slurmctld is installed, though what takes part is killed on the way; what was planted in the recordings is found; a full disk;
-# and the page in Debian's chromium.
+# python/bin/afdx-campaign: the same answers by local threads, by a Dask scheduler with workers over loopback and by a Slurm of this
+# machine alone, though what takes part is killed on the way; what was planted in the recordings is found; a full disk; and the page
+# in Debian's chromium.
 . "$(dirname "$0")/common.sh"
-install python3=python3 chromium=chromium chromedriver=chromium-driver unshare=util-linux script=bsdutils
+install python3=python3 chromium=chromium chromedriver=chromium-driver unshare=util-linux script=bsdutils \
+    slurmctld=slurmctld slurmd=slurmd munged=munge sinfo=slurm-client
 install_python distributed jinja2 matplotlib numpy psutil selenium
 export PYTHONDONTWRITEBYTECODE=1 LC_ALL=C.UTF-8
 export AFDX=${AFDX:-$top/crates/afdx/out/afdx}
@@ -104,11 +105,7 @@ tells_progress() {
 check "recordings" /usr/bin/python3 "$top/end_to_end/campaign_recordings.py" recordings 45 40
 check "local threads, killed" engine local
 check "Dask, killed" engine dask
-if command -v slurmctld >/dev/null; then
-    check "Slurm, killed" engine slurm
-else
-    echo "skipped Slurm: slurmctld is not installed"
-fi
+check "Slurm, killed" engine slurm
 
 check "the recordings that are bad" is "$(tail -n +2 $made/csv/faults.csv)" "before,r0017,3,capture,1,\"afdx: capture P11 CutData, port 2, record $(
     sed -n 's/.*r0017.*record \([0-9]*\).*/\1/p' $made/csv/faults.csv)\"

@@ -255,7 +255,8 @@ def overtaken() -> None:
             network({"A": low["A"].replace('"low"', '"high"')}))
     small = {"A": tables["A"].replace("buffer = 100000", "buffer = 13493")}
     same(name, network_model.check(network(small, leasts={"A": 100})).splitlines()[-1], "accepted")
-    refuses(name, "afdx: load L2 Buffer, port 3, need 2406428672000000, limit 2210693120000000, switch A", 4, network_model.check, network(small))
+    refuses(name, "afdx: load L2 Buffer, port 3, need 2406428672000000, limit 2210693120000000, switch A", 4,
+            network_model.check, network(small))
     mixed = slow(*links[:5], link(6, 1, [3]), latency=100, ports=3).replace('"low"', '"high"', 5)
     for least, bound in ((100, 4_057_990), (0, 4_453_789)):
         said = network_model.check(network({"A": mixed}, leasts={"A": least})).splitlines()

@@ -2,26 +2,30 @@
 """A trial of switches whose latencies vary: random networks, at whose switches each copy of a frame takes any time from the least latency
 to the table's, so that frames of different links overtake each other.
 
-usage: real_switches.py COUNT          networks 1 to COUNT, the same ones each time
+    real_switches.py COUNT          networks 1 to COUNT, the same ones each time
 
 The jitters are those that `jitter` finds. Of each link the frames that its first account passes leave each of its end ports, in order,
 each between the least and the most that `check` prints for its size; no later account polices a frame, and no copy waits for longer
 than its port's bound.
 """
+import argparse
 import dataclasses
 import random
 import sys
+from collections.abc import Callable, Iterable, Iterator
 
 import model
 import network_model
 import networks
-from network_model import End
+from network_model import End, Network
 
 
-def queued(net, number, end, frames):
+def queued(net: Network, number: int, end: End, frames: Iterable[model.Arrival]) -> Iterator[tuple[int, int, model.Arrival]]:
     """The frames of a port, each as it comes to the queue: those of a link in their order, those of different links in any."""
-    least, scatter, last = net.leasts[end.switch], network_model.scatter_of(net, end.switch), {}
+    least, scatter = net.leasts[end.switch], network_model.scatter_of(net, end.switch)
+    last: dict[int, int] = {}
     for place, frame in enumerate(frames):
+        assert frame.link
         chance = random.Random(f"{number} {end} {frame.link.id} {place}")
         taken = least + chance.choice([0, scatter, scatter, chance.randint(0, scatter)])
         last[frame.link.id] = max(frame.stamp + taken, last.get(frame.link.id, 0))
@@ -29,17 +33,17 @@ def queued(net, number, end, frames):
         yield last[frame.link.id], place, dataclasses.replace(frame, record=record)
 
 
-def left_of(net, number, end, arrivals):
+def left_of(net: Network, number: int, end: End, arrivals: list[model.Arrival]) -> bytes:
     """The capture of a port."""
     port = dataclasses.replace(network_model.port_of(net, end), latency=0)
-    frames = [arrival for arrival in arrivals if arrival.passed and end.port in arrival.link.to]
+    frames = [arrival for arrival in arrivals if arrival.passed and arrival.link and end.port in arrival.link.to]
     events = model.service(port, [frame for _, _, frame in sorted(queued(net, number, end, frames), key=lambda entry: entry[:2])])
     return model.capture_of([model.Record(event.end, event.frame.size, event.frame.record.data) for event in events])
 
 
-def run_switch(net, number, name):
+def run_switch(net: Network, number: int, name: str) -> Callable[[model.Table, dict[int, bytes]], model.Outcome]:
     """A function like model.run, of this switch."""
-    def run(table, texts):
+    def run(table: model.Table, texts: dict[int, bytes]) -> model.Outcome:
         arrivals = model.arrivals_of(table, texts)
         outcome = model.Outcome({port.id: left_of(net, number, End(name, port.id), arrivals) for port in table.ports})
         for link in table.links:
@@ -50,9 +54,10 @@ def run_switch(net, number, name):
     return run
 
 
-def run_network(net, number, given):
+def run_network(net: Network, number: int, given: dict[End, bytes]) -> dict[str, model.Outcome] | None:
     """What comes out of each switch; None where that does not come to rest."""
-    came, outcomes = {}, {}
+    came: dict[str, dict[int, bytes]] = {}
+    outcomes: dict[str, model.Outcome] = {}
     for _ in range(network_model.MOST_ROUNDS):
         for name in network_model.order_of(net):
             texts = network_model.texts_at(net, name, given, network_model.brought(net, name, outcomes))
@@ -63,9 +68,11 @@ def run_network(net, number, given):
     return None
 
 
-def main(count):
-    faults, inner = 0, 0
-    for number in range(1, int(count) + 1):
+def main() -> None:
+    parser = argparse.ArgumentParser(description=__doc__, formatter_class=argparse.RawDescriptionHelpFormatter)
+    parser.add_argument("count", type=int)
+    count, faults, inner = parser.parse_args().count, 0, 0
+    for number in range(1, count + 1):
         chance = random.Random(number)
         net = networks.accepted_network(chance)
         given = networks.captures(chance, net)
@@ -78,10 +85,8 @@ def main(count):
             print(f"network {number}: {line}")
         faults += bool(wrong)
     print(f"{count} networks of switches whose latencies vary, {inner} frames over wires, {faults} networks with faults")
-    return faults
+    sys.exit(bool(faults))
 
 
 if __name__ == "__main__":
-    if len(sys.argv) != 2:
-        sys.exit(__doc__)
-    sys.exit(bool(main(sys.argv[1])))
+    main()

@@ -55,8 +55,11 @@ fn table_of(alloc: Global, mbit: u32, links: &[Link]) -> Result<Table, Fail> {
 }
 
 /// The bursts of port 2, where frames come one after the other over the line of port 1, and over that of port 3, and where latencies
-/// differ by so many nanoseconds.
+/// differ by so many nanoseconds; none past 100,000.
 fn bursts(table: &Table, first: bool, third: bool, scatter: u64) -> Option<(u128, u128)> {
+    if scatter > 100_000 {
+        return None;
+    }
     let mut lined = [false; PLACES];
     lined[1] = first;
     lined[3] = third;

@@ -140,7 +140,10 @@ fn varying_file(alloc: Global, leasts: [u32; 2]) -> Result<String, AllocError> {
 fn varying(alloc: Global, leasts: [u32; 2]) -> Result<Option<NetworkFault>, Fail> {
     let links = [small_link(1, 1, "[2]", 0)];
     let plain = four_ports_each(alloc, &[&links, &links])?;
-    let texts = [later(alloc, &plain[0], 10)?, later(alloc, &plain[1], 10)?];
+    let mut texts = Vec::new(alloc);
+    for text in &plain {
+        texts.push(later(alloc, text, 10)?)?;
+    }
     let file = varying_file(alloc, leasts)?;
     let layout = afdx_wiring::read(alloc, file.as_bytes())
         .ok()

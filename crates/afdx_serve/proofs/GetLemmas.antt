@@ -3,7 +3,7 @@ use Rattle.std.proofs.Common.{◌≡◌, ◌≢◌, ℕ, ◌+◌, ◌<◌, ◌�
 use Rattle.std.proofs.Common.{slice_get, length-append, string_bytes}
 use Rattle.std.specs.Prelude.{option_map, MatchResult}
 use Rattle.std.specs.Path.{path_with_file_name}
-use Rattle.std.proofs.lemmas.List.{get_or-map, map-append, take_more, take_all, take-map, length-map}
+use Rattle.std.proofs.lemmas.List.{get_or-map, map-append, take_more, take_all, take-map}
 use Rattle.std.proofs.lemmas.Option.{slice_get-map, slice_get-get_or}
 use Rattle.afdx_table.specs.Content.{Content}
 use Rattle.afdx_table.specs.Text.{table_of}
@@ -17,7 +17,7 @@ use Rattle.afdx_messages.specs.declared.failure.Failure.{Failure}
 use Rattle.afdx_messages.specs.declared.failure.Failure.TheVariants as failure
 use Rattle.afdx_folder.specs.Files.{Files, Shows, ShowsAll, KeepsFiles, DeviceLog, one_more}
 use Rattle.afdx_serve.specs.Runs.{FailsToGet}
-use Rattle.afdx_serve.specs.Networks.{bytes_in, table_names, HasLayout, HasTexts, AreTables, GetsTables, IsRefusedTable, FailsToLayout, FailsToGetTexts, FailsToReadTables}
+use Rattle.afdx_serve.specs.Networks.{bytes_in, table_names, HasLayout, HasTexts, AreTables, GetsTables, IsRefusedTable, FailsToGetTexts, FailsToReadTables}
 use Rattle.afdx_serve.specs.Networks.{FailsToJoin, HasNetwork, FailsToGetNetwork}
 use Rattle.afdx_serve.proofs.FileLemmas.{ShowsAll-push, ShowsAll-before, Shows-before, KeepsFiles-trans}
 

@@ -1,5 +1,5 @@
 -- What the files of a run lead to, read in pieces or whole.
-use Rattle.std.proofs.Common.{◌≡◌, ℕ, zero, suc, ◌+◌, ◌<◌, get_or, Bool, List, [], ◌∷◌, map, length, take, drop, ◌++◌, slice_get, Option, Some, None, Ok, Err, refl, sym, ap, subst, ◌∙◌, inl, inr, arith, Vec}
+use Rattle.std.proofs.Common.{◌≡◌, ℕ, zero, suc, ◌+◌, ◌<◌, get_or, List, [], ◌∷◌, map, length, take, drop, ◌++◌, slice_get, Option, Some, None, refl, sym, ap, subst, ◌∙◌, inl, inr, arith}
 use Rattle.std.proofs.Common.{string_bytes}
 use Rattle.std.specs.Prelude.{IfSome, option_map}
 use Rattle.afdx_pcap.specs.declared.fault.PcapFault.{PcapFault}
@@ -10,7 +10,7 @@ use Rattle.afdx_table.specs.declared.rows.PortRow.{PortRow}
 use Rattle.afdx_table.specs.Content.{Content}
 use Rattle.afdx_table.specs.WellFormed.{TablesAreWellFormed}
 use Rattle.afdx_count.specs.Tally.{Tally}
-use Rattle.afdx_session.specs.Texts.{Text, AreOfPorts, texts_of}
+use Rattle.afdx_session.specs.Texts.{Text, AreOfPorts}
 use Rattle.afdx_session.specs.declared.plan.Plan.{Plan}
 use Rattle.afdx_session.specs.Outcome.{table_in}
 use Rattle.afdx_session.specs.Headline.{AcceptedRunsIsolate}
@@ -24,7 +24,7 @@ use Rattle.afdx_folder.specs.Files.{Files, DeviceLog, Shows, ShowsAll, IsOpened,
 use Rattle.afdx_folder.specs.Input.{AreGiven}
 use Rattle.afdx_serve.specs.Runs.{capture_name, names_in, port_names, bytes_of_captures, inputs_of, HasPlan, HasCaptures, FailsToGet, FailsToGetAll, FailsToGather}
 use Rattle.afdx_serve.specs.Inner.Outputs.{AreEmpty, HaveBytes}
-use Rattle.afdx_serve.specs.Inner.Leading.{IsPlanOf, FailsToReadPlan, AreOpened, IsInFiles, FailsToLeadFrom, IsLed}
+use Rattle.afdx_serve.specs.Inner.Leading.{IsPlanOf, AreOpened, IsInFiles, FailsToLeadFrom, IsLed}
 use Rattle.afdx_serve.specs.Inner.OpenPorts.{GetsNamed, FailsToGetNamed}
 use Rattle.afdx_serve.proofs.FileLemmas.{KeepsFiles-refl, KeepsFiles-trans, ShowsAll-before, IsOpened-before}
 use Rattle.afdx_serve.proofs.GivenLemmas.{not_got_named}

@@ -9,7 +9,6 @@ pub mod MeasureLemmas
 pub mod GetLemmas
 pub mod GivenLemmas
 pub mod NetworkLemmas
-mod ReportLemmas
 pub mod VerdictLemmas
 pub mod ServingLemmas
 pub mod CheckLemmas

@@ -3,7 +3,6 @@ use Rattle.std.proofs.Common.{◌≡◌, ℕ, ◌+◌, ◌<◌, List, [], ◌∷
 use Rattle.std.proofs.Common.{refl, sym, ap, subst, ◌∙◌, arith}
 use Rattle.std.specs.Io.KnownBytes.{Keeps}
 use Rattle.std.proofs.lemmas.List.{append_assoc, append-nil, map-append, length-append, length-map, length-take, take_more, get_or-map}
-use Rattle.std.proofs.lemmas.Grind.{flat_map-append}
 use Rattle.afdx_table.specs.Content.{Content}
 use Rattle.afdx_table.specs.Text.{table_of}
 use Rattle.afdx_table.specs.WellFormed.{TablesAreWellFormed}

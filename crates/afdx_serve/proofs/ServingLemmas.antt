@@ -1,6 +1,5 @@
 -- What was served, and why arguments were not served.
-use Rattle.std.proofs.Common.{ℕ, List, Option, Result, Ok, Err, sym, subst, inl, inr}
-use Rattle.std.specs.Prelude.{MatchResult}
+use Rattle.std.proofs.Common.{ℕ, List, Option, sym, subst, inl, inr}
 use Rattle.afdx_arguments.specs.declared.request.NetworkRequest.{NetworkRequest}
 use Rattle.afdx_arguments.specs.declared.request.Request.{Request}
 use Rattle.afdx_arguments.specs.declared.request.Request.TheVariants as request
@@ -8,7 +7,7 @@ use Rattle.afdx_arguments.specs.Requests.{Asks}
 use Rattle.afdx_messages.specs.declared.failure.Failure.{Failure}
 use Rattle.afdx_messages.specs.declared.failure.Failure.TheVariants as failure
 use Rattle.afdx_messages.specs.Reporting.{ReportsAs, IsMade}
-use Rattle.afdx_serve.specs.Serving.{World, Performs, FailsToPerform, FailsToPerformNetwork, Serves, Fails, RunsOut}
+use Rattle.afdx_serve.specs.Serving.{World, FailsToPerform, FailsToPerformNetwork, Fails, RunsOut}
 use Rattle.afdx_serve.proofs.NetworkLemmas.{never_usage, spares}
 use Rattle.afdx_serve.proofs.RunLemmas.{run_ended, trace_ended}
 

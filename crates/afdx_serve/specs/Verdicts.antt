@@ -1,5 +1,5 @@
 -- What is written of a run's counters, and whether there is one of what it is to fail on (profile).
-use Rattle.std.specs.Prelude.{ℕ, ◌≡◌, ◌&&◌, ◌||◌, ◌++◌, nat_lt, Bool, true, false, List, [], string_bytes}
+use Rattle.std.specs.Prelude.{ℕ, ◌&&◌, ◌||◌, ◌++◌, nat_lt, Bool, true, false, List, []}
 use Rattle.afdx_count.specs.Tally.{Tally}
 use Rattle.afdx_count.specs.Report.{report_of}
 use Rattle.afdx_verdict.specs.declared.summed.RunVerdict.{RunVerdict}

@@ -1,5 +1,4 @@
 use Rattle.std.proofs.Common.{◌∙◌, map, sym, subst, string_bytes}
-use Rattle.afdx_session.specs.Outcome.{table_in}
 use Rattle.afdx_serve.specs.Runs.{inputs_of, FailsToGather}
 use Rattle.afdx_serve.proofs.FileLemmas.{KeepsFiles-trans}
 use Rattle.afdx_serve.proofs.LeadLemmas.{folder_led, not_led_from}

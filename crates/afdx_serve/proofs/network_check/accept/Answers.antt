@@ -7,4 +7,4 @@ returns-in-Err c = (c.in-Err.fault, (λ no. of_loads c.args.network c.in-Err.fau
 pub returns-in-Err-judge : goal.returns-in-Err-judge
 returns-in-Err-judge c =
     let judged = rw c.in-Ok.ensures.0 at c.in-Err-judge.ensures.first in
-    (c.in-Err-judge.fault, (λ no. of_rest c.args.network c.in-Err-judge.fault c.in-Ok.ensures.2 (judged no)), rw c.requires at c.refused-in-Err-judge.ensures)
+    (c.in-Err-judge.fault, (λ no. of_rest c.args.network c.in-Err-judge.fault c.in-Ok.ensures.3 (judged no)), rw c.requires at c.refused-in-Err-judge.ensures)

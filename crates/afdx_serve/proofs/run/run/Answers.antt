@@ -2,6 +2,7 @@ use Rattle.std.proofs.Common.{◌∙◌, ap, sym, None}
 use Rattle.std.proofs.KnownBytes.{Keeps-refl}
 use Rattle.std.proofs.lemmas.List.{length-map}
 use Rattle.afdx_messages.specs.declared.failure.Failure.TheVariants.{Write}
+use Rattle.afdx_count.specs.Tally.{Tally}
 use Rattle.afdx_serve.specs.Runs.{bytes_of_captures}
 use Rattle.afdx_serve.specs.Verdicts.{text_of, is_found}
 use Rattle.afdx_verdict.specs.Verdict.{verdict_of}
@@ -40,8 +41,8 @@ returns-in_err-write_bytes g c =
     of_error _ _ _ Write c.from_residual-in_err-write_bytes.ensures
     (l.results, all_put c.args.paths.now l.results _ _ _ _ _ _ l.leads (KeepsFiles-refl _) (is.1 ∙ got.1) put.0 put.1 None None, written)
 
-pub returns-then-is_found : goal.returns-then-is_found
-returns-then-is_found g c =
+pub returns-then-report : goal.returns-then-report
+returns-then-report g c =
     let got = rw c.inputs_of.ensures at c.in_ok-plan.ensures.got in
     let is = c.in_ok-files.ensures.led (g.F.Folder.files c.args.folder.now) got.0.0 c.in_ok-plan.ensures.same got.0.1 got.0.2 in
     let l = rw c.deref.ensures.value at is.0.1 in
@@ -52,8 +53,8 @@ returns-then-is_found g c =
     let found = sym (is.0.2.found ∙ ap (λ (counts : Tally). is_found c.args.options.now.fail_on (verdict_of counts)) l.counted) ∙ c.if-report.true in
     (l.results, all_put c.args.paths.now l.results _ _ _ _ _ _ l.leads (KeepsFiles-refl _) (is.1 ∙ got.1) put.0 put.1 None None, written, found)
 
-pub returns-else-is_found : goal.returns-else-is_found
-returns-else-is_found g c =
+pub returns : goal.returns
+returns g c =
     let got = rw c.inputs_of.ensures at c.in_ok-plan.ensures.got in
     let is = c.in_ok-files.ensures.led (g.F.Folder.files c.args.folder.now) got.0.0 c.in_ok-plan.ensures.same got.0.1 got.0.2 in
     let l = rw c.deref.ensures.value at is.0.1 in
