@@ -138,9 +138,9 @@ def test_a_mapping_names_columns_and_fills_cells(tmp_path: Path) -> None:
     worked_lists.write(tmp_path, links.replace("jitter_us", "JITTER"), ends, worked_lists.WIRES.replace(",50", ","))
     mapping.write_text('[columns]\nid = "vl"\nfrom = "sending end system"\nto = "Receivers"\njitter_us = "Jitter"\n'
                        '[columns.ends]\nname = "ES"\n[defaults]\njitter_us = 1000\n[defaults.wires]\ndelay_ns = "50"\n'
-                       '[switches]\nlatency_us = 16\nleast_latency_us = 4\nconstant = "070000aa"\n', encoding="utf-8")
+                       '[switches]\nlatency_us = 16\nleast_latency_us = 16\nconstant = "070000aa"\n', encoding="utf-8")
     second = made(paths, tmp_path / "mapped", "--mapping", str(mapping))
-    assert b'table = "A.toml"\nleast_latency_us = 4\n' in second["network.toml"]
+    assert b'table = "A.toml"\nleast_latency_us = 16\n' in second["network.toml"]
     assert b"least" not in first["network.toml"]
     assert b"delay_ns = 25" in second["network.toml"] and b"delay_ns = 0\n" not in second["network.toml"]
     as_first = second["A.toml"].replace(b"latency_us = 16", b"latency_us = 0").replace(b"070000aa", b"03000000")

@@ -1,0 +1,5 @@
+pub mod Examples
+pub mod Known
+pub mod Noise
+pub mod Surplus
+pub mod Told
