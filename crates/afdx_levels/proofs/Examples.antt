@@ -5,7 +5,7 @@ use Rattle.afdx_account.specs.declared.frame.Frame.{Frame}
 use Rattle.afdx_account.specs.Policing.{Terms, byte_terms}
 use Rattle.afdx_levels.specs.declared.outlook.Outlook.{Outlook}
 use Rattle.afdx_levels.specs.declared.outlook.Outlook.TheVariants.{Must, Never, Unsure}
-use Rattle.afdx_levels.specs.Levels.{Levels, at_rest, unknown, credited, outlook_of, after, fates_told}
+use Rattle.afdx_levels.specs.Levels.{at_rest, unknown, credited, outlook_of, after, fates_told}
 
 abbrev terms : Terms
 terms = byte_terms 64 Ms1 0

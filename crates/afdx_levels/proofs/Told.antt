@@ -1,10 +1,9 @@
 -- The fates that are told are allowed.
-use Rattle.std.proofs.Common.{◌≡◌, ℕ, ◌+◌, ◌*◌, ◌-◌, ◌<◌, ◌≤◌, nat_le, nat_lt, List, [], ◌∷◌, Bool, true, false, IsTrue, arith, inl, inr}
+use Rattle.std.proofs.Common.{◌≡◌, ℕ, ◌+◌, ◌*◌, ◌-◌, ◌≤◌, nat_le, nat_lt, [], ◌∷◌, Bool, true, false, IsTrue, arith, inl, inr}
 use Rattle.std.proofs.lemmas.Bool.{cases_Bool, leb-true, leb-false, ltb-true, lt-ltb}
-use Rattle.afdx_account.specs.declared.frame.Frame.{Frame}
 use Rattle.afdx_account.specs.Policing.{Terms}
-use Rattle.afdx_levels.specs.Levels.{Levels, slack_of, credited, outlook_of, may_be, after, Allowed, fate_told, fates_told}
-use Rattle.afdx_levels.specs.Inner.Laws.{AllFit, ToldIsAllowed, FateMayBe}
+use Rattle.afdx_levels.specs.Levels.{Levels, slack_of, credited, outlook_of, may_be, after, fate_told}
+use Rattle.afdx_levels.specs.Inner.Laws.{ToldIsAllowed, FateMayBe}
 
 either : (t : Terms) (tolerance size : ℕ) (l : Levels) (seen : Bool) → may_be t tolerance size l true ≡ true → may_be t tolerance size l false ≡ true
     → IsTrue (may_be t tolerance size l seen)
