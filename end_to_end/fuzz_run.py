@@ -39,9 +39,16 @@ TEXTS = [
     "G3 TwiceSwitch, switch [0-9]+", f"G3 Latency, switch {NAME}", "G3 (NoSuchSwitch|TwiceFrom|TwiceTo|OwnPort|NoSuchPort), wire [0-9]+",
     "G4 (Constant|Speed), wire [0-9]+", "G(5 NoRow|6 From|7 Size|7 Bag|7 Police), wire [0-9]+, link [0-9]+",
     f"G8 NoSource, switch {NAME}, link [0-9]+", "G9 TwiceSource, link [0-9]+"]
+
+
+def rows(rule: str, numbers: str) -> str:
+    """Gives the form of the lines of rows that one rule refuses: each row's, up to 100, and one for the rest."""
+    return f"{rule}, {numbers}(\nafdx: network {rule}, {numbers}){{0,99}}(\nafdx: network {rule}, and [1-9][0-9]* more)?"
+
+
 NETWORK = [
-    f"J1 Jitter, switch {NAME}, link [0-9]+, need [0-9]+, has [0-9]+",
-    f"J2 NoJitter, switch {NAME}, link [0-9]+, need [0-9]+", "R1 Unsettled"]
+    rows("J1 Jitter", f"switch {NAME}, link [0-9]+, need [0-9]+, has [0-9]+"),
+    rows("J2 NoJitter", f"switch {NAME}, link [0-9]+, need [0-9]+"), "R1 Unsettled"]
 DEVICE = ["(get|put) (?s:.+)", "read", "write"]
 
 

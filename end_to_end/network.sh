@@ -38,14 +38,15 @@ prints_jitters() {
         "$afdx" network jitter work/network.toml | cmp before.txt -
 }
 
-# past: the lines of all rows, and then the first that needs more than a table can have.
+# past: the lines of all rows, and then each that needs more than a table can have.
 past() {
     local status=0
     sed -i 's/^max_size = .*/max_size = 1518/; s/^bag_ms = .*/bag_ms = 1/; s/^jitter_us = .*/jitter_us = 10000/' work/c*.toml work/bay.toml
     "$afdx" network jitter work/network.toml >lines.txt 2>said.txt || status=$?
     python3 "$model" jitter work/network.toml >wanted.txt 2>line.txt
     cat said.txt
-    [ "$status" -eq 4 ] && cmp wanted.txt lines.txt && cmp line.txt said.txt && [ "$(cat said.txt)" = "$(sed -n 's/^4 \(.*J2.*\)/\1/p' provoked.txt)" ]
+    [ "$status" -eq 4 ] && cmp wanted.txt lines.txt && cmp line.txt said.txt && [ "$(wc -l <said.txt)" -gt 1 ] &&
+        [ "$(head -n 1 said.txt)" = "$(sed -n 's/^4 \(.*J2.*\)/\1/p' provoked.txt)" ]
 }
 
 # refused STATUS LINE FILE EDIT..: with these edits of a file of the example, the check is refused, and the model says the same.
@@ -83,6 +84,19 @@ twin() {
 lines_are_the_pages() {
     sed -n '/^## Networks/,/^## Files/ s/^| `\(afdx: [^`]*\)` | \([0-9]\) |.*/\2 \1/p' "$top/docs/use/MESSAGES.md" | sort >wanted.txt
     [ -s wanted.txt ] && sort provoked.txt | diff wanted.txt -
+}
+
+# many: 101 rows fall short, of which 100 have a line each.
+many() {
+    local status=0
+    mkdir -p many && { table_ports 1 2 && for link in {1..101}; do table_link "$link" 1 2 64 low; done; } | sed 's/^bag_ms = .*/bag_ms = 128/' >many/table.toml
+    printf '[[switch]]\nname = "%s"\ntable = "table.toml"\n' A B >many/network.toml
+    printf '[[wire]]\nfrom = "A.2"\nto = "B.1"\n' >>many/network.toml
+    "$afdx" network check many/network.toml >answer.txt 2>said.txt || status=$?
+    python3 "$model" check many/network.toml >/dev/null 2>line.txt
+    tail -n 1 said.txt
+    [ "$status" -eq 4 ] && [ ! -s answer.txt ] && cmp line.txt said.txt && [ "$(wc -l <said.txt)" -eq 101 ] &&
+        [ "$(tail -n 1 said.txt)" = "afdx: network J1 Jitter, and 1 more" ]
 }
 
 # absolute: a table's name that begins with / is no name beside the network file.
@@ -168,6 +182,8 @@ refusal 3 "afdx: network G8 NoSource, switch bay, link 403" cabin.toml '/^id = 4
 twin >twin.toml
 refusal 3 "afdx: network G9 TwiceSource, link 300" cabin.toml '$r twin.toml'
 refusal 4 "afdx: network J1 Jitter, switch bay, link 400, need 1100, has 1099" bay.toml '/^id = 400/,/^jitter_us/ s/^jitter_us = .*/jitter_us = 1099/'
+provoked 4 "afdx: network J1 Jitter, and 1 more"
+check "101 rows that fall short" many
 provoked 3 "afdx: capture P2 NoHeader, port 3, switch bay"
 check "afdx: capture P2 NoHeader, port 3, switch bay" capture_refused
 provoked 4 "afdx: network R1 Unsettled"

@@ -2,8 +2,8 @@
 """A plain and slow model of a network of switches; each switch is that of model.py.
 
 A link's way is walked back from its end, row by row; its delays and jitters are summed from the first row on. Numbers are
-whole, nanoseconds if nothing is said. A refusal is one line on standard error, with status 3 or 4. The tables themselves
-are taken to be in order, their load is not.
+whole, nanoseconds if nothing is said. A refusal is one line on standard error, with status 3 or 4; of jitters it is a line for
+each row. The tables themselves are taken to be in order, their load is not.
 """
 import argparse
 import re
@@ -25,6 +25,7 @@ MOST_DELAY = 1_000_000
 MOST_JITTER_US = 10_000
 MOST_LATENCY_US = 100
 MOST_ROUNDS = 64
+MOST_LINES = 100  # of rows that one rule refuses
 
 Members = dict[str, Any]
 Answer = TypeVar("Answer")
@@ -375,12 +376,23 @@ def need_us(first: Row, delays: Delays) -> int:
     return max(0, -(-(first.link.jitter + delays.most - delays.least) // MICROSECOND))
 
 
+def rows_refused(rule: str, rows: list[str]) -> Refused:
+    """A line for each row that a rule of jitters refuses; of more than 100 for the first 100, and how many more there are."""
+    lines = [f"afdx: network {rule}, {row}" for row in rows[:MOST_LINES]]
+    if len(rows) > MOST_LINES:
+        lines.append(f"afdx: network {rule}, and {len(rows) - MOST_LINES} more")
+    return Refused("\n".join(lines), 4)
+
+
 def jitters_are_enough(net: Network) -> None:
+    short = []
     for row in net.rows:
         rows, _, sums = before(net, row)
         need, has = need_us(rows[0], sums[-1]), row.link.jitter // MICROSECOND
         if need > has:
-            refuse("J1 Jitter", f"switch {row.switch}", f"link {row.link.id}", f"need {need}", f"has {has}")
+            short.append(f"switch {row.switch}, link {row.link.id}, need {need}, has {has}")
+    if short:
+        raise rows_refused("J1 Jitter", short)
 
 
 # --- The commands ---
@@ -437,20 +449,21 @@ def turn(net: Network) -> bool:
     return changed
 
 
-def solve(net: Network) -> Row | None:
-    """Puts the least jitters into the rows, beginning with the sources' own at each; None, or the first row past the limit."""
+def solve(net: Network) -> list[Row]:
+    """Puts the least jitters into the rows, beginning with the sources' own at each; ends with the first turn in which rows come to
+    be past the limit, and gives those."""
     firsts = [(row, whole_way(net, row)[0][0].link.jitter) for row in net.rows]
     for row, jitter in firsts:
         row.link.jitter = jitter
     while turn(net):
         past = [row for row in net.rows if row.link.jitter > MOST_JITTER_US * MICROSECOND]
         if past:
-            return past[0]
-    return None
+            return past
+    return []
 
 
 def jitter(net: Network) -> tuple[str, Refused | None]:
-    """The lines of all rows, and the refusal where one is past the limit."""
+    """The lines of all rows, and the refusal of those that are past the limit."""
     ports_are_there(net)
     latencies_are_least(net)
     loads_fit(net, ["L1 Rate"])
@@ -458,8 +471,8 @@ def jitter(net: Network) -> tuple[str, Refused | None]:
     past = solve(net)
     if not past:
         return jitter_lines(net), None
-    need = past.link.jitter // MICROSECOND
-    return jitter_lines(net), Refused(f"afdx: network J2 NoJitter, switch {past.switch}, link {past.link.id}, need {need}", 4)
+    rows = [f"switch {row.switch}, link {row.link.id}, need {row.link.jitter // MICROSECOND}" for row in past]
+    return jitter_lines(net), rows_refused("J2 NoJitter", rows)
 
 
 # --- A run ---

@@ -69,6 +69,11 @@ def left(outcomes: dict[str, model.Outcome], switch: str, port: int) -> list[tup
     return [(int.from_bytes(record.data[4:6], "big"), record.stamp) for record in network_model.written(outcomes[switch].captures[port])]
 
 
+def short_lines(switch: str, links: Iterable[int], need: int, has: int) -> str:
+    """The lines of links that need more jitter at the switch than they have."""
+    return "\n".join(f"afdx: network J1 Jitter, switch {switch}, link {number}, need {need}, has {has}" for number in links)
+
+
 def sees(name: str, outcomes: dict[str, model.Outcome], switch: str, *lines: str) -> None:
     for line in lines:
         same(name, line in outcomes[switch].report.splitlines(), True)
@@ -108,7 +113,7 @@ def jitter_enough() -> None:
     same(name, left(outcomes, "B", 2), [(1, 13_440), (2, 20_160), (3, 26_880), (3, 1_013_440)])
     sees(name, outcomes, "B", "link 3 passed 2 policed 0")
     short = network(two_switches(13), "A.4 B.1")
-    refuses(name, "afdx: network J1 Jitter, switch B, link 1, need 14, has 13", 4, network_model.check, short)
+    refuses(name, short_lines("B", (1, 2, 3), 14, 13), 4, network_model.check, short)
     policed = model.run(short.tables["B"], {1: outcomes["A"].captures[4], 2: SILENCE})
     same(name, "link 3 passed 1 policed 1" in policed.report, True)
     needs(name, network(two_switches(0), "A.4 B.1"), *(f"switch A link {number} jitter_us 0" for number in (1, 2, 3)),
@@ -194,7 +199,7 @@ def both_kinds_of_policing() -> None:
     loads = {port.id: load.low for port, load in model.loads_of(model.table_of(tables["B"]))}
     same(name, [loads[2], loads[3]], [156_999, 203_381])
     short = tables | {"B": tables["B"].replace("jitter_us = 276", "jitter_us = 275")}
-    refuses(name, "afdx: network J1 Jitter, switch B, link 1, need 276, has 275", 4, network_model.check, network(short, "A.3 B.1"))
+    refuses(name, short_lines("B", (1, 2), 276, 275), 4, network_model.check, network(short, "A.3 B.1"))
 
 
 def gigabit_with_latency() -> None:
@@ -446,7 +451,33 @@ def past_the_limit() -> None:
               "B": table(*(link(number, 1, [2], size=1518, bag=128) for number in range(1, 10)), ports=2, mbit=10)}
     needs("past the limit", network(tables, "A.2 B.1"), *(f"switch A link {number} jitter_us 0" for number in range(1, 10)),
           *(f"switch B link {number} jitter_us 14278" for number in range(1, 10)),
-          "afdx: network J2 NoJitter, switch B, link 1, need 14278")
+          "\n".join(f"afdx: network J2 NoJitter, switch B, link {number}, need 14278" for number in range(1, 10)))
+
+
+def short_at_two_switches() -> None:
+    """Two frames of 6,720 ns share a port to B and one to C, so that 6,720 ns of jitter arise at each; a row that has 7 µs is none of
+    those that are refused."""
+    first = table(link(1, 1, [3, 4]), link(2, 2, [3, 4]))
+    tables = {"A": first, "B": table(link(1, 1, [2], 7), link(2, 1, [2], 6)), "C": table(link(1, 1, [2], 0), link(2, 1, [2], 7))}
+    refuses("short at two switches", "afdx: network J1 Jitter, switch B, link 2, need 7, has 6\n"
+            "afdx: network J1 Jitter, switch C, link 1, need 7, has 0", 4, network_model.check, network(tables, "A.3 B.1", "A.4 C.1"))
+
+
+def many_rows(count: int, size: int, mbit: int) -> network_model.Network:
+    """So many links from one port of A over a wire to B, where they have no jitter."""
+    links = [link(number, 1, [2], size=size, bag=128) for number in range(1, count + 1)]
+    return network({"A": table(*links, ports=2, mbit=mbit), "B": table(*links, ports=2, mbit=mbit)}, "A.2 B.1")
+
+
+def a_hundred_lines() -> None:
+    """n - 1 of n frames of 6,720 ns go before the last one. 102 * 200 bytes at 10 Mbit/s, in frames of 64 bytes, take 1,050 ns each,
+    and one such frame 67,200 ns. The line after the hundredth says how many more rows there are."""
+    for count, need, rest in ((100, 666, ""), (101, 672, "\nafdx: network J1 Jitter, and 1 more"),
+                              (102, 679, "\nafdx: network J1 Jitter, and 2 more")):
+        refuses("a hundred lines", short_lines("B", range(1, 101), need, 0) + rest, 4, network_model.check, many_rows(count, 64, 100))
+    refused = network_model.jitter(many_rows(102, 200, 10))[1]
+    lines = [f"afdx: network J2 NoJitter, switch B, link {number}, need 21353" for number in range(1, 101)]
+    same("a hundred lines", refused and refused.line.splitlines(), lines + ["afdx: network J2 NoJitter, and 2 more"])
 
 
 def captures_refused() -> None:
@@ -460,7 +491,7 @@ def captures_refused() -> None:
 
 for part in (jitter_enough, three_in_a_row, ring, multicast, both_kinds_of_policing, gigabit_with_latency, latency_that_varies, overtaken,
              overtaken_by_all, wire_that_varies, least_latencies, rounded_once, bound_of_its_priority, speed_of_the_port_before, turns,
-             file_refusals, texts_refused, past_the_limit, captures_refused):
+             file_refusals, texts_refused, past_the_limit, short_at_two_switches, a_hundred_lines, captures_refused):
     part()
 print("\n".join(differing) or "the model of networks gives every worked number")
 sys.exit(bool(differing))

@@ -3,9 +3,11 @@
 
 They are the same ones each time, run by network_model.py and, if it is named, by the program, whose bytes and lines are then those
 of the model. The tables have the jitters that `jitter` finds. Of each link the frames that its first account passes leave each of its end
-ports, in order, each between the least and the most that `check` prints for its size; no later account polices a frame.
+ports, in order, each between the least and the most that `check` prints for its size; no later account polices a frame. With less jitter
+in some rows the program names the same rows as the model.
 """
 import argparse
+import copy
 import subprocess
 import sys
 from collections.abc import Iterator
@@ -257,6 +259,31 @@ def answer(afdx: str, room: Path, *arguments: str) -> tuple[int, str, str]:
     return done.returncode, done.stdout, done.stderr
 
 
+def with_less_jitter(chance: Random, net: Network) -> Network:
+    """The network with less jitter in some rows, so that some may fall short."""
+    less = copy.deepcopy(net)
+    for row in less.rows:
+        if chance.randrange(2):
+            row.link.jitter = 1000 * chance.randint(0, row.link.jitter // 1000)
+    return less
+
+
+def checked(net: Network) -> tuple[int, str, str]:
+    """What `check` is to answer."""
+    try:
+        return 0, network_model.check(net), ""
+    except model.Refused as refused:
+        return refused.status, "", refused.line + "\n"
+
+
+def falls_short(afdx: str, chance: Random, room: Path, net: Network) -> Iterator[str]:
+    """Where the program names other rows than the model."""
+    less = with_less_jitter(chance, net)
+    lay_out(room, less, {})
+    if answer(afdx, room, "check", "net.toml") != checked(less):
+        yield "network check with less jitter"
+
+
 def differs(afdx: str, room: Path, net: Network, given: dict[End, bytes], outcomes: dict[str, model.Outcome]) -> Iterator[str]:
     """Where the program says something else than the model."""
     lay_out(room, net, given)
@@ -289,6 +316,7 @@ def main() -> None:
         wrong = list(wrong_of(net, sent, outcomes))
         if given.afdx:
             wrong += differs(given.afdx, given.room / str(number), net, sent, outcomes)
+            wrong += falls_short(given.afdx, chance, given.room / f"{number}-short", net)
         for line in wrong:
             print(f"network {number}: {line}")
         faults += bool(wrong)

@@ -39,7 +39,7 @@ class Answer:
     """What the program printed for some arguments, and how it ended."""
     status: int
     said: str
-    line: str  # on standard error, without its line feed
+    line: str  # on standard error, without its line feed; several where rows of a network are refused one by one
 
 
 def beside(package: Path) -> list[Path]:

@@ -1,1 +1,2 @@
 pub mod ReportingLemmas
+pub mod RowLemmas

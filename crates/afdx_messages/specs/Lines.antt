@@ -1,5 +1,5 @@
 -- The lines of faults, and the status of a network's (profile).
-use Rattle.std.specs.Prelude.{ℕ, codes, List, [], ◌++◌, Option, Some, None, option_map, string_bytes}
+use Rattle.std.specs.Prelude.{ℕ, zero, suc, codes, List, [], ◌++◌, ◌-◌, map, flat_map, take, length, slice_get, Option, Some, None, option_map, string_bytes}
 use Rattle.std.specs.Fmt.{decimal}
 use Rattle.afdx_pcap.specs.declared.fault.PcapFault.{PcapFault}
 use Rattle.afdx_pcap.specs.declared.fault.PcapFault.TheVariants as fault
@@ -14,6 +14,8 @@ use Rattle.afdx_wiring.specs.declared.fault.NetworkFault.TheVariants as net
 use Rattle.afdx_wiring.specs.declared.fault.Short.{Short}
 use Rattle.afdx_wiring.specs.Lines.{as_line}
 use Rattle.afdx_wiring.specs.Names.{key_text as wiring_key_text, place_text as wiring_place_text}
+use Rattle.afdx_messages.specs.declared.network_failure.JitterRule.{JitterRule}
+use Rattle.afdx_messages.specs.declared.network_failure.JitterRule.TheVariants as jitter
 use Rattle.afdx_messages.specs.declared.network_failure.NetworkFailure.{NetworkFailure}
 use Rattle.afdx_messages.specs.declared.network_failure.NetworkFailure.TheVariants as network
 
@@ -142,14 +144,37 @@ network_text name (net.TwiceSource link) = network_rule (codes "G9 TwiceSource")
 network_text name (net.Jitter short) = short_text (codes "J1 Jitter") name short ++ codes ", has " ++ decimal short.has
 network_text name (net.NoJitter short) = short_text (codes "J2 NoJitter") name short
 
-abbrev pub network_failure_text : NetworkFailure → List ℕ
-network_failure_text (network.Refused fault name) = network_text (option_map string_bytes name) fault
-network_failure_text (network.Table refusal name) = table_text refusal ++ switch_part (Some (string_bytes name))
-network_failure_text (network.Capture port fault name) = capture_text (Some port) fault ++ switch_part (Some (string_bytes name))
-network_failure_text network.Unsettled = network_rule (codes "R1 Unsettled")
+-- ---- of rows that a rule of jitters refuses
+
+abbrev pub row_fault : JitterRule → Short → NetworkFault
+row_fault jitter.Jitter short = net.Jitter short
+row_fault jitter.NoJitter short = net.NoJitter short
+
+abbrev pub jitter_rule : JitterRule → List ℕ
+jitter_rule jitter.Jitter = codes "J1 Jitter"
+jitter_rule jitter.NoJitter = codes "J2 NoJitter"
+
+-- where the switches have these names
+abbrev pub row_line : JitterRule → List (List ℕ) → Short → List ℕ
+row_line rule names short = as_line (network_text (slice_get names short.switch) (row_fault rule short))
+
+-- how many more there are, if any are
+abbrev pub rest_line : JitterRule → (rest : ℕ) → List ℕ
+rest_line rule zero = []
+rest_line rule (suc n) = as_line (network_rule (jitter_rule rule) ++ codes ", and " ++ decimal (suc n) ++ codes " more")
+
+-- profile: a line for each, up to 100, and one that says how many more there are
+abbrev pub rows_lines : JitterRule → List (List ℕ) → List Short → List ℕ
+rows_lines rule names shorts = flat_map (row_line rule names) (take 100 shorts) ++ rest_line rule (length shorts - 100)
+
+-- ---- of a failure
 
 abbrev pub network_failure_line : NetworkFailure → List ℕ
-network_failure_line f = as_line (network_failure_text f)
+network_failure_line (network.Refused fault name) = as_line (network_text (option_map string_bytes name) fault)
+network_failure_line (network.Table refusal name) = as_line (table_text refusal ++ switch_part (Some (string_bytes name)))
+network_failure_line (network.Capture port fault name) = as_line (capture_text (Some port) fault ++ switch_part (Some (string_bytes name)))
+network_failure_line (network.Rows rule shorts names) = rows_lines rule (map string_bytes names.items) shorts.items
+network_failure_line network.Unsettled = as_line (network_rule (codes "R1 Unsettled"))
 
 abbrev pub fault_status : NetworkFault → ℕ
 fault_status net.Memory = 5
@@ -160,5 +185,6 @@ fault_status _ = 3
 
 abbrev pub network_status : NetworkFailure → ℕ
 network_status (network.Refused fault name) = fault_status fault
+network_status (network.Rows rule shorts names) = 4
 network_status network.Unsettled = 4
 network_status _ = 3

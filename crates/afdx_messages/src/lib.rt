@@ -16,6 +16,6 @@ pub use capture::capture_line;
 pub use failure::Failure;
 pub use load::load_line;
 pub use network::{network_failure_line, network_status};
-pub use network_failure::NetworkFailure;
+pub use network_failure::{JitterRule, NetworkFailure};
 pub use reporting::{Ending, report};
 pub use table::table_line;

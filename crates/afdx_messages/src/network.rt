@@ -1,16 +1,21 @@
 //! The line of a network that is refused.
 
-ghost use Rattle.std.specs.Prelude.{◌≡◌, ◌++◌, codes, option_map, string_bytes, IfOk, OnOk};
+ghost use Rattle.std.specs.Prelude.{◌≡◌, ◌++◌, codes, map, flat_map, slice_get, option_map, option_copied, string_bytes, IfOk, OnOk};
+ghost use Rattle.std.specs.Fmt.{decimal};
+ghost use Rattle.afdx_wiring.specs.Lines.{as_line};
 ghost use Rattle.afdx_wiring.specs.Names.{key_text, place_text};
-ghost use Rattle.afdx_messages.specs.Lines.{load_fault_text, network_rule, switch_part, link_part, short_text, network_text, network_failure_text, network_failure_line, network_status};
+ghost use Rattle.afdx_messages.specs.Lines.{load_fault_text, network_rule, switch_part, link_part, short_text, network_text, row_fault, jitter_rule, row_line, rest_line, rows_lines, network_failure_line, network_status};
 
 use crate::capture::capture_text;
 use crate::load::load_fault_text;
-use crate::network_failure::NetworkFailure;
+use crate::network_failure::{JitterRule, NetworkFailure};
 use crate::table::table_text;
 use afdx_load::LoadFault;
 use afdx_wiring::{At, Key, NetworkFault, Short};
 use std::alloc::{AllocError, Global};
+
+/// The most rows that have a line each.
+const MOST_ROWS: usize = 100;
 
 /// Appends the switch of this name, where there is one.
 fn put_switch(text: &mut String, name: Option<&str>) -> Result<(), AllocError>
@@ -143,38 +148,136 @@ fn network_text(
     }
 }
 
-/// What is reported of a failure, without its line feed.
-fn network_failure_text(alloc: Global, failure: &NetworkFailure) -> Result<String, AllocError>
-    ensures { IfOk result (λ text. string_bytes text ≡ network_failure_text failure.now) }
+/// The refusal of a row.
+fn row_fault(rule: JitterRule, short: Short) -> NetworkFault
+    ensures { result ≡ row_fault rule short }
 {
-    match failure {
-        NetworkFailure::Refused(fault, None) => network_text(alloc, *fault, None),
-        NetworkFailure::Refused(fault, Some(name)) => {
-            network_text(alloc, *fault, Some(name.as_str()))
-        }
-        NetworkFailure::Table(refusal, name) => {
-            let mut text = table_text(alloc, *refusal)?;
-            put_switch(&mut text, Some(name.as_str()))?;
-            Ok(text)
-        }
-        NetworkFailure::Capture(port, fault, name) => {
-            let mut text = capture_text(alloc, Some(*port), *fault)?;
-            put_switch(&mut text, Some(name.as_str()))?;
-            Ok(text)
-        }
-        NetworkFailure::Unsettled => rule_text(alloc, "R1 Unsettled"),
+    match rule {
+        JitterRule::Jitter => NetworkFault::Jitter(short),
+        JitterRule::NoJitter => NetworkFault::NoJitter(short),
     }
 }
 
-/// The line of a failure, with the name of its switch where it is of one.
+/// What a rule of jitters is called, as the beginning of its line.
+fn jitter_text(rule: JitterRule) -> &'static str
+    ensures { result.now ≡ network_rule (jitter_rule rule) }
+{
+    match rule {
+        JitterRule::Jitter => "afdx: network J1 Jitter",
+        JitterRule::NoJitter => "afdx: network J2 NoJitter",
+    }
+}
+
+/// Ends a line.
+fn lined(text: String) -> Result<String, AllocError>
+    ensures { IfOk result (λ line. string_bytes line ≡ as_line (string_bytes text)) }
+{
+    let mut line = text;
+    line.push_str("\n")?;
+    Ok(line)
+}
+
+/// The name of a switch.
+fn name_at(names: &[String], switch: usize) -> Option<&String>
+    ensures { option_copied result ≡ slice_get names.now switch }
+{
+    names.get(switch)
+}
+
+/// The line of a row, where the switches have these names.
+fn row_line(
+    alloc: Global,
+    rule: JitterRule,
+    names: &[String],
+    short: Short,
+) -> Result<String, AllocError>
+    ensures { IfOk result (λ line. string_bytes line ≡ row_line rule (map string_bytes names.now) short) }
+{
+    let fault = row_fault(rule, short);
+    match name_at(names, short.switch) {
+        Some(name) => lined(network_text(alloc, fault, Some(name.as_str()))?),
+        None => lined(network_text(alloc, fault, None)?),
+    }
+}
+
+/// Appends the lines of rows.
+fn push_rows(
+    lines: &mut String,
+    alloc: Global,
+    rule: JitterRule,
+    names: &[String],
+    shorts: &[Short],
+) -> Result<(), AllocError>
+    ensures { OnOk result (string_bytes lines.new ≡ string_bytes lines.old ++ flat_map (row_line rule (map string_bytes names.now)) shorts.now) }
+{
+    for short in shorts {
+        let line = row_line(alloc, rule, names, *short)?;
+        lines.push_str(&line)?;
+    }
+    Ok(())
+}
+
+/// Appends that so many rows more are refused.
+fn push_more(lines: &mut String, rule: JitterRule, rest: usize) -> Result<(), AllocError>
+    ensures { OnOk result (string_bytes lines.new ≡ string_bytes lines.old ++ as_line (network_rule (jitter_rule rule) ++ codes ", and " ++ decimal rest ++ codes " more")) }
+{
+    lines.push_str(jitter_text(rule))?;
+    write!(lines, ", and {rest} more")?;
+    lines.push_str("\n")?;
+    Ok(())
+}
+
+/// Appends how many rows more are refused, if any are.
+fn push_rest(lines: &mut String, rule: JitterRule, rest: usize) -> Result<(), AllocError>
+    ensures { OnOk result (string_bytes lines.new ≡ string_bytes lines.old ++ rest_line rule rest) }
+{
+    if rest > 0 {
+        push_more(lines, rule, rest)?;
+    }
+    Ok(())
+}
+
+/// The lines of the rows that a rule refuses.
+fn rows_lines(
+    alloc: Global,
+    rule: JitterRule,
+    names: &[String],
+    shorts: &[Short],
+) -> Result<String, AllocError>
+    ensures { IfOk result (λ lines. string_bytes lines ≡ rows_lines rule (map string_bytes names.now) shorts.now) }
+{
+    let (first, _) = shorts.split_at(MOST_ROWS.min(shorts.len()));
+    let mut lines = String::new(alloc);
+    push_rows(&mut lines, alloc, rule, names, first)?;
+    push_rest(&mut lines, rule, shorts.len().saturating_sub(MOST_ROWS))?;
+    Ok(lines)
+}
+
+/// The line of a failure, with the name of its switch where it is of one; of rows one line each, for at most 100, and then how many
+/// more there are.
 ///
 /// An error says that memory ran out. O(line).
 pub fn network_failure_line(alloc: Global, failure: &NetworkFailure) -> Result<String, AllocError>
     ensures { IfOk result (λ line. string_bytes line ≡ network_failure_line failure.now) }
 {
-    let mut line = network_failure_text(alloc, failure)?;
-    line.push_str("\n")?;
-    Ok(line)
+    match failure {
+        NetworkFailure::Refused(fault, None) => lined(network_text(alloc, *fault, None)?),
+        NetworkFailure::Refused(fault, Some(name)) => {
+            lined(network_text(alloc, *fault, Some(name.as_str()))?)
+        }
+        NetworkFailure::Table(refusal, name) => {
+            let mut text = table_text(alloc, *refusal)?;
+            put_switch(&mut text, Some(name.as_str()))?;
+            lined(text)
+        }
+        NetworkFailure::Capture(port, fault, name) => {
+            let mut text = capture_text(alloc, Some(*port), *fault)?;
+            put_switch(&mut text, Some(name.as_str()))?;
+            lined(text)
+        }
+        NetworkFailure::Rows(rule, shorts, names) => rows_lines(alloc, *rule, names, shorts),
+        NetworkFailure::Unsettled => lined(rule_text(alloc, "R1 Unsettled")?),
+    }
 }
 
 /// The status of a failure: 4 where what the network asks for cannot be given, 5 for memory, and 3 for texts that are refused.
@@ -188,7 +291,7 @@ pub fn network_status(failure: &NetworkFailure) -> u8
             NetworkFault::Load(_, _) | NetworkFault::Jitter(_) | NetworkFault::NoJitter(_) => 4,
             _ => 3,
         },
-        NetworkFailure::Unsettled => 4,
+        NetworkFailure::Rows(_, _, _) | NetworkFailure::Unsettled => 4,
         NetworkFailure::Table(_, _) | NetworkFailure::Capture(_, _, _) => 3,
     }
 }

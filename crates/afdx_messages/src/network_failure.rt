@@ -2,7 +2,16 @@
 
 use afdx_pcap::PcapFault;
 use afdx_table::TableFault;
-use afdx_wiring::NetworkFault;
+use afdx_wiring::{NetworkFault, Short};
+
+/// A rule of jitters by which rows of tables are refused.
+#[derive(Clone, Copy, Debug, PartialEq, Eq)]
+pub enum JitterRule {
+    /// J1: a row's jitter is not enough.
+    Jitter,
+    /// J2: a row needs more than a table can have.
+    NoJitter,
+}
 
 /// Why a command of networks was not served, beside what can befall any command. A switch is named by its name.
 #[derive(Debug, Drop)]
@@ -13,6 +22,8 @@ pub enum NetworkFailure {
     Table(TableFault, String),
     /// What comes in at this port of this switch is no capture, and this is its first fault.
     Capture(u8, PcapFault, String),
+    /// These rows, by switch and in the order of its table, are refused by the rule. The names are those of all switches, in file order.
+    Rows(JitterRule, Vec<Short>, Vec<String>),
     /// What the wires bring did not come to rest.
     Unsettled,
 }

@@ -54,9 +54,9 @@ fn device_line(alloc: Global, call: &str, name: &str) -> Result<String, AllocErr
     Ok(line)
 }
 
-/// Writes the line of a failure, as far as the writer takes it, and gives the failure's status: 1, without a line, where there was
-/// one of what a run is to fail on, 2 for refused arguments, 3 for a refused table, network or capture, 4 for a refused load or
-/// jitter or a network that does not come to rest, 5 for a device or memory. It also says whether the writer took the whole line.
+/// Writes the line of a failure, or its lines, as far as the writer takes them, and gives the failure's status: 1, without a line, where there was
+/// one of what a run is to fail on, 2 for refused arguments, 3 for a refused table, network or capture, 4 for a refused load,
+/// refused jitters or a network that does not come to rest, 5 for a device or memory. It also says whether the writer took all of it.
 ///
 /// Only a line with a number or a name takes memory. Where that is refused, memory is the failure. O(line).
 pub fn report<E: Write>(alloc: Global, failure: &Failure, err: &mut E) -> Ending

@@ -123,6 +123,25 @@ fn fourteen_are_enough(rt: HostRuntime) -> Result<(), Fail> {
     Ok(())
 }
 
+/// The switch, the link and the need of each row of that network that falls short.
+fn shorts(alloc: Global, jitter_us: u32) -> Result<Vec<(usize, u16, u64)>, Fail> {
+    let network = cleared(alloc, jitter_us)?;
+    let shorts = network.shortages(alloc).ok().ok_or("rows")?;
+    let mut rows = Vec::new(alloc);
+    for short in &shorts {
+        rows.push((short.switch, short.link, short.need))?;
+    }
+    Ok(rows)
+}
+
+#[test]
+fn each_row_that_falls_short_is_told(rt: HostRuntime) -> Result<(), Fail> {
+    let all = [(1, 1, 14), (1, 2, 14), (1, 3, 14)];
+    assert!(rt; shorts(rt.alloc(), 13)?.as_slice() == all.as_slice());
+    assert!(rt; shorts(rt.alloc(), 14)?.is_empty());
+    Ok(())
+}
+
 /// The text of a network file: A and B, each of which takes at least so many microseconds, and a wire between them.
 fn varying_file(alloc: Global, leasts: [u32; 2]) -> Result<String, AllocError> {
     let mut text = String::new(alloc);

@@ -1,6 +1,5 @@
 -- The jitters that a network needs, and why they were not reported.
-use Rattle.std.proofs.Common.{◌≡◌, ◌≢◌, ℕ, List, Some, Err, inl, inr}
-use Rattle.afdx_wiring.specs.declared.fault.Short.{Short}
+use Rattle.std.proofs.Common.{◌≡◌, ◌≢◌, ℕ, List, Err, inl, inr}
 use Rattle.afdx_wiring.specs.declared.fault.NetworkFault.{NetworkFault}
 use Rattle.afdx_wiring.specs.declared.fault.NetworkFault.TheVariants as fault
 use Rattle.afdx_wiring.specs.Net.{Network}
@@ -8,7 +7,7 @@ use Rattle.afdx_messages.specs.declared.failure.Failure.{Failure}
 use Rattle.afdx_folder.specs.Files.{KeepsFiles}
 use Rattle.afdx_serve.specs.Networks.{names_of, HasNetwork, IsRefused, FailsToGetNetwork}
 use Rattle.afdx_serve.specs.NetworkJitters.{fit_of}
-use Rattle.afdx_serve.specs.Serving.{World, WritesNothing, SaysJitters, FailsToGiveJitters}
+use Rattle.afdx_serve.specs.Serving.{World, WritesNothing, FailsToGiveJitters}
 use Rattle.afdx_serve.proofs.NetworkLemmas.{of_lost, of_refused}
 
 module _ (path : List ℕ) (old new : World) (keeps : KeepsFiles old.files new.files) (none : WritesNothing old new) where
@@ -22,9 +21,3 @@ module _ (path : List ℕ) (old new : World) (keeps : KeepsFiles old.files new.f
       → (f : Failure) → IsRefused (names_of net.layout.switches) e f → FailsToGiveJitters f path old new
   not_fit net has count e why =
       of_refused (λ f. FailsToGiveJitters f path old new) (names_of net.layout.switches) e (inl (keeps, none)) (λ x h. inl (inr (net, has, (e, why, h), count), keeps, none))
-
--- a row needs more than a table can have
-pub past_reported : (path : List ℕ) (old new : World) (net : Network) (short : Short) → SaysJitters path net (Some short) old new
-    → (f : Failure) → IsRefused (names_of net.layout.switches) (fault.NoJitter short) f → FailsToGiveJitters f path old new
-past_reported path old new net short says =
-    of_refused (λ f. FailsToGiveJitters f path old new) (names_of net.layout.switches) (fault.NoJitter short) (inr (net, short, says, tt)) (λ x h. inr (net, short, says, h))

@@ -1,11 +1,12 @@
 -- Why a network was not found to be accepted.
-use Rattle.std.proofs.Common.{◌≡◌, ℕ, List, inl, inr}
+use Rattle.std.proofs.Common.{◌≡◌, ℕ, List, ◌∷◌, inl, inr}
 use Rattle.afdx_wiring.specs.Net.{Network}
+use Rattle.afdx_messages.specs.declared.network_failure.JitterRule.TheVariants.{Jitter}
 use Rattle.afdx_messages.specs.declared.failure.Failure.{Failure}
 use Rattle.afdx_folder.specs.Files.{KeepsFiles}
 use Rattle.afdx_serve.specs.Networks.{names_of, HasNetwork, FailsToGetNetwork, FailsToAcceptNetwork}
 use Rattle.afdx_serve.specs.Serving.{World, WritesNothing, FailsToCheckNetwork}
-use Rattle.afdx_serve.proofs.NetworkLemmas.{of_lost, of_refused}
+use Rattle.afdx_serve.proofs.NetworkLemmas.{of_lost, of_refused, of_rows}
 
 module _ (path : List ℕ) (old new : World) (keeps : KeepsFiles old.files new.files) (none : WritesNothing old new) where
   -- the network was not got
@@ -14,5 +15,9 @@ module _ (path : List ℕ) (old new : World) (keeps : KeepsFiles old.files new.f
 
   -- it is not accepted
   pub not_accepted : (net : Network) → HasNetwork old.files path net → new.failed ≡ old.failed → (f : Failure) → FailsToAcceptNetwork f net → FailsToCheckNetwork f path old new
-  not_accepted net has count f h =
-      of_refused (λ x. FailsToCheckNetwork x path old new) (names_of net.layout.switches) h.0 (keeps, none) (λ x is. (inr (net, has, (h.0, h.1, is), count), keeps, none)) f h.2
+  not_accepted net has count f (inl h) =
+      of_refused (λ x. FailsToCheckNetwork x path old new) (names_of net.layout.switches) h.0 (keeps, none)
+      (λ x is. (inr (net, has, inl (h.0, h.1, is), count), keeps, none)) f h.2
+  not_accepted net has count f (inr h) =
+      of_rows (λ x. FailsToCheckNetwork x path old new) (names_of net.layout.switches) Jitter (h.0 ∷ h.1) (keeps, none)
+      (λ x is. (inr (net, has, inr (h.0, h.1, h.2, is), count), keeps, none)) f h.3

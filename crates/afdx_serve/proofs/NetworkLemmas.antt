@@ -7,6 +7,8 @@ use Rattle.afdx_network_report.specs.Lines.{Names}
 use Rattle.afdx_arguments.specs.declared.request.NetworkPaths.{NetworkPaths}
 use Rattle.afdx_arguments.specs.declared.request.NetworkRequest.{NetworkRequest}
 use Rattle.afdx_arguments.specs.declared.request.NetworkRequest.TheVariants as ask
+use Rattle.afdx_wiring.specs.declared.fault.Short.{Short}
+use Rattle.afdx_messages.specs.declared.network_failure.JitterRule.{JitterRule}
 use Rattle.afdx_messages.specs.declared.network_failure.NetworkFailure.{NetworkFailure}
 use Rattle.afdx_messages.specs.declared.network_failure.NetworkFailure.TheVariants as network
 use Rattle.afdx_messages.specs.declared.failure.Failure.{Failure}
@@ -14,7 +16,7 @@ use Rattle.afdx_messages.specs.declared.failure.Failure.TheVariants as failure
 use Rattle.afdx_messages.specs.Inner.Failures.{wiring_failure}
 use Rattle.afdx_folder.specs.Files.{Files, DeviceLog, KeepsFiles}
 use Rattle.afdx_messages.specs.Reporting.{IsMade}
-use Rattle.afdx_serve.specs.Networks.{IsRefused, FailsToGetNetwork}
+use Rattle.afdx_serve.specs.Networks.{names_of, verdict_of, IsRefused, AreRefusedRows, NetworkVerdict, LeadsToFailure, FailsToGetNetwork}
 use Rattle.afdx_serve.specs.NetworkRuns.{StopsNetwork, EndsNetwork}
 use Rattle.afdx_serve.specs.Serving.{World, WritesNothing, FailsToPerformNetwork}
 
@@ -59,13 +61,43 @@ of_refused P names e out refused (failure.Put name) h = absurd h
 of_refused P names e out refused failure.Read h = absurd h
 of_refused P names e out refused failure.Write h = absurd h
 
+-- rows that are refused lead to themselves, or to memory
+pub of_rows : (P : Failure → Type 0) (names : Names) (rule : JitterRule) (shorts : List Short) → P failure.Memory
+    → ((x : NetworkFailure) → AreRefusedRows names rule shorts (failure.Network x) → P (failure.Network x)) → (f : Failure) → AreRefusedRows names rule shorts f → P f
+of_rows P names rule shorts out refused failure.Memory h = out
+of_rows P names rule shorts out refused (failure.Network x) h = refused x h
+of_rows P names rule shorts out refused failure.Found h = absurd h
+of_rows P names rule shorts out refused failure.Usage h = absurd h
+of_rows P names rule shorts out refused (failure.Table x) h = absurd h
+of_rows P names rule shorts out refused (failure.Load x) h = absurd h
+of_rows P names rule shorts out refused (failure.Capture x) h = absurd h
+of_rows P names rule shorts out refused (failure.PortCapture p x) h = absurd h
+of_rows P names rule shorts out refused (failure.Get name) h = absurd h
+of_rows P names rule shorts out refused (failure.Put name) h = absurd h
+of_rows P names rule shorts out refused failure.Read h = absurd h
+of_rows P names rule shorts out refused failure.Write h = absurd h
+
+-- a verdict never leads to refused arguments
+judged_usage : (names : Names) (verdict : NetworkVerdict) → LeadsToFailure names verdict failure.Usage → ⊥
+judged_usage names verdict (inl h) = h.2
+judged_usage names verdict (inr h) = h.3
+
+-- nor to a write or a put that failed
+pub judged_write : (names : Names) (verdict : NetworkVerdict) → LeadsToFailure names verdict failure.Write → ⊥
+judged_write names verdict (inl h) = h.2
+judged_write names verdict (inr h) = h.3
+
+pub judged_put : (s : String Global) (names : Names) (verdict : NetworkVerdict) → LeadsToFailure names verdict (failure.Put s) → ⊥
+judged_put s names verdict (inl h) = h.2
+judged_put s names verdict (inr h) = h.3
+
 -- ---- of all commands of networks
 
 -- they never refuse the arguments
 pub never_usage : (r : NetworkRequest) (old new : World) → FailsToPerformNetwork failure.Usage r old new → ⊥
 never_usage (ask.Check path) old new h = elim h.0 [
   | inl fails ↦ got old.files path.now old.failed new.failed fails
-  | inr fails ↦ fails.2.2
+  | inr fails ↦ judged_usage (names_of fails.0.layout.switches) (verdict_of fails.0) fails.2
 ]
 never_usage (ask.Jitter path) old new h = elim h.0 [
   | inl fails ↦ got old.files path.now old.failed new.failed fails
@@ -74,7 +106,7 @@ never_usage (ask.Jitter path) old new h = elim h.0 [
 never_usage (ask.Run paths) old new h = elim h.0.0 [
   | inl fails ↦ got old.files paths.network.now old.failed new.failed fails
   | inr fails ↦ elim fails.2 [
-    | inl refused ↦ refused.0.2
+    | inl refused ↦ judged_usage (names_of fails.0.layout.switches) (verdict_of fails.0) refused.0
     | inr given ↦ given.1
   ]
 ]
@@ -107,7 +139,7 @@ spares (failure.Load e) (ask.Jitter path) old new made h = inl (h.2, h.1)
 spares (failure.Capture e) (ask.Jitter path) old new made h = inl (h.2, h.1)
 spares (failure.PortCapture p e) (ask.Jitter path) old new made h = inl (h.2, h.1)
 spares (failure.Network e) (ask.Jitter path) old new made (inl h) = inl (h.2, h.1)
-spares (failure.Network e) (ask.Jitter path) old new made (inr h) = inr (inr (h.0, h.1, h.2, tt))
+spares (failure.Network e) (ask.Jitter path) old new made (inr h) = inr (inr (h.0, h.1, h.2, h.3, tt))
 spares (failure.Get name) (ask.Jitter path) old new made h = inl (h.2, h.1)
 spares (failure.Put name) (ask.Jitter path) old new made h = inl (h.2, h.1)
 spares (failure.Table e) (ask.Run paths) old new made h = inl (h.1, h.0.1)

@@ -23,7 +23,8 @@ use Rattle.afdx_messages.specs.declared.failure.Failure.{Failure}
 use Rattle.afdx_messages.specs.declared.failure.Failure.TheVariants as failure
 use Rattle.afdx_folder.specs.Files.{Files, KeepsFiles, PutsFiles, DeviceLog, settled_after}
 use Rattle.afdx_serve.specs.Runs.{capture_name, names_in, bytes_of_captures, report_in, StopsAt, EndsAt, FailsToPut}
-use Rattle.afdx_serve.specs.Networks.{names_of, HasNetwork}
+use Rattle.afdx_serve.specs.Networks.{names_of, verdict_of, HasNetwork}
+use Rattle.afdx_serve.proofs.NetworkLemmas.{judged_write, judged_put}
 use Rattle.afdx_serve.specs.NetworkRuns.{switch_folder, names_at, bytes_at, captures_of, reports_of, HasGiven, LeadsToNetwork, GetsGiven, FailsToGetGiven, FailsToLeadNetwork, StopsNetwork, EndsNetwork}
 use Rattle.afdx_serve.specs.Serving.{world, PutsNetwork, FailsToRunNetwork}
 use Rattle.afdx_serve.specs.Inner.NetworkRunning.{FailsToLeadGiven}
@@ -187,6 +188,7 @@ not_given_before (failure.Get name) a b path net before after keeps h = (gets_gi
 not_given_before failure.Memory a b path net before after keeps h = tt
 not_given_before (failure.Network (network.Capture port why name)) a b path net before after keeps h =
     ((h.0.0, h.0.1, has_given_before a b path (names_of net.layout.switches) h.0.0 keeps h.0.2, h.0.3, h.0.4), h.1)
+not_given_before (failure.Network (network.Rows rule shorts names)) a b path net before after keeps h = absurd h
 not_given_before (failure.Network network.Unsettled) a b path net before after keeps h =
     ((h.0.0, has_given_before a b path (names_of net.layout.switches) h.0.0 keeps h.0.1, h.0.2), h.1)
 not_given_before (failure.Network (network.Refused r name)) a b path net before after keeps h = absurd h
@@ -206,6 +208,7 @@ led_to_none : (f : Failure) (files : Option Files) (path : List ℕ) (net : Netw
     ≡ before
     → FailsToLeadGiven f net given → FailsToGetGiven f files path net before after
 led_to_none (failure.Network (network.Capture port why name)) files path net given before after has same h = ((given, h.0, has, h.1, h.2), same)
+led_to_none (failure.Network (network.Rows rule shorts names)) files path net given before after has same h = absurd h
 led_to_none (failure.Network network.Unsettled) files path net given before after has same h = ((given, has, h), same)
 led_to_none (failure.Network (network.Refused r name)) files path net given before after has same h = absurd h
 led_to_none (failure.Network (network.Table r name)) files path net given before after has same h = absurd h
@@ -228,7 +231,7 @@ never_write paths files before after (inl h) = elim h [
   | inr join ↦ join.2
 ]
 never_write paths files before after (inr h) = elim h.2 [
-  | inl refused ↦ refused.0.2
+  | inl refused ↦ judged_write (names_of h.0.layout.switches) (verdict_of h.0) refused.0
   | inr given ↦ given.1
 ]
 
@@ -238,7 +241,7 @@ never_put s paths files before after (inl h) = elim h [
   | inr join ↦ join.2
 ]
 never_put s paths files before after (inr h) = elim h.2 [
-  | inl refused ↦ refused.0.2
+  | inl refused ↦ judged_put s (names_of h.0.layout.switches) (verdict_of h.0) refused.0
   | inr given ↦ given.1
 ]
 

@@ -49,8 +49,7 @@ FailsToFit f net = (e : NetworkFault) × (e ≢ fault.Memory → fit_of net ≡ 
 
 -- the file's network fits, so that jitters are asked for: these are what its rows need, and the first that is past what a table can
 -- have; this text lists them
-pub record JittersAre (files : Option Files) (path : List ℕ) (net : Network) (past : Option Short) (text : List ℕ) : Type 0 where
-  pub rows : List RowNeed
+pub record JittersAre (files : Option Files) (path : List ℕ) (net : Network) (rows : List RowNeed) (past : Option Short) (text : List ℕ) : Type 0 where
   pub has_network : HasNetwork files path net
   pub fits : fit_of net ≡ Ok tt
   pub needs : AreNeeds net rows past

@@ -1,5 +1,5 @@
 -- What the commands of networks get from a folder, and why they are refused.
-use Rattle.std.specs.Prelude.{◌≡◌, ◌≢◌, ◌⊎◌, ℕ, List, length, map, take, slice_get, Option, Some, None, option_map, option_and_then, Ok, Err, Vec, string_bytes}
+use Rattle.std.specs.Prelude.{◌≡◌, ◌≢◌, ◌⊎◌, ℕ, List, ◌∷◌, length, map, take, slice_get, Option, Some, None, option_map, option_and_then, Result, Ok, Err, Vec, string_bytes}
 use Rattle.std.specs.Path.{path_with_file_name}
 use Rattle.afdx_table.specs.Content.{Content}
 use Rattle.afdx_table.specs.Text.{table_of}
@@ -7,11 +7,14 @@ use Rattle.afdx_table.specs.declared.fault.TableFault.{TableFault}
 use Rattle.afdx_table.specs.declared.fault.TableFault.TheVariants as table
 use Rattle.afdx_wiring.specs.File.{Switch, Layout, layout_of}
 use Rattle.afdx_wiring.specs.Net.{Network}
-use Rattle.afdx_wiring.specs.Order.{Answer, lost_port, loads_fit, misfit, shortage}
+use Rattle.afdx_wiring.specs.Order.{lost_port, loads_fit, misfit, shortages}
 use Rattle.afdx_wiring.specs.Refusal.{◌>>=◌}
 use Rattle.afdx_wiring.specs.declared.fault.NetworkFault.{NetworkFault}
 use Rattle.afdx_wiring.specs.declared.fault.NetworkFault.TheVariants as fault
+use Rattle.afdx_wiring.specs.declared.fault.Short.{Short}
 use Rattle.afdx_network_report.specs.Lines.{Names}
+use Rattle.afdx_messages.specs.declared.network_failure.JitterRule.{JitterRule}
+use Rattle.afdx_messages.specs.declared.network_failure.JitterRule.TheVariants as jitter
 use Rattle.afdx_messages.specs.declared.network_failure.NetworkFailure.TheVariants as network
 use Rattle.afdx_messages.specs.declared.failure.Failure.{Failure}
 use Rattle.afdx_messages.specs.declared.failure.Failure.TheVariants as failure
@@ -77,17 +80,33 @@ IsRefusedTable refusal name (failure.Network (network.Table r n)) = (r ≡ refus
 IsRefusedTable refusal name failure.Memory = Unit {0}
 IsRefusedTable refusal name _ = ⊥
 
--- the first refusal of a network whose loads are accepted: what tables do not agree on, or else a jitter
-abbrev pub judged : Network → Answer
-judged net = misfit net >>= λ fits. shortage net
+-- the failure that rows lead to which a rule of jitters refuses: all of them; or memory
+abbrev pub AreRefusedRows : Names → JitterRule → List Short → Failure → Type 0
+AreRefusedRows names rule shorts (failure.Network (network.Rows r s n)) = (r ≡ rule) × (s.items ≡ shorts) × (map string_bytes n.items ≡ names)
+AreRefusedRows names rule shorts failure.Memory = Unit {0}
+AreRefusedRows names rule shorts _ = ⊥
 
--- the first refusal of a network that is there: a load, or else one of those
-unfoldable pub verdict_of : Network → Answer
+-- the first refusal, or the rows whose jitter is not enough
+abbrev pub NetworkVerdict : Type 0
+NetworkVerdict = Result (List Short) NetworkFault
+
+-- of a network whose loads are accepted: what tables do not agree on, or else those rows
+abbrev pub judged : Network → NetworkVerdict
+judged net = misfit net >>= λ fits. shortages net
+
+-- of a network that is there: a load, or else what comes then
+unfoldable pub verdict_of : Network → NetworkVerdict
 verdict_of net = loads_fit net >>= λ loads. judged net
+
+-- the failure that a verdict leads to: that of the refusal, or of all those rows
+abbrev pub LeadsToFailure : Names → NetworkVerdict → Failure → Type 0
+LeadsToFailure names verdict f =
+    ((e : NetworkFault) × (e ≢ fault.Memory → verdict ≡ Err e) × IsRefused names e f)
+    ⊎ ((first : Short) × (more : List Short) × (verdict ≡ Ok (first ∷ more)) × AreRefusedRows names jitter.Jitter (first ∷ more) f)
 
 -- a network was not accepted
 abbrev pub FailsToAcceptNetwork : Failure → Network → Type 0
-FailsToAcceptNetwork f net = (e : NetworkFault) × (e ≢ fault.Memory → verdict_of net ≡ Err e) × IsRefused (names_of net.layout.switches) e f
+FailsToAcceptNetwork f net = LeadsToFailure (names_of net.layout.switches) (verdict_of net) f
 
 -- ---- why a network was not got, and the failures before and after
 

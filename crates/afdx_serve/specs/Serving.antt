@@ -19,11 +19,13 @@ use Rattle.afdx_serve.specs.Sizes.{AreSizesIn}
 use Rattle.afdx_wiring.specs.Net.{Network}
 use Rattle.afdx_wiring.specs.Rules.{IsAcceptedNetwork}
 use Rattle.afdx_wiring.specs.declared.fault.Short.{Short}
-use Rattle.afdx_wiring.specs.declared.fault.NetworkFault.TheVariants.{NoJitter}
+use Rattle.afdx_wiring.specs.declared.jitters.RowNeed.{RowNeed}
+use Rattle.afdx_wiring.specs.Needs.{all_past}
+use Rattle.afdx_messages.specs.declared.network_failure.JitterRule.TheVariants as jitter
 use Rattle.afdx_arguments.specs.declared.request.NetworkPaths.{NetworkPaths}
 use Rattle.afdx_arguments.specs.declared.request.NetworkRequest.{NetworkRequest}
 use Rattle.afdx_arguments.specs.declared.request.NetworkRequest.TheVariants as ask
-use Rattle.afdx_serve.specs.Networks.{names_of, HasNetwork, IsRefused, FailsToGetNetwork, FailsToAcceptNetwork}
+use Rattle.afdx_serve.specs.Networks.{names_of, HasNetwork, AreRefusedRows, FailsToGetNetwork, FailsToAcceptNetwork}
 use Rattle.afdx_serve.specs.NetworkChecks.{IsNetworkCheck}
 use Rattle.afdx_serve.specs.NetworkJitters.{JittersAre, FailsToFit}
 use Rattle.afdx_serve.specs.NetworkRuns.{LeadsToNetwork, FailsToPutNetwork, names_at, bytes_at, captures_of, reports_of}
@@ -135,12 +137,12 @@ FailsToCheckNetwork f path old new =
     × KeepsFiles old.files new.files × WritesNothing old new
 
 -- the jitters that the rows of the file's network need were written; this is the first past what a table can have
-abbrev pub SaysJitters : List ℕ → Network → Option Short → World → World → Type 0
-SaysJitters path net past old new = (text : List ℕ) × JittersAre old.files path net past text × Appends old.written new.written text × KeepsFolder old new
+abbrev pub SaysJitters : List ℕ → Network → List RowNeed → Option Short → World → World → Type 0
+SaysJitters path net rows past old new = (text : List ℕ) × JittersAre old.files path net rows past text × Appends old.written new.written text × KeepsFolder old new
 
 -- they were, and none is past that; so the check of the network accepts these jitters
 abbrev pub GivesJitters : List ℕ → World → World → Type 0
-GivesJitters path old new = (net : Network) × SaysJitters path net None old new
+GivesJitters path old new = (net : Network) × (rows : List RowNeed) × SaysJitters path net rows None old new
 
 -- why they were not, before a line was written
 abbrev pub FailsBeforeJitters : Failure → List ℕ → World → World → Type 0
@@ -149,15 +151,17 @@ FailsBeforeJitters f path old new =
     ⊎ ((net : Network) × HasNetwork old.files path net × FailsToFit f net × (new.failed ≡ old.failed)))
     × KeepsFiles old.files new.files × WritesNothing old new
 
--- all were, and a row needs more than a table can have
+-- all were, and rows need more than a table can have; this is the first of those that are refused
 abbrev pub FailsPastJitters : Failure → List ℕ → World → World → Type 0
 FailsPastJitters f path old new =
-    (net : Network) × (short : Short) × SaysJitters path net (Some short) old new × IsRefused (names_of net.layout.switches) (NoJitter short) f
+    (net : Network) × (rows : List RowNeed) × (short : Short) × SaysJitters path net rows (Some short) old new
+    × AreRefusedRows (names_of net.layout.switches) jitter.NoJitter (all_past rows) f
 
 -- why a network has no such jitters, and what was written
 abbrev pub FailsToGiveJitters : Failure → List ℕ → World → World → Type 0
 FailsToGiveJitters failure.Write path old new =
-    (net : Network) × (past : Option Short) × (text : List ℕ) × JittersAre old.files path net past text × AppendsPrefix old.written new.written text × KeepsFolder old new
+    (net : Network) × (rows : List RowNeed) × (past : Option Short) × (text : List ℕ) × JittersAre old.files path net rows past text × AppendsPrefix old.written new.written text
+    × KeepsFolder old new
 FailsToGiveJitters failure.Memory path old new = (KeepsFiles old.files new.files × WritesNothing old new) ⊎ FailsPastJitters failure.Memory path old new
 FailsToGiveJitters (failure.Network e) path old new = FailsBeforeJitters (failure.Network e) path old new ⊎ FailsPastJitters (failure.Network e) path old new
 FailsToGiveJitters f path old new = FailsBeforeJitters f path old new

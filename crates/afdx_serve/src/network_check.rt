@@ -1,27 +1,38 @@
 //! The command `network check`.
 
-ghost use Rattle.std.specs.Prelude.{◌≡◌, map, string_bytes, IfOk, MatchResult};
+ghost use Rattle.std.specs.Prelude.{◌≡◌, [], map, string_bytes, IfOk, MatchResult};
 ghost use Rattle.afdx_wiring.specs.Refusal.{Gives};
 ghost use Rattle.afdx_wiring.specs.Rules.{FitsTogether, HasJitters, IsAcceptedNetwork};
-ghost use Rattle.afdx_serve.specs.Networks.{names_of, judged, FailsToAcceptNetwork};
+ghost use Rattle.afdx_messages.specs.declared.network_failure.JitterRule.TheVariants.{Jitter};
+ghost use Rattle.afdx_serve.specs.Networks.{names_of, judged, AreRefusedRows, FailsToAcceptNetwork};
 ghost use Rattle.afdx_serve.specs.NetworkChecks.{IsNetworkCheck};
 ghost use Rattle.afdx_serve.specs.Serving.{world, ChecksNetwork, FailsToCheckNetwork};
 
 use crate::network_get::{get_network, names_of, refused};
 use afdx_folder::{Folder, write_bytes};
-use afdx_messages::Failure;
+use afdx_messages::{Failure, JitterRule, NetworkFailure};
 use afdx_network_report::accepted_text;
-use afdx_wiring::{ClearedNetwork, Network, NetworkFault};
+use afdx_wiring::{ClearedNetwork, Network, NetworkFault, Short, Switch};
 use std::alloc::{AllocError, Global};
 use std::io::Write;
 
-/// Whether the tables of a network whose loads are accepted fit together, and whether their jitters are enough.
-fn judge(alloc: Global, cleared: &ClearedNetwork) -> Result<(), NetworkFault>
-    ensures first { Gives (λ u. u) result (judged cleared.now) }
-    ensures fits { IfOk result (λ _. FitsTogether cleared.now × HasJitters cleared.now) }
+/// The rows whose jitter is not enough, of a network whose loads are accepted; before that, whether its tables fit together.
+fn judge(alloc: Global, cleared: &ClearedNetwork) -> Result<Vec<Short>, NetworkFault>
+    ensures first { Gives (λ shorts. shorts.items) result (judged cleared.now) }
+    ensures fits { IfOk result (λ shorts. FitsTogether cleared.now × (shorts.items ≡ [] → HasJitters cleared.now)) }
 {
     cleared.network().fit(alloc)?;
-    cleared.check(alloc)
+    cleared.shortages(alloc)
+}
+
+/// The failure of rows whose jitter is not enough, of a network of these switches.
+fn short_rows(alloc: Global, switches: &[Switch], shorts: Vec<Short>) -> Failure
+    ensures { AreRefusedRows (names_of switches.now) Jitter shorts.items result }
+{
+    match names_of(alloc, switches) {
+        Ok(names) => Failure::Network(NetworkFailure::Rows(JitterRule::Jitter, shorts, names)),
+        Err(_) => Failure::Memory,
+    }
 }
 
 /// Accepts a network, of switches of these names.
@@ -39,10 +50,15 @@ pub(crate) fn accept(
         Ok(cleared) => cleared,
         Err(fault) => return Err(refused(alloc, names, fault)),
     };
-    match judge(alloc, &cleared) {
-        Ok(()) => Ok(cleared),
-        Err(fault) => Err(refused(alloc, names, fault)),
+    let shorts = match judge(alloc, &cleared) {
+        Ok(shorts) => shorts,
+        Err(fault) => return Err(refused(alloc, names, fault)),
+    };
+    if shorts.is_empty() {
+        return Ok(cleared);
     }
+    let switches = &cleared.network().layout().switches;
+    Err(short_rows(alloc, switches, shorts))
 }
 
 /// What is written of an accepted network.
@@ -78,7 +94,7 @@ fn network_text(alloc: Global, network: Network) -> Result<String, Failure>
 /// # Errors
 ///
 /// What is met first: `Get`; `Network`, in the order of the network file, its tables, the ports of its wires, the loads by
-/// switch, what the tables agree on, the jitters; `Write`; `Memory` where memory ran out.
+/// switch, what the tables agree on, all rows whose jitter is not enough; `Write`; `Memory` where memory ran out.
 ///
 /// O(files), beside the checks.
 pub(crate) fn network_check<O: Write, F: Folder>(

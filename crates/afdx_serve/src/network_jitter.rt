@@ -12,11 +12,11 @@ ghost use Rattle.afdx_serve.specs.Serving.{world, GivesJitters, FailsToGiveJitte
 use crate::network_get::{get_network, names_of, refused};
 use afdx_folder::{Folder, write_bytes};
 use afdx_load::{LoadFault, Loads, PARTS, Rule, breaks, loads};
-use afdx_messages::Failure;
+use afdx_messages::{Failure, JitterRule, NetworkFailure};
 use afdx_network_report::jitter_text;
 use afdx_table::laws::ports_are_found;
 use afdx_table::{PortRow, Table};
-use afdx_wiring::{Needs, Network, NetworkFault};
+use afdx_wiring::{Needs, Network, NetworkFault, all_past};
 use std::alloc::Global;
 use std::io::Write;
 
@@ -93,8 +93,8 @@ fn needs_of(alloc: Global, network: Network) -> Result<Needs, Failure>
 /// # Errors
 ///
 /// What is met first: `Get`; `Network`, in the order of the network file, its tables, the ports of its wires, the least
-/// latencies by switch, the rates of the ports by switch, what the tables agree on; `Write`; `Network` with `NoJitter` after the lines, where a row needs more
-/// than a table can have; `Memory` where memory ran out.
+/// latencies by switch, the rates of the ports by switch, what the tables agree on; `Write`; `Network` with each row that needs more
+/// than a table can have, after the lines; `Memory` where memory ran out.
 ///
 /// O(files), beside what the jitters take.
 pub(crate) fn network_jitter<O: Write, F: Folder>(
@@ -116,9 +116,13 @@ pub(crate) fn network_jitter<O: Write, F: Folder>(
     }
     let needs = needs_of(alloc, network)?;
     let text = jitter_text(alloc, &names, &needs.rows)?;
+    let shorts = all_past(alloc, &needs.rows)?;
     write_bytes(out, text.as_bytes())?;
     match needs.past {
-        Some(short) => Err(refused(alloc, &names, NetworkFault::NoJitter(short))),
+        Some(_) => {
+            let rows = NetworkFailure::Rows(JitterRule::NoJitter, shorts, names);
+            Err(Failure::Network(rows))
+        }
         None => Ok(()),
     }
 }

@@ -1,7 +1,7 @@
 -- Rows whose jitter was found enough: it is, for the whole way to them.
-use Rattle.std.proofs.Common.{◌≡◌, ℕ, zero, suc, ◌+◌, ◌-◌, ◌/◌, ◌≤◌, Bool, true, false, cond, nat_le, nat_lt, List, [], ◌∷◌, slice_get, Option, Some, None, option_map, option_and_then, Ok, Err}
+use Rattle.std.proofs.Common.{◌≡◌, ℕ, zero, suc, ◌+◌, ◌-◌, ◌/◌, ◌≤◌, Bool, true, false, cond, nat_le, nat_lt, List, [], ◌∷◌, slice_get, Option, Some, None, option_map, option_and_then, Ok, Err, Global}
 use Rattle.std.proofs.Common.{refl, ap, sym, ◌∙◌, arith}
-use Rattle.std.specs.Prelude.{IfOk}
+use Rattle.std.specs.Prelude.{IfOk, Result, Vec}
 use Rattle.std.proofs.lemmas.Bool.Decides.{nat_tests}
 use Rattle.std.proofs.lemmas.List.Elements.{All-from_recursion, All-contains}
 use Rattle.std.proofs.lemmas.Option.{same_Some}
@@ -11,12 +11,14 @@ use Rattle.afdx_table.specs.Content.{Content, port_row, link_row}
 use Rattle.afdx_load.specs.Bounds.{bounds_of}
 use Rattle.afdx_jitter.specs.declared.delays.Delays.{Delays}
 use Rattle.afdx_jitter.specs.Delay.{hop_of, joined, at_once, IsEnough, least_jitter}
+use Rattle.afdx_wiring.specs.declared.fault.NetworkFault.{NetworkFault}
+use Rattle.afdx_wiring.specs.declared.fault.Short.{Short}
 use Rattle.afdx_wiring.specs.Net.{Network, Row, Back, port_at, row_at, row_in, rows_of, least_at, load_at, bound_in, bound_at, IsWayBack, source_of, AreDelays}
 use Rattle.afdx_wiring.specs.Rules.{HasJitters}
-use Rattle.afdx_wiring.specs.Refusal.{Gives}
-use Rattle.afdx_wiring.specs.Order.{Answer, within_reason, hop_over, hop_from, hop_on, way_by, way_within, has_jitter, jitter_enough, most_rows, shortage}
-use Rattle.afdx_wiring.proofs.Chains.{fine, unless_so, all_kept}
+use Rattle.afdx_wiring.specs.Refusal.{◌>>=◌, Gives}
+use Rattle.afdx_wiring.specs.Order.{Answer, within_reason, hop_over, hop_from, hop_on, way_by, way_within, short_by, short_after, short_at, shorts_in, shortages, first_short, shortage, most_rows}
 use Rattle.afdx_wiring.proofs.FeedLemmas.{before_is}
+use Rattle.afdx_wiring.proofs.Shorts.{all_none}
 
 -- ---- a hop
 
@@ -115,24 +117,51 @@ way_says (suc n) net r after far h (b ∷ more) d way are =
 whole : (first most least later : ℕ) → nat_lt (later / 1000) ((first + most - least + 999) / 1000) ≡ false → first + most ≤ later + least
 whole first most least later h = grind (arith, nat_tests)
 
-row_has : (net : Network) (r : Row) (backs : List Back) (d : Delays) → jitter_enough net r ≡ Ok tt → IsWayBack net r backs → AreDelays net backs d
+-- a row that does not fall short has what it needs
+not_short : (r : Row) (need : ℕ) → short_by r need ≡ None → nat_lt (r.link.jitter / 1000) need ≡ false
+not_short r need h = by (record { switch = r.switch; link = r.link.id; need = need; has = r.link.jitter / 1000 }) (nat_lt (r.link.jitter / 1000) need) h where
+  by : (short : Short) (b : Bool) → cond b (Some short) None ≡ None → b ≡ false
+  by short true is = absurd cc
+  by short false is = refl
+
+abbrev told : Option Short → Result (Option Short) NetworkFault
+told = Ok
+
+no_more : (found other : Option Short) → told found ≡ told other → found ≡ other
+no_more found other h = cc
+
+row_has : (net : Network) (r : Row) (backs : List Back) (d : Delays) → short_at net r ≡ Ok None → IsWayBack net r backs → AreDelays net backs d
     → IsEnough d (source_of r backs).link.jitter r.link.jitter
 row_has net r backs d h way are = by (way_within most_rows net r at_once) refl h where
-  by : (o : Option (ℕ × Delays)) → way_within most_rows net r at_once ≡ o → has_jitter r o ≡ fine → IsEnough d (source_of r backs).link.jitter r.link.jitter
+  by : (o : Option (ℕ × Delays)) → way_within most_rows net r at_once ≡ o → short_after r o ≡ Ok None → IsEnough d (source_of r backs).link.jitter r.link.jitter
   by None is kept = absurd cc
   by (Some far) is kept =
       let found = way_says most_rows net r at_once far is backs d way are in
       let jitter = found.jitter in
       let least : far.1.least ≡ d.least + 0 = found.least in
       let most : far.1.most ≡ d.most + 0 = found.most in
-      let enough = whole far.0 far.1.most far.1.least r.link.jitter (unless_so (nat_lt (r.link.jitter / 1000) (least_jitter far.1 far.0)) _ kept) in
+      let enough = whole far.0 far.1.most far.1.least r.link.jitter (not_short r (least_jitter far.1 far.0) (no_more _ None kept)) in
       omega (arith, jitter, least, most, enough)
 
+none_short : (net : Network) → shorts_in net (rows_of net) ≡ Ok [] → HasJitters net
+none_short net h =
+    let kept = All-from_recursion (λ r. short_at net r ≡ Ok None) (rows_of net) (all_none net (rows_of net) h) in
+    record { enough = λ r backs d among way are. row_has net r backs d (All-contains (λ r. short_at net r ≡ Ok None) (rows_of net) r kept among) way are }
+
+first_none : (found : Result (List Short) NetworkFault) → (found >>= first_short) ≡ Ok tt → found ≡ Ok []
+first_none (Ok []) h = refl
+first_none (Ok (short ∷ more)) h = absurd cc
+first_none (Err e) h = absurd cc
+
 pub enough : (net : Network) → shortage net ≡ Ok tt → HasJitters net
-unfolding shortage
-enough net h =
-    let kept = All-from_recursion (λ r. jitter_enough net r ≡ Ok tt) (rows_of net) (all_kept (jitter_enough net) (rows_of net) h) in
-    record { enough = λ r backs d among way are. row_has net r backs d (All-contains (λ r. jitter_enough net r ≡ Ok tt) (rows_of net) r kept among) way are }
+unfolding shortage shortages
+enough net h = none_short net (first_none (shorts_in net (rows_of net)) h)
+
+-- what is listed
+pub if_listed : (net : Network) (listed : Result (Vec Short Global) NetworkFault) → Gives (λ v. v.items) listed (shorts_in net (rows_of net))
+    → IfOk listed (λ v. v.items ≡ [] → HasJitters net)
+if_listed net (Ok v) given = λ none. none_short net (given ∙ ap Ok none)
+if_listed net (Err e) given = tt
 
 -- what the check answers
 pub if_given : (net : Network) (answer : Answer) → Gives (λ u. u) answer (shortage net) → IfOk answer (λ _. HasJitters net)

@@ -18,6 +18,7 @@ pub mod NeedLemmas
 pub mod OnceLemmas
 pub mod Reaching
 pub mod RowByRow
+pub mod Shorts
 pub mod Staying
 pub mod TextLemmas
 pub mod WalkLemmas

@@ -1,5 +1,5 @@
 -- Needs that are met: the check finds no shortage; and what jitters don't touch.
-use Rattle.std.proofs.Common.{◌≡◌, ℕ, zero, suc, ◌+◌, ◌*◌, ◌/◌, ◌==◌, ◌&&◌, Bool, true, false, nat_le, nat_lt, List, [], ◌∷◌, ◌++◌, map, drop, length, get_or, slice_set, ◌<◌, append_assoc}
+use Rattle.std.proofs.Common.{◌≡◌, ℕ, zero, suc, ◌+◌, ◌*◌, ◌/◌, ◌==◌, ◌&&◌, Bool, true, false, cond, nat_le, nat_lt, List, [], ◌∷◌, ◌++◌, map, drop, length, get_or, slice_set, ◌<◌, append_assoc}
 use Rattle.std.proofs.Common.{Option, Some, None, Ok, Err, refl, ap, sym, ◌∙◌, arith}
 use Rattle.std.specs.List.{AllByRecursion, list_all}
 use Rattle.std.proofs.lemmas.Bool.Decides.{nat_tests}
@@ -9,25 +9,12 @@ use Rattle.afdx_table.specs.Content.{Content}
 use Rattle.afdx_jitter.specs.declared.delays.Delays.{Delays}
 use Rattle.afdx_jitter.specs.Delay.{at_once, least_jitter}
 use Rattle.afdx_wiring.specs.declared.jitters.RowNeed.{RowNeed}
-use Rattle.afdx_wiring.specs.declared.fault.NetworkFault.{NetworkFault}
-use Rattle.afdx_wiring.specs.Refusal.{◌>>=◌, unless}
+use Rattle.afdx_wiring.specs.Refusal.{◌>>=◌}
 use Rattle.afdx_wiring.specs.Net.{Network, Row, row_in, rows_from, rows_of}
-use Rattle.afdx_wiring.specs.Order.{Answer, first_of, most_rows, way_within, has_jitter, jitter_enough, shortage}
+use Rattle.afdx_wiring.specs.Order.{most_rows, way_within, short_by, short_after, short_at, first_short, shortages, shortage}
 use Rattle.afdx_wiring.specs.Needs.{bare_link, bare, needed, need_in, is_met}
 use Rattle.afdx_wiring.proofs.Chains.{next_rows}
-
--- ---- rules that are kept by each row
-
-abbrev Fine : (Row → Answer) → Row → Type 0
-Fine rule r = rule r ≡ Ok tt
-
-goes_on : (a : Answer) (rest : Unit {0} → Answer) → a ≡ Ok tt → rest tt ≡ Ok tt → (a >>= rest) ≡ Ok tt
-goes_on (Ok tt) rest here further = further
-goes_on (Err e) rest here further = absurd cc
-
-all_fine : (rule : Row → Answer) (rs : List Row) → AllByRecursion (Fine rule) rs → first_of rule rs ≡ Ok tt
-all_fine rule [] all = refl
-all_fine rule (r ∷ rs) all = goes_on (rule r) (λ _. first_of rule rs) all.0 (all_fine rule rs all.1)
+use Rattle.afdx_wiring.proofs.Shorts.{Found, none_at_all}
 
 -- ---- needs that are met
 
@@ -42,15 +29,14 @@ right false b h = absurd cc
 no_less : (has need : ℕ) → has ≡ need * 1000 → nat_lt (has / 1000) need ≡ false
 no_less has need is = grind (arith, nat_tests, is)
 
-kept_where : (b : Bool) (e : NetworkFault) → b ≡ false → unless b e ≡ Ok tt
-kept_where true e h = absurd cc
-kept_where false e h = refl
+kept_where : (r : Row) (need : ℕ) → nat_lt (r.link.jitter / 1000) need ≡ false → short_by r need ≡ None
+kept_where r need h = ap (λ (b : Bool). cond b (Some (record { switch = r.switch; link = r.link.id; need = need; has = r.link.jitter / 1000 })) None) h
 
-has_its_need : (r : Row) (o : Option (ℕ × Delays)) → nat_le (needed o) 10000 ≡ true → r.link.jitter ≡ needed o * 1000 → has_jitter r o ≡ Ok tt
+has_its_need : (r : Row) (o : Option (ℕ × Delays)) → nat_le (needed o) 10000 ≡ true → r.link.jitter ≡ needed o * 1000 → short_after r o ≡ Ok None
 has_its_need r None few is = absurd cc
-has_its_need r (Some far) few is = kept_where (nat_lt (r.link.jitter / 1000) (least_jitter far.1 far.0)) _ (no_less r.link.jitter (least_jitter far.1 far.0) is)
+has_its_need r (Some far) few is = ap Ok (kept_where r (least_jitter far.1 far.0) (no_less r.link.jitter (least_jitter far.1 far.0) is))
 
-each_has : (net : Network) (rs : List Row) → list_all is_met (map (need_in false net) rs) ≡ true → AllByRecursion (Fine (jitter_enough net)) rs
+each_has : (net : Network) (rs : List Row) → list_all is_met (map (need_in false net) rs) ≡ true → AllByRecursion (λ r. short_at net r ≡ Ok None) rs
 each_has net [] h = tt
 each_has net (r ∷ rs) h =
     let n : RowNeed = need_in false net r in
@@ -67,8 +53,8 @@ each_is (n ∷ ns) h =
     (eqb-true n.has (n.need * 1000) (right (nat_le n.need 10000) (n.has == n.need * 1000) (left (is_met n) rest h)), each_is ns (right (is_met n) rest h))
 
 pub none_short : (net : Network) → list_all is_met (map (need_in false net) (rows_of net)) ≡ true → shortage net ≡ Ok tt
-unfolding shortage
-none_short net h = all_fine (jitter_enough net) (rows_of net) (each_has net (rows_of net) h)
+unfolding shortage shortages
+none_short net h = ap (λ (found : Found). found >>= first_short) (none_at_all net (rows_of net) (each_has net (rows_of net) h))
 
 -- ---- what jitters don't touch
 

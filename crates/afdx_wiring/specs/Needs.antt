@@ -1,5 +1,5 @@
 -- The jitters that the rows of a network need (profile).
-use Rattle.std.specs.Prelude.{◌≡◌, ℕ, ◌≤◌, ◌*◌, ◌/◌, ◌%◌, ◌==◌, ◌&&◌, Bool, true, false, nat_le, nat_lt, List, map, find, All, Option, Some, None, option_map, Ok}
+use Rattle.std.specs.Prelude.{◌≡◌, ℕ, ◌≤◌, ◌*◌, ◌/◌, ◌%◌, ◌==◌, ◌&&◌, Bool, true, false, nat_le, nat_lt, List, map, filter, find, All, Option, Some, None, option_map, Ok}
 use Rattle.std.specs.List.{AllZip}
 use Rattle.afdx_account.specs.Policing.{parts}
 use Rattle.afdx_table.specs.Link.{Link}
@@ -49,8 +49,16 @@ need_in false net r = row_with_need r (needed (way_within most_rows net r at_onc
 abbrev pub is_past : RowNeed → Bool
 is_past n = nat_lt 10000 n.need
 
+-- it needs more than that
+abbrev pub past_short : RowNeed → Short
+past_short n = record { switch = n.switch; link = n.link; need = n.need; has = 10000 }
+
+-- the first row that does, and all that do
 abbrev pub past_of : List RowNeed → Option Short
-past_of needs = option_map (λ n. record { switch = n.switch; link = n.link; need = n.need; has = 10000 }) (find is_past needs)
+past_of needs = option_map past_short (find is_past needs)
+
+abbrev pub all_past : List RowNeed → List Short
+all_past needs = map past_short (filter is_past needs)
 
 abbrev pub is_met : RowNeed → Bool
 is_met n = nat_le n.need 10000 && (n.has == n.need * 1000)

@@ -1,7 +1,7 @@
 -- The first rule that the tables of a network break (profile): rule by rule; within one rule by wire and by the row that leads to it,
 -- or by switch and row.
 use Rattle.std.specs.Prelude.{ℕ, zero, suc, ◌+◌, ◌/◌, ◌==◌, ◌||◌, Bool, true, false, not, nat_le, nat_lt, if◌then◌else◌, List, [], ◌∷◌, ◌++◌, map, filter, slice_get}
-use Rattle.std.specs.Prelude.{Option, Some, None, option_map, option_and_then, is_some, Result, Ok, Err}
+use Rattle.std.specs.Prelude.{Option, Some, None, option_map, option_and_then, option_to_list, is_some, Result, Ok, Err}
 use Rattle.std.specs.List.{list_any, enumerate_from}
 use Rattle.std.specs.Str.{bytes_eq}
 use Rattle.afdx_units.specs.declared.police.Police.{Police}
@@ -22,6 +22,7 @@ use Rattle.afdx_wiring.specs.declared.fault.At.{At}
 use Rattle.afdx_wiring.specs.declared.fault.At.TheVariants as place
 use Rattle.afdx_wiring.specs.declared.fault.NetworkFault.{NetworkFault}
 use Rattle.afdx_wiring.specs.declared.fault.NetworkFault.TheVariants as fault
+use Rattle.afdx_wiring.specs.declared.fault.Short.{Short}
 use Rattle.afdx_wiring.specs.declared.layout.End.{End}
 use Rattle.afdx_wiring.specs.declared.layout.Wire.{Wire}
 use Rattle.afdx_wiring.specs.declared.row.Row.{Row as RowOfCode}
@@ -210,16 +211,36 @@ abbrev pub way_within : ℕ → Network → Row → Delays → Option (ℕ × De
 way_within zero net r after = None
 way_within (suc n) net r after = way_by (way_within n net) net r after (wire_to net (ingress r))
 
--- there is such a way where the tables fit together and are accepted
-abbrev pub has_jitter : Row → Option (ℕ × Delays) → Answer
-has_jitter r None = Err (fault.NoSource r.switch r.link.id)
-has_jitter r (Some far) =
-    unless (nat_lt (r.link.jitter / 1000) (least_jitter far.1 far.0))
-    (fault.Jitter (record { switch = r.switch; link = r.link.id; need = least_jitter far.1 far.0; has = r.link.jitter / 1000 }))
+-- the row and what it has, where that is less than it needs
+abbrev pub short_by : Row → (need : ℕ) → Option Short
+short_by r need =
+    if nat_lt (r.link.jitter / 1000) need then Some (record { switch = r.switch; link = r.link.id; need = need; has = r.link.jitter / 1000 }) else None
 
-abbrev pub jitter_enough : Network → Row → Answer
-jitter_enough net r = has_jitter r (way_within most_rows net r at_once)
+-- after the whole way to it; there is one where the tables fit together and are accepted
+abbrev pub short_after : Row → (far : Option (ℕ × Delays)) → Result (Option Short) NetworkFault
+short_after r None = Err (fault.NoSource r.switch r.link.id)
+short_after r (Some far) = Ok (short_by r (least_jitter far.1 far.0))
 
--- the first row whose jitter is not enough
+abbrev pub short_at : Network → Row → Result (Option Short) NetworkFault
+short_at net r = short_after r (way_within most_rows net r at_once)
+
+-- these, and then those that are found
+abbrev pub added : List Short → Result (List Short) NetworkFault → Result (List Short) NetworkFault
+added before found = found >>= λ rest. Ok (before ++ rest)
+
+-- those of these rows whose jitter is not enough, in their order
+abbrev pub shorts_in : Network → List Row → Result (List Short) NetworkFault
+shorts_in net [] = Ok []
+shorts_in net (r ∷ rs) = short_at net r >>= λ here. added (option_to_list here) (shorts_in net rs)
+
+-- those of all rows
+unfoldable pub shortages : Network → Result (List Short) NetworkFault
+shortages net = shorts_in net (rows_of net)
+
+-- the refusal of the first
+abbrev pub first_short : List Short → Answer
+first_short [] = Ok tt
+first_short (short ∷ more) = Err (fault.Jitter short)
+
 unfoldable pub shortage : Network → Answer
-shortage net = first_of (jitter_enough net) (rows_of net)
+shortage net = shortages net >>= first_short

@@ -1,9 +1,9 @@
 //! Whether the jitters of a network's rows are enough.
 
-ghost use Rattle.std.specs.Prelude.{◌≡◌, ◌≤◌, ◌+◌, ◌*◌, IfOk, IfSome};
+ghost use Rattle.std.specs.Prelude.{◌≡◌, ◌≤◌, ◌+◌, ◌*◌, [], ◌++◌, option_to_list, IfOk, OnOk, IfSome};
 ghost use Rattle.afdx_wiring.specs.Refusal.{Gives};
 ghost use Rattle.afdx_wiring.specs.Net.{rows_in, rows_of};
-ghost use Rattle.afdx_wiring.specs.Order.{row_of, first_of, has_jitter, jitter_enough, way_within, shortage};
+ghost use Rattle.afdx_wiring.specs.Order.{row_of, way_within, short_after, short_at, added, shorts_in, shortages, first_short, shortage};
 ghost use Rattle.afdx_wiring.specs.Rules.{HasJitters};
 
 use crate::cleared_network::ClearedNetwork;
@@ -15,12 +15,12 @@ use crate::sources::MOST_ROWS;
 use afdx_jitter::{Delays, need};
 use afdx_table::Table;
 use afdx_units::MICROSECOND;
-use std::alloc::Global;
+use std::alloc::{AllocError, Global};
 
-/// A row, after a way of these delays from a source of this jitter.
-fn has_jitter(row: Row<'_>, far: Option<(u64, Delays)>) -> Result<(), NetworkFault>
+/// A row, where its jitter is not enough after a way of these delays from a source of this jitter.
+fn short_after(row: Row<'_>, far: Option<(u64, Delays)>) -> Result<Option<Short>, NetworkFault>
     requires { IfSome far (λ f. (f.0 ≤ 10000000) × (f.1.most ≤ 1152921504606846976)) }
-    ensures { result ≡ has_jitter (row_of row.entry) far }
+    ensures { result ≡ short_after (row_of row.entry) far }
 {
     let link = row.link;
     let Some((jitter, delays)) = far else {
@@ -28,15 +28,35 @@ fn has_jitter(row: Row<'_>, far: Option<(u64, Delays)>) -> Result<(), NetworkFau
     };
     let need = need(delays, jitter);
     let has = link.jitter / MICROSECOND;
-    if has < need {
-        return Err(NetworkFault::Jitter(Short {
-            switch: row.switch,
-            link: link.id,
-            need,
-            has,
-        }));
+    if has >= need {
+        return Ok(None);
+    }
+    Ok(Some(Short {
+        switch: row.switch,
+        link: link.id,
+        need,
+        has,
+    }))
+}
+
+/// Adds a row, where there is one.
+fn push_short(shorts: &mut Vec<Short>, short: Option<Short>) -> Result<(), AllocError>
+    ensures { OnOk result (shorts.new.items ≡ shorts.old.items ++ option_to_list short) }
+{
+    if let Some(short) = short {
+        shorts.push(short)?;
     }
     Ok(())
+}
+
+/// The refusal of the first of these rows, where there is one.
+fn first_short(shorts: &[Short]) -> Result<(), NetworkFault>
+    ensures { result ≡ first_short shorts.now }
+{
+    match shorts.first() {
+        Some(short) => Err(NetworkFault::Jitter(*short)),
+        None => Ok(()),
+    }
 }
 
 impl<'a> Hops<'a> {
@@ -63,47 +83,65 @@ impl<'a> Hops<'a> {
         self.way_within(fewer, before, hop.join(after))
     }
 
-    /// The jitter of a row, for the whole way to it.
-    fn jitter_enough(&self, row: Row<'_>) -> Result<(), NetworkFault>
-        ensures { result ≡ jitter_enough self.now (row_of row.entry) }
+    /// A row, where its jitter is not enough for the whole way to it.
+    fn short_at(&self, row: Row<'_>) -> Result<Option<Short>, NetworkFault>
+        ensures { result ≡ short_at self.now (row_of row.entry) }
     {
-        has_jitter(row, self.way_within(MOST_ROWS, row, Delays::none()))
+        short_after(row, self.way_within(MOST_ROWS, row, Delays::none()))
     }
 
-    /// The jitters of a switch's rows.
-    fn have_jitters(&self, switch: usize, table: &Table) -> Result<(), NetworkFault>
-        ensures { result ≡ first_of (jitter_enough self.now) (rows_in switch table.now.links) }
+    /// Adds the rows of a switch whose jitter is not enough.
+    fn add_shorts(
+        &self,
+        shorts: &mut Vec<Short>,
+        switch: usize,
+        table: &Table,
+    ) -> Result<(), NetworkFault>
+        ensures { Gives (λ _. shorts.new.items) result (added shorts.old.items (shorts_in self.now (rows_in switch table.now.links))) }
     {
         for index in 0..table.link_count() {
             let link = link_at(table, index);
-            self.jitter_enough(Row { switch, link })?;
+            let short = self.short_at(Row { switch, link })?;
+            push_short(shorts, short)?;
         }
         Ok(())
     }
 
-    /// The jitters of all rows.
-    fn all_have_jitters(&self) -> Result<(), NetworkFault>
-        ensures { result ≡ first_of (jitter_enough self.now) (rows_of self.now) }
+    /// All rows whose jitter is not enough.
+    fn shorts(&self, alloc: Global) -> Result<Vec<Short>, NetworkFault>
+        ensures { Gives (λ shorts. shorts.items) result (shorts_in self.now (rows_of self.now)) }
     {
+        let mut shorts = Vec::new(alloc);
         for (switch, table) in self.network().tables().iter().enumerate() {
-            self.have_jitters(switch, table)?;
+            self.add_shorts(&mut shorts, switch, table)?;
         }
-        Ok(())
+        Ok(shorts)
     }
 }
 
 impl ClearedNetwork {
-    /// Whether the jitter of each row is enough for the whole way to it. Else `Jitter` of the first row, by switch and in the
-    /// order of its table, whose jitter is not; or `Memory`. It is asked of a network that fits: of another one `NoSource`, where
-    /// a row has no way back.
+    /// All rows whose jitter is not enough for the whole way to them, by switch and in the order of its table; where there is
+    /// none, the jitters are enough. Else `Memory`. It is asked of a network that fits: of another one `NoSource`, where a row
+    /// has no way back.
     ///
-    /// O(r s w) for r rows, at most s switches on a way, and w wires; O(s) memory.
+    /// O(r s w) for r rows, at most s switches on a way, and w wires; O(s) memory, and what the rows take.
+    #[tactic(auto, unfolding(crate::specs::Order::shortages))]
+    pub fn shortages(&self, alloc: Global) -> Result<Vec<Short>, NetworkFault>
+        ensures rows { Gives (λ shorts. shorts.items) result (shortages self.now) }
+        ensures jitters { IfOk result (λ shorts. shorts.items ≡ [] → HasJitters self.now) }
+    {
+        let hops = Hops::new(alloc, self.network())?;
+        hops.shorts(alloc)
+    }
+
+    /// Whether the jitter of each row is enough for the whole way to it. Else `Jitter` of the first row of `shortages`, or its
+    /// refusal. It costs as much.
     #[tactic(auto, unfolding(crate::specs::Order::shortage))]
     pub fn check(&self, alloc: Global) -> Result<(), NetworkFault>
         ensures first { Gives (λ u. u) result (shortage self.now) }
         ensures jitters { IfOk result (λ _. HasJitters self.now) }
     {
-        let hops = Hops::new(alloc, self.network())?;
-        hops.all_have_jitters()
+        let shorts = self.shortages(alloc)?;
+        first_short(&shorts)
     }
 }

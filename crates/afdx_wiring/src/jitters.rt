@@ -6,7 +6,7 @@ ghost use Rattle.afdx_table.specs.WellFormed.{IsWellFormed};
 ghost use Rattle.afdx_wiring.specs.Net.{rows_of};
 ghost use Rattle.afdx_wiring.specs.Order.{row_of};
 ghost use Rattle.afdx_wiring.specs.Inner.Given.{given, given_all};
-ghost use Rattle.afdx_wiring.specs.Needs.{AreNeeds, first_needed, needed, row_with_need, need_in, past_of, is_met};
+ghost use Rattle.afdx_wiring.specs.Needs.{AreNeeds, first_needed, needed, row_with_need, need_in, past_short, past_of, all_past, is_met};
 
 use crate::fault::{NetworkFault, Short};
 use crate::hops::Hops;
@@ -194,17 +194,39 @@ fn set_jitter(tables: &mut Vec<Table>, row: &RowNeed)
     }
 }
 
-/// The first row that needs more than a table can have.
-fn first_past(needs: &[RowNeed]) -> Option<Short>
-    ensures { result ≡ past_of needs.now }
+/// A row that needs more than a table can have.
+fn past_short(row: &RowNeed) -> Short
+    ensures { result ≡ past_short row.now }
 {
-    let row = needs.iter().find(|row| row.need > MAX_JITTER)?;
-    Some(Short {
+    Short {
         switch: row.switch,
         link: row.link,
         need: row.need,
         has: MAX_JITTER,
-    })
+    }
+}
+
+/// The first such row.
+fn first_past(needs: &[RowNeed]) -> Option<Short>
+    ensures { result ≡ past_of needs.now }
+{
+    let row = needs.iter().find(|row| row.need > MAX_JITTER)?;
+    Some(past_short(row))
+}
+
+/// All rows that need more than a table can have, in their order; `Needs::past` is the first. An error says that memory ran out.
+///
+/// O(rows).
+pub fn all_past(alloc: Global, needs: &[RowNeed]) -> Result<Vec<Short>, AllocError>
+    ensures { IfOk result (λ shorts. shorts.items ≡ all_past needs.now) }
+{
+    let mut shorts = Vec::new(alloc);
+    for row in needs {
+        if row.need > MAX_JITTER {
+            shorts.push(past_short(row))?;
+        }
+    }
+    Ok(shorts)
 }
 
 /// Whether each row has what it needs.

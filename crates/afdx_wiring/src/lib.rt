@@ -29,7 +29,7 @@ mod wires;
 
 pub use cleared_network::ClearedNetwork;
 pub use fault::{At, Key, NetworkFault, Short};
-pub use jitters::{Needs, RowNeed};
+pub use jitters::{Needs, RowNeed, all_past};
 pub use layout::{End, Layout, Switch, Wire};
 pub use network::Network;
 pub use row::Row;

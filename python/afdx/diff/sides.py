@@ -31,7 +31,8 @@ def refuse(program: Program, path: Path, answer: Answer) -> None:
 
 
 def verdict_of(answer: Answer) -> Facts:
-    return {Place("", "check", ""): {"verdict": answer.line or "accepted"}}
+    """Answers what `check` said: the first line where rows are refused one by one, since `need` says it of each."""
+    return {Place("", "check", ""): {"verdict": answer.line.partition("\n")[0] or "accepted"}}
 
 
 def load_facts(said: str, switch: str = "") -> Facts:

@@ -1,10 +1,11 @@
-use Rattle.std.proofs.Common.{◌≡◌, map, string_bytes, rules}
+use Rattle.std.proofs.Common.{◌≡◌, map, string_bytes, refl, inr, rules}
 use Rattle.std.proofs.KnownBytes.{Keeps-refl}
+use Rattle.afdx_wiring.specs.Needs.{all_past}
 use Rattle.afdx_network_report.specs.Lines.{jitter_text}
 use Rattle.afdx_messages.specs.declared.failure.Failure.TheVariants.{Write}
 use Rattle.afdx_serve.specs.Networks.{names_of}
 use Rattle.afdx_serve.proofs.Errors.{of_error}
-use Rattle.afdx_serve.proofs.JitterLemmas.{not_got, not_fit, past_reported}
+use Rattle.afdx_serve.proofs.JitterLemmas.{not_got, not_fit}
 use Rattle.afdx_serve.proofs.network_jitter.network_jitter.Goals as goal
 
 pub returns-in_err-network : goal.returns-in_err-network
@@ -30,9 +31,10 @@ returns-in_err-write_bytes g c =
     let reported : string_bytes c.in_ok-text.text ≡ jitter_text (names_of net.layout.switches) needs.rows.items = search rules in
     of_error _ _ _ Write c.from_residual-in_err-write_bytes.ensures (
       net,
+      needs.rows.items,
       needs.past,
       string_bytes c.in_ok-text.text,
-      record { rows = needs.rows.items; has_network = got.got.0; fits = c.in_default.ensures.0; needs = c.in_ok-needs.ensures; reported = reported },
+      record { has_network = got.got.0; fits = c.in_default.ensures.0; needs = c.in_ok-needs.ensures; reported = reported },
       prefix,
       (got.same, got.got.1),
     )
@@ -43,20 +45,20 @@ returns-in-Some g c =
     let got = c.in_ok-network.ensures in
     let needs = c.in_ok-needs.needs in
     let named : map string_bytes c.in_ok-names.names.items ≡ names_of net.layout.switches = search rules in
-    let refused = rw (c.deref-in-Some.ensures.value, named) at c.refused-in-Some.ensures in
+    let rows : c.in_ok-shorts.shorts.items ≡ all_past needs.rows.items = search rules in
     let all = rw c.as_bytes.ensures.value at c.in_ok-write_bytes.ensures.all in
     let reported : string_bytes c.in_ok-text.text ≡ jitter_text (names_of net.layout.switches) needs.rows.items = search rules in
     let are = rw c.in-Some.is at c.in_ok-needs.ensures in
-    past_reported c.args.path.now _ _ net c.in-Some.short (
-      string_bytes c.in_ok-text.text,
-      record { rows = needs.rows.items; has_network = got.got.0; fits = c.in_default.ensures.0; needs = are; reported = reported },
-      all,
-      (got.same, got.got.1),
+    inr (
+      net,
+      needs.rows.items,
+      c.in-Some.field-0,
+      (string_bytes c.in_ok-text.text, record { has_network = got.got.0; fits = c.in_default.ensures.0; needs = are; reported = reported }, all, (got.same, got.got.1)),
+      (refl, rows, named),
     )
-    c.refused-in-Some.result refused
 
-pub returns : goal.returns
-returns g c =
+pub returns-in-None : goal.returns-in-None
+returns-in-None g c =
     let net = c.in_ok-network.network in
     let got = c.in_ok-network.ensures in
     let needs = c.in_ok-needs.needs in
@@ -64,9 +66,10 @@ returns g c =
     let reported : string_bytes c.in_ok-text.text ≡ jitter_text (names_of net.layout.switches) needs.rows.items = search rules in
     let are = rw c.in-None.is at c.in_ok-needs.ensures in (
       net,
+      needs.rows.items,
       (
         string_bytes c.in_ok-text.text,
-        record { rows = needs.rows.items; has_network = got.got.0; fits = c.in_default.ensures.0; needs = are; reported = reported },
+        record { has_network = got.got.0; fits = c.in_default.ensures.0; needs = are; reported = reported },
         all,
         (got.same, got.got.1),
       ),

@@ -7,5 +7,5 @@ use Rattle.afdx_wiring.proofs.cleared_network.ClearedNetwork.check.Goals as goal
 pub returns-clause-jitters : goal.returns-clause-jitters
 unfolding shortage
 returns-clause-jitters c =
-    let first : Gives {X = Unit {0}} (λ u. u) c.all_have_jitters.result (shortage c.args.self.now) = search rules in
-    if_given c.args.self.now c.all_have_jitters.result first
+    let first : Gives {X = Unit {0}} (λ u. u) c.first_short.result (shortage c.args.self.now) = search rules in
+    if_given c.args.self.now c.first_short.result first
