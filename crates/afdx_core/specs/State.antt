@@ -1,23 +1,27 @@
 -- What contracts see of a switch, and what its calls do to it.
-use Rattle.std.specs.Prelude.{ℕ, ◌+◌, ◌==◌, Bool, true, false, nat_lt, if◌then◌else◌, List, [], ◌∷◌, ◌++◌, length, map, set, position, slice_get, slice_index, Option, Some, None, is_none}
+use Rattle.std.specs.Prelude.{◌≡◌, ℕ, ◌+◌, ◌==◌, Bool, true, false, nat_lt, if◌then◌else◌, List, [], ◌∷◌, ◌++◌, length, map, set, position, slice_get, slice_index, Option, Some, None, is_none}
 use Rattle.afdx_pcap.specs.Record.{Record}
 use Rattle.afdx_table.specs.declared.rows.PortRow.{PortRow}
 use Rattle.afdx_table.specs.Link.{Link}
 use Rattle.afdx_table.specs.Content.{Content, port_row}
+use Rattle.afdx_account.specs.declared.frame.Frame.{Frame}
+use Rattle.afdx_account.specs.Policing.{passed_frames}
+use Rattle.afdx_account.specs.Early.{early_by}
+use Rattle.afdx_load.specs.Load.{terms_of}
 use Rattle.afdx_port.specs.declared.Item.{Item}
 use Rattle.afdx_port.specs.declared.Sent.{Sent}
 use Rattle.afdx_port.specs.declared.Aged.{Aged}
 use Rattle.afdx_port.specs.declared.Offer.{Offer}
 use Rattle.afdx_port.specs.declared.Offer.TheVariants.{Full}
-use Rattle.afdx_port.specs.Admission.{admitted}
-use Rattle.afdx_port.specs.Service.{sent_of, aged_of}
+use Rattle.afdx_port.specs.Admission.{admitted, occupied}
+use Rattle.afdx_port.specs.Service.{reach, sent_of, aged_of}
 use Rattle.afdx_port.specs.Content.{Content as PortContent, done, answer}
 use Rattle.afdx_isolation.specs.Table.{settings_of}
 use Rattle.afdx_core.specs.declared.step.Row.{Row}
 use Rattle.afdx_core.specs.declared.step.CoreFault.{CoreFault}
 use Rattle.afdx_core.specs.declared.step.CoreFault.TheVariants.{NoSuchPort, Earlier}
 use Rattle.afdx_core.specs.Step.{Step}
-use Rattle.afdx_core.specs.Rows.{named, passes, copy_of, fate_of, feed_of}
+use Rattle.afdx_core.specs.Rows.{named, passes, copy_of, fate_of, feed_of, account_frames}
 
 -- what a switch answers rests on this, and on the bytes of the frames that it holds
 pub record Run : Type 0 where
@@ -66,6 +70,16 @@ sent_in r (Some p) = sent_of (done (port_in r p))
 abbrev pub aged_in : Run → Option PortRow → List Aged
 aged_in r None = []
 aged_in r (Some p) = aged_of (done (port_in r p))
+
+-- the bytes that its buffer holds at the instant that the greatest stamp reaches
+abbrev pub occupied_in : Run → Option PortRow → ℕ
+occupied_in r None = 0
+occupied_in r (Some p) = occupied (settings_of r.table.latency p) (reach (settings_of r.table.latency p) r.latest) (port_in r p).admitted
+
+-- by how many ns a frame of a link would come too early for those that its policing passed
+abbrev pub early_in : Run → Option Link → Frame → ℕ
+early_in r None f = 0
+early_in r (Some l) f = early_by (terms_of l) (passed_frames (terms_of l) (account_frames l.id r.rows)) f
 
 -- ---- an arrival
 
@@ -116,6 +130,11 @@ next_by r (Some place) = next_at r place
 -- the place of a port among the table's ports
 abbrev pub place_of : Run → ℕ → Option ℕ
 place_of r port = position (λ p. p.id == port) r.table.ports
+
+-- a port's place and what its next frame that was not handed out was sent as, if it has one
+abbrev pub IsNextOf : Run → ℕ → Option (ℕ × Sent) → Type 0
+IsNextOf r port None = next_by r (place_of r port) ≡ None
+IsNextOf r port (Some next) = (place_of r port ≡ Some next.0) × (next_at r next.0 ≡ Some next.1)
 
 -- a sent frame: its end as stamp, its length as original, and the bytes that came
 abbrev pub out_of : Option (Option Record) → Sent → Option Record

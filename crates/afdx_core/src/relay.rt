@@ -1,14 +1,15 @@
 //! A switch that lets go of what has left it, and what is left of it once it is finished.
 
-ghost use Rattle.std.specs.Prelude.{◌≡◌, ◌+◌, ◌<◌, ◌≤◌, [], None, true, false, All, IsTrue, IfOk, IfErr, OnOk, OnErr, AllPairs};
+ghost use Rattle.std.specs.Prelude.{◌≡◌, ◌+◌, ◌<◌, ◌≤◌, [], None, slice_get, true, false, All, IsTrue, IfOk, IfErr, OnOk, OnErr, AllPairs};
 ghost use Rattle.afdx_units.specs.Time.{last_second};
 ghost use Rattle.afdx_table.specs.Content.{port_row};
 ghost use Rattle.afdx_load.specs.Accepted.{IsAccepted};
 ghost use Rattle.afdx_core.specs.Rows.{row_of, fates_of};
-ghost use Rattle.afdx_core.specs.State.{State, fresh_state, after_advance, after_finish, refusal_of, admitted_in, sent_in, aged_in};
+ghost use Rattle.afdx_core.specs.State.{State, fresh_state, after_advance, after_finish, refusal_of, admitted_in, sent_in, aged_in, occupied_in, early_in, IsNextOf, place_of};
 ghost use Rattle.afdx_port.specs.declared.Offer.TheVariants.{Queued};
 ghost use Rattle.afdx_core.specs.Isolation.{IsRun, IsIsolatedRun};
 ghost use Rattle.afdx_port.specs.Tally.{tally_of_sent, tally_of_aged};
+ghost use Rattle.afdx_core.specs.Next.{IsNextEvent};
 ghost use Rattle.afdx_core.specs.Held.{held_count, Keeps, IsTaken, IsRefused, IsNext, IsAppended};
 
 use crate::engine::Engine;
@@ -17,7 +18,7 @@ use crate::step::{CoreFault, Step};
 use crate::switch::Done;
 use afdx_load::Cleared;
 use afdx_pcap::Record;
-use afdx_port::Tally;
+use afdx_port::{Sent, Tally};
 use afdx_table::Table;
 use afdx_units::Stamp;
 use std::alloc::{AllocError, Allocator};
@@ -124,11 +125,58 @@ impl<'a, A: Allocator + Copy> Relay<'a, A> {
         self.engine.advance(to)
     }
 
+    /// The switch's table. O(1).
+    pub fn table(&self) -> &Table
+        ensures { result.now ≡ self.now.run.table }
+    {
+        &self.engine.table
+    }
+
+    /// The instant of the first start or discard that was not carried out, before which it does nothing unless something arrives; none
+    /// where nothing is left. O(1).
+    pub fn next_event(&self) -> Option<Stamp>
+        ensures { IsNextEvent self.now.run result }
+    {
+        self.engine.next_event()
+    }
+
     /// How many different frames are held, as [`Switch::held`](crate::Switch::held) counts them. O(1).
     pub fn held(&self) -> usize
         ensures { result ≡ held_count self.now.run }
     {
         self.engine.held()
+    }
+
+    /// The place of a port among the table's, by rising number; none where there is no such port. O(1).
+    pub fn place_of(&self, port: u8) -> Option<usize>
+        ensures { result ≡ place_of self.now.run port }
+    {
+        self.engine.place_of(port)
+    }
+
+    /// The bytes that the buffer of the port at a place holds at the instant that the greatest stamp reaches, one latency later; 0 where
+    /// there is no such port. O(1).
+    pub fn occupied(&self, place: usize) -> u64
+        ensures { result ≡ occupied_in self.now.run (slice_get self.now.run.table.ports place) }
+    {
+        self.engine.occupied(place)
+    }
+
+    /// By how many nanoseconds a frame of this size of the link at a place would come too early at an instant for those that were passed;
+    /// 0 where there is no such link. O(1).
+    pub fn early_by(&self, place: usize, at: Stamp, size: u32) -> u64
+        requires { self.now.run.latest ≤ at }
+        ensures { result ≡ early_in self.now.run (slice_get self.now.run.table.links place) (record { stamp = at; size = size }) }
+    {
+        self.engine.early_by(place, at, size)
+    }
+
+    /// What the port's next frame that was not handed out was sent as, with the port's place; none where none is left, or there is no such
+    /// port. O(1).
+    pub fn next_sent(&self, port: u8) -> Option<(usize, Sent)>
+        ensures { IsNextOf self.now.run port result }
+    {
+        self.engine.next_item(port)
     }
 
     /// Hands out the port's next sent frame, as [`Switch::next_out`](crate::Switch::next_out) does.
@@ -175,6 +223,20 @@ impl<'a, A: Allocator + Copy> Relayed<'a, A> {
         ensures { result.now ≡ self.now.run.table }
     {
         &self.engine.table
+    }
+
+    /// The place of a port among the table's, by rising number; none where there is no such port. O(1).
+    pub fn place_of(&self, port: u8) -> Option<usize>
+        ensures { result ≡ place_of self.now.run port }
+    {
+        self.engine.place_of(port)
+    }
+
+    /// What the port's next frame that was not handed out was sent as, as [`Relay::next_sent`] says it.
+    pub fn next_sent(&self, port: u8) -> Option<(usize, Sent)>
+        ensures { IsNextOf self.now.run port result }
+    {
+        self.engine.next_item(port)
     }
 
     /// Hands out the port's next sent frame, as [`Relay::next_out`] does.

@@ -21,6 +21,7 @@ use Rattle.afdx_grouping.specs.Burst.{paid_rate, least_burst}
 use Rattle.afdx_grouping.specs.Groups.{all_curve, high_curve, group_at, line_at, all_curves, high_curves, lesser_load, lesser_bounds}
 use Rattle.afdx_grouping.specs.Scatter.{scattered, later_line, later}
 use Rattle.afdx_grouping.specs.Laws.{IsBelow, IsNoMore, AreNoMore}
+use Rattle.afdx_grouping.proofs.Scatter.{quotient_less}
 use Rattle.afdx_grouping.proofs.Turning.{bursts_least, none_more}
 use Rattle.afdx_grouping.proofs.Partition.{paid_once}
 
@@ -42,9 +43,6 @@ curves_need_less paid n curves greater slow slow' below =
       through a b c h k = omega (arith, h, k)
 
 -- ---- bounds
-
-quotient_less : (m n k : ℕ) → m ≤ n → 0 < k → m / k ≤ n / k
-quotient_less m n k le some = le-div (m / k) n k some (let down = div-mul-le_self m k in omega (arith, down, le))
 
 sooner : (test : Bool) (m n k latency : ℕ) → m ≤ n → (test ≡ true → 0 < k) → IsNoMore (cond test (Some (m / k + latency)) None) (cond test (Some (n / k + latency)) None)
 sooner true m n k latency le some y is =

@@ -16,9 +16,8 @@ use Rattle.afdx_table.specs.Link.{Link}
 use Rattle.afdx_table.specs.Content.{Content}
 use Rattle.afdx_load.specs.Load.{Load, is_high_link, is_low_link, routed, links_load, behind, load_of}
 use Rattle.afdx_load.specs.Bounds.{high_bound, low_bound, backlog, byte_time}
-use Rattle.afdx_load.specs.Accepted.{Carries, IsAccepted, past, past_bound, fault_at}
-use Rattle.afdx_load.specs.declared.fault.Rule.{Rule}
-use Rattle.afdx_load.specs.declared.fault.Rule.TheVariants.{Rate, Buffer, HighDelay, LowDelay}
+use Rattle.afdx_load.specs.Accepted.{Carries, IsAccepted, fault_at}
+use Rattle.afdx_load.specs.Inner.Laws.{CarriesWithoutAFault}
 use Rattle.afdx_load.specs.declared.fault.LoadFault.{LoadFault}
 use Rattle.afdx_grouping.specs.Scatter.{scattered, later_line, later, IsAcceptedWith, first_scattered_fault}
 
@@ -59,7 +58,7 @@ none_scatters c = (
   Without : PortRow → Type 0
   Without row = 0 < (at row).highs + (at row).lows → Carries row (at row)
 
-quotient_less : (m n k : ℕ) → m ≤ n → 0 < k → m / k ≤ n / k
+pub quotient_less : (m n k : ℕ) → m ≤ n → 0 < k → m / k ≤ n / k
 quotient_less m n k le some = le-div (m / k) n k some (let down = div-mul-le_self m k in omega (arith, down, le))
 
 sooner : (test : Bool) (m n k latency most : ℕ) → m ≤ n → (test ≡ true → 0 < k) → IfSome (cond test (Some (n / k + latency)) None) (λ bound. bound ≤ most)
@@ -103,55 +102,12 @@ less_accepted d e c le accepted =
 
 -- ---- faults
 
-within_none : (port : ℕ) (rule : Rule) (limit need : ℕ) → need ≤ limit → past port rule limit need ≡ None
-within_none port rule limit need h = ap (λ (b : Bool). cond b (Some (record { port = port; rule = rule; need = need; limit = limit })) None) (le-ltb limit need h)
-
-no_fault : (fault : LoadFault) → Some fault ≡ None → ⊥
-no_fault fault h = cc
-
-none_within : (port : ℕ) (rule : Rule) (limit need : ℕ) → past port rule limit need ≡ None → need ≤ limit
-none_within port rule limit need h =
-    elim (cases_Bool (nat_lt limit need)) [
-      | inl over ↦ absurd (no_fault (record { port = port; rule = rule; need = need; limit = limit }) (rw over at h))
-      | inr not ↦ ltb-false limit need not
-    ]
-
-bound_none : (port : ℕ) (rule : Rule) (limit : ℕ) (need : Option ℕ) → IfSome need (λ n. n ≤ limit) → past_bound port rule limit need ≡ None
-bound_none port rule limit None h = refl
-bound_none port rule limit (Some n) h = within_none port rule limit n h
-
-none_bound : (port : ℕ) (rule : Rule) (limit : ℕ) (need : Option ℕ) → past_bound port rule limit need ≡ None → IfSome need (λ n. n ≤ limit)
-none_bound port rule limit None h = tt
-none_bound port rule limit (Some n) h = none_within port rule limit n h
-
 or_none : (a b : Option LoadFault) → option_or a b ≡ None → (a ≡ None) × (b ≡ None)
 or_none None b h = (refl, h)
 or_none (Some x) b h = absurd cc
 
 none_or : (a b : Option LoadFault) → a ≡ None → b ≡ None → option_or a b ≡ None
 none_or a b h k = rw h k
-
-fine_none : (row : PortRow) (s : Load) → Carries row s → fault_at row s ≡ None
-unfolding fault_at
-fine_none row s fine =
-    none_or _ _ (none_or _ _ (none_or _ _
-    (within_none row.id Rate parts s.rate fine.rate)
-    (within_none row.id Buffer (byte_time row.speed row.buffer) (backlog s) fine.buffer))
-    (bound_none row.id HighDelay row.max_delay (high_bound s) fine.high))
-    (bound_none row.id LowDelay row.max_delay (low_bound s) fine.low)
-
-none_fine : (row : PortRow) (s : Load) → fault_at row s ≡ None → Carries row s
-unfolding fault_at
-none_fine row s h =
-    let d = or_none _ _ h in
-    let c = or_none _ _ d.0 in
-    let b = or_none _ _ c.0 in
-    record {
-      rate = none_within row.id Rate parts s.rate b.0;
-      buffer = none_within row.id Buffer (byte_time row.speed row.buffer) (backlog s) b.1;
-      high = none_bound row.id HighDelay row.max_delay (high_bound s) c.1;
-      low = none_bound row.id LowDelay row.max_delay (low_bound s) d.1;
-    }
 
 -- a port without links carries its load
 empty_carried : (d latency : ℕ) (speed : Speed) (row : PortRow) → Carries row (scattered d (behind latency (links_load speed [])))
@@ -180,15 +136,15 @@ with_links d latency speed row (l ∷ ls) h = h (links_counted speed l ls)
 abbrev pub CarriesWith : ℕ → ℕ → List Link → PortRow → Type 0
 CarriesWith d latency links row = let load = load_of latency row.speed row.id links in 0 < load.highs + load.lows → Carries row (scattered d load)
 
-pub accepted_none : (d latency : ℕ) (links : List Link) (rows : List PortRow) → All (CarriesWith d latency links) rows → first_scattered_fault d latency links rows ≡ None
-accepted_none d latency links [] h = refl
-accepted_none d latency links (row ∷ rows) h =
+pub accepted_none : CarriesWithoutAFault → (d latency : ℕ) (links : List Link) (rows : List PortRow) → All (CarriesWith d latency links) rows → first_scattered_fault d latency links rows ≡ None
+accepted_none fault d latency links [] h = refl
+accepted_none fault d latency links (row ∷ rows) h =
     none_or _ _
-    (fine_none row (scattered d (load_of latency row.speed row.id links)) (with_links d latency row.speed row (routed row.id links) (All-head (CarriesWith d latency links) row rows h)))
-    (accepted_none d latency links rows (All-tail (CarriesWith d latency links) row rows h))
+    ((fault row (scattered d (load_of latency row.speed row.id links))).0 (with_links d latency row.speed row (routed row.id links) (All-head (CarriesWith d latency links) row rows h)))
+    (accepted_none fault d latency links rows (All-tail (CarriesWith d latency links) row rows h))
 
-pub none_accepted : (d latency : ℕ) (links : List Link) (rows : List PortRow) → first_scattered_fault d latency links rows ≡ None → All (CarriesWith d latency links) rows
-none_accepted d latency links [] h = All-nil (CarriesWith d latency links)
-none_accepted d latency links (row ∷ rows) h =
+pub none_accepted : CarriesWithoutAFault → (d latency : ℕ) (links : List Link) (rows : List PortRow) → first_scattered_fault d latency links rows ≡ None → All (CarriesWith d latency links) rows
+none_accepted fault d latency links [] h = All-nil (CarriesWith d latency links)
+none_accepted fault d latency links (row ∷ rows) h =
     let both = or_none (fault_at row (scattered d (load_of latency row.speed row.id links))) (first_scattered_fault d latency links rows) h in
-    All-cons (CarriesWith d latency links) row rows (λ _. none_fine row (scattered d (load_of latency row.speed row.id links)) both.0) (none_accepted d latency links rows both.1)
+    All-cons (CarriesWith d latency links) row rows (λ _. (fault row (scattered d (load_of latency row.speed row.id links))).1 both.0) (none_accepted fault d latency links rows both.1)

@@ -4,6 +4,7 @@ ghost use Rattle.afdx_grouping.specs.Laws.{BurstsAreLeast, NoneIsMoreThanPaidFor
 ghost use Rattle.afdx_grouping.specs.Laws.{LessScatterBoundsNoMore};
 ghost use Rattle.afdx_grouping.specs.Scatter.{LaterIsALongerWindow, NothingIsScattered, AcceptedHasNoScatteredFault, LessScatterIsAccepted};
 
+use afdx_load::laws::carries_without_a_fault;
 use afdx_serial::laws::turns_are_enough;
 
 /// A burst that is found beside the turns of curves is enough for them, and the least that is; it is never more than what is
@@ -57,7 +58,9 @@ pub fn nothing_is_scattered()
 /// A table is accepted where latencies differ exactly where it has no fault then.
 pub fn accepted_has_no_scattered_fault()
     ensures { AcceptedHasNoScatteredFault }
-{}
+{
+    carries_without_a_fault();
+}
 
 /// A table that is accepted where latencies differ is accepted where they differ by less.
 pub fn less_scatter_is_accepted()

@@ -10,11 +10,10 @@ ghost use Rattle.afdx_grouping.specs.Groups.{line_at, all_curves, high_curves, l
 ghost use Rattle.afdx_grouping.specs.Lined.{is_lined};
 ghost use Rattle.afdx_grouping.specs.Scatter.{scattered};
 
-use crate::bounding::{Bursts, bounds_with};
 use crate::curve::{Curve, least_burst};
 use crate::group::group_at;
 use crate::laws::no_more_is_paid_for;
-use afdx_load::{Bounds, Load, Loads, PARTS, loads};
+use afdx_load::{Bounds, Bursts, Load, Loads, PARTS, bounds_with, loads};
 use afdx_table::laws::ports_are_found;
 use afdx_table::{PortRow, Table};
 use afdx_units::Speed;

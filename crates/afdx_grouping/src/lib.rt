@@ -2,13 +2,11 @@
 //! to (network calculus: grouping), and what latencies that differ add to them.
 #![tactic(auto)]
 
-mod bounding;
 mod curve;
 mod group;
 pub mod laws;
 mod lessening;
 mod scattering;
 
-pub use bounding::{Bursts, bounds_with};
 pub use lessening::{PLACES, lesser_bounds, lesser_bursts};
 pub use scattering::{first_scattered_fault, scattered};

@@ -3,6 +3,7 @@
 ghost use Rattle.std.specs.Prelude.{◌≡◌, ℕ, ◌≤◌, ◌↔◌, ◌*◌, ◌^◌};
 ghost use Rattle.afdx_load.specs.Bounds.{bounds_of, backlog, byte_time};
 
+use crate::bursts::Bursts;
 use crate::delays::Bounds;
 use crate::port_load::Load;
 use afdx_units::Speed;
@@ -10,31 +11,42 @@ use afdx_units::Speed;
 /// The whole of a line, in the parts in which rates are given.
 pub const PARTS: u64 = 2_048_000_000;
 
-/// What may wait and be on the line at once, in parts of a nanosecond.
-pub(crate) fn backlog(load: &Load) -> u128
-    ensures backlog { result ≡ backlog load.now }
-    ensures small { result ≤ 2 ^ 73 }
+/// What may wait and be on the line at once, in parts of a nanosecond, if the links ask for so much at once.
+pub(crate) fn backlog(load: &Load, burst: u128) -> u128
+    requires { burst ≤ 2 ^ 82 }
+    ensures backlog { result ≡ backlog (record load.now { burst = burst }) }
+    ensures small { result ≤ 2 ^ 83 }
 {
-    load.burst() + u128::from(PARTS) * u128::from(load.largest())
+    burst + u128::from(PARTS) * u128::from(load.largest())
+}
+
+/// Bounds the time that a frame may stay at a port of this load, in nanoseconds from its arrival to its end on the line, if the
+/// links ask for so much at once. O(1).
+pub fn bounds_with(load: &Load, bursts: Bursts) -> Bounds
+    requires all { bursts.all ≤ 2 ^ 82 }
+    requires high { bursts.high ≤ 2 ^ 82 }
+    ensures { result ≡ bounds_of (record load.now { burst = bursts.all; high_burst = bursts.high }) }
+{
+    let parts = u128::from(PARTS);
+    let latency = u128::from(load.latency());
+    let high = if load.highs() > 0 {
+        Some((bursts.high + parts * u128::from(load.low_largest())) / parts + latency)
+    } else {
+        None
+    };
+    let low = if load.lows() > 0 && load.high_rate() < PARTS {
+        Some(bursts.all / (parts - u128::from(load.high_rate())) + latency)
+    } else {
+        None
+    };
+    Bounds { high, low }
 }
 
 /// The bounds of a port's frames, in nanoseconds, from a frame's arrival to its end on the line. O(1).
 pub fn bounds(load: &Load) -> Bounds
     ensures { result ≡ bounds_of load.now }
 {
-    let parts = u128::from(PARTS);
-    let latency = u128::from(load.latency());
-    let high = if load.highs() > 0 {
-        Some((load.high_burst() + parts * u128::from(load.low_largest())) / parts + latency)
-    } else {
-        None
-    };
-    let low = if load.lows() > 0 && load.high_rate() < PARTS {
-        Some(load.burst() / (parts - u128::from(load.high_rate())) + latency)
-    } else {
-        None
-    };
-    Bounds { high, low }
+    bounds_with(load, load.bursts())
 }
 
 /// The least buffer, in bytes, that holds what may wait and be on the line at once. O(1).
@@ -42,5 +54,5 @@ pub fn least_buffer(load: &Load, speed: Speed) -> u128
     ensures { (bytes : ℕ) → (backlog load.now ≤ byte_time speed bytes) ↔ (result ≤ bytes) }
 {
     let byte = u128::from(PARTS) * u128::from(speed.tick());
-    backlog(load).div_ceil(byte)
+    backlog(load, load.burst()).div_ceil(byte)
 }

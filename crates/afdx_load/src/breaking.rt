@@ -30,7 +30,7 @@ pub fn breaks(row: &PortRow, load: &Load, rule: Rule) -> bool
         Rule::Rate => load.rate() > PARTS,
         Rule::Buffer => {
             let room = u128::from(PARTS) * u128::from(row.speed.tick()) * u128::from(row.buffer);
-            backlog(load) > room
+            backlog(load, load.burst()) > room
         }
         Rule::HighDelay => is_above(bounds(load).high, row.max_delay),
         Rule::LowDelay => is_above(bounds(load).low, row.max_delay),

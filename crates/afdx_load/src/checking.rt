@@ -1,10 +1,11 @@
 //! The check of a table.
 
-ghost use Rattle.std.specs.Prelude.{◌≡◌, ◌*◌, MatchResult, Some};
+ghost use Rattle.std.specs.Prelude.{◌≡◌, ◌≤◌, ◌*◌, ◌^◌, MatchResult, Some};
 ghost use Rattle.afdx_load.specs.Inner.Slots.{AreLoads};
 ghost use Rattle.afdx_load.specs.Accepted.{past, past_bound, fault_at, first_fault, IsAccepted};
 
-use crate::bounding::{PARTS, backlog, bounds};
+use crate::bounding::{PARTS, backlog, bounds_with};
+use crate::bursts::Bursts;
 use crate::cleared::Cleared;
 use crate::fault::{LoadFault, Rule};
 use crate::loading::slots;
@@ -38,17 +39,19 @@ fn past_bound(port: u8, rule: Rule, limit: u128, need: Option<u128>) -> Option<L
     }
 }
 
-/// The first rule that a port's load breaks.
+/// The first rule that a port's load breaks, in the order of [`check`], if its links ask for so much at once. O(1).
 #[tactic(auto, unfolding(crate::specs::Accepted::fault_at))]
-fn fault_at(row: &PortRow, load: &Load) -> Option<LoadFault>
-    ensures { result ≡ fault_at row.now load.now }
+pub fn fault_with(row: &PortRow, load: &Load, bursts: Bursts) -> Option<LoadFault>
+    requires all { bursts.all ≤ 2 ^ 82 }
+    requires high { bursts.high ≤ 2 ^ 82 }
+    ensures { result ≡ fault_at row.now (record load.now { burst = bursts.all; high_burst = bursts.high }) }
 {
     let parts = u128::from(PARTS);
     let room = parts * u128::from(row.speed.tick()) * u128::from(row.buffer);
     let delay = u128::from(row.max_delay);
-    let bounds = bounds(load);
+    let bounds = bounds_with(load, bursts);
     past(row.id, Rule::Rate, parts, u128::from(load.rate()))
-        .or(past(row.id, Rule::Buffer, room, backlog(load)))
+        .or(past(row.id, Rule::Buffer, room, backlog(load, bursts.all)))
         .or(past_bound(row.id, Rule::HighDelay, delay, bounds.high))
         .or(past_bound(row.id, Rule::LowDelay, delay, bounds.low))
 }
@@ -60,7 +63,7 @@ fn first_fault_in(table: &Table, slots: &[Load; SLOTS]) -> Option<LoadFault>
 {
     for row in table.ports() {
         let load = slots[usize::from(row.id)].behind(table.latency());
-        let fault = fault_at(row, &load);
+        let fault = fault_with(row, &load, load.bursts());
         if fault.is_some() {
             return fault;
         }

@@ -1,7 +1,7 @@
 //! Laws over the definitions: functions that do nothing, whose contracts are the laws.
 
 ghost use Rattle.afdx_load.specs.Inner.Laws.{FactorCoversOverhead, AsksWhatItsAccountGives, EachLinkAsks, SumsTakeEachLinkOnce, LongestShowsLinks, HighLinksLeaveAPart};
-ghost use Rattle.afdx_load.specs.Inner.Laws.{AcceptedMeansNoFault, AcceptedKeepsBounds};
+ghost use Rattle.afdx_load.specs.Inner.Laws.{CarriesWithoutAFault, AcceptedMeansNoFault, AcceptedKeepsBounds};
 ghost use Rattle.afdx_load.specs.Inner.First.{FaultIsTheFirst};
 ghost use Rattle.afdx_load.specs.Fits.{AcceptedWhereEachPortFits};
 
@@ -33,6 +33,11 @@ pub fn longest_shows_links()
 /// Where the line can give the rate and there is a low link, the high links leave a part of the line.
 pub fn high_links_leave_a_part()
     ensures { HighLinksLeaveAPart }
+{}
+
+/// A port carries a load exactly where that load breaks no rule there.
+pub fn carries_without_a_fault()
+    ensures { CarriesWithoutAFault }
 {}
 
 /// A table is accepted exactly where it has no fault.

@@ -7,6 +7,7 @@
 
 mod bounding;
 mod breaking;
+mod bursts;
 mod checking;
 mod cleared;
 mod delays;
@@ -17,9 +18,10 @@ mod port_load;
 mod port_loads;
 mod share;
 
-pub use bounding::{PARTS, bounds, least_buffer};
+pub use bounding::{PARTS, bounds, bounds_with, least_buffer};
 pub use breaking::breaks;
-pub use checking::{check, first_fault};
+pub use bursts::Bursts;
+pub use checking::{check, fault_with, first_fault};
 pub use cleared::Cleared;
 pub use delays::Bounds;
 pub use fault::{LoadFault, Rule};

@@ -6,6 +6,7 @@ ghost use Rattle.afdx_load.specs.Inner.Adding.{with_link};
 ghost use Rattle.afdx_units.specs.declared.line.Speed.{Speed};
 ghost use Rattle.afdx_units.specs.Line.{greatest_size};
 
+use crate::bursts::Bursts;
 use crate::share::share_of;
 use afdx_table::LinkRow;
 use afdx_units::{Priority, Speed};
@@ -122,20 +123,6 @@ impl Load {
         Load { latency, ..self }
     }
 
-    /// The same load where all links and the high ones ask for no more at once than these parts of a nanosecond: what comes
-    /// over one line comes one frame after the other. O(1).
-    pub fn lessened(self, burst: u128, high_burst: u128) -> Load
-        requires all { burst ≤ self.burst }
-        requires high { high_burst ≤ self.high_burst }
-        ensures { result ≡ record self { burst = burst; high_burst = high_burst } }
-    {
-        Load {
-            burst,
-            high_burst,
-            ..self
-        }
-    }
-
     /// The number of its high links.
     pub fn highs(&self) -> u32
         ensures { result ≡ self.now.highs }
@@ -178,6 +165,19 @@ impl Load {
         ensures small { result ≤ 2 ^ 72 }
     {
         self.high_burst
+    }
+
+    /// What its links ask for at once.
+    pub fn bursts(&self) -> Bursts
+        ensures all { result.all ≡ self.now.burst }
+        ensures high { result.high ≡ self.now.high_burst }
+        ensures all_small { result.all ≤ 2 ^ 72 }
+        ensures high_small { result.high ≤ 2 ^ 72 }
+    {
+        Bursts {
+            all: self.burst,
+            high: self.high_burst,
+        }
     }
 
     /// The line time of the longest frame, in nanoseconds; 0 where there are no links.

@@ -2,45 +2,19 @@
 
 use afdx_grouping::{PLACES, first_scattered_fault, lesser_bursts};
 use afdx_load::{LoadFault, Rule, check};
-use afdx_samples::{Link, Port, later, port, table};
+use afdx_samples::{FRAMED, HIGH, LOW, Link, Port, later, port, table};
 use afdx_table::{Table, read};
 use std::alloc::Global;
 use std::test::Fail;
 
-/// A low link from port 1 to port 2, which asks for 326,430,720 parts of a line of 100 Mbit/s in each nanosecond, and for a
-/// million times as many at once; its largest frame takes 123,040 ns there, of 2,048,000,000 parts each.
-const LOW: Link = Link {
-    id: 10,
-    from: 1,
-    to: "[2]",
-    bag_ms: 1,
-    jitter_us: 0,
-    max_size: 1518,
-    priority: "low",
-    police: "",
-};
-
-/// One more of them.
+/// One more low link.
 const OTHER: Link = Link { id: 11, ..LOW };
 
 /// One from port 3.
 const THIRD: Link = Link { from: 3, ..OTHER };
 
-/// High ones from port 1 and from port 3.
-const HIGH: Link = Link {
-    id: 12,
-    priority: "high",
-    ..LOW
-};
-
+/// A high one from port 3.
 const THIRD_HIGH: Link = Link { from: 3, ..HIGH };
-
-/// One that is policed by frames: it asks for 251,985,920 parts.
-const FRAMED: Link = Link {
-    id: 13,
-    police: "frame",
-    ..LOW
-};
 
 /// The table of port 1, whose line is of so many Mbit/s, and of ports 2 and 3 at 100 Mbit/s, with these links.
 fn table_of(alloc: Global, mbit: u32, links: &[Link]) -> Result<Table, Fail> {

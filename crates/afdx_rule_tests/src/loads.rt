@@ -1,35 +1,12 @@
 //! Load numbers, each reckoned by hand, and a table that is refused.
 
 use afdx_load::{Cleared, LoadFault, Rule, bounds, check, least_buffer, load, loads};
-use afdx_samples::{Link, Port, later, link, port, table};
+use afdx_samples::{FRAMED, HIGH, LOW, Link, Port, later, link, port, table};
 use afdx_table::{Table, read};
 use std::alloc::{AllocError, Global};
 use std::test::Fail;
 
-/// The low link of the worked tables, the high one, the low one policed by frames, and one of the smallest frames.
-const LOW: Link = Link {
-    id: 10,
-    from: 1,
-    to: "[2]",
-    bag_ms: 1,
-    jitter_us: 0,
-    max_size: 1518,
-    priority: "low",
-    police: "",
-};
-
-const HIGH: Link = Link {
-    id: 12,
-    priority: "high",
-    ..LOW
-};
-
-const FRAMED: Link = Link {
-    id: 13,
-    police: "frame",
-    ..LOW
-};
-
+/// One of the smallest frames.
 const SMALL: Link = Link {
     id: 11,
     max_size: 64,

@@ -14,5 +14,5 @@ pub use captures::{FRAME, HEADER, capture, joined};
 pub use frames::{Sample, frame, large, one_of_each, record, small};
 pub use memory_file::MemoryFile;
 pub use networks::{Ends, four_ports_each, network_file, small_link, two_switches};
-pub use rows::{Link, Port};
+pub use rows::{FRAMED, HIGH, LOW, Link, Port};
 pub use tables::{double, later, link, mixed, narrow, port, single, slow, table};

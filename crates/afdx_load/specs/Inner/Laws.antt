@@ -2,12 +2,13 @@
 use Rattle.std.specs.Prelude.{◌≡◌, ◌↔◌, ℕ, ◌+◌, ◌-◌, ◌*◌, ◌/◌, ◌<◌, ◌≤◌, ◌&&◌, List, None, All, sum_by, if◌then◌else◌}
 use Rattle.afdx_units.specs.declared.line.Speed.{Speed}
 use Rattle.afdx_units.specs.Line.{least_size, tick_of, cost_of}
+use Rattle.afdx_table.specs.declared.rows.PortRow.{PortRow}
 use Rattle.afdx_table.specs.Link.{Link, leads_to}
 use Rattle.afdx_table.specs.Content.{Content}
 use Rattle.afdx_table.specs.WellFormed.{IsWellFormed}
-use Rattle.afdx_load.specs.Load.{is_high_link, terms_of, weight_of, rate_of, burst_of, asked_of, load_of}
+use Rattle.afdx_load.specs.Load.{Load, is_high_link, terms_of, weight_of, rate_of, burst_of, asked_of, load_of}
 use Rattle.afdx_account.specs.Policing.{parts}
-use Rattle.afdx_load.specs.Accepted.{IsAccepted, first_fault}
+use Rattle.afdx_load.specs.Accepted.{Carries, IsAccepted, fault_at, first_fault}
 
 -- profile: the factor 21/16 of the rate of a link policed by bytes covers the 20 bytes that go with each frame exactly for frames of the least
 -- size and more, and at that size there is nothing to spare
@@ -43,6 +44,10 @@ LongestShowsLinks = (speed : Speed) (port : ℕ) (links : List Link) → let loa
 abbrev pub HighLinksLeaveAPart : Type 0
 HighLinksLeaveAPart = (c : Content) (speed : Speed) (port : ℕ) → IsWellFormed c → let load = load_of c.latency speed port c.links in
     load.rate ≤ parts → 0 < load.lows → load.high_rate < parts
+
+-- a port carries a load exactly where that load breaks no rule there
+abbrev pub CarriesWithoutAFault : Type 0
+CarriesWithoutAFault = (row : PortRow) (load : Load) → Carries row load ↔ (fault_at row load ≡ None)
 
 -- a table is accepted exactly where it has no fault
 abbrev pub AcceptedMeansNoFault : Type 0
